@@ -1,0 +1,6 @@
+pub mod Runs
+pub mod PartLemmas
+pub mod DirectiveLemmas
+pub mod RequestLemmas
+pub mod FormatLemmas
+pub mod OneOutcome

@@ -1,0 +1,47 @@
+-- Private words: what is asked for, as the code keeps it.
+use Rattle.std.specs.Prelude.{◌≡◌, ℕ, List, ◌++◌, Option, None, Some}
+use Rattle.std.specs.List.{filter_map}
+use Rattle.std.specs.List.Sorted.{IsNonDecreasingBy}
+use Rattle.c_signature.specs.declared.ArgKind.{ArgKind}
+use Rattle.c_signature.specs.declared.FormatFault.{FormatFault}
+use Rattle.c_signature.specs.declared.FormatFault.TheVariants.{Invalid, SystemDependent, Memory}
+use Rattle.c_signature.specs.declared.requests.Row.{Row}
+use Rattle.c_signature.specs.declared.requests.Requests.{Requests}
+use Rattle.c_signature.specs.Signature.{Request, request}
+
+-- the kind, where there is no number
+abbrev pub kind_unless : Option ℕ → ArgKind → Option ArgKind
+kind_unless None kind = Some kind
+kind_unless (Some m) kind = None
+
+abbrev pub unnumbered_kind : Request → Option ArgKind
+unnumbered_kind r = kind_unless r.number r.kind
+
+-- the row, where there is a number
+abbrev pub row_at : Option ℕ → ArgKind → Option Row
+row_at None kind = None
+row_at (Some m) kind = Some (record { number = m; kind = kind })
+
+abbrev pub row_of : Request → Option Row
+row_of r = row_at r.number r.kind
+
+abbrev pub request_of : Row → Request
+request_of row = request (Some row.number) row.kind
+
+-- what is asked for, in two lists
+pub record Holds (asked : List Request) (kept : Requests) : Type 0 where
+  pub unnumbered : kept.unnumbered.items ≡ filter_map unnumbered_kind asked
+  pub numbered : kept.numbered.items ≡ filter_map row_of asked
+
+-- more is kept too
+abbrev pub Adds : Requests → Requests → List Request → Type 0
+Adds old new more = (asked : List Request) → Holds asked old → Holds (asked ++ more) new
+
+abbrev pub IsRising : List Row → Type 0
+IsRising rows = IsNonDecreasingBy (λ row. row.number) rows
+
+-- Invalid is given only where this holds, SystemDependent never
+abbrev pub IsInvalidOnly : FormatFault → Type 0 → Type 0
+IsInvalidOnly Invalid P = P
+IsInvalidOnly SystemDependent P = ⊥
+IsInvalidOnly Memory P = Unit {0}

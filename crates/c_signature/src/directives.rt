@@ -1,0 +1,107 @@
+// Directives, each read behind its `%`.
+ghost use Rattle.std.specs.Prelude.{◌≡◌, ◌↔◌, ◌++◌, ◌∷◌, ◌<◌, List, ℕ, IfOk, IfErr, IsTrue, length};
+ghost use Rattle.std.specs.List.{prefix_len};
+ghost use Rattle.c_signature.specs.Directives.{BeginsMacro, IsAllowed, is_macro_conversion, is_name_byte};
+ghost use Rattle.c_signature.specs.Reading.{IsRun, ReadsDirective, Refuses, argument_view};
+ghost use Rattle.c_signature.specs.Parts.{percent};
+
+use crate::FormatFault;
+use crate::conversions::{Argument, argument_of};
+use crate::parts::{
+    Amount, after_byte, read_modifier, read_number, read_precision, read_width, skip_flags,
+    split_byte,
+};
+
+/// A directive, by what it takes.
+#[derive(Clone, Copy, Debug, PartialEq, Eq)]
+pub(crate) struct Directive {
+    /// `m$`, the number of its argument
+    pub(crate) number: Option<u32>,
+    pub(crate) width: Amount,
+    pub(crate) precision: Amount,
+    pub(crate) argument: Argument,
+}
+
+fn may_name(byte: u8) -> bool
+    ensures { result ≡ is_name_byte byte }
+{
+    byte.is_ascii_uppercase() || byte.is_ascii_digit()
+}
+
+/// How many bytes at the front may stand in the name of a macro.
+fn name_len(text: &[u8]) -> usize
+    ensures { result ≡ prefix_len is_name_byte text.now }
+{
+    text.iter().take_while(|byte| may_name(**byte)).count()
+}
+
+/// The bytes at the front that may stand in the name of a macro, and the rest.
+fn split_name(text: &[u8]) -> (&[u8], &[u8])
+    ensures { IsRun is_name_byte text.now result.0.now result.1.now }
+{
+    text.split_at(name_len(text))
+}
+
+/// Whether a macro may stand for this conversion.
+fn has_macros(conversion: u8) -> bool
+    ensures { result ≡ is_macro_conversion conversion }
+{
+    matches!(conversion, b'd' | b'i' | b'o' | b'u' | b'x' | b'X')
+}
+
+/// Whether the name of a macro stands at the front, as `<PRId64>`.
+fn begins_macro(text: &[u8]) -> bool
+    ensures { IsTrue result ↔ BeginsMacro text.now }
+{
+    let Some(behind) = text.strip_prefix(b"<PRI".as_slice()) else {
+        return false
+    };
+    let Some((conversion, behind)) = split_byte(behind) else {
+        return false
+    };
+    let (name, behind) = split_name(behind);
+    if !has_macros(conversion) || name.is_empty() {
+        return false;
+    }
+    after_byte(behind, b'>').is_some()
+}
+
+/// Whether a directive may take this argument, with this number.
+fn is_allowed(argument: Argument, number: Option<u32>) -> bool
+    ensures { IsTrue result ↔ IsAllowed (argument_view argument) number }
+{
+    match argument {
+        Argument::Undefined => false,
+        Argument::Nothing => number.is_none(),
+        Argument::One(_) => true,
+    }
+}
+
+/// Reads a directive behind its `%`.
+pub(crate) fn read_directive(text: &[u8]) -> Result<(Directive, &[u8]), FormatFault>
+    ensures ok { IfOk result (λ found. ReadsDirective found.0 (percent ∷ text.now) found.1.now) }
+    ensures err { IfErr result (λ fault. Refuses fault (percent ∷ text.now)) }
+{
+    let (number, rest) = read_number(text);
+    let rest = skip_flags(rest);
+    let (width, rest) = read_width(rest);
+    let (precision, rest) = read_precision(rest);
+    if begins_macro(rest) {
+        return Err(FormatFault::SystemDependent);
+    }
+    let (modifier, rest) = read_modifier(rest);
+    let Some((conversion, rest)) = split_byte(rest) else {
+        return Err(FormatFault::Invalid)
+    };
+    let argument = argument_of(conversion, modifier);
+    if !is_allowed(argument, number) {
+        return Err(FormatFault::Invalid);
+    }
+    let directive = Directive {
+        number,
+        width,
+        precision,
+        argument,
+    };
+    Ok((directive, rest))
+}

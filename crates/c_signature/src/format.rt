@@ -1,0 +1,54 @@
+// Whole texts: the cut into plain pieces and directives.
+ghost use Rattle.std.specs.Prelude.{◌≡◌, ℕ, List, [], ◌∷◌, IfOk, IfErr, MatchOption};
+ghost use Rattle.c_signature.specs.Parts.{percent};
+ghost use Rattle.c_signature.specs.Signature.{HasFormatFault, IsInvalid, IsSystemDependent, Lists, SkipsPlain};
+ghost use Rattle.c_signature.specs.declared.ArgKind.{ArgKind as Kind};
+
+use crate::directives::read_directive;
+use crate::requests::Requests;
+use crate::{ArgKind, FormatFault};
+use memchr::memchr;
+use std::alloc::Global;
+
+/// What stands behind the next `%`.
+fn next_directive(text: &[u8]) -> Option<&[u8]>
+    ensures { MatchOption result (SkipsPlain text.now [])
+        (λ rest. SkipsPlain text.now (percent ∷ rest.now)) }
+{
+    let place = memchr(b'%', text)?;
+    Some(&text[place + 1..])
+}
+
+/// The arguments that a C format takes, in their order (C standard 7.21.6.1; numbered ones as in
+/// POSIX, by a number of at most 9 digits).
+///
+/// The first directive that can't be read decides: `SystemDependent` where it names a macro, as
+/// `%<PRId64>`, else `Invalid`. Without one, `Invalid` says that some arguments are numbered and some
+/// aren't, that a number is left out, or that a number has two kinds. `Memory` comes only where a
+/// growth was refused.
+pub fn signature(alloc: Global, text: &str) -> Result<Vec<ArgKind>, FormatFault>
+    ensures ok { IfOk result (λ kinds. Lists text.now kinds.items) }
+    ensures err { IfErr result (λ fault. HasFormatFault text.now fault) }
+{
+    let mut requests = Requests::new(alloc);
+    let mut rest = text.as_bytes();
+    'directives: while let Some(behind) = next_directive(rest) {
+        let (directive, after) = read_directive(behind)?;
+        requests.add(directive)?;
+        rest = after;
+    }
+    requests.list()
+}
+
+/// A text has one outcome: a list of arguments, and just one, or one of the two faults. No text has none.
+pub fn one_outcome()
+    ensures list { (text : List ℕ) (kinds others : List Kind) →
+        Lists text kinds → Lists text others → kinds ≡ others }
+    ensures not_invalid { (text : List ℕ) (kinds : List Kind) →
+        Lists text kinds → ¬ IsInvalid text }
+    ensures not_system_dependent { (text : List ℕ) (kinds : List Kind) →
+        Lists text kinds → ¬ IsSystemDependent text }
+    ensures one_fault { (text : List ℕ) → IsInvalid text → ¬ IsSystemDependent text }
+    ensures some { (text : List ℕ) →
+        ((kinds : List Kind) → ¬ Lists text kinds) → ¬ IsInvalid text → ¬ ¬ IsSystemDependent text }
+{}

@@ -1,0 +1,176 @@
+// The parts of a directive, from the `%` to the length modifier. Each reader takes the text from where
+// its part may stand, and gives what the part says and the text behind it.
+ghost use Rattle.std.specs.Prelude.{◌≡◌, ◌≢◌, ◌↔◌, IsTrue, ℕ, ◌∷◌, [], List, true, MatchOption};
+ghost use Rattle.std.specs.List.{list_all, prefix_len};
+ghost use Rattle.std.specs.Char.{is_ascii_digit};
+ghost use Rattle.c_signature.specs.Parts.{Longest, NumberForm, FlagsForm, WidthForm, PrecisionForm, ModifierForm, is_flag};
+ghost use Rattle.c_signature.specs.Reading.{BeginsNumber, IsNumberOf, IsRun, amount_view, modifier_view};
+
+use crate::Size;
+
+/// How a width or a precision is given.
+#[derive(Clone, Copy, Debug, PartialEq, Eq)]
+pub(crate) enum Amount {
+    /// Left out, or in digits: it takes no argument.
+    Fixed,
+    /// `*`, or `*m$`: it takes the next argument, or the one of this number.
+    Asked(Option<u32>),
+}
+
+/// A length modifier.
+#[derive(Clone, Copy, Debug, PartialEq, Eq)]
+pub(crate) enum Modifier {
+    /// The modifiers of integers, and none.
+    Of(Size),
+    /// `L`
+    LongDouble,
+}
+
+/// The first byte and the rest.
+pub(crate) fn split_byte(text: &[u8]) -> Option<(u8, &[u8])>
+    ensures { MatchOption result (text.now ≡ []) (λ found. text.now ≡ found.0 ∷ found.1.now) }
+{
+    match text {
+        [] => None,
+        [byte, rest @ ..] => Some((*byte, rest)),
+    }
+}
+
+/// The text behind this byte, where it begins with it.
+pub(crate) fn after_byte(text: &[u8], byte: u8) -> Option<&[u8]>
+    ensures { MatchOption result ((rest : List ℕ) → text.now ≢ byte ∷ rest)
+        (λ rest. text.now ≡ byte ∷ rest.now) }
+{
+    let (first, rest) = split_byte(text)?;
+    if first == byte { Some(rest) } else { None }
+}
+
+/// How many digits stand at the front.
+fn digits_len(text: &[u8]) -> usize
+    ensures { result ≡ prefix_len is_ascii_digit text.now }
+{
+    text.iter().take_while(|byte| byte.is_ascii_digit()).count()
+}
+
+/// The digits at the front, as many as there are, and the rest.
+fn split_digits(text: &[u8]) -> (&[u8], &[u8])
+    ensures { IsRun is_ascii_digit text.now result.0.now result.1.now }
+{
+    text.split_at(digits_len(text))
+}
+
+/// The number that digits are, where it may be the number of an argument.
+fn number_of(digits: &[u8]) -> Option<u32>
+    requires { list_all is_ascii_digit digits.now ≡ true }
+    ensures { IsNumberOf digits.now result }
+{
+    if digits.is_empty() || 9 < digits.len() || digits[0] == b'0' {
+        return None;
+    }
+    let mut number: u32 = 0;
+    for digit in digits {
+        number = number * 10 + u32::from(*digit - b'0');
+    }
+    Some(number)
+}
+
+/// Reads `m$`, the number of an argument.
+pub(crate) fn read_number(text: &[u8]) -> (Option<u32>, &[u8])
+    ensures { Longest NumberForm result.0 text.now result.1.now }
+{
+    let (digits, after) = split_digits(text);
+    let Some(rest) = after_byte(after, b'$') else {
+        return (None, text)
+    };
+    match number_of(digits) {
+        Some(number) => (Some(number), rest),
+        None => (None, text),
+    }
+}
+
+/// Whether this is a flag (C standard 7.21.6.1, 6; `'` is POSIX's, `I` is glibc's).
+fn is_flag_byte(byte: u8) -> bool
+    ensures { result ≡ is_flag byte }
+{
+    matches!(byte, b' ' | b'+' | b'-' | b'#' | b'0' | b'\'' | b'I')
+}
+
+/// How many flags stand at the front.
+fn flags_len(text: &[u8]) -> usize
+    ensures { result ≡ prefix_len is_flag text.now }
+{
+    text.iter().take_while(|byte| is_flag_byte(**byte)).count()
+}
+
+/// Skips the flags.
+pub(crate) fn skip_flags(text: &[u8]) -> &[u8]
+    ensures { (flags : List ℕ) × Longest FlagsForm flags text.now result.now }
+{
+    let (_, rest) = text.split_at(flags_len(text));
+    rest
+}
+
+/// Whether a number that doesn't begin with 0 stands at the front.
+fn begins_number(text: &[u8]) -> bool
+    ensures { IsTrue result ↔ BeginsNumber text.now }
+{
+    match split_byte(text) {
+        Some((byte, _)) => b'1' <= byte && byte <= b'9',
+        None => false,
+    }
+}
+
+/// Reads a width.
+pub(crate) fn read_width(text: &[u8]) -> (Amount, &[u8])
+    ensures { Longest WidthForm (amount_view result.0) text.now result.1.now }
+{
+    if let Some(after) = after_byte(text, b'*') {
+        let (number, rest) = read_number(after);
+        return (Amount::Asked(number), rest);
+    }
+    if !begins_number(text) {
+        return (Amount::Fixed, text);
+    }
+    let (_, rest) = split_digits(text);
+    (Amount::Fixed, rest)
+}
+
+/// Reads a precision.
+pub(crate) fn read_precision(text: &[u8]) -> (Amount, &[u8])
+    ensures { Longest PrecisionForm (amount_view result.0) text.now result.1.now }
+{
+    let Some(behind) = after_byte(text, b'.') else {
+        return (Amount::Fixed, text)
+    };
+    if let Some(after) = after_byte(behind, b'*') {
+        let (number, rest) = read_number(after);
+        return (Amount::Asked(number), rest);
+    }
+    let (_, rest) = split_digits(behind);
+    (Amount::Fixed, rest)
+}
+
+/// Reads a length modifier.
+pub(crate) fn read_modifier(text: &[u8]) -> (Modifier, &[u8])
+    ensures { Longest ModifierForm (modifier_view result.0) text.now result.1.now }
+{
+    let Some((letter, after)) = split_byte(text) else {
+        return (Modifier::Of(Size::Plain), text)
+    };
+    match letter {
+        b'h' => match after_byte(after, b'h') {
+            Some(rest) => (Modifier::Of(Size::Byte), rest),
+            None => (Modifier::Of(Size::Short), after),
+        },
+        b'l' => match after_byte(after, b'l') {
+            Some(rest) => (Modifier::Of(Size::LongLong), rest),
+            None => (Modifier::Of(Size::Long), after),
+        },
+        b'q' => (Modifier::Of(Size::LongLong), after),
+        b'L' => (Modifier::LongDouble, after),
+        b'j' => (Modifier::Of(Size::Max), after),
+        b'z' => (Modifier::Of(Size::SizeT), after),
+        b't' => (Modifier::Of(Size::PtrDiff), after),
+        _ => (Modifier::Of(Size::Plain), text),
+    }
+}

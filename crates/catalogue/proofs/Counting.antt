@@ -1,0 +1,119 @@
+-- The statistics and the header's line, counted over rows and over entries.
+use Rattle.std.proofs.Common.{◌≡◌, ℕ, ◌+◌, ◌≤◌, Bool, true, false, cond, not, List, [], ◌∷◌, length, Option, Some, None, refl, sym, ap, ◌∙◌, arith}
+use Rattle.std.specs.Prelude.{◌&&◌, is_some, if◌then◌else◌}
+use Rattle.std.specs.List.{find, count_by}
+use Rattle.std.specs.Option.{option_map_or}
+use Rattle.std.proofs.lemmas.List.Sums.{sum_by-cons}
+use Rattle.po_text.specs.Entries as po
+use Rattle.catalogue.specs.Meaning.{is_header, is_untranslated, is_fuzzy, is_translated, is_kept, kept, counted, header_line_of}
+use Rattle.catalogue.specs.Drafts.{Row, Kept, row, rows, row_of, rows_from, standing_of, texts_of, same_standing, counts_as, is_kept_header}
+use Rattle.catalogue.specs.declared.compiler.Options.{Options}
+use Rattle.catalogue.specs.declared.drafts.Draft.{Draft}
+use Rattle.catalogue.specs.declared.drafts.Standing.{Standing}
+use Rattle.catalogue.specs.declared.drafts.Standing.TheVariants.{Header, Untranslated, Fuzzy, Translated}
+
+abbrev one_if : {X : Type 0} → (X → Bool) → X → ℕ
+one_if p x = cond (p x) 1 0
+
+-- ---- counts
+
+over_rows : (s : Standing) (ds : List Draft) → count_by (λ d. counts_as s (row d)) ds ≡ count_by (counts_as s) (rows ds)
+over_rows s [] = refl
+over_rows s (d ∷ ds) = sum_by-cons (λ x. one_if (counts_as s) (row x)) d ds ∙ ap (λ n. one_if (counts_as s) (row d) + n) (over_rows s ds) ∙ sym (sum_by-cons (one_if (counts_as s)) (row d) (rows ds))
+
+over_entries : (o : Options) (s : Standing) (q : po.Entry → Bool) → ((e : po.Entry) → same_standing (standing_of e) s ≡ (not (is_header e) && q e)) → (k : ℕ) (es : List po.Entry) → count_by (counts_as s) (rows_from o k es) ≡ count_by q (counted es)
+over_entries o s q says k [] = refl
+over_entries o s q says k (e ∷ es) =
+    let rest = over_entries o s q says (k + 1) es in
+    sum_by-cons (one_if (counts_as s)) (row_of o k e) (rows_from o (k + 1) es) ∙ ap (λ n. one_if (counts_as s) (row_of o k e) + n) rest ∙ ap (λ b. cond b 1 0 + count_by q (counted es)) (says e) ∙ of (is_header e) refl
+  where
+    of : (h : Bool) → is_header e ≡ h → cond (not (is_header e) && q e) 1 0 + count_by q (counted es) ≡ count_by q (cond (not (is_header e)) (e ∷ counted es) (counted es))
+    of true is = rw is (omega arith)
+    of false is = rw is (sym (sum_by-cons (one_if q) e (counted es)))
+
+abbrev stands_so : Bool → Bool → Bool → Standing
+stands_so h u f = if h then Header else if u then Untranslated else if f then Fuzzy else Translated
+
+untranslated_so : (h u f : Bool) → same_standing (stands_so h u f) Untranslated ≡ (not h && u)
+untranslated_so true u f = refl
+untranslated_so false true f = refl
+untranslated_so false false true = refl
+untranslated_so false false false = refl
+
+fuzzy_so : (h u f : Bool) → same_standing (stands_so h u f) Fuzzy ≡ (not h && (not u && f))
+fuzzy_so true u f = refl
+fuzzy_so false true f = refl
+fuzzy_so false false true = refl
+fuzzy_so false false false = refl
+
+translated_so : (h u f : Bool) → same_standing (stands_so h u f) Translated ≡ (not h && (not u && not f))
+translated_so true u f = refl
+translated_so false true f = refl
+translated_so false false true = refl
+translated_so false false false = refl
+
+header_so : (h u f : Bool) → same_standing (stands_so h u f) Header ≡ h
+header_so true u f = refl
+header_so false true f = refl
+header_so false false true = refl
+header_so false false false = refl
+
+abbrev pub AreRows : Options → List po.Entry → List Draft → Type 0
+AreRows o es ds = rows ds ≡ rows_from o 0 es
+
+count_of : (o : Options) (es : List po.Entry) (ds : List Draft) (s : Standing) (q : po.Entry → Bool) → AreRows o es ds → ((e : po.Entry) → same_standing (standing_of e) s ≡ (not (is_header e) && q e)) → count_by (λ d. counts_as s (row d)) ds ≡ count_by q (counted es)
+count_of o es ds s q are says = over_rows s ds ∙ ap (count_by (counts_as s)) are ∙ over_entries o s q says 0 es
+
+pub untranslated_count : (o : Options) (es : List po.Entry) (ds : List Draft) → AreRows o es ds → count_by (λ d. counts_as Untranslated (row d)) ds ≡ count_by is_untranslated (counted es)
+untranslated_count o es ds are = count_of o es ds Untranslated is_untranslated are (λ e. untranslated_so (is_header e) (is_untranslated e) e.fuzzy)
+
+pub fuzzy_count : (o : Options) (es : List po.Entry) (ds : List Draft) → AreRows o es ds → count_by (λ d. counts_as Fuzzy (row d)) ds ≡ count_by is_fuzzy (counted es)
+fuzzy_count o es ds are = count_of o es ds Fuzzy is_fuzzy are (λ e. fuzzy_so (is_header e) (is_untranslated e) e.fuzzy)
+
+pub translated_count : (o : Options) (es : List po.Entry) (ds : List Draft) → AreRows o es ds → count_by (λ d. counts_as Translated (row d)) ds ≡ count_by is_translated (counted es)
+translated_count o es ds are = count_of o es ds Translated is_translated are (λ e. translated_so (is_header e) (is_untranslated e) e.fuzzy)
+
+pub count_within : {X : Type 0} (p : X → Bool) (xs : List X) → count_by p xs ≤ length xs
+count_within p [] = omega arith
+count_within p (x ∷ xs) = omega (arith, sum_by-cons (one_if p) x xs, one (p x), count_within p xs)
+  where
+    one : (b : Bool) → cond {A = ℕ} b 1 0 ≤ 1
+    one true = omega arith
+    one false = omega arith
+
+-- ---- the header
+
+line_over_rows : (ds : List Draft) → option_map_or (λ d. d.line) (find (λ d. is_kept_header (row d)) ds) 0 ≡ option_map_or (λ (r : Row). r.line) (find is_kept_header (rows ds)) 0
+line_over_rows [] = refl
+line_over_rows (d ∷ ds) = of (is_kept_header (row d)) (line_over_rows ds)
+  where
+    of : (b : Bool) → option_map_or (λ d. d.line) (find (λ d. is_kept_header (row d)) ds) 0 ≡ option_map_or (λ (r : Row). r.line) (find is_kept_header (rows ds)) 0 → option_map_or (λ d. d.line) (cond b (Some d) (find (λ d. is_kept_header (row d)) ds)) 0 ≡ option_map_or (λ (r : Row). r.line) (cond b (Some (row d)) (find is_kept_header (rows ds))) 0
+    of true rest = refl
+    of false rest = rest
+
+kept_texts_are : (b : Bool) (t : Kept) → is_some (if b then Some t else None) ≡ b
+kept_texts_are true t = refl
+kept_texts_are false t = refl
+
+pub header_row : (o : Options) (k : ℕ) (e : po.Entry) → is_kept_header (row_of o k e) ≡ (is_header e && is_kept o e)
+header_row o k e = rw (header_so (is_header e) (is_untranslated e) e.fuzzy, kept_texts_are (is_kept o e) (texts_of e)) refl
+
+pub split_find : (t : Bool) (e : po.Entry) (ks : List po.Entry) → find is_header (cond t (e ∷ ks) ks) ≡ cond t (cond (is_header e) (Some e) (find is_header ks)) (find is_header ks)
+split_find true e ks = refl
+split_find false e ks = refl
+
+line_or : (h t : Bool) (r : Row) (e : po.Entry) (x : Option Row) (y : Option po.Entry) → r.line ≡ e.line → option_map_or (λ (r : Row). r.line) x 0 ≡ option_map_or (λ (e : po.Entry). e.line) y 0 → option_map_or (λ (r : Row). r.line) (cond (h && t) (Some r) x) 0 ≡ option_map_or (λ (e : po.Entry). e.line) (cond t (cond h (Some e) y) y) 0
+line_or true true r e x y same rest = same
+line_or true false r e x y same rest = rest
+line_or false true r e x y same rest = rest
+line_or false false r e x y same rest = rest
+
+line_over_entries : (o : Options) (k : ℕ) (es : List po.Entry) → option_map_or (λ (r : Row). r.line) (find is_kept_header (rows_from o k es)) 0 ≡ header_line_of o es
+line_over_entries o k [] = refl
+line_over_entries o k (e ∷ es) =
+    ap (λ b. option_map_or (λ (r : Row). r.line) (cond b (Some (row_of o k e)) (find is_kept_header (rows_from o (k + 1) es))) 0) (header_row o k e)
+    ∙ line_or (is_header e) (is_kept o e) (row_of o k e) e (find is_kept_header (rows_from o (k + 1) es)) (find is_header (kept o es)) refl (line_over_entries o (k + 1) es)
+    ∙ sym (ap (λ (x : Option po.Entry). option_map_or (λ (e : po.Entry). e.line) x 0) (split_find (is_kept o e) e (kept o es)))
+
+pub header_line_is : (o : Options) (es : List po.Entry) (ds : List Draft) → AreRows o es ds → option_map_or (λ d. d.line) (find (λ d. is_kept_header (row d)) ds) 0 ≡ header_line_of o es
+header_line_is o es ds are = line_over_rows ds ∙ ap (λ (rs : List Row). option_map_or (λ (r : Row). r.line) (find is_kept_header rs) 0) are ∙ line_over_entries o 0 es

@@ -1,0 +1,86 @@
+-- The catalogue of a text within its limit has an MO file within its limit.
+use Rattle.std.proofs.Common.{◌≡◌, ℕ, ◌+◌, ◌*◌, ◌≤◌, Bool, true, false, List, [], ◌∷◌, length, map, Option, Some, None, refl, ap, ◌∙◌, arith, length-append}
+use Rattle.std.specs.List.{AllByRecursion, cons_option, sum_by}
+use Rattle.std.proofs.lemmas.List.Concat.{flat_map-cons}
+use Rattle.std.proofs.lemmas.List.Sums.{sum_by-cons}
+use Rattle.std.proofs.lemmas.List.Sorted.{sum_by-IsPermutation}
+use Rattle.po_text.specs.Entries as po
+use Rattle.po_text.specs.Outcome.{Gives}
+use Rattle.po_text.proofs.Sizes.{option_size, forms_size, entry_size, entries_size, gives_size}
+use Rattle.catalogue.specs.Entry.{Entry, key_bytes, with_plural, original, translation}
+use Rattle.catalogue.specs.MoFile.{closed, pool, spelling}
+use Rattle.catalogue.specs.Meaning.{message_of, is_kept}
+use Rattle.catalogue.specs.Drafts.{Row, row_of, rows_from, kept_entry}
+use Rattle.catalogue.specs.declared.compiler.Options.{Options}
+use Rattle.catalogue.proofs.MoLengths.{length-closed, closed_joined, length-spelling}
+use Rattle.catalogue.proofs.EntryParts.{some_form}
+use Rattle.catalogue.proofs.InOrder.{AreOrdered}
+use Rattle.catalogue.proofs.Listing.{Lawful, kept_is, left_out, map_of}
+
+-- what an entry takes in the file
+abbrev size : Entry → ℕ
+size m = 16 + length (closed (original m)) + length (closed (translation m))
+
+sums : (m : List Entry) → 16 * length m + length (pool (map original m)) + length (pool (map translation m)) ≡ sum_by size m
+sums [] = refl
+sums (e ∷ m) =
+    let o = ap length (flat_map-cons closed (original e) (map original m)) ∙ length-append (closed (original e)) (pool (map original m)) in
+    let t = ap length (flat_map-cons closed (translation e) (map translation m)) ∙ length-append (closed (translation e)) (pool (map translation m)) in
+    omega (arith, sums m, sum_by-cons size e m, o, t)
+
+file_size : (m : List Entry) → length (spelling m) ≡ 28 + sum_by size m
+file_size m = omega (arith, length-spelling m, sums m)
+
+-- ---- an entry in the file and in the text
+
+key_size : (context : Option (List ℕ)) (id : List ℕ) → length (key_bytes context id) ≡ option_size context + length id
+key_size None id = omega arith
+key_size (Some context) id = omega (arith, length-append context (4 ∷ id))
+
+original_size : (k : List ℕ) (plural : Option (List ℕ)) → length (with_plural k plural) ≡ length k + option_size plural
+original_size k None = omega arith
+original_size k (Some plural) = omega (arith, length-append k (0 ∷ plural))
+
+pool_size : (forms : List (List ℕ)) → length (pool forms) ≡ forms_size forms
+pool_size [] = refl
+pool_size (form ∷ forms) =
+    let e = ap length (flat_map-cons closed form forms) ∙ length-append (closed form) (pool forms) in
+    omega (arith, e, pool_size forms, length-closed form)
+
+message_size : (e : po.Entry) → Lawful e → size (message_of e) ≡ entry_size e
+message_size e lawful =
+    let t = ap length (closed_joined e.forms (some_form e.plural e.forms lawful.counted)) in
+    omega (arith, length-closed (original (message_of e)), original_size (key_bytes e.context e.id) e.plural, key_size e.context e.id, t, pool_size e.forms)
+
+-- ---- the rows
+
+abbrev option_entry_size : Option Entry → ℕ
+option_entry_size None = 0
+option_entry_size (Some m) = size m
+
+abbrev row_size : Row → ℕ
+row_size r = option_entry_size (kept_entry r)
+
+of_one : (o : Option Entry) (ms : List Entry) → sum_by size (cons_option o ms) ≡ option_entry_size o + sum_by size ms
+of_one None ms = omega arith
+of_one (Some m) ms = sum_by-cons size m ms
+
+of_rows : (rs : List Row) → sum_by size (map_of rs) ≡ sum_by row_size rs
+of_rows [] = refl
+of_rows (r ∷ rs) = omega (arith, of_one (kept_entry r) (map_of rs), of_rows rs, sum_by-cons row_size r rs)
+
+row_fits : (o : Options) (k : ℕ) (e : po.Entry) → Lawful e → row_size (row_of o k e) ≤ entry_size e
+row_fits o k e lawful = of (is_kept o e) refl
+  where
+    of : (b : Bool) → is_kept o e ≡ b → row_size (row_of o k e) ≤ entry_size e
+    of true is = let same = ap option_entry_size (kept_is o k e lawful is) in omega (arith, same, message_size e lawful)
+    of false is = let same = ap option_entry_size (left_out o k e is) in omega (arith, same)
+
+rows_fit : (o : Options) (k : ℕ) (es : List po.Entry) → AllByRecursion Lawful es → sum_by row_size (rows_from o k es) ≤ entries_size es
+rows_fit o k [] lawful = omega arith
+rows_fit o k (e ∷ es) lawful = omega (arith, sum_by-cons row_size (row_of o k e) (rows_from o (k + 1) es), row_fits o k e lawful.0, rows_fit o (k + 1) es lawful.1)
+
+pub fits : (o : Options) (text : List ℕ) (entries : List po.Entry) (rs : List Row) → Gives text entries → AreOrdered o entries rs → AllByRecursion Lawful entries → length (spelling (map_of rs)) ≤ 268435456
+fits o text entries rs gives ordered lawful =
+    let all = sum_by-IsPermutation row_size (rows_from o 0 entries) rs ordered.same in
+    omega (arith, file_size (map_of rs), of_rows rs, all, rows_fit o 0 entries lawful, gives_size text entries gives, gives.readable.size)

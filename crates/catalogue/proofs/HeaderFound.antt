@@ -1,0 +1,177 @@
+-- The header among the drafts is that of the text, and the catalogue's.
+use Rattle.std.proofs.Common.{◌≡◌, ℕ, ◌+◌, ◌<◌, Bool, true, false, cond, List, [], ◌∷◌, length, map, get_or, Option, Some, None, refl, sym, ap, ◌∙◌, subst, arith, inl, inr}
+use Rattle.std.specs.Prelude.{◌&&◌, ◌⊎◌, ◌==◌, Contains, IfSome, is_none, option_map}
+use Rattle.std.specs.List.{AllByRecursion, find, slice_split}
+use Rattle.std.specs.Str.{bytes_eq}
+use Rattle.std.proofs.lemmas.Bool.{cases_lt, false≢true}
+use Rattle.std.proofs.lemmas.List.{get_or-map, get_or_default, length-map}
+use Rattle.std.proofs.lemmas.List.Elements.{All-contains}
+use Rattle.std.proofs.lemmas.Slice.Eq.{bytes_eq-Decides}
+use Rattle.po_text.specs.Entries as po
+use Rattle.catalogue.specs.Entry.{Entry, key, key_bytes, translation}
+use Rattle.catalogue.specs.Map.{entry_at, first_form, header_text, HasAcceptedCharset}
+use Rattle.catalogue.specs.Meaning.{message_of, key_of, is_empty, is_header, is_kept, kept, kept_header, NamesCharset, HasDistinctKeys, IsMapOf}
+use Rattle.catalogue.specs.Drafts.{Row, Kept, row, rows, row_of, rows_from, texts_of, is_kept_header, RowNamesCharset, HeaderNamesCharset, IsLawfulMessage}
+use Rattle.catalogue.specs.declared.compiler.Options.{Options}
+use Rattle.catalogue.specs.declared.drafts.Draft.{Draft}
+use Rattle.catalogue.proofs.Counting.{AreRows, header_row, split_find}
+use Rattle.catalogue.proofs.EntryParts.{split_joined, some_form, lack_nul}
+use Rattle.catalogue.proofs.Members.{has_head, has_tail, has_cases, from_map, from_filter, from_find}
+
+-- a row is that of a kept entry
+pub record IsRowOf (o : Options) (es : List po.Entry) (r : Row) (e : po.Entry) : Type 0 where
+  pub number : ℕ
+  pub is : r ≡ row_of o number e
+  pub has : Contains es e
+  pub is_kept : is_kept o e ≡ true
+  pub lawful : IsLawfulMessage e
+
+-- a row and an entry were found, or neither
+abbrev Found : Options → List po.Entry → Option Row → Option po.Entry → Type 0
+Found o es None None = Unit {0}
+Found o es None (Some e) = ⊥
+Found o es (Some r) None = ⊥
+Found o es (Some r) (Some e) = IsRowOf o es r e
+
+longer : (o : Options) (x : po.Entry) (es : List po.Entry) (r : Option Row) (e : Option po.Entry) → Found o es r e → Found o (x ∷ es) r e
+longer o x es None None f = tt
+longer o x es None (Some e) f = f
+longer o x es (Some r) None f = f
+longer o x es (Some r) (Some e) f = record { number = f.number; is = f.is; has = has_tail e x es f.has; is_kept = f.is_kept; lawful = f.lawful }
+
+step : (o : Options) (k : ℕ) (e : po.Entry) (es : List po.Entry) (h t : Bool) (r : Option Row) (x : Option po.Entry) → is_kept o e ≡ t → IsLawfulMessage e → Found o es r x → Found o (e ∷ es) (cond (h && t) (Some (row_of o k e)) r) (cond t (cond h (Some e) x) x)
+step o k e es true true r x is lawful f = record { number = k; is = refl; has = has_head e e es refl; is_kept = is; lawful = lawful }
+step o k e es true false r x is lawful f = longer o e es r x f
+step o k e es false true r x is lawful f = longer o e es r x f
+step o k e es false false r x is lawful f = longer o e es r x f
+
+found : (o : Options) (k : ℕ) (es : List po.Entry) → AllByRecursion IsLawfulMessage es → Found o es (find is_kept_header (rows_from o k es)) (kept_header o es)
+found o k [] lawful = tt
+found o k (e ∷ es) lawful =
+    let rest = find is_kept_header (rows_from o (k + 1) es) in
+    let R : Bool → Type 0 = λ b. Found o (e ∷ es) (cond b (Some (row_of o k e)) rest) (kept_header o (e ∷ es)) in
+    let X : Option po.Entry → Type 0 = λ x. Found o (e ∷ es) (cond (is_header e && is_kept o e) (Some (row_of o k e)) rest) x in
+    subst R (sym (header_row o k e)) (subst X (sym (split_find (is_kept o e) e (kept o es)))
+    (step o k e es (is_header e) (is_kept o e) rest (kept_header o es) refl lawful.0 (found o (k + 1) es lawful.1)))
+
+find_rows : (ds : List Draft) → option_map row (find (λ d. is_kept_header (row d)) ds) ≡ find is_kept_header (rows ds)
+find_rows [] = refl
+find_rows (d ∷ ds) = of (is_kept_header (row d)) (find_rows ds)
+  where
+    of : (b : Bool) → option_map row (find (λ d. is_kept_header (row d)) ds) ≡ find is_kept_header (rows ds) → option_map row (cond b (Some d) (find (λ d. is_kept_header (row d)) ds)) ≡ cond b (Some (row d)) (find is_kept_header (rows ds))
+    of true rest = refl
+    of false rest = rest
+
+found_drafts : (o : Options) (es : List po.Entry) (ds : List Draft) → AreRows o es ds → AllByRecursion IsLawfulMessage es → Found o es (option_map row (find (λ d. is_kept_header (row d)) ds)) (kept_header o es)
+found_drafts o es ds are lawful = subst (λ (r : Option Row). Found o es r (kept_header o es)) (sym (find_rows ds ∙ ap (find is_kept_header) are)) (found o 0 es lawful)
+
+-- ---- what it names
+
+forms_again : (e : po.Entry) → IsLawfulMessage e → slice_split (λ b. b == 0) (translation (message_of e)) ≡ e.forms
+forms_again e lawful = split_joined e.forms (some_form e.plural e.forms lawful.counted) (lack_nul e.forms lawful.forms)
+
+row_texts : (o : Options) (es : List po.Entry) (r : Row) (e : po.Entry) → IsRowOf o es r e → r.texts ≡ Some (texts_of e)
+row_texts o es r e f = ap (λ (x : Row). x.texts) f.is ∙ rw f.is_kept refl
+
+names : (o : Options) (es : List po.Entry) (r : Row) (e : po.Entry) → IsRowOf o es r e → RowNamesCharset r → NamesCharset e
+names o es r e f n =
+    let of_texts : HasAcceptedCharset (first_form (slice_split (λ b. b == 0) (translation (message_of e)))) =
+    subst (λ (t : Option Kept). IfSome t (λ k. HasAcceptedCharset (first_form (slice_split (λ b. b == 0) k.1)))) (row_texts o es r e f) n in
+    subst (λ (forms : List (List ℕ)). HasAcceptedCharset (first_form forms)) (forms_again e f.lawful) of_texts
+
+names_back : (o : Options) (es : List po.Entry) (r : Row) (e : po.Entry) → IsRowOf o es r e → NamesCharset e → RowNamesCharset r
+names_back o es r e f n =
+    let of_forms : HasAcceptedCharset (first_form (slice_split (λ b. b == 0) (translation (message_of e)))) =
+    subst (λ (forms : List (List ℕ)). HasAcceptedCharset (first_form forms)) (sym (forms_again e f.lawful)) n in
+    subst (λ (t : Option Kept). IfSome t (λ k. HasAcceptedCharset (first_form (slice_split (λ b. b == 0) k.1)))) (sym (row_texts o es r e f)) of_forms
+
+accepted_by : (o : Options) (es : List po.Entry) (d : Option Draft) (e : Option po.Entry) → Found o es (option_map row d) e → IfSome d (λ d. RowNamesCharset (row d)) → IfSome e NamesCharset
+accepted_by o es None None f n = tt
+accepted_by o es None (Some e) f n = absurd f
+accepted_by o es (Some d) None f n = absurd f
+accepted_by o es (Some d) (Some e) f n = names o es (row d) e f n
+
+pub accepted : (o : Options) (es : List po.Entry) (ds : List Draft) → AreRows o es ds → AllByRecursion IsLawfulMessage es → HeaderNamesCharset ds → IfSome (kept_header o es) NamesCharset
+accepted o es ds are lawful n = accepted_by o es (find (λ d. is_kept_header (row d)) ds) (kept_header o es) (found_drafts o es ds are lawful) n
+
+-- the header names another charset
+pub record NamesAnother (o : Options) (es : List po.Entry) : Type 0 where
+  pub header : po.Entry
+  pub is : kept_header o es ≡ Some header
+  pub foreign : ¬ NamesCharset header
+
+another_by : (o : Options) (es : List po.Entry) (d : Option Draft) (e : Option po.Entry) → kept_header o es ≡ e → Found o es (option_map row d) e → (IfSome d (λ d. RowNamesCharset (row d)) → ⊥) → NamesAnother o es
+another_by o es None e is f no_name = absurd (no_name tt)
+another_by o es (Some d) None is f no_name = absurd f
+another_by o es (Some d) (Some e) is f no_name = record { header = e; is = is; foreign = λ n. no_name (names_back o es (row d) e f n) }
+
+pub another : (o : Options) (es : List po.Entry) (ds : List Draft) → AreRows o es ds → AllByRecursion IsLawfulMessage es → (HeaderNamesCharset ds → ⊥) → NamesAnother o es
+another o es ds are lawful no_name = another_by o es (find (λ d. is_kept_header (row d)) ds) (kept_header o es) refl (found_drafts o es ds are lawful) no_name
+
+-- ---- the header of the catalogue
+
+-- entries with one key are one, where keys are distinct
+one_of : (es : List po.Entry) (x y : po.Entry) → HasDistinctKeys es → Contains es x → Contains es y → key_of x ≡ key_of y → x ≡ y
+one_of es x y distinct (i, li, ix) (j, lj, jy) same =
+    elim (cases_lt i j) [
+      | inl lt ↦ absurd (distinct i j [] lt (omega (arith, lj, length-map es key_of)) (at i x li ix ∙ same ∙ sym (at j y lj jy)))
+      | inr le ↦ elim (cases_lt j i) [
+        | inl lt ↦ absurd (distinct j i [] lt (omega (arith, li, length-map es key_of)) (at j y lj jy ∙ sym same ∙ sym (at i x li ix)))
+        | inr ge ↦ let k : i ≡ j = omega (arith, le, ge) in sym ix ∙ get_or_default es i x y li ∙ ap (λ n. get_or es n y) k ∙ jy
+      ]
+    ]
+  where
+    at : (n : ℕ) (z : po.Entry) → n < length es → get_or es n z ≡ z → get_or (map key_of es) n [] ≡ key_of z
+    at n z lt is = get_or-map key_of es n z [] lt ∙ ap key_of is
+
+-- the entry with the empty key is the header
+no_key : (context : Option (List ℕ)) (id : List ℕ) → key_bytes context id ≡ [] → (is_none context && is_empty id) ≡ true
+no_key None [] e = refl
+no_key None (b ∷ id) e = absurd cc
+no_key (Some []) id e = absurd cc
+no_key (Some (b ∷ context)) id e = absurd cc
+
+header_key : (context : Option (List ℕ)) (id : List ℕ) → (is_none context && is_empty id) ≡ true → key_bytes context id ≡ []
+header_key None [] e = refl
+header_key None (b ∷ id) e = absurd (false≢true e)
+header_key (Some context) id e = absurd (false≢true e)
+
+-- what a search finds passes and was there; what passes lets it find something
+pub record Finds (p : po.Entry → Bool) (es : List po.Entry) (e : po.Entry) : Type 0 where
+  pub found : po.Entry
+  pub is : find p es ≡ Some found
+  pub passes : p found ≡ true
+  pub has : Contains es found
+
+finds : (p : po.Entry → Bool) (es : List po.Entry) (e : po.Entry) → Contains es e → p e ≡ true → Finds p es e
+finds p [] e has passes = absurd (omega (arith, has.1))
+finds p (x ∷ es) e has passes = of (p x) refl (has_cases e x es has) (λ h. finds p es e h passes)
+  where
+    of : (b : Bool) → p x ≡ b → (x ≡ e) ⊎ Contains es e → (Contains es e → Finds p es e) → Finds p (x ∷ es) e
+    of true is h rest = record { found = x; is = rw is refl; passes = is; has = has_head x x es refl }
+    of false is (inl same) rest = absurd (false≢true (sym is ∙ ap p same ∙ passes))
+    of false is (inr t) rest = let f = rest t in record { found = f.found; is = rw is f.is; passes = f.passes; has = has_tail f.found x es f.has }
+
+-- an entry of the catalogue with the empty key is the kept header's message
+catalogued : (o : Options) (es : List po.Entry) (m : List Entry) → IsMapOf (kept o es) m → HasDistinctKeys es → IfSome (kept_header o es) NamesCharset → (x : Entry) → entry_at m [] ≡ Some x → HasAcceptedCharset (first_form x.forms)
+catalogued o es m is distinct names x at =
+    let here = from_find (λ (e : Entry). bytes_eq (key e) []) m x at in
+    let no_key_of : key x ≡ [] = (bytes_eq-Decides (key x) []).0 here.1 in
+    let (e, has, same) = from_map message_of (kept o es) x (All-contains (Contains (map message_of (kept o es))) m x is.nothing_else here.0) in
+    let e_key : key_of e ≡ [] = ap key same ∙ no_key_of in
+    let h = finds is_header (kept o es) e has (no_key e.context e.id e_key) in
+    let h_key : key_of h.found ≡ [] = header_key h.found.context h.found.id h.passes in
+    let one : e ≡ h.found = one_of es e h.found distinct (from_filter (is_kept o) es e has) (from_filter (is_kept o) es h.found h.has) (e_key ∙ sym h_key) in
+    let named : NamesCharset h.found = subst (λ (x : Option po.Entry). IfSome x NamesCharset) h.is names in
+    subst (λ (y : Entry). HasAcceptedCharset (first_form y.forms)) same (subst NamesCharset (sym one) named)
+
+if_some : {X : Type 0} (o : Option X) (P : X → Type 0) → ((x : X) → o ≡ Some x → P x) → IfSome o P
+if_some None P h = tt
+if_some (Some x) P h = h x refl
+
+if_mapped : {X Y : Type 0} (o : Option X) (f : X → Y) (P : Y → Type 0) → IfSome o (λ x. P (f x)) → IfSome (option_map f o) P
+if_mapped None f P h = tt
+if_mapped (Some x) f P h = h
+
+pub map_accepted : (o : Options) (es : List po.Entry) (m : List Entry) → IsMapOf (kept o es) m → HasDistinctKeys es → IfSome (kept_header o es) NamesCharset → IfSome (header_text m) HasAcceptedCharset
+map_accepted o es m is distinct names = if_mapped (entry_at m []) (λ (e : Entry). first_form e.forms) HasAcceptedCharset (if_some (entry_at m []) (λ e. HasAcceptedCharset (first_form e.forms)) (catalogued o es m is distinct names))

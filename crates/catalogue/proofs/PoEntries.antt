@@ -1,0 +1,46 @@
+-- The entries of a PO text are lawful as entries of a catalogue.
+use Rattle.std.proofs.Common.{◌≡◌, ◌≢◌, ℕ, List, [], ◌∷◌, length, Option, Some, None, refl, arith}
+use Rattle.std.specs.Prelude.{Contains, IfSome}
+use Rattle.std.specs.List.{AllByRecursion}
+use Rattle.po_text.specs.Spelling as spelling
+use Rattle.po_text.specs.Entries as po
+use Rattle.po_text.specs.Lawful.{IsLawfulTexts, IsLawfulIf, HasNoFourIf, HasItsForms}
+use Rattle.catalogue.specs.Entry.{Lacks, IsText, IsKeyText, HasForms, IsLawfulEntry}
+use Rattle.catalogue.specs.Meaning.{message_of}
+use Rattle.catalogue.proofs.Members.{has_head, has_tail}
+
+lacks_from : (byte : ℕ) (text : List ℕ) → ¬ Contains text byte → Lacks byte text
+lacks_from byte [] none = tt
+lacks_from byte (b ∷ text) none = ((λ e. none (has_head byte b text e)), lacks_from byte text (λ h. none (has_tail byte b text h)))
+
+is_text : (text : List ℕ) → spelling.IsLawful text → IsText text
+is_text text lawful = record { utf8 = lawful.utf8; no_nul = lacks_from 0 text lawful.no_nul }
+
+is_key_text : (text : List ℕ) → spelling.IsLawful text → ¬ Contains text 4 → IsKeyText text
+is_key_text text lawful none = record { utf8 = lawful.utf8; no_nul = lacks_from 0 text lawful.no_nul; no_separator = lacks_from 4 text none }
+
+context_text : (context : Option (List ℕ)) → IsLawfulIf context → HasNoFourIf context → IfSome context IsKeyText
+context_text None lawful none = tt
+context_text (Some text) lawful none = is_key_text text lawful none
+
+plural_text : (plural : Option (List ℕ)) → IsLawfulIf plural → IfSome plural IsText
+plural_text None lawful = tt
+plural_text (Some text) lawful = is_text text lawful
+
+form_texts : (forms : List (List ℕ)) → AllByRecursion spelling.IsLawful forms → AllByRecursion IsText forms
+form_texts [] lawful = tt
+form_texts (form ∷ forms) lawful = (is_text form lawful.0, form_texts forms lawful.1)
+
+forms_counted : (plural : Option (List ℕ)) (forms : List (List ℕ)) → forms ≢ [] → (plural ≡ None → length forms ≡ 1) → HasForms plural forms
+forms_counted None forms some one = one refl
+forms_counted (Some plural) [] some one = absurd (some refl)
+forms_counted (Some plural) (form ∷ forms) some one = omega arith
+
+pub message_lawful : (e : po.Entry) → IsLawfulTexts e → HasItsForms e → IsLawfulEntry (message_of e)
+message_lawful e texts forms = record {
+  context = context_text e.context texts.context texts.context_free;
+  id = is_key_text e.id texts.id texts.id_free;
+  plural = plural_text e.plural texts.plural;
+  forms = form_texts e.forms texts.forms;
+  counted = forms_counted e.plural e.forms forms.some forms.one;
+}

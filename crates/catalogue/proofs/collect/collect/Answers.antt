@@ -1,0 +1,36 @@
+use Rattle.std.proofs.Common.{inl, inr, ap, arith}
+use Rattle.std.proofs.lemmas.Result.{err_from_is_err_and}
+use Rattle.po_text.specs.Outcome.{body}
+use Rattle.po_text.proofs.Outcomes.{faulty_refuses}
+use Rattle.po_text.specs.declared.fault.PoFault.{PoFault}
+use Rattle.catalogue.specs.Refusal.{kind_of}
+use Rattle.catalogue.proofs.Collecting.{collects_none, collects_more, collects_all, refused_as}
+use Rattle.catalogue.proofs.collect.collect.Goals as goal
+
+pub returns-in_err-reader-clause-err : goal.returns-in_err-reader-clause-err
+returns-in_err-reader-clause-err c =
+    let p = err_from_is_err_and c.from_residual.result c.from_residual.ensures.1 in
+    let fault = c.in_err-reader.field-0.0 in
+    rw (p.1, p.2) (refused_as c.args.text.now c.args.options fault.kind fault.line c.in_err-reader.ensures.err)
+
+pub returns-in_err-next_entry-clause-err : goal.returns-in_err-next_entry-clause-err
+returns-in_err-next_entry-clause-err c =
+    let p = err_from_is_err_and c.from_residual-in_err-next_entry.result c.from_residual-in_err-next_entry.ensures.1 in
+    let fault = c.in_err-next_entry.field-0.0 in
+    rw (p.1, p.2) (elim (c.in_err-next_entry.ensures.fault (body c.args.text.now) c.entries.invariant.entries c.entries.invariant.read) [
+      | inl e ↦ inl (ap (λ (f : PoFault). kind_of f.kind) e)
+      | inr f ↦ refused_as c.args.text.now c.args.options fault.kind fault.line (faulty_refuses c.args.text.now fault.kind fault.line c.in_ok-reader.ensures.readable f)
+    ])
+
+pub entries-init : goal.entries-init
+entries-init c = collects_none _ _ _ _ c.in_ok-reader.ensures.read c.new-drafts.ensures.items
+
+pub entries-preserved : goal.entries-preserved
+entries-preserved c =
+    let inv = c.entries.invariant in
+    collects_more c.args.text.now c.args.options _ _ c.entries.drafts.items _ _ c.next_entry.new.into c.len.result inv (rw c.if-branch.true at (c.in_ok-next_entry.ensures.read (body c.args.text.now) inv.entries inv.read)) (omega (arith, c.len.ensures, c.entries.drafts.ok.0)) c.in_ok-draft_of.ensures.draft c.in_ok-draft_of.ensures.lawful c.in_ok-push.ensures.items
+
+pub returns-clause-ok : goal.returns-clause-ok
+returns-clause-ok c =
+    let inv = c.entries.invariant in
+    collects_all c.args.text.now c.args.options _ _ c.entries.drafts.items c.next_entry.new.into c.in_ok-reader.ensures.readable inv (rw c.if-branch.false at (c.in_ok-next_entry.ensures.read (body c.args.text.now) inv.entries inv.read))

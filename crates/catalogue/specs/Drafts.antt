@@ -1,0 +1,139 @@
+-- Private: what the compiler's own functions promise of the entries until they are in order.
+use Rattle.std.specs.Prelude.{◌≡◌, ℕ, ◌+◌, ◌<◌, ◌≤◌, Bool, List, [], ◌∷◌, length, map, Option, Some, None, option_map, if◌then◌else◌, ◌&&◌, nat_lt, true, false, is_some, IfSome, ◌==◌}
+use denote.Ref.{Bor}
+use Rattle.std.specs.Str.{bytes_eq}
+use Rattle.std.specs.List.{slice_index_or, slice_split, find, AllByRecursion}
+use Rattle.std.specs.Ordering.{nat_cmp, ordering_then, is_lt}
+use Rattle.std.specs.declared.cmp.Ordering.{Ordering}
+use Rattle.std.specs.Cmp.Lexicographic.{slice_cmp}
+use Rattle.std.specs.String.{string_bytes}
+use Rattle.po_text.specs.Entries as po
+use Rattle.po_text.specs.Outcome.{Gives}
+use Rattle.catalogue.specs.Entry.{Entry, IsLawfulEntry, translation}
+use Rattle.catalogue.specs.Map.{first_form, HasAcceptedCharset}
+use Rattle.catalogue.specs.Parts.{entry_from}
+use Rattle.catalogue.specs.Meaning.{message_of, key_of, is_header, is_untranslated, is_kept}
+use Rattle.catalogue.specs.declared.compiler.Options.{Options}
+use Rattle.catalogue.specs.declared.drafts.Draft.{Draft}
+use Rattle.catalogue.specs.declared.drafts.Standing.{Standing}
+use Rattle.catalogue.specs.declared.drafts.Standing.TheVariants.{Header, Untranslated, Fuzzy, Translated}
+use Rattle.catalogue.specs.declared.drafts.Texts.{Texts}
+
+-- what is kept of an entry beside its key
+abbrev pub Kept : Type 0
+Kept = Option (List ℕ) × List ℕ
+
+-- an entry by its place in the text, its line, its key and how it counts, and what is kept of it
+pub record Row : Type 0 where
+  pub number : ℕ
+  pub line : ℕ
+  pub key : List ℕ
+  pub standing : Standing
+  pub texts : Option Kept
+
+abbrev pub kept_texts : Texts → Kept
+kept_texts t = (option_map (λ s. string_bytes s) t.plural, string_bytes t.translation)
+
+abbrev pub row : Draft → Row
+row d = record { number = d.number; line = d.line; key = string_bytes d.key; standing = d.standing; texts = option_map (λ b. kept_texts b.value) d.texts }
+
+abbrev pub rows : List Draft → List Row
+rows drafts = map row drafts
+
+abbrev pub texts_of : po.Entry → Kept
+texts_of e = (e.plural, translation (message_of e))
+
+-- how an entry counts
+abbrev pub standing_of : po.Entry → Standing
+standing_of e =
+    if is_header e then Header else
+    if is_untranslated e then Untranslated else
+    if e.fuzzy then Fuzzy else Translated
+
+-- the row of the entry with this number
+abbrev pub row_of : Options → ℕ → po.Entry → Row
+row_of options number e = record {
+  number = number;
+  line = e.line;
+  key = key_of e;
+  standing = standing_of e;
+  texts = (if is_kept options e then Some (texts_of e) else None);
+}
+
+-- the rows of entries, the first of which has this number
+abbrev pub rows_from : Options → ℕ → List po.Entry → List Row
+rows_from options number [] = []
+rows_from options number (e ∷ es) = row_of options number e ∷ rows_from options (number + 1) es
+
+-- by keys, and those with one key in the order of the text
+abbrev pub row_cmp : Row → Row → Ordering
+row_cmp a b = ordering_then (slice_cmp nat_cmp a.key b.key) (nat_cmp a.number b.number)
+
+abbrev pub comes_before : Draft → Draft → Bool
+comes_before a b = is_lt (row_cmp (row a) (row b))
+
+-- what is kept of a row
+abbrev pub kept_entry : Row → Option Entry
+kept_entry r = option_map (λ t. entry_from r.key t.0 t.1) r.texts
+
+-- the row behind i has the key of the one at i
+pub record IsRepeat (rs : List Row) (i : ℕ) : Type 0 where
+  pub within : i + 1 < length rs
+  pub same : (d : Row) → (slice_index_or rs i d).key ≡ (slice_index_or rs (i + 1) d).key
+
+-- of the first n rows that have the key of the one before them, this one comes first in the text
+pub record IsFirstRepeat (rs : List Row) (n : ℕ) (r : Row) : Type 0 where
+  pub place : ℕ
+  pub within : place + 1 < n
+  pub repeats : IsRepeat rs place
+  pub row_is : (d : Row) → slice_index_or rs (place + 1) d ≡ r
+  pub first : (j : ℕ) (d : Row) → j + 1 < n → IsRepeat rs j → r.number ≤ (slice_index_or rs (j + 1) d).number
+
+abbrev pub FirstRepeat : List Row → ℕ → Option Row → Type 0
+FirstRepeat rs n None = (j : ℕ) → j + 1 < n → ¬ IsRepeat rs j
+FirstRepeat rs n (Some r) = IsFirstRepeat rs n r
+
+-- whether a row comes before another one in the text, or there is no other one
+abbrev pub is_earlier : Row → Option Row → Bool
+is_earlier r None = true
+is_earlier r (Some other) = nat_lt r.number other.number
+
+-- the first repeat, with one more row behind another
+abbrev pub earlier : Row → Row → Option Row → Option Row
+earlier before r first = if bytes_eq before.key r.key && is_earlier r first then Some r else first
+
+abbrev pub row_if : Option (Bor Draft) → Option Row
+row_if found = option_map (λ d. row d.now) found
+
+abbrev pub same_standing : Standing → Standing → Bool
+same_standing Header Header = true
+same_standing Untranslated Untranslated = true
+same_standing Fuzzy Fuzzy = true
+same_standing Translated Translated = true
+same_standing _ _ = false
+
+-- the row counts so
+abbrev pub counts_as : Standing → Row → Bool
+counts_as standing r = same_standing r.standing standing
+
+abbrev pub is_kept_header : Row → Bool
+is_kept_header r = counts_as Header r && is_some r.texts
+
+-- an entry whose texts a catalogue may hold
+abbrev pub IsLawfulMessage : po.Entry → Type 0
+IsLawfulMessage e = IsLawfulEntry (message_of e)
+
+-- the drafts are those of the entries that the text gives
+pub record HasCollected (text : List ℕ) (options : Options) (drafts : List Draft) : Type 0 where
+  pub entries : List po.Entry
+  pub gives : Gives text entries
+  pub rows_are : rows drafts ≡ rows_from options 0 entries
+  pub lawful : AllByRecursion IsLawfulMessage entries
+
+-- the first form of a row that is kept names no charset, or one that is accepted
+abbrev pub RowNamesCharset : Row → Type 0
+RowNamesCharset r = IfSome r.texts (λ t. HasAcceptedCharset (first_form (slice_split (λ b. b == 0) t.1)))
+
+-- so does the kept header, if there is one
+abbrev pub HeaderNamesCharset : List Draft → Type 0
+HeaderNamesCharset drafts = IfSome (find (λ d. is_kept_header (row d)) drafts) (λ d. RowNamesCharset (row d))

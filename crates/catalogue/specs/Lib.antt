@@ -1,0 +1,11 @@
+pub mod Entry
+pub mod MoFile
+pub mod Map
+pub mod Parts
+pub mod Refusal
+pub mod Stored
+pub mod Messages
+pub mod Meaning
+pub mod Drafts
+pub mod Value
+pub mod Laws

@@ -1,0 +1,36 @@
+-- What the look-ups answer (manual, "The interface of gettext"; "Additional functions for plural forms").
+use Rattle.std.specs.Prelude.{◌≡◌, ℕ, ◌==◌, nat_lt, if◌then◌else◌, List, length, Option, Some, None, slice_get}
+use Rattle.po_header.specs.Rule.{Rule, Absent, HasRule, place}
+use Rattle.catalogue.specs.Entry.{Entry}
+use Rattle.catalogue.specs.Map.{header_text}
+
+-- the first form of the entry that was found, or the msgid
+abbrev pub IsFirstForm : Option Entry → List ℕ → List ℕ → Type 0
+IsFirstForm None id text = text ≡ id
+IsFirstForm (Some e) id text = slice_get e.forms 0 ≡ Some text
+
+-- the rule for plural forms in the header's text, where there is a header
+abbrev pub HasRuleIn : Option (List ℕ) → Rule → Type 0
+HasRuleIn None rule = rule ≡ Absent
+HasRuleIn (Some text) rule = HasRule text rule
+
+-- a map's rule is that of its own header (manual, "Plural forms")
+abbrev pub HasMapRule : List Entry → Rule → Type 0
+HasMapRule m rule = HasRuleIn (header_text m) rule
+
+-- the form with this number, or the first one where there is no such form
+abbrev pub form_or_first : List (List ℕ) → ℕ → Option (List ℕ)
+form_or_first forms k = slice_get forms (if nat_lt k (length forms) then k else 0)
+
+-- the form that n takes by the rule
+abbrev pub IsFormFor : Rule → ℕ → List (List ℕ) → List ℕ → Type 0
+IsFormFor rule n forms text = form_or_first forms (place rule n) ≡ Some text
+
+-- the form of the entry that was found, by the map's rule, or the other text
+abbrev pub IsCounted : List Entry → Option Entry → ℕ → List ℕ → List ℕ → Type 0
+IsCounted m None n other text = text ≡ other
+IsCounted m (Some e) n other text = (rule : Rule) × HasMapRule m rule × IsFormFor rule n e.forms text
+
+-- the msgid for 1, the plural for other numbers
+abbrev pub text_by : ℕ → List ℕ → List ℕ → List ℕ
+text_by n id plural = if n == 1 then id else plural

@@ -1,0 +1,95 @@
+//! From a PO text to a catalogue.
+ghost use Rattle.std.specs.Prelude.{◌≡◌, ◌<◌, ◌^◌, ◌⊎◌, IfOk, IfErr, length};
+ghost use Rattle.std.specs.List.{count_by};
+ghost use Rattle.catalogue.specs.Drafts.{counts_as, row};
+ghost use Rattle.catalogue.specs.Meaning.{Means, Refuses};
+ghost use Rattle.catalogue.specs.declared.fault.LoadKind.TheVariants.{Memory};
+
+use crate::collect::collect;
+use crate::drafts::{
+    Draft, Standing, count, first_repeat, header_line, header_names_charset, keep, sort,
+};
+use crate::{Catalogue, LoadFault, LoadKind};
+use std::alloc::Global;
+
+/// How a text is compiled.
+#[derive(Clone, Copy, Debug, PartialEq, Eq)]
+pub struct Options {
+    /// The checked level (`msgfmt -c`).
+    pub checked: bool,
+    /// Fuzzy entries are kept too (`msgfmt -f`).
+    pub use_fuzzy: bool,
+}
+
+/// Counts of the entries of a text other than its header, kept or not.
+#[derive(Clone, Copy, Debug, PartialEq, Eq)]
+pub struct Stats {
+    pub translated: u32,
+    /// Fuzzy entries that have a translation.
+    pub fuzzy: u32,
+    /// Entries whose first form is empty.
+    pub untranslated: u32,
+}
+
+/// What a text compiles to.
+#[derive(Drop)]
+pub struct Compiled {
+    pub catalogue: Catalogue,
+    pub stats: Stats,
+    /// Which of the eight header fields are missing.
+    pub missing: [bool; 8],
+    /// The line of the kept header, or 0 where there is none.
+    pub header_line: u32,
+}
+
+/// How the entries count.
+fn stats_of(drafts: &[Draft]) -> Stats
+    requires { length drafts.now < 2 ^ 32 }
+    ensures translated { result.translated ≡ count_by (λ d. counts_as Standing.Translated (row d)) drafts.now }
+    ensures fuzzy { result.fuzzy ≡ count_by (λ d. counts_as Standing.Fuzzy (row d)) drafts.now }
+    ensures untranslated { result.untranslated ≡ count_by (λ d. counts_as Standing.Untranslated (row d)) drafts.now }
+{
+    Stats {
+        translated: count(drafts, Standing::Translated) as u32,
+        fuzzy: count(drafts, Standing::Fuzzy) as u32,
+        untranslated: count(drafts, Standing::Untranslated) as u32,
+    }
+}
+
+/// Compiles a PO text: its kept entries become a catalogue.
+///
+/// An untranslated entry isn't kept, and a fuzzy one only with `use_fuzzy`, but for the header.
+/// The text is refused by the first fault of the PO text (see `po_text::read_po`), else where an
+/// entry has the key of an earlier one, kept or not, else where the kept header names a charset
+/// that isn't accepted (`po_header::charset_accepted`). Where memory is refused in the call,
+/// `Memory` may stand in place of any other answer.
+pub fn compile(alloc: Global, text: &[u8], options: Options) -> Result<Compiled, LoadFault>
+    ensures ok { IfOk result (Means text.now options) }
+    ensures err { IfErr result (λ fault. (fault.kind ≡ Memory) ⊎ Refuses text.now options fault.kind fault.line) }
+{
+    let mut drafts = collect(alloc, text, options)?;
+    let stats = stats_of(&drafts);
+    let header_line = header_line(&drafts);
+    let is_accepted = header_names_charset(&drafts);
+    sort(&mut drafts);
+    if let Some(draft) = first_repeat(&drafts) {
+        return Err(LoadFault {
+            kind: LoadKind::Duplicate,
+            line: draft.line,
+        });
+    }
+    if !is_accepted {
+        return Err(LoadFault {
+            kind: LoadKind::Charset,
+            line: header_line,
+        });
+    }
+    let messages = keep(alloc, drafts)?;
+    let catalogue = Catalogue::from_strings(alloc, messages)?;
+    Ok(Compiled {
+        catalogue,
+        stats,
+        missing: [false; 8],
+        header_line,
+    })
+}

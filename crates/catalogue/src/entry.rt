@@ -1,0 +1,173 @@
+//! One entry of a catalogue, whose texts are lent.
+ghost use Rattle.std.specs.Prelude.{◌≡◌, ◌<◌, ◌==◌, ◌∷◌, length, slice_get, Some, option_map};
+ghost use Rattle.std.specs.List.{count_by, slice_split};
+ghost use Rattle.catalogue.specs.Entry.{IsLawfulEntry, key, translation};
+ghost use Rattle.catalogue.specs.Parts.{forms_left};
+
+use std::marker::Model;
+
+/// How many NULs a text has.
+fn nul_count(text: &str) -> usize
+    ensures { result ≡ count_by (λ b. b == 0) text.now }
+{
+    text.bytes().filter(|byte| *byte == 0).count()
+}
+
+/// The first of the forms in a text, and the others.
+pub(crate) fn split_form(text: &str) -> (&str, Option<&str>)
+    ensures { slice_split (λ b. b == 0) text.now ≡ result.0.now ∷ forms_left result.1 }
+{
+    match text.split_once('\0') {
+        Some((form, others)) => (form, Some(others)),
+        None => (text, None),
+    }
+}
+
+/// The forms of an entry, one after another, seen as the list of those that are left.
+#[derive(Drop)]
+pub struct Forms<'a> {
+    /// The forms that are left, with NUL between them.
+    left: Option<&'a str>,
+}
+
+impl<'a> Model for Forms<'a> {
+    ghost use Rattle.std.specs.Prelude.{ℕ, List};
+
+    ghost Value = { List (List ℕ) };
+
+    ghost use Rattle.catalogue.specs.Parts.{forms_left};
+
+    ghost view = { λ forms. forms_left forms.left };
+}
+
+impl<'a> Iterator for Forms<'a> {
+    ghost use Rattle.std.specs.Iterator.{YieldsFirstRef, item_count};
+
+    type Item = &'a str;
+
+    ghost next_gives = { YieldsFirstRef (λ forms. forms) };
+
+    ghost remaining = { item_count (λ forms. forms) };
+
+    fn next(&mut self) -> Option<&'a str> {
+        let (form, others) = split_form(self.left?);
+        self.left = others;
+        Some(form)
+    }
+}
+
+/// An entry of a catalogue. Its texts are lent from the catalogue.
+#[derive(Drop)]
+pub struct EntryRef<'a> {
+    key: &'a str,
+    plural: Option<&'a str>,
+    translation: &'a str,
+}
+
+impl<'a> Model for EntryRef<'a> {
+    ghost use Rattle.catalogue.specs.Entry.{Entry};
+
+    ghost Value = { Entry };
+
+    ghost use Rattle.std.specs.Prelude.{option_map};
+    ghost use Rattle.catalogue.specs.Entry.{IsLawfulEntry};
+    ghost use Rattle.catalogue.specs.Parts.{entry_from};
+
+    ghost view = { λ e. entry_from e.key.now (option_map (λ p. p.now) e.plural) e.translation.now };
+
+    ghost invariant = { λ e. IsLawfulEntry (entry_from e.key.now (option_map (λ p. p.now) e.plural) e.translation.now) };
+}
+
+impl<'a> EntryRef<'a> {
+    ghost use Rattle.catalogue.specs.Parts.{entry_from};
+
+    pub(crate) fn new(key: &'a str, plural: Option<&'a str>, translation: &'a str) -> EntryRef<'a>
+        requires { IsLawfulEntry (entry_from key.now (option_map (λ p. p.now) plural) translation.now) }
+        ensures { result ≡ entry_from key.now (option_map (λ p. p.now) plural.entry) translation.now }
+    {
+        EntryRef {
+            key,
+            plural,
+            translation,
+        }
+    }
+
+    /// The bytes of the entry's key: the msgid, behind its context and byte 4 where it has one.
+    pub fn key(&self) -> &'a str
+        ensures { result.now ≡ key self.now }
+    {
+        self.key
+    }
+
+    /// The context (`msgctxt`), if the entry has one; it may be empty.
+    pub fn context(&self) -> Option<&'a str>
+        ensures { option_map (λ s. s.now) result ≡ self.now.context }
+    {
+        let (context, _) = self.key.split_once('\u{4}')?;
+        Some(context)
+    }
+
+    /// The msgid.
+    pub fn id(&self) -> &'a str
+        ensures { result.now ≡ self.now.id }
+    {
+        match self.key.split_once('\u{4}') {
+            Some((_, id)) => id,
+            None => self.key,
+        }
+    }
+
+    /// The msgid_plural, if the entry has one.
+    pub fn plural(&self) -> Option<&'a str>
+        ensures { option_map (λ s. s.now) result ≡ self.now.plural }
+    {
+        self.plural
+    }
+
+    /// The forms, with NUL between them, as an MO file holds them.
+    pub fn translation(&self) -> &'a str
+        ensures joined { result.now ≡ translation self.now }
+
+        // Every entry of a catalogue is lawful, and so has a form.
+        ensures lawful { IsLawfulEntry self.now }
+    {
+        self.translation
+    }
+
+    /// The forms, one after another, without memory. A catalogue's entry has one at least.
+    pub fn forms(&self) -> Forms<'a>
+        ensures { result ≡ self.now.forms }
+    {
+        Forms {
+            left: Some(self.translation),
+        }
+    }
+
+    /// How many forms the entry has: one at least, and just one without a plural.
+    pub fn form_count(&self) -> usize
+        ensures count { result ≡ length self.now.forms }
+
+        // Every entry of a catalogue is lawful.
+        ensures lawful { IsLawfulEntry self.now }
+        ensures some { 0 < result }
+    {
+        nul_count(self.translation) + 1
+    }
+
+    /// The form with this index. It is found by going over the forms before it.
+    pub fn form(&self, k: usize) -> &'a str
+        requires { k < length self.now.forms }
+        ensures { slice_get self.now.forms k ≡ Some result.now }
+    {
+        let mut forms = self.forms();
+        'skipped: for _i in 0..k {
+            let Some(_) = forms.next() else {
+                unreachable!()
+            };
+        }
+        let Some(form) = forms.next() else {
+            unreachable!()
+        };
+        form
+    }
+}

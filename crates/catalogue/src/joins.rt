@@ -1,0 +1,33 @@
+//! Keys and translations, as MO files join them of an entry's texts.
+ghost use Rattle.std.specs.Prelude.{◌≡◌, IfOk, OnOk, string_bytes, option_map, ◌++◌, ◌∷◌, if◌then◌else◌};
+ghost use Rattle.catalogue.specs.Entry.{key_bytes};
+
+use std::alloc::{AllocError, Global};
+
+/// The bytes of a key: the msgid, behind its context and byte 4 where it has one.
+pub(crate) fn joined_key(
+    alloc: Global,
+    context: Option<&str>,
+    id: &str,
+) -> Result<String, AllocError>
+    ensures { IfOk result (λ key. string_bytes key ≡ key_bytes (option_map (λ c. c.now) context.entry) id.now) }
+{
+    let Some(context) = context else {
+        return String::from_str(alloc, id);
+    };
+    let mut key = String::with_capacity(alloc, context.len() + 1 + id.len())?;
+    key.push_str(context)?;
+    key.push('\u{4}')?;
+    key.push_str(id)?;
+    Ok(key)
+}
+
+/// Adds a form, behind NUL unless it is the first one.
+pub(crate) fn push_form(text: &mut String, form: &str, is_first: bool) -> Result<(), AllocError>
+    ensures { OnOk result (string_bytes text.new ≡ (if is_first then string_bytes text.old ++ form.now else string_bytes text.old ++ 0 ∷ form.now)) }
+{
+    if !is_first {
+        text.push('\0')?;
+    }
+    text.push_str(form)
+}

@@ -1,0 +1,28 @@
+//! Message catalogues: what a PO text compiles to, the entries that it lists, and the look-ups of gettext.
+//!
+//! A catalogue is a finite map from keys to entries. A key is a msgid, alone or in a context; an entry
+//! has besides the msgid_plural of a plural message, and its translated forms.
+#![tactic(auto)]
+
+mod collect;
+mod compiler;
+mod drafts;
+mod entry;
+mod fault;
+mod find;
+mod joins;
+mod law;
+mod lookup;
+mod map;
+mod messages;
+mod sorted;
+#[cfg(test)]
+mod tests;
+
+pub use compiler::{Compiled, Options, Stats, compile};
+pub use entry::{EntryRef, Forms};
+pub use fault::{LoadFault, LoadKind};
+pub use law::one_meaning;
+pub use map::Catalogue;
+pub use messages::EntryStrings;
+pub use sorted::Message;

@@ -1,0 +1,86 @@
+//! The look-ups of gettext. They take no memory, and lend their answer from the catalogue or from an argument.
+ghost use Rattle.std.specs.Prelude.{◌≡◌, Some, None};
+ghost use Rattle.catalogue.specs.Entry.{key_bytes};
+ghost use Rattle.catalogue.specs.Map.{entry_at};
+ghost use Rattle.catalogue.specs.Value.{IsCounted, IsFirstForm, IsFormFor, text_by};
+ghost use Rattle.po_header.specs.Rules.{rule_of};
+
+use crate::{Catalogue, EntryRef};
+use po_header::RuleRead;
+
+/// The form that a number takes by this rule; the first one, where the entry has no such form.
+fn form_for<'a>(entry: &EntryRef<'a>, rule: &RuleRead, n: u64) -> &'a str
+    ensures { IsFormFor (rule_of rule.now) n entry.now.forms result.now }
+{
+    let k = rule.form_index(n);
+    if k < entry.form_count() as u64 {
+        entry.form(k as usize)
+    } else {
+        entry.form(0)
+    }
+}
+
+/// The text that stands in place of a form where no entry is found.
+fn untranslated<'a>(id: &'a str, plural: &'a str, n: u64) -> &'a str
+    ensures { result.now ≡ text_by n id.now plural.now }
+{
+    if n == 1 { id } else { plural }
+}
+
+/// The first form of the entry that was found, or the msgid.
+fn first_form<'a>(found: Option<EntryRef<'a>>, id: &'a str) -> &'a str
+    ensures { IsFirstForm found.entry id.now result.now }
+{
+    match found {
+        Some(entry) => entry.form(0),
+        None => id,
+    }
+}
+
+impl Catalogue {
+    /// The form of the entry that was found, or one of the texts.
+    fn counted<'a>(
+        &'a self,
+        found: Option<EntryRef<'a>>,
+        id: &'a str,
+        plural: &'a str,
+        n: u64,
+    ) -> &'a str
+        ensures { IsCounted self.now found.entry n (text_by n id.now plural.now) result.now }
+    {
+        match found {
+            Some(entry) => form_for(&entry, self.rule(), n),
+            None => untranslated(id, plural, n),
+        }
+    }
+
+    /// The translation of a msgid: the first form of its entry, or the msgid itself where there is none.
+    pub fn gettext<'a>(&'a self, id: &'a str) -> &'a str
+        ensures { IsFirstForm (entry_at self.now (key_bytes None id.now)) id.now result.now }
+    {
+        first_form(self.find(None, id), id)
+    }
+
+    /// The translation of a msgid in a context, or the msgid itself where there is none.
+    pub fn pgettext<'a>(&'a self, context: &str, id: &'a str) -> &'a str
+        ensures { IsFirstForm (entry_at self.now (key_bytes (Some context.now) id.now)) id.now result.now }
+    {
+        first_form(self.find(Some(context), id), id)
+    }
+
+    /// The translation of a message with a number: the form of its entry that the number takes by the rule
+    /// in the catalogue's header; the first form, where the entry has no such form. Where there is no
+    /// entry, the msgid for 1, and the plural for other numbers.
+    pub fn ngettext<'a>(&'a self, id: &'a str, plural: &'a str, n: u64) -> &'a str
+        ensures { IsCounted self.now (entry_at self.now (key_bytes None id.now)) n (text_by n id.now plural.now) result.now }
+    {
+        self.counted(self.find(None, id), id, plural, n)
+    }
+
+    /// The same of a message in a context.
+    pub fn npgettext<'a>(&'a self, context: &str, id: &'a str, plural: &'a str, n: u64) -> &'a str
+        ensures { IsCounted self.now (entry_at self.now (key_bytes (Some context.now) id.now)) n (text_by n id.now plural.now) result.now }
+    {
+        self.counted(self.find(Some(context), id), id, plural, n)
+    }
+}

@@ -1,0 +1,76 @@
+//! Catalogues of messages that stand in order already.
+ghost use Rattle.std.specs.Prelude.{◌≡◌, IfOk, map, option_map, string_bytes};
+ghost use Rattle.std.specs.List.{join_with_byte};
+ghost use Rattle.catalogue.specs.Entry.{key, translation};
+ghost use Rattle.catalogue.specs.Parts.{entry_from};
+ghost use Rattle.catalogue.specs.Stored.{stored_entry};
+
+use crate::joins::{joined_key, push_form};
+use crate::{Catalogue, EntryStrings};
+use std::alloc::{AllocError, Global};
+
+/// A message, with texts of its own.
+#[derive(Drop)]
+pub struct Message {
+    pub context: Option<String>,
+    pub id: String,
+    /// The msgid_plural of a message with a plural.
+    pub plural: Option<String>,
+    /// The translated forms: just one, where the message has no plural.
+    pub forms: Vec<String>,
+}
+
+/// The forms, with NUL between them.
+fn translation_of(alloc: Global, forms: &[String]) -> Result<String, AllocError>
+    ensures { IfOk result (λ text. string_bytes text ≡ join_with_byte 0 (map (λ s. string_bytes s) forms.now)) }
+{
+    let mut text = String::new(alloc);
+    'forms: for k in 0..forms.len() {
+        push_form(&mut text, forms[k].as_str(), k == 0)?;
+    }
+    Ok(text)
+}
+
+impl Message {
+    ghost use Rattle.catalogue.specs.Messages.{message_entry};
+
+    fn context(&self) -> Option<&str>
+        ensures { option_map (λ s. s.now) result ≡ option_map (λ s. string_bytes s) self.now.context }
+    {
+        match &self.context {
+            Some(context) => Some(context.as_str()),
+            None => None,
+        }
+    }
+
+    /// The strings of the message, as an MO file has them.
+    fn into_strings(self, alloc: Global) -> Result<EntryStrings, AllocError>
+        ensures { let e = message_entry self in IfOk result (λ strings. stored_entry strings ≡ entry_from (key e) e.plural (translation e)) }
+    {
+        let key = joined_key(alloc, self.context(), self.id.as_str())?;
+        let translation = translation_of(alloc, self.forms.as_slice())?;
+        Ok(EntryStrings {
+            key,
+            plural: self.plural,
+            translation,
+        })
+    }
+}
+
+impl Catalogue {
+    ghost use Rattle.catalogue.specs.Map.{IsLawful};
+    ghost use Rattle.catalogue.specs.Messages.{messages_of};
+
+    /// The catalogue of these messages. They list a lawful map, in rising order of their keys' bytes.
+    /// Answers AllocError where memory is refused.
+    pub fn from_sorted(alloc: Global, messages: Vec<Message>) -> Result<Catalogue, AllocError>
+        requires { IsLawful (messages_of messages.items) }
+        ensures { IfOk result (λ catalogue. catalogue ≡ messages_of messages.items) }
+    {
+        let mut strings = Vec::with_capacity(alloc, messages.len())?;
+        'messages: for message in messages {
+            strings.push(message.into_strings(alloc)?)?;
+        }
+        Catalogue::from_strings(alloc, strings)
+    }
+}

@@ -1,0 +1,48 @@
+-- Bytes are an MO file of one map at most.
+use Rattle.std.proofs.Common.{◌≡◌, ℕ, ◌<◌, List, map, refl, sym, ap, subst, ◌∙◌, arith}
+use Rattle.std.specs.Prelude.{Result, Ok, Err, IfOk, IfErr}
+use Rattle.catalogue.specs.Entry.{Entry, translation}
+use Rattle.mo_file.specs.Tables.{strings}
+use Rattle.mo_file.specs.Reading.{Mo, Refused, rank, order, count, originals_table, translations_table}
+use Rattle.mo_file.specs.declared.fault.MoFault.{MoFault}
+use Rattle.mo_file.specs.declared.fault.MoFault.TheVariants.{TooLarge, Short, Magic, Revision, Bounds, NoNul, BadText, Forms, Order, Charset, Swollen, Memory}
+use Rattle.catalogue.specs.Map.{IsLawful}
+use Rattle.catalogue.specs.MoFile.{spelling}
+use Rattle.mo_file.specs.Pairs.{entries_of}
+use Rattle.mo_file.proofs.ReadBack.{reads_back}
+use Rattle.mo_file.proofs.Entries.{entries_again}
+
+read_from : (bytes : List ℕ) (m : List Entry) → Mo bytes m
+    → m ≡ entries_of (strings (order bytes) bytes (originals_table (order bytes) bytes) (count (order bytes) bytes)) (strings (order bytes) bytes (translations_table (order bytes) bytes) (count (order bytes) bytes))
+read_from bytes m mo =
+    sym (entries_again m mo.lawful.each) ∙ ap (λ (os : List (List ℕ)). entries_of os (map translation m)) mo.originals
+    ∙ ap (entries_of (strings (order bytes) bytes (originals_table (order bytes) bytes) (count (order bytes) bytes))) mo.translations
+
+pub unique_map : (bytes : List ℕ) (m n : List Entry) → Mo bytes m → Mo bytes n → m ≡ n
+unique_map bytes m n p q = read_from bytes m p ∙ sym (read_from bytes n q)
+
+pub refused_map : (bytes : List ℕ) (m : List Entry) (fault : MoFault) → rank fault < 12 → Refused bytes fault → Mo bytes m → ⊥
+refused_map bytes m fault test refused mo = (refused test).0 (mo.met fault test)
+
+-- the file of a map is read back
+pub reread_map : (m : List Entry) (bytes : List ℕ) (r : Result (List Entry) MoFault) → IsLawful m → bytes ≡ spelling m → IfOk r (λ c. Mo bytes c) → IfOk r (λ c. c ≡ m)
+reread_map m bytes (Ok c) lawful is mo = unique_map bytes c m mo (subst (λ b. Mo b m) (sym is) (reads_back m lawful))
+reread_map m bytes (Err f) lawful is mo = tt
+
+only_memory : (m : List Entry) (bytes : List ℕ) (f : MoFault) → Mo bytes m → Refused bytes f → f ≡ Memory
+only_memory m bytes TooLarge mo refused = absurd (refused_map bytes m TooLarge (omega arith) refused mo)
+only_memory m bytes Short mo refused = absurd (refused_map bytes m Short (omega arith) refused mo)
+only_memory m bytes Magic mo refused = absurd (refused_map bytes m Magic (omega arith) refused mo)
+only_memory m bytes Revision mo refused = absurd (refused_map bytes m Revision (omega arith) refused mo)
+only_memory m bytes Bounds mo refused = absurd (refused_map bytes m Bounds (omega arith) refused mo)
+only_memory m bytes NoNul mo refused = absurd (refused_map bytes m NoNul (omega arith) refused mo)
+only_memory m bytes BadText mo refused = absurd (refused_map bytes m BadText (omega arith) refused mo)
+only_memory m bytes Forms mo refused = absurd (refused_map bytes m Forms (omega arith) refused mo)
+only_memory m bytes Order mo refused = absurd (refused_map bytes m Order (omega arith) refused mo)
+only_memory m bytes Charset mo refused = absurd (refused_map bytes m Charset (omega arith) refused mo)
+only_memory m bytes Swollen mo refused = absurd (refused_map bytes m Swollen (omega arith) refused mo)
+only_memory m bytes Memory mo refused = refl
+
+pub reread_fault : (m : List Entry) (bytes : List ℕ) (r : Result (List Entry) MoFault) → IsLawful m → bytes ≡ spelling m → IfErr r (λ f. Refused bytes f) → IfErr r (λ f. f ≡ Memory)
+reread_fault m bytes (Ok c) lawful is refused = tt
+reread_fault m bytes (Err f) lawful is refused = only_memory m bytes f (subst (λ b. Mo b m) (sym is) (reads_back m lawful)) refused

@@ -1,0 +1,8 @@
+use Rattle.mo_file.proofs.OneMap.{unique_map, refused_map}
+use Rattle.mo_file.proofs.laws.one_map.Goals as goal
+
+pub returns-clause-unique : goal.returns-clause-unique
+returns-clause-unique c = unique_map
+
+pub returns-clause-refused : goal.returns-clause-refused
+returns-clause-refused c = refused_map

@@ -1,0 +1,14 @@
+use Rattle.std.proofs.Common.{◌≡◌, ℕ, ◌+◌, ◌-◌, ◌*◌, ◌<◌, eqb}
+use Rattle.std.specs.List.{count_by}
+use Rattle.mo_file.specs.Tables.{string_at}
+use Rattle.mo_file.specs.Reading.{HasLawfulForms}
+use Rattle.mo_file.proofs.refusals.have_lawful_forms.Given as goal
+
+abbrev pub invariant-loop-i : goal.invariant-loop-i
+invariant-loop-i g l =
+    let number = g.T.ByteOrder.number_of in
+    record {
+      each : (k : ℕ) → k < l.i → HasLawfulForms (string_at number l.bytes (l.originals + 8 * k)) (string_at number l.bytes (l.translations + 8 * k));
+      plurals : 0 < l.i → l.plurals ≡ count_by (λ b. eqb b 0) (string_at number l.bytes (l.originals + 8 * (l.i - 1)));
+      forms : 0 < l.i → l.forms ≡ count_by (λ b. eqb b 0) (string_at number l.bytes (l.translations + 8 * (l.i - 1)));
+    }

@@ -1,0 +1,4 @@
+pub mod Strings
+pub mod Tables
+pub mod Reading
+pub mod Pairs

@@ -1,0 +1,18 @@
+//! What the definition of MO files says, as functions whose contracts are laws.
+ghost use Rattle.std.specs.Prelude.{◌≡◌, ℕ, ◌<◌, List};
+ghost use Rattle.catalogue.specs.Entry.{Entry};
+ghost use Rattle.catalogue.specs.Map.{IsLawful};
+ghost use Rattle.catalogue.specs.MoFile.{spelling};
+ghost use Rattle.mo_file.specs.Reading.{Mo, Refused, rank};
+ghost use Rattle.mo_file.specs.declared.fault.MoFault.{MoFault};
+
+/// Bytes are an MO file of one map at most, and of none where a refusal holds.
+pub fn one_map()
+    ensures unique { (bytes : List ℕ) (m n : List Entry) → Mo bytes m → Mo bytes n → m ≡ n }
+    ensures refused { (bytes : List ℕ) (m : List Entry) (fault : MoFault) → rank fault < 12 → Refused bytes fault → ¬ Mo bytes m }
+{}
+
+/// The file that is written of a map is an MO file of that map, for each map of a catalogue.
+pub fn written_is_read()
+    ensures { (m : List Entry) → IsLawful m → Mo (spelling m) m }
+{}

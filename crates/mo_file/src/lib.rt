@@ -1,0 +1,18 @@
+//! MO files: the one file that is written of a catalogue, and the reading of all of them.
+#![tactic(auto)]
+
+mod fault;
+mod laws;
+mod read;
+mod refusals;
+mod rows;
+mod write;
+
+pub use fault::MoFault;
+pub use laws::{one_map, written_is_read};
+pub use read::{read_mo, reread};
+pub use refusals::check;
+pub use write::write_mo;
+
+#[cfg(test)]
+mod tests;

@@ -1,0 +1,119 @@
+//! The reading of MO files.
+ghost use Rattle.std.specs.Prelude.{◌≡◌, ◌+◌, ◌^◌, ◌<◌, ◌≤◌, length, IfOk, IfErr, Some, option_map, string_bytes};
+ghost use Rattle.std.specs.Str.{IsUtf8};
+ghost use Rattle.catalogue.specs.Stored as stored;
+ghost use Rattle.mo_file.specs.Tables.{string_at};
+ghost use Rattle.mo_file.specs.Reading.{before_nul, StringLies, TableLies, AreOriginalTexts, AreTranslationTexts, MeetsBelow, Mo, Refused};
+ghost use Rattle.mo_file.specs.Pairs.{plural_part, entry_of, named, named_in};
+
+use crate::fault::MoFault;
+use crate::refusals::{check_all, is_low_first};
+use crate::rows::{ROW_LEN, string, word};
+use crate::write::write_mo;
+use byteorder::{BigEndian, ByteOrder, LittleEndian};
+use catalogue::{Catalogue, EntryStrings};
+use std::alloc::{AllocError, Global};
+
+/// The string of a row, which was tested to be a text.
+fn text<T: ByteOrder>(bytes: &[u8], place: usize) -> &str
+    requires row { place + 8 ≤ length bytes.now }
+    requires lies { StringLies T.number_of bytes.now place }
+    requires utf8 { IsUtf8 (string_at T.number_of bytes.now place) }
+    ensures { result.now ≡ string_at T.number_of bytes.now place }
+{
+    let string = string::<T>(bytes, place);
+    unsafe { str::from_utf8_unchecked(string) }
+}
+
+/// An original's key, and its plural where it has one.
+fn split_original(original: &str) -> (&str, Option<&str>)
+    ensures key { result.0.now ≡ before_nul original.now }
+    ensures plural { option_map (λ s. s.now) result.1 ≡ plural_part original.now }
+{
+    match original.split_once('\0') {
+        Some((key, plural)) => (key, Some(plural)),
+        None => (original, None),
+    }
+}
+
+/// A text of its own, where there is one.
+fn owned(alloc: Global, text: Option<&str>) -> Result<Option<String>, AllocError>
+    ensures { IfOk result (λ s. option_map (λ t. string_bytes t) s ≡ option_map (λ t. t.now) text.entry) }
+{
+    match text {
+        Some(text) => Ok(Some(String::from_str(alloc, text)?)),
+        None => Ok(None),
+    }
+}
+
+/// The entry of an original and a translation.
+fn entry_strings(
+    alloc: Global,
+    original: &str,
+    translation: &str,
+) -> Result<EntryStrings, AllocError>
+    ensures { IfOk result (λ e. stored.stored_entry e ≡ entry_of original.now translation.now) }
+{
+    let (key, plural) = split_original(original);
+    Ok(EntryStrings {
+        key: String::from_str(alloc, key)?,
+        plural: owned(alloc, plural)?,
+        translation: String::from_str(alloc, translation)?,
+    })
+}
+
+/// The entries of two tables of n rows.
+fn entries<T: ByteOrder>(
+    alloc: Global,
+    bytes: &[u8],
+    originals: usize,
+    translations: usize,
+    n: usize,
+) -> Result<Vec<EntryStrings>, AllocError>
+    requires originals { TableLies T.number_of bytes.now originals n }
+    requires translations { TableLies T.number_of bytes.now translations n }
+    requires original_texts { AreOriginalTexts T.number_of bytes.now originals n }
+    requires translation_texts { AreTranslationTexts T.number_of bytes.now translations n }
+    ensures { IfOk result (λ v. stored.entries_of v.items ≡ named T.number_of bytes.now originals translations n) }
+{
+    let mut entries = Vec::with_capacity(alloc, n)?;
+    for i in 0..n {
+        let original = text::<T>(bytes, originals + ROW_LEN * i);
+        let translation = text::<T>(bytes, translations + ROW_LEN * i);
+        let entry = entry_strings(alloc, original, translation)?;
+        entries.push(entry)?;
+    }
+    Ok(entries)
+}
+
+/// The map of a file that meets no refusal.
+fn read_file<T: ByteOrder>(alloc: Global, bytes: &[u8]) -> Result<Catalogue, AllocError>
+    requires { MeetsBelow T.number_of bytes.now 12 }
+    ensures { IfOk result (λ c. c ≡ named_in T.number_of bytes.now) }
+{
+    let n = word::<T>(bytes, 8);
+    let entries = entries::<T>(alloc, bytes, word::<T>(bytes, 12), word::<T>(bytes, 16), n)?;
+    Catalogue::from_strings(alloc, entries)
+}
+
+/// The map of an MO file, in either byte order, wherever its strings lie; its hash table isn't looked at.
+/// Else the first refusal that holds, or want of memory.
+pub fn read_mo(alloc: Global, bytes: &[u8]) -> Result<Catalogue, MoFault>
+    ensures ok { IfOk result (λ c. Mo bytes.now c) }
+    ensures err { IfErr result (λ f. Refused bytes.now f) }
+{
+    check_all(bytes)?;
+    if is_low_first(bytes) {
+        return Ok(read_file::<LittleEndian>(alloc, bytes)?);
+    }
+    Ok(read_file::<BigEndian>(alloc, bytes)?)
+}
+
+/// A catalogue that is written and read again: the same map, unless memory was refused.
+pub fn reread(alloc: Global, catalogue: &Catalogue) -> Result<Catalogue, MoFault>
+    ensures ok { IfOk result (λ c. c ≡ catalogue.now) }
+    ensures err { IfErr result (λ f. f ≡ MoFault.Memory) }
+{
+    let file = write_mo(alloc, catalogue)?;
+    read_mo(alloc, file.as_slice())
+}

@@ -1,0 +1,39 @@
+//! The program `msgfmt`: it hands its words, standard input, standard output and the error output to
+//! `msgfmt_tool`, and ends with the exit status 0 or 1.
+#![tactic(auto)]
+
+use devices::{Reading, Sink, Writing};
+use msgfmt_tool::{Status, run};
+use std::io;
+use std::process::ExitCode;
+
+fn main(rt: HostRuntime) -> ExitCode {
+    let alloc = rt.alloc();
+    let mut reader = Reading::new(rt.stdin());
+    let mut writer = Writing::new(rt.stdout());
+    let mut errors = Writing::new(rt.stderr());
+    let words = match std::env::args(&rt) {
+        Ok(args) => args,
+        Err(error) => return refuse(&error, &mut errors),
+    };
+    let Ok(words) = words.collect(alloc) else {
+        return fail("msgfmt: out of memory\n", &mut errors);
+    };
+    match run(alloc, words, &mut reader, &mut writer, &mut errors) {
+        Status::Done => ExitCode::SUCCESS,
+        Status::Failed(_) => ExitCode::FAILURE,
+    }
+}
+
+/// Words that can't be had: one of them isn't UTF-8, or there is no memory for them.
+fn refuse<E: Sink>(error: &io::Error, errors: &mut E) -> ExitCode {
+    match error.kind() {
+        io::ErrorKind::OutOfMemory => fail("msgfmt: out of memory\n", errors),
+        _ => fail("msgfmt: bad command line\n", errors),
+    }
+}
+
+fn fail<E: Sink>(line: &str, errors: &mut E) -> ExitCode {
+    let _written = errors.write_all(line.as_bytes());
+    ExitCode::FAILURE
+}

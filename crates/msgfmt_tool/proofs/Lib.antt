@@ -1,0 +1,3 @@
+pub mod OneFault
+pub mod RunLemmas
+pub mod WordLemmas

@@ -1,0 +1,47 @@
+-- From the answers of `clap` to what the words ask for.
+use Rattle.std.proofs.Common.{◌≡◌, ◌∙◌, ◌⊎◌, ap, sym, subst, inl, inr, true≢false, Bool, true, false, ℕ, List, [], ◌∷◌, Option, codes, refl}
+use Rattle.std.specs.Option.{option_map_or}
+use Rattle.std.specs.Str.{bytes_eq}
+use Rattle.clap.proofs.WalkLemmas.{first_value-rows}
+use Rattle.clap.specs.Words.{first_value, rows_of}
+use Rattle.clap.specs.Walk.{nothing_held}
+use Rattle.clap.specs.Simple.{argument_words, built}
+use Rattle.clap.specs.Kinds.{IsAmong}
+use Rattle.clap.specs.declared.parser.matches.Found.{Found}
+use Rattle.clap.specs.declared.error.kind.ErrorKind.{ErrorKind}
+use Rattle.clap.specs.declared.error.kind.ErrorKind.TheVariants as kind
+use Rattle.msgfmt_tool.specs.Words.{Asked, asked_by, msgfmt, word_faults}
+use Rattle.msgfmt_tool.proofs.OneFault.{One, among_one, built_one}
+use Rattle.msgfmt_tool.specs.Requests.{AnswersKind, Explains}
+use Rattle.msgfmt_tool.specs.declared.words.WordsFault.{WordsFault}
+use Rattle.msgfmt_tool.specs.declared.words.WordsFault.TheVariants as fault
+
+abbrev is_true : Option (List ℕ) → Bool
+is_true o = option_map_or (λ t. bytes_eq t (codes "true")) o false
+
+-- what the values that were found ask for
+pub asked_built : (f : Found) (use_fuzzy : Bool) (input output : Option (List ℕ))
+    → use_fuzzy ≡ is_true (first_value f (codes "use-fuzzy")) → input ≡ first_value f (codes "INPUT") → output ≡ first_value f (codes "output-file")
+    → ◌≡◌ {A = Asked} (record { options = record { checked = false; use_fuzzy = use_fuzzy }; input = input; output = output }) (asked_by (rows_of f))
+asked_built f use_fuzzy input output fuzzy_is input_is output_is =
+    let fuzzy = fuzzy_is ∙ ap is_true (first_value-rows f (codes "use-fuzzy")) in
+    let i = input_is ∙ first_value-rows f (codes "INPUT") in
+    let o = output_is ∙ first_value-rows f (codes "output-file") in
+    λ k. record { options = record { checked = false; use_fuzzy = fuzzy k }; input = i k; output = o k }
+
+abbrev is_help : ErrorKind → Bool
+is_help kind.DisplayHelp = true
+is_help _ = false
+
+-- the words have one fault at most
+one_fault : (words : List (List ℕ)) → One (word_faults words)
+one_fault words = built_one (built msgfmt).top refl nothing_held (argument_words msgfmt words)
+
+-- an answer to an error of `clap` explains the words
+pub explained : (words : List (List ℕ)) (k : ErrorKind) (r : WordsFault) → (k ≡ kind.OutOfMemory) ⊎ IsAmong k (word_faults words)
+    → AnswersKind k r → Explains words r
+explained words k (fault.Help text) (inl memory) is = absurd (true≢false (ap is_help (sym is ∙ memory)))
+explained words k (fault.Help text) (inr among) is = subst (λ x. word_faults words ≡ x ∷ []) is (among_one k (word_faults words) (one_fault words) among)
+explained words k fault.Faulty (inl memory) is = absurd (is.1 memory)
+explained words k fault.Faulty (inr among) is = (k, among_one k (word_faults words) (one_fault words) among, is.0)
+explained words k fault.Memory why is = tt

@@ -1,0 +1,20 @@
+-- Private: the cause that a step's fault is.
+use Rattle.std.specs.Prelude.{Bool, true, false, if◌then◌else◌}
+use Rattle.devices.specs.declared.input.InputFault.{InputFault}
+use Rattle.devices.specs.declared.input.InputFault.TheVariants as input
+use Rattle.catalogue.specs.declared.fault.LoadFault.{LoadFault}
+use Rattle.catalogue.specs.declared.fault.LoadKind.{LoadKind}
+use Rattle.catalogue.specs.declared.fault.LoadKind.TheVariants as load
+use Rattle.msgfmt_tool.specs.declared.outcome.Cause.{Cause}
+use Rattle.msgfmt_tool.specs.declared.outcome.Cause.TheVariants.{CannotRead, Refused, Memory}
+
+abbrev pub cause_of_input : InputFault → Cause
+cause_of_input input.Unreadable = CannotRead
+cause_of_input input.Memory = Memory
+
+abbrev pub is_memory : LoadKind → Bool
+is_memory load.Memory = true
+is_memory _ = false
+
+abbrev pub cause_of_load : LoadFault → Cause
+cause_of_load fault = if is_memory fault.kind then Memory else Refused fault

@@ -1,0 +1,5 @@
+pub mod Words
+pub mod Runs
+pub mod Requests
+pub mod Causes
+pub mod Steps

@@ -1,0 +1,80 @@
+-- What the words of a command line ask for, by the definitions of the crate `clap`.
+use Rattle.std.specs.Prelude.{◌≡◌, ◌≢◌, ℕ, Bool, false, List, [], ◌∷◌, Option, Some, codes}
+use Rattle.std.specs.Option.{option_map_or}
+use Rattle.std.specs.Str.{bytes_eq}
+use Rattle.clap.specs.Words.{App, Row, Rule, first_of, matches_of, new_app, new_rule, with_rule}
+use Rattle.clap.specs.Faults.{fault_of}
+use Rattle.clap.specs.Kinds.{Kinds}
+use Rattle.clap.specs.declared.builder.ArgAction.TheVariants.{Set, SetTrue}
+use Rattle.clap.specs.declared.error.kind.ErrorKind.{ErrorKind}
+use Rattle.clap.specs.declared.error.kind.ErrorKind.TheVariants.{DisplayHelp}
+use Rattle.catalogue.specs.declared.compiler.Options.{Options}
+
+-- ---- the command line of `msgfmt` (manual, "msgfmt Invocation"); -h and --help are clap's own
+
+-- -f, --use-fuzzy
+abbrev pub use_fuzzy_rule : Rule
+use_fuzzy_rule = record (new_rule (codes "use-fuzzy")) {
+  short = Some 102;
+  long = Some (codes "use-fuzzy");
+  action = Some SetTrue;
+}
+
+-- -o FILE, --output-file=FILE
+abbrev pub output_rule : Rule
+output_rule = record (new_rule (codes "output-file")) {
+  short = Some 111;
+  long = Some (codes "output-file");
+  action = Some Set;
+  value_names = 1;
+}
+
+-- INPUT
+abbrev pub input_rule : Rule
+input_rule = record (new_rule (codes "INPUT")) { action = Some Set }
+
+abbrev pub msgfmt : App
+msgfmt = with_rule (with_rule (with_rule (new_app (codes "msgfmt")) use_fuzzy_rule) output_rule) input_rule
+
+-- ---- what is asked for
+
+pub record Asked : Type 0 where
+  pub options : Options
+  pub input : Option (List ℕ)
+  pub output : Option (List ℕ)
+
+-- clap gives a flag the text "true" where it stands among the words
+abbrev pub is_on : List ℕ → List Row → Bool
+is_on id rows = option_map_or (λ t. bytes_eq t (codes "true")) (first_of id rows) false
+
+abbrev pub asked_by : List Row → Asked
+asked_by rows = record {
+  options = record { checked = false; use_fuzzy = is_on (codes "use-fuzzy") rows };
+  input = first_of (codes "INPUT") rows;
+  output = first_of (codes "output-file") rows;
+}
+
+abbrev pub asked : List (List ℕ) → Asked
+asked words = asked_by (matches_of msgfmt words)
+
+-- INPUT is standard input, and FILE standard output
+pub record UsesStreams (a : Asked) : Type 0 where
+  pub input : a.input ≡ Some (codes "-")
+  pub output : a.output ≡ Some (codes "-")
+
+-- ---- words that aren't taken
+
+-- the fault that the words have, of this kind, and none where they are taken
+abbrev pub word_faults : List (List ℕ) → Kinds
+word_faults words = fault_of msgfmt words
+
+abbrev pub AreTaken : List (List ℕ) → Type 0
+AreTaken words = word_faults words ≡ []
+
+-- the words ask for the help text
+abbrev pub AskForHelp : List (List ℕ) → Type 0
+AskForHelp words = word_faults words ≡ DisplayHelp ∷ []
+
+-- the words have another fault
+abbrev pub AreFaulty : List (List ℕ) → Type 0
+AreFaulty words = (k : ErrorKind) × (word_faults words ≡ k ∷ []) × (k ≢ DisplayHelp)

@@ -1,0 +1,12 @@
+pub mod TokenLemmas
+pub mod Feeding
+pub mod Holding
+pub mod FrameLemmas
+pub mod OneSpelling
+pub mod FaultLemmas
+pub mod ByteLemmas
+pub mod TextLemmas
+pub mod FieldLemmas
+pub mod Running
+pub mod RuleLemmas
+pub mod StepLemmas

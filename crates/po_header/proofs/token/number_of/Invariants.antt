@@ -1,0 +1,6 @@
+use Rattle.std.proofs.Common.{◌≡◌, take, Some}
+use Rattle.po_header.specs.Tokens.{decimal_value, below_limit}
+use Rattle.po_header.proofs.token.number_of.Given as goal
+
+abbrev pub invariant-loop-digit : goal.invariant-loop-digit
+invariant-loop-digit l = Some l.value ≡ below_limit (decimal_value (take l.digit-index l.digits))

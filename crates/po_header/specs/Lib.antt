@@ -1,0 +1,15 @@
+pub mod Chain
+pub mod Tokens
+pub mod Grammar
+pub mod Meaning
+pub mod Expression
+pub mod Nodes
+pub mod Expr
+pub mod Reading
+pub mod Stack
+pub mod Charset
+pub mod Fields
+pub mod Frames
+pub mod Rule
+pub mod Rules
+pub mod Steps

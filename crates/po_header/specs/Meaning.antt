@@ -1,0 +1,63 @@
+-- The value of an expression at n: without signs, modulo 2 ^ 64 (an unsigned long of 64 bits).
+use Rattle.std.specs.Prelude.{ℕ, ◌+◌, ◌-◌, ◌*◌, ◌/◌, ◌%◌, ◌^◌, Bool, not, ◌==◌, nat_lt, nat_le, if◌then◌else◌, Option, None, Some}
+use Rattle.std.specs.Option.{option_map}
+use Rattle.po_header.specs.declared.token.Operator.{Operator}
+use Rattle.po_header.specs.declared.token.Operator.TheVariants.{Or, And, Equal, NotEqual, Less, Greater, AtMost, AtLeast, Add, Subtract, Multiply, Divide, Remainder}
+use Rattle.po_header.specs.Grammar.{Tree, Variable, Constant, Negation, Binary, Choice}
+
+-- comparisons and logic give 0 or 1 (C standard, 6.5.8, 6.5.9)
+abbrev pub truth : Bool → ℕ
+truth b = if b then 1 else 0
+
+-- whether a number counts as true
+abbrev pub truth_of : ℕ → ℕ
+truth_of x = truth (not (x == 0))
+
+-- `!` (C standard, 6.5.3.3)
+abbrev pub opposite : ℕ → ℕ
+opposite x = truth (x == 0)
+
+-- the operator on two values; none where one of them isn't there
+abbrev pub both : (ℕ → ℕ → Option ℕ) → Option ℕ → Option ℕ → Option ℕ
+both f None right = None
+both f (Some x) None = None
+both f (Some x) (Some y) = f x y
+
+-- `||`: the right side counts only where the left is 0 (C standard, 6.5.14)
+abbrev pub either : Option ℕ → Option ℕ → Option ℕ
+either None right = None
+either (Some x) right = if x == 0 then option_map truth_of right else Some 1
+
+-- `&&`: the right side counts only where the left isn't 0 (C standard, 6.5.13)
+abbrev pub conjoined : Option ℕ → Option ℕ → Option ℕ
+conjoined None right = None
+conjoined (Some x) right = if x == 0 then Some 0 else option_map truth_of right
+
+-- `? :`: only the side that is chosen counts (C standard, 6.5.15)
+abbrev pub choice : Option ℕ → Option ℕ → Option ℕ → Option ℕ
+choice None chosen other = None
+choice (Some x) chosen other = if x == 0 then other else chosen
+
+-- an operator on the values of its sides; division and remainder by 0 have none (C standard, 6.5.5)
+abbrev pub combined : Operator → Option ℕ → Option ℕ → Option ℕ
+combined Or left right = either left right
+combined And left right = conjoined left right
+combined Equal left right = both (λ x y. Some (truth (x == y))) left right
+combined NotEqual left right = both (λ x y. Some (truth (not (x == y)))) left right
+combined Less left right = both (λ x y. Some (truth (nat_lt x y))) left right
+combined Greater left right = both (λ x y. Some (truth (nat_lt y x))) left right
+combined AtMost left right = both (λ x y. Some (truth (nat_le x y))) left right
+combined AtLeast left right = both (λ x y. Some (truth (nat_le y x))) left right
+combined Add left right = both (λ x y. Some ((x + y) % 2 ^ 64)) left right
+combined Subtract left right = both (λ x y. Some ((x + (2 ^ 64 - y)) % 2 ^ 64)) left right
+combined Multiply left right = both (λ x y. Some ((x * y) % 2 ^ 64)) left right
+combined Divide left right = both (λ x y. if y == 0 then None else Some (x / y)) left right
+combined Remainder left right = both (λ x y. if y == 0 then None else Some (x % y)) left right
+
+-- the value at n, if there is one
+abbrev pub value : Tree → ℕ → Option ℕ
+value Variable n = Some n
+value (Constant v) n = Some v
+value (Negation operand) n = option_map opposite (value operand n)
+value (Binary operator left right) n = combined operator (value left n) (value right n)
+value (Choice condition chosen other) n = choice (value condition n) (value chosen n) (value other n)

@@ -1,0 +1,91 @@
+-- Which tokens an expression spells (C standard, 6.4 "Lexical elements": each token is as long as it can be).
+use Rattle.std.specs.Prelude.{◌≡◌, ◌≢◌, ℕ, ◌+◌, ◌-◌, ◌*◌, ◌<◌, ◌^◌, Bool, true, ◌&&◌, ◌||◌, ◌==◌, nat_lt, if◌then◌else◌, List, [], ◌∷◌, ◌++◌, drop, Option, None, Some}
+use Rattle.std.specs.List.{take_while, filter_map, fold, prefix_len}
+use Rattle.std.specs.Char.{is_ascii_digit}
+use Rattle.po_header.specs.declared.token.Operator.TheVariants.{Or, And, Equal, NotEqual, Less, Greater, AtMost, AtLeast, Add, Subtract, Multiply, Divide, Remainder}
+use Rattle.po_header.specs.declared.token.Token.{Token}
+use Rattle.po_header.specs.declared.token.Token.TheVariants.{Count, Number, Open, Close, Question, Colon, Bang, Sign}
+use Rattle.po_header.specs.Chain.{Chain}
+
+-- space and tab, which separate tokens and are skipped
+abbrev pub is_blank : ℕ → Bool
+is_blank b = b == 32 || b == 9
+
+-- what follows the blanks at the front
+abbrev pub behind_blanks : List ℕ → List ℕ
+behind_blanks text = drop (prefix_len is_blank text) text
+
+-- a token of two bytes: `||`, `&&`, `==`, `!=`, `<=`, `>=` (C standard, 6.4.6 "Punctuators")
+abbrev pub long_symbol : ℕ → ℕ → Option Token
+long_symbol a b =
+    if a == 124 && b == 124 then Some (Sign Or) else
+    if a == 38 && b == 38 then Some (Sign And) else
+    if a == 61 && b == 61 then Some (Sign Equal) else
+    if a == 33 && b == 61 then Some (Sign NotEqual) else
+    if a == 60 && b == 61 then Some (Sign AtMost) else
+    if a == 62 && b == 61 then Some (Sign AtLeast) else None
+
+-- a token of one byte: `n`, `(`, `)`, `?`, `:`, `!`, `<`, `>`, `+`, `-`, `*`, `/`, `%`
+abbrev pub short_symbol : ℕ → Option Token
+short_symbol b =
+    if b == 110 then Some Count else
+    if b == 40 then Some Open else
+    if b == 41 then Some Close else
+    if b == 63 then Some Question else
+    if b == 58 then Some Colon else
+    if b == 33 then Some Bang else
+    if b == 60 then Some (Sign Less) else
+    if b == 62 then Some (Sign Greater) else
+    if b == 43 then Some (Sign Add) else
+    if b == 45 then Some (Sign Subtract) else
+    if b == 42 then Some (Sign Multiply) else
+    if b == 47 then Some (Sign Divide) else
+    if b == 37 then Some (Sign Remainder) else None
+
+-- the token of two bytes at the front
+abbrev pub long_at : List ℕ → Option Token
+long_at [] = None
+long_at (a ∷ []) = None
+long_at (a ∷ b ∷ more) = long_symbol a b
+
+-- decimal digits as a number
+abbrev pub decimal_value : List ℕ → ℕ
+decimal_value digits = fold (λ n d. 10 * n + (d - 48)) 0 digits
+
+-- the number, where it is below 2 ^ 64 (an unsigned long of 64 bits)
+abbrev pub below_limit : ℕ → Option ℕ
+below_limit n = if nat_lt n (2 ^ 64) then Some n else None
+
+-- what an expression is cut into
+pub data Piece : Type 0 where
+  Blank : (byte : ℕ) → Piece
+  Digits : (digits : List ℕ) → Piece
+  Short : (byte : ℕ) (token : Token) → Piece
+  Long : (first second : ℕ) (token : Token) → Piece
+
+-- text is the piece, as long as it can be, and then rest; a numeral is below 2 ^ 64
+abbrev pub PieceAt : Piece → List ℕ → List ℕ → Type 0
+PieceAt (Blank b) text rest = (text ≡ b ∷ rest) × (is_blank b ≡ true)
+PieceAt (Digits digits) text rest = (text ≡ digits ++ rest) × (take_while is_ascii_digit text ≡ digits) × (digits ≢ []) × (decimal_value digits < 2 ^ 64)
+PieceAt (Short b token) text rest = (text ≡ b ∷ rest) × (long_at text ≡ None) × (short_symbol b ≡ Some token)
+PieceAt (Long a b token) text rest = (text ≡ a ∷ b ∷ rest) × (long_symbol a b ≡ Some token)
+
+-- the token that a piece is, if it is one
+abbrev pub piece_token : Piece → Option Token
+piece_token (Blank b) = None
+piece_token (Digits digits) = Some (Number (decimal_value digits))
+piece_token (Short b token) = Some token
+piece_token (Long a b token) = Some token
+
+abbrev pub tokens_of_pieces : List Piece → List Token
+tokens_of_pieces pieces = filter_map piece_token pieces
+
+-- the text begins with these tokens, with blanks round them, and rest follows
+pub record Begins (tokens : List Token) (text rest : List ℕ) : Type 0 where
+  pub pieces : List Piece
+  pub each : Chain PieceAt pieces text rest
+  pub tokens_are : tokens ≡ tokens_of_pieces pieces
+
+-- the text is these tokens, with blanks round them
+abbrev pub Spells : List ℕ → List Token → Type 0
+Spells text tokens = Begins tokens text []

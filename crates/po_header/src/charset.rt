@@ -1,0 +1,38 @@
+// The charset that a header names.
+ghost use Rattle.std.specs.Prelude.{◌≡◌, ℕ, ◌↔◌, IsTrue, List, Option};
+ghost use Rattle.std.specs.List.{take_while};
+ghost use Rattle.std.specs.Option.{option_copied};
+ghost use Rattle.po_header.specs.Charset.{charset, is_charset_byte, IsAcceptedCharset};
+
+use crate::search::behind;
+use memchr::memchr3;
+
+/// The front of a text, up to a space, a tab, LF or the end.
+fn before_white(text: &str) -> &str
+    ensures { result.now ≡ take_while is_charset_byte text.now }
+{
+    match memchr3(b' ', b'\t', b'\n', text.as_bytes()) {
+        Some(end) => &text[..end],
+        None => text,
+    }
+}
+
+/// The charset that a header's text names: what follows its first `charset=`, up to a space, a tab, LF or
+/// the end (GNU gettext manual, "Header Entry").
+pub fn charset_of(text: &str) -> Option<&str>
+    ensures { option_copied result ≡ charset text.now }
+{
+    let after = behind(text, "charset=")?;
+    Some(before_white(after))
+}
+
+/// Whether texts in this charset can be read: it is UTF-8, ASCII or the template's `CHARSET`, in any ASCII case.
+pub fn charset_accepted(name: &str) -> bool
+    ensures { IsTrue result ↔ IsAcceptedCharset name.now }
+{
+    name.eq_ignore_ascii_case("UTF-8")
+        || name.eq_ignore_ascii_case("UTF8")
+        || name.eq_ignore_ascii_case("US-ASCII")
+        || name.eq_ignore_ascii_case("ASCII")
+        || name.eq_ignore_ascii_case("CHARSET")
+}

@@ -1,0 +1,56 @@
+//! The header of a PO file: charset, fields and the rule for plural forms.
+#![tactic(auto)]
+
+ghost use Rattle.std.specs.Prelude.{◌≡◌};
+ghost use Rattle.po_header.specs.declared.ExprFault.TheVariants.{Memory};
+
+mod charset;
+mod expr;
+mod fields;
+mod parse;
+mod rule;
+mod search;
+mod steps;
+mod token;
+mod tree;
+
+pub use charset::{charset_accepted, charset_of};
+pub use expr::PluralExpr;
+pub use fields::{FIELD_NAMES, field, missing_fields};
+pub use parse::{one_tree, parse_expr};
+pub use rule::{RuleRead, one_rule, read_rule};
+use std::alloc::{AllocError, AllocFailed};
+use thiserror::Error;
+
+/// How many bytes an expression may have.
+pub const EXPRESSION_LIMIT: usize = 1000;
+
+/// Why a text was not read as an expression.
+#[derive(Clone, Copy, Debug, PartialEq, Eq, Error)]
+pub enum ExprFault {
+    #[error("expression too long")]
+    TooLong,
+    #[error("malformed expression")]
+    Malformed,
+    #[error("out of memory")]
+    Memory,
+}
+
+impl From<AllocError> for ExprFault {
+    ghost from_gives = { λ _ e. e ≡ Memory };
+
+    fn from(_e: AllocError) -> ExprFault {
+        ExprFault::Memory
+    }
+}
+
+impl<T: Drop> From<AllocFailed<T>> for ExprFault {
+    ghost from_gives = { λ _ e. e ≡ Memory };
+
+    fn from(_e: AllocFailed<T>) -> ExprFault {
+        ExprFault::Memory
+    }
+}
+
+#[cfg(test)]
+mod tests;

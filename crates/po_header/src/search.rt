@@ -1,0 +1,13 @@
+// Words in texts.
+ghost use Rattle.std.specs.Prelude.{◌≡◌, ◌<◌, List, Option, length};
+ghost use Rattle.std.specs.Option.{option_copied};
+ghost use Rattle.po_header.specs.Charset.{behind_first};
+
+/// What follows the first place where a word stands in a text.
+pub(crate) fn behind<'a>(text: &'a str, word: &str) -> Option<&'a str>
+    requires { 0 < length word.now }
+    ensures { option_copied result ≡ behind_first word.now text.now }
+{
+    let (_, after) = text.split_once(word)?;
+    Some(after)
+}

@@ -1,0 +1,185 @@
+// Expressions as steps, one after another, each of which is a value or a test of `n` that says at which
+// earlier step to go on. Most rules are choices between numbers by such tests.
+ghost use Rattle.std.specs.Prelude.{◌≡◌, ℕ, ◌<◌, ◌++◌, ◌∷◌, [], List, Option, Some, IfOk, IfSome, IfNone, length};
+ghost use Rattle.po_header.specs.Meaning.{choice, combined};
+ghost use Rattle.po_header.specs.Steps.{Adds, IsTest, chosen_step, is_within, measured, node_value, reached, step_value, step_values, value_at};
+
+use crate::token::Operator;
+use crate::tree::Node;
+use std::alloc::AllocError;
+
+/// A step of a decision.
+#[derive(Clone, Copy, Debug, PartialEq, Eq)]
+pub(crate) enum Step {
+    Value(u64),
+    /// Goes on at one of two earlier steps, by whether `n`, or its remainder where the modulus isn't 0, is
+    /// from `low` to `high`.
+    Test {
+        modulus: u64,
+        low: u64,
+        high: u64,
+        inside: usize,
+        outside: usize,
+    },
+}
+
+impl Step {
+    fn test(modulus: u64, low: u64, high: u64, inside: usize, outside: usize) -> Step
+        ensures { result ≡ Step.Test modulus low high inside outside }
+    {
+        Step::Test {
+            modulus,
+            low,
+            high,
+            inside,
+            outside,
+        }
+    }
+}
+
+/// Adds a step, and gives its index.
+fn add(steps: &mut Vec<Step>, step: Step) -> Result<usize, AllocError>
+    ensures { IfOk result (λ i. Adds steps.old.items steps.new.items i (λ n. step_value (step_values n steps.old.items) n step)) }
+{
+    let i = steps.len();
+    steps.push(step)?;
+    Ok(i)
+}
+
+/// The test whether `n`, or its remainder, compares so with a number. None where no test says that.
+fn test_of(operator: Operator, modulus: u64, bound: u64, here: usize, there: usize) -> Option<Step>
+    ensures { IfSome result (λ step. IsTest step operator modulus bound here there) }
+{
+    match operator {
+        Operator::Equal => Some(Step::test(modulus, bound, bound, here, there)),
+        Operator::NotEqual => Some(Step::test(modulus, bound, bound, there, here)),
+        Operator::AtMost => Some(Step::test(modulus, 0, bound, here, there)),
+        Operator::Greater => Some(Step::test(modulus, 0, bound, there, here)),
+        Operator::Less if bound > 0 => Some(Step::test(modulus, 0, bound - 1, here, there)),
+        Operator::AtLeast if bound > 0 => Some(Step::test(modulus, 0, bound - 1, there, here)),
+        _ => None,
+    }
+}
+
+/// Adds a test whether `n`, or its remainder, compares so with a number. None where no test says that.
+fn add_test(
+    steps: &mut Vec<Step>,
+    operator: Operator,
+    modulus: u64,
+    bound: u64,
+    here: usize,
+    there: usize,
+) -> Result<Option<usize>, AllocError>
+    ensures { IfOk result (λ found. IfSome found (λ i. Adds steps.old.items steps.new.items i (λ n. choice (combined operator (Some (measured modulus n)) (Some bound)) (reached steps.old.items here n) (reached steps.old.items there n)))) }
+{
+    let Some(step) = test_of(operator, modulus, bound, here, there) else {
+        return Ok(None)
+    };
+    let i = add(steps, step)?;
+    Ok(Some(i))
+}
+
+impl Node {
+    /// Adds steps that go on at one step where the node's value isn't 0, and else at another. None where
+    /// the node is no test.
+    fn add_condition(
+        &self,
+        steps: &mut Vec<Step>,
+        here: usize,
+        there: usize,
+    ) -> Result<Option<usize>, AllocError>
+        requires here_stands { here < length steps.old.items }
+        requires there_stands { there < length steps.old.items }
+        ensures { IfOk result (λ found. IfSome found (λ i. Adds steps.old.items steps.new.items i (chosen_step steps.old.items self.now here there))) }
+    {
+        match self {
+            Node::OfCount(operator, bound) => add_test(steps, *operator, 0, *bound, here, there),
+            Node::OfRemainder(operator, modulus, bound) if *modulus > 0 => {
+                add_test(steps, *operator, *modulus, *bound, here, there)
+            }
+            Node::Not(operand) => operand.add_condition(steps, there, here),
+            Node::Binary(operator, left, right) => match operator {
+                Operator::Or => {
+                    let Some(rest) = right.add_condition(steps, here, there)? else {
+                        return Ok(None)
+                    };
+                    left.add_condition(steps, here, rest)
+                }
+                Operator::And => {
+                    let Some(rest) = right.add_condition(steps, here, there)? else {
+                        return Ok(None)
+                    };
+                    left.add_condition(steps, rest, there)
+                }
+                _ => Ok(None),
+            },
+            _ => Ok(None),
+        }
+    }
+
+    /// Adds steps to the node's value. None where the node is more than choices between numbers by tests.
+    pub(crate) fn add_value(&self, steps: &mut Vec<Step>) -> Result<Option<usize>, AllocError>
+        ensures { IfOk result (λ found. IfSome found (λ i. Adds steps.old.items steps.new.items i (node_value self.now))) }
+    {
+        match self {
+            Node::Number(number) => {
+                let i = add(steps, Step::Value(*number))?;
+                Ok(Some(i))
+            }
+            Node::Choose(condition, chosen, other) => {
+                let Some(here) = chosen.add_value(steps)? else {
+                    return Ok(None)
+                };
+                let Some(there) = other.add_value(steps)? else {
+                    return Ok(None)
+                };
+                condition.add_condition(steps, here, there)
+            }
+            _ => Ok(None),
+        }
+    }
+}
+
+/// Whether `n`, or its remainder where the modulus isn't 0, lies between two bounds.
+fn lies_within(n: u64, modulus: u64, low: u64, high: u64) -> bool
+    ensures { result ≡ is_within low high (measured modulus n) }
+{
+    let x = if modulus == 0 { n } else { n % modulus };
+    low <= x && x <= high
+}
+
+/// Where a test goes on.
+fn next_step(n: u64, modulus: u64, low: u64, high: u64, inside: usize, outside: usize) -> usize
+    ensures { (found : List (Option ℕ)) → step_value found n (Step.Test modulus low high inside outside) ≡ value_at found result }
+{
+    if lies_within(n, modulus, low, high) {
+        inside
+    } else {
+        outside
+    }
+}
+
+/// The value at `n` of the step with this index.
+pub(crate) fn run(steps: &[Step], start: usize, n: u64) -> Option<u64>
+    ensures { result ≡ reached steps.now start n }
+{
+    let mut at = start;
+    'steps: loop {
+        match *steps.get(at)? {
+            Step::Value(value) => return Some(value),
+            Step::Test {
+                modulus,
+                low,
+                high,
+                inside,
+                outside,
+            } => {
+                let next = next_step(n, modulus, low, high, inside, outside);
+                if next >= at {
+                    return None;
+                }
+                at = next;
+            }
+        }
+    }
+}

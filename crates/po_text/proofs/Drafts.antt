@@ -1,0 +1,66 @@
+-- A draft is of one entry.
+use Rattle.std.proofs.Common.{◌≡◌, ℕ, ◌+◌, List, [], ◌∷◌, ◌++◌, map, length, refl, sym, ap, ◌∙◌, arith}
+use Rattle.std.specs.List.{concat, AllByRecursion}
+use Rattle.std.proofs.lemmas.List.{append-nil, map-append}
+use Rattle.po_text.specs.Entries.{Entry}
+use Rattle.po_text.specs.Building.{Draft, draft_of, offsets}
+
+append_one : {A : Type 0} (xs ys us vs : List A) → xs ++ us ≡ ys ++ vs → length xs ≡ length ys → (xs ≡ ys) × (us ≡ vs)
+append_one [] [] us vs e l = (refl, e)
+append_one [] (y ∷ ys) us vs e l = absurd (omega (arith, l))
+append_one (x ∷ xs) [] us vs e l = absurd (omega (arith, l))
+append_one (x ∷ xs) (y ∷ ys) us vs e l =
+    let head : x ≡ y = cc e in
+    let h = append_one xs ys us vs (cc e) (omega (arith, l)) in
+    let rest = h.0 in
+    (cc (head, rest), h.1)
+
+pub forms_one : (k : ℕ) (fs gs : List (List ℕ)) → concat fs ≡ concat gs → offsets k fs ≡ offsets k gs → fs ≡ gs
+forms_one k [] [] e o = refl
+forms_one k [] (g ∷ gs) e o = absurd (cc o)
+forms_one k (f ∷ fs) [] e o = absurd (cc o)
+forms_one k (f ∷ []) (g ∷ []) e o = let same : f ≡ g = sym (append-nil f) ∙ e ∙ append-nil g in ap (λ (x : List ℕ). x ∷ []) same
+forms_one k (f ∷ []) (g ∷ g' ∷ gs) e o = absurd (cc o)
+forms_one k (f ∷ f' ∷ fs) (g ∷ []) e o = absurd (cc o)
+forms_one k (f ∷ f' ∷ fs) (g ∷ g' ∷ gs) e o =
+    let next : k + length f ≡ k + length g = cc o in
+    let len : length f ≡ length g = omega (arith, next) in
+    let cut = append_one f g (concat (f' ∷ fs)) (concat (g' ∷ gs)) e len in
+    let same = cut.0 in
+    let rest = forms_one (k + length f) (f' ∷ fs) (g' ∷ gs) cut.1 (cc (o, next)) in
+    cc (same, rest)
+
+-- entries whose fields are equal
+pub same_entry : (e e' : Entry) → e.line ≡ e'.line → e.fuzzy ≡ e'.fuzzy → e.c_format ≡ e'.c_format → e.context ≡ e'.context → e.id ≡ e'.id → e.plural ≡ e'.plural → e.forms ≡ e'.forms → e ≡ e'
+same_entry e e' line fuzzy c_format context id plural forms =
+    ap (λ (x : ℕ). record { line = x; fuzzy = e.fuzzy; c_format = e.c_format; context = e.context; id = e.id; plural = e.plural; forms = e.forms }) line
+    ∙ ap (λ (x : _). record { line = e'.line; fuzzy = x; c_format = e.c_format; context = e.context; id = e.id; plural = e.plural; forms = e.forms }) fuzzy
+    ∙ ap (λ (x : _). record { line = e'.line; fuzzy = e'.fuzzy; c_format = x; context = e.context; id = e.id; plural = e.plural; forms = e.forms }) c_format
+    ∙ ap (λ (x : _). record { line = e'.line; fuzzy = e'.fuzzy; c_format = e'.c_format; context = x; id = e.id; plural = e.plural; forms = e.forms }) context
+    ∙ ap (λ (x : _). record { line = e'.line; fuzzy = e'.fuzzy; c_format = e'.c_format; context = e'.context; id = x; plural = e.plural; forms = e.forms }) id
+    ∙ ap (λ (x : _). record { line = e'.line; fuzzy = e'.fuzzy; c_format = e'.c_format; context = e'.context; id = e'.id; plural = x; forms = e.forms }) plural
+    ∙ ap (λ (x : _). record { line = e'.line; fuzzy = e'.fuzzy; c_format = e'.c_format; context = e'.context; id = e'.id; plural = e'.plural; forms = x }) forms
+
+pub draft_one : (e e' : Entry) → draft_of e ≡ draft_of e' → e ≡ e'
+draft_one e e' same =
+    same_entry e e' (ap (λ (d : Draft). d.line) same) (ap (λ (d : Draft). d.flags.fuzzy) same) (ap (λ (d : Draft). d.flags.c_format) same) (ap (λ (d : Draft). d.context) same) (ap (λ (d : Draft). d.id) same)
+    (ap (λ (d : Draft). d.plural) same) (forms_one 0 e.forms e'.forms (ap (λ (d : Draft). d.flat) same) (ap (λ (d : Draft). d.starts) same))
+
+pub drafts_one : (es fs : List Entry) → map draft_of es ≡ map draft_of fs → es ≡ fs
+drafts_one [] [] e = refl
+drafts_one [] (f ∷ fs) e = absurd (cc e)
+drafts_one (x ∷ es) [] e = absurd (cc e)
+drafts_one (x ∷ es) (y ∷ fs) e =
+    let head = draft_one x y (cc e) in
+    let tail = drafts_one es fs (cc e) in
+    cc (head, tail)
+
+-- the last of some drafts that are of entries is of an entry
+pub split_last : (P : Entry → Type 0) (done : List Draft) (d : Draft) (es : List Entry) → AllByRecursion P es → done ++ (d ∷ []) ≡ map draft_of es → (e : Entry) × (d ≡ draft_of e) × P e
+split_last P [] d [] all e = absurd (cc e)
+split_last P [] d (x ∷ es) all e = (x, cc e, all.0)
+split_last P (y ∷ done) d [] all e = absurd (cc e)
+split_last P (y ∷ done) d (x ∷ es) all e = split_last P done d es all.1 (cc e)
+
+pub snoc_drafts : (es : List Entry) (e : Entry) (d : Draft) → d ≡ draft_of e → map draft_of (es ++ (e ∷ [])) ≡ map draft_of es ++ (d ∷ [])
+snoc_drafts es e d is = map-append draft_of es (e ∷ []) ∙ ap (λ (x : Draft). map draft_of es ++ (x ∷ [])) (sym is)

@@ -1,0 +1,80 @@
+-- Gaps, a piece at a time.
+use Rattle.std.proofs.Common.{◌≡◌, ◌≢◌, ℕ, ◌+◌, true, List, [], ◌∷◌, ◌++◌, length, refl, sym, ap, ◌∙◌, arith, append_assoc, length-append}
+use Rattle.std.specs.List.{AllByRecursion, take_while}
+use Rattle.std.proofs.lemmas.Bool.{ne_eqb}
+use Rattle.po_text.specs.Spelling.{Piece, White, Comment, Word, OpenBracket, CloseBracket, Quoted, PieceAt, is_white, is_not_line_end, line_of, comment_marks, Mark}
+use Rattle.std.proofs.lemmas.List.{append-nil}
+use Rattle.po_text.specs.declared.flags.Flags.{Flags}
+use Rattle.po_text.specs.Building.{flags_over}
+use Rattle.po_text.specs.Lexing.{TakesGap, IsGapPiece, gap_marks}
+use Rattle.po_text.proofs.FlagLemmas.{flags_over-append}
+use Rattle.po_text.proofs.Chains.{Chain-append}
+
+pub All-append : {A : Type 0} (P : A → Type 0) (xs ys : List A) → AllByRecursion P xs → AllByRecursion P ys → AllByRecursion P (xs ++ ys)
+All-append P [] ys p q = q
+All-append P (x ∷ xs) ys p q = (p.0, All-append P xs ys p.1 q)
+
+pub line_of-append : (xs ys : List Piece) → line_of (xs ++ ys) + 1 ≡ line_of xs + line_of ys
+line_of-append [] ys = omega arith
+line_of-append (White b ∷ xs) ys = omega (arith, line_of-append xs ys)
+line_of-append (Comment after ∷ xs) ys = line_of-append xs ys
+line_of-append (Word bytes token ∷ xs) ys = line_of-append xs ys
+line_of-append (OpenBracket ∷ xs) ys = line_of-append xs ys
+line_of-append (CloseBracket ∷ xs) ys = line_of-append xs ys
+line_of-append (Quoted bytes ∷ xs) ys = line_of-append xs ys
+
+gap_marks-append : (xs ys : List Piece) → gap_marks (xs ++ ys) ≡ gap_marks xs ++ gap_marks ys
+gap_marks-append [] ys = refl
+gap_marks-append (White b ∷ xs) ys = gap_marks-append xs ys
+gap_marks-append (Comment after ∷ xs) ys = ap (λ (m : List Mark). comment_marks after ++ m) (gap_marks-append xs ys) ∙ sym (append_assoc (comment_marks after) (gap_marks xs) (gap_marks ys))
+gap_marks-append (Word bytes token ∷ xs) ys = gap_marks-append xs ys
+gap_marks-append (OpenBracket ∷ xs) ys = gap_marks-append xs ys
+gap_marks-append (CloseBracket ∷ xs) ys = gap_marks-append xs ys
+gap_marks-append (Quoted bytes ∷ xs) ys = gap_marks-append xs ys
+
+pub TakesGap-append : (f g h : Flags) (a b c : ℕ) (s m t : List ℕ) → TakesGap f a s g b m → TakesGap g b m h c t → TakesGap f a s h c t
+TakesGap-append f g h a b c s m t p q = record {
+  pieces = p.pieces ++ q.pieces;
+  flags = q.flags ∙ ap (λ (x : Flags). flags_over x (gap_marks q.pieces)) p.flags ∙ sym (flags_over-append f (gap_marks p.pieces) (gap_marks q.pieces)) ∙ ap (λ (m : List Mark). flags_over f m) (sym (gap_marks-append p.pieces q.pieces));
+  each = Chain-append PieceAt p.pieces q.pieces s m t p.each q.each;
+  gap = All-append IsGapPiece p.pieces q.pieces p.gap q.gap;
+  line = omega (arith, line_of-append p.pieces q.pieces, p.line, q.line);
+  room = omega (arith, p.room, q.room);
+  falls = omega (arith, p.falls, q.falls);
+}
+
+line_end_is_white : (b : ℕ) → b ≡ 10 → is_white b ≡ true
+line_end_is_white b e = rw e refl
+
+pub goes_line : (f g : Flags) (a b c byte : ℕ) (s m t : List ℕ) → TakesGap f a s g b m → m ≡ byte ∷ t → byte ≡ 10 → c ≡ b + 1 → TakesGap f a s g c t
+goes_line f g a b c byte s m t p split is e = TakesGap-append f g g a b c s m t p (record {
+  pieces = White byte ∷ [];
+  flags = refl;
+  each = (t, (split, line_end_is_white byte is), refl);
+  gap = (tt, tt);
+  line = rw (is, e) (omega arith);
+  room = omega (arith, ap length split);
+  falls = omega (arith, ap length split);
+})
+
+pub goes_white : (f g : Flags) (a b byte : ℕ) (s m t : List ℕ) → TakesGap f a s g b m → m ≡ byte ∷ t → byte ≢ 10 → is_white byte ≡ true → TakesGap f a s g b t
+goes_white f g a b byte s m t p split other white = TakesGap-append f g g a b b s m t p (record {
+  pieces = White byte ∷ [];
+  flags = refl;
+  each = (t, (split, white), refl);
+  gap = (tt, tt);
+  line = rw (ne_eqb byte 10 other) refl;
+  room = omega (arith, ap length split);
+  falls = omega (arith, ap length split);
+})
+
+pub goes_comment : (f g h : Flags) (a b byte : ℕ) (s m after later t : List ℕ) → TakesGap f a s g b m → m ≡ byte ∷ later → byte ≡ 35 → after ≡ take_while is_not_line_end later → later ≡ after ++ t → h ≡ flags_over g (comment_marks after) → TakesGap f a s h b t
+goes_comment f g h a b byte s m after later t p split is run cut flagged = TakesGap-append f g h a b b s m t p (record {
+  pieces = Comment after ∷ [];
+  flags = flagged ∙ ap (λ (m : List Mark). flags_over g m) (sym (append-nil (comment_marks after)));
+  each = (t, (split ∙ rw (is, cut) refl, rw (← cut) (sym run)), refl);
+  gap = (tt, tt);
+  line = refl;
+  room = omega (arith, ap length split, ap length cut, length-append after t);
+  falls = omega (arith, ap length split, ap length cut, length-append after t);
+})

@@ -1,0 +1,142 @@
+-- Entries put together, one lexeme after another. Private: what private functions promise.
+use Rattle.std.specs.Prelude.{ℕ, ◌+◌, Bool, true, false, List, [], ◌∷◌, ◌++◌, length, Option, Some, None}
+use Rattle.std.specs.Option.{option_map}
+use Rattle.std.specs.List.{concat}
+use Rattle.po_text.specs.declared.flags.Flags.{Flags}
+use Rattle.po_text.specs.Spelling.{Token, Context, Id, Plural, Str, Text, Mark, Lexeme}
+use Rattle.po_text.specs.Entries.{Entry, fuzzy_of, c_format_of}
+use Rattle.po_text.specs.Places.{Place, Start, ContextWord, ContextText, IdWord, IdText, PluralWord, PluralText, step}
+
+-- the flags after these marks
+abbrev pub flags_over : Flags → List Mark → Flags
+flags_over f marks = record { fuzzy = fuzzy_of f.fuzzy marks; c_format = c_format_of f.c_format marks }
+
+abbrev pub no_flags : Flags
+no_flags = record { fuzzy = false; c_format = false }
+
+-- an entry as it lies in a buffer: the forms one behind the other, and where each begins
+pub record Draft : Type 0 where
+  pub line : ℕ
+  pub flags : Flags
+  pub context : Option (List ℕ)
+  pub id : List ℕ
+  pub plural : Option (List ℕ)
+  pub flat : List ℕ
+  pub starts : List ℕ
+
+abbrev pub some_if : Bool → List ℕ → Option (List ℕ)
+some_if true bytes = Some bytes
+some_if false bytes = None
+
+-- the first of these, or the end
+abbrev pub first_or : List ℕ → ℕ → ℕ
+first_or [] end = end
+first_or (start ∷ later) end = start
+
+-- where each begins, the first at k
+abbrev pub offsets : ℕ → List (List ℕ) → List ℕ
+offsets k [] = []
+offsets k (form ∷ more) = k ∷ offsets (k + length form) more
+
+abbrev pub draft_of : Entry → Draft
+draft_of e = record {
+  line = e.line;
+  flags = record { fuzzy = e.fuzzy; c_format = e.c_format };
+  context = e.context;
+  id = e.id;
+  plural = e.plural;
+  flat = concat e.forms;
+  starts = offsets 0 e.forms;
+}
+
+-- an entry of which only the opening keyword was read
+abbrev pub begin : ℕ → Flags → Option (List ℕ) → Draft
+begin line flags context = record { line = line; flags = flags; context = context; id = []; plural = None; flat = []; starts = [] }
+
+abbrev pub grown : Option (List ℕ) → List ℕ → Option (List ℕ)
+grown None bytes = None
+grown (Some old) bytes = Some (old ++ bytes)
+
+abbrev pub add_context : Draft → List ℕ → Draft
+add_context d bytes = record { line = d.line; flags = d.flags; context = grown d.context bytes; id = d.id; plural = d.plural; flat = d.flat; starts = d.starts }
+
+abbrev pub add_id : Draft → List ℕ → Draft
+add_id d bytes = record { line = d.line; flags = d.flags; context = d.context; id = d.id ++ bytes; plural = d.plural; flat = d.flat; starts = d.starts }
+
+abbrev pub add_plural : Draft → List ℕ → Draft
+add_plural d bytes = record { line = d.line; flags = d.flags; context = d.context; id = d.id; plural = grown d.plural bytes; flat = d.flat; starts = d.starts }
+
+abbrev pub add_form : Draft → List ℕ → Draft
+add_form d bytes = record { line = d.line; flags = d.flags; context = d.context; id = d.id; plural = d.plural; flat = d.flat ++ bytes; starts = d.starts }
+
+abbrev pub new_plural : Draft → Draft
+new_plural d = record { line = d.line; flags = d.flags; context = d.context; id = d.id; plural = Some []; flat = d.flat; starts = d.starts }
+
+abbrev pub new_form : Draft → Draft
+new_form d = record { line = d.line; flags = d.flags; context = d.context; id = d.id; plural = d.plural; flat = d.flat; starts = d.starts ++ (length d.flat ∷ []) }
+
+-- a string, by the place behind which it stands
+abbrev pub put_text : Place → List ℕ → Draft → Draft
+put_text ContextWord bytes d = add_context d bytes
+put_text ContextText bytes d = add_context d bytes
+put_text IdWord bytes d = add_id d bytes
+put_text IdText bytes d = add_id d bytes
+put_text PluralWord bytes d = add_plural d bytes
+put_text PluralText bytes d = add_plural d bytes
+put_text _ bytes d = add_form d bytes
+
+-- a token that opens no entry
+abbrev pub put : Token → Place → Draft → Draft
+put (Text bytes) p d = put_text p bytes d
+put Plural p d = new_plural d
+put Str p d = new_form d
+put _ p d = d
+
+-- what was read so far
+pub record State : Type 0 where
+  pub place : Place
+  pub done : List Draft
+  pub draft : Draft
+  pub flags : Flags
+  pub keyword : ℕ
+
+abbrev pub at_state : Place → List Draft → Draft → Flags → ℕ → State
+at_state p done d f k = record { place = p; done = done; draft = d; flags = f; keyword = k }
+
+-- the entries, with the one that is under way
+abbrev pub drafts_at : Place → List Draft → Draft → List Draft
+drafts_at Start done d = done
+drafts_at _ done d = done ++ (d ∷ [])
+
+-- the context with which this token opens an entry at this place
+abbrev pub opens_id : Place → Option (Option (List ℕ))
+opens_id ContextText = None
+opens_id _ = Some None
+
+abbrev pub opens : Token → Place → Option (Option (List ℕ))
+opens Context p = Some (Some [])
+opens Id p = opens_id p
+opens _ p = None
+
+-- the line of the last keyword of a context or a msgid
+abbrev pub keyword_line : Token → ℕ → ℕ → ℕ
+keyword_line Id line k = line
+keyword_line _ line k = k
+
+abbrev pub after : Option (Option (List ℕ)) → State → List Mark → ℕ → Token → Place → State
+after (Some context) s marks line t p = at_state p (drafts_at s.place s.done s.draft) (begin line (flags_over s.flags marks) context) no_flags line
+after None s marks line t p = at_state p s.done (put t s.place s.draft) (flags_over s.flags marks) (keyword_line t line s.keyword)
+
+abbrev pub feed_at : State → List Mark → ℕ → Token → Option State
+feed_at s marks line t = option_map (λ p. after (opens t s.place) s marks line t p) (step s.place t)
+
+abbrev pub feed : Option State → Lexeme → Option State
+feed None l = None
+feed (Some s) l = feed_at s l.marks l.line l.token
+
+abbrev pub feeds : Option State → List Lexeme → Option State
+feeds o [] = o
+feeds o (l ∷ ls) = feeds (feed o l) ls
+
+abbrev pub start : State
+start = at_state Start [] (begin 0 no_flags None) no_flags 0

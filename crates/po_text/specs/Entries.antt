@@ -1,0 +1,211 @@
+-- Which entries a list of lexemes derives, and which fault of grammar it has: the GNU gettext manual, "PO Files".
+use Rattle.std.specs.Prelude.{◌≡◌, ◌≢◌, ℕ, ◌+◌, Bool, true, false, List, [], ◌∷◌, ◌++◌, map, Option, None, Some, ◌⊎◌}
+use Rattle.std.specs.List.{concat, flat_map, Contains, AllByRecursion}
+use Rattle.po_text.specs.declared.fault.PoKind.{PoKind}
+use Rattle.po_text.specs.declared.fault.PoKind.TheVariants.{BadText, BadOrder, BadIndex}
+use Rattle.po_text.specs.Chain.{Chain}
+use Rattle.po_text.specs.Spelling.{Token, Context, Id, Plural, Str, Number, Open, Close, Text, Mark, Fuzzy, CFormat, Clear, Lexeme}
+
+-- ---- the table
+
+-- one or more strings, which are joined (as C joins adjacent string literals: 5.1.1.2, phase 6)
+abbrev pub Strings : Type 0
+Strings = List (List ℕ)
+
+-- msgstr Strings; or msgid_plural Strings, and then one or more of msgstr [ number ] Strings
+pub data Part : Type 0 where
+  PlainPart : (form : Strings) → Part
+  PluralPart : (plural : Strings) (forms : List Strings) → Part
+
+-- an entry: perhaps msgctxt Strings, then msgid Strings, then a plain or a plural part
+pub record Derivation : Type 0 where
+  pub context : Option Strings
+  pub id : Strings
+  pub part : Part
+
+abbrev pub texts : Strings → List Token
+texts parts = map Text parts
+
+abbrev pub context_tokens : Option Strings → List Token
+context_tokens None = []
+context_tokens (Some parts) = Context ∷ texts parts
+
+-- the plural forms, numbered from k on
+abbrev pub form_tokens : ℕ → List Strings → List Token
+form_tokens k [] = []
+form_tokens k (form ∷ more) = Str ∷ Open ∷ Number k ∷ Close ∷ texts form ++ form_tokens (k + 1) more
+
+abbrev pub part_tokens : Part → List Token
+part_tokens (PlainPart form) = Str ∷ texts form
+part_tokens (PluralPart plural forms) = Plural ∷ texts plural ++ form_tokens 0 forms
+
+-- the tokens of an entry
+abbrev pub tokens_of : Derivation → List Token
+tokens_of d = context_tokens d.context ++ (Id ∷ texts d.id ++ part_tokens d.part)
+
+-- ---- its conditions
+
+abbrev pub IsOneOrMore : {A : Type 0} → List A → Type 0
+IsOneOrMore xs = xs ≢ []
+
+-- a context or a msgid: one or more strings, and no byte 4 when they are joined, since MO files join the two by it (that only these two
+-- are looked at is ours)
+abbrev pub IsKeyText : Strings → Type 0
+IsKeyText parts = IsOneOrMore parts × ¬ Contains (concat parts) 4
+
+abbrev pub IsLawfulContext : Option Strings → Type 0
+IsLawfulContext None = Unit {0}
+IsLawfulContext (Some parts) = IsKeyText parts
+
+abbrev pub IsLawfulPart : Part → Type 0
+IsLawfulPart (PlainPart form) = IsOneOrMore form
+IsLawfulPart (PluralPart plural forms) = IsOneOrMore plural × IsOneOrMore forms × AllByRecursion IsOneOrMore forms
+
+pub record IsLawfulEntry (d : Derivation) : Type 0 where
+  pub context : IsLawfulContext d.context
+  pub id : IsKeyText d.id
+  pub part : IsLawfulPart d.part
+
+-- ---- entries
+
+-- what an entry says: an empty context isn't the same as none
+pub record Entry : Type 0 where
+  pub line : ℕ
+  pub fuzzy : Bool
+  pub c_format : Bool
+  pub context : Option (List ℕ)
+  pub id : List ℕ
+  pub plural : Option (List ℕ)
+  pub forms : List (List ℕ)
+
+-- nothing was read yet
+abbrev pub no_entry : Entry
+no_entry = record { line = 0; fuzzy = false; c_format = false; context = None; id = []; plural = None; forms = [] }
+
+-- the flag behind these marks: whether `fuzzy` stands behind the last Clear, or was set before and no Clear came
+abbrev pub fuzzy_of : Bool → List Mark → Bool
+fuzzy_of flag [] = flag
+fuzzy_of flag (Fuzzy ∷ marks) = fuzzy_of true marks
+fuzzy_of flag (CFormat ∷ marks) = fuzzy_of flag marks
+fuzzy_of flag (Clear ∷ marks) = fuzzy_of false marks
+
+-- the same for `c-format`
+abbrev pub c_format_of : Bool → List Mark → Bool
+c_format_of flag [] = flag
+c_format_of flag (Fuzzy ∷ marks) = c_format_of flag marks
+c_format_of flag (CFormat ∷ marks) = c_format_of true marks
+c_format_of flag (Clear ∷ marks) = c_format_of false marks
+
+abbrev pub joined_option : Option Strings → Option (List ℕ)
+joined_option None = None
+joined_option (Some parts) = Some (concat parts)
+
+abbrev pub plural_of : Part → Option (List ℕ)
+plural_of (PlainPart form) = None
+plural_of (PluralPart plural forms) = Some (concat plural)
+
+abbrev pub forms_of : Part → List (List ℕ)
+forms_of (PlainPart form) = concat form ∷ []
+forms_of (PluralPart plural forms) = map concat forms
+
+-- the entry that is derived so, whose opening keyword stands on this line behind these marks
+abbrev pub entry_of : ℕ → List Mark → Derivation → Entry
+entry_of line marks d = record {
+  line = line;
+  fuzzy = fuzzy_of false marks;
+  c_format = c_format_of false marks;
+  context = joined_option d.context;
+  id = concat d.id;
+  plural = plural_of d.part;
+  forms = forms_of d.part;
+}
+
+-- the marks since the last opening keyword, and the lexemes that remain
+abbrev pub Remaining : Type 0
+Remaining = List Mark × List Lexeme
+
+-- the entry stands at the front; `first` is its opening keyword, and the marks behind it wait for the next entry (ours)
+pub record EntryAt (e : Entry) (now later : Remaining) : Type 0 where
+  pub first : Lexeme
+  pub others : List Lexeme
+  pub derivation : Derivation
+  pub split : now.1 ≡ first ∷ others ++ later.1
+  pub tokens : map (λ (l : Lexeme). l.token) (first ∷ others) ≡ tokens_of derivation
+  pub lawful : IsLawfulEntry derivation
+  pub entry : e ≡ entry_of first.line (now.0 ++ first.marks) derivation
+  pub marks : later.0 ≡ flat_map (λ (l : Lexeme). l.marks) others
+
+-- the lexemes derive these entries: one after another, and nothing is left
+abbrev pub Derives : List Lexeme → List Entry → Type 0
+Derives found entries = (marks : List Mark) × Chain EntryAt entries ([], found) (marks, [])
+
+-- ---- faults of grammar
+
+-- whole entries, and a front of one more, perhaps empty, cut behind any token
+pub record IsOpenList (tokens : List Token) : Type 0 where
+  pub whole : List Derivation
+  pub front : List Token
+  pub last : Derivation
+  pub back : List Token
+  pub split : tokens ≡ flat_map tokens_of whole ++ front
+  pub each : AllByRecursion IsLawfulEntry whole
+  pub begins : tokens_of last ≡ front ++ back
+  pub lawful : IsLawfulEntry last
+
+abbrev pub all_tokens : List Lexeme → List Token
+all_tokens found = map (λ (l : Lexeme). l.token) found
+
+-- the keyword of a context or a msgid
+abbrev pub IsKeyword : Token → Type 0
+IsKeyword token = (token ≡ Context) ⊎ (token ≡ Id)
+
+abbrev pub IsNumber : Token → Type 0
+IsNumber token = (n : ℕ) × (token ≡ Number n)
+
+-- x puts byte 4 into the context or msgid whose keyword stands on this line
+pub record PutsFour (before : List Lexeme) (x : Lexeme) (line : ℕ) : Type 0 where
+  pub front : List Lexeme
+  pub keyword : Lexeme
+  pub others : List Lexeme
+  pub parts : Strings
+  pub bytes : List ℕ
+  pub split : before ≡ front ++ keyword ∷ others
+  pub keyword_is : IsKeyword keyword.token
+  pub others_are : all_tokens others ≡ texts parts
+  pub text : x.token ≡ Text bytes
+  pub four : Contains bytes 4
+  pub line_is : line ≡ keyword.line
+
+-- x is a number behind an opening bracket, where an index stands
+pub record IsIndexPlace (before : List Lexeme) (x : Lexeme) : Type 0 where
+  pub front : List Lexeme
+  pub bracket : Lexeme
+  pub split : before ≡ front ++ bracket ∷ []
+  pub bracket_is : bracket.token ≡ Open
+  pub number : IsNumber x.token
+
+-- what is wrong with x behind these, and on which line
+abbrev pub ClosesBy : PoKind → List Lexeme → Lexeme → ℕ → Type 0
+ClosesBy BadText before x line = PutsFour before x line
+ClosesBy BadIndex before x line = IsIndexPlace before x × (line ≡ x.line)
+ClosesBy BadOrder before x line = ((n : ℕ) → ¬ PutsFour before x n) × ¬ IsIndexPlace before x × (line ≡ x.line)
+ClosesBy _ before x line = ⊥
+
+-- x is the first lexeme with which the list stops being open
+pub record ClosesAt (found : List Lexeme) (kind : PoKind) (line : ℕ) : Type 0 where
+  pub before : List Lexeme
+  pub x : Lexeme
+  pub after : List Lexeme
+  pub split : found ≡ before ++ x ∷ after
+  pub open_before : IsOpenList (all_tokens before)
+  pub closed : ¬ IsOpenList (all_tokens (before ++ x ∷ []))
+  pub how : ClosesBy kind before x line
+
+-- the list is open to the end and derives nothing; x is its last lexeme
+pub record EndsEarly (found : List Lexeme) (line : ℕ) : Type 0 where
+  pub before : List Lexeme
+  pub x : Lexeme
+  pub split : found ≡ before ++ x ∷ []
+  pub still_open : IsOpenList (all_tokens found)
+  pub underived : (entries : List Entry) → ¬ Derives found entries
+  pub line_is : line ≡ x.line

@@ -1,0 +1,13 @@
+pub mod Faults
+pub mod Chain
+pub mod Spelling
+pub mod Entries
+pub mod Places
+pub mod Building
+pub mod Lexing
+pub mod Outcome
+pub mod Lawful
+pub mod Buffers
+pub mod Parsing
+pub mod Progress
+pub mod Views

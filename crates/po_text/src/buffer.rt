@@ -1,0 +1,274 @@
+// An entry in buffers that are used again.
+ghost use Rattle.std.specs.Prelude.{◌≡◌, ℕ, ◌+◌, ◌-◌, ◌<◌, ◌≤◌, [], drop, length, take, OnOk, IfOk, Some, map, slice_get, slice_index, string_bytes};
+ghost use Rattle.std.specs.Option.{option_map};
+ghost use Rattle.std.specs.Str.{IsUtf8};
+ghost use Rattle.po_text.specs.Building.{begin, draft_of, first_or, put, put_text, some_if};
+ghost use Rattle.po_text.specs.Entries.{no_entry};
+ghost use Rattle.po_text.specs.Lawful.{IsLawfulTexts};
+ghost use Rattle.po_text.specs.Lexing.{token_view};
+ghost use Rattle.po_text.specs.Places.{place_view};
+ghost use Rattle.po_text.specs.Spelling.{IsLawful};
+ghost use Rattle.po_text.specs.Views.{entry_view};
+
+use crate::entry::PoEntry;
+use crate::flags::Flags;
+use crate::lexer::Token;
+use crate::places::Place;
+use std::alloc::{AllocError, Global};
+use std::marker::Model;
+
+/// An entry in buffers that are used again, so that reading one allocates only where it is larger
+/// than those before it. Its forms stand one behind the other.
+///
+/// Contracts see the entry. Its texts are always UTF-8 without NUL, and its context and msgid have
+/// no byte 4; they are lent.
+#[derive(Drop)]
+pub struct EntryBuffer {
+    line: u32,
+    flags: Flags,
+    has_context: bool,
+    context: Vec<u8>,
+    id: Vec<u8>,
+    has_plural: bool,
+    plural: Vec<u8>,
+    forms: Vec<u8>,
+    starts: Vec<usize>,
+}
+
+impl Model for EntryBuffer {
+    ghost use Rattle.po_text.specs.Entries.{Entry};
+
+    ghost Value = { Entry };
+
+    ghost use Rattle.po_text.specs.Buffers.{IsKept, entry_in};
+
+    ghost view = { entry_in };
+
+    ghost invariant = { IsKept };
+}
+
+/// These bytes as a text.
+fn text_of(bytes: &[u8]) -> &str
+    requires { IsUtf8 bytes.now }
+    ensures { result.now ≡ bytes.now }
+{
+    unsafe { str::from_utf8_unchecked(bytes) }
+}
+
+/// The text between two places of these bytes.
+fn text_between(bytes: &[u8], start: usize, end: usize) -> &str
+    requires rises { start ≤ end }
+    requires within { end ≤ length bytes.now }
+    requires utf8 { IsUtf8 (take (end - start) (drop start bytes.now)) }
+    ensures { result.now ≡ take (end - start) (drop start bytes.now) }
+{
+    text_of(&bytes[start..end])
+}
+
+/// Where a form ends that is followed by these: where the next one starts, or at the end.
+fn form_end(later: &[usize], end: usize) -> usize
+    ensures { result ≡ first_or later.now end }
+{
+    match later {
+        [] => end,
+        [next, ..] => *next,
+    }
+}
+
+/// Where the form with this index starts and ends.
+fn form_bounds(starts: &[usize], end: usize, k: usize) -> (usize, usize)
+    requires { k < length starts.now }
+    ensures start { result.0 ≡ slice_index starts.now k }
+    ensures end { result.1 ≡ first_or (drop (k + 1) starts.now) end }
+{
+    (starts[k], form_end(&starts[k + 1..], end))
+}
+
+/// A string of its own for a text, if there is one.
+fn copy_of(alloc: Global, text: Option<&str>) -> Result<Option<String>, AllocError>
+    ensures { IfOk result (λ copy.
+        option_map (λ s. string_bytes s) copy ≡ option_map (λ s. s.now) text.entry) }
+{
+    match text {
+        Some(text) => {
+            let copy = String::from_str(alloc, text)?;
+            Ok(Some(copy))
+        }
+        None => Ok(None),
+    }
+}
+
+impl EntryBuffer {
+    ghost use Rattle.po_text.specs.Buffers.{CanAdd, CanAddText};
+
+    /// Buffers without an entry. Nothing is allocated.
+    pub fn new(alloc: Global) -> EntryBuffer
+        ensures { result ≡ no_entry }
+    {
+        EntryBuffer {
+            line: 0,
+            flags: Flags::NONE,
+            has_context: false,
+            context: Vec::new(alloc),
+            id: Vec::new(alloc),
+            has_plural: false,
+            plural: Vec::new(alloc),
+            forms: Vec::new(alloc),
+            starts: Vec::new(alloc),
+        }
+    }
+
+    /// The line of the entry's first keyword, counted from 1.
+    pub fn line(&self) -> u32
+        ensures { result ≡ self.now.line }
+    {
+        self.line
+    }
+
+    /// Whether the entry is flagged `fuzzy`.
+    pub fn is_fuzzy(&self) -> bool
+        ensures { result ≡ self.now.fuzzy }
+    {
+        self.flags.fuzzy
+    }
+
+    /// Whether the entry is flagged `c-format`.
+    pub fn is_c_format(&self) -> bool
+        ensures { result ≡ self.now.c_format }
+    {
+        self.flags.c_format
+    }
+
+    /// The entry's `msgctxt`, if it has one.
+    pub fn context(&self) -> Option<&str>
+        ensures { option_map (λ text. text.now) result ≡ self.now.context }
+    {
+        if self.has_context {
+            Some(text_of(&self.context))
+        } else {
+            None
+        }
+    }
+
+    /// The entry's `msgid`.
+    pub fn id(&self) -> &str
+        ensures { result.now ≡ self.now.id }
+    {
+        text_of(&self.id)
+    }
+
+    /// The entry's `msgid_plural`, if it has one.
+    pub fn plural(&self) -> Option<&str>
+        ensures { option_map (λ text. text.now) result ≡ self.now.plural }
+    {
+        if self.has_plural {
+            Some(text_of(&self.plural))
+        } else {
+            None
+        }
+    }
+
+    /// How many forms the entry has.
+    pub fn form_count(&self) -> usize
+        ensures count { result ≡ length self.now.forms }
+
+        // The texts are UTF-8 without NUL, and a context and a msgid have no byte 4.
+        ensures lawful { IsLawfulTexts self.now }
+    {
+        self.starts.len()
+    }
+
+    /// The form with this index.
+    pub fn form(&self, k: usize) -> &str
+        requires { k < length self.now.forms }
+        ensures { slice_get self.now.forms k ≡ Some result.now }
+    {
+        let (start, end) = form_bounds(&self.starts, self.forms.len(), k);
+        text_between(&self.forms, start, end)
+    }
+
+    /// The entry in strings of its own.
+    pub fn to_entry(&self, alloc: Global) -> Result<PoEntry, AllocError>
+        ensures { IfOk result (λ entry. entry_view entry ≡ self.now) }
+    {
+        let context = copy_of(alloc, self.context())?;
+        let id = String::from_str(alloc, self.id())?;
+        let plural = copy_of(alloc, self.plural())?;
+        let forms = self.copy_forms(alloc)?;
+        Ok(PoEntry {
+            line: self.line(),
+            fuzzy: self.is_fuzzy(),
+            c_format: self.is_c_format(),
+            context,
+            id,
+            plural,
+            forms,
+        })
+    }
+
+    /// A string of its own for each form.
+    fn copy_forms(&self, alloc: Global) -> Result<Vec<String>, AllocError>
+        ensures { IfOk result (λ forms.
+            map (λ form. string_bytes form) forms.items ≡ self.now.forms) }
+    {
+        let count = self.form_count();
+        let mut forms = Vec::with_capacity(alloc, count)?;
+        'forms: for k in 0..count {
+            let form = String::from_str(alloc, self.form(k))?;
+            forms.push(form)?;
+        }
+        Ok(forms)
+    }
+
+    /// Begins an entry whose opening keyword stands at this line.
+    pub(crate) fn begin(&mut self, line: u32, flags: Flags, has_context: bool)
+        ensures { draft_of self.new ≡ begin line flags (some_if has_context []) }
+    {
+        self.line = line;
+        self.flags = flags;
+        self.has_context = has_context;
+        self.context.clear();
+        self.id.clear();
+        self.has_plural = false;
+        self.plural.clear();
+        self.forms.clear();
+        self.starts.clear();
+    }
+
+    /// Adds a string, by the place behind which it stands.
+    fn put_text(&mut self, place: Place, bytes: &[u8]) -> Result<(), AllocError>
+        requires lawful { IsLawful bytes.now }
+        requires stands { (k : ℕ) → CanAddText (place_view place k) bytes.now (draft_of self.old) }
+        ensures { (k : ℕ) → OnOk result
+            (draft_of self.new ≡ put_text (place_view place k) bytes.now (draft_of self.old)) }
+    {
+        match place {
+            Place::ContextWord | Place::ContextText => self.context.extend_from_slice(bytes),
+            Place::IdWord | Place::IdText => self.id.extend_from_slice(bytes),
+            Place::PluralWord | Place::PluralText => self.plural.extend_from_slice(bytes),
+            _ => self.forms.extend_from_slice(bytes),
+        }
+    }
+
+    /// Adds a token that opens no entry.
+    pub(crate) fn put(&mut self, place: Place, token: Token, bytes: &[u8]) -> Result<(), AllocError>
+        requires { (k : ℕ) →
+            CanAdd (token_view token bytes.now) (place_view place k) (draft_of self.old) }
+        ensures { (k : ℕ) → OnOk result (draft_of self.new
+            ≡ put (token_view token bytes.now) (place_view place k) (draft_of self.old)) }
+    {
+        match token {
+            Token::Text => self.put_text(place, bytes),
+            Token::Plural => {
+                self.has_plural = true;
+                self.plural.clear();
+                Ok(())
+            }
+            Token::Str => {
+                self.starts.push(self.forms.len())?;
+                Ok(())
+            }
+            _ => Ok(()),
+        }
+    }
+}

@@ -1,0 +1,100 @@
+// Why a text is refused.
+ghost use Rattle.std.specs.Prelude.{◌≡◌};
+ghost use Rattle.po_text.specs.Faults.{fault_on, out_of_memory};
+ghost use Rattle.po_text.specs.declared.fault.PoKind.TheVariants.{Memory};
+
+use std::alloc::{AllocError, AllocFailed};
+use thiserror::Error;
+
+/// What is wrong with a text.
+#[derive(Clone, Copy, Debug, PartialEq, Eq, Error)]
+pub enum PoKind {
+    /// The text has more than 67,108,864 bytes.
+    #[error("file too large")]
+    TooLarge,
+    /// The text isn't UTF-8.
+    #[error("not UTF-8")]
+    NotUtf8,
+    /// A backslash in a string begins no escape, or an octal escape is above 255.
+    #[error("bad escape")]
+    BadEscape,
+    /// A line or the text ends inside a string.
+    #[error("string not closed")]
+    OpenString,
+    /// A word is neither a keyword nor a number, or a byte can begin no token.
+    #[error("unknown word")]
+    BadWord,
+    /// A string holds NUL or isn't UTF-8, or a context or msgid holds byte 4.
+    #[error("bad text")]
+    BadText,
+    /// A token can't stand at its place, or the text ends too early.
+    #[error("out of order")]
+    BadOrder,
+    /// The index of a plural form isn't the next one.
+    #[error("wrong plural index")]
+    BadIndex,
+    /// Memory was refused. This says nothing of the text.
+    #[error("out of memory")]
+    Memory,
+}
+
+impl From<AllocError> for PoKind {
+    ghost from_gives = { λ _ e. e ≡ Memory };
+
+    fn from(_error: AllocError) -> PoKind {
+        PoKind::Memory
+    }
+}
+
+impl<T: Drop> From<AllocFailed<T>> for PoKind {
+    ghost from_gives = { λ _ e. e ≡ Memory };
+
+    fn from(_error: AllocFailed<T>) -> PoKind {
+        PoKind::Memory
+    }
+}
+
+/// What is wrong with a text, and in which line, counted from 1. The line is 0 for a text that is
+/// too large and for want of memory.
+#[derive(Clone, Copy, Debug, PartialEq, Eq, Error)]
+#[error("line {line}: {kind}")]
+pub struct PoFault {
+    /// What is wrong.
+    pub kind: PoKind,
+    /// The line where it stands.
+    pub line: u32,
+}
+
+impl PoFault {
+    /// A fault on this line. Want of memory has no line.
+    pub(crate) fn new(kind: PoKind, line: u32) -> PoFault
+        ensures { result ≡ fault_on kind line }
+    {
+        match kind {
+            PoKind::Memory => PoFault { kind, line: 0 },
+            _ => PoFault { kind, line },
+        }
+    }
+}
+
+impl From<AllocError> for PoFault {
+    ghost from_gives = { λ _ e. e ≡ out_of_memory };
+
+    fn from(_error: AllocError) -> PoFault {
+        PoFault {
+            kind: PoKind::Memory,
+            line: 0,
+        }
+    }
+}
+
+impl<T: Drop> From<AllocFailed<T>> for PoFault {
+    ghost from_gives = { λ _ e. e ≡ out_of_memory };
+
+    fn from(_error: AllocFailed<T>) -> PoFault {
+        PoFault {
+            kind: PoKind::Memory,
+            line: 0,
+        }
+    }
+}

@@ -1,0 +1,87 @@
+// The flags of an entry, and how comments set them.
+ghost use Rattle.std.specs.Prelude.{◌≡◌, ◌∷◌, []};
+ghost use Rattle.std.specs.List.{filter_map, prefix_len, slice_split};
+ghost use Rattle.po_text.specs.Building.{flags_over};
+ghost use Rattle.po_text.specs.Lexing.{is_no_separator};
+ghost use Rattle.po_text.specs.Spelling.{comment_marks, flag_mark, is_separator};
+
+use crate::scan::{is_white_byte, split_byte};
+
+/// The flags of an entry.
+#[derive(Clone, Copy, Debug, PartialEq, Eq)]
+pub(crate) struct Flags {
+    pub(crate) fuzzy: bool,
+    pub(crate) c_format: bool,
+}
+
+impl Flags {
+    pub(crate) const NONE: Flags = Flags {
+        fuzzy: false,
+        c_format: false,
+    };
+}
+
+fn is_separator_byte(byte: u8) -> bool
+    ensures { result ≡ is_separator byte }
+{
+    byte == b',' || is_white_byte(byte)
+}
+
+/// The longest front without a separator.
+#[tactic(auto, using(std::proofs::lemmas::List::Sums::prefix_len_is))]
+fn flag_len(words: &[u8]) -> usize
+    ensures { result ≡ prefix_len is_no_separator words.now }
+{
+    for (i, byte) in words.iter().enumerate() {
+        if is_separator_byte(*byte) {
+            return i;
+        }
+    }
+    words.len()
+}
+
+/// The flags after one word of a flag line.
+fn flag_word(word: &[u8], flags: Flags) -> Flags
+    ensures { result ≡ flags_over flags (filter_map flag_mark (word.now ∷ [])) }
+{
+    if word == b"fuzzy".as_slice() {
+        Flags {
+            fuzzy: true,
+            ..flags
+        }
+    } else if word == b"c-format".as_slice() {
+        Flags {
+            c_format: true,
+            ..flags
+        }
+    } else {
+        flags
+    }
+}
+
+/// The flags after the words of a flag line.
+fn flag_words(words: &[u8], flags: Flags) -> Flags
+    ensures { result ≡ flags_over flags (filter_map flag_mark (slice_split is_separator words.now)) }
+{
+    let mut flags = flags;
+    let mut rest = words;
+    'words: loop {
+        let (word, after) = rest.split_at(flag_len(rest));
+        flags = flag_word(word, flags);
+        let Some((_, later)) = split_byte(after) else {
+            return flags
+        };
+        rest = later;
+    }
+}
+
+/// The flags after a comment, by what stands after its `#`.
+pub(crate) fn comment_flags(comment: &[u8], flags: Flags) -> Flags
+    ensures { result ≡ flags_over flags (comment_marks comment.now) }
+{
+    match split_byte(comment) {
+        Some((b',', words)) => flag_words(words, flags),
+        Some((b'~', _)) => Flags::NONE,
+        _ => flags,
+    }
+}

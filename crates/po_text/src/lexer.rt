@@ -1,0 +1,237 @@
+// Tokens, one after another, and the gaps before them.
+ghost use Rattle.std.specs.Prelude.{◌≡◌, ℕ, ◌+◌, ◌-◌, ◌*◌, ◌<◌, ◌≤◌, ◌^◌, ◌↔◌, ◌⊎◌, ◌++◌, ◌∷◌, [], List, Bool, length, IfOk, IfErr, IfSome, IsTrue, MatchOption};
+ghost use Rattle.std.specs.List.{filter_map, prefix_len, slice_split, take_while};
+ghost use Rattle.po_text.specs.Building.{flags_over};
+ghost use Rattle.po_text.specs.Lexing.{is_no_separator};
+ghost use Rattle.po_text.specs.Spelling.{comment_marks, flag_mark, is_separator, is_white, is_word_byte, is_not_line_end, word_token, number_of, IsLawful, PieceAt, Word, Quoted, FaultAt};
+ghost use Rattle.po_text.specs.Spelling as spec;
+ghost use Rattle.po_text.specs.Lexing.{word_view, token_view, IsLawfulToken, StopsGap, TakesToken, HasNext, HasEnd, HasFaultFrom};
+ghost use Rattle.po_text.specs.Faults.{out_of_memory};
+ghost use Rattle.po_text.specs.declared.fault.PoKind.TheVariants.{BadWord, Memory};
+
+use crate::fault::{PoFault, PoKind};
+use crate::flags::{Flags, comment_flags};
+use crate::scan::{is_white_byte, split_byte, split_line};
+use crate::units::read_units;
+use simdutf8::is_utf8;
+
+/// A token; the bytes of a string stand apart.
+#[derive(Clone, Copy, Debug, PartialEq, Eq)]
+pub(crate) enum Token {
+    Context,
+    Id,
+    Plural,
+    Str,
+    Number(u32),
+    Open,
+    Close,
+    Text,
+}
+
+/// A text from some place on, with the flags collected since the last opening keyword.
+#[derive(Drop)]
+pub(crate) struct Lexer<'a> {
+    pub(crate) rest: &'a [u8],
+    pub(crate) line: u32,
+    pub(crate) flags: Flags,
+}
+
+fn is_letter_digit(byte: u8) -> bool
+    ensures { result ≡ is_word_byte byte }
+{
+    byte.is_ascii_alphanumeric() || byte == b'_'
+}
+
+/// The longest word at the front, perhaps empty, and the rest.
+#[tactic(auto, using(std::proofs::lemmas::List::Sums::prefix_len_is))]
+fn word_len(text: &[u8]) -> usize
+    ensures { result ≡ prefix_len is_word_byte text.now }
+{
+    for (i, byte) in text.iter().enumerate() {
+        if !is_letter_digit(*byte) {
+            return i;
+        }
+    }
+    text.len()
+}
+
+/// The number that a word of digits is.
+fn number(word: &[u8]) -> Option<Token>
+    ensures { (bytes : List ℕ) → word_view result bytes ≡ number_of word.now }
+{
+    if word.is_empty() || 9 < word.len() {
+        return None;
+    }
+    let mut value: u32 = 0;
+    for digit in word {
+        if !digit.is_ascii_digit() {
+            return None;
+        }
+        value = value * 10 + u32::from(*digit - b'0');
+    }
+    Some(Token::Number(value))
+}
+
+/// The token that a word is.
+fn token_of(word: &[u8]) -> Option<Token>
+    ensures { (bytes : List ℕ) → word_view result bytes ≡ word_token word.now }
+{
+    if word == b"msgctxt".as_slice() {
+        Some(Token::Context)
+    } else if word == b"msgid".as_slice() {
+        Some(Token::Id)
+    } else if word == b"msgid_plural".as_slice() {
+        Some(Token::Plural)
+    } else if word == b"msgstr".as_slice() {
+        Some(Token::Str)
+    } else {
+        number(word)
+    }
+}
+
+/// Whether a string may hold these bytes.
+fn is_lawful(bytes: &[u8]) -> bool
+    ensures { IsTrue result ↔ IsLawful bytes.now }
+{
+    !bytes.contains(&0) && is_utf8(bytes)
+}
+
+/// Reads the word at the front.
+fn read_word(text: &[u8]) -> Result<(Token, &[u8]), PoKind>
+    ensures ok { IfOk result (λ x. (token : spec.Token)
+        × PieceAt (Word (take_while is_word_byte text.now) token) text.now x.1.now
+        × ((bytes : List ℕ) → token_view x.0 bytes ≡ token)) }
+    ensures shorter { IfOk result (λ x. length x.1.now < length text.now) }
+    ensures err { IfErr result (λ kind.
+        (kind ≡ BadWord) × (word_token (take_while is_word_byte text.now) ≡ None)) }
+{
+    let (word, rest) = text.split_at(word_len(text));
+    if word.is_empty() {
+        return Err(PoKind::BadWord);
+    }
+    match token_of(word) {
+        Some(token) => Ok((token, rest)),
+        None => Err(PoKind::BadWord),
+    }
+}
+
+/// Reads the string behind an opening quote.
+fn read_string<'a>(inner: &'a [u8], bytes: &mut Vec<u8>) -> Result<&'a [u8], PoKind>
+    ensures ok { IfOk result (λ rest. PieceAt (Quoted bytes.new.items) (34 ∷ inner.now) rest.now) }
+    ensures shorter { IfOk result (λ rest. length rest.now < length inner.now) }
+    ensures err { IfErr result (λ kind. (kind ≡ Memory) ⊎ FaultAt kind (34 ∷ inner.now)) }
+{
+    bytes.clear();
+    let rest = read_units(inner, bytes)?;
+    if !is_lawful(bytes) {
+        return Err(PoKind::BadText);
+    }
+    Ok(rest)
+}
+
+/// Reads the token at the front.
+fn read_token<'a>(text: &'a [u8], bytes: &mut Vec<u8>) -> Result<(Token, &'a [u8]), PoKind>
+    requires some { 0 < length text.now }
+    requires no_gap { StopsGap text.now }
+    ensures ok { IfOk result (λ x. TakesToken x.0 bytes.new.items text.now x.1.now) }
+    ensures lawful { IfOk result (λ x. IsLawfulToken (token_view x.0 bytes.new.items)) }
+    ensures shorter { IfOk result (λ x. length x.1.now < length text.now) }
+    ensures err { IfErr result (λ kind. (kind ≡ Memory) ⊎ FaultAt kind text.now) }
+{
+    let Some((byte, later)) = split_byte(text) else {
+        unreachable!()
+    };
+    if byte == b'"' {
+        let rest = read_string(later, bytes)?;
+        Ok((Token::Text, rest))
+    } else if byte == b'[' {
+        Ok((Token::Open, later))
+    } else if byte == b']' {
+        Ok((Token::Close, later))
+    } else {
+        read_word(text)
+    }
+}
+
+impl<'a> Lexer<'a> {
+    ghost use Rattle.po_text.specs.Building.{no_flags};
+    ghost use Rattle.po_text.specs.Lexing.{TakesGap, TakesLexemes};
+    ghost use Rattle.po_text.specs.Spelling.{HasFault, Lexeme, Spells};
+
+    /// A lexer at the front of a text.
+    pub(crate) fn new(text: &'a [u8]) -> Lexer<'a>
+        ensures rest { result.rest.now ≡ text.now }
+        ensures line { result.line ≡ 1 }
+        ensures flags { result.flags ≡ no_flags }
+    {
+        Lexer {
+            rest: text,
+            line: 1,
+            flags: Flags::NONE,
+        }
+    }
+
+    /// Skips white space and comments.
+    fn skip_gap(&mut self)
+        requires { self.old.line + length self.old.rest.now < 2 ^ 32 }
+        ensures gap { TakesGap self.old.flags self.old.line self.old.rest.now self.new.flags self.new.line self.new.rest.now }
+        ensures stops { StopsGap self.new.rest.now }
+    {
+        'gap: while let Some((byte, later)) = split_byte(self.rest) {
+            if byte == b'\n' {
+                self.line += 1;
+                self.rest = later;
+            } else if is_white_byte(byte) {
+                self.rest = later;
+            } else if byte == b'#' {
+                let (comment, after) = split_line(later);
+                self.flags = comment_flags(comment, self.flags);
+                self.rest = after;
+            } else {
+                return;
+            }
+        }
+    }
+
+    /// Reads the next token behind a gap, with `line` its line; None at the end.
+    pub(crate) fn next_token(&mut self, bytes: &mut Vec<u8>) -> Result<Option<Token>, PoFault>
+        requires { self.old.line + length self.old.rest.now < 2 ^ 32 }
+        ensures next { IfOk result (λ found. MatchOption found
+            (HasEnd self.old.flags self.old.line self.old.rest.now)
+            (λ token. HasNext token bytes.new.items self.old.flags self.old.line self.old.rest.now
+            self.new.flags self.new.line self.new.rest.now)) }
+        ensures lawful { IfOk result (λ found.
+            IfSome found (λ token. IsLawfulToken (token_view token bytes.new.items))) }
+        ensures room { IfOk result (λ _. self.new.line + length self.new.rest.now ≤ self.old.line + length self.old.rest.now) }
+        ensures falls { IfOk result (λ _. length self.new.rest.now ≤ length self.old.rest.now) }
+        ensures err { IfErr result (λ fault. (fault ≡ out_of_memory)
+            ⊎ HasFaultFrom self.old.flags self.old.line self.old.rest.now fault.kind fault.line) }
+    {
+        self.skip_gap();
+        if self.rest.is_empty() {
+            return Ok(None);
+        }
+        match read_token(self.rest, bytes) {
+            Ok((token, rest)) => {
+                self.rest = rest;
+                Ok(Some(token))
+            }
+            Err(kind) => Err(PoFault::new(kind, self.line)),
+        }
+    }
+
+    /// Reads all tokens up to the end.
+    pub(crate) fn skip_tokens(&mut self, bytes: &mut Vec<u8>) -> Result<(), PoFault>
+        requires { self.old.line + length self.old.rest.now < 2 ^ 32 }
+        ensures ok { IfOk result (λ _. (text : List ℕ) (found : List Lexeme) →
+            TakesLexemes found 1 text self.old.line self.old.rest.now
+            → (more : List Lexeme) × Spells text (found ++ more)) }
+        ensures err { IfErr result (λ fault. (fault ≡ out_of_memory)
+            ⊎ ((text : List ℕ) (found : List Lexeme) →
+            TakesLexemes found 1 text self.old.line self.old.rest.now
+            → HasFault text fault.kind fault.line)) }
+    {
+        'tokens: while let Some(_) = self.next_token(bytes)? {}
+        Ok(())
+    }
+}

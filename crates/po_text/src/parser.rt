@@ -1,0 +1,206 @@
+// Entries, put together from one token after another.
+ghost use Rattle.std.specs.Prelude.{◌≡◌, ℕ, ◌+◌, ◌<◌, ◌≤◌, ◌^◌, ◌⊎◌, [], List, length, IfOk, IfErr, Some, true};
+ghost use Rattle.std.specs.Bool.{OnTrue};
+ghost use Rattle.po_text.specs.declared.fault.PoKind.TheVariants.{BadOrder};
+ghost use Rattle.po_text.specs.Lexing.{token_view, IsLawfulToken};
+ghost use Rattle.po_text.specs.Places.{place_view, next_count, step, IsBoundary};
+ghost use Rattle.po_text.specs.Faults.{out_of_memory};
+ghost use Rattle.po_text.specs.Entries.{Entry};
+ghost use Rattle.po_text.specs.Building.{Draft, draft_of, keyword_line};
+ghost use Rattle.po_text.specs.Buffers.{HasForm};
+ghost use Rattle.po_text.specs.Outcome.{IsFaulty};
+ghost use Rattle.po_text.specs.Parsing.{is_context_word, StartTest, refusal};
+
+use crate::buffer::EntryBuffer;
+use crate::fault::{PoFault, PoKind};
+use crate::flags::Flags;
+use crate::lexer::{Lexer, Token};
+use crate::places::{Place, forms_after, next_place, opens_entry};
+use std::alloc::{AllocError, Global};
+
+/// A text whose entries are put together one after another. Between two of them the opening keyword
+/// of the next one was read.
+#[derive(Drop)]
+pub(crate) struct Parser<'a> {
+    lexer: Lexer<'a>,
+    /// The bytes of the string that was read last.
+    bytes: Vec<u8>,
+    /// What was read last.
+    place: Place,
+    /// How many plural forms of the entry are complete.
+    count: u32,
+    /// The line of the entry's opening keyword.
+    line: u32,
+    /// The flags of the entry.
+    entry_flags: Flags,
+    /// The line of the last `msgctxt` or `msgid`.
+    keyword_line: u32,
+    /// Whether the text has ended.
+    finished: bool,
+}
+
+fn is_context(place: Place) -> bool
+    ensures { result ≡ is_context_word place }
+{
+    matches!(place, Place::ContextWord)
+}
+
+fn is_start(place: Place) -> bool
+    ensures { (k : ℕ) → StartTest result (place_view place k) }
+{
+    matches!(place, Place::Start)
+}
+
+/// The line of the last keyword of a context or a msgid.
+fn keyword_after(token: Token, line: u32, old: u32) -> u32
+    ensures { (bytes : List ℕ) → result ≡ keyword_line (token_view token bytes) line old }
+{
+    match token {
+        Token::Id => line,
+        _ => old,
+    }
+}
+
+/// The fault at a token that can't stand at the place.
+fn refusal_of(place: Place, token: Token, line: u32, keyword_line: u32) -> PoFault
+    ensures { (bytes : List ℕ) (k : ℕ) →
+        result ≡ refusal (token_view token bytes) (place_view place k) line keyword_line }
+{
+    match (token, place) {
+        (Token::Text, Place::ContextWord | Place::ContextText | Place::IdWord | Place::IdText) =>
+            PoFault::new(PoKind::BadText, keyword_line),
+        (Token::Number(_), Place::IndexNumber) => PoFault::new(PoKind::BadIndex, line),
+        _ => PoFault::new(PoKind::BadOrder, line),
+    }
+}
+
+impl<'a> Parser<'a> {
+    ghost use Rattle.po_text.specs.Parsing.{HasParsed, IsReady, TakesToken, KeepsForm, EndsRight, ParsesOn, Refused, left_in};
+
+    /// A parser at the front of a text.
+    pub(crate) fn new(alloc: Global, text: &'a [u8]) -> Parser<'a>
+        requires { length text.now + 1 < 2 ^ 32 }
+        ensures read { HasParsed text.now [] result }
+        ensures ready { IsReady result }
+    {
+        Parser {
+            lexer: Lexer::new(text),
+            bytes: Vec::new(alloc),
+            place: Place::Start,
+            count: 0,
+            line: 0,
+            entry_flags: Flags::NONE,
+            keyword_line: 0,
+            finished: false,
+        }
+    }
+
+    /// Takes a token that may stand here and leads to `place`; true where it opens the next entry.
+    fn take(
+        &mut self,
+        token: Token,
+        place: Place,
+        into: &mut EntryBuffer,
+    ) -> Result<bool, AllocError>
+        requires room { self.old.count + 1 < 2 ^ 32 }
+        requires lawful { IsLawfulToken (token_view token self.old.bytes.items) }
+        requires form { HasForm (place_view self.old.place self.old.count) (draft_of into.old) }
+        requires stands { step (place_view self.old.place self.old.count) (token_view token self.old.bytes.items)
+            ≡ Some (place_view place (next_count self.old.place token self.old.count)) }
+        ensures rest { self.new.lexer.rest.now ≡ self.old.lexer.rest.now }
+        ensures line { self.new.lexer.line ≡ self.old.lexer.line }
+        ensures count { self.new.count ≤ self.old.count + 1 }
+        ensures finished { self.new.finished ≡ self.old.finished }
+        ensures form { IfOk result (λ opened. KeepsForm opened self.new into.new) }
+        ensures taken { IfOk result (λ opened. (done : List Draft) →
+            TakesToken opened done (token_view token self.old.bytes.items) self.old.lexer.line
+            self.old into.old self.new into.new) }
+    {
+        let before = self.place;
+        self.place = place;
+        if !opens_entry(before, token) {
+            into.put(before, token, &self.bytes)?;
+            self.count = forms_after(before, token, self.count);
+            self.keyword_line = keyword_after(token, self.lexer.line, self.keyword_line);
+            return Ok(false);
+        }
+        self.line = self.lexer.line;
+        self.entry_flags = self.lexer.flags;
+        self.keyword_line = self.lexer.line;
+        self.lexer.flags = Flags::NONE;
+        if is_start(before) {
+            into.begin(self.line, self.entry_flags, is_context(place));
+            return Ok(false);
+        }
+        Ok(true)
+    }
+
+    /// At the end of the text: whether an entry ended there.
+    fn end(&mut self, last: u32) -> Result<bool, PoFault>
+        ensures right { IfOk result (λ ended. EndsRight ended self.old) }
+        ensures finished { IfOk result (λ _. self.new.finished ≡ true) }
+        ensures fault { IfErr result (λ fault.
+            (¬ IsBoundary (place_view self.old.place self.old.count))
+            × (fault.kind ≡ BadOrder) × (fault.line ≡ last)) }
+        ensures rest { self.new.lexer.rest.now ≡ self.old.lexer.rest.now }
+        ensures line { self.new.lexer.line ≡ self.old.lexer.line }
+        ensures count { self.new.count ≡ self.old.count }
+    {
+        match self.place {
+            Place::Start => {
+                self.finished = true;
+                Ok(false)
+            }
+            Place::FormText | Place::IndexedText => {
+                self.finished = true;
+                Ok(true)
+            }
+            _ => Err(PoFault::new(PoKind::BadOrder, last)),
+        }
+    }
+
+    /// The fault of a text whose token, read last, can't stand here: that of grammar, or a later lexical one.
+    fn refuse(&mut self, token: Token) -> PoFault
+        requires { self.old.lexer.line + length self.old.lexer.rest.now < 2 ^ 32 }
+        ensures { (result ≡ out_of_memory) ⊎ ((text : List ℕ) →
+            Refused text self.old.lexer.line self.old.lexer.rest.now
+            (place_view self.old.place self.old.count) self.old.keyword_line
+            (token_view token self.old.bytes.items)
+            → IsFaulty text result.kind result.line) }
+    {
+        let fault = refusal_of(self.place, token, self.lexer.line, self.keyword_line);
+        match self.lexer.skip_tokens(&mut self.bytes) {
+            Ok(()) => fault,
+            Err(lexical) => lexical,
+        }
+    }
+
+    /// Reads the next entry into the buffers; false where there is none.
+    pub(crate) fn next_entry(&mut self, into: &mut EntryBuffer) -> Result<bool, PoFault>
+        requires { IsReady self.old }
+        ensures read { IfOk result (λ more. (text : List ℕ) (entries : List Entry) →
+            HasParsed text entries self.old → ParsesOn more text entries into.new self.new) }
+        ensures falls { IfOk result (λ more. OnTrue more (left_in self.new < left_in self.old)) }
+        ensures ready { IfOk result (λ _. IsReady self.new) }
+        ensures fault { IfErr result (λ fault. (fault ≡ out_of_memory)
+            ⊎ ((text : List ℕ) (entries : List Entry) →
+            HasParsed text entries self.old → IsFaulty text fault.kind fault.line)) }
+    {
+        if self.finished {
+            return Ok(false);
+        }
+        into.begin(self.line, self.entry_flags, is_context(self.place));
+        'tokens: loop {
+            let last = self.lexer.line;
+            let Some(token) = self.lexer.next_token(&mut self.bytes)? else {
+                return self.end(last)
+            };
+            let Some(place) = next_place(self.place, token, self.count, &self.bytes) else {
+                return Err(self.refuse(token))
+            };
+            if self.take(token, place, into)? {
+                return Ok(true);
+            }
+        }
+    }
+}

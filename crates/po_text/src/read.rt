@@ -1,0 +1,43 @@
+// All entries of a text.
+ghost use Rattle.std.specs.Prelude.{◌≡◌, ℕ, ◌+◌, ◌<◌, ◌≤◌, ◌⊎◌, List, [], ◌∷◌, ◌++◌, length, map, IfOk, IfErr, slice_get, Some};
+ghost use Rattle.po_text.specs.declared.fault.PoKind.{PoKind as KindOfFault};
+ghost use Rattle.po_text.specs.Faults.{out_of_memory};
+ghost use Rattle.po_text.specs.Entries.{Entry};
+ghost use Rattle.po_text.specs.Outcome.{Gives, Refuses};
+ghost use Rattle.po_text.specs.Views.{entries_view};
+
+use crate::buffer::EntryBuffer;
+use crate::entry::PoEntry;
+use crate::fault::PoFault;
+use crate::open::open_text;
+use std::alloc::Global;
+
+/// Reads all entries of a PO text (the GNU gettext manual, "PO Files"), in their order.
+///
+/// Refuses a text of more than 67,108,864 bytes, one that isn't UTF-8, and else gives the first
+/// fault of a token, or the first fault of the grammar where each token can be read.
+pub fn read_po(alloc: Global, text: &[u8]) -> Result<Vec<PoEntry>, PoFault>
+    ensures ok { IfOk result (λ entries. Gives text.now (entries_view entries.items)) }
+    ensures err { IfErr result (λ fault.
+        (fault ≡ out_of_memory) ⊎ Refuses text.now fault.kind fault.line) }
+{
+    let mut reader = open_text(alloc, text)?;
+    let mut buffer = EntryBuffer::new(alloc);
+    let mut entries = Vec::new(alloc);
+    'entries: while reader.next_entry(&mut buffer)? {
+        let entry = buffer.to_entry(alloc)?;
+        entries.push(entry)?;
+    }
+    Ok(entries)
+}
+
+/// A law, and no code: a text gives one list of entries, or is refused for one kind on one line, and
+/// not both. So what `read_po` answers is exact, but for want of memory.
+pub fn one_outcome()
+    ensures entries { (text : List ℕ) (entries others : List Entry) →
+        Gives text entries → Gives text others → entries ≡ others }
+    ensures fault { (text : List ℕ) (kind other : KindOfFault) (line m : ℕ) →
+        Refuses text kind line → Refuses text other m → (kind ≡ other) × (line ≡ m) }
+    ensures either { (text : List ℕ) (entries : List Entry) (kind : KindOfFault) (line : ℕ) →
+        Gives text entries → ¬ Refuses text kind line }
+{}

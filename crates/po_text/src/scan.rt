@@ -1,0 +1,33 @@
+// White space, and the fronts of slices.
+ghost use Rattle.std.specs.Prelude.{◌≡◌, ◌≤◌, ◌++◌, ◌∷◌, [], length, MatchOption};
+ghost use Rattle.std.specs.List.{take_while};
+ghost use Rattle.po_text.specs.Spelling.{is_white, is_not_line_end};
+
+use bstr::ByteSlice;
+
+/// White space: space, tab, LF, VT, FF or CR.
+pub(crate) fn is_white_byte(byte: u8) -> bool
+    ensures { result ≡ is_white byte }
+{
+    (9 <= byte && byte <= 13) || byte == b' '
+}
+
+/// The first byte and the rest.
+pub(crate) fn split_byte(text: &[u8]) -> Option<(u8, &[u8])>
+    ensures { MatchOption result (text.now ≡ []) (λ x. text.now ≡ x.0 ∷ x.1.now) }
+{
+    match text {
+        [] => None,
+        [byte, rest @ ..] => Some((*byte, rest)),
+    }
+}
+
+/// The bytes before the next LF or the end, and the rest.
+pub(crate) fn split_line(text: &[u8]) -> (&[u8], &[u8])
+    ensures line { result.0.now ≡ take_while is_not_line_end text.now }
+    ensures rest { text.now ≡ result.0.now ++ result.1.now }
+    ensures shorter { length result.1.now ≤ length text.now }
+{
+    let len = text.find_byte(b'\n').unwrap_or(text.len());
+    text.split_at(len)
+}
