@@ -19,3 +19,7 @@ pub mod Compiling
 pub mod FormLists
 pub mod OneMeaning
 pub mod InStrings
+pub mod Originals
+pub mod FileStrings
+pub mod Writing
+pub mod ImageFacts

@@ -2,6 +2,11 @@ pub mod Entry
 pub mod MoFile
 pub mod Map
 pub mod Parts
+pub mod Tables
+pub mod Pairs
+pub mod Image
+pub mod Search
+pub mod Strings
 pub mod Refusal
 pub mod Stored
 pub mod Messages

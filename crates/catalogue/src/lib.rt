@@ -10,14 +10,19 @@ mod drafts;
 mod entry;
 mod fault;
 mod find;
+mod image;
 mod joins;
 mod law;
 mod lookup;
 mod map;
 mod messages;
 mod sorted;
+mod steps;
 #[cfg(test)]
 mod tests;
+#[cfg(test)]
+mod tests_search;
+mod writer;
 
 pub use compiler::{Compiled, Options, Stats, compile};
 pub use entry::{EntryRef, Forms};
@@ -26,3 +31,4 @@ pub use law::one_meaning;
 pub use map::Catalogue;
 pub use messages::EntryStrings;
 pub use sorted::Message;
+pub use steps::Steps;
