@@ -19,3 +19,4 @@ pub mod Compiling
 pub mod FormLists
 pub mod OneMeaning
 pub mod InStrings
+pub mod Accepting

@@ -4,6 +4,7 @@
 //! has besides the msgid_plural of a plural message, and its translated forms.
 #![tactic(auto)]
 
+mod accepts;
 mod collect;
 mod compiler;
 mod drafts;
@@ -11,13 +12,17 @@ mod entry;
 mod fault;
 mod find;
 mod joins;
+mod keys;
 mod law;
 mod lookup;
 mod map;
 mod messages;
+mod sizes;
 mod sorted;
 #[cfg(test)]
 mod tests;
+#[cfg(test)]
+mod tests_accepts;
 
 pub use compiler::{Compiled, Options, Stats, compile};
 pub use entry::{EntryRef, Forms};
