@@ -23,3 +23,4 @@ pub mod Originals
 pub mod FileStrings
 pub mod Writing
 pub mod ImageFacts
+pub mod Accepting

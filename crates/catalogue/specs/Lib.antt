@@ -14,3 +14,5 @@ pub mod Meaning
 pub mod Drafts
 pub mod Value
 pub mod Laws
+pub mod Sizes
+pub mod Accepted

@@ -4,6 +4,7 @@
 //! has besides the msgid_plural of a plural message, and its translated forms.
 #![tactic(auto)]
 
+mod accepts;
 mod collect;
 mod compiler;
 mod drafts;
@@ -12,14 +13,18 @@ mod fault;
 mod find;
 mod image;
 mod joins;
+mod keys;
 mod law;
 mod lookup;
 mod map;
 mod messages;
+mod sizes;
 mod sorted;
 mod steps;
 #[cfg(test)]
 mod tests;
+#[cfg(test)]
+mod tests_accepts;
 #[cfg(test)]
 mod tests_search;
 mod writer;
