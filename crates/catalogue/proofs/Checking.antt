@@ -1,5 +1,5 @@
 -- What the checks find, entry by entry.
-use Rattle.std.proofs.Common.{◌≡◌, ◌≢◌, ℕ, zero, suc, ◌+◌, Bool, true, false, cond, not, List, [], ◌∷◌, ◌++◌, length, take, Option, Some, None, refl, sym, ap, ◌∙◌, subst, append_assoc, append_nil, inl, inr, arith}
+use Rattle.std.proofs.Common.{◌≡◌, ◌≢◌, ℕ, zero, suc, ◌+◌, Bool, true, false, cond, not, List, [], ◌∷◌, ◌++◌, length, take, Option, Some, None, refl, sym, ap, ◌∙◌, subst, append_assoc, append-nil, inl, inr, arith}
 use Rattle.std.specs.Prelude.{◌⊎◌, ◌↔◌, ◌||◌, ◌==◌, IsTrue, IsFalse, slice_get, is_some, option_map}
 use Rattle.std.specs.List.{Any, filter}
 use Rattle.std.proofs.lemmas.Bool.{false≢true, or_cases, eqb-false, ne_eqb, not-true}
@@ -9,8 +9,9 @@ use Rattle.po_text.specs.Entries as po
 use Rattle.c_signature.specs.Agreement.{Agrees}
 use Rattle.c_signature.specs.Signature as signature
 use Rattle.c_signature.specs.declared.Strictness.{Strictness}
+use Rattle.c_signature.specs.declared.Strictness.TheVariants.{Same, Prefix}
 use Rattle.c_signature.proofs.OneOutcome.{lists_one, lists_valid, lists_independent, one_fault}
-use Rattle.catalogue.specs.Checks.{NoneOf, FirstAt, text_if, texts, HasSystemDependentText, format_original, strictness, Differs, FormsDiffer, HasOtherArguments, IsPlural, HasOtherCount, begins_with_newline, ends_with_newline, IsMixed, HasOtherNewlines}
+use Rattle.catalogue.specs.Checks.{NoneOf, FirstAt, text_if, texts, HasSystemDependentText, format_original, original_or, strictness, Differs, FormsDiffer, HasOtherArguments, IsPlural, HasOtherCount, begins_with_newline, ends_with_newline, IsMixed, HasOtherNewlines}
 use Rattle.catalogue.specs.Findings.{FirstLine, first_or, IsReadAs, is_dependent, FormatsDiffer, DiffersFrom, line_for, line_of, HasPlurals, AddsPlural, NewlinesDiffer, AreFound, HasFound, AddsFormats, AddsTexts}
 use Rattle.catalogue.specs.Meaning.{is_kept, kept}
 use Rattle.catalogue.specs.declared.checks.Findings.{Findings}
@@ -24,24 +25,24 @@ use Rattle.catalogue.proofs.FirstLines.{first_more, first_skip, any_head, any_ta
 -- ---- one more entry
 
 kept_skip : (o : Options) (es : List po.Entry) (e : po.Entry) → is_kept o e ≡ false → kept o (es ++ e ∷ []) ≡ kept o es
-kept_skip o es e no = filter-append (is_kept o) es (e ∷ []) ∙ ap (λ b. kept o es ++ cond b (e ∷ []) []) no ∙ append_nil (kept o es)
+kept_skip o es e lacks = filter-append (is_kept o) es (e ∷ []) ∙ ap (λ b. kept o es ++ cond b (e ∷ []) []) lacks ∙ append-nil (kept o es)
 
 kept_more : (o : Options) (es : List po.Entry) (e : po.Entry) → is_kept o e ≡ true → kept o (es ++ e ∷ []) ≡ kept o es ++ e ∷ []
-kept_more o es e yes = filter-append (is_kept o) es (e ∷ []) ∙ ap (λ b. kept o es ++ cond b (e ∷ []) []) yes
+kept_more o es e kept_so = filter-append (is_kept o) es (e ∷ []) ∙ ap (λ b. kept o es ++ cond b (e ∷ []) []) kept_so
 
 pub found_skip : (o : Options) (es : List po.Entry) (e : po.Entry) (f : Findings) → is_kept o e ≡ false → HasFound o es f → HasFound o (es ++ e ∷ []) f
-found_skip o es e f no h = subst (λ (ks : List po.Entry). AreFound o.checked ks f) (sym (kept_skip o es e no)) h
+found_skip o es e f lacks h = subst (λ (ks : List po.Entry). AreFound o.checked ks f) (sym (kept_skip o es e lacks)) h
 
 pub found_formats : (o : Options) (es : List po.Entry) (e : po.Entry) (old new : Findings) → is_kept o e ≡ true → o.checked ≡ false → AddsFormats old new e → HasFound o es old → HasFound o (es ++ e ∷ []) new
-found_formats o es e old new yes no a h = subst (λ (ks : List po.Entry). AreFound o.checked ks new) (sym (kept_more o es e yes)) (record {
+found_formats o es e old new kept_so lacks a h = subst (λ (ks : List po.Entry). AreFound o.checked ks new) (sym (kept_more o es e kept_so)) (record {
   dependent = a.dependent (kept o es) h.dependent;
   mismatch = a.mismatch (kept o es) h.mismatch;
-  newlines = λ checked. absurd (false≢true (sym no ∙ checked));
-  plurals = λ checked. absurd (false≢true (sym no ∙ checked));
+  newlines = λ checked. absurd (false≢true (sym lacks ∙ checked));
+  plurals = λ checked. absurd (false≢true (sym lacks ∙ checked));
 })
 
 pub found_all : (o : Options) (es : List po.Entry) (e : po.Entry) (old mid new : Findings) → is_kept o e ≡ true → AddsFormats old mid e → AddsTexts mid new e → HasFound o es old → HasFound o (es ++ e ∷ []) new
-found_all o es e old mid new yes a b h = subst (λ (ks : List po.Entry). AreFound o.checked ks new) (sym (kept_more o es e yes)) (record {
+found_all o es e old mid new kept_so a b h = subst (λ (ks : List po.Entry). AreFound o.checked ks new) (sym (kept_more o es e kept_so)) (record {
   dependent = subst (FirstLine HasSystemDependentText (kept o es ++ e ∷ [])) (sym b.dependent) (a.dependent (kept o es) h.dependent);
   mismatch = subst (FirstLine HasOtherArguments (kept o es ++ e ∷ [])) (sym b.mismatch) (a.mismatch (kept o es) h.mismatch);
   newlines = λ checked. b.newlines (kept o es) (subst (FirstLine HasOtherNewlines (kept o es)) (sym a.newlines) (h.newlines checked));
@@ -61,9 +62,9 @@ other_count e forms n is plural = (
 )
 
 pub plurals_skip : (e : po.Entry) (p : Plurals) → ¬ IsPlural e → (es : List po.Entry) → HasPlurals es p → HasPlurals (es ++ e ∷ []) p
-plurals_skip e p no es h = record {
-  first = first_skip IsPlural e no (line_of p.first) es h.first;
-  other = λ n. first_skip (HasOtherCount n) e (λ c. no c.plural) (line_for p.first n) es (h.other n);
+plurals_skip e p lacks es h = record {
+  first = first_skip IsPlural e lacks (line_of p.first) es h.first;
+  other = λ n. first_skip (HasOtherCount n) e (λ c. lacks c.plural) (line_for p.first n) es (h.other n);
 }
 
 pub plurals_more : (e : po.Entry) (old new : Plurals) (forms line : ℕ) → AddsPlural old new forms line → forms ≡ length e.forms → line ≡ e.line → IsPlural e → (es : List po.Entry) → HasPlurals es old → HasPlurals (es ++ e ∷ []) new
@@ -98,8 +99,12 @@ any_cons P x xs D O N d o n = (
 
 pub any_take : {X : Type 0} (P : X → Type 0) (xs : List X) (k : ℕ) (x : X) (D O N : Type 0) → slice_get xs k ≡ Some x → (D ↔ P x) → (O ↔ Any P (take k xs)) → (N ↔ (D ⊎ O)) → N ↔ Any P (take (k + 1) xs)
 any_take P xs k x D O N at d o n =
-    let longer : take (k + 1) xs ≡ take k xs ++ x ∷ [] = ap (λ i. take i xs) (omega arith) ∙ take_push xs k x at in
+    let next : k + 1 ≡ suc k = omega arith in
+    let longer : take (k + 1) xs ≡ take k xs ++ x ∷ [] = ap (λ (i : ℕ). take i xs) next ∙ take_push xs k x at in
     subst (λ ys. N ↔ Any P ys) (sym longer) (any_step P (take k xs) x D O N d o n)
+
+pub none_take : {X : Type 0} (P : X → Type 0) (xs : List X) (k : ℕ) (x : X) → slice_get xs k ≡ Some x → ¬ P x → ¬ Any P (take k xs) → ¬ Any P (take (k + 1) xs)
+none_take P xs k x at not_x none = (any_take P xs k x ⊥ ⊥ ⊥ at ((λ b. absurd b), not_x) ((λ b. absurd b), none) ((λ b. absurd b), (λ b. elim b [ inl y ↦ y | inr y ↦ y ]))).1
 
 pub either_true : (a b c : Bool) → c ≡ (a || b) → IsTrue c ↔ (IsTrue a ⊎ IsTrue b)
 either_true true b c is = ((λ t. inl refl), (λ t. is))
@@ -114,16 +119,16 @@ dependent_is text SystemDependent r = ((λ t. r), (λ d. refl))
 
 pub differ_is : (original : Format) (form : List ℕ) (f : Format) (rule : Strictness) → IsReadAs form f → FormatsDiffer original f rule ↔ DiffersFrom original rule form
 differ_is (Arguments ks) form (Arguments js) rule r = (
-  (λ no. inr (js.items, r, no)),
+  (λ lacks. inr (js.items, r, lacks)),
   (λ d agrees. elim d [
     | inl invalid ↦ lists_valid form js.items r invalid
-    | inr (kinds, lists, no) ↦ no (subst (λ k. Agrees ks.items k rule) (lists_one form js.items kinds r lists) agrees)
+    | inr (kinds, lists, lacks) ↦ lacks (subst (λ k. Agrees ks.items k rule) (lists_one form js.items kinds r lists) agrees)
   ]),
 )
 differ_is (Arguments ks) form Invalid rule r = ((λ t. inl r), (λ d. tt))
 differ_is (Arguments ks) form SystemDependent rule r = (
   (λ t. absurd t),
-  (λ d. elim d [ inl invalid ↦ absurd (one_fault form invalid r) | inr (kinds, lists, no) ↦ absurd (lists_independent form kinds lists r) ]),
+  (λ d. elim d [ inl invalid ↦ absurd (one_fault form invalid r) | inr (kinds, lists, lacks) ↦ absurd (lists_independent form kinds lists r) ]),
 )
 differ_is Invalid form f rule r = ((λ t. absurd t), (λ d. absurd d))
 differ_is SystemDependent form f rule r = ((λ t. absurd t), (λ d. absurd d))
@@ -173,7 +178,31 @@ dependent_both e p id plural forms some all is_some r r' f some_is all_is = subs
     (any_cons signature.IsSystemDependent p e.forms _ _ _ (dependent_is p plural r') f (either_true (is_dependent plural) forms some some_is))
     (either_true (is_dependent id) some all all_is))
 
+-- what is lent of the plural
+pub none_lent : (lent : Option (Bor (List ℕ))) (plural : Option (List ℕ)) → option_map (λ text. text.now) lent ≡ plural → lent ≡ None → plural ≡ None
+none_lent lent plural is none = sym is ∙ ap (option_map (λ (text : Bor (List ℕ)). text.now)) none
+
+pub some_lent : (lent : Option (Bor (List ℕ))) (plural : Option (List ℕ)) (text : Bor (List ℕ)) → option_map (λ text. text.now) lent ≡ plural → lent ≡ Some text → plural ≡ Some text.now
+some_lent lent plural text is some = sym is ∙ ap (option_map (λ (text : Bor (List ℕ)). text.now)) some
+
+pub read_again : (lent text : List ℕ) (f : Format) → lent ≡ text → IsReadAs lent f → IsReadAs text f
+read_again lent text f is r = subst (λ t. IsReadAs t f) is r
+
+by_original : (e : po.Entry) (f : Format) (rule : Strictness) (forms all : Bool) → IsReadAs (format_original e) f → rule ≡ strictness e.plural → (IsTrue forms ↔ Any (DiffersFrom f rule) e.forms) → all ≡ forms → IsTrue all ↔ FormsDiffer e
+by_original e f rule forms all r rule_is differ is =
+    let o = original_is e f rule r rule_is in
+    ((λ t. o.0 (differ.0 (sym is ∙ t))), (λ d. is ∙ differ.1 (o.1 d)))
+
+pub mismatch_alone : (e : po.Entry) (id : Format) (forms all : Bool) → e.plural ≡ None → IsReadAs e.id id → (IsTrue forms ↔ Any (DiffersFrom id Same) e.forms) → all ≡ forms → IsTrue all ↔ FormsDiffer e
+mismatch_alone e id forms all none r differ is = by_original e id Same forms all (subst (λ t. IsReadAs t id) (ap (original_or e.id) (sym none)) r) (ap strictness (sym none)) differ is
+
+pub mismatch_both : (e : po.Entry) (p : List ℕ) (plural : Format) (forms all : Bool) → e.plural ≡ Some p → IsReadAs p plural → (IsTrue forms ↔ Any (DiffersFrom plural Prefix) e.forms) → all ≡ forms → IsTrue all ↔ FormsDiffer e
+mismatch_both e p plural forms all some r differ is = by_original e plural Prefix forms all (subst (λ t. IsReadAs t plural) (ap (original_or e.id) (sym some)) r) (ap strictness (sym some)) differ is
+
 -- ---- newlines
+
+pub not_empty : (lent id : List ℕ) (b : Bool) → lent ≡ id → b ≡ (length lent == 0) → b ≡ false → id ≢ []
+not_empty lent id b is b_is b_false same = eqb-false (length lent) 0 (sym b_is ∙ b_false) (ap length (is ∙ same))
 
 -- the test answers otherwise for id than for one of the others
 abbrev OtherThan : (List ℕ → Bool) → List ℕ → List ℕ → Type 0
@@ -225,3 +254,8 @@ newlines_are e named some = record {
 
 pub are_newlines : (e : po.Entry) → HasOtherNewlines e → Any (NewlinesDiffer e.id) (text_if e.plural) ⊎ Any (NewlinesDiffer e.id) e.forms
 are_newlines e h = any_append_cases (NewlinesDiffer e.id) (text_if e.plural) e.forms ((mixed_is e.id (text_if e.plural ++ e.forms)).1 h.mixed)
+
+-- an option of a text that is lent is there where the text is
+pub plural_is : (lent : Option (Bor (List ℕ))) (plural : Option (List ℕ)) (b : Bool) → option_map (λ text. text.now) lent ≡ plural → b ≡ is_some lent → b ≡ is_some plural
+plural_is None plural b is b_is = b_is ∙ ap (λ (p : Option (List ℕ)). is_some p) is
+plural_is (Some text) plural b is b_is = b_is ∙ ap (λ (p : Option (List ℕ)). is_some p) is

@@ -45,11 +45,10 @@ pub drafts_are : (o : Options) (drafts : List Draft) (entries : List po.Entry) �
 drafts_are o drafts entries e = sym (length-map drafts row) ∙ ap length e ∙ length-rows_from o 0 entries
 
 -- one more entry was looked at
-pub LooksAt : Options → po.Entry → Findings → Findings → Type 0
+abbrev pub LooksAt : Options → po.Entry → Findings → Findings → Type 0
 LooksAt o e findings grown = (entries : List po.Entry) → HasFound o entries findings → HasFound o (entries ++ e ∷ []) grown
 
 pub collects_more : (text : List ℕ) (o : Options) (reader next : EntryReader) (drafts more : List Draft) (findings grown : Findings) (d : Draft) (e : po.Entry) (n : ℕ) → (c : Collects text o reader drafts findings) → GoesOn true (body text) c.entries e next → n ≡ length drafts → row d ≡ row_of o n e → IsLawfulTexts e → more ≡ drafts ++ d ∷ [] → LooksAt o e findings grown → Collects text o next more grown
-unfolding LooksAt
 collects_more text o reader next drafts more findings grown d e n c goes n_is row_is texts pushed looks =
     let number : n ≡ length c.entries = n_is ∙ drafts_are o drafts c.entries c.rows_are in
     record {

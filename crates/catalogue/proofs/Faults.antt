@@ -1,6 +1,6 @@
 -- The first fault of the checks.
 use Rattle.std.proofs.Common.{◌≡◌, ℕ, ◌<◌, ◌≤◌, Bool, true, false, List, [], ◌∷◌, Option, Some, None, refl, sym, ap, ◌∙◌, subst, inl, inr, arith}
-use Rattle.std.specs.Prelude.{◌⊎◌, IsTrue}
+use Rattle.std.specs.Prelude.{◌⊎◌, IsTrue, option_map}
 use Rattle.std.specs.List.{Any}
 use Rattle.std.proofs.lemmas.Bool.{cases_lt, false≢true}
 use Rattle.po_text.specs.Entries as po
@@ -88,12 +88,12 @@ pub record IsChecked (o : Options) (es : List po.Entry) (rule : Rule) (at : ℕ)
   pub at_is : at ≡ header_line_of o es
 
 rule_fails : (o : Options) (es : List po.Entry) (rule : Rule) (kind : LoadKind) (line : ℕ) → IsTrue o.checked → HasHeaderRule o es rule → RuleRefuses rule (kept o es) (header_line_of o es) kind line → FailsFrom 12 o es kind line × (rank kind < 16)
-rule_fails o es Absent NoRule line checked has r = ((omega arith, (checked, Absent, has, r)), omega arith)
+rule_fails o es Absent NoRule line checked has r = ((omega arith, (checked, (Absent, has, r))), omega arith)
 rule_fails o es Absent _ line checked has r = absurd r
-rule_fails o es Broken BadRule line checked has r = ((omega arith, (checked, Broken, has, r)), omega arith)
+rule_fails o es Broken BadRule line checked has r = ((omega arith, (checked, (Broken, has, r))), omega arith)
 rule_fails o es Broken _ line checked has r = absurd r
-rule_fails o es (Given nplurals tree) FormCount line checked has r = ((omega arith, (checked, Given nplurals tree, has, r)), omega arith)
-rule_fails o es (Given nplurals tree) (PluralRange n) line checked has r = ((omega arith, (checked, Given nplurals tree, has, r)), omega arith)
+rule_fails o es (Given nplurals tree) FormCount line checked has r = ((omega arith, (checked, (Given nplurals tree, has, r))), omega arith)
+rule_fails o es (Given nplurals tree) (PluralRange n) line checked has r = ((omega arith, (checked, (Given nplurals tree, has, r))), omega arith)
 rule_fails o es (Given nplurals tree) _ line checked has r = absurd r
 
 refuses_at : (o : Options) (es : List po.Entry) (rule : Rule) (at : ℕ) (kind : LoadKind) (line : ℕ) → at ≡ header_line_of o es → RuleRefuses rule (kept o es) at kind line → RuleRefuses rule (kept o es) (header_line_of o es) kind line
@@ -145,6 +145,16 @@ by_nothing o es rule at c passes none none' kind line g = elim (late o es kind l
   | inr (inr (r, is)) ↦ first_not_none HasOtherNewlines (kept o es) line r none'
 ]
 
+-- the last of the checks
+pub by_last : (o : Options) (es : List po.Entry) (rule : Rule) (at : ℕ) (newlines : Option ℕ) → IsChecked o es rule at → RulePasses o es rule at → NoneOf HasOtherArguments (kept o es) → FirstLine HasOtherNewlines (kept o es) newlines → FirstFault (FailsFrom 12 o es) (option_map (λ line. record { kind = NewlineMismatch; line = line }) newlines)
+by_last o es rule at None c passes none none' = by_nothing o es rule at c passes none none'
+by_last o es rule at (Some line) c passes none f = by_newlines o es rule at line c passes none f
+
+-- without a rule
+pub by_absence : (es : List po.Entry) (at : ℕ) (line : Option ℕ) → FirstLine IsPlural es line → FirstFault (RuleRefuses Absent es at) (option_map (λ line. record { kind = NoRule; line = line }) line)
+by_absence es at None none = any_rule es at none
+by_absence es at (Some line) f = no_rule es at line f
+
 -- ---- at both levels
 
 pub by_dependence : (o : Options) (es : List po.Entry) (line : ℕ) → FirstAt HasSystemDependentText (kept o es) line → IsFirst (FailsFrom 11 o es) SystemDependent line
@@ -188,4 +198,4 @@ unchecked_late o es NewlineMismatch line le f = f.0
 unchecked_late o es _ line le f = absurd f
 
 pub unchecked : (o : Options) (es : List po.Entry) → o.checked ≡ false → NoneOf HasSystemDependentText (kept o es) → (kind : LoadKind) (line : ℕ) → ¬ FailsFrom 11 o es kind line
-unchecked o es no none kind line g = let h = not_eleventh o es kind line none g in false≢true (sym no ∙ unchecked_late o es kind line h.0 h.1)
+unchecked o es off none kind line g = let h = not_eleventh o es kind line none g in false≢true (sym off ∙ unchecked_late o es kind line h.0 h.1)

@@ -71,9 +71,17 @@ text_is o es None (Some e) f = absurd f
 text_is o es (Some r) None f = absurd f
 text_is o es (Some r) (Some e) f = row_text_is o es r e f
 
+find_rows : (ds : List Draft) → option_map row (find (λ d. is_kept_header (row d)) ds) ≡ find is_kept_header (rows ds)
+find_rows [] = refl
+find_rows (d ∷ ds) = of (is_kept_header (row d)) (find_rows ds)
+  where
+    of : (b : Bool) → option_map row (find (λ d. is_kept_header (row d)) ds) ≡ find is_kept_header (rows ds) → option_map row (cond b (Some d) (find (λ d. is_kept_header (row d)) ds)) ≡ cond b (Some (row d)) (find is_kept_header (rows ds))
+    of true rest = refl
+    of false rest = rest
+
 -- the text of the kept header
 pub header_text_is : (o : Options) (es : List po.Entry) (ds : List Draft) → AreRows o es ds → AllByRecursion IsLawfulMessage es → header_text_in ds ≡ header_text_of o es
-header_text_is o es ds are lawful = ap (λ (rs : List Row). text_found (find is_kept_header rs)) are ∙ text_is o es (find is_kept_header (rows_from o 0 es)) (kept_header o es) (found o 0 es lawful)
+header_text_is o es ds are lawful = ap text_found (find_rows ds ∙ ap (find is_kept_header) are) ∙ text_is o es (find is_kept_header (rows_from o 0 es)) (kept_header o es) (found o 0 es lawful)
 
 accepted_by : (e : Option po.Entry) → IfSome (option_map (λ e. first_form e.forms) e) HasAcceptedCharset → IfSome e NamesCharset
 accepted_by None named = tt

@@ -130,10 +130,10 @@ fails_one : (o : Options) (es : List po.Entry) (kind : LoadKind) (n line m : ℕ
 fails_one o es Duplicate n line m f g = (refl, duplicate_one es line m f g)
 fails_one o es Charset n line m f g = (refl, foreign_one o es line m f g)
 fails_one o es SystemDependent n line m f g = (refl, first_one HasSystemDependentText (kept o es) line m f g)
-fails_one o es NoRule n line m (c, rule, has, r) (d, g) = (refl, absent_one rule (kept o es) (header_line_of o es) line m r (by_rule o es rule NoRule m has g))
-fails_one o es BadRule n line m (c, rule, has, r) (d, g) = (refl, broken_one rule (kept o es) (header_line_of o es) line m r (by_rule o es rule BadRule m has g))
-fails_one o es FormCount n line m (c, rule, has, r) (d, g) = (refl, count_one rule (kept o es) (header_line_of o es) line m r (by_rule o es rule FormCount m has g))
-fails_one o es (PluralRange k) n line m (c, rule, has, r) (d, g) =
+fails_one o es NoRule n line m (c, (rule, has, r)) (d, g) = (refl, absent_one rule (kept o es) (header_line_of o es) line m r (by_rule o es rule NoRule m has g))
+fails_one o es BadRule n line m (c, (rule, has, r)) (d, g) = (refl, broken_one rule (kept o es) (header_line_of o es) line m r (by_rule o es rule BadRule m has g))
+fails_one o es FormCount n line m (c, (rule, has, r)) (d, g) = (refl, count_one rule (kept o es) (header_line_of o es) line m r (by_rule o es rule FormCount m has g))
+fails_one o es (PluralRange k) n line m (c, (rule, has, r)) (d, g) =
     let one = range_one rule (kept o es) (header_line_of o es) k n line m r (by_rule o es rule (PluralRange n) m has g) in
     (ap (λ i. PluralRange i) one.0, one.1)
 fails_one o es FormatMismatch n line m f g = (refl, first_one HasOtherArguments (kept o es) line m f.1 g.1)

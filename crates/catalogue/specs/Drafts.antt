@@ -142,4 +142,4 @@ text_found None = None
 text_found (Some r) = row_text r
 
 abbrev pub header_text_in : List Draft → Option (List ℕ)
-header_text_in drafts = text_found (find is_kept_header (rows drafts))
+header_text_in drafts = text_found (option_map row (find (λ d. is_kept_header (row d)) drafts))

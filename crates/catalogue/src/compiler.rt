@@ -36,7 +36,8 @@ pub struct Stats {
 pub struct Compiled {
     pub catalogue: Catalogue,
     pub stats: Stats,
-    /// Which of the eight header fields are missing.
+    /// Which of the eight fields (`po_header::FIELD_NAMES`) the kept header lacks; none where the level isn't
+    /// checked, or no header is kept.
     pub missing: [bool; 8],
     /// The line of the kept header, or 0 where there is none.
     pub header_line: u32,

@@ -6,10 +6,10 @@ ghost use Rattle.po_header.specs.Rule.{Given};
 ghost use Rattle.po_header.specs.Rules.{rule_of};
 ghost use Rattle.po_text.specs.Entries.{Entry as PoEntry};
 ghost use Rattle.catalogue.specs.Checks.{has_form, IsFirstWithoutForm};
-ghost use Rattle.catalogue.specs.Findings.{line_for, AddsPlural, FirstFault, HasPlurals};
+ghost use Rattle.catalogue.specs.Findings.{line_for, line_of, AddsPlural, FirstFault, HasPlurals};
 ghost use Rattle.catalogue.specs.Meaning.{RuleRefuses};
 
-use super::first_line;
+use super::{fault_at, first_line};
 use crate::{LoadFault, LoadKind};
 use po_header::{PluralExpr, RuleRead};
 use po_text::EntryBuffer;
@@ -85,6 +85,16 @@ impl Plurals {
         }
     }
 
+    /// The line of the first plural entry.
+    fn line(&self) -> Option<u32>
+        ensures { result ≡ line_of self.now.first }
+    {
+        match self.first {
+            Some(first) => Some(first.line),
+            None => None,
+        }
+    }
+
     /// The line of the first plural entry that has another number of forms.
     fn line_for(&self, nplurals: u64) -> Option<u32>
         ensures { result ≡ line_for self.now.first nplurals }
@@ -117,20 +127,14 @@ impl Plurals {
     {
         match rule {
             RuleRead::Given { nplurals, expr } => self.fault_by(*nplurals, expr, header_line),
-            RuleRead::Absent => {
-                let first = self.first?;
-                Some(LoadFault {
-                    kind: LoadKind::NoRule,
-                    line: first.line,
-                })
-            }
-            RuleRead::Broken => {
-                let _ = self.first?;
-                Some(LoadFault {
+            RuleRead::Absent => fault_at(self.line(), LoadKind::NoRule),
+            RuleRead::Broken => match self.line() {
+                Some(_) => Some(LoadFault {
                     kind: LoadKind::BadRule,
                     line: header_line,
-                })
-            }
+                }),
+                None => None,
+            },
         }
     }
 }

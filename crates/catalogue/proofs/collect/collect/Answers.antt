@@ -28,7 +28,7 @@ entries-init c = collects_none _ _ _ _ _ c.in_ok-reader.ensures.read c.new-draft
 pub entries-preserved : goal.entries-preserved
 entries-preserved c =
     let inv = c.entries.invariant in
-    collects_more c.args.text.now c.args.options _ _ c.entries.drafts.items _ c.entries.findings _ _ c.next_entry.new.into c.len.result inv (rw c.if-branch.true at (c.in_ok-next_entry.ensures.read (body c.args.text.now) inv.entries inv.read)) (omega (arith, c.len.ensures, c.entries.drafts.ok.0)) c.in_ok-draft_of.ensures.draft c.in_ok-draft_of.ensures.lawful c.in_ok-push.ensures.items c.in_ok-look_at.ensures
+    collects_more c.args.text.now c.args.options _ _ c.entries.drafts.items _ c.entries.findings c.look_at.new.self _ c.next_entry.new.into c.len.result inv (rw c.if-branch.true at (c.in_ok-next_entry.ensures.read (body c.args.text.now) inv.entries inv.read)) (omega (arith, c.len.ensures, c.entries.drafts.ok.0)) c.in_ok-draft_of.ensures.draft c.in_ok-draft_of.ensures.lawful c.in_ok-push.ensures.items c.in_ok-look_at.ensures
 
 pub returns-clause-ok : goal.returns-clause-ok
 returns-clause-ok c =
