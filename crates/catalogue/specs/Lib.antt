@@ -10,7 +10,9 @@ pub mod Strings
 pub mod Refusal
 pub mod Stored
 pub mod Messages
+pub mod Checks
 pub mod Meaning
+pub mod Findings
 pub mod Drafts
 pub mod Value
 pub mod Laws

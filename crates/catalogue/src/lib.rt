@@ -5,6 +5,7 @@
 #![tactic(auto)]
 
 mod accepts;
+mod checks;
 mod collect;
 mod compiler;
 mod drafts;
@@ -25,6 +26,7 @@ mod steps;
 mod tests;
 #[cfg(test)]
 mod tests_accepts;
+mod tests_checks;
 #[cfg(test)]
 mod tests_search;
 mod writer;
