@@ -26,6 +26,7 @@ mod steps;
 mod tests;
 #[cfg(test)]
 mod tests_accepts;
+#[cfg(test)]
 mod tests_checks;
 #[cfg(test)]
 mod tests_search;
