@@ -1,8 +1,8 @@
 -- What the checks find, entry by entry.
-use Rattle.std.proofs.Common.{◌≡◌, ◌≢◌, ℕ, zero, suc, ◌+◌, Bool, true, false, cond, not, List, [], ◌∷◌, ◌++◌, length, take, Option, Some, None, refl, sym, ap, ◌∙◌, subst, append_assoc, append-nil, inl, inr, arith}
-use Rattle.std.specs.Prelude.{◌⊎◌, ◌↔◌, ◌||◌, ◌==◌, IsTrue, IsFalse, slice_get, is_some, option_map}
-use Rattle.std.specs.List.{Any, filter}
-use Rattle.std.proofs.lemmas.Bool.{false≢true, or_cases, eqb-false, ne_eqb, not-true}
+use Rattle.std.proofs.Common.{◌≡◌, ◌≢◌, ℕ, zero, suc, ◌+◌, Bool, true, false, cond, not, List, [], ◌∷◌, ◌++◌, length, take, Option, Some, None, refl, sym, ap, ◌∙◌, subst, append-nil, inl, inr, arith}
+use Rattle.std.specs.Prelude.{◌⊎◌, ◌↔◌, ◌||◌, ◌==◌, IsTrue, slice_get, is_some, option_map}
+use Rattle.std.specs.List.{Any}
+use Rattle.std.proofs.lemmas.Bool.{false≢true, eqb-false, ne_eqb, not-true}
 use Rattle.std.proofs.lemmas.List.Elements.{filter-append}
 use denote.Ref.{Bor}
 use Rattle.po_text.specs.Entries as po
@@ -11,7 +11,7 @@ use Rattle.c_signature.specs.Signature as signature
 use Rattle.c_signature.specs.declared.Strictness.{Strictness}
 use Rattle.c_signature.specs.declared.Strictness.TheVariants.{Same, Prefix}
 use Rattle.c_signature.proofs.OneOutcome.{lists_one, lists_valid, lists_independent, one_fault}
-use Rattle.catalogue.specs.Checks.{NoneOf, FirstAt, text_if, texts, HasSystemDependentText, format_original, original_or, strictness, Differs, FormsDiffer, HasOtherArguments, IsPlural, HasOtherCount, begins_with_newline, ends_with_newline, IsMixed, HasOtherNewlines}
+use Rattle.catalogue.specs.Checks.{text_if, texts, HasSystemDependentText, format_original, original_or, strictness, Differs, FormsDiffer, HasOtherArguments, IsPlural, HasOtherCount, begins_with_newline, ends_with_newline, IsMixed, HasOtherNewlines}
 use Rattle.catalogue.specs.Findings.{FirstLine, first_or, IsReadAs, is_dependent, FormatsDiffer, DiffersFrom, line_for, line_of, HasPlurals, AddsPlural, NewlinesDiffer, AreFound, HasFound, AddsFormats, AddsTexts}
 use Rattle.catalogue.specs.Meaning.{is_kept, kept}
 use Rattle.catalogue.specs.declared.checks.Findings.{Findings}

@@ -1,16 +1,13 @@
 -- The first fault of the checks.
-use Rattle.std.proofs.Common.{◌≡◌, ℕ, ◌<◌, ◌≤◌, Bool, true, false, List, [], ◌∷◌, Option, Some, None, refl, sym, ap, ◌∙◌, subst, inl, inr, arith}
+use Rattle.std.proofs.Common.{◌≡◌, ℕ, ◌<◌, ◌≤◌, true, false, List, Option, Some, None, refl, sym, ◌∙◌, subst, inl, inr, arith}
 use Rattle.std.specs.Prelude.{◌⊎◌, IsTrue, option_map}
-use Rattle.std.specs.List.{Any}
 use Rattle.std.proofs.lemmas.Bool.{cases_lt, false≢true}
 use Rattle.po_text.specs.Entries as po
 use Rattle.po_header.specs.Grammar.{Tree}
 use Rattle.po_header.specs.Rule.{Rule, Given, Absent, Broken}
 use Rattle.catalogue.specs.Checks.{NoneOf, FirstAt, IsPlural, HasSystemDependentText, HasOtherArguments, HasOtherCount, HasOtherNewlines, has_form, IsFirstWithoutForm}
-use Rattle.catalogue.specs.Findings.{FirstFault, FailsFrom, HasFound, HasPlurals, FirstLine, line_for, line_of}
+use Rattle.catalogue.specs.Findings.{FirstFault, FailsFrom, FirstLine}
 use Rattle.catalogue.specs.Meaning.{kept, header_line_of, HasHeaderRule, RuleRefuses, HeaderRefuses, Fails, rank, IsFirst}
-use Rattle.catalogue.specs.declared.checks.Findings.{Findings}
-use Rattle.catalogue.specs.declared.checks.plurals.Plurals.{Plurals}
 use Rattle.catalogue.specs.declared.compiler.Options.{Options}
 use Rattle.catalogue.specs.declared.fault.LoadFault.{LoadFault}
 use Rattle.catalogue.specs.declared.fault.LoadKind.{LoadKind}

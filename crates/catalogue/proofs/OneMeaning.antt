@@ -1,12 +1,11 @@
 -- A text has one meaning.
-use Rattle.std.proofs.Common.{◌≡◌, ℕ, Bool, ◌<◌, List, [], ◌∷◌, ◌++◌, length, length-append, map, get_or, Option, Some, refl, sym, ap, ◌∙◌, subst, arith, inl, inr}
-use Rattle.std.specs.Prelude.{◌⊎◌, Contains, IfSome}
+use Rattle.std.proofs.Common.{◌≡◌, ℕ, Bool, List, [], ◌∷◌, map, refl, sym, ap, ◌∙◌, subst, arith, inl, inr}
+use Rattle.std.specs.Prelude.{◌⊎◌, Contains}
 use Rattle.std.specs.Ordering.{nat_cmp}
 use Rattle.std.specs.declared.cmp.Ordering.TheVariants.{Less}
 use Rattle.std.specs.Cmp.{IsTotalOrder}
 use Rattle.std.specs.Cmp.Lexicographic.{slice_cmp}
 use Rattle.std.proofs.lemmas.Cmp.{nat_list_cmp_total, tied_itself}
-use Rattle.std.proofs.lemmas.List.{map-append, get_or_append_left, get_or_at}
 use Rattle.std.proofs.lemmas.List.Elements.{All-contains}
 use Rattle.po_text.specs.Entries as po
 use Rattle.po_text.specs.Outcome as outcome
@@ -15,7 +14,7 @@ use Rattle.po_text.specs.declared.fault.PoKind.TheVariants as kinds
 use Rattle.po_text.proofs.Outcomes.{gives_one, refuses_one, gives_or_refuses}
 use Rattle.catalogue.specs.Entry.{Entry, key}
 use Rattle.catalogue.specs.Map.{Rises}
-use Rattle.catalogue.specs.Meaning.{message_of, key_of, kept, stats_of, header_line_of, missing_of, IsMapOf, Fails, IsFirst, Means, Refuses}
+use Rattle.catalogue.specs.Meaning.{message_of, kept, stats_of, header_line_of, missing_of, IsMapOf, Fails, IsFirst, Means, Refuses}
 use Rattle.catalogue.specs.Refusal.{kind_of}
 use Rattle.catalogue.specs.declared.compiler.Options.{Options}
 use Rattle.catalogue.specs.declared.compiler.Stats.{Stats}

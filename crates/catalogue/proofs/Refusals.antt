@@ -1,18 +1,17 @@
 -- What the entries of a text are refused for, at one line.
-use Rattle.std.proofs.Common.{◌≡◌, ℕ, ◌<◌, ◌≤◌, Bool, true, false, cond, List, [], ◌∷◌, ◌++◌, length, length-append, map, get_or, Option, None, Some, refl, sym, ap, ◌∙◌, subst, arith, inl, inr}
-use Rattle.std.specs.Prelude.{◌⊎◌, ◌==◌, Contains, IfSome, IsTrue, if◌then◌else◌}
+use Rattle.std.proofs.Common.{◌≡◌, ℕ, ◌<◌, List, ◌∷◌, ◌++◌, length, length-append, map, get_or, Option, None, Some, refl, sym, ap, ◌∙◌, subst, arith, inl, inr}
+use Rattle.std.specs.Prelude.{◌⊎◌, ◌==◌, Contains, IfSome, if◌then◌else◌}
 use Rattle.std.proofs.lemmas.Bool.{cases_lt, false≢true}
 use Rattle.std.proofs.lemmas.List.{map-append, get_or_append_left, get_or_at}
 use Rattle.po_text.specs.Entries as po
 use Rattle.po_text.specs.Outcome.{Gives}
 use Rattle.po_header.specs.Rule.{Rule, Given, Absent, Broken}
 use Rattle.po_header.proofs.RuleLemmas.{HasRule-one}
-use Rattle.catalogue.specs.Checks.{NoneOf, FirstAt, IsPlural, HasSystemDependentText, HasOtherArguments, HasOtherCount, HasOtherNewlines, IsFirstWithoutForm}
-use Rattle.catalogue.specs.Findings.{FirstFault, FailsFrom}
+use Rattle.catalogue.specs.Checks.{IsPlural, HasSystemDependentText, HasOtherArguments, HasOtherCount, HasOtherNewlines, IsFirstWithoutForm}
+use Rattle.catalogue.specs.Findings.{FailsFrom}
 use Rattle.catalogue.specs.Meaning.{key_of, kept, kept_header, header_line_of, HasDistinctKeys, IsDuplicateAt, NamesCharset, IsForeignAt, HasHeaderRule, RuleRefuses, HeaderRefuses, Fails, rank, IsFirst, Refuses}
 use Rattle.catalogue.specs.Value.{HasRuleIn}
 use Rattle.catalogue.specs.declared.compiler.Options.{Options}
-use Rattle.catalogue.specs.declared.fault.LoadFault.{LoadFault}
 use Rattle.catalogue.specs.declared.fault.LoadKind.{LoadKind}
 use Rattle.catalogue.specs.declared.fault.LoadKind.TheVariants.{TooLarge, NotUtf8, BadEscape, OpenString, BadWord, BadText, BadOrder, BadIndex, Duplicate, Charset, SystemDependent, NoRule, BadRule, FormCount, PluralRange, FormatMismatch, NewlineMismatch, Memory}
 use Rattle.catalogue.proofs.FirstLines.{cuts, first_one}
@@ -146,10 +145,10 @@ first_refusal_one o es kind other line m p q = elim (cases_lt (rank kind) (rank 
   | inr ge ↦ elim (cases_lt (rank other) (rank kind)) [
     | inl lt ↦ absurd (p.first other m lt q.holds)
     | inr le ↦
-      let same : rank other ≡ rank kind = omega (arith, ge, le) in
-      let is : other ≡ kind_ranked (rank kind) (number_in other) = kind_again other ∙ ap (λ k. kind_ranked k (number_in other)) same in
-      let one = fails_one o es kind (number_in other) line m p.holds (subst (λ (k : LoadKind). Fails o es k m) is q.holds) in
-      (one.0 ∙ sym is, one.1)
+        let same : rank other ≡ rank kind = omega (arith, ge, le) in
+        let is : other ≡ kind_ranked (rank kind) (number_in other) = kind_again other ∙ ap (λ k. kind_ranked k (number_in other)) same in
+        let one = fails_one o es kind (number_in other) line m p.holds (subst (λ (k : LoadKind). Fails o es k m) is q.holds) in
+        (one.0 ∙ sym is, one.1)
   ]
 ]
 

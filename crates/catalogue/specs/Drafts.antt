@@ -1,5 +1,5 @@
 -- Private: what the compiler's own functions promise of the entries until they are in order.
-use Rattle.std.specs.Prelude.{◌≡◌, ℕ, ◌+◌, ◌<◌, ◌≤◌, Bool, List, [], ◌∷◌, length, map, Option, Some, None, option_map, if◌then◌else◌, ◌&&◌, nat_lt, true, false, is_some, IfSome, ◌==◌}
+use Rattle.std.specs.Prelude.{◌≡◌, ℕ, ◌+◌, ◌<◌, ◌≤◌, Bool, List, [], ◌∷◌, length, map, Option, Some, None, option_map, if◌then◌else◌, ◌&&◌, nat_lt, true, false, is_some, ◌==◌}
 use denote.Ref.{Bor}
 use Rattle.std.specs.Str.{bytes_eq}
 use Rattle.std.specs.List.{slice_index_or, slice_split, find, AllByRecursion}
@@ -10,7 +10,7 @@ use Rattle.std.specs.String.{string_bytes}
 use Rattle.po_text.specs.Entries as po
 use Rattle.po_text.specs.Outcome.{Gives}
 use Rattle.catalogue.specs.Entry.{Entry, IsLawfulEntry, translation}
-use Rattle.catalogue.specs.Map.{first_form, HasAcceptedCharset}
+use Rattle.catalogue.specs.Map.{first_form}
 use Rattle.catalogue.specs.Parts.{entry_from}
 use Rattle.catalogue.specs.Meaning.{message_of, key_of, is_header, is_untranslated, is_kept}
 use Rattle.catalogue.specs.Findings.{HasFound}

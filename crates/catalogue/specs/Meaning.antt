@@ -1,5 +1,5 @@
 -- What a PO text means to the compiler: a catalogue with its counts, or a refusal (manual, "msgfmt Invocation").
-use Rattle.std.specs.Prelude.{◌≡◌, ◌≢◌, ℕ, ◌<◌, AllPairs, ◌&&◌, ◌||◌, not, is_none, Bool, IsTrue, if◌then◌else◌, true, false, List, [], ◌∷◌, ◌++◌, map, All, Contains, Option, Some, None, option_map, IfSome}
+use Rattle.std.specs.Prelude.{◌≡◌, ◌≢◌, ℕ, ◌<◌, AllPairs, ◌&&◌, ◌||◌, not, is_none, Bool, IsTrue, if◌then◌else◌, true, false, List, [], ◌∷◌, ◌++◌, map, All, Contains, Option, Some, None, option_map}
 use Rattle.std.specs.List.{filter, find, count_by, Any}
 use Rattle.std.specs.Option.{option_map_or}
 use Rattle.po_text.specs.Entries as po

@@ -122,7 +122,10 @@ impl Findings {
             return Some(fault);
         }
         match self.mismatch {
-            Some(line) => Some(LoadFault { kind: LoadKind::FormatMismatch, line }),
+            Some(line) => Some(LoadFault {
+                kind: LoadKind::FormatMismatch,
+                line,
+            }),
             None => fault_at(self.newlines, LoadKind::NewlineMismatch),
         }
     }

@@ -92,7 +92,11 @@ fn refuses_system_dependent_texts(rt: HostRuntime) {
         assert_eq!(rt; fault_of(rt.alloc(), text, CHECKED), wanted);
     }
     assert_eq!(rt;
-        fault_of(rt.alloc(), b"#, c-format, fuzzy\nmsgid \"%<PRId64>\"\nmsgstr \"x\"\n", CHECKED_FUZZY),
+        fault_of(
+            rt.alloc(),
+            b"#, c-format, fuzzy\nmsgid \"%<PRId64>\"\nmsgstr \"x\"\n",
+            CHECKED_FUZZY
+        ),
         fault(LoadKind::SystemDependent, 2)
     );
 }
@@ -260,7 +264,10 @@ fn compares_formats(rt: HostRuntime) {
         ),
     ];
     for (text, line) in refused {
-        assert!(rt; is_refused_checked(rt.alloc(), text, LoadKind::FormatMismatch, line), "{line}");
+        assert!(rt;
+            is_refused_checked(rt.alloc(), text, LoadKind::FormatMismatch, line),
+            "{line}"
+        );
     }
     let accepted: [&[u8]; 8] = [
         b"#, c-format\nmsgid \"%d of %s\"\nmsgstr \"%2$s / %1$d\"\n",
@@ -277,7 +284,10 @@ fn compares_formats(rt: HostRuntime) {
         assert!(rt; passes(rt.alloc(), text));
     }
     let fuzzy = b"#, c-format, fuzzy\nmsgid \"%d of %s\"\nmsgstr \"%u of %s\"\n";
-    assert_eq!(rt; fault_of(rt.alloc(), fuzzy, CHECKED_FUZZY), fault(LoadKind::FormatMismatch, 2));
+    assert_eq!(rt;
+        fault_of(rt.alloc(), fuzzy, CHECKED_FUZZY),
+        fault(LoadKind::FormatMismatch, 2)
+    );
 }
 
 #[test]
@@ -305,7 +315,10 @@ fn compares_newlines(rt: HostRuntime) {
         ),
     ];
     for (text, line) in refused {
-        assert!(rt; is_refused_checked(rt.alloc(), text, LoadKind::NewlineMismatch, line), "{line}");
+        assert!(rt;
+            is_refused_checked(rt.alloc(), text, LoadKind::NewlineMismatch, line),
+            "{line}"
+        );
     }
     let accepted: [&[u8]; 5] = [
         b"msgid \"\\na\\n\"\nmsgstr \"\\nb\\n\"\n",
@@ -348,7 +361,8 @@ fn checks_come_last(rt: HostRuntime) {
 
 #[test]
 fn names_missing_fields(rt: HostRuntime) -> Result<(), Fail> {
-    let some = b"msgid \"\"\nmsgstr \"Language: fr\\nContent-Type: text/plain; charset=UTF-8\\nLast-Translator: x\\n\"\n";
+    let some =
+        b"msgid \"\"\nmsgstr \"Language: fr\\nContent-Type: text/plain; charset=UTF-8\\nLast-Translator: x\\n\"\n";
     let texts: [(&[u8], [bool; 8], u32); 5] = [
         (POLISH, [true; 8], 1),
         (some, [true, true, false, true, true, false, true, false], 1),

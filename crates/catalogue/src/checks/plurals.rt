@@ -101,7 +101,11 @@ impl Plurals {
     {
         match self.first {
             None => None,
-            Some(first) => if first.forms == nplurals { first.other } else { Some(first.line) },
+            Some(first) => if first.forms == nplurals {
+                first.other
+            } else {
+                Some(first.line)
+            },
         }
     }
 
@@ -110,7 +114,10 @@ impl Plurals {
         ensures { (entries : List PoEntry) → HasPlurals entries self.now → FirstFault (RuleRefuses (Given nplurals (tree_of expr.now)) entries header_line) result }
     {
         if let Some(line) = self.line_for(nplurals) {
-            return Some(LoadFault { kind: LoadKind::FormCount, line });
+            return Some(LoadFault {
+                kind: LoadKind::FormCount,
+                line,
+            });
         }
         match first_without_form(nplurals, expr) {
             Some(n) => Some(LoadFault {

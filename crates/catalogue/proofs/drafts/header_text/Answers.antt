@@ -1,4 +1,4 @@
-use Rattle.std.proofs.Common.{◌≡◌, List, Option, ap, ◌∙◌}
+use Rattle.std.proofs.Common.{Option, ap, ◌∙◌}
 use Rattle.std.specs.Prelude.{option_map}
 use Rattle.catalogue.specs.Drafts.{row, text_found}
 use Rattle.catalogue.specs.declared.drafts.Draft.{Draft}

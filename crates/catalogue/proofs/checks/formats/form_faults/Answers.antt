@@ -1,10 +1,10 @@
-use Rattle.std.proofs.Common.{◌≡◌, List, subst, take, arith}
+use Rattle.std.proofs.Common.{◌≡◌, subst, take, arith}
 use Rattle.std.specs.Prelude.{◌↔◌, IsTrue}
 use Rattle.std.specs.List.{Any}
 use Rattle.std.proofs.lemmas.List.{take_all}
 use Rattle.c_signature.specs.Signature.{IsSystemDependent}
 use Rattle.catalogue.specs.Findings.{DiffersFrom}
-use Rattle.catalogue.proofs.Checking.{no_faults, one_more_form}
+use Rattle.catalogue.proofs.Checking.{one_more_form}
 use Rattle.catalogue.proofs.checks.formats.form_faults.Goals as goal
 
 pub forms-preserved : goal.forms-preserved
