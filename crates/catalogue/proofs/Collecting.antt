@@ -11,7 +11,7 @@ use Rattle.po_text.specs.Lawful.{IsLawfulTexts}
 use Rattle.po_text.specs.declared.reader.EntryReader.{EntryReader}
 use Rattle.po_text.specs.declared.fault.PoKind.{PoKind}
 use Rattle.po_text.specs.declared.fault.PoKind.TheVariants as kinds
-use Rattle.catalogue.specs.Findings.{HasFound}
+use Rattle.catalogue.specs.Findings.{HasFound, LooksAt}
 use Rattle.catalogue.specs.Meaning.{Refuses}
 use Rattle.catalogue.specs.Refusal.{kind_of}
 use Rattle.catalogue.specs.Drafts.{Row, row, rows, row_of, rows_from, IsLawfulMessage, HasCollected}
@@ -43,10 +43,6 @@ lawful_push (x ∷ es) e all one = (all.0, lawful_push es e all.1 one)
 -- how many drafts there are
 pub drafts_are : (o : Options) (drafts : List Draft) (entries : List po.Entry) → rows drafts ≡ rows_from o 0 entries → length drafts ≡ length entries
 drafts_are o drafts entries e = sym (length-map drafts row) ∙ ap length e ∙ length-rows_from o 0 entries
-
--- one more entry was looked at
-abbrev pub LooksAt : Options → po.Entry → Findings → Findings → Type 0
-LooksAt o e findings grown = (entries : List po.Entry) → HasFound o entries findings → HasFound o (entries ++ e ∷ []) grown
 
 pub collects_more : (text : List ℕ) (o : Options) (reader next : EntryReader) (drafts more : List Draft) (findings grown : Findings) (d : Draft) (e : po.Entry) (n : ℕ) → (c : Collects text o reader drafts findings) → GoesOn true (body text) c.entries e next → n ≡ length drafts → row d ≡ row_of o n e → IsLawfulTexts e → more ≡ drafts ++ d ∷ [] → LooksAt o e findings grown → Collects text o next more grown
 collects_more text o reader next drafts more findings grown d e n c goes n_is row_is texts pushed looks =

@@ -9,7 +9,7 @@ use Rattle.std.proofs.lemmas.List.Sorted.{IsPermutation-map}
 use denote.Ref.{Bor}
 use Rattle.po_text.specs.Entries as po
 use Rattle.po_text.proofs.Sizes.{gives_count}
-use Rattle.catalogue.specs.Findings.{HasFound, FirstFault, FailsFrom}
+use Rattle.catalogue.specs.Findings.{IsFault}
 use Rattle.catalogue.specs.Map.{IsLawful, HasAcceptedCharset}
 use Rattle.catalogue.specs.Meaning.{Means, IsMapOf, Refuses, kept, kept_header, header_line_of, header_text_of, lacking, none_missing, HasDistinctKeys, IsDuplicateAt, IsForeignAt, NamesCharset}
 use Rattle.catalogue.specs.Stored.{entries_of}
@@ -108,11 +108,7 @@ foreign text o before after found header line c s none h unnamed =
     } in
     (c.entries, c.gives, first_is_foreign o c.entries line (distinct_keys text o before after found c s none) is)
 
--- what the checks found: a fault, or none
-abbrev pub Checks : Option (Bor (List ℕ)) → ℕ → Options → Findings → Option LoadFault → Type 0
-Checks header line o found fault = (entries : List po.Entry) → HasFound o entries found → option_map (λ text. text.now) header ≡ header_text_of o entries → line ≡ header_line_of o entries → FirstFault (FailsFrom 11 o entries) fault
-
-pub failed : (text : List ℕ) (o : Options) (before after : List Draft) (found : Findings) (header : Option (Bor (List ℕ))) (line : ℕ) (fault : LoadFault) → HasCollected text o before found → Sorts before after → FirstRepeat (rows after) (length after) None → IsHeader before header line → NamesCharsets header → Checks header line o found (Some fault) → Refuses text o fault.kind fault.line
+pub failed : (text : List ℕ) (o : Options) (before after : List Draft) (found : Findings) (header : Option (Bor (List ℕ))) (line : ℕ) (fault : LoadFault) → HasCollected text o before found → Sorts before after → FirstRepeat (rows after) (length after) None → IsHeader before header line → NamesCharsets header → IsFault found o (option_map (λ text. text.now) header) line (Some fault) → Refuses text o fault.kind fault.line
 failed text o before after found header line fault c s none h named checks =
     as_refusal text o c.entries fault.kind fault.line c.gives (first_is_check o c.entries fault.kind fault.line (distinct_keys text o before after found c s none) (header_accepted text o before found header line c h named)
     (checks c.entries c.found (header_text text o before found header line c h) (lines_are text o before found header line c h)))
@@ -143,7 +139,7 @@ stats_eq s t a b c =
 abbrev pub Lacks : Options → Option (Bor (List ℕ)) → List Bool → Type 0
 Lacks o header missing = missing ≡ (if o.checked then lacking (option_map (λ text. text.now) header) else none_missing)
 
-pub compiles : (text : List ℕ) (o : Options) (before after : List Draft) (found : Findings) (header : Option (Bor (List ℕ))) (ms : List EntryStrings) (compiled : Compiled) → HasCollected text o before found → Sorts before after → FirstRepeat (rows after) (length after) None → IsHeader before header compiled.header_line → NamesCharsets header → Checks header compiled.header_line o found None → entries_of ms ≡ filter_map kept_entry (rows after) → Counts before compiled.stats → compiled.catalogue ≡ entries_of ms → Lacks o header compiled.missing → Means text o compiled
+pub compiles : (text : List ℕ) (o : Options) (before after : List Draft) (found : Findings) (header : Option (Bor (List ℕ))) (ms : List EntryStrings) (compiled : Compiled) → HasCollected text o before found → Sorts before after → FirstRepeat (rows after) (length after) None → IsHeader before header compiled.header_line → NamesCharsets header → IsFault found o (option_map (λ text. text.now) header) compiled.header_line None → entries_of ms ≡ filter_map kept_entry (rows after) → Counts before compiled.stats → compiled.catalogue ≡ entries_of ms → Lacks o header compiled.missing → Means text o compiled
 compiles text o before after found header ms compiled c s none h named checks kept_are counts catalogue_is missing_are =
     let sorted = ordered text o before after found c s in
     let line_is : compiled.header_line ≡ header_line_of o c.entries = lines_are text o before found header compiled.header_line c h in

@@ -1,11 +1,13 @@
 -- Private: what the checks promise one another of the kept entries that were read so far.
 use Rattle.std.specs.Prelude.{◌≡◌, ◌≢◌, ◌⊎◌, ℕ, ◌≤◌, ◌==◌, Bool, not, true, false, IsTrue, if◌then◌else◌, List, [], ◌∷◌, ◌++◌, Option, Some, None}
 use Rattle.po_text.specs.Entries as po
+use Rattle.po_header.specs.Grammar.{Tree}
+use Rattle.po_header.specs.Rule.{Rule}
 use Rattle.c_signature.specs.Agreement.{Agrees}
 use Rattle.c_signature.specs.Signature as signature
 use Rattle.c_signature.specs.declared.Strictness.{Strictness}
-use Rattle.catalogue.specs.Checks.{NoneOf, FirstAt, HasSystemDependentText, HasOtherArguments, IsPlural, HasOtherCount, HasOtherNewlines, Differs, begins_with_newline, ends_with_newline}
-use Rattle.catalogue.specs.Meaning.{kept, rank, Fails, IsFirst}
+use Rattle.catalogue.specs.Checks.{NoneOf, FirstAt, HasSystemDependentText, HasOtherArguments, IsPlural, HasOtherCount, HasOtherNewlines, has_form, IsFirstWithoutForm, Differs, begins_with_newline, ends_with_newline}
+use Rattle.catalogue.specs.Meaning.{kept, header_line_of, header_text_of, HasHeaderRule, rank, Fails, IsFirst}
 use Rattle.catalogue.specs.declared.checks.Findings.{Findings}
 use Rattle.catalogue.specs.declared.checks.formats.Format.{Format}
 use Rattle.catalogue.specs.declared.checks.formats.Format.TheVariants.{Arguments, Invalid, SystemDependent}
@@ -76,6 +78,11 @@ pub record AddsPlural (old new : Plurals) (forms line : ℕ) : Type 0 where
   pub first : line_of new.first ≡ first_or (line_of old.first) true line
   pub other : (nplurals : ℕ) → line_for new.first nplurals ≡ first_or (line_for old.first nplurals) (not (forms == nplurals)) line
 
+-- the least of 0 to 1000 that takes none, or none of them
+abbrev pub FirstWithoutForm : ℕ → Tree → Option ℕ → Type 0
+FirstWithoutForm nplurals tree None = (n : ℕ) → n ≤ 1000 → has_form nplurals tree n ≡ true
+FirstWithoutForm nplurals tree (Some n) = IsFirstWithoutForm nplurals tree n
+
 -- ---- newlines
 
 -- one begins with a newline and the other doesn't, or so at their ends
@@ -112,3 +119,15 @@ pub record AddsTexts (old new : Findings) (e : po.Entry) : Type 0 where
 -- the entries are refused for this, which isn't before the n-th refusal
 abbrev pub FailsFrom : ℕ → Options → List po.Entry → LoadKind → ℕ → Type 0
 FailsFrom n options entries kind line = (n ≤ rank kind) × Fails options entries kind line
+
+-- one more entry was looked at
+abbrev pub LooksAt : Options → po.Entry → Findings → Findings → Type 0
+LooksAt options e old new = (entries : List po.Entry) → HasFound options entries old → HasFound options (entries ++ e ∷ []) new
+
+-- the first fault that the findings come to, by the rule of a header on this line: from the twelfth refusal on
+abbrev pub IsCheckedFault : Findings → Rule → ℕ → Option LoadFault → Type 0
+IsCheckedFault findings rule at fault = (options : Options) (entries : List po.Entry) → HasFound options entries findings → IsTrue options.checked → HasHeaderRule options entries rule → at ≡ header_line_of options entries → FirstFault (FailsFrom 12 options entries) fault
+
+-- and by the text of the header: from the eleventh on
+abbrev pub IsFault : Findings → Options → Option (List ℕ) → ℕ → Option LoadFault → Type 0
+IsFault findings options header at fault = (entries : List po.Entry) → HasFound options entries findings → header ≡ header_text_of options entries → at ≡ header_line_of options entries → FirstFault (FailsFrom 11 options entries) fault

@@ -1,11 +1,8 @@
 //! The checks of a text, over its kept entries in the order in which they are read.
-ghost use Rattle.std.specs.Prelude.{◌≡◌, ◌++◌, ◌∷◌, [], List, OnOk, IfOk, IsTrue, option_map};
+ghost use Rattle.std.specs.Prelude.{◌≡◌, [], OnOk, IfOk, option_map};
 ghost use Rattle.po_header.specs.Rules.{rule_of};
-ghost use Rattle.po_text.specs.Entries.{Entry as PoEntry};
-ghost use Rattle.catalogue.specs.Meaning.{rank, HasHeaderRule, header_line_of, header_text_of};
 ghost use Rattle.catalogue.specs.Value.{HasRuleIn};
-ghost use Rattle.catalogue.specs.Findings.{first_or, AddsFormats, AddsTexts, FailsFrom, FirstFault, HasFound};
-ghost use Rattle.catalogue.specs.declared.fault.LoadKind.TheVariants.{NoRule, SystemDependent};
+ghost use Rattle.catalogue.specs.Findings.{first_or, AddsFormats, AddsTexts, HasFound, IsCheckedFault, IsFault, LooksAt};
 
 mod formats;
 mod newlines;
@@ -102,7 +99,7 @@ impl Findings {
         entry: &EntryBuffer,
         options: Options,
     ) -> Result<(), AllocError>
-        ensures { OnOk result ((entries : List PoEntry) → HasFound options entries self.old → HasFound options (entries ++ entry.now ∷ []) self.new) }
+        ensures { OnOk result (LooksAt options entry.now self.old self.new) }
     {
         if !is_kept(entry, options) {
             return Ok(());
@@ -116,7 +113,7 @@ impl Findings {
 
     /// The first fault of the checked level, by the rule in the header, which stands at this line.
     fn checked_fault(&self, rule: &RuleRead, header_line: u32) -> Option<LoadFault>
-        ensures { (options : Options) (entries : List PoEntry) → HasFound options entries self.now → IsTrue options.checked → HasHeaderRule options entries (rule_of rule.now) → header_line ≡ header_line_of options entries → FirstFault (FailsFrom (rank NoRule) options entries) result }
+        ensures { IsCheckedFault self.now (rule_of rule.now) header_line result }
     {
         if let Some(fault) = self.plurals.fault(rule, header_line) {
             return Some(fault);
@@ -138,7 +135,7 @@ impl Findings {
         header: Option<&str>,
         header_line: u32,
     ) -> Result<Option<LoadFault>, AllocError>
-        ensures { IfOk result (λ fault. (entries : List PoEntry) → HasFound options entries self.now → option_map (λ text. text.now) header.entry ≡ header_text_of options entries → header_line ≡ header_line_of options entries → FirstFault (FailsFrom (rank SystemDependent) options entries) fault) }
+        ensures { IfOk result (λ fault. IsFault self.now options (option_map (λ text. text.now) header.entry) header_line fault) }
     {
         if let Some(line) = self.system_dependent {
             let kind = LoadKind::SystemDependent;

@@ -1,12 +1,12 @@
 //! The check of plural forms: that there is a rule, that each plural entry has its forms, and that it has a form for
 //! each number.
-ghost use Rattle.std.specs.Prelude.{◌≡◌, ℕ, ◌≤◌, ◌++◌, ◌∷◌, [], List, true, MatchOption};
+ghost use Rattle.std.specs.Prelude.{◌≡◌, ◌++◌, ◌∷◌, [], List};
 ghost use Rattle.po_header.specs.Expr.{tree_of};
 ghost use Rattle.po_header.specs.Rule.{Given};
 ghost use Rattle.po_header.specs.Rules.{rule_of};
 ghost use Rattle.po_text.specs.Entries.{Entry as PoEntry};
-ghost use Rattle.catalogue.specs.Checks.{has_form, IsFirstWithoutForm};
-ghost use Rattle.catalogue.specs.Findings.{line_for, line_of, AddsPlural, FirstFault, HasPlurals};
+ghost use Rattle.catalogue.specs.Checks.{has_form};
+ghost use Rattle.catalogue.specs.Findings.{line_for, line_of, AddsPlural, FirstWithoutForm, FirstFault, HasPlurals};
 ghost use Rattle.catalogue.specs.Meaning.{RuleRefuses};
 
 use super::{fault_at, first_line};
@@ -41,7 +41,7 @@ fn has_form_for(nplurals: u64, expr: &PluralExpr, n: u64) -> bool
 
 /// The least number of 0 to 1000 that takes none of the forms.
 fn first_without_form(nplurals: u64, expr: &PluralExpr) -> Option<u64>
-    ensures { MatchOption result ((n : ℕ) → n ≤ 1000 → has_form nplurals (tree_of expr.now) n ≡ true) (λ n. IsFirstWithoutForm nplurals (tree_of expr.now) n) }
+    ensures { FirstWithoutForm nplurals (tree_of expr.now) result }
 {
     'numbers: for n in 0..1001 {
         if !has_form_for(nplurals, expr, n) {
