@@ -15,7 +15,8 @@ fi
 cat > "$room/follows" <<'END'
 import sys
 
-lines = sys.stdin.read().splitlines()
+# behind the last LF: a line that could not be printed whole
+lines = sys.stdin.read().split('\n')[:-1]
 may_refuse = int(sys.argv[1])
 steps = [('load', 'fr', 'salut'), ('load', 'de', 'hallo'), ('publish',), ('enter',), ('publish',), ('enter',),
          ('ask',), ('load', 'fr', None), ('publish',), ('load', 'sv', 'salut'), ('publish',), ('enter',)]
