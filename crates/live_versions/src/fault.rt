@@ -21,15 +21,19 @@ pub enum OpenFault {
 }
 
 /// Why a load wasn't accepted. Of several reasons that hold, the first of this list is given.
-#[derive(Clone, Copy, Debug, PartialEq, Eq)]
+#[derive(Clone, Copy, Debug, PartialEq, Eq, Error)]
 pub enum StoreFault {
     /// The domain or the locale isn't a name.
+    #[error("not a name")]
     BadName,
     /// As many loads as the store takes were accepted.
+    #[error("as many loads as the store takes")]
     VersionsSpent,
     /// The text is refused, for this reason.
+    #[error("the text is refused")]
     Refused(LoadFault),
     /// Memory was refused, which may stand in place of any other answer.
+    #[error("out of memory")]
     Memory,
 }
 

@@ -1,7 +1,7 @@
 //! The publisher.
-ghost use Rattle.std.specs.Prelude.{◌≡◌, [], ◌∷◌, ◌++◌, ◌+◌, ◌<◌, ◌⊎◌, length, drop, IfOk, IfErr, OnErr};
+ghost use Rattle.std.specs.Prelude.{◌≡◌, [], length, drop, IfOk, IfErr, OnErr};
 ghost use Rattle.std.specs.Arc.{arc_value};
-ghost use Rattle.catalogue.specs.Meaning.{Means, Refuses};
+ghost use Rattle.catalogue.specs.Meaning.{Means};
 ghost use Rattle.live_set.specs.Names.{IsName};
 ghost use Rattle.live_versions.specs.Batches.{version_of, published};
 ghost use Rattle.live_versions.specs.Store.{Accepts, IsRefused, NameFaultOf, TextFaultOf};
@@ -110,7 +110,7 @@ impl Publisher {
         Notice::new(&self.front)
     }
 
-    /// TextFaultOf a PO text for a domain and a locale (`catalogue::compile`), and puts it behind the pending loads.
+    /// Compiles a PO text for a domain and a locale (`catalogue::compile`), and puts it behind the pending loads.
     ///
     /// It is refused where the domain or the locale is no name (`live_set::Name::new`), else where the loads
     /// that are published or pending are as many as the store takes, else for what the text is refused for.
