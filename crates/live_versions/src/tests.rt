@@ -338,7 +338,7 @@ fn entries_answer_each_call(rt: HostRuntime) -> Result<(), Fail> {
     let published = publisher.publish(&rt);
     let found = look_all(rt.alloc(), &mut reader);
     publisher.end(&rt);
-    let closed = reader.enter().is_err();
+    let closed = !shows(&mut reader, 1, "hi", "hi", "hi");
     assert_eq!(rt; (loaded, published), (Ok(ONE), Ok(1)));
     assert_eq!(rt; found, Ok([true; 6]));
     assert!(rt; closed);

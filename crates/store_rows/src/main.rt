@@ -7,7 +7,7 @@ ghost use Rattle.std.specs.Prelude.{◌≡◌};
 use catalogue::{LoadFault, Options};
 use live_set::{Ask, Query};
 use live_versions::{Lookups, Publisher, StoreFault, open_store};
-use std::alloc::AllocError;
+use std::alloc::{AllocError, Global};
 use std::io;
 use std::sync::Wait;
 
