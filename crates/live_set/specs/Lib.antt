@@ -1,0 +1,4 @@
+pub mod Names
+pub mod Loads
+pub mod Asks
+pub mod Sets

@@ -1,0 +1,98 @@
+//! Names of text domains and of locales.
+ghost use Rattle.std.specs.Prelude.{◌≡◌, ◌↔◌, IfOk, IfErr, IsTrue};
+ghost use Rattle.live_set.specs.Names.{IsName, is_name_byte};
+ghost use Rattle.live_set.specs.declared.name.NameFault.TheVariants.{BadName, Memory};
+
+use std::alloc::{AllocError, Global};
+use std::marker::Model;
+use thiserror::Error;
+
+/// How many bytes a name may have.
+pub const NAME_LIMIT: usize = 64;
+
+/// Why a text was not taken as a name.
+#[derive(Clone, Copy, Debug, PartialEq, Eq, Error)]
+pub enum NameFault {
+    /// The text is empty, has more than 64 bytes, or has a byte that no name has.
+    #[error("not a name")]
+    BadName,
+    /// Want of memory.
+    #[error("out of memory")]
+    Memory,
+}
+
+impl From<AllocError> for NameFault {
+    ghost from_gives = { λ _ fault. fault ≡ Memory };
+
+    fn from(_: AllocError) -> NameFault {
+        NameFault::Memory
+    }
+}
+
+/// A name of a text domain or of a locale: 1 to 64 bytes, each an ASCII letter, a digit or one of
+/// `_ - . @ +`. Contracts see it as its bytes.
+#[derive(Debug, Drop)]
+pub struct Name {
+    text: String,
+}
+
+impl Model for Name {
+    ghost use Rattle.std.specs.Prelude.{ℕ, List, string_bytes};
+
+    ghost Value = { List ℕ };
+
+    ghost use Rattle.live_set.specs.Names.{IsName};
+
+    ghost view = { λ name. string_bytes name.text };
+
+    ghost invariant = { λ name. IsName (string_bytes name.text) };
+}
+
+/// Whether a name may have this byte.
+fn is_name_byte(byte: u8) -> bool
+    ensures { result ≡ is_name_byte byte }
+{
+    byte.is_ascii_alphanumeric() || matches!(byte, b'_' | b'-' | b'.' | b'@' | b'+')
+}
+
+/// Whether the text is a name.
+fn is_name(text: &str) -> bool
+    ensures { IsTrue result ↔ IsName text.now }
+{
+    0 < text.len() && text.len() <= NAME_LIMIT && text.bytes().all(is_name_byte)
+}
+
+impl Name {
+    /// The name with this text. Answers BadName exactly where the text is no name.
+    pub fn new(alloc: Global, text: &str) -> Result<Name, NameFault>
+        ensures name { IfOk result (λ name. name ≡ text.now) }
+        ensures good { IfOk result (λ _. IsName text.now) }
+        ensures bad { IfErr result (λ fault. (fault ≡ BadName) ↔ (¬ IsName text.now)) }
+    {
+        if !is_name(text) {
+            return Err(NameFault::BadName);
+        }
+        Ok(Name {
+            text: String::from_str(alloc, text)?,
+        })
+    }
+
+    /// The text of the name.
+    pub fn as_str(&self) -> &str
+        ensures text { result.now ≡ self.now }
+
+        // Every name is one.
+        ensures name { IsName self.now }
+    {
+        self.text.as_str()
+    }
+
+    /// The same name again. Answers AllocError where memory is refused.
+    pub fn try_clone(&self) -> Result<Name, AllocError>
+        ensures { IfOk result (λ name. name ≡ self.now) }
+    {
+        Ok(Name {
+            text: self.text.clone()?,
+        })
+    }
+}

@@ -1,0 +1,48 @@
+//! Queries: a call of gettext and its kin in a domain and a locale.
+use std::marker::Model;
+
+/// A call of gettext, pgettext, ngettext or npgettext, with its texts.
+#[derive(Debug, Drop)]
+pub enum Ask {
+    /// The translation of a msgid.
+    Plain {
+        id: String,
+    },
+    /// The translation of a msgid in a context.
+    Context {
+        context: String,
+        id: String,
+    },
+    /// The form that a number takes of a message with a plural.
+    Number {
+        id: String,
+        plural: String,
+        n: u64,
+    },
+    /// The same of a message in a context.
+    ContextNumber {
+        context: String,
+        id: String,
+        plural: String,
+        n: u64,
+    },
+}
+
+/// A call in a domain and a locale, which may be any texts. Contracts see it by its texts' bytes.
+#[derive(Debug, Drop)]
+pub struct Query {
+    pub domain: String,
+    pub locale: String,
+    pub ask: Ask,
+}
+
+impl Model for Query {
+    ghost use Rattle.live_set.specs.Asks.{QueryValue};
+
+    ghost Value = { QueryValue };
+
+    ghost use Rattle.std.specs.Prelude.{string_bytes};
+    ghost use Rattle.live_set.specs.Asks.{ask_value};
+
+    ghost view = { λ query. record { domain = string_bytes query.domain; locale = string_bytes query.locale; ask = ask_value query.ask } };
+}

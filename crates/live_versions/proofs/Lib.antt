@@ -1,0 +1,6 @@
+pub mod Adding
+pub mod Changes
+pub mod Events
+pub mod Joining
+pub mod Looking
+pub mod Steps

@@ -1,0 +1,26 @@
+-- Batches of loads: the loads of one batch were published in one step.
+use Rattle.std.specs.Prelude.{◌≡◌, ◌≢◌, ⊤, ℕ, List, [], ◌∷◌, ◌++◌, length}
+use Rattle.live_set.specs.Loads.{LoadValue}
+
+-- the published list: the batches joined
+abbrev pub joined : List (List LoadValue) → List LoadValue
+joined [] = []
+joined (batch ∷ batches) = batch ++ joined batches
+
+-- a version is the length of the published list
+abbrev pub version_of : List (List LoadValue) → ℕ
+version_of batches = length (joined batches)
+
+-- the longer list begins with the shorter one
+abbrev pub StartsWith : List (List LoadValue) → List (List LoadValue) → Type 0
+StartsWith longer shorter = (rest : List (List LoadValue)) × (longer ≡ shorter ++ rest)
+
+-- no batch is empty
+abbrev pub NoneEmpty : List (List LoadValue) → Type 0
+NoneEmpty [] = ⊤
+NoneEmpty (batch ∷ batches) = (batch ≢ []) × NoneEmpty batches
+
+-- the pending loads become one new last batch, if there are any
+abbrev pub published : List (List LoadValue) → List LoadValue → List (List LoadValue)
+published batches [] = batches
+published batches (load ∷ loads) = batches ++ (load ∷ loads) ∷ []

@@ -1,0 +1,75 @@
+-- The history of a store, as its events: what may happen, and what it does.
+use Rattle.std.specs.Prelude.{◌≡◌, ⊤, ℕ, ◌+◌, ◌<◌, ◌≤◌, ◌==◌, max, if◌then◌else◌, List, [], ◌∷◌, ◌++◌, length, fold}
+use Rattle.live_set.specs.Loads.{LoadValue}
+use Rattle.live_versions.specs.Batches.{version_of, StartsWith, published}
+
+-- a load is accepted or refused; the pending loads are published; a reader enters what is published, of this version,
+-- or learns of what was, of this version
+pub data Event : Type 0 where
+  Accept : (load : LoadValue) → Event
+  Refuse : Event
+  Publish : Event
+  Enter : (reader version : ℕ) → Event
+  Learn : (reader version : ℕ) → Event
+
+-- the published batches, the pending loads, and the greatest version that each reader entered or learnt of
+pub record State : Type 0 where
+  pub batches : List (List LoadValue)
+  pub pending : List LoadValue
+  pub seen : ℕ → ℕ
+
+abbrev pub opened : State
+opened = record { batches = []; pending = []; seen = λ reader. 0 }
+
+-- the same numbers, but for this reader
+abbrev pub with_seen : State → ℕ → ℕ → State
+with_seen s reader version = record s { seen = λ other. if other == reader then version else s.seen other }
+
+-- what an event does
+abbrev pub after : State → Event → State
+after s (Accept load) = record s { pending = s.pending ++ load ∷ [] }
+after s Refuse = s
+after s Publish = record s { batches = published s.batches s.pending; pending = [] }
+after s (Enter reader version) = with_seen s reader version
+after s (Learn reader version) = with_seen s reader (max (s.seen reader) version)
+
+-- the state that a history leads to
+abbrev pub state_of : List Event → State
+state_of history = fold after opened history
+
+-- the version is that of what is published after some first events
+abbrev pub WasPublished : List Event → ℕ → Type 0
+WasPublished history version = (first rest : List Event) × (history ≡ first ++ rest) × (version ≡ version_of (state_of first).batches)
+
+-- an event may happen behind these ones, in a store that accepts so many loads at most
+abbrev pub MayFollow : ℕ → List Event → Event → Type 0
+MayFollow most history (Accept load) = version_of (state_of history).batches + length (state_of history).pending < most
+MayFollow most history Refuse = ⊤
+MayFollow most history Publish = ⊤
+MayFollow most history (Enter reader version) = version ≡ version_of (state_of history).batches
+MayFollow most history (Learn reader version) = WasPublished history version
+
+-- each event may follow those before it
+abbrev pub IsLegal : ℕ → List Event → Type 0
+IsLegal most history = (first : List Event) (event : Event) (rest : List Event) → history ≡ first ++ event ∷ rest → MayFollow most first event
+
+-- the version is that of whole batches at the front of what is published
+abbrev pub IsWhole : State → ℕ → Type 0
+IsWhole s version = (front : List (List LoadValue)) × StartsWith s.batches front × (version ≡ version_of front)
+
+-- ---- the laws
+
+-- in every legal history the version that a reader has seen never falls
+abbrev pub NeverFalls : Type 0
+NeverFalls = (most : ℕ) (first rest : List Event) (reader : ℕ) → IsLegal most (first ++ rest) → (state_of first).seen reader ≤ (state_of (first ++ rest)).seen reader
+
+-- a reader enters no version below one that it entered or learnt of before
+abbrev pub EntersNoLess : Type 0
+EntersNoLess = (most : ℕ) (first between : List Event) (reader version : ℕ) → IsLegal most ((first ++ between) ++ Enter reader version ∷ []) → (state_of first).seen reader ≤ version
+
+-- each version that a reader enters or learns of, and each that it has seen, is that of whole batches at the front
+abbrev pub SeesWholeBatches : Type 0
+SeesWholeBatches = (most : ℕ) (history : List Event) (reader : ℕ) → IsLegal most history → IsWhole (state_of history) ((state_of history).seen reader)
+
+abbrev pub EntersWholeBatches : Type 0
+EntersWholeBatches = (most : ℕ) (history : List Event) (reader version : ℕ) → IsLegal most (history ++ Enter reader version ∷ []) → IsWhole (state_of history) version

@@ -1,0 +1,9 @@
+pub mod Batches
+pub mod History
+pub mod Store
+pub mod Told
+pub mod Views
+pub mod Changes
+pub mod Entered
+pub mod Rule
+pub mod Known

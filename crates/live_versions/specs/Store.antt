@@ -1,0 +1,60 @@
+-- What a publisher stands for, and what a load does to it.
+use Rattle.std.specs.Prelude.{◌≡◌, ⊤, ℕ, ◌+◌, ◌<◌, List, [], ◌∷◌, ◌++◌, length}
+use Rattle.catalogue.specs.Meaning.{Means, Refuses}
+use Rattle.catalogue.specs.declared.compiler.Options.{Options}
+use Rattle.catalogue.specs.declared.compiler.Stats.{Stats}
+use Rattle.catalogue.specs.declared.compiler.Compiled.{Compiled}
+use Rattle.live_set.specs.Names.{IsName}
+use Rattle.live_set.specs.Loads.{LoadValue}
+use Rattle.live_versions.specs.Batches.{version_of}
+use Rattle.live_versions.specs.Told.{FrontValue}
+use Rattle.live_versions.specs.declared.fault.StoreFault.{StoreFault}
+use Rattle.live_versions.specs.declared.fault.StoreFault.TheVariants.{BadName, VersionsSpent, Refused, Memory}
+
+-- the published batches, the loads that are pending, and how many loads may be accepted in all
+pub record StoreValue : Type 0 where
+  pub front : FrontValue
+  pub pending : List LoadValue
+  pub most : ℕ
+
+-- how many loads were accepted, published or pending
+abbrev pub accepted : StoreValue → ℕ
+accepted s = version_of s.front.batches + length s.pending
+
+-- both are names
+pub record AreNames (domain locale : List ℕ) : Type 0 where
+  pub domain_is : IsName domain
+  pub locale_is : IsName locale
+
+abbrev pub HasRoom : StoreValue → Type 0
+HasRoom s = accepted s < s.most
+
+-- the load is accepted: what the text means is the last of the pending loads
+pub record Accepts (s : StoreValue) (domain locale text : List ℕ) (options : Options) (stats : Stats) (after : StoreValue) : Type 0 where
+  pub compiled : Compiled
+  pub names : AreNames domain locale
+  pub room : HasRoom s
+  pub means : Means text options compiled
+  pub stats_are : stats ≡ compiled.stats
+  pub after_is : after ≡ record s { pending = s.pending ++ record { domain = domain; locale = locale; map = compiled.catalogue } ∷ [] }
+
+-- the load is refused for this reason, and for none before it; want of memory says nothing
+abbrev pub IsRefused : StoreValue → List ℕ → List ℕ → List ℕ → Options → StoreFault → Type 0
+IsRefused s domain locale text options BadName = ¬ AreNames domain locale
+IsRefused s domain locale text options VersionsSpent = AreNames domain locale × (accepted s ≡ s.most)
+IsRefused s domain locale text options (Refused fault) = AreNames domain locale × HasRoom s × Refuses text options fault.kind fault.line
+IsRefused s domain locale text options Memory = ⊤
+
+-- ---- private: what the steps of a load answer
+
+-- this fault says that the text is no name, or nothing
+abbrev pub NameFaultOf : List ℕ → StoreFault → Type 0
+NameFaultOf text BadName = ¬ IsName text
+NameFaultOf text Memory = ⊤
+NameFaultOf text _ = ⊥
+
+-- this fault is the text's refusal, or says nothing
+abbrev pub TextFaultOf : List ℕ → Options → StoreFault → Type 0
+TextFaultOf text options (Refused fault) = Refuses text options fault.kind fault.line
+TextFaultOf text options Memory = ⊤
+TextFaultOf text options _ = ⊥

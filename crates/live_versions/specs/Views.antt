@@ -1,0 +1,12 @@
+-- Private: what a seat of the two copies knows.
+use Rattle.std.specs.Prelude.{List, []}
+use Rattle.logbook.specs.Pages.{Book}
+use Rattle.live_set.specs.Loads.{LoadValue}
+
+-- the book, if it is known, and the batches that were seen
+pub record ViewValue : Type 0 where
+  pub books : List Book
+  pub batches : List (List LoadValue)
+
+abbrev pub fresh : ViewValue
+fresh = record { books = []; batches = [] }

@@ -1,0 +1,139 @@
+//! Entries of readers, and what is looked up in one.
+ghost use Rattle.std.specs.Prelude.{◌≡◌, [], ◌∷◌};
+ghost use Rattle.left_right.specs.Sides.{view};
+ghost use Rattle.live_set.specs.Asks.{HasValue, IsAnswer, Plain, Context, Number, ContextNumber};
+ghost use Rattle.live_set.specs.Loads.{map_of};
+ghost use Rattle.live_set.specs.Sets.{fold};
+ghost use Rattle.live_versions.specs.Batches.{joined, version_of};
+ghost use Rattle.live_versions.specs.Entered.{entry_of};
+
+use crate::Version;
+use crate::front::Front;
+use crate::reader::{Lookups, StoreReader};
+use crate::rule::{Shown, Versions, View};
+use left_right::reader::Reading;
+use live_set::{CatalogueSet, Query};
+use std::marker::Model;
+
+pub(crate) type StoreReading = Reading<Shown, View, Versions>;
+
+/// The set of one entry. Contracts see it as the batches that were published at its step.
+pub struct Entry {
+    reading: StoreReading,
+    front: Front,
+}
+
+impl Model for Entry {
+    ghost use Rattle.std.specs.Prelude.{◌≡◌, [], ◌∷◌};
+    ghost use Rattle.left_right.specs.Sides.{view as known};
+    ghost use Rattle.live_set.specs.Sets.{fold};
+    ghost use Rattle.live_versions.specs.Batches.{joined};
+    ghost use Rattle.live_versions.specs.Told.{FrontValue};
+
+    ghost Value = { FrontValue };
+
+    ghost view = { λ e. e.front };
+
+    ghost invariant = { λ e. (e.reading.part.value.set ≡ fold (joined e.front.batches)) × ((known e.reading.place).books ≡ e.front.book ∷ []) × ((known e.reading.place).batches ≡ e.front.batches) };
+}
+
+impl Entry {
+    pub(crate) fn new(reading: StoreReading, front: Front) -> Entry
+        requires { (reading.part.value.set ≡ fold (joined front.batches)) × ((view reading.place).books ≡ front.book ∷ []) × ((view reading.place).batches ≡ front.batches) }
+        ensures { result ≡ front }
+    {
+        Entry { reading, front }
+    }
+
+    fn leave(self) -> (StoreReader, Front)
+        ensures { ((view result.0.place).books ≡ self.book ∷ []) × ((view result.0.place).batches ≡ self.batches) × (result.1 ≡ self) }
+    {
+        let Entry { reading, front } = self;
+        (reading.leave(), front)
+    }
+}
+
+/// An entry of a reader: what was published at one step, whatever is published meanwhile. It borrows its reader.
+/// It is not `Drop`: end it by `leave`. None of its calls waits or takes memory.
+pub struct Pinned<'a, G = Entry> {
+    pub(crate) home: &'a mut Lookups,
+    pub(crate) entry: G,
+}
+
+impl Pinned<'_> {
+    /// How many loads were published at the entry's step.
+    pub fn version(&self) -> Version
+        ensures { result ≡ version_of (entry_of self.now).batches }
+    {
+        let entry = &self.entry;
+        entry.front.version()
+    }
+
+    /// The text of a query.
+    pub fn look<'a>(&'a self, query: &'a Query) -> &'a str
+        ensures { IsAnswer (joined (entry_of self.now).batches) query.now result.now }
+    {
+        self.set().look(query)
+    }
+
+    /// The translation of a msgid in a domain and a locale (`catalogue::Catalogue::gettext`), or the msgid where
+    /// there is none.
+    pub fn gettext<'a>(&'a self, domain: &str, locale: &str, id: &'a str) -> &'a str
+        ensures { HasValue (map_of (joined (entry_of self.now).batches) domain.now locale.now) (Plain id.now) result.now }
+    {
+        self.set().gettext(domain, locale, id)
+    }
+
+    /// The translation of a msgid in a context (`pgettext`).
+    pub fn pgettext<'a>(&'a self, domain: &str, locale: &str, context: &str, id: &'a str) -> &'a str
+        ensures { HasValue (map_of (joined (entry_of self.now).batches) domain.now locale.now) (Context context.now id.now) result.now }
+    {
+        self.set().pgettext(domain, locale, context, id)
+    }
+
+    /// The form that a number takes of a message with a plural (`ngettext`).
+    pub fn ngettext<'a>(
+        &'a self,
+        domain: &str,
+        locale: &str,
+        id: &'a str,
+        plural: &'a str,
+        n: u64,
+    ) -> &'a str
+        ensures { HasValue (map_of (joined (entry_of self.now).batches) domain.now locale.now) (Number id.now plural.now n) result.now }
+    {
+        self.set().ngettext(domain, locale, id, plural, n)
+    }
+
+    /// The same of a message in a context (`npgettext`).
+    pub fn npgettext<'a>(
+        &'a self,
+        domain: &str,
+        locale: &str,
+        context: &str,
+        id: &'a str,
+        plural: &'a str,
+        n: u64,
+    ) -> &'a str
+        ensures { HasValue (map_of (joined (entry_of self.now).batches) domain.now locale.now) (ContextNumber context.now id.now plural.now n) result.now }
+    {
+        self.set().npgettext(domain, locale, context, id, plural, n)
+    }
+
+    /// The set of the entry.
+    fn set(&self) -> &CatalogueSet
+        ensures { result.now ≡ fold (joined (entry_of self.now).batches) }
+    {
+        let entry = &self.entry;
+        &entry.reading.get().set
+    }
+
+    /// Ends the entry and the borrow. The reader has then seen the entry's batches.
+    pub fn leave(self)
+        ensures { self.exit.0.now ≡ entry_of self.entry }
+    {
+        let Pinned { home, entry } = self;
+        let (reader, front) = entry.leave();
+        home.come_home(reader, front);
+    }
+}

@@ -1,0 +1,203 @@
+//! The publisher.
+ghost use Rattle.std.specs.Prelude.{◌≡◌, [], length, drop, IfOk, IfErr, OnErr};
+ghost use Rattle.std.specs.Arc.{arc_value};
+ghost use Rattle.catalogue.specs.Meaning.{Means};
+ghost use Rattle.live_set.specs.Names.{IsName};
+ghost use Rattle.live_versions.specs.Batches.{version_of, published};
+ghost use Rattle.live_versions.specs.Store.{Accepts, IsRefused, NameFaultOf, TextFaultOf};
+
+use crate::Version;
+use crate::fault::{PublishFault, StoreFault};
+use crate::front::Front;
+use crate::notice::Notice;
+use crate::seal::{Home, Seal, bundle_of};
+use crate::writer::{StoreWriter, append_load, append_seal, publish_at, shown_front};
+use catalogue::{Compiled, LoadKind, Options, Stats, compile};
+use live_set::{Load, Name, NameFault};
+use std::alloc::Global;
+use std::marker::Model;
+use std::snapshot::Snapshot;
+use std::sync::{Arc, Wait};
+
+/// What loads and publishes catalogues. It is not `Drop`: end it by `end`.
+///
+/// Contracts see it as the batches that are published, the loads that are pending, and how many loads it
+/// may accept in all.
+pub struct Publisher {
+    writer: StoreWriter,
+    home: Arc<Home>,
+    front: Front,
+    most: u64,
+    /// How many loads are pending.
+    pending: u64,
+}
+
+impl Model for Publisher {
+    ghost use Rattle.std.specs.Prelude.{◌≡◌, ◌+◌, ◌≤◌, ◌<◌, ◌^◌, drop, length};
+    ghost use Rattle.std.specs.Arc.{arc_value};
+    ghost use Rattle.live_versions.specs.Store.{StoreValue};
+    ghost use Rattle.live_versions.specs.Batches.{version_of};
+    ghost use Rattle.live_versions.specs.Changes.{loads_of};
+
+    ghost Value = { StoreValue };
+
+    ghost view = { λ p. record { front = p.front; pending = loads_of (drop p.writer.behind p.writer.log.items); most = p.most } };
+
+    ghost invariant = { λ p. (p.writer.desk.shown.value.front ≡ p.front) × ((arc_value p.home).head.word.book ≡ p.front.book) × (p.pending ≡ length (loads_of (drop p.writer.behind p.writer.log.items))) × (version_of p.front.batches + p.pending ≤ p.most) × (p.most < 2 ^ 64) };
+}
+
+/// The name with this text.
+fn name_of(alloc: Global, text: &str) -> Result<Name, StoreFault>
+    ensures ok { IfOk result (λ name. (name ≡ text.now) × IsName text.now) }
+    ensures err { IfErr result (NameFaultOf text.now) }
+{
+    match Name::new(alloc, text) {
+        Ok(name) => Ok(name),
+        Err(NameFault::BadName) => Err(StoreFault::BadName),
+        Err(NameFault::Memory) => Err(StoreFault::Memory),
+    }
+}
+
+/// What the text compiles to.
+fn compiled(alloc: Global, bytes: &[u8], options: Options) -> Result<Compiled, StoreFault>
+    ensures ok { IfOk result (Means bytes.now options) }
+    ensures err { IfErr result (TextFaultOf bytes.now options) }
+{
+    match compile(alloc, bytes, options) {
+        Ok(compiled) => Ok(compiled),
+        Err(fault) => match fault.kind {
+            LoadKind::Memory => Err(StoreFault::Memory),
+            _ => Err(StoreFault::Refused(fault)),
+        },
+    }
+}
+
+impl Publisher {
+    pub(crate) fn new(writer: StoreWriter, home: Arc<Home>, front: Front, most: u64) -> Publisher
+        requires shown { (writer.desk.shown.value.front ≡ front) × (front.batches ≡ []) }
+        requires pending { drop writer.behind writer.log.items ≡ [] }
+        requires home { (arc_value home).head.word.book ≡ front.book }
+        ensures { result ≡ record { front = front; pending = []; most = most } }
+    {
+        Publisher {
+            writer,
+            home,
+            front,
+            most,
+            pending: 0,
+        }
+    }
+
+    /// How many loads are published.
+    pub fn version(&self) -> Version
+        ensures { result ≡ version_of self.now.front.batches }
+    {
+        self.front.version()
+    }
+
+    /// How many loads are pending: accepted and not published.
+    pub fn pending(&self) -> u64
+        ensures { result ≡ length self.now.pending }
+    {
+        self.pending
+    }
+
+    /// A notice of what is published now.
+    pub fn tell(&mut self) -> Notice
+        ensures notice { result ≡ self.old.front }
+        ensures same { self.new ≡ self.old }
+    {
+        Notice::new(&self.front)
+    }
+
+    /// Compiles a PO text for a domain and a locale (`catalogue::compile`), and puts it behind the pending loads.
+    ///
+    /// It is refused where the domain or the locale is no name (`live_set::Name::new`), else where the loads
+    /// that are published or pending are as many as the store takes, else for what the text is refused for.
+    /// Where memory is refused in the call, `Memory` may stand in place of any other answer. A refused load
+    /// changes nothing.
+    pub fn load(
+        &mut self,
+        alloc: Global,
+        domain: &str,
+        locale: &str,
+        bytes: &[u8],
+        options: Options,
+    ) -> Result<Stats, StoreFault>
+        ensures ok { IfOk result (λ stats. Accepts self.old domain.now locale.now bytes.now options stats self.new) }
+        ensures err { IfErr result (IsRefused self.old domain.now locale.now bytes.now options) }
+        ensures unchanged { OnErr result (self.new ≡ self.old) }
+
+        // Its published batches stay in any case.
+        ensures front { self.new.front ≡ self.old.front }
+    {
+        let domain = name_of(alloc, domain)?;
+        let locale = name_of(alloc, locale)?;
+        if self.most - self.front.version() <= self.pending {
+            return Err(StoreFault::VersionsSpent);
+        }
+        let Compiled {
+            catalogue,
+            stats,
+            missing: _,
+            header_line: _,
+        } = compiled(alloc, bytes, options)?;
+        let load = Load {
+            domain,
+            locale,
+            catalogue: Arc::new(alloc, catalogue)?,
+        };
+        append_load(&mut self.writer, load)?;
+        self.pending += 1;
+        Ok(stats)
+    }
+
+    /// Publishes all pending loads in one step, as one batch, and answers the version. With nothing pending
+    /// the version stays.
+    ///
+    /// Where memory is refused, nothing is changed: the loads stay pending, and the next publish takes
+    /// them with those that were accepted meanwhile. It waits for readers that entered the copy that it
+    /// writes next: a `Pinned` that is never left may keep it from returning.
+    pub fn publish<R: Wait>(&mut self, rt: &R) -> Result<Version, PublishFault>
+        ensures ok { IfOk result (λ _. self.new.front ≡ record { book = self.old.front.book; batches = published self.old.front.batches self.old.pending }) }
+        ensures version { IfOk result (λ version. version ≡ version_of self.new.front.batches) }
+        ensures empty { IfOk result (λ _. self.new.pending ≡ []) }
+        ensures err { OnErr result (self.new ≡ self.old) }
+        ensures most { self.new.most ≡ self.old.most }
+
+        // It stays the publisher of the same store.
+        ensures book { self.new.front.book ≡ self.old.front.book }
+    {
+        if self.pending == 0 {
+            return Ok(self.front.version());
+        }
+        let Ok(home) = Arc::try_clone(&self.home) else {
+            return Err(PublishFault::Memory);
+        };
+        let bundle = bundle_of(&self.writer);
+        let seal = Seal::new(home, self.front.again(), self.pending, bundle);
+        let shown = Snapshot::of(&seal);
+        if append_seal(&mut self.writer, seal).is_err() {
+            return Err(PublishFault::Memory);
+        }
+        if publish_at(rt, &mut self.writer, &shown).is_err() {
+            return Err(PublishFault::Memory);
+        }
+        self.front = shown_front(rt, &self.writer);
+        self.pending = 0;
+        Ok(self.front.version())
+    }
+
+    /// Ends the publisher. Its pending loads are dropped, and readers that enter from now on may find the
+    /// store closed. It waits until every `Pinned` is left.
+    pub fn end<R: Wait>(self, rt: &R) {
+        let Publisher {
+            writer,
+            home: _,
+            front: _,
+            most: _,
+            pending: _,
+        } = self;
+        drop(writer.take(rt));
+    }
+}

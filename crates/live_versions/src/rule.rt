@@ -1,0 +1,81 @@
+//! The rule between the publisher and the readers, over the two copies of `left_right`.
+ghost use Rattle.std.specs.Prelude.{◌≡◌, MatchResult};
+ghost use Rattle.live_versions.specs.Rule.{Keeps, Sees, applied_to};
+ghost use Rattle.live_versions.specs.Views.{fresh};
+
+use crate::front::Front;
+use crate::seal::{Cover, Seal};
+use crossbeam_utils::rule::{Outcome, Protocol};
+use left_right::Absorb;
+use live_set::{CatalogueSet, Load};
+use std::alloc::AllocError;
+use std::marker::Model;
+
+/// What the publisher asks of the copies.
+#[derive(Drop)]
+pub(crate) enum Change {
+    /// One more load.
+    Load(Load),
+    /// The loads so far are these batches.
+    Seal(Seal),
+}
+
+/// The set that readers take, and the batches that it is the fold of.
+#[derive(Drop)]
+pub(crate) struct Shown {
+    pub(crate) set: CatalogueSet,
+    pub(crate) front: Cover,
+}
+
+/// What the two copies have in common. No value of it is made.
+pub(crate) struct Common {
+    pub(crate) set: CatalogueSet,
+    pub(crate) front: Front,
+}
+
+impl Absorb<Change> for Shown {
+    type State = Common;
+
+    ghost state = { λ s. record { set = s.set; front = s.front } };
+
+    ghost applied = { applied_to };
+
+    fn absorb_first(&mut self, operation: &Change, _other: &Shown) -> Result<(), AllocError> {
+        match operation {
+            Change::Load(load) => self.set.absorb(load),
+            // By now each load before it was taken in, so nothing that follows takes memory.
+            Change::Seal(seal) => {
+                self.front = seal.cover();
+                Ok(())
+            }
+        }
+    }
+}
+
+/// What a seat knows: the book, and batches that were published. No value of it is made.
+pub(crate) struct View {
+    nothing: (),
+}
+
+impl Model for View {
+    ghost use Rattle.live_versions.specs.Views.{ViewValue, fresh};
+
+    ghost Value = { ViewValue };
+
+    ghost view = { λ _. fresh };
+}
+
+pub(crate) struct Versions;
+
+impl Protocol<Shown, View> for Versions {
+    ghost holds = { λ x views. Keeps x.set x.front views };
+
+    ghost first = { fresh };
+}
+
+/// An entry sees what is published.
+pub(crate) struct Entered;
+
+impl Outcome<Shown, View> for Entered {
+    ghost then = { λ v x y w. Sees v y.set y.front w };
+}

@@ -1,0 +1,128 @@
+//! Opening a store.
+ghost use Rattle.std.specs.Prelude.{◌≡◌, ◌≢◌, ◌<◌, ◌≤◌, ◌↔◌, ◌⊎◌, [], ◌∷◌, All, IfOk, IfErr, vec_len};
+ghost use Rattle.live_set.specs.Sets.{no_loads};
+ghost use Rattle.live_versions.specs.declared.fault.OpenFault.TheVariants.{BadCount};
+ghost use Rattle.left_right.specs.Sides.{view};
+
+use crate::fault::OpenFault;
+use crate::front::{Front, open_book};
+use crate::publisher::Publisher;
+use crate::reader::Lookups;
+use crate::rule::{Shown, View};
+use crate::seal::{Cover, Home};
+use crate::writer::{StoreWriter, name_book};
+use atomic_table::{Join, Split};
+use left_right::writer::Writer;
+use live_set::CatalogueSet;
+use std::alloc::Global;
+use std::sync::atomic::AtomicU64;
+use std::sync::{Arc, Wait};
+
+/// How many readers a store may have.
+const MOST_READERS: u32 = 16;
+
+struct Same;
+
+impl Split<View> for Same {
+    ghost left = { λ v. v };
+
+    ghost right = { λ v. v };
+}
+
+impl Join<View> for Same {
+    ghost use Rattle.live_versions.specs.Views.{fresh};
+
+    ghost both = { λ v w. w };
+
+    ghost spent = { fresh };
+}
+
+/// A reader of the writer's book.
+fn new_reader(writer: &mut StoreWriter, front: &Front) -> Result<Lookups, OpenFault>
+    requires { (view writer.old.desk.place).books ≡ front.now.book ∷ [] }
+    ensures reader { IfOk result (λ l. l ≡ front.now) }
+    ensures fault { IfErr result (λ fault. fault ≢ BadCount) }
+    ensures kept { (writer.new.desk.shown ≡ writer.old.desk.shown) × (writer.new.log ≡ writer.old.log) × (writer.new.behind ≡ writer.old.behind) × (view writer.new.desk.place ≡ view writer.old.desk.place) }
+{
+    let Ok(mut reader) = writer.factory().reader() else {
+        return Err(OpenFault::NoPlace);
+    };
+    reader.learn::<Same>(writer.tell::<Same>());
+    Ok(Lookups::new(reader, front.again()))
+}
+
+/// So many readers of this book, which have seen nothing.
+fn new_readers(
+    alloc: Global,
+    writer: &mut StoreWriter,
+    front: &Front,
+    readers: u32,
+) -> Result<Vec<Lookups>, OpenFault>
+    requires { (view writer.old.desk.place).books ≡ front.now.book ∷ [] }
+    ensures readers { IfOk result (λ v. (vec_len v ≡ readers) × All (λ l. l ≡ front.now) v.items) }
+    ensures fault { IfErr result (λ fault. fault ≢ BadCount) }
+    ensures kept { (writer.new.desk.shown ≡ writer.old.desk.shown) × (writer.new.log ≡ writer.old.log) × (writer.new.behind ≡ writer.old.behind) }
+{
+    let mut lookups = Vec::new(alloc);
+    for _ in 0..readers {
+        let lookup = new_reader(writer, front)?;
+        if lookups.push(lookup).is_err() {
+            return Err(OpenFault::Memory);
+        }
+    }
+    Ok(lookups)
+}
+
+/// A copy of what is published at first.
+fn first_shown(alloc: Global, front: &Front) -> Shown
+    ensures set { result.set ≡ no_loads }
+    ensures front { result.front ≡ front.now }
+{
+    Shown {
+        set: CatalogueSet::new(alloc),
+        front: Cover::first(front),
+    }
+}
+
+/// Opens a store with so many readers, which accepts at most so many loads.
+///
+/// `BadCount` is answered exactly where `readers` isn't 1 to 16, before any memory is taken. `NoPlace` where
+/// there was no place for a reader. It waits only where it refuses after it made the store.
+pub fn open_store<R: Wait>(
+    rt: &R,
+    alloc: Global,
+    readers: u32,
+    most: u64,
+) -> Result<(Publisher, Vec<Lookups>), OpenFault>
+    ensures publisher { IfOk result (λ t. (t.0.front.batches ≡ []) × (t.0.pending ≡ []) × (t.0.most ≡ most)) }
+
+    // Each reader is of this store, and has seen nothing.
+    ensures readers { IfOk result (λ t. (vec_len t.1 ≡ readers) × All (λ l. l ≡ t.0.front) t.1.items) }
+    ensures counted { IfOk result (λ _. (1 ≤ readers) × (readers ≤ 16)) }
+    ensures bad_count { IfErr result (λ fault. (fault ≡ BadCount) ↔ ((readers ≡ 0) ⊎ (16 < readers))) }
+{
+    if readers == 0 || readers > MOST_READERS {
+        return Err(OpenFault::BadCount);
+    }
+    let (head, front) = open_book();
+    let live = AtomicU64::new(0);
+    let Ok(home) = Arc::new(alloc, Home { head, live }) else {
+        return Err(OpenFault::Memory);
+    };
+    let (first, second) = (first_shown(alloc, &front), first_shown(alloc, &front));
+    let Ok(writer) = Writer::new(alloc, first, second, readers as usize) else {
+        return Err(OpenFault::Memory);
+    };
+    let (mut writer, named) = name_book(rt, writer);
+    if named.is_err() {
+        drop(writer.take(rt));
+        return Err(OpenFault::Memory);
+    }
+    match new_readers(alloc, &mut writer, &front, readers) {
+        Ok(lookups) => Ok((Publisher::new(writer, home, front, most), lookups)),
+        Err(fault) => {
+            drop(writer.take(rt));
+            Err(fault)
+        }
+    }
+}

@@ -1,0 +1,416 @@
+//! Worked rows. What is wanted was written by hand, and not taken from a run.
+ghost use Rattle.std.specs.Prelude.{◌≡◌};
+
+use crate::{
+    Ahead, AskFault, Closed, Lookups, OpenFault, Pinned, Publisher, StoreFault, Version,
+    open_store, versions_never_fall,
+};
+use catalogue::{LoadFault, LoadKind, Options, Stats};
+use live_set::{Ask, Query};
+use std::alloc::{AllocError, Global};
+use std::sync::Wait;
+use std::test::Fail;
+use std::thread::{Threads, join};
+
+const PLAIN: Options = Options {
+    checked: false,
+    use_fuzzy: false,
+};
+
+const SALUT: &[u8] = b"msgid \"hi\"\nmsgstr \"salut\"\n";
+
+const HALLO: &[u8] = b"msgid \"hi\"\nmsgstr \"hallo\"\n";
+
+const TWICE: &[u8] = b"msgid \"a\"\nmsgstr \"x\"\n#, fuzzy\nmsgid \"a\"\nmsgstr \"y\"\n";
+
+const COUNTED: &[u8] =
+    b"msgctxt \"k\"\nmsgid \"file\"\nmsgid_plural \"files\"\nmsgstr[0] \"fichier\"\nmsgstr[1] \"fichiers\"\n";
+
+const ONE: Stats = Stats {
+    translated: 1,
+    fuzzy: 0,
+    untranslated: 0,
+};
+
+const DUPLICATE: StoreFault = StoreFault::Refused(LoadFault {
+    kind: LoadKind::Duplicate,
+    line: 4,
+});
+
+/// What `hi` is in a locale.
+fn hi_in<'a>(pinned: &'a Pinned<'_>, locale: &str) -> &'a str {
+    pinned.gettext("app", locale, "hi")
+}
+
+/// Whether an entry has this version, and `hi` is these texts in `fr`, `de` and `sv`. It can't wait.
+fn shows(reader: &mut Lookups, version: Version, fr: &str, de: &str, sv: &str) -> bool
+    ensures { reader.new.book ≡ reader.old.book }
+{
+    let Ok(pinned) = reader.enter() else {
+        return false;
+    };
+    let same = pinned.version() == version
+        && hi_in(&pinned, "fr") == fr
+        && hi_in(&pinned, "de") == de
+        && hi_in(&pinned, "sv") == sv;
+    pinned.leave();
+    same
+}
+
+type Loaded = Result<Stats, StoreFault>;
+
+/// Two loads and a publish, and then a load that is refused.
+#[derive(Drop)]
+struct Published {
+    loads: (Loaded, Loaded),
+    before: (u64, Version),
+    first: Option<Version>,
+    shown: bool,
+    refused: Loaded,
+    pending: u64,
+    second: Option<Version>,
+    still: bool,
+}
+
+fn publish_two<R: Wait>(
+    rt: &R,
+    alloc: Global,
+    publisher: &mut Publisher,
+    reader: &mut Lookups,
+) -> Published
+    requires { reader.old.book ≡ publisher.old.front.book }
+{
+    let loads = (
+        publisher.load(alloc, "app", "fr", SALUT, PLAIN),
+        publisher.load(alloc, "app", "de", HALLO, PLAIN),
+    );
+    let before = (publisher.pending(), publisher.version());
+    let first = publisher.publish(rt).ok();
+    let notice = publisher.tell();
+    reader.learn(&notice);
+    let shown = shows(reader, 2, "salut", "hallo", "hi");
+    let refused = publisher.load(alloc, "app", "fr", TWICE, PLAIN);
+    let pending = publisher.pending();
+    let second = publisher.publish(rt).ok();
+    let still = shows(reader, 2, "salut", "hallo", "hi");
+    Published {
+        loads,
+        before,
+        first,
+        shown,
+        refused,
+        pending,
+        second,
+        still,
+    }
+}
+
+#[test]
+fn loads_are_published_together(rt: HostRuntime) -> Result<(), Fail> {
+    let (mut publisher, mut readers) = open_store(&rt, rt.alloc(), 1, u64::MAX)?;
+    let Some(mut reader) = readers.pop() else {
+        publisher.end(&rt);
+        return Ok(());
+    };
+    let found = publish_two(&rt, rt.alloc(), &mut publisher, &mut reader);
+    publisher.end(&rt);
+    assert_eq!(rt; found.loads, (Ok(ONE), Ok(ONE)));
+    assert_eq!(rt; (found.before, found.first), ((2, 0), Some(2)));
+    assert!(rt; found.shown);
+    assert_eq!(rt; (found.refused, found.pending), (Err(DUPLICATE), 0));
+    assert_eq!(rt; (found.second, found.still), (Some(2), true));
+    Ok(())
+}
+
+/// What `hi` is in a locale, as a query.
+fn query(alloc: Global, locale: &str) -> Result<Query, AllocError> {
+    Ok(Query {
+        domain: String::from_str(alloc, "app")?,
+        locale: String::from_str(alloc, locale)?,
+        ask: Ask::Plain {
+            id: String::from_str(alloc, "hi")?,
+        },
+    })
+}
+
+/// What a reader answers to `hi` in `fr`: its version, and whether the text is this one.
+fn answers(alloc: Global, reader: &mut Lookups, text: &str) -> Option<(Version, bool)>
+    ensures { reader.new.book ≡ reader.old.book }
+{
+    let Ok(query) = query(alloc, "fr") else {
+        return None;
+    };
+    match reader.ask(alloc, &query) {
+        Ok((version, found)) => Some((version, found.as_str() == text)),
+        Err(_) => None,
+    }
+}
+
+/// Before a publish, after it, and with notices of two publishes.
+#[derive(Drop)]
+struct Told {
+    empty: bool,
+    published: Option<Version>,
+    notice: Version,
+    seen: Version,
+    shown: bool,
+    again: bool,
+    answered: Option<(Version, bool)>,
+    settled: Result<Version, Ahead>,
+    second: Option<Version>,
+    ahead: Result<Version, Ahead>,
+}
+
+fn tell_two<R: Wait>(rt: &R, alloc: Global, publisher: &mut Publisher, reader: &mut Lookups) -> Told
+    requires { reader.old.book ≡ publisher.old.front.book }
+{
+    let empty = shows(reader, 0, "hi", "hi", "hi");
+    let _ = publisher.load(alloc, "app", "fr", SALUT, PLAIN);
+    let published = publisher.publish(rt).ok();
+    let old = publisher.tell();
+    reader.learn(&old);
+    let seen = reader.seen();
+    let shown = shows(reader, 1, "salut", "hi", "hi");
+    let again = shows(reader, 1, "salut", "hi", "hi");
+    let answered = answers(alloc, reader, "salut");
+    let settled = reader.settle(&old);
+    let _ = publisher.load(alloc, "app", "fr", SALUT, PLAIN);
+    let second = publisher.publish(rt).ok();
+    let new = publisher.tell();
+    reader.learn(&new);
+    let ahead = reader.settle(&old);
+    Told {
+        empty,
+        published,
+        notice: old.version(),
+        seen,
+        shown,
+        again,
+        answered,
+        settled,
+        second,
+        ahead,
+    }
+}
+
+#[test]
+fn notices_are_learnt(rt: HostRuntime) -> Result<(), Fail> {
+    let (mut publisher, mut readers) = open_store(&rt, rt.alloc(), 1, 9)?;
+    let Some(mut reader) = readers.pop() else {
+        publisher.end(&rt);
+        return Ok(());
+    };
+    let found = tell_two(&rt, rt.alloc(), &mut publisher, &mut reader);
+    publisher.end(&rt);
+    assert!(rt; found.empty);
+    assert_eq!(rt;
+        (found.published, found.notice, found.seen),
+        (Some(1), 1, 1)
+    );
+    assert_eq!(rt; (found.shown, found.again), (true, true));
+    assert_eq!(rt; (found.answered, found.settled), (Some((1, true)), Ok(1)));
+    assert_eq!(rt;
+        (found.second, found.ahead),
+        (Some(2), Err(Ahead { seen: 2 }))
+    );
+    Ok(())
+}
+
+/// The fault of opening a store with so many readers, if there is one.
+fn open_fault<R: Wait>(rt: &R, alloc: Global, readers: u32) -> Option<OpenFault> {
+    match open_store(rt, alloc, readers, 9) {
+        Ok((publisher, _readers)) => {
+            publisher.end(rt);
+            None
+        }
+        Err(fault) => Some(fault),
+    }
+}
+
+#[test]
+fn stores_have_one_to_sixteen_readers(rt: HostRuntime) {
+    for (readers, fault) in [
+        (0, Some(OpenFault::BadCount)),
+        (1, None),
+        (2, None),
+        (16, None),
+        (17, Some(OpenFault::BadCount)),
+    ] {
+        assert_eq!(rt;
+            open_fault(&rt, rt.alloc(), readers),
+            fault,
+            "with {readers}"
+        );
+    }
+}
+
+/// A name that is none, a load that is accepted, one too many, and names that are none again.
+fn load_four(alloc: Global, publisher: &mut Publisher) -> [Loaded; 4] {
+    [
+        publisher.load(alloc, "a b", "fr", SALUT, PLAIN),
+        publisher.load(alloc, "app", "fr", SALUT, PLAIN),
+        publisher.load(alloc, "app", "fr", TWICE, PLAIN),
+        publisher.load(alloc, "app", "", SALUT, PLAIN),
+    ]
+}
+
+#[test]
+fn loads_are_refused_in_order(rt: HostRuntime) -> Result<(), Fail> {
+    let (mut publisher, _readers) = open_store(&rt, rt.alloc(), 1, 1)?;
+    let [name, first, second, empty] = load_four(rt.alloc(), &mut publisher);
+    let pending = publisher.pending();
+    publisher.end(&rt);
+    assert_eq!(rt; (name, first), (Err(StoreFault::BadName), Ok(ONE)));
+    assert_eq!(rt;
+        (second, empty),
+        (Err(StoreFault::VersionsSpent), Err(StoreFault::BadName))
+    );
+    assert_eq!(rt; pending, 1);
+    Ok(())
+}
+
+/// The second reader enters and looks up while the first one's entry lives. Neither can wait.
+fn side_by_side(first: &mut Lookups, second: &mut Lookups) -> Result<(bool, bool), Closed> {
+    let pinned = first.enter()?;
+    let other = shows(second, 1, "salut", "hi", "hi");
+    let same = pinned.version() == 1 && hi_in(&pinned, "fr") == "salut";
+    pinned.leave();
+    Ok((other, same))
+}
+
+fn both_learn<R: Wait>(
+    rt: &R,
+    alloc: Global,
+    publisher: &mut Publisher,
+    first: &mut Lookups,
+    second: &mut Lookups,
+) -> Result<(bool, bool), Closed>
+    requires first { first.old.book ≡ publisher.old.front.book }
+    requires second { second.old.book ≡ publisher.old.front.book }
+{
+    let _ = publisher.load(alloc, "app", "fr", SALUT, PLAIN);
+    let _ = publisher.publish(rt);
+    let notice = publisher.tell();
+    first.learn(&notice);
+    second.learn(&notice);
+    side_by_side(first, second)
+}
+
+#[test]
+fn readers_enter_side_by_side(rt: HostRuntime) -> Result<(), Fail> {
+    let (mut publisher, mut readers) = open_store(&rt, rt.alloc(), 2, 9)?;
+    let (Some(mut second), Some(mut first)) = (readers.pop(), readers.pop()) else {
+        publisher.end(&rt);
+        return Ok(());
+    };
+    let found = both_learn(&rt, rt.alloc(), &mut publisher, &mut first, &mut second);
+    publisher.end(&rt);
+    assert_eq!(rt; found, Ok((true, true)));
+    Ok(())
+}
+
+/// Each of the calls of an entry on a message with a context and a plural, and one by a query.
+fn look_all(alloc: Global, reader: &mut Lookups) -> Result<[bool; 6], AskFault> {
+    let query = query(alloc, "fr").map_err(|_| AskFault::Memory)?;
+    let Ok(pinned) = reader.enter() else {
+        return Err(AskFault::Closed);
+    };
+    let found = [
+        pinned.look(&query) == "hi",
+        pinned.gettext("app", "fr", "file") == "file",
+        pinned.pgettext("app", "fr", "k", "file") == "fichier",
+        pinned.ngettext("app", "fr", "file", "files", 2) == "files",
+        pinned.npgettext("app", "fr", "k", "file", "files", 1) == "fichier",
+        pinned.npgettext("app", "fr", "k", "file", "files", 2) == "fichiers",
+    ];
+    pinned.leave();
+    Ok(found)
+}
+
+#[test]
+fn entries_answer_each_call(rt: HostRuntime) -> Result<(), Fail> {
+    let (mut publisher, mut readers) = open_store(&rt, rt.alloc(), 1, 9)?;
+    let Some(mut reader) = readers.pop() else {
+        publisher.end(&rt);
+        return Ok(());
+    };
+    let loaded = publisher.load(rt.alloc(), "app", "fr", COUNTED, PLAIN);
+    let published = publisher.publish(&rt);
+    let found = look_all(rt.alloc(), &mut reader);
+    publisher.end(&rt);
+    let closed = !shows(&mut reader, 1, "hi", "hi", "hi");
+    assert_eq!(rt; (loaded, published), (Ok(ONE), Ok(1)));
+    assert_eq!(rt; found, Ok([true; 6]));
+    assert!(rt; closed);
+    Ok(())
+}
+
+/// Enters so many times, and says whether each entry had a text of its version and no version went back.
+fn enter_many(reader: &mut Lookups, turns: u32) -> bool {
+    let mut last = reader.seen();
+    let mut good = true;
+    'turns: for _ in 0..turns {
+        let Ok(pinned) = reader.enter() else {
+            return false;
+        };
+        let version = pinned.version();
+        let text = hi_in(&pinned, "fr");
+        let right = if version == 0 {
+            text == "hi"
+        } else {
+            text == "salut"
+        };
+        pinned.leave();
+        if version < last || !right {
+            good = false;
+        }
+        last = version;
+    }
+    good
+}
+
+fn publish_many<R: Wait>(rt: &R, alloc: Global, publisher: &mut Publisher, turns: u32) -> Version {
+    'turns: for _ in 0..turns {
+        let _ = publisher.load(alloc, "app", "fr", SALUT, PLAIN);
+        let _ = publisher.publish(rt);
+    }
+    publisher.version()
+}
+
+fn in_threads<R: Threads + Wait + Sync>(
+    rt: &R,
+    alloc: Global,
+    publisher: &mut Publisher,
+    first: &mut Lookups,
+    second: &mut Lookups,
+) -> (Version, bool) {
+    let (version, (one, other)) = join(
+        rt,
+        || publish_many(rt, alloc, publisher, 200),
+        || join(
+            rt,
+            || enter_many(first, 20_000),
+            || enter_many(second, 20_000),
+        ),
+    );
+    (version, one && other)
+}
+
+#[test]
+fn readers_never_go_back(rt: HostRuntime) -> Result<(), Fail> {
+    let (mut publisher, mut readers) = open_store(&rt, rt.alloc(), 2, 5000)?;
+    let (Some(mut second), Some(mut first)) = (readers.pop(), readers.pop()) else {
+        publisher.end(&rt);
+        return Ok(());
+    };
+    let found = in_threads(&rt, rt.alloc(), &mut publisher, &mut first, &mut second);
+    publisher.end(&rt);
+    assert_eq!(rt; found, (200, true));
+    Ok(())
+}
+
+#[test]
+fn the_law_does_nothing(rt: HostRuntime) {
+    versions_never_fall();
+    assert!(rt; true);
+}

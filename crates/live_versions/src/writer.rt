@@ -1,0 +1,108 @@
+//! The writer of the two copies, with the loads that are pending among its changes.
+ghost use Rattle.std.specs.Prelude.{◌≡◌, ◌+◌, ◌^◌, ◌<◌, [], ◌∷◌, ◌++◌, length, drop, OnOk, OnErr};
+ghost use Rattle.left_right.specs.Sides.{view};
+ghost use Rattle.live_versions.specs.Batches.{version_of};
+ghost use Rattle.live_versions.specs.Changes.{loads_of, EndsIn};
+
+use crate::front::Front;
+use crate::rule::{Change, Shown, Versions, View};
+use crate::seal::Seal;
+use core::mem::replace_with;
+use crossbeam_utils::rule::Outcome;
+use left_right::writer::Writer;
+use live_set::Load;
+use std::alloc::AllocError;
+use std::snapshot::Snapshot;
+use std::sync::Wait;
+
+pub(crate) type StoreWriter = Writer<Shown, Change, View, Versions>;
+
+struct Publishing;
+
+impl Outcome<Shown, View> for Publishing {
+    ghost then = { λ v x y w. w ≡ record { books = y.front.book ∷ []; batches = y.front.batches } };
+}
+
+/// A publish with nothing pending, by which the writer knows its book.
+pub(crate) fn name_book<R: Wait>(
+    rt: &R,
+    writer: StoreWriter,
+) -> (StoreWriter, Result<(), AllocError>)
+    requires { drop writer.behind writer.log.items ≡ [] }
+    ensures pending { drop result.0.behind result.0.log.items ≡ [] }
+    ensures shown { result.0.desk.shown.value.front ≡ writer.desk.shown.value.front }
+    ensures book { OnOk result.1 ((view result.0.desk.place).books ≡ writer.desk.shown.value.front.book ∷ []) }
+{
+    writer.publish_as::<Publishing, R>(rt)
+}
+
+/// Publishes the loads and the seal behind them.
+fn publish_sealed<R: Wait>(
+    rt: &R,
+    writer: StoreWriter,
+    seal: &Snapshot<Seal>,
+) -> (StoreWriter, Result<(), AllocError>)
+    requires sealed { EndsIn seal.now.value (drop writer.behind writer.log.items) }
+    requires bound { seal.now.value ≡ record { book = writer.desk.shown.value.front.book; batches = writer.desk.shown.value.front.batches ++ loads_of (drop writer.behind writer.log.items) ∷ [] } }
+    requires some { 0 < length (loads_of (drop writer.behind writer.log.items)) }
+    requires room { version_of writer.desk.shown.value.front.batches + length (loads_of (drop writer.behind writer.log.items)) < 2 ^ 64 }
+    ensures sum { version_of seal.now.value.batches ≡ version_of writer.desk.shown.value.front.batches + length (loads_of (drop writer.behind writer.log.items)) }
+    ensures ok { OnOk result.1 ((result.0.desk.shown.value.front ≡ seal.now.value) × (drop result.0.behind result.0.log.items ≡ [])) }
+    ensures err { OnErr result.1 ((result.0.desk.shown.value ≡ writer.desk.shown.value) × (drop result.0.behind result.0.log.items ≡ drop writer.behind writer.log.items)) }
+{
+    writer.publish_as::<Publishing, R>(rt)
+}
+
+/// The same, behind a `&mut`.
+pub(crate) fn publish_at<R: Wait>(
+    rt: &R,
+    writer: &mut StoreWriter,
+    seal: &Snapshot<Seal>,
+) -> Result<(), AllocError>
+    requires sealed { EndsIn seal.now.value (drop writer.old.behind writer.old.log.items) }
+    requires bound { seal.now.value ≡ record { book = writer.old.desk.shown.value.front.book; batches = writer.old.desk.shown.value.front.batches ++ loads_of (drop writer.old.behind writer.old.log.items) ∷ [] } }
+    requires some { 0 < length (loads_of (drop writer.old.behind writer.old.log.items)) }
+    requires room { version_of writer.old.desk.shown.value.front.batches + length (loads_of (drop writer.old.behind writer.old.log.items)) < 2 ^ 64 }
+    ensures sum { version_of seal.now.value.batches ≡ version_of writer.old.desk.shown.value.front.batches + length (loads_of (drop writer.old.behind writer.old.log.items)) }
+    ensures ok { OnOk result ((writer.new.desk.shown.value.front ≡ seal.now.value) × (drop writer.new.behind writer.new.log.items ≡ [])) }
+    ensures err { OnErr result ((writer.new.desk.shown.value ≡ writer.old.desk.shown.value) × (drop writer.new.behind writer.new.log.items ≡ drop writer.old.behind writer.old.log.items)) }
+{
+    replace_with(writer, rt, |writer, rt| publish_sealed(rt, writer, seal))
+}
+
+/// One more load behind those that are pending.
+pub(crate) fn append_load(writer: &mut StoreWriter, load: Load) -> Result<(), AllocError>
+    ensures desk { writer.new.desk ≡ writer.old.desk }
+    ensures ok { OnOk result (loads_of (drop writer.new.behind writer.new.log.items) ≡ loads_of (drop writer.old.behind writer.old.log.items) ++ load ∷ []) }
+    ensures err { OnErr result (drop writer.new.behind writer.new.log.items ≡ drop writer.old.behind writer.old.log.items) }
+{
+    match writer.append(Change::Load(load)) {
+        Ok(()) => Ok(()),
+        Err(_) => Err(AllocError),
+    }
+}
+
+/// The seal behind the pending loads.
+pub(crate) fn append_seal(writer: &mut StoreWriter, seal: Seal) -> Result<(), AllocError>
+    ensures desk { writer.new.desk ≡ writer.old.desk }
+    ensures loads { loads_of (drop writer.new.behind writer.new.log.items) ≡ loads_of (drop writer.old.behind writer.old.log.items) }
+    ensures ok { OnOk result (EndsIn seal (drop writer.new.behind writer.new.log.items)) }
+{
+    match writer.append(Change::Seal(seal)) {
+        Ok(()) => Ok(()),
+        Err(_) => Err(AllocError),
+    }
+}
+
+/// The front of what was just shown. Its seal was the last change that the copy took in, so it is bound.
+/// No contract says so: where it were not, this would not return.
+pub(crate) fn shown_front<R: Wait>(rt: &R, writer: &StoreWriter) -> Front
+    ensures { result ≡ writer.now.desk.shown.value.front }
+{
+    for _ in rt.forever() {
+        if let Some(front) = writer.published().front.token() {
+            return front;
+        }
+    }
+    unreachable!()
+}

@@ -1,0 +1,42 @@
+#!/usr/bin/env bash
+# Hands the programs of docs/LIVE.md that must not compile to the compiler, each as a crate of its own above
+# live_versions, and compares the error that it names with the one in the program's first line.
+. "$(dirname "$0")/common"
+read -r -a rt <<< "${RT:-rt}"
+
+if ! command -v "${rt[0]}" > /dev/null; then
+  failed refused_programs "no ${rt[0]} on the PATH"
+  exit 0
+fi
+top=$PWD
+mkdir -p "$room/repo/crates"
+cp HANDLES crates.txt "$room/repo/"
+for crate in crates/*; do ln -s "$top/$crate" "$room/repo/crates/"; done
+
+# each program behind its name into a crate of that name: the word after `pub fn`
+awk -v room="$room/repo/crates" '
+  /^```rust$/ { inside = 1; text = ""; error = ""; next }
+  /^```$/ && inside {
+    inside = 0
+    if (error != "") {
+      dir = room "/" name; system("mkdir -p " dir "/src")
+      printf "//! A program that must not compile.\n#![tactic(auto)]\n\n%s", text > (dir "/src/lib.rt")
+      print name, error
+    }
+    next
+  }
+  inside && /^\/\/ does not compile: / { error = $NF; next }
+  inside { text = text $0 "\n" }
+  inside && /^pub fn / { name = $3; sub(/\(.*/, "", name) }
+' docs/LIVE.md > "$room/programs"
+
+while read -r name error; do
+  echo "$name: live_versions" >> "$room/repo/crates.txt"
+  (cd "$room/repo/crates/$name" && "${rt[@]}" check < /dev/null) > "$room/answer" 2>&1
+  if grep -q "error\[$error\]" "$room/answer"; then
+    ok "refused program, $name: $error"
+  else
+    failed "refused program, $name" "$(grep -m 1 error "$room/answer" || tail -n 1 "$room/answer")"
+  fi
+done < "$room/programs"
+[ "$(wc -l < "$room/programs")" = 2 ] || failed refused_programs 'docs/LIVE.md has not two of them'
