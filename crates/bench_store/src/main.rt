@@ -7,6 +7,7 @@ use live_set::{Ask, Query};
 use live_versions::{Lookups, Publisher, open_store};
 use std::alloc::{AllocError, Global};
 use std::io;
+use std::rt::Clock;
 use std::sync::Wait;
 use std::thread::{Threads, join};
 use std::time::{Duration, Instant};

@@ -5,7 +5,8 @@
 
 use catalogue::Options;
 use live_versions::{Lookups, Publisher, Version, open_store};
-use std::alloc::{AllocError, Global};
+use std::alloc::AllocError;
+use std::rt::Clock;
 use std::sync::Wait;
 use std::sync::atomic::AtomicBool;
 use std::sync::atomic::Ordering::SeqCst;
