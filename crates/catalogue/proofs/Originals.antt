@@ -1,16 +1,21 @@
 -- An original and a translation are what a lawful entry says, and the other way round.
-use Rattle.std.proofs.Common.{◌≡◌, ℕ, ◌<◌, Bool, true, false, cond, eqb, ltb, List, [], ◌∷◌, ◌++◌, length, get_or, map, Option, Some, None, refl, sym, ap, ◌∙◌}
-use Rattle.std.specs.Prelude.{option_map, IfSome}
+use denote.Ref.{Bor}
+use Rattle.std.proofs.Common.{◌≡◌, ◌≢◌, ℕ, zero, suc, ◌+◌, ◌<◌, ◌≤◌, Bool, true, false, cond, not, eqb, ltb, List, [], ◌∷◌, ◌++◌, length, get_or, map, Option, Some, None, Ordering, refl, sym, ap, ◌∙◌, subst, arith, length-append}
+use Rattle.std.specs.Prelude.{option_map, IfSome, is_some}
+use Rattle.std.specs.Ordering.{nat_cmp, ordering_then}
+use Rattle.std.specs.declared.cmp.Ordering.TheVariants.{Less, Equal, Greater}
+use Rattle.std.specs.Cmp.Lexicographic.{slice_cmp}
+use Rattle.std.specs.FinMap.{nat_cmp-IsAntisymmetric}
 use Rattle.std.specs.List.{AllByRecursion, position_or_len, before_first, after_first, join_with_byte}
 use Rattle.std.specs.Str.{IsUtf8}
-use Rattle.std.proofs.lemmas.Bool.{ltb-true, ltb-false, eqb-true}
-use Rattle.std.proofs.lemmas.List.{take_all}
+use Rattle.std.proofs.lemmas.Bool.{ltb-true, ltb-false, eqb-true, lt-ltb, eq-eqb, false≢true}
+use Rattle.std.proofs.lemmas.List.{take_all, get_or_at}
 use Rattle.std.proofs.lemmas.List.Sums.{passes_at_first, split_at_first}
 use Rattle.std.proofs.lemmas.List.Splits.{join_with_byte-slice_split}
 use Rattle.std.proofs.lemmas.Str.{IsUtf8-append, IsUtf8-nil}
 use Rattle.catalogue.specs.Entry.{Entry, key, key_bytes, with_plural, original, translation, Lacks, IsText, IsKeyText, IsLawfulEntry}
 use Rattle.catalogue.specs.Parts.{cut, entry_from}
-use Rattle.catalogue.specs.Pairs.{key_part, plural_part, entry_of, entries_of}
+use Rattle.catalogue.specs.Pairs.{key_part, plural_part, entry_of, entries_of, HasNulAt}
 use Rattle.catalogue.proofs.EntryParts.{cut-none, cut-some, key_lacks_nul, entry_again}
 use Rattle.catalogue.proofs.KeyParts.{rejoined}
 
@@ -118,3 +123,62 @@ original_utf8 e lawful = plural_utf8 (key e) e.plural (key_utf8 e.context e.id l
 
 pub translation_utf8 : (e : Entry) → IsLawfulEntry e → IsUtf8 (translation e)
 translation_utf8 e lawful = forms_utf8 e.forms lawful.forms
+
+-- ---- an original beside a msgid
+
+pub parts_again : (o : List ℕ) → with_plural (key_part o) (plural_part o) ≡ o
+parts_again o = plural_again_by o (holds 0 o) refl
+
+-- what isn't cut at a NUL has none
+lacks_from : (text : List ℕ) → length text ≤ place 0 text → Lacks 0 text
+lacks_from [] le = tt
+lacks_from (x ∷ xs) le = of (is 0 x) refl (λ h. lacks_from xs h)
+  where
+    of : (b : Bool) → is 0 x ≡ b → (length xs ≤ place 0 xs → Lacks 0 xs) → Lacks 0 (x ∷ xs)
+    of true here rest = absurd (omega (arith, le, ap (λ (b : Bool). cond (not b) (1 + place 0 xs) 0) here))
+    of false elsewhere rest = ((λ same. false≢true (sym elsewhere ∙ eq-eqb x 0 same)), rest (omega (arith, le, ap (λ (b : Bool). cond (not b) (1 + place 0 xs) 0) elsewhere)))
+
+uncut_by : (text : List ℕ) (test : Bool) → holds 0 text ≡ test → option_map (λ p. p.1) (cut_at 0 text test) ≡ None → Lacks 0 text
+uncut_by text true e none = absurd cc
+uncut_by text false e none = lacks_from text (ltb-false _ _ e)
+
+pub uncut : (text : List ℕ) → plural_part text ≡ None → Lacks 0 text
+uncut text none = uncut_by text (holds 0 text) refl none
+
+pub uncut_if : (text : List ℕ) (plural : Option (Bor (List ℕ))) (test : Bool) → option_map (λ s. s.now) plural ≡ plural_part text → is_some plural ≡ not test → test ≡ true → Lacks 0 text
+uncut_if text None test e some so = uncut text (sym e)
+uncut_if text (Some p) test e some so = absurd (false≢true (sym (some ∙ ap not so)))
+
+by_first : (o p q : Ordering) → (o ≡ Equal → p ≡ q) → ordering_then o p ≡ ordering_then o q
+by_first Less p q h = refl
+by_first Equal p q h = h refl
+by_first Greater p q h = refl
+
+one_longer : (x b : ℕ) (k bs : List ℕ) → x ≡ b → k ≡ bs → x ∷ k ≡ b ∷ bs
+one_longer x b k bs e f = cc
+
+nul_below : (b : ℕ) → b ≢ 0 → nat_cmp 0 b ≡ Less
+nul_below zero some = absurd (some refl)
+nul_below (suc b) some = ap (λ (t : Bool). cond t Less (cond (eqb 0 (suc b)) Equal Greater)) (lt-ltb 0 (suc b) (omega arith))
+
+-- a plural behind a key changes the order beside no other key
+cmp_with_plural : (k plural a : List ℕ) → Lacks 0 a → k ≢ a → slice_cmp nat_cmp (k ++ (0 ∷ plural)) a ≡ slice_cmp nat_cmp k a
+cmp_with_plural [] plural [] lacks differ = absurd (differ refl)
+cmp_with_plural [] plural (b ∷ bs) lacks differ = ap (λ (o : Ordering). ordering_then o (slice_cmp nat_cmp plural bs)) (nul_below b lacks.0)
+cmp_with_plural (x ∷ k) plural [] lacks differ = refl
+cmp_with_plural (x ∷ k) plural (b ∷ bs) lacks differ =
+    by_first (nat_cmp x b) (slice_cmp nat_cmp (k ++ (0 ∷ plural)) bs) (slice_cmp nat_cmp k bs)
+    (λ e. cmp_with_plural k plural bs lacks.1 (λ same. differ (one_longer x b k bs (nat_cmp-IsAntisymmetric x b e) same)))
+
+cmp_parts_by : (k : List ℕ) (plural : Option (List ℕ)) (a : List ℕ) → Lacks 0 a → (HasNulAt (with_plural k plural) (length a) → ⊥) → slice_cmp nat_cmp (with_plural k plural) a ≡ slice_cmp nat_cmp k a
+cmp_parts_by k None a lacks none = refl
+cmp_parts_by k (Some plural) a lacks none =
+    cmp_with_plural k plural a lacks (λ same. none (record {
+      within = omega (arith, ap length same, length-append k (0 ∷ plural));
+      nul = get_or_at k 0 plural 0 (length a) (ap length same);
+    }))
+
+pub cmp_by_original : (o a : List ℕ) → Lacks 0 a → (HasNulAt o (length a) → ⊥) → slice_cmp nat_cmp o a ≡ slice_cmp nat_cmp (key_part o) a
+cmp_by_original o a lacks none =
+    let e = parts_again o in
+    sym (ap (λ (x : List ℕ). slice_cmp nat_cmp x a) e) ∙ cmp_parts_by (key_part o) (plural_part o) a lacks (λ h. none (subst (λ (x : List ℕ). HasNulAt x (length a)) e h))

@@ -1,5 +1,5 @@
 -- Private: the entries that originals and translations are.
-use Rattle.std.specs.Prelude.{ℕ, ◌==◌, List, [], ◌∷◌, Option, option_map}
+use Rattle.std.specs.Prelude.{◌≡◌, ℕ, ◌<◌, ◌==◌, List, [], ◌∷◌, length, slice_index, Option, option_map}
 use Rattle.std.specs.List.{before_first}
 use Rattle.catalogue.specs.Entry.{Entry}
 use Rattle.catalogue.specs.Parts.{cut, entry_from}
@@ -19,3 +19,8 @@ abbrev pub entries_of : List (List ℕ) → List (List ℕ) → List Entry
 entries_of [] ts = []
 entries_of (o ∷ os) [] = []
 entries_of (o ∷ os) (t ∷ ts) = entry_of o t ∷ entries_of os ts
+
+-- a NUL stands at this place
+pub record HasNulAt (text : List ℕ) (place : ℕ) : Type 0 where
+  pub within : place < length text
+  pub nul : slice_index text place ≡ 0

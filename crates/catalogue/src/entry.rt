@@ -68,7 +68,7 @@ pub(crate) fn key_of(original: &str) -> &str
 }
 
 /// The plural of an original: what stands behind its NUL.
-fn plural_of(original: &str) -> Option<&str>
+pub(crate) fn plural_of(original: &str) -> Option<&str>
     ensures { option_map (λ s. s.now) result ≡ plural_part original.now }
 {
     let (_, plural) = original.split_once('\0')?;

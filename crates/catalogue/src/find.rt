@@ -1,11 +1,13 @@
 //! The search for an entry by its key.
-ghost use Rattle.std.specs.Prelude.{◌≡◌, ◌+◌, ◌-◌, ◌/◌, ◌<◌, length, slice_get, Some, IfSome, option_map};
+ghost use Rattle.std.specs.Prelude.{◌≡◌, ◌↔◌, IsTrue, ◌+◌, ◌-◌, ◌/◌, ◌<◌, length, slice_get, Some, IfSome, option_map};
 ghost use Rattle.std.specs.Ordering.{nat_cmp};
 ghost use Rattle.std.specs.Cmp.Lexicographic.{slice_cmp};
-ghost use Rattle.catalogue.specs.Entry.{key, key_bytes};
+ghost use Rattle.catalogue.specs.Entry.{key, key_bytes, Lacks};
 ghost use Rattle.catalogue.specs.Map.{entry_at};
+ghost use Rattle.catalogue.specs.Pairs.{key_part, HasNulAt};
 ghost use Rattle.catalogue.specs.Search.{AtMostDigits};
 
+use crate::entry::{key_of, plural_of};
 use crate::image::Image;
 use crate::{EntryRef, Steps};
 use std::cmp::Ordering;
@@ -17,15 +19,19 @@ use std::sync::ledger::{Blank, Ledger};
 struct Asked<'a> {
     context: Option<&'a str>,
     id: &'a str,
+    /// Whether the msgid has no NUL. No entry's has.
+    is_text: bool,
 }
 
 impl<'a> Model for Asked<'a> {
-    ghost use Rattle.std.specs.Prelude.{ℕ, List, option_map};
-    ghost use Rattle.catalogue.specs.Entry.{key_bytes};
+    ghost use Rattle.std.specs.Prelude.{ℕ, List, IsTrue, option_map};
+    ghost use Rattle.catalogue.specs.Entry.{key_bytes, Lacks};
 
     ghost Value = { List ℕ };
 
     ghost view = { λ a. key_bytes (option_map (λ s. s.now) a.context) a.id.now };
+
+    ghost invariant = { λ a. IsTrue a.is_text → Lacks 0 a.id.now };
 }
 
 /// A stored key beside that of a msgid in a context, part by part.
@@ -42,22 +48,49 @@ fn cmp_in_context(stored: &[u8], context: &[u8], id: &[u8]) -> Ordering
         .then(stored[n + 1..].cmp(id))
 }
 
+/// Whether a NUL stands at this place in an original.
+fn has_nul_at(original: &str, place: usize) -> bool
+    ensures { IsTrue result ↔ HasNulAt original.now place }
+{
+    place < original.len() && original.as_bytes()[place] == 0
+}
+
+/// The key of an original beside a msgid. The original is compared as it is, since a plural behind the key
+/// changes the order of no other key than the msgid itself.
+fn cmp_id(original: &str, id: &str) -> Ordering
+    requires { Lacks 0 id.now }
+    ensures { result ≡ slice_cmp nat_cmp (key_part original.now) id.now }
+{
+    let order = original.cmp(id);
+    if has_nul_at(original, id.len()) {
+        return key_of(original).cmp(id);
+    }
+    order
+}
+
 impl<'a> Asked<'a> {
     fn new(context: Option<&'a str>, id: &'a str) -> Asked<'a>
         ensures { result ≡ key_bytes (option_map (λ s. s.now) context.entry) id.now }
     {
-        Asked { context, id }
+        Asked {
+            context,
+            id,
+            is_text: plural_of(id).is_none(),
+        }
     }
 
-    /// A stored key beside this one.
-    fn cmp_stored(&self, stored: &str) -> Ordering
-        ensures { result ≡ slice_cmp nat_cmp stored.now self.now }
+    /// The key of an original beside this one.
+    fn cmp_original(&self, original: &str) -> Ordering
+        ensures { result ≡ slice_cmp nat_cmp (key_part original.now) self.now }
     {
         match self.context {
-            Some(context) => {
-                cmp_in_context(stored.as_bytes(), context.as_bytes(), self.id.as_bytes())
-            }
-            None => stored.cmp(self.id),
+            Some(context) => cmp_in_context(
+                key_of(original).as_bytes(),
+                context.as_bytes(),
+                self.id.as_bytes(),
+            ),
+            None if self.is_text => cmp_id(original, self.id),
+            None => key_of(original).cmp(self.id),
         }
     }
 }
@@ -78,7 +111,7 @@ impl Image {
         ensures step { steps.new ≡ steps.old + 1 }
     {
         steps.tick();
-        asked.cmp_stored(self.key(i))
+        asked.cmp_original(self.original(i))
     }
 
     /// The entry of this key, by halves.

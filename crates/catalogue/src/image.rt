@@ -5,10 +5,10 @@ ghost use Rattle.catalogue.specs.Entry.{key};
 ghost use Rattle.catalogue.specs.Map.{IsLawful};
 ghost use Rattle.catalogue.specs.MoFile.{spelling};
 ghost use Rattle.catalogue.specs.Tables.{word_at, string_at};
+ghost use Rattle.catalogue.specs.Pairs.{key_part};
 ghost use Rattle.catalogue.specs.Image.{listing, IsImage, NamesText};
 
 use crate::EntryRef;
-use crate::entry::key_of;
 use crate::writer::{EntryList, spell};
 use byteorder::{ByteOrder, LittleEndian};
 use std::alloc::{AllocError, Global};
@@ -35,6 +35,7 @@ impl Model for Image {
 
     ghost Value = { List Entry };
 
+    ghost use Rattle.catalogue.specs.Pairs.{key_part};
     ghost use Rattle.catalogue.specs.Image.{listing, IsImage};
 
     ghost view = { λ image. listing image.bytes.items };
@@ -71,7 +72,8 @@ fn count_of(bytes: &[u8]) -> usize
 fn original_of(bytes: &[u8], i: usize) -> &str
     requires image { IsImage bytes.now }
     requires within { i < length (listing bytes.now) }
-    ensures { result.now ≡ string_at little_number bytes.now (28 + 8 * i) }
+    ensures string { result.now ≡ string_at little_number bytes.now (28 + 8 * i) }
+    ensures key { IfSome (slice_get (listing bytes.now) i) (λ e. key_part result.now ≡ key e) }
 {
     text(bytes, TABLES_AT + ROW_LEN * i)
 }
@@ -92,14 +94,6 @@ fn entry_of(bytes: &[u8], i: usize) -> EntryRef<'_>
     ensures { slice_get (listing bytes.now) i ≡ Some result }
 {
     EntryRef::new(original_of(bytes, i), translation_of(bytes, i))
-}
-
-fn key_at(bytes: &[u8], i: usize) -> &str
-    requires image { IsImage bytes.now }
-    requires within { i < length (listing bytes.now) }
-    ensures { IfSome (slice_get (listing bytes.now) i) (λ e. result.now ≡ key e) }
-{
-    key_of(original_of(bytes, i))
 }
 
 impl Image {
@@ -135,12 +129,12 @@ impl Image {
         entry_of(&self.bytes, i)
     }
 
-    /// The bytes of the i-th key.
-    pub(crate) fn key(&self, i: usize) -> &str
+    /// The original of the i-th entry: its key, and its plural behind NUL.
+    pub(crate) fn original(&self, i: usize) -> &str
         requires { i < length self.now }
-        ensures { IfSome (slice_get self.now i) (λ e. result.now ≡ key e) }
+        ensures { IfSome (slice_get self.now i) (λ e. key_part result.now ≡ key e) }
     {
-        key_at(&self.bytes, i)
+        original_of(&self.bytes, i)
     }
 
     /// The MO file.

@@ -1,5 +1,6 @@
-use Rattle.std.proofs.Common.{arith}
-use Rattle.catalogue.proofs.ImageFacts.{entry_facts, entry_room}
+use Rattle.std.proofs.Common.{ap, arith}
+use Rattle.catalogue.specs.Pairs.{key_part}
+use Rattle.catalogue.proofs.ImageFacts.{entry_facts, entry_room, key_found}
 use Rattle.catalogue.proofs.image.original_of.Goals as goal
 
 pub text-requires : goal.text-requires
@@ -10,3 +11,6 @@ overflow_mul-i c = omega (arith, entry_room c.args.bytes.now c.args.i c.requires
 
 pub overflow_add-i : goal.overflow_add-i
 overflow_add-i c = omega (arith, entry_room c.args.bytes.now c.args.i c.requires.image c.requires.within)
+
+pub returns-clause-key : goal.returns-clause-key
+returns-clause-key c = key_found c.args.bytes.now c.args.i (key_part c.text.result.now) c.requires.image c.requires.within (ap key_part c.text.ensures)
