@@ -74,7 +74,7 @@ stats_of entries = record {
   untranslated = count_by is_untranslated (counted entries);
 }
 
--- the text of the kept header: its first form
+-- the header, where it is kept
 abbrev pub kept_header : Options → List po.Entry → Option po.Entry
 kept_header options entries = find is_header (kept options entries)
 
