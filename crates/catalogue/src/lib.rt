@@ -17,7 +17,7 @@ mod lookup;
 mod map;
 mod messages;
 mod sorted;
-mod steps;
+mod step_count;
 #[cfg(test)]
 mod tests;
 #[cfg(test)]
@@ -31,4 +31,4 @@ pub use law::one_meaning;
 pub use map::Catalogue;
 pub use messages::EntryStrings;
 pub use sorted::Message;
-pub use steps::Steps;
+pub use step_count::Steps;
