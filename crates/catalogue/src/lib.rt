@@ -21,7 +21,7 @@ mod map;
 mod messages;
 mod sizes;
 mod sorted;
-mod steps;
+mod step_count;
 #[cfg(test)]
 mod tests;
 #[cfg(test)]
@@ -39,4 +39,4 @@ pub use law::one_meaning;
 pub use map::Catalogue;
 pub use messages::EntryStrings;
 pub use sorted::Message;
-pub use steps::Steps;
+pub use step_count::Steps;
