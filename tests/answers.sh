@@ -1,6 +1,6 @@
 #!/usr/bin/env bash
 # Refuses each request for memory of the program crates/answers in turn, which prints what expressions, plural rules
-# and C formats are read as. Each line must be the one that stands below, or say that memory was refused: a
+# and C formats are read as. Each line must be the one that crates/answers/stdout has, or say that memory was refused: a
 # refused request is never taken for a malformed expression, a broken rule or an invalid format.
 . "$(dirname "$0")/common"
 
@@ -11,32 +11,7 @@ if [ ! -x "$program" ]; then
 fi
 
 # worked out by hand from the rules of C: a text, and the values at 0, 1 and 5; the forms of 0, 1 and 7; the arguments
-cat > "$room/own" <<'END'
-n==: malformed expression
-18446744073709551615: Some(18446744073709551615) Some(18446744073709551615) Some(18446744073709551615)
-18446744073709551616: malformed expression
-n!=1;x: Some(1) Some(0) Some(1)
-1 ? 2 : 0 ? 3 : 4: Some(2) Some(2) Some(2)
-n && 1/n: Some(0) Some(1) Some(0)
-n || 1/n: None Some(1) Some(1)
-nplurals=2 plural=n>1: given 0 0 1
-nplurals=2; plural=n>1 ? 0 : 1: given 1 1 0
-nplurals=3; plural=n==1 ? 0 : n%10>=2 && n%10<=4 && (n%100<10 || n%100>=20) ? 1 : 2;: given 2 0 2
-Plural-Forms: nplurals=2;: absent 1 0 1
-nplurals=;plural=n: broken 1 0 1
-nplurals=18446744073709551616; plural=0: broken 1 0 1
-%d of %s: Signed(Plain)
-%d of %s: Text
-%2$s / %1$d: Signed(Plain)
-%2$s / %1$d: Text
-%5.2f %-*d %%: Double
-%5.2f %-*d %%: Signed(Plain)
-%5.2f %-*d %%: Signed(Plain)
-%1$d %3$d: invalid format
-%1$d %1$s: invalid format
-%<PRId64>: system-dependent format
-100%: invalid format
-END
+cp crates/answers/stdout "$room/own"
 
 "$program" > "$room/got"
 if cmp -s "$room/got" "$room/own"; then
@@ -57,7 +32,7 @@ while :; do
   [ -e "$room/refused" ] || break
   n=$((n + 1))
   if grep -q ': out of memory$' "$room/got"; then spoke=$((spoke + 1)); fi
-  # each line is one of those above, but the one that says so; where a request for printing was refused, the
+  # each line is one of those of the file, but the one that says so; where a request for printing was refused, the
   # lines end early
   wrong=$(grep -v ': out of memory$' "$room/got" | grep -vxFf "$room/own" | head -n 1)
   [ -z "$wrong" ] || break

@@ -1,7 +1,7 @@
 #!/usr/bin/env bash
 # Compares the MO files of bin/msgfmt with those of GNU `msgfmt --no-hash`, byte for byte, on the PO files of
 # examples/, on two that the generator of the bench makes, and on the texts of catalogues that are installed on this
-# machine.
+# machine. Those of examples/ and of the generator are compiled with -c too, from file to file.
 #
 #   tests/gnu.sh         at most 200 installed catalogues, each named by its language and domain
 #   CATALOGUES=N ..      at most N of them
@@ -42,12 +42,30 @@ same() {
   esac
 }
 
-for po in examples/*.po; do same "$po" "$po"; done
+# checked NAME PO: with -c, from a file to a file, both say nothing and make the same file
+checked() {
+  rm -f "$room/our.mo"
+  if ! "$gnu" -c --no-hash -o "$room/gnu.mo" "$2" > "$room/gnu.err" 2>&1 || [ -s "$room/gnu.err" ]; then
+    failed "$1, checked" "GNU msgfmt says '$(head -c 300 "$room/gnu.err")'"
+  elif ! "$program" -c --no-hash -o "$room/our.mo" "$2" > "$room/err" 2>&1 || [ -s "$room/err" ]; then
+    failed "$1, checked" "it said '$(head -c 300 "$room/err")'"
+  elif ! why=$(cmp "$room/gnu.mo" "$room/our.mo" 2>&1); then
+    failed "$1, checked" "the files differ: $why"
+  else
+    ok "$1, checked: the same $(($(wc -c < "$room/our.mo"))) bytes as GNU msgfmt's"
+  fi
+}
+
+for po in examples/*.po; do
+  same "$po" "$po"
+  checked "$po" "$po"
+done
 
 if command -v python3 > /dev/null; then
   for size in 1000000 10000000; do
     python3 bench/make_po.py $size 1 > "$room/made.po"
     same "a made PO file of $size bytes" "$room/made.po"
+    checked "a made PO file of $size bytes" "$room/made.po"
   done
 else
   skipped 'made PO files' 'no python3'

@@ -1,6 +1,7 @@
 #!/usr/bin/env bash
-# Runs bin/msgfmt on small inputs whose answers are known byte for byte, and on what goes wrong: PO texts that are
-# refused, streams that are closed or full, command lines that are faulty.
+# Runs bin/msgfmt on small inputs whose answers are known byte for byte, over streams and over files, and on what goes
+# wrong: PO texts that are refused, streams that are closed or full, files that can't be read or written, command lines
+# that are faulty.
 . "$(dirname "$0")/common"
 
 # run WORD..: runs the program on $room/in
@@ -198,11 +199,13 @@ fails 'no INPUT' 'msgfmt: no input file given' -o -
 fails 'two INPUTs' 'msgfmt: bad command line' -o - - -
 fails 'an unknown option' 'msgfmt: bad command line' --bogus -o - -
 fails 'an unknown letter' 'msgfmt: bad command line' -Z -o - -
+fails 'an option cut short' 'msgfmt: bad command line' --stat -o - -
 fails '-o twice' 'msgfmt: bad command line' -o - -o - -
+fails '-c twice' 'msgfmt: bad command line' -c -c -o - -
 fails '-o without a name' 'msgfmt: bad command line' - -o
 fails 'a word that is not UTF-8' 'msgfmt: bad command line' -o - $'\xff'
 fails 'an unknown option before help' 'msgfmt: bad command line' --bogus --help
-for words in '--output-file=- -' '--output-file - -' '-o- -' '- -o -' '-o - -- -'; do
+for words in '--output-file=- -' '--output-file - -' '-o- -' '- -o -' '-o - -- -' '-vo - -' '- --no-hash -f --verbose -o -'; do
   read -r -a list <<< "$words"
   writes "msgfmt $words" "$hi_file" "${list[@]}"
 done
@@ -211,11 +214,239 @@ for word in -h --help; do
   judge "msgfmt $word" 0 "" || continue
   if grep -q -e '--output-file' out; then ok "msgfmt $word"; else failed "msgfmt $word" 'its text does not name --output-file'; fi
 done
+if [ -e messages.mo ]; then failed 'no file is made by these' "$(ls)"; else ok 'no file is made by these'; fi
 
-# Standard streams are all that msgfmt reads and writes so far.
-cp in in.po
-fails 'an INPUT that is a file' 'msgfmt: bad command line' -o - in.po
-fails 'a FILE that is a file' 'msgfmt: bad command line' -o out.mo -
-fails 'no FILE' 'msgfmt: bad command line' -
-fails 'a FILE that is a file, and no INPUT' 'msgfmt: no input file given' -o out.mo
-if [ -e out.mo ] || [ -e messages.mo ]; then failed 'no file is made' "$(ls)"; else ok 'no file is made'; fi
+# --- files ------------------------------------------------------------------------------------------------------
+
+# in_folder NAME: the folder $room/folder, empty but for the file in.po with the text $text, is the current one
+in_folder() {
+  rm -rf "$room/folder"
+  mkdir "$room/folder"
+  cd "$room/folder" || exit 1
+  printf '%s' "$text" > in.po
+}
+
+# makes NAME STATUS ERR FILE HEX WORD..: in a new folder these words end with STATUS, say ERR, write nothing to standard
+# output, and leave the file FILE with the bytes HEX and no other file (FILE empty: no file at all)
+makes() {
+  local name=$1 wanted=$2 error=$3 file=$4 bytes=${5//[[:space:]]/}
+  shift 5
+  in_folder
+  "$program" "$@" < /dev/null > "$room/out" 2> "$room/err"
+  status=$?
+  judge "$name" "$wanted" "$error" || return
+  if [ -s "$room/out" ]; then
+    failed "$name" "it wrote $(($(wc -c < "$room/out"))) bytes to standard output"
+  elif [ "$(ls -A)" != "$(printf '%s\n' in.po ${file:+"$file"} | sort)" ]; then
+    failed "$name" "there are these files: $(ls -A | tr '\n' ' ')"
+  elif [ -n "$file" ] && [ "$(head -c 4096 "$file" | hex)" != "$bytes" ]; then
+    failed "$name" "$file has the bytes $(head -c 400 "$file" | hex)"
+  else
+    ok "$name"
+  fi
+}
+
+text=$hi
+makes 'a file into a file' 0 '' out.mo "$hi_file" -o out.mo in.po
+makes 'no FILE' 0 '' messages.mo "$hi_file" in.po
+makes '-oFILE' 0 '' out.mo "$hi_file" -oout.mo in.po
+makes '--output-file FILE' 0 '' out.mo "$hi_file" --output-file out.mo in.po
+makes '--output-file=FILE' 0 '' out.mo "$hi_file" --output-file=out.mo in.po
+makes 'options after INPUT' 0 '' out.mo "$hi_file" in.po -o out.mo -v --no-hash
+makes '--' 0 '' out.mo "$hi_file" -o out.mo -- in.po
+makes 'statistics' 0 '1 translated message.' out.mo "$hi_file" --statistics -o out.mo in.po
+makes 'an INPUT that is not there' 1 'msgfmt: cannot read none.po' '' '' -o out.mo none.po
+makes 'an INPUT that is a folder' 1 'msgfmt: cannot read .' '' '' -o out.mo .
+makes 'a FILE in a folder that is not there' 1 'msgfmt: cannot write none/out.mo' '' '' -o none/out.mo in.po
+makes 'a FILE that is a folder' 1 'msgfmt: cannot write .' '' '' -o . in.po
+makes 'an empty FILE' 1 'msgfmt: cannot write ' '' '' -o '' in.po
+makes 'two INPUT files' 1 'msgfmt: bad command line' '' '' -o out.mo in.po in.po
+makes 'a FILE and no INPUT' 1 'msgfmt: no input file given' '' '' -o out.mo
+text=
+makes 'the empty text, with statistics' 0 '0 translated messages.' out.mo "$no_entries" --statistics -o out.mo in.po
+text=$'#, fuzzy\n#~ msgid "old"\n#~ msgstr "vieux"\nmsgid "new"\nmsgstr "neuf"\n'
+makes 'an obsolete entry counts for nothing' 0 '1 translated message.' out.mo \
+  'de120495 00000000 01000000 1c000000 24000000 00000000 2c000000
+   03000000 2c000000  04000000 30000000  6e657700 6e65756600' --statistics -o out.mo in.po
+text=$'#, fuzzy\nmsgid ""\nmsgstr "Language: fr\\n"\n#, fuzzy\nmsgid "a"\nmsgstr "b"\n'
+makes 'a fuzzy header and a fuzzy entry' 0 '0 translated messages, 1 fuzzy translation.' out.mo \
+  'de120495 00000000 01000000 1c000000 24000000 00000000 2c000000
+   00000000 2c000000  0d000000 2d000000  00 4c616e67756167653a2066720a00' --statistics -o out.mo in.po
+makes 'the same, fuzzy entries too' 0 '0 translated messages, 1 fuzzy translation.' out.mo \
+  'de120495 00000000 02000000 1c000000 2c000000 00000000 3c000000
+   00000000 3c000000 01000000 3d000000  0d000000 3f000000 01000000 4d000000
+   00 6100 4c616e67756167653a2066720a00 6200' -f --statistics -o out.mo in.po
+text=$'msgid "a"\nmsgstr "x"\n#, fuzzy\nmsgid "a"\nmsgstr "y"\n'
+makes 'a duplicate in a file' 1 'in.po:4: duplicate message' '' '' -o out.mo in.po
+makes 'a duplicate in a file, fuzzy entries too' 1 'in.po:4: duplicate message' '' '' -f --statistics -o out.mo in.po
+text=$hi
+
+# --- what FILE was before ---------------------------------------------------------------------------------------
+
+# same NAME: judges the last run, which is to end with 0 and say nothing, and the file out.mo, and that no other file
+# than those that are named is there
+same() {
+  local name=$1
+  shift
+  judge "$name" 0 '' || return
+  if [ "$(ls -A | tr '\n' ' ')" != "$(printf '%s\n' "$@" | sort | tr '\n' ' ')" ]; then
+    failed "$name" "there are these files: $(ls -A | tr '\n' ' ')"
+  elif [ "$(hex < out.mo)" != "${hi_file//[[:space:]]/}" ]; then
+    failed "$name" "out.mo has the bytes $(head -c 400 out.mo | hex)"
+  else
+    return 0
+  fi
+  return 1
+}
+
+# to_file WORD..: runs the program with these words on no standard input
+to_file() {
+  "$program" "$@" < /dev/null > "$room/out" 2> "$room/err"
+  status=$?
+}
+
+in_folder
+head -c 67108865 /dev/zero | tr '\0' ' ' > in.po
+to_file -o out.mo in.po
+name='a file of 64 MiB of spaces and one more'
+if judge "$name" 1 'in.po:0: file too large'; then
+  if [ "$(ls -A)" = in.po ]; then ok "$name"; else failed "$name" "there are these files: $(ls -A | tr '\n' ' ')"; fi
+fi
+
+in_folder
+echo old > out.mo
+chmod 640 out.mo
+exec 3< out.mo
+to_file -o out.mo in.po
+name='a file that is replaced keeps its mode, and whoever reads it keeps the old one'
+if same "$name" in.po out.mo; then
+  if [ "$(stat -c %a out.mo)" != 640 ]; then
+    failed "$name" "its mode is $(stat -c %a out.mo)"
+  elif [ "$(cat <&3)" != old ]; then
+    failed "$name" 'the reader has another one'
+  else
+    ok "$name"
+  fi
+fi
+exec 3<&-
+
+in_folder
+(umask 027 && to_file -o out.mo in.po)
+name="a new file has the mode of the user's umask"
+if [ "$(stat -c %a out.mo)" = 640 ]; then ok "$name"; else failed "$name" "it is $(stat -c %a out.mo)"; fi
+
+in_folder
+mkdir there
+echo old > there/real.mo
+ln -s there/real.mo out.mo
+to_file -o out.mo in.po
+name='a symbolic link is followed to its target'
+if same "$name" in.po out.mo there; then
+  if [ ! -L out.mo ]; then
+    failed "$name" 'it is a link no more'
+  elif [ "$(ls -A there)" != real.mo ]; then
+    failed "$name" "there are these files: $(ls -A there | tr '\n' ' ')"
+  else
+    ok "$name"
+  fi
+fi
+
+in_folder
+ln -s later.mo out.mo
+to_file -o out.mo in.po
+name='a symbolic link to no file makes its target'
+same "$name" in.po later.mo out.mo && ok "$name"
+
+in_folder
+mkfifo pipe
+cat pipe > out.mo &
+to_file -o pipe in.po
+wait $!
+name='a pipe with a name is written straight'
+same "$name" in.po out.mo pipe && ok "$name"
+
+in_folder
+to_file -o /dev/null in.po
+name='/dev/null is written straight'
+if judge "$name" 0 ''; then
+  if [ -c /dev/null ] && [ "$(ls -A)" = in.po ]; then ok "$name"; else failed "$name" "$(ls -l /dev/null) $(ls -A)"; fi
+fi
+to_file -o /dev/full in.po
+judge 'a device that is full' 1 'msgfmt: cannot write /dev/full' && ok 'a device that is full'
+
+in_folder
+echo old > out.mo
+(ulimit -f 0 && trap '' XFSZ && exec "$program" -o out.mo in.po < /dev/null > /dev/null 2>&1)
+status=$?
+name='a write that fails leaves the old file and no other'
+if [ "$status" != 1 ]; then
+  failed "$name" "status $status"
+elif [ "$(ls -A | tr '\n' ' ')" != 'in.po out.mo ' ] || [ "$(cat out.mo)" != old ]; then
+  failed "$name" "there are these files: $(ls -lA | tr '\n' ' ')"
+else
+  ok "$name"
+fi
+
+# in which folders nothing can be made is another matter for root, so these are run as nobody
+if [ "$(id -u)" = 0 ] && command -v setpriv > /dev/null && setpriv --reuid=65534 --clear-groups true 2> /dev/null; then
+  as_user() { setpriv --reuid=65534 --clear-groups "$@"; }
+elif [ "$(id -u)" != 0 ]; then
+  as_user() { "$@"; }
+else
+  as_user() { return 99; }
+fi
+cp "$program" "$room/msgfmt"
+chmod 755 "$room" "$room/msgfmt"
+# as_nobody WORD..: runs the program as a user who is not root
+as_nobody() {
+  as_user "$room/msgfmt" "$@" < /dev/null > "$room/out" 2> "$room/err"
+  status=$?
+}
+in_folder
+if as_user test -r in.po; then
+  echo old > out.mo
+  chmod 666 out.mo
+  chmod 555 .
+  as_nobody -o out.mo in.po
+  name='a file in a folder where nothing can be made is written straight'
+  same "$name" in.po out.mo && ok "$name"
+  as_nobody -o new.mo in.po
+  name='no new file is made in such a folder'
+  judge "$name" 1 'msgfmt: cannot write new.mo' && ok "$name"
+  chmod 755 .
+  in_folder
+  echo old > out.mo
+  chmod 444 out.mo
+  chmod 777 .
+  [ "$(id -u)" != 0 ] || chown 65534 out.mo
+  as_nobody -o out.mo in.po
+  name='a file that may not be written is not replaced'
+  if judge "$name" 1 'msgfmt: cannot write out.mo'; then
+    if [ "$(cat out.mo)" = old ]; then ok "$name"; else failed "$name" 'it was'; fi
+  fi
+else
+  skipped 'folders where nothing can be made' 'this is root, and setpriv is not here'
+fi
+chmod 755 .
+
+in_folder
+python3 - > big.po 2> /dev/null <<'END' || for i in {1..20000}; do printf 'msgid "%d"\nmsgstr "x%d"\n' "$i" "$i"; done > big.po
+for i in range(200000):
+    print(f'msgid "{i}"\nmsgstr "x{i}"')
+END
+"$program" -o big.mo big.po
+wrong=0
+for turn in {1..20}; do
+  "$program" -o out.mo big.po &
+  "$program" -o out.mo in.po &
+  wait
+  cmp -s out.mo big.mo || [ "$(hex < out.mo)" = "${hi_file//[[:space:]]/}" ] || wrong=$turn
+done
+name='two runs at once on one FILE leave one whole file'
+if [ "$wrong" != 0 ]; then
+  failed "$name" "turn $wrong left neither"
+elif [ "$(ls -A | tr '\n' ' ')" != 'big.mo big.po in.po out.mo ' ]; then
+  failed "$name" "there are these files: $(ls -A | tr '\n' ' ')"
+else
+  ok "$name"
+fi

@@ -9,6 +9,7 @@ use Rattle.po_text.specs.Outcome.{Gives}
 use Rattle.po_text.proofs.Sizes.{option_size, forms_size, entry_size, entries_size, gives_size}
 use Rattle.catalogue.specs.Entry.{Entry, key_bytes, with_plural, original, translation}
 use Rattle.catalogue.specs.MoFile.{closed, pool, spelling}
+use Rattle.catalogue.specs.Sizes.{entry_size as size}
 use Rattle.catalogue.specs.Meaning.{message_of, is_kept}
 use Rattle.catalogue.specs.Drafts.{Row, row_of, rows_from, kept_entry}
 use Rattle.catalogue.specs.declared.compiler.Options.{Options}
@@ -17,10 +18,6 @@ use Rattle.catalogue.proofs.EntryParts.{some_form}
 use Rattle.catalogue.proofs.InOrder.{AreOrdered}
 use Rattle.catalogue.proofs.Listing.{Lawful, kept_is, left_out, map_of}
 
--- what an entry takes in the file
-abbrev size : Entry → ℕ
-size m = 16 + length (closed (original m)) + length (closed (translation m))
-
 sums : (m : List Entry) → 16 * length m + length (pool (map original m)) + length (pool (map translation m)) ≡ sum_by size m
 sums [] = refl
 sums (e ∷ m) =
@@ -28,7 +25,7 @@ sums (e ∷ m) =
     let t = ap length (flat_map-cons closed (translation e) (map translation m)) ∙ length-append (closed (translation e)) (pool (map translation m)) in
     omega (arith, sums m, sum_by-cons size e m, o, t)
 
-file_size : (m : List Entry) → length (spelling m) ≡ 28 + sum_by size m
+pub file_size : (m : List Entry) → length (spelling m) ≡ 28 + sum_by size m
 file_size m = omega (arith, length-spelling m, sums m)
 
 -- ---- an entry in the file and in the text

@@ -1,6 +1,6 @@
 -- The place of a key among rising keys, and a search for it by halves.
-use Rattle.std.proofs.Common.{◌≡◌, ℕ, zero, suc, ◌+◌, ◌<◌, ◌≤◌, true, false, List, [], ◌∷◌, length, map, Option, Some, None, Ordering, slice_get, refl, sym, ap, ◌∙◌, subst, arith, inl, inr}
-use Rattle.std.specs.Prelude.{IfSome, ◌-◌, ◌/◌}
+use Rattle.std.proofs.Common.{◌≡◌, ℕ, zero, suc, ◌+◌, ◌<◌, ◌≤◌, true, false, List, [], ◌∷◌, length, map, Option, Some, None, Ordering, slice_get, refl, sym, ap, ◌∙◌, subst, arith, lit≤, inl, inr}
+use Rattle.std.specs.Prelude.{IfSome, ◌-◌, ◌*◌, ◌/◌, ◌^◌}
 use Rattle.std.specs.Ordering.{nat_cmp, ordering_reverse}
 use Rattle.std.specs.declared.cmp.Ordering.TheVariants.{Less, Equal, Greater}
 use Rattle.std.specs.Cmp.Lexicographic.{slice_cmp}
@@ -9,9 +9,12 @@ use Rattle.std.specs.Str.{bytes_eq}
 use Rattle.std.proofs.lemmas.Bool.{cases_lt}
 use Rattle.std.proofs.lemmas.Cmp.{nat_list_cmp_total, tied_itself}
 use Rattle.std.proofs.lemmas.Slice.Eq.{bytes_eq-Decides}
+use Rattle.std.proofs.lemmas.Nat.{mul-le}
+use Rattle.std.proofs.Math.Nat.{pow-suc}
 use Rattle.std.specs.FinMap.{slice_cmp-IsAntisymmetric, nat_cmp-IsAntisymmetric}
 use Rattle.catalogue.specs.Entry.{Entry, key}
 use Rattle.catalogue.specs.Map.{Rises, entry_at}
+use Rattle.catalogue.specs.Search.{AtMostDigits}
 use Rattle.catalogue.proofs.Lists.{slice_get-map}
 
 -- the entries before `low` have lesser keys than the one asked for
@@ -124,13 +127,29 @@ found_equal m i e asked rises here equal = find_some m i e asked rises here (sli
 pub order_at : (m : List Entry) (i : ℕ) (e : Entry) (asked : List ℕ) (o : Ordering) → IfSome (slice_get m i) (λ x. o ≡ slice_cmp nat_cmp (key x) asked) → slice_get m i ≡ Some e → slice_cmp nat_cmp (key e) asked ≡ o
 order_at m i e asked o order here = sym (subst (λ (x : Option Entry). IfSome x (λ y. o ≡ slice_cmp nat_cmp (key y) asked)) here order)
 
+-- ---- the cost
+
+doubled : (old now : ℕ) → old ≤ now → 2 ^ (now + 1 - old) ≡ 2 * 2 ^ (now - old)
+doubled old now le =
+    let e : now + 1 - old ≡ suc (now - old) = omega arith in
+    rw e (omega (arith, pow-suc 2 (now - old)))
+
+halved : (s t p n : ℕ) → 0 < s → 2 * t ≤ s → s * p ≤ n → (2 * p ≤ 2 * n + 1) × (t * (2 * p) ≤ n)
+halved s t p n some half left =
+    let one = mul-le 1 p s p some (omega arith) in
+    let two = mul-le (2 * t) p s p half (omega arith) in
+    (omega (arith, one, left), omega (arith, two, left))
+
 -- ---- a turn of the search
 
-pub record Range (m : List Entry) (asked : List ℕ) (low high : ℕ) : Type 0 where
+pub record Range (m : List Entry) (asked : List ℕ) (old now low high : ℕ) : Type 0 where
   pub ordered : low ≤ high
   pub within : high ≤ length m
   pub below : AllBelow m low asked
   pub above : AllAbove m high asked
+  pub counted : old ≤ now
+  pub cost : 2 ^ (now - old) ≤ 2 * length m + 1
+  pub left : (high - low) * 2 ^ (now - old) ≤ length m
 
 some_at : {X : Type 0} (xs : List X) (i : ℕ) → i < length xs → (x : X) × (slice_get xs i ≡ Some x)
 some_at [] i lt = absurd (omega arith)
@@ -140,24 +159,67 @@ some_at (x ∷ xs) (suc i) lt = some_at xs i (omega arith)
 abbrev pub Compared : List Entry → ℕ → List ℕ → Ordering → Type 0
 Compared m i asked o = IfSome (slice_get m i) (λ x. o ≡ slice_cmp nat_cmp (key x) asked)
 
-pub goes_up : (m : List Entry) (asked : List ℕ) (low high mid : ℕ) → Range m asked low high → Rises (map key m) → low < high → mid ≡ low + (high - low) / 2 → Compared m mid asked Less → Range m asked (mid + 1) high
-goes_up m asked low high mid r rises lt middle less =
+costs : (m : List Entry) (old now next s t : ℕ) → old ≤ now → next ≡ now + 1 → 0 < s → 2 * t ≤ s → s * 2 ^ (now - old) ≤ length m
+    → (2 ^ (next - old) ≤ 2 * length m + 1) × (t * 2 ^ (next - old) ≤ length m)
+costs m old now next s t le step some half left =
+    let twice : 2 ^ (next - old) ≡ 2 * 2 ^ (now - old) = rw step (doubled old now le) in
+    rw twice (halved s t (2 ^ (now - old)) (length m) some half left)
+
+pub cost_here : (m : List Entry) (asked : List ℕ) (old now next low high : ℕ) → Range m asked old now low high → low < high → next ≡ now + 1 → AtMostDigits (length m) old next
+cost_here m asked old now next low high r lt step = record {
+  counted = omega (arith, r.counted, step);
+  cost = (costs m old now next (high - low) 0 r.counted step (omega arith) (omega arith) r.left).0;
+}
+
+pub cost_there : (m : List Entry) (asked : List ℕ) (old now low high : ℕ) → Range m asked old now low high → AtMostDigits (length m) old now
+cost_there m asked old now low high r = record { counted = r.counted; cost = r.cost }
+
+pub goes_up : (m : List Entry) (asked : List ℕ) (old now next low high mid : ℕ) → Range m asked old now low high → Rises (map key m) → low < high → mid ≡ low + (high - low) / 2 → next ≡ now + 1
+    → Compared m mid asked Less → Range m asked old next (mid + 1) high
+goes_up m asked old now next low high mid r rises lt middle step less =
     let in_range : mid < high = omega arith in
     let here = some_at m mid (omega (arith, in_range, r.within)) in
+    let c = costs m old now next (high - low) (high - (mid + 1)) r.counted step (omega arith) (omega arith) r.left in
     record {
       ordered = omega arith;
       within = r.within;
       below = less_below m mid here.0 asked rises here.1 (order_at m mid here.0 asked Less less here.1);
       above = r.above;
+      counted = omega (arith, r.counted);
+      cost = c.0;
+      left = c.1;
     }
 
-pub goes_down : (m : List Entry) (asked : List ℕ) (low high mid : ℕ) → Range m asked low high → Rises (map key m) → low < high → mid ≡ low + (high - low) / 2 → Compared m mid asked Greater → Range m asked low mid
-goes_down m asked low high mid r rises lt middle greater =
+pub goes_down : (m : List Entry) (asked : List ℕ) (old now next low high mid : ℕ) → Range m asked old now low high → Rises (map key m) → low < high → mid ≡ low + (high - low) / 2 → next ≡ now + 1
+    → Compared m mid asked Greater → Range m asked old next low mid
+goes_down m asked old now next low high mid r rises lt middle step greater =
     let in_range : mid < high = omega arith in
     let here = some_at m mid (omega (arith, in_range, r.within)) in
+    let c = costs m old now next (high - low) (mid - low) r.counted step (omega arith) (omega arith) r.left in
     record {
       ordered = omega arith;
       within = omega (arith, in_range, r.within);
       below = r.below;
       above = greater_above m mid here.0 asked rises here.1 (order_at m mid here.0 asked Greater greater here.1);
+      counted = omega (arith, r.counted);
+      cost = c.0;
+      left = c.1;
     }
+
+-- ---- among a thousand entries
+
+large : (r : ℕ) → 2048 ≤ 2 ^ (r + 11)
+large zero = lit≤ tt
+large (suc r) =
+    let e : suc r + 11 ≡ suc (r + 11) = omega arith in
+    rw e (omega (arith, large r, pow-suc 2 (r + 11)))
+
+pub ten_digits : (n old new : ℕ) → n ≤ 1000 → AtMostDigits n old new → new ≤ old + 10
+ten_digits n old new small few =
+    elim (cases_lt (new - old) 11) [
+      | inl lt ↦ omega (arith, lt, few.counted)
+      | inr ge ↦
+          let rest : ℕ = new - old - 11 in
+          let same : rest + 11 ≡ new - old = omega (arith, ge) in
+          absurd (omega (arith, large rest, ap (λ (d : ℕ). 2 ^ d) same, few.cost, small))
+    ]

@@ -3,6 +3,7 @@ ghost use Rattle.std.specs.Prelude.{◌≡◌, ◌<◌, ◌==◌, ◌∷◌, len
 ghost use Rattle.std.specs.List.{count_by, slice_split};
 ghost use Rattle.catalogue.specs.Entry.{IsLawfulEntry, key, translation};
 ghost use Rattle.catalogue.specs.Parts.{forms_left};
+ghost use Rattle.catalogue.specs.Pairs.{key_part, plural_part};
 
 use std::marker::Model;
 
@@ -56,11 +57,30 @@ impl<'a> Iterator for Forms<'a> {
     }
 }
 
+/// The key of an original: what stands before its NUL.
+pub(crate) fn key_of(original: &str) -> &str
+    ensures { result.now ≡ key_part original.now }
+{
+    match original.split_once('\0') {
+        Some((key, _)) => key,
+        None => original,
+    }
+}
+
+/// The plural of an original: what stands behind its NUL.
+fn plural_of(original: &str) -> Option<&str>
+    ensures { option_map (λ s. s.now) result ≡ plural_part original.now }
+{
+    let (_, plural) = original.split_once('\0')?;
+    Some(plural)
+}
+
 /// An entry of a catalogue. Its texts are lent from the catalogue.
 #[derive(Drop)]
 pub struct EntryRef<'a> {
-    key: &'a str,
-    plural: Option<&'a str>,
+    /// The key, and the plural behind NUL.
+    original: &'a str,
+    /// The forms, with NUL between them.
     translation: &'a str,
 }
 
@@ -69,25 +89,23 @@ impl<'a> Model for EntryRef<'a> {
 
     ghost Value = { Entry };
 
-    ghost use Rattle.std.specs.Prelude.{option_map};
     ghost use Rattle.catalogue.specs.Entry.{IsLawfulEntry};
-    ghost use Rattle.catalogue.specs.Parts.{entry_from};
+    ghost use Rattle.catalogue.specs.Pairs.{entry_of};
 
-    ghost view = { λ e. entry_from e.key.now (option_map (λ p. p.now) e.plural) e.translation.now };
+    ghost view = { λ e. entry_of e.original.now e.translation.now };
 
-    ghost invariant = { λ e. IsLawfulEntry (entry_from e.key.now (option_map (λ p. p.now) e.plural) e.translation.now) };
+    ghost invariant = { λ e. IsLawfulEntry (entry_of e.original.now e.translation.now) };
 }
 
 impl<'a> EntryRef<'a> {
-    ghost use Rattle.catalogue.specs.Parts.{entry_from};
+    ghost use Rattle.catalogue.specs.Pairs.{entry_of};
 
-    pub(crate) fn new(key: &'a str, plural: Option<&'a str>, translation: &'a str) -> EntryRef<'a>
-        requires { IsLawfulEntry (entry_from key.now (option_map (λ p. p.now) plural) translation.now) }
-        ensures { result ≡ entry_from key.now (option_map (λ p. p.now) plural.entry) translation.now }
+    pub(crate) fn new(original: &'a str, translation: &'a str) -> EntryRef<'a>
+        requires { IsLawfulEntry (entry_of original.now translation.now) }
+        ensures { result ≡ entry_of original.now translation.now }
     {
         EntryRef {
-            key,
-            plural,
+            original,
             translation,
         }
     }
@@ -96,14 +114,14 @@ impl<'a> EntryRef<'a> {
     pub fn key(&self) -> &'a str
         ensures { result.now ≡ key self.now }
     {
-        self.key
+        key_of(self.original)
     }
 
     /// The context (`msgctxt`), if the entry has one; it may be empty.
     pub fn context(&self) -> Option<&'a str>
         ensures { option_map (λ s. s.now) result ≡ self.now.context }
     {
-        let (context, _) = self.key.split_once('\u{4}')?;
+        let (context, _) = key_of(self.original).split_once('\u{4}')?;
         Some(context)
     }
 
@@ -111,9 +129,10 @@ impl<'a> EntryRef<'a> {
     pub fn id(&self) -> &'a str
         ensures { result.now ≡ self.now.id }
     {
-        match self.key.split_once('\u{4}') {
+        let key = key_of(self.original);
+        match key.split_once('\u{4}') {
             Some((_, id)) => id,
-            None => self.key,
+            None => key,
         }
     }
 
@@ -121,7 +140,7 @@ impl<'a> EntryRef<'a> {
     pub fn plural(&self) -> Option<&'a str>
         ensures { option_map (λ s. s.now) result ≡ self.now.plural }
     {
-        self.plural
+        plural_of(self.original)
     }
 
     /// The forms, with NUL between them, as an MO file holds them.

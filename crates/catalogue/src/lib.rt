@@ -4,20 +4,33 @@
 //! has besides the msgid_plural of a plural message, and its translated forms.
 #![tactic(auto)]
 
+mod accepts;
+mod checks;
 mod collect;
 mod compiler;
 mod drafts;
 mod entry;
 mod fault;
 mod find;
+mod image;
 mod joins;
+mod keys;
 mod law;
 mod lookup;
 mod map;
 mod messages;
+mod sizes;
 mod sorted;
+mod steps;
 #[cfg(test)]
 mod tests;
+#[cfg(test)]
+mod tests_accepts;
+#[cfg(test)]
+mod tests_checks;
+#[cfg(test)]
+mod tests_search;
+mod writer;
 
 pub use compiler::{Compiled, Options, Stats, compile};
 pub use entry::{EntryRef, Forms};
@@ -26,3 +39,4 @@ pub use law::one_meaning;
 pub use map::Catalogue;
 pub use messages::EntryStrings;
 pub use sorted::Message;
+pub use steps::Steps;

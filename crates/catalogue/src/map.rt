@@ -3,20 +3,24 @@ ghost use Rattle.std.specs.Prelude.{◌≡◌, ◌<◌, ◌↔◌, length, slice
 ghost use Rattle.po_header.specs.Rules.{rule_of};
 ghost use Rattle.catalogue.specs.Entry.{key_bytes};
 ghost use Rattle.catalogue.specs.Map.{IsLawful, entry_at};
+ghost use Rattle.catalogue.specs.MoFile.{spelling};
+ghost use Rattle.catalogue.specs.Search.{AtMostDigits};
 ghost use Rattle.catalogue.specs.Value.{HasMapRule};
 
-use crate::messages::SortedEntries;
-use crate::{EntryRef, EntryStrings};
+use crate::image::Image;
+use crate::{EntryRef, EntryStrings, Steps};
 use po_header::{RuleRead, read_rule};
 use std::alloc::{AllocError, Global};
 use std::marker::Model;
+use std::sync::ledger::Ledger;
 
 /// A message catalogue: a finite map from keys to entries, listed in rising order of the keys' bytes.
 ///
 /// Its MO file has at most 268,435,456 bytes.
 #[derive(Drop)]
 pub struct Catalogue {
-    entries: SortedEntries,
+    /// The entries, in rising order of the keys' bytes.
+    image: Image,
     /// The rule in the header's text.
     rule: RuleRead,
 }
@@ -30,16 +34,16 @@ impl Model for Catalogue {
     ghost use Rattle.po_header.specs.Rules.{rule_of};
     ghost use Rattle.catalogue.specs.Value.{HasMapRule};
 
-    ghost view = { λ c. c.entries };
+    ghost view = { λ c. c.image };
 
-    ghost invariant = { λ c. HasMapRule c.entries (rule_of c.rule) };
+    ghost invariant = { λ c. HasMapRule c.image (rule_of c.rule) };
 }
 
 /// The rule for plural forms of these entries.
-fn rule_in(alloc: Global, entries: &SortedEntries) -> Result<RuleRead, AllocError>
-    ensures { IfOk result (λ rule. HasMapRule entries.now (rule_of rule)) }
+fn rule_in(alloc: Global, image: &Image) -> Result<RuleRead, AllocError>
+    ensures { IfOk result (λ rule. HasMapRule image.now (rule_of rule)) }
 {
-    match entries.find(None, "") {
+    match image.find(None, "") {
         Some(header) => read_rule(alloc, header.form(0)),
         None => Ok(RuleRead::Absent),
     }
@@ -54,9 +58,9 @@ impl Catalogue {
         requires { IsLawful (entries_of messages.items) }
         ensures { IfOk result (λ catalogue. catalogue ≡ entries_of messages.items) }
     {
-        let entries = SortedEntries::new(messages);
-        let rule = rule_in(alloc, &entries)?;
-        Ok(Catalogue { entries, rule })
+        let image = Image::spelled(alloc, &messages)?;
+        let rule = rule_in(alloc, &image)?;
+        Ok(Catalogue { image, rule })
     }
 
     /// How many entries the catalogue has.
@@ -66,14 +70,14 @@ impl Catalogue {
         // Every catalogue stands for a lawful map.
         ensures lawful { IsLawful self.now }
     {
-        self.entries.len()
+        self.image.len()
     }
 
     /// Whether the catalogue has no entry.
     pub fn is_empty(&self) -> bool
         ensures { IsTrue result ↔ (length self.now ≡ 0) }
     {
-        self.entries.is_empty()
+        self.image.is_empty()
     }
 
     /// The i-th entry, in rising order of the keys' bytes.
@@ -81,7 +85,7 @@ impl Catalogue {
         requires { i < length self.now }
         ensures { slice_get self.now i ≡ Some result }
     {
-        self.entries.entry(i)
+        self.image.entry(i)
     }
 
     /// The entry of this msgid in this context, or in none; None exactly where there is no such entry.
@@ -89,7 +93,33 @@ impl Catalogue {
     pub fn find(&self, context: Option<&str>, id: &str) -> Option<EntryRef<'_>>
         ensures { result ≡ entry_at self.now (key_bytes (option_map (λ s. s.now) context.entry) id.now) }
     {
-        self.entries.find(context, id)
+        self.image.find(context, id)
+    }
+
+    /// The same as `find`, which also adds its steps to a count: a step is one comparison of the key that
+    /// is asked for with the key of one entry. It takes at most as many as the number of entries has
+    /// binary digits.
+    pub fn find_counted<L: Ledger>(
+        &self,
+        context: Option<&str>,
+        id: &str,
+        steps: &mut Steps<L>,
+    ) -> Option<EntryRef<'_>>
+        ensures found { result ≡ entry_at self.now (key_bytes (option_map (λ s. s.now) context.entry) id.now) }
+        ensures cost { AtMostDigits (length self.now) steps.old steps.new }
+    {
+        self.image.find_counted(context, id, steps)
+    }
+
+    /// The one MO file of the catalogue: revision 0, words low byte first, no hash table and no padding
+    /// (manual, "The Format of GNU MO Files").
+    pub fn file(&self) -> &[u8]
+        ensures file { result.now ≡ spelling self.now }
+
+        // Every catalogue stands for a lawful map.
+        ensures lawful { IsLawful self.now }
+    {
+        self.image.file()
     }
 
     /// The rule for plural forms in the header's text.

@@ -1,8 +1,9 @@
-//! The entries of a catalogue, by the strings that an MO file has of them.
-ghost use Rattle.std.specs.Prelude.{◌≡◌, ◌<◌, ◌==◌, ◌↔◌, length, slice_get, Some, IsTrue, option_map, string_bytes};
-ghost use Rattle.catalogue.specs.Map.{IsLawful};
+//! The strings of an entry, as an MO file has them.
+ghost use Rattle.std.specs.Prelude.{◌≡◌, option_map, string_bytes};
+ghost use Rattle.catalogue.specs.Entry.{key, translation};
+ghost use Rattle.catalogue.specs.Parts.{entry_from};
+ghost use Rattle.catalogue.specs.Stored.{stored_entry};
 
-use crate::EntryRef;
 use std::marker::Model;
 
 /// The strings of an entry, as an MO file has them (manual, "The Format of GNU MO Files").
@@ -19,9 +20,6 @@ pub struct EntryStrings {
 }
 
 impl EntryStrings {
-    ghost use Rattle.catalogue.specs.Entry.{IsLawfulEntry};
-    ghost use Rattle.catalogue.specs.Stored.{stored_entry};
-
     fn plural(&self) -> Option<&str>
         ensures { option_map (λ s. s.now) result ≡ option_map (λ s. string_bytes s) self.now.plural }
     {
@@ -31,65 +29,53 @@ impl EntryStrings {
         }
     }
 
-    /// The entry, whose texts are lent.
-    fn lend(&self) -> EntryRef<'_>
-        requires { IsLawfulEntry (stored_entry self.now) }
+    /// The strings, lent.
+    pub(crate) fn lend(&self) -> LentStrings<'_>
         ensures { result ≡ stored_entry self.now }
     {
-        EntryRef::new(self.key.as_str(), self.plural(), self.translation.as_str())
+        LentStrings {
+            key: self.key.as_str(),
+            plural: self.plural(),
+            translation: self.translation.as_str(),
+        }
     }
 }
 
-/// The entries of a catalogue, by their strings, in rising order of the keys' bytes.
+/// The strings of an entry, lent, and seen as the entry that has them.
 #[derive(Drop)]
-pub(crate) struct SortedEntries {
-    messages: Vec<EntryStrings>,
+pub(crate) struct LentStrings<'a> {
+    key: &'a str,
+    plural: Option<&'a str>,
+    translation: &'a str,
 }
 
-impl Model for SortedEntries {
-    ghost use Rattle.std.specs.Prelude.{List};
+impl<'a> Model for LentStrings<'a> {
     ghost use Rattle.catalogue.specs.Entry.{Entry};
 
-    ghost Value = { List Entry };
+    ghost Value = { Entry };
 
-    ghost use Rattle.catalogue.specs.Stored.{entries_of};
-    ghost use Rattle.catalogue.specs.Map.{IsLawful};
+    ghost use Rattle.std.specs.Prelude.{option_map};
+    ghost use Rattle.catalogue.specs.Parts.{entry_from};
 
-    ghost view = { λ c. entries_of c.messages.items };
-
-    ghost invariant = { λ c. IsLawful (entries_of c.messages.items) };
+    ghost view = { λ s. entry_from s.key.now (option_map (λ p. p.now) s.plural) s.translation.now };
 }
 
-impl SortedEntries {
-    ghost use Rattle.catalogue.specs.Stored.{entries_of};
-
-    pub(crate) fn new(messages: Vec<EntryStrings>) -> SortedEntries
-        requires { IsLawful (entries_of messages.items) }
-        ensures { result ≡ entries_of messages.items }
+impl<'a> LentStrings<'a> {
+    pub(crate) fn key(&self) -> &'a str
+        ensures { result.now ≡ key self.now }
     {
-        SortedEntries { messages }
+        self.key
     }
 
-    /// How many entries there are.
-    pub(crate) fn len(&self) -> usize
-        ensures len { result ≡ length self.now }
-        ensures lawful { IsLawful self.now }
+    pub(crate) fn plural(&self) -> Option<&'a str>
+        ensures { option_map (λ s. s.now) result ≡ self.now.plural }
     {
-        self.messages.len()
+        self.plural
     }
 
-    /// Whether there is none.
-    pub(crate) fn is_empty(&self) -> bool
-        ensures { IsTrue result ↔ (length self.now ≡ 0) }
+    pub(crate) fn translation(&self) -> &'a str
+        ensures { result.now ≡ translation self.now }
     {
-        self.messages.is_empty()
-    }
-
-    /// The i-th entry, in rising order of the keys' bytes.
-    pub(crate) fn entry(&self, i: usize) -> EntryRef<'_>
-        requires { i < length self.now }
-        ensures { slice_get self.now i ≡ Some result }
-    {
-        self.messages[i].lend()
+        self.translation
     }
 }

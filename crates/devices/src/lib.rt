@@ -1,16 +1,18 @@
 //! Devices that are read and written: what they tell of their bytes, and how they count their failures.
 //!
-//! A program is written over the traits `Source` and `Sink`, so that its contract can say which bytes it
-//! read and wrote, and that it blames a device only where that device failed. `Reading` and `Writing`
-//! make them of the readers and writers of `std::io`.
+//! A program is written over the traits `Source`, `Sink` and `Files`, so that its contract can say which
+//! bytes it read and wrote, and that it blames a device only where that device failed. `Reading` and
+//! `Writing` make the first two of the readers and writers of `std::io`.
 #![tactic(auto)]
 
 mod adapters;
 mod device;
+mod file;
 mod input;
 
 pub use adapters::{Reading, Writing};
 pub use device::{ReadFault, Sink, Source, WriteFault};
+pub use file::{FileFault, Files};
 pub use input::{InputFault, MOST_READS, read_all};
 
 #[cfg(test)]

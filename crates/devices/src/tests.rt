@@ -1,7 +1,11 @@
 //! Devices that give a few bytes at a time, are interrupted and fail.
 
-use crate::{InputFault, Reading, Sink, Writing, read_all};
-use std::alloc::Global;
+ghost use Rattle.std.specs.Prelude.{◌≡◌, ◌≤◌, IfOk, IfSome, OnOk, Some, codes, map, string_bytes, take, true};
+ghost use Rattle.devices.specs.Devices.{RisesBy};
+ghost use Rattle.devices.specs.Files.{Logs};
+
+use crate::{FileFault, Files, InputFault, Reading, Sink, Writing, read_all};
+use std::alloc::{AllocError, Global};
 use std::io;
 use std::io::{Read, Write};
 
@@ -126,5 +130,111 @@ fn a_writer_fails_in_mid_stream(rt: HostRuntime) {
             b"salut".starts_with(writer.inner.held.as_slice()),
             "{room}"
         );
+    }
+}
+
+/// One file, and a log of what was written. The call `failing` fails, counted from 0.
+#[derive(Drop)]
+struct OneFile {
+    bytes: Vec<u8>,
+    log: Vec<(String, Vec<u8>)>,
+    calls: u64,
+    failing: u64,
+    failures: u64,
+}
+
+impl OneFile {
+    /// Whether this call is to fail.
+    fn fails(&mut self) -> bool
+        ensures same { (self.new.bytes ≡ self.old.bytes) × (self.new.log ≡ self.old.log) }
+        ensures later { self.old.failures ≤ self.new.failures }
+        ensures counted { result ≡ true → RisesBy 1 self.old.failures self.new.failures }
+    {
+        let turn = self.calls;
+        self.calls = turn.saturating_add(1);
+        if turn != self.failing {
+            return false;
+        }
+        self.failures = self.failures.saturating_add(1);
+        true
+    }
+}
+
+/// What the log keeps of a file.
+fn logged(alloc: Global, name: &str, bytes: &[u8]) -> Result<(String, Vec<u8>), AllocError>
+    ensures { IfOk result (λ file. (string_bytes file.0 ≡ name.now) × (file.1.items ≡ bytes.now)) }
+{
+    Ok((name.to_string(alloc)?, bytes.to_vec(alloc)?))
+}
+
+impl Files for OneFile {
+    ghost content = { λ files name. Some files.bytes.items };
+
+    ghost written = { λ files. Some (map (λ file. (string_bytes file.0, file.1.items)) files.log.items) };
+
+    ghost failures = { λ files. files.failures };
+
+    fn read(&mut self, alloc: Global, _name: &str, limit: usize) -> Result<Vec<u8>, FileFault> {
+        if self.fails() {
+            return Err(FileFault::Device);
+        }
+        let most = limit.min(self.bytes.len());
+        match self.bytes[..most].to_vec(alloc) {
+            Ok(bytes) => Ok(bytes),
+            Err(_) => Err(FileFault::Memory),
+        }
+    }
+
+    fn write(&mut self, alloc: Global, name: &str, bytes: &[u8]) -> Result<(), FileFault> {
+        if self.fails() {
+            return Err(FileFault::Device);
+        }
+        match logged(alloc, name, bytes) {
+            Ok(file) => match self.log.push(file) {
+                Ok(()) => Ok(()),
+                Err(_) => Err(FileFault::Memory),
+            },
+            Err(_) => Err(FileFault::Memory),
+        }
+    }
+}
+
+// Reads and writes by the trait alone, as a program over it does.
+fn copy<F: Files>(alloc: Global, files: &mut F, limit: usize) -> Result<(), FileFault>
+    ensures { OnOk result (IfSome (F.content files.old (codes "from"))
+        (λ xs. Logs (F.written files.old) (F.written files.new) (codes "to") (take limit xs))) }
+{
+    let bytes = files.read(alloc, "from", limit)?;
+    files.write(alloc, "to", bytes.as_slice())
+}
+
+#[test]
+fn files_are_read_and_written(rt: HostRuntime) {
+    let alloc = rt.alloc();
+    for (failing, limit, want, logs) in [
+        (9, 9, "salut", 1),
+        (9, 3, "sal", 1),
+        (0, 9, "", 0),
+        (1, 9, "", 0),
+    ] {
+        let mut files = OneFile {
+            bytes: b"salut".to_vec(alloc).expect(&rt, "memory"),
+            log: Vec::new(alloc),
+            calls: 0,
+            failing,
+            failures: 0,
+        };
+        let copied = copy(alloc, &mut files, limit);
+        assert_eq!(rt; copied.is_ok(), logs == 1, "{failing} {limit}");
+        assert_eq!(rt; files.log.len(), logs, "{failing} {limit}");
+        assert_eq!(rt;
+            files.failures,
+            if logs == 1 { 0 } else { 1 },
+            "{failing} {limit}"
+        );
+        if let Some((name, bytes)) = files.log.first() {
+            assert!(rt; name.as_str() == "to", "{failing} {limit}");
+            assert!(rt; bytes.as_slice() == want.as_bytes(), "{failing} {limit}");
+        }
     }
 }

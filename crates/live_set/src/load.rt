@@ -1,7 +1,7 @@
 //! Loads: a catalogue for a domain and a locale.
 ghost use Rattle.std.specs.Prelude.{◌≡◌, IfOk};
-ghost use Rattle.std.specs.Ordering.{ordering_then, nat_cmp};
-ghost use Rattle.std.specs.Cmp.Lexicographic.{slice_cmp};
+ghost use Rattle.live_set.specs.Sets.{compared};
+ghost use Rattle.live_set.specs.Places.{asked};
 
 use crate::Name;
 use catalogue::Catalogue;
@@ -40,9 +40,30 @@ impl Load {
         })
     }
 
+    /// The text domain's name.
+    pub(crate) fn domain(&self) -> &str
+        ensures { result.now ≡ self.now.domain }
+    {
+        self.domain.as_str()
+    }
+
+    /// The locale's name.
+    pub(crate) fn locale(&self) -> &str
+        ensures { result.now ≡ self.now.locale }
+    {
+        self.locale.as_str()
+    }
+
+    /// The load's catalogue.
+    pub(crate) fn catalogue(&self) -> &Catalogue
+        ensures { result.now ≡ self.now.map }
+    {
+        &*self.catalogue
+    }
+
     /// How the load's domain and locale compare with these, by the domain and then by the locale.
     pub(crate) fn compare(&self, domain: &str, locale: &str) -> Ordering
-        ensures { result ≡ ordering_then (slice_cmp nat_cmp self.now.domain domain.now) (slice_cmp nat_cmp self.now.locale locale.now) }
+        ensures { result ≡ compared self.now (asked domain.now locale.now) }
     {
         self.domain
             .as_str()

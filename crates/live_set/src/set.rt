@@ -1,7 +1,10 @@
 //! Sets of catalogues.
-ghost use Rattle.std.specs.Prelude.{◌≡◌, MatchResult};
-ghost use Rattle.live_set.specs.Sets.{no_loads, absorbed, map_in};
+ghost use Rattle.std.specs.Prelude.{◌≡◌, MatchResult, IfOk, IfErr, find, option_map};
+ghost use Rattle.live_set.specs.Loads.{is_for};
+ghost use Rattle.live_set.specs.Sets.{no_loads, absorbed, placed, map_in};
 ghost use Rattle.live_set.specs.Asks.{HasValue, Plain, Context, Number, ContextNumber};
+ghost use Rattle.catalogue.specs.Value.{text_by};
+ghost use Rattle.live_set.specs.Places.{IsAt, IsGapFor};
 
 use crate::{Ask, Load, Query};
 use catalogue::Catalogue;
@@ -9,23 +12,29 @@ use std::alloc::{AllocError, Global};
 use std::marker::Model;
 
 /// For each text domain and locale the catalogue that was loaded last, and how many loads there were.
+/// Contracts see it as this number and the loads that count.
 #[derive(Drop)]
 pub struct CatalogueSet {
     version: u64,
-    /// The loads that count, in rising order of domain and locale.
+    /// The last load of each domain and locale, in rising order of these.
     held: Vec<Load>,
 }
 
 impl Model for CatalogueSet {
-    ghost use Rattle.live_set.specs.Sets.{SetValue};
+    ghost use Rattle.live_set.specs.Sets.{SetValue, Rises};
 
     ghost Value = { SetValue };
-
-    ghost use Rattle.live_set.specs.Sets.{Rises};
 
     ghost view = { λ set. record { version = set.version; held = set.held.items } };
 
     ghost invariant = { λ set. Rises set.held.items };
+}
+
+/// The msgid for 1, and the plural for other numbers.
+fn untranslated<'a>(id: &'a str, plural: &'a str, n: u64) -> &'a str
+    ensures { result.now ≡ text_by n id.now plural.now }
+{
+    if n == 1 { id } else { plural }
 }
 
 impl CatalogueSet {
@@ -44,5 +53,134 @@ impl CatalogueSet {
         ensures { result ≡ self.now.version }
     {
         self.version
+    }
+
+    /// Where the load for this domain and locale stands, or where it would stand.
+    fn place(&self, domain: &str, locale: &str) -> Result<usize, usize>
+        ensures found { IfOk result (IsAt self.now.held domain.now locale.now) }
+        ensures absent { IfErr result (IsGapFor self.now.held domain.now locale.now) }
+    {
+        self.held
+            .binary_search_by(|load| load.compare(domain, locale))
+    }
+
+    /// The catalogue for this domain and locale, if there is one.
+    fn catalogue(&self, domain: &str, locale: &str) -> Option<&Catalogue>
+        ensures { option_map (λ c. c.now) result ≡ option_map (λ l. l.map) (find (is_for domain.now locale.now) self.now.held) }
+    {
+        match self.place(domain, locale) {
+            Ok(at) => Some(self.held[at].catalogue()),
+            Err(_) => None,
+        }
+    }
+
+    /// Puts a load at its place, over the one for its domain and locale if there is one.
+    fn put(&mut self, load: Load) -> Result<(), AllocError>
+        ensures { MatchResult result (λ _. self.new ≡ record { version = self.old.version; held = placed self.old.held load }) (λ _. self.new ≡ self.old) }
+    {
+        match self.place(load.domain(), load.locale()) {
+            Ok(at) => {
+                self.held[at] = load;
+                Ok(())
+            }
+            Err(at) => Ok(self.held.insert(at, load)?),
+        }
+    }
+
+    /// Takes in a load: its catalogue takes the place of the one for its domain and locale, and the
+    /// version rises by one. Answers AllocError where memory is refused, and leaves the set as it was.
+    pub fn absorb(&mut self, load: &Load) -> Result<(), AllocError>
+        ensures { MatchResult result (λ _. self.new ≡ absorbed self.old load.now) (λ _. self.new ≡ self.old) }
+    {
+        self.put(load.try_clone()?)?;
+        self.version = self.version.saturating_add(1);
+        Ok(())
+    }
+
+    /// The translation of a msgid in this domain and locale, by the catalogue that was loaded last for
+    /// them; the msgid itself, where there is no catalogue or it has no such entry.
+    pub fn gettext<'a>(&'a self, domain: &str, locale: &str, id: &'a str) -> &'a str
+        ensures { HasValue (map_in self.now.held domain.now locale.now) (Plain id.now) result.now }
+    {
+        match self.catalogue(domain, locale) {
+            Some(catalogue) => catalogue.gettext(id),
+            None => id,
+        }
+    }
+
+    /// The same of a msgid in a context.
+    pub fn pgettext<'a>(&'a self, domain: &str, locale: &str, context: &str, id: &'a str) -> &'a str
+        ensures { HasValue (map_in self.now.held domain.now locale.now) (Context context.now id.now) result.now }
+    {
+        match self.catalogue(domain, locale) {
+            Some(catalogue) => catalogue.pgettext(context, id),
+            None => id,
+        }
+    }
+
+    /// The translation of a message with a number: the form that the number takes by the rule in the
+    /// catalogue's header. Where there is no translation, the msgid for 1, and the plural for other numbers.
+    pub fn ngettext<'a>(
+        &'a self,
+        domain: &str,
+        locale: &str,
+        id: &'a str,
+        plural: &'a str,
+        n: u64,
+    ) -> &'a str
+        ensures { HasValue (map_in self.now.held domain.now locale.now) (Number id.now plural.now n) result.now }
+    {
+        match self.catalogue(domain, locale) {
+            Some(catalogue) => catalogue.ngettext(id, plural, n),
+            None => untranslated(id, plural, n),
+        }
+    }
+
+    /// The same of a message in a context.
+    pub fn npgettext<'a>(
+        &'a self,
+        domain: &str,
+        locale: &str,
+        context: &str,
+        id: &'a str,
+        plural: &'a str,
+        n: u64,
+    ) -> &'a str
+        ensures { HasValue (map_in self.now.held domain.now locale.now) (ContextNumber context.now id.now plural.now n) result.now }
+    {
+        match self.catalogue(domain, locale) {
+            Some(catalogue) => catalogue.npgettext(context, id, plural, n),
+            None => untranslated(id, plural, n),
+        }
+    }
+
+    /// What the query is answered, lent from the set or from the query. It takes no memory.
+    pub fn look<'a>(&'a self, query: &'a Query) -> &'a str
+        ensures { HasValue (map_in self.now.held query.now.domain query.now.locale) query.now.ask result.now }
+    {
+        let domain = query.domain.as_str();
+        let locale = query.locale.as_str();
+        match &query.ask {
+            Ask::Plain { id } => self.gettext(domain, locale, id.as_str()),
+            Ask::Context { context, id } => {
+                self.pgettext(domain, locale, context.as_str(), id.as_str())
+            }
+            Ask::Number { id, plural, n } => {
+                self.ngettext(domain, locale, id.as_str(), plural.as_str(), *n)
+            }
+            Ask::ContextNumber {
+                context,
+                id,
+                plural,
+                n,
+            } => self.npgettext(
+                domain,
+                locale,
+                context.as_str(),
+                id.as_str(),
+                plural.as_str(),
+                *n,
+            ),
+        }
     }
 }

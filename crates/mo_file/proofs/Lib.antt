@@ -1,10 +1,8 @@
-pub mod Writing
 pub mod ByteOrders
 pub mod Cuts
 pub mod Entries
 pub mod RowLemmas
 pub mod Named
 pub mod Texts
-pub mod Written
 pub mod ReadBack
 pub mod OneMap

@@ -20,7 +20,7 @@ use Rattle.mo_file.proofs.ByteOrders.{order_little}
 use Rattle.mo_file.proofs.Cuts.{first_form_is}
 use Rattle.mo_file.proofs.Entries.{key_of_original}
 use Rattle.mo_file.proofs.Texts.{original_text, translation_text, lawful_forms}
-use Rattle.mo_file.proofs.Written.{Names, strings_named, named_at, Describes, spelling_describes}
+use Rattle.catalogue.proofs.FileStrings.{Names, strings_named, named_at, Describes, spelling_describes}
 
 -- what the refusals miss, where the words of the header are known
 record AllMet (number : ℕ → List ℕ → ℕ) (bytes : List ℕ) (o t n : ℕ) : Type 0 where

@@ -2,38 +2,13 @@
 use Rattle.std.proofs.Common.{◌≡◌, ℕ, ◌+◌, ◌≤◌, List, [], ◌∷◌, ◌++◌, length, Option, Some, None, refl, ap, arith}
 use Rattle.std.specs.Prelude.{IfSome}
 use Rattle.std.specs.List.{AllByRecursion, join_with_byte, count_by}
-use Rattle.std.specs.Str.{IsUtf8}
-use Rattle.std.proofs.lemmas.Str.{IsUtf8-append, IsUtf8-nil}
 use Rattle.std.proofs.lemmas.List.Sums.{sum_by-append}
 use Rattle.catalogue.specs.Entry.{Entry, key, key_bytes, with_plural, original, translation, Lacks, IsText, IsKeyText, HasForms, IsLawfulEntry}
 use Rattle.catalogue.proofs.EntryParts.{key_lacks_nul}
+use Rattle.catalogue.proofs.Originals.{original_utf8, translation_utf8}
 use Rattle.mo_file.specs.Reading.{before_nul, IsOriginalText, IsTranslationText, HasLawfulForms}
 use Rattle.mo_file.proofs.Cuts.{is, count_none}
 use Rattle.mo_file.proofs.Entries.{key_of_original}
-
-byte_utf8 : (b : ℕ) (text : List ℕ) → IsUtf8 (b ∷ []) → IsUtf8 text → IsUtf8 (b ∷ text)
-byte_utf8 b text u v = IsUtf8-append (b ∷ []) text u v
-
-nul_utf8 : IsUtf8 (0 ∷ [])
-unfolding lib.Utf8.encode
-nul_utf8 = (0 ∷ [], (refl, refl))
-
-separator_utf8 : IsUtf8 (4 ∷ [])
-unfolding lib.Utf8.encode
-separator_utf8 = (4 ∷ [], (refl, refl))
-
-key_utf8 : (context : Option (List ℕ)) (id : List ℕ) → IfSome context IsKeyText → IsKeyText id → IsUtf8 (key_bytes context id)
-key_utf8 None id c i = i.utf8
-key_utf8 (Some context) id c i = IsUtf8-append context (4 ∷ id) c.utf8 (byte_utf8 4 id separator_utf8 i.utf8)
-
-plural_utf8 : (k : List ℕ) (plural : Option (List ℕ)) → IsUtf8 k → IfSome plural IsText → IsUtf8 (with_plural k plural)
-plural_utf8 k None u p = u
-plural_utf8 k (Some plural) u p = IsUtf8-append k (0 ∷ plural) u (byte_utf8 0 plural nul_utf8 p.utf8)
-
-forms_utf8 : (forms : List (List ℕ)) → AllByRecursion IsText forms → IsUtf8 (join_with_byte 0 forms)
-forms_utf8 [] texts = IsUtf8-nil
-forms_utf8 (f ∷ []) texts = texts.0.utf8
-forms_utf8 (f ∷ g ∷ fs) texts = IsUtf8-append f (0 ∷ join_with_byte 0 (g ∷ fs)) texts.0.utf8 (byte_utf8 0 (join_with_byte 0 (g ∷ fs)) nul_utf8 (forms_utf8 (g ∷ fs) texts.1))
 
 -- such a byte between two texts that lack it
 counted_once : (byte : ℕ) (a b : List ℕ) → Lacks byte a → Lacks byte b → count_by (is byte) (byte ∷ []) ≡ 1 → count_by (is byte) (a ++ (byte ∷ b)) ≡ 1
@@ -51,12 +26,12 @@ original_text e lawful =
     let same : before_nul (original e) ≡ key e = key_of_original (key e) e.plural (key_lacks_nul e.context e.id lawful.context lawful.id) in
     let few : count_by (is 4) (key e) ≤ 1 = key_separators e.context e.id lawful.context lawful.id in
     record {
-      utf8 = plural_utf8 (key e) e.plural (key_utf8 e.context e.id lawful.context lawful.id) lawful.plural;
+      utf8 = original_utf8 e lawful;
       separators = omega (arith, ap (count_by (is 4)) same, few);
     }
 
 pub translation_text : (e : Entry) → IsLawfulEntry e → IsTranslationText (translation e)
-translation_text e lawful = record { utf8 = forms_utf8 e.forms lawful.forms }
+translation_text e lawful = record { utf8 = translation_utf8 e lawful }
 
 one_form : (forms : List (List ℕ)) → length forms ≡ 1 → AllByRecursion IsText forms → count_by (is 0) (join_with_byte 0 forms) ≡ 0
 one_form [] count texts = absurd (omega (arith, count))

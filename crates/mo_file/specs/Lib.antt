@@ -1,4 +1,3 @@
-pub mod Strings
 pub mod Tables
 pub mod Reading
 pub mod Pairs

@@ -16,3 +16,9 @@ pub use write::write_mo;
 
 #[cfg(test)]
 mod tests;
+#[cfg(test)]
+mod tests_callers;
+#[cfg(test)]
+mod tests_lookups;
+#[cfg(test)]
+mod tests_sorted;

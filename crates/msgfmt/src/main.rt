@@ -1,7 +1,10 @@
-//! The program `msgfmt`: it hands its words, standard input, standard output and the error output to
-//! `msgfmt_tool`, and ends with the exit status 0 or 1.
+//! The program `msgfmt`: it hands its words, the files of the system, standard input, standard output and the
+//! error output to `msgfmt_tool`, and ends with the exit status 0 or 1.
 #![tactic(auto)]
 
+mod disk;
+
+use crate::disk::Disk;
 use devices::{Reading, Sink, Writing};
 use msgfmt_tool::{Status, run};
 use std::io;
@@ -9,6 +12,7 @@ use std::process::ExitCode;
 
 fn main(rt: HostRuntime) -> ExitCode {
     let alloc = rt.alloc();
+    let mut files = Disk::new(&rt);
     let mut reader = Reading::new(rt.stdin());
     let mut writer = Writing::new(rt.stdout());
     let mut errors = Writing::new(rt.stderr());
@@ -19,7 +23,14 @@ fn main(rt: HostRuntime) -> ExitCode {
     let Ok(words) = words.collect(alloc) else {
         return fail("msgfmt: out of memory\n", &mut errors);
     };
-    match run(alloc, words, &mut reader, &mut writer, &mut errors) {
+    match run(
+        alloc,
+        words,
+        &mut files,
+        &mut reader,
+        &mut writer,
+        &mut errors,
+    ) {
         Status::Done => ExitCode::SUCCESS,
         Status::Failed(_) => ExitCode::FAILURE,
     }

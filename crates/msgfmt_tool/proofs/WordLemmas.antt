@@ -1,7 +1,8 @@
 -- From the answers of `clap` to what the words ask for.
-use Rattle.std.proofs.Common.{◌≡◌, ◌∙◌, ◌⊎◌, ap, sym, subst, inl, inr, true≢false, Bool, true, false, ℕ, List, [], ◌∷◌, Option, codes, refl}
+use Rattle.std.proofs.Common.{◌≡◌, ◌∙◌, ◌⊎◌, ap, sym, subst, inl, inr, true≢false, Bool, true, false, ℕ, List, [], ◌∷◌, Option, Some, None, codes, option_map, refl, unwrap_or}
 use Rattle.std.specs.Option.{option_map_or}
 use Rattle.std.specs.Str.{bytes_eq}
+use Rattle.std.specs.Borrow.{Bor}
 use Rattle.clap.proofs.WalkLemmas.{first_value-rows}
 use Rattle.clap.specs.Words.{first_value, rows_of}
 use Rattle.clap.specs.Walk.{nothing_held}
@@ -20,14 +21,24 @@ abbrev is_true : Option (List ℕ) → Bool
 is_true o = option_map_or (λ t. bytes_eq t (codes "true")) o false
 
 -- what the values that were found ask for
-pub asked_built : (f : Found) (use_fuzzy : Bool) (input output : Option (List ℕ))
-    → use_fuzzy ≡ is_true (first_value f (codes "use-fuzzy")) → input ≡ first_value f (codes "INPUT") → output ≡ first_value f (codes "output-file")
-    → ◌≡◌ {A = Asked} (record { options = record { checked = false; use_fuzzy = use_fuzzy }; input = input; output = output }) (asked_by (rows_of f))
-asked_built f use_fuzzy input output fuzzy_is input_is output_is =
+pub asked_built : (f : Found) (checked use_fuzzy statistics : Bool) (input : Option (List ℕ)) (output : List ℕ)
+    → checked ≡ is_true (first_value f (codes "check")) → use_fuzzy ≡ is_true (first_value f (codes "use-fuzzy"))
+    → statistics ≡ is_true (first_value f (codes "statistics")) → input ≡ first_value f (codes "INPUT")
+    → output ≡ unwrap_or (first_value f (codes "output-file")) (codes "messages.mo")
+    → ◌≡◌ {A = Asked} (record { options = record { checked = checked; use_fuzzy = use_fuzzy }; statistics = statistics; input = input; output = output })
+    (asked_by (rows_of f))
+asked_built f checked use_fuzzy statistics input output checked_is fuzzy_is statistics_is input_is output_is =
+    let check = checked_is ∙ ap is_true (first_value-rows f (codes "check")) in
     let fuzzy = fuzzy_is ∙ ap is_true (first_value-rows f (codes "use-fuzzy")) in
+    let counts = statistics_is ∙ ap is_true (first_value-rows f (codes "statistics")) in
     let i = input_is ∙ first_value-rows f (codes "INPUT") in
-    let o = output_is ∙ first_value-rows f (codes "output-file") in
-    λ k. record { options = record { checked = false; use_fuzzy = fuzzy k }; input = i k; output = o k }
+    let o = output_is ∙ ap (λ t. unwrap_or t (codes "messages.mo")) (first_value-rows f (codes "output-file")) in
+    λ k. record { options = record { checked = check k; use_fuzzy = fuzzy k }; statistics = counts k; input = i k; output = o k }
+
+-- the text that stands in place of none
+pub unwrapped : (found : Option (Bor (List ℕ))) (other : Bor (List ℕ)) → (unwrap_or found other).now ≡ unwrap_or (option_map (λ s. s.now) found) other.now
+unwrapped None other = refl
+unwrapped (Some text) other = refl
 
 abbrev is_help : ErrorKind → Bool
 is_help kind.DisplayHelp = true

@@ -10,8 +10,9 @@ use Rattle.msgfmt_tool.specs.declared.words.WordsFault.TheVariants.{Help, Faulty
 abbrev pub asked_in : Request → Asked
 asked_in r = record {
   options = r.options;
+  statistics = r.statistics;
   input = option_map (λ s. s.now) r.input;
-  output = option_map (λ s. s.now) r.output;
+  output = r.output.now;
 }
 
 -- why there is no request

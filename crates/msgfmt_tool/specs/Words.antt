@@ -1,5 +1,5 @@
 -- What the words of a command line ask for, by the definitions of the crate `clap`.
-use Rattle.std.specs.Prelude.{◌≡◌, ◌≢◌, ℕ, Bool, false, List, [], ◌∷◌, Option, Some, codes}
+use Rattle.std.specs.Prelude.{◌≡◌, ◌≢◌, ℕ, Bool, false, List, [], ◌∷◌, Option, Some, codes, unwrap_or}
 use Rattle.std.specs.Option.{option_map_or}
 use Rattle.std.specs.Str.{bytes_eq}
 use Rattle.clap.specs.Words.{App, Row, Rule, first_of, matches_of, new_app, new_rule, with_rule}
@@ -12,13 +12,13 @@ use Rattle.catalogue.specs.declared.compiler.Options.{Options}
 
 -- ---- the command line of `msgfmt` (manual, "msgfmt Invocation"); -h and --help are clap's own
 
--- -f, --use-fuzzy
-abbrev pub use_fuzzy_rule : Rule
-use_fuzzy_rule = record (new_rule (codes "use-fuzzy")) {
-  short = Some 102;
-  long = Some (codes "use-fuzzy");
-  action = Some SetTrue;
-}
+-- a flag by its long name, which is its id
+abbrev pub flag_rule : List ℕ → Rule
+flag_rule id = record (new_rule id) { long = Some id; action = Some SetTrue }
+
+-- the same with a letter
+abbrev pub letter_flag_rule : List ℕ → ℕ → Rule
+letter_flag_rule id letter = record (new_rule id) { short = Some letter; long = Some id; action = Some SetTrue }
 
 -- -o FILE, --output-file=FILE
 abbrev pub output_rule : Rule
@@ -33,15 +33,23 @@ output_rule = record (new_rule (codes "output-file")) {
 abbrev pub input_rule : Rule
 input_rule = record (new_rule (codes "INPUT")) { action = Some Set }
 
+-- -c, --check; -f, --use-fuzzy; --statistics
+abbrev pub msgfmt_flags : App
+msgfmt_flags = with_rule (with_rule (with_rule (new_app (codes "msgfmt"))
+    (letter_flag_rule (codes "check") 99)) (letter_flag_rule (codes "use-fuzzy") 102)) (flag_rule (codes "statistics"))
+
+-- and -v, --verbose; --no-hash, which change nothing; FILE and INPUT
 abbrev pub msgfmt : App
-msgfmt = with_rule (with_rule (with_rule (new_app (codes "msgfmt")) use_fuzzy_rule) output_rule) input_rule
+msgfmt = with_rule (with_rule (with_rule (with_rule msgfmt_flags
+    (letter_flag_rule (codes "verbose") 118)) (flag_rule (codes "no-hash"))) output_rule) input_rule
 
 -- ---- what is asked for
 
 pub record Asked : Type 0 where
   pub options : Options
+  pub statistics : Bool
   pub input : Option (List ℕ)
-  pub output : Option (List ℕ)
+  pub output : List ℕ
 
 -- clap gives a flag the text "true" where it stands among the words
 abbrev pub is_on : List ℕ → List Row → Bool
@@ -49,18 +57,14 @@ is_on id rows = option_map_or (λ t. bytes_eq t (codes "true")) (first_of id row
 
 abbrev pub asked_by : List Row → Asked
 asked_by rows = record {
-  options = record { checked = false; use_fuzzy = is_on (codes "use-fuzzy") rows };
+  options = record { checked = is_on (codes "check") rows; use_fuzzy = is_on (codes "use-fuzzy") rows };
+  statistics = is_on (codes "statistics") rows;
   input = first_of (codes "INPUT") rows;
-  output = first_of (codes "output-file") rows;
+  output = unwrap_or (first_of (codes "output-file") rows) (codes "messages.mo");
 }
 
 abbrev pub asked : List (List ℕ) → Asked
 asked words = asked_by (matches_of msgfmt words)
-
--- INPUT is standard input, and FILE standard output
-pub record UsesStreams (a : Asked) : Type 0 where
-  pub input : a.input ≡ Some (codes "-")
-  pub output : a.output ≡ Some (codes "-")
 
 -- ---- words that aren't taken
 

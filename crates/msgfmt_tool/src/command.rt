@@ -1,56 +1,67 @@
 //! A run of the command.
-ghost use Rattle.std.specs.Prelude.{◌≡◌, ◌⊎◌, map, string_bytes};
+ghost use Rattle.std.specs.Prelude.{◌≡◌, ◌≤◌, map, string_bytes};
 ghost use Rattle.msgfmt_tool.specs.Requests.{asked_in};
-ghost use Rattle.msgfmt_tool.specs.Runs.{Runs, seen};
-ghost use Rattle.msgfmt_tool.specs.Steps.{AnswersWords, GivesFile, Tells, Works};
+ghost use Rattle.msgfmt_tool.specs.Runs.{Runs, files_seen, input_seen, output_seen, seen};
+ghost use Rattle.msgfmt_tool.specs.Steps.{AnswersWords, Delivers, Tells, Works};
 
 use crate::outcome::{Cause, Status};
+use crate::steps::{compile_input, report, warn, write_output};
 use crate::texts::Failure;
 use crate::words::{Request, WordsFault, parse};
-use catalogue::{Options, compile};
-use devices::{Sink, Source, read_all};
+use catalogue::Compiled;
+use devices::{Files, Sink, Source};
 use mo_file::write_mo;
 use std::alloc::Global;
 
-/// How many bytes of an input are read: one more than a text may have.
-pub const MOST_INPUT: usize = 67_108_865;
-
-/// The MO file of what a text compiles to. The text is let go before its file is made: the two aren't held
-/// at once.
-fn file_of(alloc: Global, text: Vec<u8>, options: Options) -> Result<Vec<u8>, Cause>
-    ensures { GivesFile text.items options result }
+/// Delivers what was compiled: the warnings, then FILE, then the statistics.
+fn deliver<F: Files, W: Sink, E: Sink>(
+    alloc: Global,
+    request: &Request<'_>,
+    name: &str,
+    compiled: &Compiled,
+    files: &mut F,
+    writer: &mut W,
+    errors: &mut E,
+) -> Result<(), Cause>
+    ensures { let stored = files_seen F.content F.written F.failures in let output = output_seen W.contents W.failures in
+        Delivers (stored files.old) (stored files.new) (output writer.old) (output writer.new)
+        (E.failures errors.old) (E.failures errors.new) (asked_in request.now) compiled.now result }
 {
-    let compiled = compile(alloc, text.as_slice(), options)?;
-    drop(text);
+    if request.options.checked {
+        warn(alloc, name, compiled, errors)?;
+    }
     let file = write_mo(alloc, &compiled.catalogue)?;
-    Ok(file)
+    write_output(alloc, request.output, file.as_slice(), files, writer)?;
+    if request.statistics {
+        report(alloc, compiled.stats, errors)?;
+    }
+    Ok(())
 }
 
 /// Does what the words ask for.
-fn work<R: Source, W: Sink>(
+fn work<F: Files, R: Source, W: Sink, E: Sink>(
     alloc: Global,
     request: &Request<'_>,
+    files: &mut F,
     reader: &mut R,
     writer: &mut W,
+    errors: &mut E,
 ) -> Result<(), Cause>
-    ensures { let world = seen R.remaining R.reads R.failures W.contents W.failures in
-        Works (world reader.old writer.old) (world reader.new writer.new) (asked_in request.now) result }
+    ensures { let world = seen (files_seen F.content F.written F.failures) (input_seen R.remaining R.reads R.failures)
+        (output_seen W.contents W.failures) in
+        Works (world files.old reader.old writer.old) (world files.new reader.new writer.new)
+        (E.failures errors.old) (E.failures errors.new) (asked_in request.now) result }
 {
-    if request.input.is_none() {
+    let Some(name) = request.input else {
         return Err(Cause::NoInput);
-    }
-    if !request.uses_streams() {
-        return Err(Cause::Words);
-    }
-    let text = read_all(alloc, reader, MOST_INPUT)?;
-    let file = file_of(alloc, text, request.options)?;
-    writer.write_all(file.as_slice())?;
-    Ok(())
+    };
+    let compiled = compile_input(alloc, name, request.options, files, reader)?;
+    deliver(alloc, request, name, &compiled, files, writer, errors)
 }
 
 /// Answers words that give no request: with the help text where they ask for it.
 fn answer_words<W: Sink>(fault: &WordsFault, writer: &mut W) -> Result<(), Cause>
-    ensures { AnswersWords (W.contents writer.old) (W.contents writer.new) (W.failures writer.old) (W.failures writer.new) fault.now result }
+    ensures { let output = output_seen W.contents W.failures in AnswersWords (output writer.old) (output writer.new) fault.now result }
 {
     match fault {
         WordsFault::Help(text) => {
@@ -63,7 +74,9 @@ fn answer_words<W: Sink>(fault: &WordsFault, writer: &mut W) -> Result<(), Cause
 }
 
 /// Says a line on the error output. Where that can't be written, the run has failed all the same.
-fn say<E: Sink>(errors: &mut E, line: &str) {
+fn say<E: Sink>(errors: &mut E, line: &str)
+    ensures { E.failures errors.old ≤ E.failures errors.new }
+{
     let _written = errors.write_all(line.as_bytes());
 }
 
@@ -76,7 +89,8 @@ fn end<E: Sink>(
     output: &str,
     errors: &mut E,
 ) -> Status
-    ensures { Tells done result }
+    ensures tells { Tells done result }
+    ensures later { E.failures errors.old ≤ E.failures errors.new }
 {
     let Err(cause) = done else {
         return Status::Done;
@@ -101,28 +115,33 @@ fn end<E: Sink>(
     }
 }
 
-/// Does what the words of a command line ask for, of which the first is the program's name: reads PO text
-/// from `reader` and writes its MO file, or the help text, to `writer`. A failure is told in one line on
-/// `errors`; where that can't be written, the status is still that of the failure.
+/// Does what the words of a command line ask for, of which the first is the program's name: reads the PO text
+/// INPUT and writes its MO file FILE, or the help text to `writer`. The name `-` stands for `reader` and
+/// `writer`; without a FILE the name is `messages.mo`.
 ///
-/// At most 67,108,865 bytes are read, in at most 134,217,728 reads. The MO file is written at once, after
-/// the whole text has been read and compiled: where the text is refused, nothing is written.
-pub fn run<R: Source, W: Sink, E: Sink>(
+/// With `-c` the text is checked, and a warning for each missing header field goes to `errors` before FILE is
+/// written; with `--statistics` their line goes there after it. A failure is told in one line on `errors`;
+/// where that can't be written, the status is still that of the failure. At most 67,108,865 bytes are read,
+/// of `reader` in at most 134,217,728 reads. Where the text is refused, or can't be read, nothing is written
+/// but that line.
+pub fn run<F: Files, R: Source, W: Sink, E: Sink>(
     alloc: Global,
     words: Vec<String>,
+    files: &mut F,
     reader: &mut R,
     writer: &mut W,
     errors: &mut E,
 ) -> Status
-    ensures { let world = seen R.remaining R.reads R.failures W.contents W.failures in
-        Runs (world reader.old writer.old) (world reader.new writer.new) (map string_bytes words.items) result }
+    ensures { let world = seen (files_seen F.content F.written F.failures) (input_seen R.remaining R.reads R.failures)
+        (output_seen W.contents W.failures) in
+        Runs (world files.old reader.old writer.old) (world files.new reader.new writer.new)
+        (E.failures errors.old) (E.failures errors.new) (map string_bytes words.items) result }
 {
     match parse(alloc, words.as_slice()) {
         Ok(request) => {
-            let done = work(alloc, &request, reader, writer);
+            let done = work(alloc, &request, files, reader, writer, errors);
             let input = request.input.unwrap_or("");
-            let output = request.output.unwrap_or("");
-            end(alloc, done, input, output, errors)
+            end(alloc, done, input, request.output, errors)
         }
         Err(fault) => {
             let done = answer_words(&fault, writer);

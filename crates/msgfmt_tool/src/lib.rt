@@ -1,17 +1,22 @@
 //! The command `msgfmt`: it compiles a PO text to an MO file.
 //!
-//! `msgfmt [-f] -o - -` reads PO text on standard input and writes the MO file on standard output.
+//! `msgfmt [-c] [-f] [--statistics] [-o FILE] INPUT` reads a PO file and writes an MO file; the name `-` stands
+//! for standard input and standard output.
 #![tactic(auto)]
 
 mod command;
 mod outcome;
+mod steps;
 mod texts;
 mod words;
 
-pub use command::{MOST_INPUT, run};
+pub use command::run;
 pub use outcome::{Cause, Status};
+pub use steps::MOST_INPUT;
 
 #[cfg(test)]
 mod tests;
 #[cfg(test)]
 mod tests_compiled;
+#[cfg(test)]
+mod tests_files;

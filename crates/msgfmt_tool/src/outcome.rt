@@ -18,9 +18,9 @@ pub enum Cause {
     CannotRead,
     /// The text is refused.
     Refused(LoadFault),
-    /// The MO file or the help text can't be written.
+    /// FILE or the help text can't be written.
     CannotWrite,
-    /// A warning or the statistics can't be written. No step answers it yet.
+    /// A warning or the statistics can't be written.
     ErrorOutput,
     /// Want of memory, which may stand in place of any other answer.
     Memory,

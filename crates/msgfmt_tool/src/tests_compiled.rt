@@ -1,15 +1,17 @@
 //! Runs that compile their text.
 
-use crate::tests::{ALL_GOOD, Good, run_on};
+use crate::tests::{ALL_GOOD, run_on};
 use crate::{Cause, Status};
 use catalogue::{LoadFault, LoadKind};
 
 /// The MO file of `hi` and `salut`.
-const SALUT: [u8; 53] = *b"\xde\x12\x04\x95\0\0\0\0\x01\0\0\0\x1c\0\0\0\x24\0\0\0\0\0\0\0\x2c\0\0\0\
+pub(crate) const SALUT: [u8; 53] =
+    *b"\xde\x12\x04\x95\0\0\0\0\x01\0\0\0\x1c\0\0\0\x24\0\0\0\0\0\0\0\x2c\0\0\0\
     \x02\0\0\0\x2c\0\0\0\x05\0\0\0\x2f\0\0\0hi\0salut\0";
 
 /// The MO file of no entry.
-const NONE: [u8; 28] = *b"\xde\x12\x04\x95\0\0\0\0\0\0\0\0\x1c\0\0\0\x1c\0\0\0\0\0\0\0\x1c\0\0\0";
+pub(crate) const NONE: [u8; 28] =
+    *b"\xde\x12\x04\x95\0\0\0\0\0\0\0\0\x1c\0\0\0\x1c\0\0\0\0\0\0\0\x1c\0\0\0";
 
 /// The MO file of `a` and `b`, whose translations are `2` and `1`.
 const TWO: [u8; 68] = *b"\xde\x12\x04\x95\0\0\0\0\x02\0\0\0\x1c\0\0\0\x2c\0\0\0\0\0\0\0\x3c\0\0\0\
@@ -27,7 +29,7 @@ const PLURAL: [u8; 60] =
     *b"\xde\x12\x04\x95\0\0\0\0\x01\0\0\0\x1c\0\0\0\x24\0\0\0\0\0\0\0\x2c\0\0\0\
     \x08\0\0\0\x2c\0\0\0\x06\0\0\0\x35\0\0\0cat\0cats\0u\0vwxy\0";
 
-const HI: &str = "msgid \"hi\"\nmsgstr \"salut\"\n";
+pub(crate) const HI: &str = "msgid \"hi\"\nmsgstr \"salut\"\n";
 
 #[test]
 fn words_that_are_taken(rt: HostRuntime) {
@@ -79,7 +81,7 @@ fn texts_that_compile(rt: HostRuntime) {
     }
 }
 
-const TWICE: &str = "msgid \"a\"\nmsgstr \"x\"\n#, fuzzy\nmsgid \"a\"\nmsgstr \"y\"\n";
+pub(crate) const TWICE: &str = "msgid \"a\"\nmsgstr \"x\"\n#, fuzzy\nmsgid \"a\"\nmsgstr \"y\"\n";
 
 #[test]
 fn texts_that_are_refused(rt: HostRuntime) {
@@ -120,17 +122,4 @@ fn texts_that_are_refused(rt: HostRuntime) {
         assert!(rt; ran.output.is_empty(), "{text}");
         assert!(rt; ran.errors.as_slice() == want.as_bytes(), "{text}");
     }
-}
-
-#[test]
-fn a_write_fails(rt: HostRuntime) {
-    let alloc = rt.alloc();
-    let good = Good {
-        writes: 0,
-        ..ALL_GOOD
-    };
-    let ran = run_on(alloc, "-o - -", "", good).expect(&rt, "memory");
-    assert_eq!(rt; ran.status, Status::Failed(Cause::CannotWrite));
-    assert!(rt; ran.output.is_empty());
-    assert!(rt; ran.errors.as_slice() == "msgfmt: cannot write -\n".as_bytes());
 }

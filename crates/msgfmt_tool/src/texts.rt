@@ -1,7 +1,7 @@
 //! The texts of the error output.
 
 use crate::outcome::Cause;
-use catalogue::LoadKind;
+use catalogue::{LoadKind, Stats};
 use std::fmt;
 use std::fmt::{Display, Formatter};
 
@@ -62,4 +62,43 @@ impl Display for Failure<'_> {
             Cause::Memory => f.write_str("msgfmt: out of memory"),
         }
     }
+}
+
+/// The line of the statistics.
+#[derive(Clone, Copy)]
+pub(crate) struct StatisticsText(pub(crate) Stats);
+
+impl Display for StatisticsText {
+    fn fmt<W: fmt::Write>(&self, f: &mut Formatter<W>) -> fmt::Result {
+        let Stats {
+            translated,
+            fuzzy,
+            untranslated,
+        } = self.0;
+        write!(
+            f,
+            "{translated} translated {}",
+            noun(translated, "message", "messages")
+        )?;
+        if fuzzy > 0 {
+            write!(
+                f,
+                ", {fuzzy} fuzzy {}",
+                noun(fuzzy, "translation", "translations")
+            )?;
+        }
+        if untranslated > 0 {
+            write!(
+                f,
+                ", {untranslated} untranslated {}",
+                noun(untranslated, "message", "messages")
+            )?;
+        }
+        f.write_str(".")
+    }
+}
+
+/// The noun for so many.
+fn noun<'a>(count: u32, one: &'a str, more: &'a str) -> &'a str {
+    if count == 1 { one } else { more }
 }

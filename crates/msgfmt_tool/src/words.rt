@@ -1,9 +1,9 @@
 //! What the words of the command line ask for.
-ghost use Rattle.std.specs.Prelude.{◌≡◌, ◌↔◌, [], IfOk, IfErr, IsTrue, codes, false, map, string_bytes};
+ghost use Rattle.std.specs.Prelude.{◌≡◌, [], IfOk, IfErr, codes, false, map, string_bytes};
 ghost use Rattle.std.specs.Option.{option_map_or};
 ghost use Rattle.std.specs.Str.{bytes_eq};
-ghost use Rattle.clap.specs.Words.{app_of, first_value, found_of, kind_of, rows_of, rule_of};
-ghost use Rattle.msgfmt_tool.specs.Words.{AreTaken, UsesStreams, asked, asked_by, input_rule, msgfmt, output_rule, use_fuzzy_rule};
+ghost use Rattle.clap.specs.Words.{app_of, first_value, found_of, kind_of, new_app, rows_of, rule_of};
+ghost use Rattle.msgfmt_tool.specs.Words.{AreTaken, asked, asked_by, flag_rule, input_rule, letter_flag_rule, msgfmt, msgfmt_flags, output_rule};
 ghost use Rattle.msgfmt_tool.specs.Requests.{AnswersKind, Explains, asked_in};
 
 use catalogue::Options;
@@ -15,8 +15,10 @@ use std::alloc::{AllocError, Global};
 #[derive(Drop)]
 pub(crate) struct Request<'a> {
     pub(crate) options: Options,
+    /// The statistics are to be printed.
+    pub(crate) statistics: bool,
     pub(crate) input: Option<&'a str>,
-    pub(crate) output: Option<&'a str>,
+    pub(crate) output: &'a str,
 }
 
 /// Why the words give no request.
@@ -30,23 +32,31 @@ pub(crate) enum WordsFault {
     Memory,
 }
 
-impl Request<'_> {
-    /// Whether INPUT is standard input and FILE standard output.
-    pub(crate) fn uses_streams(&self) -> bool
-        ensures { IsTrue result ↔ UsesStreams (asked_in self.now) }
-    {
-        self.input == Some("-") && self.output == Some("-")
-    }
-}
+/// What stands under the options in the help text.
+const EXAMPLES: &str = "Examples:
+  msgfmt -c --statistics -o fr.mo fr.po
+  msgfmt -o - - < fr.po > fr.mo";
 
-fn use_fuzzy<'a>(alloc: Global) -> Arg<'a>
-    ensures rule { rule_of result ≡ use_fuzzy_rule }
+/// A flag by its long name, which is its id.
+fn flag<'a>(alloc: Global, id: &'static str, help: &'static str) -> Arg<'a>
+    ensures rule { rule_of result ≡ flag_rule id.now }
     ensures local { result.global ≡ false }
 {
-    Arg::new(alloc, "use-fuzzy")
-        .short('f')
-        .long("use-fuzzy")
-        .help("Keep fuzzy entries")
+    Arg::new(alloc, id)
+        .long(id)
+        .help(help)
+        .action(ArgAction::SetTrue)
+}
+
+/// The same with a letter.
+fn letter_flag<'a>(alloc: Global, id: &'static str, letter: char, help: &'static str) -> Arg<'a>
+    ensures rule { rule_of result ≡ letter_flag_rule id.now letter }
+    ensures local { result.global ≡ false }
+{
+    Arg::new(alloc, id)
+        .short(letter)
+        .long(id)
+        .help(help)
         .action(ArgAction::SetTrue)
 }
 
@@ -58,7 +68,7 @@ fn output<'a>(alloc: Global) -> Arg<'a>
         .short('o')
         .long("output-file")
         .value_name("FILE")
-        .help("The MO file to write; - is standard output")
+        .help("MO file to write, or - for standard output [messages.mo]")
         .action(ArgAction::Set)
 }
 
@@ -67,15 +77,43 @@ fn input<'a>(alloc: Global) -> Arg<'a>
     ensures local { result.global ≡ false }
 {
     Arg::new(alloc, "INPUT")
-        .help("The PO text to compile; - is standard input")
+        .help("PO file to read, or - for standard input")
         .action(ArgAction::Set)
+}
+
+/// The command without its arguments.
+fn described<'a>(alloc: Global) -> Command<'a>
+    ensures { app_of result ≡ new_app (codes "msgfmt") }
+{
+    Command::new(alloc, "msgfmt")
+        .about("Compiles a PO file to an MO file.")
+        .after_help(EXAMPLES)
+}
+
+fn flags<'a>(alloc: Global) -> Result<Command<'a>, AllocError>
+    ensures { IfOk result (λ c. app_of c ≡ msgfmt_flags) }
+{
+    described(alloc)
+        .arg(letter_flag(
+            alloc,
+            "check",
+            'c',
+            "Check header, plural forms, C formats and newlines",
+        ))?
+        .arg(letter_flag(alloc, "use-fuzzy", 'f', "Keep fuzzy entries"))?
+        .arg(flag(
+            alloc,
+            "statistics",
+            "Print how many messages are translated, fuzzy, untranslated",
+        ))
 }
 
 fn command<'a>(alloc: Global) -> Result<Command<'a>, AllocError>
     ensures { IfOk result (λ c. app_of c ≡ msgfmt) }
 {
-    Command::new(alloc, "msgfmt")
-        .arg(use_fuzzy(alloc))?
+    flags(alloc)?
+        .arg(letter_flag(alloc, "verbose", 'v', "Accepted, and changes nothing"))?
+        .arg(flag(alloc, "no-hash", "Accepted, and changes nothing"))?
         .arg(output(alloc))?
         .arg(input(alloc))
 }
@@ -94,11 +132,12 @@ fn request_of<'a>(matches: &ArgMatches<'a>) -> Request<'a>
 {
     Request {
         options: Options {
-            checked: false,
+            checked: is_on(matches, "check"),
             use_fuzzy: is_on(matches, "use-fuzzy"),
         },
+        statistics: is_on(matches, "statistics"),
         input: matches.get_str("INPUT"),
-        output: matches.get_str("output-file"),
+        output: matches.get_str("output-file").unwrap_or("messages.mo"),
     }
 }
 

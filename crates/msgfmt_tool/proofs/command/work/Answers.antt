@@ -1,20 +1,26 @@
-use Rattle.std.proofs.Common.{rules, ◌≡◌, IsErrAnd}
+use Rattle.std.proofs.Common.{ap, option_map}
 use Rattle.msgfmt_tool.specs.Requests.{asked_in}
-use Rattle.msgfmt_tool.specs.Runs.{WriteFails, seen}
-use Rattle.msgfmt_tool.specs.Words.{UsesStreams}
-use Rattle.msgfmt_tool.specs.declared.outcome.Cause.TheVariants.{CannotWrite}
-use Rattle.msgfmt_tool.proofs.RunLemmas.{write_failed}
+use Rattle.msgfmt_tool.specs.Runs.{files_seen, input_seen, output_seen}
+use Rattle.msgfmt_tool.proofs.RunLemmas.{delivered, ends_compiling}
 use Rattle.msgfmt_tool.proofs.command.work.Goals as goal
 
-pub returns-in_err-write_all : goal.returns-in_err-write_all
-returns-in_err-write_all g c =
-    let world = seen g.R.Source.remaining g.R.Source.reads g.R.Source.failures g.W.Sink.contents g.W.Sink.failures in
-    let w = world c.args.reader.now c.args.writer.now in
-    let w' = world c.read_all.new.reader c.write_all.new.self in
-    let a = asked_in c.args.request.now in
-    let is : IsErrAnd c.from_residual-in_err-write_all.result (λ e. e ≡ CannotWrite) = search rules in
-    let streams : UsesStreams a = search rules in
-    let failed : WriteFails w w' = search rules in
-    let made = c.in_ok-file.ensures in
-    write_failed w w' a c.from_residual-in_err-write_all.result c.in_ok-text.text.items made.compiled is streams
-    (record { front = c.in_ok-text.ensures.bytes; consumed = c.in_ok-text.ensures.none_lost }) made.means failed
+pub returns-in_err-compiled : goal.returns-in_err-compiled
+returns-in_err-compiled g c =
+    let f = files_seen g.F.Files.content g.F.Files.written g.F.Files.failures in
+    let i = input_seen g.R.Source.remaining g.R.Source.reads g.R.Source.failures in
+    let o = output_seen g.W.Sink.contents g.W.Sink.failures in
+    ends_compiling (f c.args.files.now) (f c.compile_input.new.files) (i c.args.reader.now) (i c.compile_input.new.reader)
+    (asked_in c.args.request.now) c.in-Some.name.now (ap (option_map (λ s. s.now)) c.in-Some.is) c.compile_input.ensures.none_written
+    (o c.args.writer.now) (g.E.Sink.failures c.args.errors.now) (g.E.Sink.failures c.args.errors.now)
+    _ c.in_err-compiled.field-0.0 c.from_residual.ensures.1 c.in_err-compiled.ensures.fails
+
+pub returns : goal.returns
+returns g c =
+    let f = files_seen g.F.Files.content g.F.Files.written g.F.Files.failures in
+    let i = input_seen g.R.Source.remaining g.R.Source.reads g.R.Source.failures in
+    let o = output_seen g.W.Sink.contents g.W.Sink.failures in
+    delivered (f c.args.files.now) (f c.compile_input.new.files) (i c.args.reader.now) (i c.compile_input.new.reader)
+    (asked_in c.args.request.now) c.in-Some.name.now (ap (option_map (λ s. s.now)) c.in-Some.is) c.compile_input.ensures.none_written
+    c.compile_input.ensures.later c.in_ok-compiled.compiled c.in_ok-compiled.ensures.compiles (f c.deliver.new.files)
+    (o c.args.writer.now) (o c.deliver.new.writer) (g.E.Sink.failures c.args.errors.now) (g.E.Sink.failures c.deliver.new.errors)
+    _ c.deliver.ensures

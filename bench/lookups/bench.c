@@ -1,0 +1,158 @@
+/* Look-ups in a catalogue, beside glibc's dcgettext in the same MO file. Run by bench/lookups/run. */
+#include <libintl.h>
+#include <locale.h>
+#include <pthread.h>
+#include <stdint.h>
+#include <stdio.h>
+#include <stdlib.h>
+#include <string.h>
+#include <time.h>
+
+uint64_t bench_lookups_sum(const unsigned char *file, size_t file_len, const unsigned char *ids, size_t ids_len, uint64_t rounds);
+
+#define MOST_THREADS 4
+
+struct text {
+    unsigned char *bytes;
+    size_t len;
+};
+
+/* One domain: its MO file, its msgids, one a line, and the same closed by NUL. */
+struct domain {
+    const char *name;
+    struct text file, ids;
+    const char **list;
+    size_t count;
+    uint64_t rounds;
+};
+
+struct job {
+    const struct domain *domain;
+    uint64_t rounds, sum;
+};
+
+static double now(void) {
+    struct timespec t;
+    clock_gettime(CLOCK_MONOTONIC, &t);
+    return t.tv_sec * 1e9 + t.tv_nsec;
+}
+
+static struct text read_text(const char *name) {
+    FILE *f = fopen(name, "rb");
+    if (!f) {
+        perror(name);
+        exit(1);
+    }
+    fseek(f, 0, SEEK_END);
+    struct text text = { NULL, (size_t)ftell(f) };
+    rewind(f);
+    text.bytes = malloc(text.len + 1);
+    if (fread(text.bytes, 1, text.len, f) != text.len)
+        exit(1);
+    text.bytes[text.len] = 0;
+    fclose(f);
+    return text;
+}
+
+static void split(struct domain *d) {
+    char *copy = malloc(d->ids.len + 1);
+    memcpy(copy, d->ids.bytes, d->ids.len + 1);
+    d->list = malloc(d->count * sizeof *d->list);
+    size_t n = 0;
+    for (char *line = strtok(copy, "\n"); line && n < d->count; line = strtok(NULL, "\n"))
+        d->list[n++] = line;
+    d->count = n;
+}
+
+static void *ours(void *arg) {
+    struct job *j = arg;
+    const struct domain *d = j->domain;
+    j->sum = bench_lookups_sum(d->file.bytes, d->file.len, d->ids.bytes, d->ids.len, j->rounds);
+    return NULL;
+}
+
+static void *glibc(void *arg) {
+    struct job *j = arg;
+    const struct domain *d = j->domain;
+    uint64_t sum = 0;
+    for (uint64_t r = 0; r < j->rounds; r++)
+        for (size_t i = 0; i < d->count; i++)
+            sum += (unsigned char)*dcgettext(d->name, d->list[i], LC_MESSAGES);
+    j->sum = sum;
+    return NULL;
+}
+
+/* The time of so many threads that each do all rounds. */
+static double timed(void *(*work)(void *), const struct domain *d, uint64_t rounds, int threads, uint64_t *sum) {
+    struct job jobs[MOST_THREADS];
+    pthread_t ids[MOST_THREADS];
+    double start = now();
+    for (int i = 0; i < threads; i++) {
+        jobs[i] = (struct job){ d, rounds, 0 };
+        if (threads == 1)
+            work(&jobs[i]);
+        else
+            pthread_create(&ids[i], NULL, work, &jobs[i]);
+    }
+    for (int i = 0; threads > 1 && i < threads; i++)
+        pthread_join(ids[i], NULL);
+    double time = now() - start;
+    *sum = jobs[0].sum;
+    return time;
+}
+
+static int compare(const struct domain *d, int threads, int turns, double target) {
+    double best_ours = 1e18, best_open = 1e18, best_glibc = 1e18;
+    uint64_t a = 0, b = 0, none;
+    timed(glibc, d, 1, 1, &b);
+    for (int turn = 0; turn < turns; turn++) {
+        double t = timed(ours, d, d->rounds, threads, &a);
+        if (t < best_ours) best_ours = t;
+        t = timed(ours, d, 0, threads, &none);
+        if (t < best_open) best_open = t;
+        t = timed(glibc, d, d->rounds, threads, &b);
+        if (t < best_glibc) best_glibc = t;
+    }
+    double per = (double)d->rounds * (double)d->count;
+    double mine = (best_ours - best_open) / per, theirs = best_glibc / per;
+    printf("%8zu %8d %10.1f %10.1f %8.2f %8.1f%s\n", d->count, threads, mine, theirs, theirs / mine, target, a == b ? "" : "  OTHER ANSWERS");
+    fflush(stdout);
+    return a != b;
+}
+
+int main(int argc, char **argv) {
+    if (argc != 3)
+        return 2;
+    const char *folder = argv[1];
+    int turns = atoi(argv[2]);
+    struct domain domains[] = {
+        { "m100", { 0 }, { 0 }, NULL, 100, 5000 },
+        { "m5000", { 0 }, { 0 }, NULL, 5000, 60 },
+        { "m80000", { 0 }, { 0 }, NULL, 80000, 3 },
+    };
+    const double targets[] = { 1.0, 1.3, 2.5 };
+    int bad = 0;
+    if (!setlocale(LC_ALL, "C.UTF-8")) {
+        fprintf(stderr, "no locale C.UTF-8\n");
+        return 1;
+    }
+    for (int i = 0; i < 3; i++) {
+        char name[4096];
+        struct domain *d = &domains[i];
+        bindtextdomain(d->name, folder);
+        snprintf(name, sizeof name, "%s/xx/LC_MESSAGES/%s.mo", folder, d->name);
+        d->file = read_text(name);
+        snprintf(name, sizeof name, "%s/%s.ids", folder, d->name);
+        d->ids = read_text(name);
+        split(d);
+        if (dcgettext(d->name, d->list[0], LC_MESSAGES) == d->list[0]) {
+            fprintf(stderr, "glibc doesn't translate\n");
+            return 1;
+        }
+    }
+    printf("ns a look-up, best of %d\nmessages  threads       ours  dcgettext    ratio   wanted\n", turns);
+    for (int i = 0; i < 3; i++)
+        bad |= compare(&domains[i], 1, turns, targets[i]);
+    bad |= compare(&domains[0], MOST_THREADS, turns, 3.0);
+    return bad;
+}

@@ -1,0 +1,151 @@
+-- Messages that list a lawful map: texts, keys in order, the header, and the size of the file.
+use Rattle.std.proofs.Common.{◌≡◌, ◌≢◌, ◌↔◌, ℕ, zero, suc, ◌+◌, ◌-◌, ◌*◌, ◌^◌, ◌<◌, ◌≤◌, Bool, true, false, not, cond, eqb, min, max, List, [], ◌∷◌, ◌++◌, length, map, take, drop, get_or, Option, Some, None, Ordering, String, Global, refl, sym, ap, ◌∙◌, subst, arith, add-one, append_assoc, length-append}
+use Rattle.std.specs.Prelude.{IsTrue, option_map, IfSome}
+use Rattle.std.specs.Bool.{MatchBool}
+use Rattle.std.specs.List.{AllByRecursion, AllWithin, HoldsAt, IsAllAdjacentAnswer, find, sum_by, join_with_byte}
+use Rattle.std.specs.String.{string_bytes}
+use Rattle.std.specs.Ordering.{nat_cmp, is_lt, ordering_then, ordering_reverse}
+use Rattle.std.specs.declared.cmp.Ordering.TheVariants.{Less, Equal, Greater}
+use Rattle.std.specs.Cmp.Lexicographic.{slice_cmp}
+use Rattle.std.proofs.lemmas.Cmp.{nat_list_cmp_total}
+use Rattle.std.specs.Str.{bytes_eq}
+use Rattle.std.proofs.lemmas.Bool.{false≢true}
+use Rattle.std.proofs.lemmas.List.{take-append-drop, length-take-le, take_all, length-map}
+use Rattle.std.proofs.lemmas.List.Concat.{flat_map-cons}
+use Rattle.std.proofs.lemmas.List.Sums.{sum_by-cons, sum_by_more}
+use Rattle.catalogue.specs.Entry.{Entry, key, original, translation, Lacks}
+use Rattle.catalogue.specs.Map.{Rises, first_form, header_text, HasAcceptedCharset}
+use Rattle.catalogue.specs.MoFile.{closed, pool, spelling}
+use Rattle.catalogue.specs.Messages.{message_entry, messages_of}
+use Rattle.catalogue.specs.Sizes.{capped, entry_size}
+use Rattle.catalogue.specs.Accepted.{is_below, is_header}
+use Rattle.catalogue.specs.declared.sorted.Message.{Message}
+use Rattle.catalogue.proofs.KeyParts.{cmp-append, then_assoc}
+use Rattle.catalogue.proofs.MoLengths.{length-closed, closed_joined}
+use Rattle.catalogue.proofs.Fitting.{file_size}
+
+-- ---- what is tested of each
+
+each_within : {X Y : Type 0} (f : X → Y) (P : Y → Type 0) (xs : List X) → AllWithin (λ x. P (f x)) xs 0 (length xs) → AllByRecursion P (map f xs)
+each_within f P [] all = tt
+each_within f P (x ∷ xs) all = (all 0 x (omega arith) (omega arith), each_within f P xs (λ k d lo lt. all (suc k) d (omega arith) (omega arith)))
+
+not_each : {X Y : Type 0} (f : X → Y) (P : Y → Type 0) (xs : List X) (k : ℕ) → k < length xs → HoldsAt (λ x. P (f x) → ⊥) xs k → AllByRecursion P (map f xs) → ⊥
+not_each f P [] k lt none each = absurd (omega arith)
+not_each f P (x ∷ xs) zero lt none each = none x each.0
+not_each f P (x ∷ xs) (suc k) lt none each = not_each f P xs k (omega arith) none each.1
+
+pub each_decided : {X Y : Type 0} (f : X → Y) (P : Y → Type 0) (r : Bool) (xs : List X) → MatchBool r (AllWithin (λ x. P (f x)) xs 0 (length xs)) ((k : ℕ) × (k < length xs) × HoldsAt (λ x. P (f x) → ⊥) xs k) → IsTrue r ↔ AllByRecursion P (map f xs)
+each_decided f P true xs all = ((λ _. each_within f P xs all), (λ _. refl))
+each_decided f P false xs one = ((λ e. absurd (false≢true e)), (λ each. absurd (not_each f P xs one.0 one.1 one.2 each)))
+
+-- ---- keys in order
+
+less_if : (o : Ordering) → is_lt o ≡ true → o ≡ Less
+less_if Less e = refl
+less_if Equal e = absurd (false≢true e)
+less_if Greater e = absurd (false≢true e)
+
+rises_below : (ms : List Message) → ((k : ℕ) (d : Message) → suc k < length ms → true ≡ is_below (get_or ms k d) (get_or ms (suc k) d)) → Rises (map key (messages_of ms))
+rises_below [] all = tt
+rises_below (m ∷ []) all = tt
+rises_below (m ∷ n ∷ ms) all = (less_if _ (sym (all 0 m (omega arith))), rises_below (n ∷ ms) (λ k d lt. all (suc k) d (omega arith)))
+
+not_rising : (ms : List Message) (k : ℕ) → suc k < length ms → ((d : Message) → false ≡ is_below (get_or ms k d) (get_or ms (suc k) d)) → Rises (map key (messages_of ms)) → ⊥
+not_rising [] k lt none rises = absurd (omega arith)
+not_rising (m ∷ []) k lt none rises = absurd (omega arith)
+not_rising (m ∷ n ∷ ms) zero lt none rises = false≢true (none m ∙ ap is_lt rises.0)
+not_rising (m ∷ n ∷ ms) (suc k) lt none rises = not_rising (n ∷ ms) k (omega arith) none rises.1
+
+pub rises_decided : (ms : List Message) (r : Bool) → IsAllAdjacentAnswer (λ x y b. b ≡ is_below x y) ms r → IsTrue r ↔ Rises (map key (messages_of ms))
+rises_decided ms true all = ((λ _. rises_below ms (λ k d lt. subst (λ (n : ℕ). true ≡ is_below (get_or ms k d) (get_or ms n d)) (add-one k) (all k d (omega arith)))), (λ _. refl))
+rises_decided ms false one = ((λ e. absurd (false≢true e)), (λ rises. absurd (not_rising ms one.0 (omega (arith, one.1)) (λ d. subst (λ (n : ℕ). false ≡ is_below (get_or ms one.0 d) (get_or ms n d)) (add-one one.0) (one.2 d)) rises)))
+
+-- two keys with contexts, cut where the first context ends
+pub cmp_cut : (c d i j : List ℕ) → length c ≤ length d → slice_cmp nat_cmp (c ++ (4 ∷ i)) (d ++ (4 ∷ j)) ≡ ordering_then (slice_cmp nat_cmp c (take (length c) d)) (slice_cmp nat_cmp (4 ∷ i) (drop (length c) d ++ (4 ∷ j)))
+cmp_cut c d i j le =
+    let split : d ++ (4 ∷ j) ≡ take (length c) d ++ (drop (length c) d ++ (4 ∷ j)) = ap (λ (x : List ℕ). x ++ (4 ∷ j)) (sym (take-append-drop (length c) d)) ∙ append_assoc (take (length c) d) (drop (length c) d) (4 ∷ j) in
+    ap (slice_cmp nat_cmp (c ++ (4 ∷ i))) split ∙ cmp-append c (take (length c) d) (4 ∷ i) (drop (length c) d ++ (4 ∷ j)) (sym (length-take-le (length c) d le))
+
+pub longer_some : (c d i j front rest more : List ℕ) (byte : ℕ) (o p q t u : Ordering) → length c ≤ length d → front ≡ take (length c) d → rest ≡ drop (length c) d → rest ≡ byte ∷ more → o ≡ slice_cmp nat_cmp c front → p ≡ nat_cmp 4 byte → q ≡ slice_cmp nat_cmp i (more ++ (4 ∷ j)) → t ≡ ordering_then o p → u ≡ ordering_then t q → u ≡ slice_cmp nat_cmp (c ++ (4 ∷ i)) (d ++ (4 ∷ j))
+longer_some c d i j front rest more byte o p q t u le ef er es eo ep eq et eu =
+    let tail : drop (length c) d ≡ byte ∷ more = sym er ∙ es in
+    let cut : slice_cmp nat_cmp (c ++ (4 ∷ i)) (d ++ (4 ∷ j)) ≡ ordering_then (slice_cmp nat_cmp c (take (length c) d)) (ordering_then (nat_cmp 4 byte) (slice_cmp nat_cmp i (more ++ (4 ∷ j)))) = cmp_cut c d i j le ∙ ap (λ (x : List ℕ). ordering_then (slice_cmp nat_cmp c (take (length c) d)) (slice_cmp nat_cmp (4 ∷ i) (x ++ (4 ∷ j)))) tail in
+    rw (eu, et, eo, ep, eq, ef, then_assoc (slice_cmp nat_cmp c (take (length c) d)) (nat_cmp 4 byte) (slice_cmp nat_cmp i (more ++ (4 ∷ j)))) (sym cut)
+
+pub longer_none : (c d i j front rest : List ℕ) (o q u : Ordering) → length c ≤ length d → front ≡ take (length c) d → rest ≡ drop (length c) d → length rest ≡ 0 → o ≡ slice_cmp nat_cmp c front → q ≡ slice_cmp nat_cmp i j → u ≡ ordering_then o q → u ≡ slice_cmp nat_cmp (c ++ (4 ∷ i)) (d ++ (4 ∷ j))
+longer_none c d i j front rest o q u le ef er none eo eq eu =
+    let tail : drop (length c) d ≡ [] = sym er ∙ no_items rest none in
+    let cut : slice_cmp nat_cmp (c ++ (4 ∷ i)) (d ++ (4 ∷ j)) ≡ ordering_then (slice_cmp nat_cmp c (take (length c) d)) (slice_cmp nat_cmp i j) = cmp_cut c d i j le ∙ ap (λ (x : List ℕ). ordering_then (slice_cmp nat_cmp c (take (length c) d)) (slice_cmp nat_cmp (4 ∷ i) (x ++ (4 ∷ j)))) tail in
+    rw (eu, eo, eq, ef) (sym cut)
+  where
+    no_items : (xs : List ℕ) → length xs ≡ 0 → xs ≡ []
+    no_items [] e = refl
+    no_items (x ∷ xs) e = absurd (omega (arith, e))
+
+-- the other way round
+pub reversed : (a b : List ℕ) (o r : Ordering) → o ≡ slice_cmp nat_cmp b a → r ≡ ordering_reverse o → r ≡ slice_cmp nat_cmp a b
+reversed a b o r eo er = er ∙ ap ordering_reverse eo ∙ sym (nat_list_cmp_total.antisymm a b)
+
+-- a key with a context, and one without
+pub mixed : (first second : Message) (context : String Global) (t i j : List ℕ) (o r : Ordering) → first.context ≡ Some context → second.context ≡ None → t ≡ string_bytes context → i ≡ string_bytes first.id → j ≡ string_bytes second.id → o ≡ slice_cmp nat_cmp j (t ++ (4 ∷ i)) → r ≡ ordering_reverse o → r ≡ slice_cmp nat_cmp (key (message_entry first)) (key (message_entry second))
+mixed first second context t i j o r ef es et ei ej eo er =
+    rw (ef, es) (reversed (string_bytes context ++ (4 ∷ string_bytes first.id)) (string_bytes second.id) o r (rw (et, ei, ej) at eo) er)
+
+-- ---- the header
+
+pub header_found : (ms : List Message) → find (λ e. bytes_eq (key e) []) (messages_of ms) ≡ option_map message_entry (find is_header ms)
+header_found [] = refl
+header_found (m ∷ ms) = elim (is_header m) as (λ b. cond b (Some (message_entry m)) (find (λ e. bytes_eq (key e) []) (messages_of ms)) ≡ option_map message_entry (cond b (Some m) (find is_header ms))) [
+  | true ↦ refl
+  | false ↦ header_found ms
+]
+
+pub header_some : (ms : List Message) (m : Message) (r : Bool) → Some m ≡ find is_header ms → IsTrue r ↔ HasAcceptedCharset (first_form (map (λ s. string_bytes s) m.forms.items)) → IsTrue r ↔ IfSome (header_text (messages_of ms)) HasAcceptedCharset
+header_some ms m r is tells =
+    let text : header_text (messages_of ms) ≡ Some (first_form (map (λ s. string_bytes s) m.forms.items)) = ap (option_map (λ (e : Entry). first_form e.forms)) (header_found ms ∙ ap (option_map message_entry) (sym is)) in
+    rw text tells
+
+pub header_none : (ms : List Message) → None ≡ find is_header ms → IsTrue true ↔ IfSome (header_text (messages_of ms)) HasAcceptedCharset
+header_none ms is =
+    let text : header_text (messages_of ms) ≡ None = ap (option_map (λ (e : Entry). first_form e.forms)) (header_found ms ∙ ap (option_map message_entry) (sym is)) in
+    rw text ((λ _. tt), (λ _. refl))
+
+-- ---- sizes
+
+abbrev pub form_size : String Global → ℕ
+form_size s = length (string_bytes s) + 1
+
+abbrev pub message_size : Message → ℕ
+message_size m = entry_size (message_entry m)
+
+pub capped_more : (a b : ℕ) → capped (capped a + b) ≡ capped (a + b)
+capped_more a b = omega arith
+
+pub pool_size : (forms : List (String Global)) → length (pool (map (λ s. string_bytes s) forms)) ≡ sum_by form_size forms
+pool_size [] = refl
+pool_size (s ∷ forms) =
+    let e = ap length (flat_map-cons closed (string_bytes s) (map (λ t. string_bytes t) forms)) ∙ length-append (closed (string_bytes s)) (pool (map (λ t. string_bytes t) forms)) in
+    omega (arith, e, pool_size forms, length-closed (string_bytes s), sum_by-cons form_size s forms)
+
+-- a translation has its NUL, also where it has no form
+pub translation_size : (e : Entry) → length (closed (translation e)) ≡ max (length (pool e.forms)) 1
+translation_size e = of e.forms
+  where
+    of : (forms : List (List ℕ)) → length (closed (join_with_byte 0 forms)) ≡ max (length (pool forms)) 1
+    of [] = refl
+    of (f ∷ fs) =
+        let same = ap length (closed_joined (f ∷ fs) (omega arith)) in
+        let some = ap length (flat_map-cons closed f fs) ∙ length-append (closed f) (pool fs) in
+        omega (arith, same, some, length-closed f)
+
+map_size : (ms : List Message) → sum_by entry_size (messages_of ms) ≡ sum_by message_size ms
+map_size [] = refl
+map_size (m ∷ ms) = omega (arith, sum_by-cons entry_size (message_entry m) (messages_of ms), sum_by-cons message_size m ms, map_size ms)
+
+pub messages_size : (ms : List Message) → length (spelling (messages_of ms)) ≡ 28 + sum_by message_size ms
+messages_size ms = omega (arith, file_size (messages_of ms), map_size ms)
+
+-- numbers added one after another
+pub sums_capped : (m k p t a b c d : ℕ) → a ≡ min (k + p) m → b ≡ min (a + 1) m → c ≡ min (b + min t m) m → d ≡ min (c + 16) m → d ≡ min (16 + (k + p + 1) + t) m
+sums_capped m k p t a b c d ea eb ec ed = omega arith

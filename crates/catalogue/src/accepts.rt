@@ -1,0 +1,184 @@
+//! Whether messages list a lawful map, so that a catalogue can be made of them. The tests take no memory.
+ghost use Rattle.std.specs.Prelude.{◌≡◌, ◌≤◌, ◌↔◌, [], length, map, IsTrue, IfSome, option_map, string_bytes};
+ghost use Rattle.std.specs.List.{AllByRecursion, find};
+ghost use Rattle.std.specs.Ordering.{nat_cmp, is_lt};
+ghost use Rattle.std.specs.Cmp.Lexicographic.{slice_cmp};
+ghost use Rattle.catalogue.specs.Entry.{key, Lacks, IsText, IsKeyText, HasForms, IsLawfulEntry};
+ghost use Rattle.catalogue.specs.Map.{Rises, first_form, header_text, HasAcceptedCharset, IsLawful};
+ghost use Rattle.catalogue.specs.MoFile.{spelling};
+ghost use Rattle.catalogue.specs.Messages.{message_entry, messages_of};
+ghost use Rattle.catalogue.specs.Accepted as Accepted;
+
+use crate::keys::cmp_keys;
+use crate::sizes::file_len;
+use crate::{Catalogue, Message};
+use po_header::{charset_accepted, charset_of};
+
+/// How many bytes a catalogue's MO file may have.
+const MAX_LEN: usize = 268_435_456;
+
+fn lacks(text: &str, byte: u8) -> bool
+    ensures { IsTrue result ↔ Lacks byte text.now }
+{
+    !text.as_bytes().contains(&byte)
+}
+
+/// Whether a text may stand in a catalogue.
+fn is_text(text: &str) -> bool
+    ensures { IsTrue result ↔ IsText text.now }
+{
+    lacks(text, 0)
+}
+
+/// Whether a text may stand in a key.
+fn is_key_text(text: &str) -> bool
+    ensures { IsTrue result ↔ IsKeyText text.now }
+{
+    lacks(text, 0) && lacks(text, 4)
+}
+
+/// The same of a text where there is one.
+fn is_context(context: &Option<String>) -> bool
+    ensures { IsTrue result ↔ IfSome (option_map (λ s. string_bytes s) context.now) IsKeyText }
+{
+    match context {
+        Some(context) => is_key_text(context.as_str()),
+        None => true,
+    }
+}
+
+/// The same of the plural.
+fn is_plural(plural: &Option<String>) -> bool
+    ensures { IsTrue result ↔ IfSome (option_map (λ s. string_bytes s) plural.now) IsText }
+{
+    match plural {
+        Some(plural) => is_text(plural.as_str()),
+        None => true,
+    }
+}
+
+fn are_texts(forms: &[String]) -> bool
+    ensures { IsTrue result ↔ AllByRecursion IsText (map (λ s. string_bytes s) forms.now) }
+{
+    forms.iter().all(|form| is_text(form.as_str()))
+}
+
+/// Whether there is a form, and without a plural just one.
+fn is_counted(message: &Message) -> bool
+    ensures { let e = message_entry message.now in IsTrue result ↔ HasForms e.plural e.forms }
+{
+    match &message.plural {
+        Some(_) => !message.forms.is_empty(),
+        None => message.forms.len() == 1,
+    }
+}
+
+/// Whether the key's texts are lawful.
+fn has_lawful_key(message: &Message) -> bool
+    ensures { IsTrue result ↔ Accepted.HasLawfulKey (message_entry message.now) }
+{
+    is_context(&message.context) && is_key_text(message.id.as_str())
+}
+
+/// Whether the forms are lawful, by themselves and by their number.
+fn has_lawful_forms(message: &Message) -> bool
+    ensures { IsTrue result ↔ Accepted.HasLawfulForms (message_entry message.now) }
+{
+    are_texts(message.forms.as_slice()) && is_counted(message)
+}
+
+/// Whether the texts beside the key are lawful.
+fn has_lawful_texts(message: &Message) -> bool
+    ensures { IsTrue result ↔ Accepted.HasLawfulTexts (message_entry message.now) }
+{
+    is_plural(&message.plural) && has_lawful_forms(message)
+}
+
+/// Whether the message is a lawful entry.
+fn is_lawful(message: &Message) -> bool
+    ensures { IsTrue result ↔ IsLawfulEntry (message_entry message.now) }
+{
+    has_lawful_key(message) && has_lawful_texts(message)
+}
+
+fn are_lawful(messages: &[Message]) -> bool
+    ensures { IsTrue result ↔ AllByRecursion IsLawfulEntry (messages_of messages.now) }
+{
+    messages.iter().all(|message| is_lawful(message))
+}
+
+/// Whether the key of the first message is below that of the second.
+fn is_below(first: &Message, second: &Message) -> bool
+    ensures { result ≡ Accepted.is_below first.now second.now }
+{
+    cmp_keys(first, second).is_lt()
+}
+
+/// Whether each key is above the one before.
+fn keys_rise(messages: &[Message]) -> bool
+    ensures { IsTrue result ↔ Rises (map key (messages_of messages.now)) }
+{
+    messages.is_sorted_by(|first, second| is_below(first, second))
+}
+
+/// Whether the message has no context and the empty msgid.
+fn is_header(message: &Message) -> bool
+    ensures { result ≡ Accepted.is_header message.now }
+{
+    message.context.is_none() && message.id.is_empty()
+}
+
+fn header(messages: &[Message]) -> Option<&Message>
+    ensures { option_map (λ m. m.now) result ≡ find Accepted.is_header messages.now }
+{
+    messages.iter().find(|message| is_header(message))
+}
+
+/// The first form; the empty text, where there is none.
+fn first_form(forms: &[String]) -> &str
+    ensures { result.now ≡ first_form (map (λ s. string_bytes s) forms.now) }
+{
+    match forms.first() {
+        Some(form) => form.as_str(),
+        None => "",
+    }
+}
+
+/// Whether a header's text names no charset, or one that is accepted.
+fn has_accepted_charset(text: &str) -> bool
+    ensures { IsTrue result ↔ HasAcceptedCharset text.now }
+{
+    match charset_of(text) {
+        Some(name) => charset_accepted(name),
+        None => true,
+    }
+}
+
+/// Whether the header, if there is one, names no charset or one that is accepted.
+fn header_is_lawful(messages: &[Message]) -> bool
+    ensures { IsTrue result ↔ IfSome (header_text (messages_of messages.now)) HasAcceptedCharset }
+{
+    match header(messages) {
+        Some(message) => has_accepted_charset(first_form(message.forms.as_slice())),
+        None => true,
+    }
+}
+
+/// Whether the MO file of the messages isn't too large.
+fn fits(messages: &[Message]) -> bool
+    ensures { IsTrue result ↔ (length (spelling (messages_of messages.now)) ≤ 268435456) }
+{
+    file_len(messages) <= MAX_LEN
+}
+
+impl Catalogue {
+    /// Whether the messages list a lawful map, as `from_sorted` wants them: no text holds NUL, no context
+    /// or msgid byte 4; each message has a form, and just one where it has no plural; each key is above the
+    /// one before, by bytes; the header, if there is one, names no charset or one that is accepted; and the
+    /// MO file has at most 268,435,456 bytes.
+    pub fn accepts(messages: &[Message]) -> bool
+        ensures { IsTrue result ↔ IsLawful (messages_of messages.now) }
+    {
+        are_lawful(messages) && keys_rise(messages) && header_is_lawful(messages) && fits(messages)
+    }
+}

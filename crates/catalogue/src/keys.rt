@@ -1,0 +1,63 @@
+//! Keys of messages side by side, piece by piece and without memory.
+ghost use Rattle.std.specs.Prelude.{◌≡◌, ◌≤◌, length, Some};
+ghost use Rattle.std.specs.Ordering.{nat_cmp};
+ghost use Rattle.std.specs.Cmp.Lexicographic.{slice_cmp};
+ghost use Rattle.catalogue.specs.Entry.{key, key_bytes};
+ghost use Rattle.catalogue.specs.Messages.{message_entry};
+
+use crate::Message;
+use std::cmp::Ordering;
+
+/// A text beside a key with a context.
+fn cmp_text(text: &[u8], context: &[u8], id: &[u8]) -> Ordering
+    ensures { result ≡ slice_cmp nat_cmp text.now (key_bytes (Some context.now) id.now) }
+{
+    let n = context.len();
+    if text.len() <= n {
+        return text.cmp(context).then(Ordering::Less);
+    }
+    text[..n]
+        .cmp(context)
+        .then(text[n].cmp(&4))
+        .then(text[n + 1..].cmp(id))
+}
+
+/// Two keys with contexts, of which the second context isn't the shorter one.
+fn cmp_longer(context: &[u8], id: &[u8], other_context: &[u8], other_id: &[u8]) -> Ordering
+    requires { length context.now ≤ length other_context.now }
+    ensures { result ≡ slice_cmp nat_cmp (key_bytes (Some context.now) id.now) (key_bytes (Some other_context.now) other_id.now) }
+{
+    let (front, rest) = other_context.split_at(context.len());
+    let order = context.cmp(front);
+    match rest.split_first() {
+        Some((byte, rest)) => order.then(4u8.cmp(byte)).then(cmp_text(id, rest, other_id)),
+        None => order.then(id.cmp(other_id)),
+    }
+}
+
+/// Two keys with contexts.
+fn cmp_contexts(context: &[u8], id: &[u8], other_context: &[u8], other_id: &[u8]) -> Ordering
+    ensures { result ≡ slice_cmp nat_cmp (key_bytes (Some context.now) id.now) (key_bytes (Some other_context.now) other_id.now) }
+{
+    if context.len() <= other_context.len() {
+        cmp_longer(context, id, other_context, other_id)
+    } else {
+        cmp_longer(other_context, other_id, context, id).reverse()
+    }
+}
+
+/// The keys of two messages.
+pub(crate) fn cmp_keys(first: &Message, second: &Message) -> Ordering
+    ensures { result ≡ slice_cmp nat_cmp (key (message_entry first.now)) (key (message_entry second.now)) }
+{
+    let id = first.id.as_bytes();
+    let other = second.id.as_bytes();
+    match (&first.context, &second.context) {
+        (None, None) => id.cmp(other),
+        (None, Some(context)) => cmp_text(id, context.as_bytes(), other),
+        (Some(context), None) => cmp_text(other, context.as_bytes(), id).reverse(),
+        (Some(context), Some(other_context)) => {
+            cmp_contexts(context.as_bytes(), id, other_context.as_bytes(), other)
+        }
+    }
+}

@@ -1,0 +1,151 @@
+//! Searches in large catalogues.
+ghost use Rattle.std.specs.Prelude.{◌≡◌, ◌+◌, ◌<◌, ◌≤◌, length};
+
+use crate::{Catalogue, Options, Steps, compile};
+use std::alloc::{AllocError, Global};
+use std::marker::Brand;
+use std::sync::ledger::{Blank, Ledger};
+use std::test::Fail;
+
+const PLAIN: Options = Options {
+    checked: false,
+    use_fuzzy: false,
+};
+
+/// Adds the last digits of a number, which has six at most.
+fn push_digits(text: &mut String, n: u32, places: usize) -> Result<(), AllocError> {
+    let digits = [n / 100_000, n / 10_000, n / 1_000, n / 100, n / 10, n];
+    for digit in digits.into_iter().skip(6usize.saturating_sub(places)) {
+        text.push(char::from(b'0' + (digit % 10) as u8))?;
+    }
+    Ok(())
+}
+
+/// A PO text of so many messages: `k` and a number's digits, translated by the digits.
+fn numbered(alloc: Global, count: u32, places: usize) -> Result<String, AllocError> {
+    let mut text = String::new(alloc);
+    for n in 0..count {
+        text.push_str("msgid \"k")?;
+        push_digits(&mut text, n, places)?;
+        text.push_str("\"\nmsgstr \"")?;
+        push_digits(&mut text, n, places)?;
+        text.push_str("\"\n")?;
+    }
+    Ok(text)
+}
+
+/// Whether the key is found, with this translation, or isn't found.
+fn is_found(catalogue: &Catalogue, key: &str, wanted: Option<&str>) -> bool {
+    match catalogue.find(None, key) {
+        Some(entry) => entry.id() == key && Some(entry.translation()) == wanted,
+        None => wanted.is_none(),
+    }
+}
+
+/// The same by the counted search, which takes at most ten steps among so few entries.
+fn is_found_in_ten<L: Ledger>(
+    catalogue: &Catalogue,
+    key: &str,
+    wanted: Option<&str>,
+    steps: &mut Steps<L>,
+) -> bool
+    requires { length catalogue.now ≤ 1000 }
+    ensures { steps.new ≤ steps.old + 10 }
+{
+    match catalogue.find_counted(None, key, steps) {
+        Some(entry) => entry.id() == key && Some(entry.translation()) == wanted,
+        None => wanted.is_none(),
+    }
+}
+
+/// Whether all of a thousand keys are found in ten steps each, and other keys aren't.
+fn finds_thousand<L: Ledger>(
+    alloc: Global,
+    catalogue: &Catalogue,
+    blank: Blank,
+) -> Result<bool, AllocError>
+    requires name { blank.name ≡ L.name }
+    requires parts { blank.parts ≡ L.parts }
+    requires some { 0 < L.parts }
+{
+    let mut steps = Steps::<L>::new(blank);
+    if catalogue.len() > 1000 {
+        return Ok(false);
+    }
+    let mut key = String::new(alloc);
+    let mut digits = String::new(alloc);
+    for n in 0..1000 {
+        key.clear();
+        key.push('k')?;
+        push_digits(&mut key, n, 3)?;
+        digits.clear();
+        push_digits(&mut digits, n, 3)?;
+        let wanted = Some(digits.as_str());
+        if !is_found(catalogue, key.as_str(), wanted) {
+            return Ok(false);
+        }
+        if !is_found_in_ten(catalogue, key.as_str(), wanted, &mut steps) {
+            return Ok(false);
+        }
+    }
+    for other in ["k", "k0005", "k9999", "", "j", "l"] {
+        if !is_found(catalogue, other, None) {
+            return Ok(false);
+        }
+        if !is_found_in_ten(catalogue, other, None, &mut steps) {
+            return Ok(false);
+        }
+    }
+    Ok(true)
+}
+
+#[test]
+fn finds_among_a_thousand(rt: HostRuntime) -> Result<(), Fail> {
+    let text = numbered(rt.alloc(), 1000, 3)?;
+    let compiled = compile(rt.alloc(), text.as_bytes(), PLAIN)?;
+    assert_eq!(rt; compiled.catalogue.len(), 1000);
+    let found = finds_thousand::<Brand>(rt.alloc(), &compiled.catalogue, Blank::new(1))?;
+    assert!(rt; found);
+    Ok(())
+}
+
+/// Whether `find` and the four look-ups are right of a key with this translation.
+fn looks_up(catalogue: &Catalogue, key: &str, digits: &str) -> bool {
+    is_found(catalogue, key, Some(digits))
+        && catalogue.gettext(key) == digits
+        && catalogue.ngettext(key, "plural", 1) == digits
+        && catalogue.pgettext("z", key) == key
+        && catalogue.npgettext("z", key, "plural", 1) == key
+}
+
+/// A look-up that walks over the entries doesn't end in the time of a test.
+#[test]
+fn looks_up_among_half_a_million(rt: HostRuntime) -> Result<(), Fail> {
+    let text = numbered(rt.alloc(), 500_000, 6)?;
+    let compiled = compile(rt.alloc(), text.as_bytes(), PLAIN)?;
+    assert_eq!(rt; compiled.catalogue.len(), 500_000);
+    let mut key = String::new(rt.alloc());
+    let mut digits = String::new(rt.alloc());
+    for n in 0..500_000 {
+        key.clear();
+        key.push('k')?;
+        push_digits(&mut key, n, 6)?;
+        digits.clear();
+        push_digits(&mut digits, n, 6)?;
+        assert!(rt; looks_up(&compiled.catalogue, key.as_str(), digits.as_str()));
+    }
+    Ok(())
+}
+
+/// The strings of the file of two entries lie where the format has them.
+#[test]
+fn keeps_its_file(rt: HostRuntime) -> Result<(), Fail> {
+    let text: &[u8] =
+        b"msgid \"b\"\nmsgid_plural \"bs\"\nmsgstr[0] \"x\"\nmsgstr[1] \"\"\nmsgid \"a\"\nmsgstr \"y\"\n";
+    let wanted: &[u8] = b"\xde\x12\x04\x95\0\0\0\0\x02\0\0\0\x1c\0\0\0\x2c\0\0\0\0\0\0\0\x3c\0\0\0\
+        \x01\0\0\0\x3c\0\0\0\x04\0\0\0\x3e\0\0\0\x01\0\0\0\x43\0\0\0\x02\0\0\0\x45\0\0\0\
+        a\0b\0bs\0y\0x\0\0";
+    let compiled = compile(rt.alloc(), text, PLAIN)?;
+    assert!(rt; compiled.catalogue.file() == wanted);
+    Ok(())
+}

@@ -1,0 +1,4 @@
+pub mod Order
+pub mod Finding
+pub mod Placing
+pub mod Folding

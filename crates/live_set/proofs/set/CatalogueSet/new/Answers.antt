@@ -1,0 +1,7 @@
+use Rattle.std.proofs.Common.{sym, subst}
+use Rattle.live_set.specs.Sets.{Rises}
+use Rattle.live_set.proofs.Placing.{rises_none}
+use Rattle.live_set.proofs.set.CatalogueSet.new.Goals as goal
+
+pub invariant_of-result : goal.invariant_of-result
+invariant_of-result c = subst Rises (sym c.new.ensures.items) rises_none

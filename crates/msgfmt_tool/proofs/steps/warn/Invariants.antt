@@ -1,0 +1,5 @@
+use Rattle.std.proofs.Common.{◌≤◌}
+use Rattle.msgfmt_tool.proofs.steps.warn.Given as goal
+
+abbrev pub invariant-fields : goal.invariant-fields
+invariant-fields g l = g.E.Sink.failures l.fn.errors ≤ g.E.Sink.failures l.errors
