@@ -1,7 +1,6 @@
 #!/usr/bin/env bash
-# Hands the programs of docs/LIVE.md that must not compile to the compiler, each as a program of its own above
-# live_versions, and compares the error that it names with the one in the program's first line. Nothing is proved or
-# run: `rt try` compiles, and stops at the error.
+# Hands the programs of docs/LIVE.md that must not compile to the compiler, each as a crate of its own above
+# live_versions, and compares the error that it names with the one in the program's first line.
 . "$(dirname "$0")/common"
 read -r -a rt <<< "${RT:-rt}"
 
@@ -9,8 +8,9 @@ if ! command -v "${rt[0]}" > /dev/null; then
   failed refused_programs "no ${rt[0]} on the PATH"
   exit 0
 fi
-mkdir -p "$room/repo"
-tar -cf - --exclude=out HANDLES crates.txt crates | tar -xf - -C "$room/repo"
+mkdir -p "$room/repo/crates"
+cp HANDLES crates.txt "$room/repo/"
+tar cf - --exclude out crates | tar xf - -C "$room/repo"
 
 # each program behind its name into a crate of that name: the word after `pub fn`
 awk -v room="$room/repo/crates" '
@@ -19,7 +19,8 @@ awk -v room="$room/repo/crates" '
     inside = 0
     if (error != "") {
       dir = room "/" name; system("mkdir -p " dir "/src")
-      printf "//! A program that must not compile.\n#![tactic(auto)]\n\n%s\nfn main() {}\n", text > (dir "/src/main.rt")
+      printf "//! A program that must not compile.\n#![tactic(auto)]\n\n#[cfg(test)]\nmod tests;\n\n%s", text > (dir "/src/lib.rt")
+      printf "#[test]\nfn nothing() {}\n" > (dir "/src/tests.rt")
       print name, error
     }
     next
@@ -31,7 +32,8 @@ awk -v room="$room/repo/crates" '
 
 while read -r name error; do
   echo "$name: live_versions" >> "$room/repo/crates.txt"
-  (cd "$room/repo/crates/$name" && "${rt[@]}" try < /dev/null) > "$room/answer" 2>&1
+  # (rt try compiles without a proof: the errors of these programs come before it)
+  (cd "$room/repo/crates/$name" && "${rt[@]}" try --test < /dev/null) > "$room/answer" 2>&1
   if grep -q "error\[$error\]" "$room/answer"; then
     ok "refused program, $name: $error"
   else
