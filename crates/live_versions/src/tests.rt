@@ -1,4 +1,4 @@
-//! Worked rows. What is wanted was written by hand, and not taken from a run.
+//! Worked values. They were written by hand, and not taken from a run.
 ghost use Rattle.std.specs.Prelude.{◌≡◌};
 
 use crate::{
