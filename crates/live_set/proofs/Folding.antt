@@ -1,5 +1,5 @@
 -- What a set is after a list of loads: the last load of each domain and locale, and their number.
-use Rattle.std.proofs.Common.{◌≡◌, ℕ, ◌+◌, ◌≤◌, min, Bool, true, false, cond, List, [], ◌∷◌, length, Option, Some, None, fold, filter, find, refl, sym, ap, ◌∙◌, arith}
+use Rattle.std.proofs.Common.{◌≡◌, ℕ, ◌+◌, ◌≤◌, min, Bool, true, false, cond, List, [], ◌∷◌, length, Option, Some, fold, filter, find, refl, ap, ◌∙◌, arith}
 use Rattle.std.specs.List.{last_or}
 use Rattle.live_set.specs.Loads.{LoadValue, is_for, map_or_empty, map_of}
 use Rattle.live_set.specs.Sets.{SetValue, no_loads, absorbed, map_in}

@@ -1,6 +1,6 @@
 -- Queries, and what they are answered (manual, "The interface of gettext"; "Using contexts for solving
 -- ambiguities"; "Additional functions for plural forms").
-use Rattle.std.specs.Prelude.{ℕ, List, Option, Some, None}
+use Rattle.std.specs.Prelude.{ℕ, List, Some, None}
 use Rattle.std.specs.String.{string_bytes}
 use Rattle.catalogue.specs.Entry.{Entry, key_bytes}
 use Rattle.catalogue.specs.Map.{entry_at}

@@ -1,5 +1,5 @@
-use Rattle.std.proofs.Common.{◌≡◌, Some, find, get_or, option_map, sym, ap, subst, ◌∙◌}
-use Rattle.live_set.specs.Loads.{LoadValue, is_for}
+use Rattle.std.proofs.Common.{◌≡◌, Some, get_or, option_map, sym, ap, subst, ◌∙◌}
+use Rattle.live_set.specs.Loads.{LoadValue}
 use Rattle.live_set.specs.Sets.{SetValue, Rises}
 use Rattle.live_set.proofs.Placing.{find_at, find_gap}
 use Rattle.live_set.proofs.set.CatalogueSet.catalogue.Goals as goal

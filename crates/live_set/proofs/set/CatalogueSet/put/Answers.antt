@@ -1,4 +1,4 @@
-use Rattle.std.proofs.Common.{◌≡◌, sym, subst, ◌∙◌}
+use Rattle.std.proofs.Common.{sym, subst, ◌∙◌}
 use Rattle.live_set.specs.Sets.{SetValue, Rises}
 use Rattle.live_set.specs.Places.{IsAt, IsGapFor}
 use Rattle.live_set.proofs.Placing.{put_at, put_gap, put_value, placed_rises}
