@@ -9,6 +9,7 @@ ghost use Rattle.catalogue.specs.Search.{AtMostDigits};
 
 use crate::entry::{key_of, plural_of};
 use crate::image::Image;
+use crate::keys::cmp_in_context;
 use crate::{EntryRef, Steps};
 use std::cmp::Ordering;
 use std::marker::{Brand, Model};
@@ -32,20 +33,6 @@ impl<'a> Model for Asked<'a> {
     ghost view = { λ a. key_bytes (option_map (λ s. s.now) a.context) a.id.now };
 
     ghost invariant = { λ a. IsTrue a.is_text → Lacks 0 a.id.now };
-}
-
-/// A stored key beside that of a msgid in a context, part by part.
-fn cmp_in_context(stored: &[u8], context: &[u8], id: &[u8]) -> Ordering
-    ensures { result ≡ slice_cmp nat_cmp stored.now (key_bytes (Some context.now) id.now) }
-{
-    let n = context.len();
-    if stored.len() <= n {
-        return stored.cmp(context).then(Ordering::Less);
-    }
-    stored[..n]
-        .cmp(context)
-        .then(stored[n].cmp(&4))
-        .then(stored[n + 1..].cmp(id))
 }
 
 /// Whether a NUL stands at this place in an original.

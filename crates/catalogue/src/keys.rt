@@ -1,4 +1,4 @@
-//! Keys of messages side by side, piece by piece and without memory.
+//! Keys side by side, piece by piece and without memory.
 ghost use Rattle.std.specs.Prelude.{◌≡◌, ◌≤◌, length, Some};
 ghost use Rattle.std.specs.Ordering.{nat_cmp};
 ghost use Rattle.std.specs.Cmp.Lexicographic.{slice_cmp};
@@ -8,8 +8,8 @@ ghost use Rattle.catalogue.specs.Messages.{message_entry};
 use crate::Message;
 use std::cmp::Ordering;
 
-/// A text beside a key with a context.
-fn cmp_text(text: &[u8], context: &[u8], id: &[u8]) -> Ordering
+/// A key, or another text, beside the key of a msgid in a context.
+pub(crate) fn cmp_in_context(text: &[u8], context: &[u8], id: &[u8]) -> Ordering
     ensures { result ≡ slice_cmp nat_cmp text.now (key_bytes (Some context.now) id.now) }
 {
     let n = context.len();
@@ -30,7 +30,9 @@ fn cmp_longer(context: &[u8], id: &[u8], other_context: &[u8], other_id: &[u8]) 
     let (front, rest) = other_context.split_at(context.len());
     let order = context.cmp(front);
     match rest.split_first() {
-        Some((byte, rest)) => order.then(4u8.cmp(byte)).then(cmp_text(id, rest, other_id)),
+        Some((byte, rest)) => order
+            .then(4u8.cmp(byte))
+            .then(cmp_in_context(id, rest, other_id)),
         None => order.then(id.cmp(other_id)),
     }
 }
@@ -54,8 +56,8 @@ pub(crate) fn cmp_keys(first: &Message, second: &Message) -> Ordering
     let other = second.id.as_bytes();
     match (&first.context, &second.context) {
         (None, None) => id.cmp(other),
-        (None, Some(context)) => cmp_text(id, context.as_bytes(), other),
-        (Some(context), None) => cmp_text(other, context.as_bytes(), id).reverse(),
+        (None, Some(context)) => cmp_in_context(id, context.as_bytes(), other),
+        (Some(context), None) => cmp_in_context(other, context.as_bytes(), id).reverse(),
         (Some(context), Some(other_context)) => {
             cmp_contexts(context.as_bytes(), id, other_context.as_bytes(), other)
         }

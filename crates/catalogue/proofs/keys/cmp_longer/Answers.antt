@@ -3,7 +3,7 @@ use Rattle.catalogue.proofs.keys.cmp_longer.Goals as goal
 
 pub returns-in-Some : goal.returns-in-Some
 returns-in-Some c =
-    longer_some c.args.context.now c.args.other_context.now c.args.id.now c.args.other_id.now c.split_at.result.0.now c.split_at.result.1.now c.in-Some.rest.now c.in-Some.byte.now c.cmp-order.result c.cmp.result c.cmp_text.result c.then.result c.then-in-Some.result c.requires c.split_at.ensures.front c.split_at.ensures.back c.in-Some.ensures.cases.0 c.cmp-order.ensures c.cmp.ensures c.cmp_text.ensures c.then.ensures c.then-in-Some.ensures
+    longer_some c.args.context.now c.args.other_context.now c.args.id.now c.args.other_id.now c.split_at.result.0.now c.split_at.result.1.now c.in-Some.rest.now c.in-Some.byte.now c.cmp-order.result c.cmp.result c.cmp_in_context.result c.then.result c.then-in-Some.result c.requires c.split_at.ensures.front c.split_at.ensures.back c.in-Some.ensures.cases.0 c.cmp-order.ensures c.cmp.ensures c.cmp_in_context.ensures c.then.ensures c.then-in-Some.ensures
 
 pub returns-in-None : goal.returns-in-None
 returns-in-None c =

@@ -3,7 +3,7 @@ use Rattle.std.specs.Ordering.{ordering_then}
 use Rattle.std.specs.declared.cmp.Ordering.TheVariants.{Less}
 use Rattle.std.proofs.lemmas.List.{take_rest}
 use Rattle.catalogue.proofs.KeyParts.{cmp_shorter, cmp_parts}
-use Rattle.catalogue.proofs.keys.cmp_text.Goals as goal
+use Rattle.catalogue.proofs.keys.cmp_in_context.Goals as goal
 
 pub returns-then-text-n : goal.returns-then-text-n
 returns-then-text-n c = c.then.ensures ∙ ap (λ o. ordering_then o Less) c.cmp.ensures ∙ sym (cmp_shorter c.args.text.now c.args.context.now 4 c.args.id.now c.if-text-n.true)
