@@ -11,23 +11,26 @@ use Rattle.po_text.specs.Lawful.{IsLawfulTexts}
 use Rattle.po_text.specs.declared.reader.EntryReader.{EntryReader}
 use Rattle.po_text.specs.declared.fault.PoKind.{PoKind}
 use Rattle.po_text.specs.declared.fault.PoKind.TheVariants as kinds
+use Rattle.catalogue.specs.Findings.{HasFound}
 use Rattle.catalogue.specs.Meaning.{Refuses}
 use Rattle.catalogue.specs.Refusal.{kind_of}
 use Rattle.catalogue.specs.Drafts.{Row, row, rows, row_of, rows_from, IsLawfulMessage, HasCollected}
+use Rattle.catalogue.specs.declared.checks.Findings.{Findings}
 use Rattle.catalogue.specs.declared.compiler.Options.{Options}
 use Rattle.catalogue.specs.declared.drafts.Draft.{Draft}
 use Rattle.catalogue.specs.declared.fault.LoadKind.TheVariants.{Memory}
 use Rattle.catalogue.proofs.PoEntries.{message_lawful}
 use Rattle.catalogue.proofs.InOrder.{length-rows_from}
 
-pub record Collects (text : List ℕ) (o : Options) (reader : EntryReader) (drafts : List Draft) : Type 0 where
+pub record Collects (text : List ℕ) (o : Options) (reader : EntryReader) (drafts : List Draft) (findings : Findings) : Type 0 where
   pub entries : List po.Entry
   pub read : HasRead (body text) entries reader
   pub rows_are : rows drafts ≡ rows_from o 0 entries
   pub lawful : AllByRecursion IsLawfulMessage entries
+  pub found : HasFound o entries findings
 
-pub collects_none : (text : List ℕ) (o : Options) (reader : EntryReader) (drafts : List Draft) → HasRead (body text) [] reader → drafts ≡ [] → Collects text o reader drafts
-collects_none text o reader drafts read none = record { entries = []; read = read; rows_are = ap rows none; lawful = tt }
+pub collects_none : (text : List ℕ) (o : Options) (reader : EntryReader) (drafts : List Draft) (findings : Findings) → HasRead (body text) [] reader → drafts ≡ [] → HasFound o [] findings → Collects text o reader drafts findings
+collects_none text o reader drafts findings read none found = record { entries = []; read = read; rows_are = ap rows none; lawful = tt; found = found }
 
 rows_push : (o : Options) (k : ℕ) (es : List po.Entry) (e : po.Entry) → rows_from o k (es ++ e ∷ []) ≡ rows_from o k es ++ row_of o (k + length es) e ∷ []
 rows_push o k [] e = ap (λ n. row_of o n e ∷ []) (omega arith)
@@ -41,8 +44,12 @@ lawful_push (x ∷ es) e all one = (all.0, lawful_push es e all.1 one)
 pub drafts_are : (o : Options) (drafts : List Draft) (entries : List po.Entry) → rows drafts ≡ rows_from o 0 entries → length drafts ≡ length entries
 drafts_are o drafts entries e = sym (length-map drafts row) ∙ ap length e ∙ length-rows_from o 0 entries
 
-pub collects_more : (text : List ℕ) (o : Options) (reader next : EntryReader) (drafts more : List Draft) (d : Draft) (e : po.Entry) (n : ℕ) → (c : Collects text o reader drafts) → GoesOn true (body text) c.entries e next → n ≡ length drafts → row d ≡ row_of o n e → IsLawfulTexts e → more ≡ drafts ++ d ∷ [] → Collects text o next more
-collects_more text o reader next drafts more d e n c goes n_is row_is texts pushed =
+-- one more entry was looked at
+abbrev pub LooksAt : Options → po.Entry → Findings → Findings → Type 0
+LooksAt o e findings grown = (entries : List po.Entry) → HasFound o entries findings → HasFound o (entries ++ e ∷ []) grown
+
+pub collects_more : (text : List ℕ) (o : Options) (reader next : EntryReader) (drafts more : List Draft) (findings grown : Findings) (d : Draft) (e : po.Entry) (n : ℕ) → (c : Collects text o reader drafts findings) → GoesOn true (body text) c.entries e next → n ≡ length drafts → row d ≡ row_of o n e → IsLawfulTexts e → more ≡ drafts ++ d ∷ [] → LooksAt o e findings grown → Collects text o next more grown
+collects_more text o reader next drafts more findings grown d e n c goes n_is row_is texts pushed looks =
     let number : n ≡ length c.entries = n_is ∙ drafts_are o drafts c.entries c.rows_are in
     record {
       entries = c.entries ++ e ∷ [];
@@ -50,10 +57,11 @@ collects_more text o reader next drafts more d e n c goes n_is row_is texts push
       rows_are = ap rows pushed ∙ map-append row drafts (d ∷ []) ∙ ap (λ (rs : List Row). rs ++ (row d ∷ [])) c.rows_are
           ∙ ap (λ (r : Row). rows_from o 0 c.entries ++ (r ∷ [])) (row_is ∙ ap (λ k. row_of o k e) (omega (arith, number))) ∙ sym (rows_push o 0 c.entries e);
       lawful = lawful_push c.entries e c.lawful (message_lawful e texts goes.0);
+      found = looks c.entries c.found;
     }
 
-pub collects_all : (text : List ℕ) (o : Options) (reader next : EntryReader) (drafts : List Draft) (e : po.Entry) → IsReadable text → (c : Collects text o reader drafts) → GoesOn false (body text) c.entries e next → HasCollected text o drafts
-collects_all text o reader next drafts e readable c ends = record { entries = c.entries; gives = record { readable = readable; reads = ends.0 }; rows_are = c.rows_are; lawful = c.lawful }
+pub collects_all : (text : List ℕ) (o : Options) (reader next : EntryReader) (drafts : List Draft) (findings : Findings) (e : po.Entry) → IsReadable text → (c : Collects text o reader drafts findings) → GoesOn false (body text) c.entries e next → HasCollected text o drafts findings
+collects_all text o reader next drafts findings e readable c ends = record { entries = c.entries; gives = record { readable = readable; reads = ends.0 }; rows_are = c.rows_are; lawful = c.lawful; found = c.found }
 
 -- a refusal of the PO text is the compiler's
 pub refused_as : (text : List ℕ) (o : Options) (kind : PoKind) (line : ℕ) → outcome.Refuses text kind line → (kind_of kind ≡ Memory) ⊎ Refuses text o (kind_of kind) line

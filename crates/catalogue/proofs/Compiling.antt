@@ -1,33 +1,39 @@
 -- What the compiler's steps come to.
-use Rattle.std.proofs.Common.{◌≡◌, ℕ, ◌+◌, ◌^◌, ◌<◌, false, List, [], ◌∷◌, length, get_or, Option, None, sym, ap, ◌∙◌, subst, arith}
+use Rattle.std.proofs.Common.{◌≡◌, ℕ, ◌+◌, ◌^◌, ◌<◌, Bool, List, [], ◌∷◌, length, get_or, Option, None, Some, sym, ap, ◌∙◌, subst, arith}
+use Rattle.std.specs.Prelude.{IfSome, option_map, if◌then◌else◌}
 use Rattle.std.specs.List.{filter_map, count_by, find}
 use Rattle.std.specs.List.Sorted.{IsPermutation, IsSortedBy}
 use Rattle.std.specs.Option.{option_map_or}
 use Rattle.std.proofs.lemmas.List.{get_or-map, length-map}
 use Rattle.std.proofs.lemmas.List.Sorted.{IsPermutation-map}
+use denote.Ref.{Bor}
 use Rattle.po_text.specs.Entries as po
 use Rattle.po_text.proofs.Sizes.{gives_count}
-use Rattle.catalogue.specs.Map.{IsLawful}
-use Rattle.catalogue.specs.Meaning.{Means, IsMapOf, Refuses, kept}
+use Rattle.catalogue.specs.Findings.{HasFound, FirstFault, FailsFrom}
+use Rattle.catalogue.specs.Map.{IsLawful, HasAcceptedCharset}
+use Rattle.catalogue.specs.Meaning.{Means, IsMapOf, Refuses, kept, kept_header, header_line_of, header_text_of, lacking, none_missing, HasDistinctKeys, IsDuplicateAt, IsForeignAt, NamesCharset}
 use Rattle.catalogue.specs.Stored.{entries_of}
-use Rattle.catalogue.specs.Drafts.{Row, row, rows, kept_entry, comes_before, counts_as, is_kept_header, IsRepeat, FirstRepeat, IsFirstRepeat, HasCollected, HeaderNamesCharset}
+use Rattle.catalogue.specs.Drafts.{Row, row, rows, kept_entry, comes_before, counts_as, header_text_in, is_kept_header, IsRepeat, FirstRepeat, IsFirstRepeat, HasCollected}
+use Rattle.catalogue.specs.declared.checks.Findings.{Findings}
 use Rattle.catalogue.specs.declared.compiler.Options.{Options}
 use Rattle.catalogue.specs.declared.compiler.Stats.{Stats}
 use Rattle.catalogue.specs.declared.compiler.Compiled.{Compiled}
 use Rattle.catalogue.specs.declared.drafts.Draft.{Draft}
 use Rattle.catalogue.specs.declared.drafts.Standing.TheVariants.{Untranslated, Fuzzy, Translated}
+use Rattle.catalogue.specs.declared.fault.LoadFault.{LoadFault}
 use Rattle.catalogue.specs.declared.fault.LoadKind.TheVariants.{Duplicate, Charset}
 use Rattle.catalogue.specs.declared.messages.EntryStrings.{EntryStrings}
 use Rattle.catalogue.proofs.Collecting.{drafts_are}
 use Rattle.catalogue.proofs.Counting.{untranslated_count, fuzzy_count, translated_count, header_line_is}
 use Rattle.catalogue.proofs.Fitting.{fits}
-use Rattle.catalogue.proofs.HeaderFound.{accepted, another, map_accepted}
+use Rattle.catalogue.proofs.HeaderFound.{accepted, another, header_text_is, map_accepted}
 use Rattle.catalogue.proofs.InOrder.{AreOrdered, row_lt, all_distinct, first_duplicate}
 use Rattle.catalogue.proofs.Listing.{map_of, is_map, each_lawful}
+use Rattle.catalogue.proofs.Refusals.{all_pass, as_refusal, first_is_check, first_is_duplicate, first_is_foreign}
 
 -- there are few drafts
-pub few : (text : List ℕ) (o : Options) (drafts : List Draft) → HasCollected text o drafts → length drafts < 2 ^ 32
-few text o drafts c = omega (arith, drafts_are o drafts c.entries c.rows_are, gives_count text c.entries c.gives, c.gives.readable.size)
+pub few : (text : List ℕ) (o : Options) (drafts : List Draft) (found : Findings) → HasCollected text o drafts found → length drafts < 2 ^ 32
+few text o drafts found c = omega (arith, drafts_are o drafts c.entries c.rows_are, gives_count text c.entries c.gives, c.gives.readable.size)
 
 -- what the sort gave
 pub record Sorts (before after : List Draft) : Type 0 where
@@ -42,72 +48,112 @@ sorted_rows (x ∷ ds) sorted k d le lt =
     let next : get_or (rows (x ∷ ds)) (k + 1) d ≡ row (get_or (x ∷ ds) (k + 1) x) = get_or-map row (x ∷ ds) (k + 1) x d short in
     ap (λ r. row_lt r (get_or (rows (x ∷ ds)) k d)) next ∙ ap (row_lt (row (get_or (x ∷ ds) (k + 1) x))) here ∙ sorted k x (omega arith) short
 
-ordered : (text : List ℕ) (o : Options) (before after : List Draft) → (c : HasCollected text o before) → Sorts before after → AreOrdered o c.entries (rows after)
-ordered text o before after c s = record {
+ordered : (text : List ℕ) (o : Options) (before after : List Draft) (found : Findings) → (c : HasCollected text o before found) → Sorts before after → AreOrdered o c.entries (rows after)
+ordered text o before after found c s = record {
   same = subst (λ (rs : List Row). IsPermutation rs (rows after)) c.rows_are (IsPermutation-map row before after s.same);
   sorted = sorted_rows after s.sorted;
 }
 
 -- ---- a repeat
 
-pub refused : (text : List ℕ) (o : Options) (before after : List Draft) (d : Draft) → HasCollected text o before → Sorts before after → IsFirstRepeat (rows after) (length after) (row d) → Refuses text o Duplicate d.line
-refused text o before after d c s first =
+pub refused : (text : List ℕ) (o : Options) (before after : List Draft) (found : Findings) (d : Draft) → HasCollected text o before found → Sorts before after → IsFirstRepeat (rows after) (length after) (row d) → Refuses text o Duplicate d.line
+refused text o before after found d c s first =
     let n : length (rows after) ≡ length after = length-map after row in
-    (c.entries, c.gives, first_duplicate o c.entries (rows after) (ordered text o before after c s) (row d) (subst (λ k. IsFirstRepeat (rows after) k (row d)) (sym n) first))
+    let is : IsDuplicateAt c.entries d.line = first_duplicate o c.entries (rows after) (ordered text o before after found c s) (row d) (subst (λ k. IsFirstRepeat (rows after) k (row d)) (sym n) first) in
+    (c.entries, c.gives, first_is_duplicate o c.entries d.line is)
 
 -- ---- none
 
 no_repeat : (after : List Draft) → FirstRepeat (rows after) (length after) None → (j : ℕ) → ¬ IsRepeat (rows after) j
 no_repeat after none j repeats = none j (omega (arith, repeats.within, length-map after row)) repeats
 
--- the header names another charset
-pub foreign : (text : List ℕ) (o : Options) (before after : List Draft) (line : ℕ) → HasCollected text o before → Sorts before after → FirstRepeat (rows after) (length after) None → (HeaderNamesCharset before → ⊥) → line ≡ option_map_or (λ d. d.line) (find (λ d. is_kept_header (row d)) before) 0 → Refuses text o Charset line
-foreign text o before after line c s none unnamed line_is =
-    let a = another o c.entries before c.rows_are c.lawful unnamed in (
-      c.entries,
-      c.gives,
-      record {
-        distinct = all_distinct o c.entries (rows after) (ordered text o before after c s) (no_repeat after none);
-        header = a.header;
-        is = a.is;
-        foreign = a.foreign;
-        line_is = line_is ∙ header_line_is o c.entries before c.rows_are ∙ ap (λ (x : Option po.Entry). option_map_or (λ (e : po.Entry). e.line) x 0) a.is;
-      },
-    )
+-- the keys are distinct, then
+distinct_keys : (text : List ℕ) (o : Options) (before after : List Draft) (found : Findings) → (c : HasCollected text o before found) → Sorts before after → FirstRepeat (rows after) (length after) None → HasDistinctKeys c.entries
+distinct_keys text o before after found c s none = all_distinct o c.entries (rows after) (ordered text o before after found c s) (no_repeat after none)
 
-pub lawful_map : (text : List ℕ) (o : Options) (before after : List Draft) (ms : List EntryStrings) → HasCollected text o before → Sorts before after → FirstRepeat (rows after) (length after) None → HeaderNamesCharset before → entries_of ms ≡ filter_map kept_entry (rows after) → IsLawful (entries_of ms)
-lawful_map text o before after ms c s none named kept_are =
-    let sorted = ordered text o before after c s in
+-- what was read of the header: its line, and its text where there is one
+pub record IsHeader (drafts : List Draft) (header : Option (Bor (List ℕ))) (line : ℕ) : Type 0 where
+  pub line_is : line ≡ option_map_or (λ d. d.line) (find (λ d. is_kept_header (row d)) drafts) 0
+  pub text_is : option_map (λ text. text.now) header ≡ header_text_in drafts
+
+pub header_text : (text : List ℕ) (o : Options) (before : List Draft) (found : Findings) (header : Option (Bor (List ℕ))) (line : ℕ) → (c : HasCollected text o before found) → IsHeader before header line → option_map (λ text. text.now) header ≡ header_text_of o c.entries
+header_text text o before found header line c h = h.text_is ∙ header_text_is o c.entries before c.rows_are c.lawful
+
+lines_are : (text : List ℕ) (o : Options) (before : List Draft) (found : Findings) (header : Option (Bor (List ℕ))) (line : ℕ) → (c : HasCollected text o before found) → IsHeader before header line → line ≡ header_line_of o c.entries
+lines_are text o before found header line c h = h.line_is ∙ header_line_is o c.entries before c.rows_are
+
+text_accepted : (header : Option (Bor (List ℕ))) (t : Option (List ℕ)) → option_map (λ text. text.now) header ≡ t → IfSome header (λ text. HasAcceptedCharset text.now) → IfSome t HasAcceptedCharset
+text_accepted None t is named = subst (λ (x : Option (List ℕ)). IfSome x HasAcceptedCharset) is tt
+text_accepted (Some text) t is named = subst (λ (x : Option (List ℕ)). IfSome x HasAcceptedCharset) is named
+
+accepted_text : (header : Option (Bor (List ℕ))) (t : Option (List ℕ)) → option_map (λ text. text.now) header ≡ t → IfSome t HasAcceptedCharset → IfSome header (λ text. HasAcceptedCharset text.now)
+accepted_text None t is named = tt
+accepted_text (Some text) t is named = subst (λ (x : Option (List ℕ)). IfSome x HasAcceptedCharset) (sym is) named
+
+abbrev pub NamesCharsets : Option (Bor (List ℕ)) → Type 0
+NamesCharsets header = IfSome header (λ text. HasAcceptedCharset text.now)
+
+header_accepted : (text : List ℕ) (o : Options) (before : List Draft) (found : Findings) (header : Option (Bor (List ℕ))) (line : ℕ) → (c : HasCollected text o before found) → IsHeader before header line → NamesCharsets header → IfSome (kept_header o c.entries) NamesCharset
+header_accepted text o before found header line c h named = accepted o c.entries (text_accepted header (header_text_of o c.entries) (header_text text o before found header line c h) named)
+
+-- the header names another charset
+pub foreign : (text : List ℕ) (o : Options) (before after : List Draft) (found : Findings) (header : Option (Bor (List ℕ))) (line : ℕ) → HasCollected text o before found → Sorts before after → FirstRepeat (rows after) (length after) None → IsHeader before header line → (NamesCharsets header → ⊥) → Refuses text o Charset line
+foreign text o before after found header line c s none h unnamed =
+    let a = another o c.entries (λ named. unnamed (accepted_text header (header_text_of o c.entries) (header_text text o before found header line c h) named)) in
+    let is : IsForeignAt o c.entries line = record {
+      header = a.header;
+      is = a.is;
+      foreign = a.foreign;
+      line_is = lines_are text o before found header line c h ∙ ap (λ (x : Option po.Entry). option_map_or (λ (e : po.Entry). e.line) x 0) a.is;
+    } in
+    (c.entries, c.gives, first_is_foreign o c.entries line (distinct_keys text o before after found c s none) is)
+
+-- what the checks found: a fault, or none
+abbrev pub Checks : Option (Bor (List ℕ)) → ℕ → Options → Findings → Option LoadFault → Type 0
+Checks header line o found fault = (entries : List po.Entry) → HasFound o entries found → option_map (λ text. text.now) header ≡ header_text_of o entries → line ≡ header_line_of o entries → FirstFault (FailsFrom 11 o entries) fault
+
+pub failed : (text : List ℕ) (o : Options) (before after : List Draft) (found : Findings) (header : Option (Bor (List ℕ))) (line : ℕ) (fault : LoadFault) → HasCollected text o before found → Sorts before after → FirstRepeat (rows after) (length after) None → IsHeader before header line → NamesCharsets header → Checks header line o found (Some fault) → Refuses text o fault.kind fault.line
+failed text o before after found header line fault c s none h named checks =
+    as_refusal text o c.entries fault.kind fault.line c.gives (first_is_check o c.entries fault.kind fault.line (distinct_keys text o before after found c s none) (header_accepted text o before found header line c h named)
+    (checks c.entries c.found (header_text text o before found header line c h) (lines_are text o before found header line c h)))
+
+pub lawful_map : (text : List ℕ) (o : Options) (before after : List Draft) (found : Findings) (header : Option (Bor (List ℕ))) (line : ℕ) (ms : List EntryStrings) → HasCollected text o before found → Sorts before after → FirstRepeat (rows after) (length after) None → IsHeader before header line → NamesCharsets header → entries_of ms ≡ filter_map kept_entry (rows after) → IsLawful (entries_of ms)
+lawful_map text o before after found header line ms c s none h named kept_are =
+    let sorted = ordered text o before after found c s in
     let is = is_map o c.entries (rows after) sorted c.lawful (no_repeat after none) in
     subst IsLawful (sym kept_are) (record {
       rises = is.rises;
       each = each_lawful o c.entries (rows after) sorted c.lawful;
-      charset = map_accepted o c.entries (map_of (rows after)) is (all_distinct o c.entries (rows after) sorted (no_repeat after none)) (accepted o c.entries before c.rows_are c.lawful named);
+      charset = map_accepted o c.entries (map_of (rows after)) is (distinct_keys text o before after found c s none) (header_accepted text o before found header line c h named);
       fits = fits o text c.entries (rows after) c.gives sorted c.lawful;
     })
 
 -- what was counted of the drafts
-pub record Counts (drafts : List Draft) (stats : Stats) (header : ℕ) : Type 0 where
+pub record Counts (drafts : List Draft) (stats : Stats) : Type 0 where
   pub translated : stats.translated ≡ count_by (λ d. counts_as Translated (row d)) drafts
   pub fuzzy : stats.fuzzy ≡ count_by (λ d. counts_as Fuzzy (row d)) drafts
   pub untranslated : stats.untranslated ≡ count_by (λ d. counts_as Untranslated (row d)) drafts
-  pub line : header ≡ option_map_or (λ d. d.line) (find (λ d. is_kept_header (row d)) drafts) 0
 
 stats_eq : (s t : Stats) → s.translated ≡ t.translated → s.fuzzy ≡ t.fuzzy → s.untranslated ≡ t.untranslated → s ≡ t
 stats_eq s t a b c =
     let of : ℕ → ℕ → ℕ → Stats = λ x y z. record { translated = x; fuzzy = y; untranslated = z } in
     ap (λ n. of n s.fuzzy s.untranslated) a ∙ ap (λ n. of t.translated n s.untranslated) b ∙ ap (λ n. of t.translated t.fuzzy n) c
 
-pub compiles : (text : List ℕ) (o : Options) (before after : List Draft) (ms : List EntryStrings) (compiled : Compiled) → HasCollected text o before → Sorts before after → FirstRepeat (rows after) (length after) None → HeaderNamesCharset before → entries_of ms ≡ filter_map kept_entry (rows after) → Counts before compiled.stats compiled.header_line → compiled.catalogue ≡ entries_of ms → compiled.missing ≡ false ∷ false ∷ false ∷ false ∷ false ∷ false ∷ false ∷ false ∷ [] → Means text o compiled
-compiles text o before after ms compiled c s none named kept_are counts catalogue_is missing_are =
-    let sorted = ordered text o before after c s in
+-- which fields were looked for
+abbrev pub Lacks : Options → Option (Bor (List ℕ)) → List Bool → Type 0
+Lacks o header missing = missing ≡ (if o.checked then lacking (option_map (λ text. text.now) header) else none_missing)
+
+pub compiles : (text : List ℕ) (o : Options) (before after : List Draft) (found : Findings) (header : Option (Bor (List ℕ))) (ms : List EntryStrings) (compiled : Compiled) → HasCollected text o before found → Sorts before after → FirstRepeat (rows after) (length after) None → IsHeader before header compiled.header_line → NamesCharsets header → Checks header compiled.header_line o found None → entries_of ms ≡ filter_map kept_entry (rows after) → Counts before compiled.stats → compiled.catalogue ≡ entries_of ms → Lacks o header compiled.missing → Means text o compiled
+compiles text o before after found header ms compiled c s none h named checks kept_are counts catalogue_is missing_are =
+    let sorted = ordered text o before after found c s in
+    let line_is : compiled.header_line ≡ header_line_of o c.entries = lines_are text o before found header compiled.header_line c h in
+    let text_is : option_map (λ text. text.now) header ≡ header_text_of o c.entries = header_text text o before found header compiled.header_line c h in
     record {
       entries = c.entries;
       gives = c.gives;
-      distinct = all_distinct o c.entries (rows after) sorted (no_repeat after none);
-      charset = accepted o c.entries before c.rows_are c.lawful named;
+      passes = all_pass o c.entries (distinct_keys text o before after found c s none) (header_accepted text o before found header compiled.header_line c h named) (checks c.entries c.found text_is line_is);
       map_is = subst (IsMapOf (kept o c.entries)) (sym (catalogue_is ∙ kept_are)) (is_map o c.entries (rows after) sorted c.lawful (no_repeat after none));
       stats_are = stats_eq compiled.stats _ (counts.translated ∙ translated_count o c.entries before c.rows_are) (counts.fuzzy ∙ fuzzy_count o c.entries before c.rows_are) (counts.untranslated ∙ untranslated_count o c.entries before c.rows_are);
-      header_line_is = counts.line ∙ header_line_is o c.entries before c.rows_are;
-      none_missing = missing_are;
+      header_line_is = line_is;
+      missing_is = missing_are ∙ ap (λ (t : Option (List ℕ)). if o.checked then lacking t else none_missing) text_is;
     }

@@ -10,8 +10,8 @@ use Rattle.std.proofs.lemmas.Slice.Eq.{bytes_eq-Decides}
 use Rattle.po_text.specs.Entries as po
 use Rattle.catalogue.specs.Entry.{Entry, key, key_bytes, translation}
 use Rattle.catalogue.specs.Map.{entry_at, first_form, header_text, HasAcceptedCharset}
-use Rattle.catalogue.specs.Meaning.{message_of, key_of, is_empty, is_header, is_kept, kept, kept_header, NamesCharset, HasDistinctKeys, IsMapOf}
-use Rattle.catalogue.specs.Drafts.{Row, Kept, row, rows, row_of, rows_from, texts_of, is_kept_header, RowNamesCharset, HeaderNamesCharset, IsLawfulMessage}
+use Rattle.catalogue.specs.Meaning.{message_of, key_of, is_empty, is_header, is_kept, kept, kept_header, header_text_of, NamesCharset, HasDistinctKeys, IsMapOf}
+use Rattle.catalogue.specs.Drafts.{Row, Kept, row, rows, row_of, rows_from, texts_of, row_text, text_found, header_text_in, is_kept_header, IsLawfulMessage}
 use Rattle.catalogue.specs.declared.compiler.Options.{Options}
 use Rattle.catalogue.specs.declared.drafts.Draft.{Draft}
 use Rattle.catalogue.proofs.Counting.{AreRows, header_row, split_find}
@@ -54,17 +54,6 @@ found o k (e ∷ es) lawful =
     subst R (sym (header_row o k e)) (subst X (sym (split_find (is_kept o e) e (kept o es)))
     (step o k e es (is_header e) (is_kept o e) rest (kept_header o es) refl lawful.0 (found o (k + 1) es lawful.1)))
 
-find_rows : (ds : List Draft) → option_map row (find (λ d. is_kept_header (row d)) ds) ≡ find is_kept_header (rows ds)
-find_rows [] = refl
-find_rows (d ∷ ds) = of (is_kept_header (row d)) (find_rows ds)
-  where
-    of : (b : Bool) → option_map row (find (λ d. is_kept_header (row d)) ds) ≡ find is_kept_header (rows ds) → option_map row (cond b (Some d) (find (λ d. is_kept_header (row d)) ds)) ≡ cond b (Some (row d)) (find is_kept_header (rows ds))
-    of true rest = refl
-    of false rest = rest
-
-found_drafts : (o : Options) (es : List po.Entry) (ds : List Draft) → AreRows o es ds → AllByRecursion IsLawfulMessage es → Found o es (option_map row (find (λ d. is_kept_header (row d)) ds)) (kept_header o es)
-found_drafts o es ds are lawful = subst (λ (r : Option Row). Found o es r (kept_header o es)) (sym (find_rows ds ∙ ap (find is_kept_header) are)) (found o 0 es lawful)
-
 -- ---- what it names
 
 forms_again : (e : po.Entry) → IsLawfulMessage e → slice_split (λ b. b == 0) (translation (message_of e)) ≡ e.forms
@@ -73,26 +62,33 @@ forms_again e lawful = split_joined e.forms (some_form e.plural e.forms lawful.c
 row_texts : (o : Options) (es : List po.Entry) (r : Row) (e : po.Entry) → IsRowOf o es r e → r.texts ≡ Some (texts_of e)
 row_texts o es r e f = ap (λ (x : Row). x.texts) f.is ∙ rw f.is_kept refl
 
-names : (o : Options) (es : List po.Entry) (r : Row) (e : po.Entry) → IsRowOf o es r e → RowNamesCharset r → NamesCharset e
-names o es r e f n =
-    let of_texts : HasAcceptedCharset (first_form (slice_split (λ b. b == 0) (translation (message_of e)))) =
-    subst (λ (t : Option Kept). IfSome t (λ k. HasAcceptedCharset (first_form (slice_split (λ b. b == 0) k.1)))) (row_texts o es r e f) n in
-    subst (λ (forms : List (List ℕ)). HasAcceptedCharset (first_form forms)) (forms_again e f.lawful) of_texts
+row_text_is : (o : Options) (es : List po.Entry) (r : Row) (e : po.Entry) → IsRowOf o es r e → row_text r ≡ Some (first_form e.forms)
+row_text_is o es r e f = ap (option_map (λ (t : Kept). first_form (slice_split (λ b. b == 0) t.1))) (row_texts o es r e f) ∙ ap (λ (forms : List (List ℕ)). Some (first_form forms)) (forms_again e f.lawful)
 
-names_back : (o : Options) (es : List po.Entry) (r : Row) (e : po.Entry) → IsRowOf o es r e → NamesCharset e → RowNamesCharset r
-names_back o es r e f n =
-    let of_forms : HasAcceptedCharset (first_form (slice_split (λ b. b == 0) (translation (message_of e)))) =
-    subst (λ (forms : List (List ℕ)). HasAcceptedCharset (first_form forms)) (sym (forms_again e f.lawful)) n in
-    subst (λ (t : Option Kept). IfSome t (λ k. HasAcceptedCharset (first_form (slice_split (λ b. b == 0) k.1)))) (sym (row_texts o es r e f)) of_forms
+text_is : (o : Options) (es : List po.Entry) (r : Option Row) (e : Option po.Entry) → Found o es r e → text_found r ≡ option_map (λ e. first_form e.forms) e
+text_is o es None None f = refl
+text_is o es None (Some e) f = absurd f
+text_is o es (Some r) None f = absurd f
+text_is o es (Some r) (Some e) f = row_text_is o es r e f
 
-accepted_by : (o : Options) (es : List po.Entry) (d : Option Draft) (e : Option po.Entry) → Found o es (option_map row d) e → IfSome d (λ d. RowNamesCharset (row d)) → IfSome e NamesCharset
-accepted_by o es None None f n = tt
-accepted_by o es None (Some e) f n = absurd f
-accepted_by o es (Some d) None f n = absurd f
-accepted_by o es (Some d) (Some e) f n = names o es (row d) e f n
+find_rows : (ds : List Draft) → option_map row (find (λ d. is_kept_header (row d)) ds) ≡ find is_kept_header (rows ds)
+find_rows [] = refl
+find_rows (d ∷ ds) = of (is_kept_header (row d)) (find_rows ds)
+  where
+    of : (b : Bool) → option_map row (find (λ d. is_kept_header (row d)) ds) ≡ find is_kept_header (rows ds) → option_map row (cond b (Some d) (find (λ d. is_kept_header (row d)) ds)) ≡ cond b (Some (row d)) (find is_kept_header (rows ds))
+    of true rest = refl
+    of false rest = rest
 
-pub accepted : (o : Options) (es : List po.Entry) (ds : List Draft) → AreRows o es ds → AllByRecursion IsLawfulMessage es → HeaderNamesCharset ds → IfSome (kept_header o es) NamesCharset
-accepted o es ds are lawful n = accepted_by o es (find (λ d. is_kept_header (row d)) ds) (kept_header o es) (found_drafts o es ds are lawful) n
+-- the text of the kept header
+pub header_text_is : (o : Options) (es : List po.Entry) (ds : List Draft) → AreRows o es ds → AllByRecursion IsLawfulMessage es → header_text_in ds ≡ header_text_of o es
+header_text_is o es ds are lawful = ap text_found (find_rows ds ∙ ap (find is_kept_header) are) ∙ text_is o es (find is_kept_header (rows_from o 0 es)) (kept_header o es) (found o 0 es lawful)
+
+accepted_by : (e : Option po.Entry) → IfSome (option_map (λ e. first_form e.forms) e) HasAcceptedCharset → IfSome e NamesCharset
+accepted_by None named = tt
+accepted_by (Some e) named = named
+
+pub accepted : (o : Options) (es : List po.Entry) → IfSome (header_text_of o es) HasAcceptedCharset → IfSome (kept_header o es) NamesCharset
+accepted o es named = accepted_by (kept_header o es) named
 
 -- the header names another charset
 pub record NamesAnother (o : Options) (es : List po.Entry) : Type 0 where
@@ -100,13 +96,12 @@ pub record NamesAnother (o : Options) (es : List po.Entry) : Type 0 where
   pub is : kept_header o es ≡ Some header
   pub foreign : ¬ NamesCharset header
 
-another_by : (o : Options) (es : List po.Entry) (d : Option Draft) (e : Option po.Entry) → kept_header o es ≡ e → Found o es (option_map row d) e → (IfSome d (λ d. RowNamesCharset (row d)) → ⊥) → NamesAnother o es
-another_by o es None e is f no_name = absurd (no_name tt)
-another_by o es (Some d) None is f no_name = absurd f
-another_by o es (Some d) (Some e) is f no_name = record { header = e; is = is; foreign = λ n. no_name (names_back o es (row d) e f n) }
+another_by : (o : Options) (es : List po.Entry) (e : Option po.Entry) → kept_header o es ≡ e → (IfSome (option_map (λ e. first_form e.forms) e) HasAcceptedCharset → ⊥) → NamesAnother o es
+another_by o es None is no_name = absurd (no_name tt)
+another_by o es (Some e) is no_name = record { header = e; is = is; foreign = no_name }
 
-pub another : (o : Options) (es : List po.Entry) (ds : List Draft) → AreRows o es ds → AllByRecursion IsLawfulMessage es → (HeaderNamesCharset ds → ⊥) → NamesAnother o es
-another o es ds are lawful no_name = another_by o es (find (λ d. is_kept_header (row d)) ds) (kept_header o es) refl (found_drafts o es ds are lawful) no_name
+pub another : (o : Options) (es : List po.Entry) → (IfSome (header_text_of o es) HasAcceptedCharset → ⊥) → NamesAnother o es
+another o es no_name = another_by o es (kept_header o es) refl no_name
 
 -- ---- the header of the catalogue
 

@@ -17,5 +17,9 @@ pub mod Counting
 pub mod HeaderFound
 pub mod Compiling
 pub mod FormLists
+pub mod FirstLines
+pub mod Refusals
+pub mod Checking
+pub mod Faults
 pub mod OneMeaning
 pub mod InStrings

@@ -1,12 +1,11 @@
 -- A text has one meaning.
-use Rattle.std.proofs.Common.{◌≡◌, ℕ, Bool, ◌<◌, List, [], ◌∷◌, ◌++◌, length, length-append, map, get_or, Option, Some, refl, sym, ap, ◌∙◌, subst, arith, inl, inr}
-use Rattle.std.specs.Prelude.{◌⊎◌, Contains, IfSome}
+use Rattle.std.proofs.Common.{◌≡◌, ℕ, Bool, List, [], ◌∷◌, map, refl, sym, ap, ◌∙◌, subst, arith, inl, inr}
+use Rattle.std.specs.Prelude.{◌⊎◌, Contains}
 use Rattle.std.specs.Ordering.{nat_cmp}
 use Rattle.std.specs.declared.cmp.Ordering.TheVariants.{Less}
 use Rattle.std.specs.Cmp.{IsTotalOrder}
 use Rattle.std.specs.Cmp.Lexicographic.{slice_cmp}
 use Rattle.std.proofs.lemmas.Cmp.{nat_list_cmp_total, tied_itself}
-use Rattle.std.proofs.lemmas.List.{map-append, get_or_append_left, get_or_at}
 use Rattle.std.proofs.lemmas.List.Elements.{All-contains}
 use Rattle.po_text.specs.Entries as po
 use Rattle.po_text.specs.Outcome as outcome
@@ -15,14 +14,15 @@ use Rattle.po_text.specs.declared.fault.PoKind.TheVariants as kinds
 use Rattle.po_text.proofs.Outcomes.{gives_one, refuses_one, gives_or_refuses}
 use Rattle.catalogue.specs.Entry.{Entry, key}
 use Rattle.catalogue.specs.Map.{Rises}
-use Rattle.catalogue.specs.Meaning.{message_of, key_of, kept, stats_of, header_line_of, IsMapOf, HasDistinctKeys, IsDuplicateAt, NamesCharset, IsForeignAt, Means, Refuses}
+use Rattle.catalogue.specs.Meaning.{message_of, kept, stats_of, header_line_of, missing_of, IsMapOf, Fails, IsFirst, Means, Refuses}
 use Rattle.catalogue.specs.Refusal.{kind_of}
 use Rattle.catalogue.specs.declared.compiler.Options.{Options}
 use Rattle.catalogue.specs.declared.compiler.Stats.{Stats}
 use Rattle.catalogue.specs.declared.compiler.Compiled.{Compiled}
 use Rattle.catalogue.specs.declared.fault.LoadKind.{LoadKind}
-use Rattle.catalogue.specs.declared.fault.LoadKind.TheVariants.{TooLarge, NotUtf8, BadEscape, OpenString, BadWord, BadText, BadOrder, BadIndex, Duplicate, Charset}
+use Rattle.catalogue.specs.declared.fault.LoadKind.TheVariants.{TooLarge, NotUtf8, BadEscape, OpenString, BadWord, BadText, BadOrder, BadIndex}
 use Rattle.catalogue.proofs.Members.{has_head, has_tail, has_cases}
+use Rattle.catalogue.proofs.Refusals.{first_refusal_one}
 
 -- ---- one list of entries with rising keys
 
@@ -82,54 +82,14 @@ map_one entries m n p q = same_entries m n p.rises q.rises (members m n p q) (me
     members : (a b : List Entry) → IsMapOf entries a → IsMapOf entries b → AreMembers a b
     members a b s t e has = All-contains (Contains b) (map message_of entries) e t.listed (All-contains (Contains (map message_of entries)) a e s.nothing_else has)
 
--- ---- one line of the first duplicate
-
--- a key that stands before isn't among distinct ones again
-not_again : (front : List po.Entry) (e : po.Entry) (others entries : List po.Entry) → entries ≡ front ++ e ∷ others → HasDistinctKeys entries → Contains (map key_of front) (key_of e) → ⊥
-not_again front e others entries split distinct has =
-    let keys : map key_of entries ≡ map key_of front ++ key_of e ∷ map key_of others = ap (map key_of) split ∙ map-append key_of front (e ∷ others) in
-    let long : length (map key_of front) < length (map key_of front ++ key_of e ∷ map key_of others) = omega (arith, length-append (map key_of front) (key_of e ∷ map key_of others)) in
-    let short : length (map key_of front) < length (map key_of entries) = rw keys long in
-    let k : List ℕ = key_of e in
-    let early : get_or (map key_of entries) has.0 k ≡ k = ap (λ (ks : List (List ℕ)). get_or ks has.0 k) keys ∙ get_or_append_left (map key_of front) (k ∷ map key_of others) k has.0 has.1 ∙ has.2 in
-    let late : get_or (map key_of entries) (length (map key_of front)) k ≡ k = ap (λ (ks : List (List ℕ)). get_or ks (length (map key_of front)) k) keys ∙ get_or_at (map key_of front) k (map key_of others) k (length (map key_of front)) refl in
-    distinct has.0 (length (map key_of front)) k has.1 short (early ∙ sym late)
-
--- of two cuts of a list one is in front of the other, or they are one
-abbrev Cut : List po.Entry → po.Entry → List po.Entry → po.Entry → Type 0
-Cut a x b y = (x ≡ y) ⊎ (((mid : List po.Entry) × (b ≡ a ++ x ∷ mid)) ⊎ ((mid : List po.Entry) × (a ≡ b ++ y ∷ mid)))
-
-cuts : (a b : List po.Entry) (x y : po.Entry) (c d : List po.Entry) → a ++ x ∷ c ≡ b ++ y ∷ d → Cut a x b y
-cuts [] [] x y c d e = inl (cc e)
-cuts [] (z ∷ b) x y c d e = let head : x ≡ z = cc e in inr (inl (b, ap (λ (w : po.Entry). w ∷ b) (sym head)))
-cuts (z ∷ a) [] x y c d e = let head : z ≡ y = cc e in inr (inr (a, ap (λ (w : po.Entry). w ∷ a) head))
-cuts (z ∷ a) (w ∷ b) x y c d e =
-    let head : z ≡ w = cc e in
-    elim (cuts a b x y c d (cc e)) [
-      | inl same ↦ inl same
-      | inr (inl (mid, is)) ↦ inr (inl (mid, cc (head, is)))
-      | inr (inr (mid, is)) ↦ inr (inr (mid, cc (head, is)))
-    ]
-
-duplicate_one : (entries : List po.Entry) (line m : ℕ) → IsDuplicateAt entries line → IsDuplicateAt entries m → line ≡ m
-duplicate_one entries line m p q = elim (cuts p.before q.before p.e q.e p.after q.after (sym p.split ∙ q.split)) [
-  | inl same ↦ p.line_is ∙ ap (λ (e : po.Entry). e.line) same ∙ sym q.line_is
-  | inr (inl (mid, is)) ↦ absurd (not_again p.before p.e mid q.before is q.distinct_before p.again)
-  | inr (inr (mid, is)) ↦ absurd (not_again q.before q.e mid p.before is p.distinct_before q.again)
-]
-
 -- ---- one refusal
-
--- what refuses the entries of a text: a duplicate, or the header's charset
-abbrev Refusal : Options → List po.Entry → LoadKind → ℕ → Type 0
-Refusal o entries kind line = ((kind ≡ Duplicate) × IsDuplicateAt entries line) ⊎ ((kind ≡ Charset) × IsForeignAt o entries line)
 
 -- a refusal is one of the PO text, or one of its entries
 abbrev OfText : List ℕ → LoadKind → ℕ → Type 0
 OfText text kind line = (fault : PoKind) × (kind ≡ kind_of fault) × outcome.Refuses text fault line
 
 abbrev OfEntries : List ℕ → Options → LoadKind → ℕ → Type 0
-OfEntries text o kind line = (entries : List po.Entry) × outcome.Gives text entries × Refusal o entries kind line
+OfEntries text o kind line = (entries : List po.Entry) × outcome.Gives text entries × IsFirst (Fails o entries) kind line
 
 refusal_is : (text : List ℕ) (o : Options) (kind : LoadKind) (line : ℕ) → Refuses text o kind line → OfText text kind line ⊎ OfEntries text o kind line
 refusal_is text o TooLarge line r = inl (kinds.TooLarge, refl, r)
@@ -140,23 +100,7 @@ refusal_is text o BadWord line r = inl (kinds.BadWord, refl, r)
 refusal_is text o BadText line r = inl (kinds.BadText, refl, r)
 refusal_is text o BadOrder line r = inl (kinds.BadOrder, refl, r)
 refusal_is text o BadIndex line r = inl (kinds.BadIndex, refl, r)
-refusal_is text o Duplicate line (entries, gives, d) = inr (entries, gives, inl (refl, d))
-refusal_is text o Charset line (entries, gives, f) = inr (entries, gives, inr (refl, f))
-refusal_is text o _ line r = absurd r
-
--- a list with a duplicate has no distinct keys
-duplicate_or : (entries : List po.Entry) (line : ℕ) → IsDuplicateAt entries line → HasDistinctKeys entries → ⊥
-duplicate_or entries line d distinct = not_again d.before d.e d.after entries d.split distinct d.again
-
-some_same : (x y : po.Entry) → Some x ≡ Some y → x ≡ y
-some_same x y e = cc
-
-of_entries_one : (o : Options) (entries : List po.Entry) (kind other : LoadKind) (line m : ℕ) → Refusal o entries kind line → Refusal o entries other m → (kind ≡ other) × (line ≡ m)
-of_entries_one o entries kind other line m (inl (is, d)) (inl (is', d')) = (is ∙ sym is', duplicate_one entries line m d d')
-of_entries_one o entries kind other line m (inl (is, d)) (inr (is', f)) = absurd (duplicate_or entries line d f.distinct)
-of_entries_one o entries kind other line m (inr (is, f)) (inl (is', d)) = absurd (duplicate_or entries m d f.distinct)
-of_entries_one o entries kind other line m (inr (is, f)) (inr (is', g)) =
-    (is ∙ sym is', f.line_is ∙ ap (λ (e : po.Entry). e.line) (some_same f.header g.header (sym f.is ∙ g.is)) ∙ sym g.line_is)
+refusal_is text o _ line r = inr r
 
 either_one : (text : List ℕ) (o : Options) (kind other : LoadKind) (line m : ℕ) → OfText text kind line ⊎ OfEntries text o kind line → OfText text other m ⊎ OfEntries text o other m → (kind ≡ other) × (line ≡ m)
 either_one text o kind other line m (inl (f, is, r)) (inl (g, is', r')) =
@@ -165,7 +109,7 @@ either_one text o kind other line m (inl (f, is, r)) (inl (g, is', r')) =
 either_one text o kind other line m (inl (f, is, r)) (inr (entries, gives, d)) = absurd (gives_or_refuses text entries f line gives r)
 either_one text o kind other line m (inr (entries, gives, d)) (inl (g, is', r')) = absurd (gives_or_refuses text entries g m gives r')
 either_one text o kind other line m (inr (entries, gives, d)) (inr (others, gives', d')) =
-    of_entries_one o others kind other line m (subst (λ (es : List po.Entry). Refusal o es kind line) (gives_one text entries others gives gives') d) d'
+    first_refusal_one o others kind other line m (subst (λ (es : List po.Entry). IsFirst (Fails o es) kind line) (gives_one text entries others gives gives') d) d'
 
 pub refusal_one : (text : List ℕ) (o : Options) (kind other : LoadKind) (line m : ℕ) → Refuses text o kind line → Refuses text o other m → (kind ≡ other) × (line ≡ m)
 refusal_one text o kind other line m r r' = either_one text o kind other line m (refusal_is text o kind line r) (refusal_is text o other m r')
@@ -174,11 +118,8 @@ refusal_one text o kind other line m r r' = either_one text o kind other line m 
 
 means_or : (text : List ℕ) (o : Options) (compiled : Compiled) (kind : LoadKind) (line : ℕ) → Means text o compiled → OfText text kind line ⊎ OfEntries text o kind line → ⊥
 means_or text o compiled kind line means (inl (f, is, r)) = gives_or_refuses text means.entries f line means.gives r
-means_or text o compiled kind line means (inr (others, gives, inl (is, d))) =
-    duplicate_or means.entries line (subst (λ (es : List po.Entry). IsDuplicateAt es line) (gives_one text others means.entries gives means.gives) d) means.distinct
-means_or text o compiled kind line means (inr (others, gives, inr (is, f))) =
-    let g : IsForeignAt o means.entries line = subst (λ (es : List po.Entry). IsForeignAt o es line) (gives_one text others means.entries gives means.gives) f in
-    g.foreign (subst (λ (x : Option po.Entry). IfSome x NamesCharset) g.is means.charset)
+means_or text o compiled kind line means (inr (others, gives, f)) =
+    means.passes kind line (subst (λ (es : List po.Entry). Fails o es kind line) (gives_one text others means.entries gives means.gives) f.holds)
 
 pub means_or_refuses : (text : List ℕ) (o : Options) (compiled : Compiled) (kind : LoadKind) (line : ℕ) → Means text o compiled → Refuses text o kind line → ⊥
 means_or_refuses text o compiled kind line means r = means_or text o compiled kind line means (refusal_is text o kind line r)
@@ -194,5 +135,5 @@ meaning_one text o compiled other p q =
     same_compiled compiled other
     (map_one (kept o q.entries) compiled.catalogue other.catalogue (subst (λ (es : List po.Entry). IsMapOf (kept o es) compiled.catalogue) same p.map_is) q.map_is)
     (p.stats_are ∙ ap stats_of same ∙ sym q.stats_are)
-    (p.none_missing ∙ sym q.none_missing)
+    (p.missing_is ∙ ap (missing_of o) same ∙ sym q.missing_is)
     (p.header_line_is ∙ ap (header_line_of o) same ∙ sym q.header_line_is)

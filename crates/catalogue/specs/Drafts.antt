@@ -1,5 +1,5 @@
 -- Private: what the compiler's own functions promise of the entries until they are in order.
-use Rattle.std.specs.Prelude.{◌≡◌, ℕ, ◌+◌, ◌<◌, ◌≤◌, Bool, List, [], ◌∷◌, length, map, Option, Some, None, option_map, if◌then◌else◌, ◌&&◌, nat_lt, true, false, is_some, IfSome, ◌==◌}
+use Rattle.std.specs.Prelude.{◌≡◌, ℕ, ◌+◌, ◌<◌, ◌≤◌, Bool, List, [], ◌∷◌, length, map, Option, Some, None, option_map, if◌then◌else◌, ◌&&◌, nat_lt, true, false, is_some, ◌==◌}
 use denote.Ref.{Bor}
 use Rattle.std.specs.Str.{bytes_eq}
 use Rattle.std.specs.List.{slice_index_or, slice_split, find, AllByRecursion}
@@ -10,9 +10,11 @@ use Rattle.std.specs.String.{string_bytes}
 use Rattle.po_text.specs.Entries as po
 use Rattle.po_text.specs.Outcome.{Gives}
 use Rattle.catalogue.specs.Entry.{Entry, IsLawfulEntry, translation}
-use Rattle.catalogue.specs.Map.{first_form, HasAcceptedCharset}
+use Rattle.catalogue.specs.Map.{first_form}
 use Rattle.catalogue.specs.Parts.{entry_from}
 use Rattle.catalogue.specs.Meaning.{message_of, key_of, is_header, is_untranslated, is_kept}
+use Rattle.catalogue.specs.Findings.{HasFound}
+use Rattle.catalogue.specs.declared.checks.Findings.{Findings}
 use Rattle.catalogue.specs.declared.compiler.Options.{Options}
 use Rattle.catalogue.specs.declared.drafts.Draft.{Draft}
 use Rattle.catalogue.specs.declared.drafts.Standing.{Standing}
@@ -123,17 +125,21 @@ is_kept_header r = counts_as Header r && is_some r.texts
 abbrev pub IsLawfulMessage : po.Entry → Type 0
 IsLawfulMessage e = IsLawfulEntry (message_of e)
 
--- the drafts are those of the entries that the text gives
-pub record HasCollected (text : List ℕ) (options : Options) (drafts : List Draft) : Type 0 where
+-- the drafts and the findings are those of the entries that the text gives
+pub record HasCollected (text : List ℕ) (options : Options) (drafts : List Draft) (findings : Findings) : Type 0 where
   pub entries : List po.Entry
   pub gives : Gives text entries
   pub rows_are : rows drafts ≡ rows_from options 0 entries
   pub lawful : AllByRecursion IsLawfulMessage entries
+  pub found : HasFound options entries findings
 
--- the first form of a row that is kept names no charset, or one that is accepted
-abbrev pub RowNamesCharset : Row → Type 0
-RowNamesCharset r = IfSome r.texts (λ t. HasAcceptedCharset (first_form (slice_split (λ b. b == 0) t.1)))
+-- the text of the kept header, if there is one: its first form
+abbrev pub row_text : Row → Option (List ℕ)
+row_text r = option_map (λ t. first_form (slice_split (λ b. b == 0) t.1)) r.texts
 
--- so does the kept header, if there is one
-abbrev pub HeaderNamesCharset : List Draft → Type 0
-HeaderNamesCharset drafts = IfSome (find (λ d. is_kept_header (row d)) drafts) (λ d. RowNamesCharset (row d))
+abbrev pub text_found : Option Row → Option (List ℕ)
+text_found None = None
+text_found (Some r) = row_text r
+
+abbrev pub header_text_in : List Draft → Option (List ℕ)
+header_text_in drafts = text_found (option_map row (find (λ d. is_kept_header (row d)) drafts))

@@ -5,7 +5,9 @@ pub mod Parts
 pub mod Refusal
 pub mod Stored
 pub mod Messages
+pub mod Checks
 pub mod Meaning
+pub mod Findings
 pub mod Drafts
 pub mod Value
 pub mod Laws

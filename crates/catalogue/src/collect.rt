@@ -10,6 +10,7 @@ ghost use Rattle.catalogue.specs.Drafts.{row, row_of, kept_texts, HasCollected};
 ghost use Rattle.catalogue.specs.declared.fault.LoadKind.TheVariants.{Memory};
 
 use crate::LoadFault;
+use crate::checks::Findings;
 use crate::compiler::Options;
 use crate::drafts::{Draft, Standing, Texts};
 use crate::joins::{joined_key, push_form};
@@ -31,7 +32,7 @@ fn is_untranslated(entry: &EntryBuffer) -> bool
     entry.form_count() == 0 || entry.form(0).is_empty()
 }
 
-fn is_kept(entry: &EntryBuffer, options: Options) -> bool
+pub(crate) fn is_kept(entry: &EntryBuffer, options: Options) -> bool
     ensures is { result ≡ Meaning.is_kept options entry.now }
     ensures lawful { IsLawfulTexts entry.now }
 {
@@ -131,16 +132,27 @@ fn draft_of(
     })
 }
 
-/// The drafts of all entries of a text, in its order.
-pub(crate) fn collect(alloc: Global, text: &[u8], options: Options) -> Result<Vec<Draft>, LoadFault>
-    ensures ok { IfOk result (λ drafts. HasCollected text.now options drafts.items) }
+/// What was read of a text.
+#[derive(Drop)]
+pub(crate) struct Collected {
+    /// The drafts of its entries, in its order.
+    pub(crate) drafts: Vec<Draft>,
+    /// What the checks found.
+    pub(crate) findings: Findings,
+}
+
+/// Reads the entries of a text.
+pub(crate) fn collect(alloc: Global, text: &[u8], options: Options) -> Result<Collected, LoadFault>
+    ensures ok { IfOk result (λ collected. HasCollected text.now options collected.drafts.items collected.findings) }
     ensures err { IfErr result (λ fault. (fault.kind ≡ Memory) ⊎ Refuses text.now options fault.kind fault.line) }
 {
     let mut reader = open_text(alloc, text)?;
     let mut entry = EntryBuffer::new(alloc);
     let mut drafts = Vec::new(alloc);
+    let mut findings = Findings::new();
     'entries: while reader.next_entry(&mut entry)? {
         drafts.push(draft_of(alloc, &entry, drafts.len(), options)?)?;
+        findings.look_at(alloc, &entry, options)?;
     }
-    Ok(drafts)
+    Ok(Collected { drafts, findings })
 }

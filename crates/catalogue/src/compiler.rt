@@ -1,15 +1,15 @@
 //! From a PO text to a catalogue.
-ghost use Rattle.std.specs.Prelude.{◌≡◌, ◌<◌, ◌^◌, ◌⊎◌, IfOk, IfErr, length};
+ghost use Rattle.std.specs.Prelude.{◌≡◌, ◌<◌, ◌^◌, ◌⊎◌, ◌↔◌, IfOk, IfErr, IfSome, IsTrue, if◌then◌else◌, length, option_map};
 ghost use Rattle.std.specs.List.{count_by};
 ghost use Rattle.catalogue.specs.Drafts.{counts_as, row};
-ghost use Rattle.catalogue.specs.Meaning.{Means, Refuses};
+ghost use Rattle.catalogue.specs.Map.{HasAcceptedCharset};
+ghost use Rattle.catalogue.specs.Meaning.{lacking, none_missing, Means, Refuses};
 ghost use Rattle.catalogue.specs.declared.fault.LoadKind.TheVariants.{Memory};
 
-use crate::collect::collect;
-use crate::drafts::{
-    Draft, Standing, count, first_repeat, header_line, header_names_charset, keep, sort,
-};
+use crate::collect::{Collected, collect};
+use crate::drafts::{Draft, Standing, count, first_repeat, header_line, header_text, keep, sort};
 use crate::{Catalogue, LoadFault, LoadKind};
+use po_header::{charset_accepted, charset_of, missing_fields};
 use std::alloc::Global;
 
 /// How a text is compiled.
@@ -36,7 +36,8 @@ pub struct Stats {
 pub struct Compiled {
     pub catalogue: Catalogue,
     pub stats: Stats,
-    /// Which of the eight header fields are missing.
+    /// Which of the eight fields (`po_header::FIELD_NAMES`) the kept header lacks; none where the level isn't
+    /// checked, or no header is kept.
     pub missing: [bool; 8],
     /// The line of the kept header, or 0 where there is none.
     pub header_line: u32,
@@ -56,21 +57,58 @@ fn stats_of(drafts: &[Draft]) -> Stats
     }
 }
 
+/// Whether the header's text, if there is one, names no charset, or one that is accepted.
+fn has_accepted_charset(header: Option<&str>) -> bool
+    ensures { IsTrue result ↔ IfSome header.entry (λ text. HasAcceptedCharset text.now) }
+{
+    match header {
+        Some(text) => match charset_of(text) {
+            Some(name) => charset_accepted(name),
+            None => true,
+        },
+        None => true,
+    }
+}
+
+/// Which of the eight header fields the header's text lacks, if there is one; none at the unchecked level.
+fn missing_in(header: Option<&str>, options: Options) -> [bool; 8]
+    ensures { result ≡ (if options.checked then lacking (option_map (λ text. text.now) header.entry) else none_missing) }
+{
+    match header {
+        Some(text) if options.checked => missing_fields(text),
+        _ => [false; 8],
+    }
+}
+
 /// Compiles a PO text: its kept entries become a catalogue.
 ///
 /// An untranslated entry isn't kept, and a fuzzy one only with `use_fuzzy`, but for the header.
 /// The text is refused by the first fault of the PO text (see `po_text::read_po`), else where an
 /// entry has the key of an earlier one, kept or not, else where the kept header names a charset
-/// that isn't accepted (`po_header::charset_accepted`). Where memory is refused in the call,
-/// `Memory` may stand in place of any other answer.
+/// that isn't accepted (`po_header::charset_accepted`), else where a kept c-format entry has a
+/// system-dependent text (`c_signature::signature`).
+///
+/// At the checked level it is refused, too, where there are kept plural entries and no rule for them
+/// in the header, or one that can't be read; where one of them has another number of forms than the
+/// rule says; where the rule has no form for a number of 0 to 1000; where the formats of a kept entry
+/// differ; or its newlines. Each refusal names the line of the first such entry or of the header.
+/// `missing` says which of the eight header fields the kept header lacks.
+///
+/// Where memory is refused in the call, `Memory` may stand in place of any other answer.
 pub fn compile(alloc: Global, text: &[u8], options: Options) -> Result<Compiled, LoadFault>
     ensures ok { IfOk result (Means text.now options) }
     ensures err { IfErr result (λ fault. (fault.kind ≡ Memory) ⊎ Refuses text.now options fault.kind fault.line) }
 {
-    let mut drafts = collect(alloc, text, options)?;
+    let Collected {
+        mut drafts,
+        findings,
+    } = collect(alloc, text, options)?;
     let stats = stats_of(&drafts);
     let header_line = header_line(&drafts);
-    let is_accepted = header_names_charset(&drafts);
+    let header = header_text(&drafts);
+    let is_accepted = has_accepted_charset(header);
+    let missing = missing_in(header, options);
+    let failed = findings.fault(alloc, options, header, header_line)?;
     sort(&mut drafts);
     if let Some(draft) = first_repeat(&drafts) {
         return Err(LoadFault {
@@ -84,12 +122,15 @@ pub fn compile(alloc: Global, text: &[u8], options: Options) -> Result<Compiled,
             line: header_line,
         });
     }
+    if let Some(fault) = failed {
+        return Err(fault);
+    }
     let messages = keep(alloc, drafts)?;
     let catalogue = Catalogue::from_strings(alloc, messages)?;
     Ok(Compiled {
         catalogue,
         stats,
-        missing: [false; 8],
+        missing,
         header_line,
     })
 }

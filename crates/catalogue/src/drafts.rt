@@ -1,16 +1,14 @@
 //! The entries of a text on their way into a catalogue: read, put in order, and looked through for duplicates.
-ghost use Rattle.std.specs.Prelude.{◌≡◌, ◌<◌, ◌+◌, ◌^◌, ℕ, length, IfOk, IsTrue, ◌↔◌, option_map};
+ghost use Rattle.std.specs.Prelude.{◌≡◌, ◌<◌, ◌+◌, ◌^◌, ℕ, length, IfOk, option_map};
 ghost use Rattle.std.specs.List.{count_by, filter_map, find};
 ghost use Rattle.std.specs.Option.{option_map_or};
 ghost use Rattle.std.specs.List.Sorted.{IsPermutation, IsSortedBy};
-ghost use Rattle.catalogue.specs.Map.{HasAcceptedCharset};
 ghost use Rattle.catalogue.specs.Stored.{entries_of};
-ghost use Rattle.catalogue.specs.Drafts.{comes_before, kept_entry, row, row_cmp, row_if, rows, FirstRepeat, HeaderNamesCharset, RowNamesCharset};
+ghost use Rattle.catalogue.specs.Drafts.{comes_before, header_text_in, kept_entry, row, row_cmp, row_if, row_text, rows, FirstRepeat};
 ghost use Rattle.catalogue.specs.Drafts as Drafts;
 
 use crate::entry::split_form;
 use crate::messages::EntryStrings;
-use po_header::{charset_accepted, charset_of};
 use std::alloc::{AllocError, Global};
 use std::cmp::Ordering;
 
@@ -83,32 +81,23 @@ pub(crate) fn header_line(drafts: &[Draft]) -> u32
     }
 }
 
-/// Whether the header's text names no charset, or one that is accepted.
-fn has_accepted_charset(text: &str) -> bool
-    ensures { IsTrue result ↔ HasAcceptedCharset text.now }
-{
-    match charset_of(text) {
-        Some(name) => charset_accepted(name),
-        None => true,
-    }
-}
-
-fn names_charset(draft: &Draft) -> bool
-    ensures { IsTrue result ↔ RowNamesCharset (row draft.now) }
+/// The first form of a draft that is kept.
+fn first_form_of(draft: &Draft) -> Option<&str>
+    ensures { option_map (λ text. text.now) result ≡ row_text (row draft.now) }
 {
     match &draft.texts {
-        Some(texts) => has_accepted_charset(split_form(texts.translation.as_str()).0),
-        None => true,
+        Some(texts) => Some(split_form(texts.translation.as_str()).0),
+        None => None,
     }
 }
 
-/// Whether the kept header, if there is one, names no charset or one that is accepted.
-pub(crate) fn header_names_charset(drafts: &[Draft]) -> bool
-    ensures { IsTrue result ↔ HeaderNamesCharset drafts.now }
+/// The text of the kept header, if there is one.
+pub(crate) fn header_text(drafts: &[Draft]) -> Option<&str>
+    ensures { option_map (λ text. text.now) result ≡ header_text_in drafts.now }
 {
     match kept_header(drafts) {
-        Some(draft) => names_charset(draft),
-        None => true,
+        Some(draft) => first_form_of(draft),
+        None => None,
     }
 }
 

@@ -4,6 +4,7 @@
 //! has besides the msgid_plural of a plural message, and its translated forms.
 #![tactic(auto)]
 
+mod checks;
 mod collect;
 mod compiler;
 mod drafts;
@@ -18,6 +19,8 @@ mod messages;
 mod sorted;
 #[cfg(test)]
 mod tests;
+#[cfg(test)]
+mod tests_checks;
 
 pub use compiler::{Compiled, Options, Stats, compile};
 pub use entry::{EntryRef, Forms};

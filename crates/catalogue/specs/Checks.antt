@@ -1,0 +1,115 @@
+-- What is looked for in the kept entries of a text (manual, "msgfmt Invocation": `--check`).
+use Rattle.std.specs.Prelude.{◌≡◌, ◌≢◌, ◌⊎◌, ℕ, ◌-◌, ◌<◌, ◌≤◌, ◌==◌, nat_lt, Bool, true, false, is_some, IsTrue, List, [], ◌∷◌, ◌++◌, length, Option, Some, None, slice_get}
+use Rattle.std.specs.List.{AllByRecursion, Any}
+use Rattle.std.specs.Option.{option_map_or}
+use Rattle.po_text.specs.Entries as po
+use Rattle.po_header.specs.Grammar.{Tree}
+use Rattle.po_header.specs.Meaning.{value}
+use Rattle.c_signature.specs.Agreement.{Agrees}
+use Rattle.c_signature.specs.Signature.{Lists, IsInvalid, IsSystemDependent}
+use Rattle.c_signature.specs.declared.ArgKind.{ArgKind}
+use Rattle.c_signature.specs.declared.Strictness.{Strictness}
+use Rattle.c_signature.specs.declared.Strictness.TheVariants.{Same, Prefix}
+
+-- ---- the first entry
+
+-- P holds of none of the entries
+abbrev pub NoneOf : (po.Entry → Type 0) → List po.Entry → Type 0
+NoneOf P entries = AllByRecursion (λ e. ¬ P e) entries
+
+-- the first of the entries of which P holds stands at this line
+pub record FirstAt (P : po.Entry → Type 0) (entries : List po.Entry) (line : ℕ) : Type 0 where
+  pub before : List po.Entry
+  pub e : po.Entry
+  pub after : List po.Entry
+  pub split : entries ≡ before ++ e ∷ after
+  pub none_before : NoneOf P before
+  pub holds : P e
+  pub line_is : line ≡ e.line
+
+-- ---- the texts of an entry
+
+abbrev pub text_if : Option (List ℕ) → List (List ℕ)
+text_if None = []
+text_if (Some text) = text ∷ []
+
+-- its msgid, its msgid_plural if it has one, and its forms
+abbrev pub texts : po.Entry → List (List ℕ)
+texts e = e.id ∷ text_if e.plural ++ e.forms
+
+-- ---- formats (manual, "c-format")
+
+-- it is flagged `c-format`, and a text of it names a macro whose size differs from system to system
+pub record HasSystemDependentText (e : po.Entry) : Type 0 where
+  pub flagged : e.c_format ≡ true
+  pub some : Any IsSystemDependent (texts e)
+
+-- what the forms are compared with: the msgid_plural, or the msgid where there is none
+abbrev pub original_or : List ℕ → Option (List ℕ) → List ℕ
+original_or id None = id
+original_or id (Some plural) = plural
+
+abbrev pub format_original : po.Entry → List ℕ
+format_original e = original_or e.id e.plural
+
+-- without a plural the arguments are the same; a form of a plural message may leave out the last ones
+abbrev pub strictness : Option (List ℕ) → Strictness
+strictness None = Same
+strictness (Some plural) = Prefix
+
+-- the form is no format, or its arguments don't agree with these
+abbrev pub Differs : List ArgKind → Strictness → List ℕ → Type 0
+Differs original rule form = IsInvalid form ⊎ ((kinds : List ArgKind) × Lists form kinds × ¬ Agrees original kinds rule)
+
+-- a form differs from the original; an original that is no format isn't compared
+pub record FormsDiffer (e : po.Entry) : Type 0 where
+  pub kinds : List ArgKind
+  pub original : Lists (format_original e) kinds
+  pub some : Any (Differs kinds (strictness e.plural)) e.forms
+
+-- it is flagged `c-format`, and a form of it differs from the original
+pub record HasOtherArguments (e : po.Entry) : Type 0 where
+  pub flagged : e.c_format ≡ true
+  pub differ : FormsDiffer e
+
+-- ---- plural forms (manual, "Plural forms")
+
+abbrev pub IsPlural : po.Entry → Type 0
+IsPlural e = IsTrue (is_some e.plural)
+
+-- a plural message with another number of forms than the rule says
+pub record HasOtherCount (nplurals : ℕ) (e : po.Entry) : Type 0 where
+  pub plural : IsPlural e
+  pub differs : length e.forms ≢ nplurals
+
+-- whether n takes one of the forms by the rule: it has a value, which is a form's number
+abbrev pub has_form : ℕ → Tree → ℕ → Bool
+has_form nplurals tree n = option_map_or (λ form. nat_lt form nplurals) (value tree n) false
+
+-- of 0 to 1000 n is the least that takes none
+pub record IsFirstWithoutForm (nplurals : ℕ) (tree : Tree) (n : ℕ) : Type 0 where
+  pub within : n ≤ 1000
+  pub none : has_form nplurals tree n ≡ false
+  pub least : (m : ℕ) → m < n → has_form nplurals tree m ≡ true
+
+-- ---- newlines
+
+abbrev pub is_newline : Option ℕ → Bool
+is_newline None = false
+is_newline (Some b) = b == 10
+
+abbrev pub begins_with_newline : List ℕ → Bool
+begins_with_newline text = is_newline (slice_get text 0)
+
+abbrev pub ends_with_newline : List ℕ → Bool
+ends_with_newline text = is_newline (slice_get text (length text - 1))
+
+-- some of the texts pass, and some don't
+pub record IsMixed (test : List ℕ → Bool) (ts : List (List ℕ)) : Type 0 where
+  pub some : Any (λ text. test text ≡ true) ts
+  pub others : Any (λ text. test text ≡ false) ts
+
+-- of its texts some begin with a newline and some don't, or some end with one and some don't; the empty msgid isn't looked at
+pub record HasOtherNewlines (e : po.Entry) : Type 0 where
+  pub named : e.id ≢ []
+  pub mixed : IsMixed begins_with_newline (texts e) ⊎ IsMixed ends_with_newline (texts e)
