@@ -455,6 +455,7 @@ if as_user test -r in.po; then
   as_nobody -o new.mo in.po
   name='no new file is made in such a folder'
   judge "$name" 1 'msgfmt: cannot write new.mo' && ok "$name"
+  chmod 755 .
   in_folder
   echo old > out.mo
   chmod 444 out.mo
