@@ -1,5 +1,5 @@
 -- What the steps of a run add up to.
-use Rattle.std.proofs.Common.{◌≡◌, ◌∙◌, ◌⊎◌, ◌≤◌, ◌++◌, ◌∷◌, [], ap, sym, subst, refl, inl, inr, arith, ℕ, Bool, true, false, List, Option, Some, None, Result, Ok, Err, IsErrAnd, IsTrue}
+use Rattle.std.proofs.Common.{◌≡◌, ◌∙◌, ◌⊎◌, ◌≤◌, ◌++◌, ◌∷◌, [], ap, sym, subst, refl, inl, inr, arith, ℕ, Bool, true, false, List, Some, None, Result, Ok, Err, IsErrAnd, IsTrue}
 use Rattle.devices.specs.Devices.{RisesBy}
 use Rattle.devices.specs.Files.{KeepsLog, Log, Logs}
 use Rattle.catalogue.specs.MoFile.{spelling}
@@ -10,7 +10,7 @@ use Rattle.msgfmt_tool.specs.Steps.{CompilesNamed, Delivers, EndsCompiling, Ends
 use Rattle.msgfmt_tool.specs.declared.outcome.Cause.{Cause}
 use Rattle.msgfmt_tool.specs.declared.outcome.Cause.TheVariants.{Words, NoInput, CannotRead, Refused, CannotWrite, ErrorOutput, Memory}
 use Rattle.msgfmt_tool.specs.declared.outcome.Status.{Status}
-use Rattle.msgfmt_tool.specs.declared.outcome.Status.TheVariants.{Done, Failed}
+use Rattle.msgfmt_tool.specs.declared.outcome.Status.TheVariants.{Failed}
 
 -- ---- counts and logs, over two steps
 

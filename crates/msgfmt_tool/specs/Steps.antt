@@ -1,8 +1,7 @@
 -- Private: what the steps of a run answer.
-use Rattle.std.specs.Prelude.{◌≡◌, ◌⊎◌, ◌≤◌, ℕ, ⊤, Bool, List, Option, Result, Ok, Err, Vec, IsTrue}
+use Rattle.std.specs.Prelude.{◌≡◌, ◌⊎◌, ℕ, ⊤, Bool, List, Result, Ok, Err, IsTrue}
 use Rattle.std.specs.Io.KnownBytes.{Appends}
 use Rattle.devices.specs.Devices.{RisesBy}
-use Rattle.devices.specs.Files.{KeepsLog}
 use Rattle.catalogue.specs.Meaning.{Means, Refuses}
 use Rattle.catalogue.specs.MoFile.{spelling}
 use Rattle.catalogue.specs.declared.compiler.Options.{Options}

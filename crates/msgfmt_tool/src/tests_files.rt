@@ -2,8 +2,9 @@
 
 use crate::tests::{ALL_GOOD, Good, run_on, run_over};
 use crate::tests_compiled::{HI, NONE, SALUT, TWICE};
-use crate::{Cause, Status};
+use crate::{Cause, MOST_INPUT, Status};
 use catalogue::{LoadFault, LoadKind};
+use std::alloc::{AllocError, Global};
 
 #[test]
 fn a_file_is_read_and_one_is_written(rt: HostRuntime) {
@@ -128,10 +129,15 @@ fn a_text_that_is_refused_writes_no_file(rt: HostRuntime) {
     }
 }
 
+/// So many spaces.
+fn spaces(alloc: Global, count: usize) -> Result<Vec<u8>, AllocError> {
+    vec![in alloc; b' '; count]
+}
+
 #[test]
 fn a_file_that_is_too_large(rt: HostRuntime) {
     let alloc = rt.alloc();
-    let spaces = vec![in alloc; b' '; 67_108_865].expect(&rt, "memory");
+    let spaces = spaces(alloc, MOST_INPUT).expect(&rt, "memory");
     let ran = run_over(alloc, "-o out.mo in.po", "", spaces, ALL_GOOD).expect(&rt, "memory");
     let fault = LoadFault {
         kind: LoadKind::TooLarge,
