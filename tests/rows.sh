@@ -281,6 +281,48 @@ makes 'a duplicate in a file' 1 'in.po:4: duplicate message' '' '' -o out.mo in.
 makes 'a duplicate in a file, fuzzy entries too' 1 'in.po:4: duplicate message' '' '' -f --statistics -o out.mo in.po
 text=$hi
 
+# --- the checked level --------------------------------------------------------------------------------------------
+
+polish=$'msgid ""\nmsgstr "Plural-Forms: nplurals=3; plural=n==1 ? 0 : n%10>=2 && n%10<=4 && (n%100<10 || n%100>=20) ? 1 : 2;\\n"\n
+msgid "file"\nmsgid_plural "files"\nmsgstr[0] "plik"\nmsgstr[1] "pliki"\nmsgstr[2] "plikow"\n'
+text=$polish
+in_folder
+"$program" -o plain.mo in.po
+plain=$(hex < plain.mo)
+warnings=
+for field in Project-Id-Version PO-Revision-Date Last-Translator Language-Team MIME-Version Content-Type \
+  Content-Transfer-Encoding Language; do
+  warnings+="in.po:1: warning: header field '$field' missing"$'\n'
+done
+makes 'each missing header field is warned of' 0 "${warnings}1 translated message." out.mo "$plain" \
+  -c --statistics --verbose -o out.mo in.po
+makes '-cv' 0 "${warnings%$'\n'}" out.mo "$plain" -cvo out.mo in.po
+makes 'without -c none is' 0 '' out.mo "$plain" -o out.mo in.po
+name='a warning that cannot be written, and no file'
+in_folder
+"$program" -c -o out.mo in.po < /dev/null > "$room/out" 2> /dev/full
+status=$?
+if [ "$status" = 1 ] && [ "$(ls -A)" = in.po ]; then ok "$name"; else failed "$name" "status $status, files $(ls -A | tr '\n' ' ')"; fi
+text=${polish%'msgstr[2] "plikow"'*}
+makes 'a form is missing' 1 'in.po:4: wrong number of plural forms' '' '' -c -o out.mo in.po
+cats=$'msgid "cat"\nmsgid_plural "cats"\nmsgstr[0] "chat"\n'
+text=$cats
+makes 'a plural without a rule' 1 'in.po:1: plural message without a rule' '' '' -c -o out.mo in.po
+text=$'msgid ""\nmsgstr "Plural-Forms: nplurals=2; plural=x;\\n"\n'$cats
+makes 'a rule that cannot be read' 1 'in.po:1: unreadable plural rule' '' '' -c -o out.mo in.po
+text=$'msgid ""\nmsgstr "Plural-Forms: nplurals=2; plural=n-1;\\n"\nmsgid "x"\nmsgid_plural "y"\nmsgstr[0] "u"\nmsgstr[1] "v"\n'
+makes 'a rule that fails' 1 'in.po:1: plural rule fails at 0' '' '' -c -o out.mo in.po
+text=$'msgid ""\nmsgstr "Plural-Forms: nplurals=6; plural=5/n;\\n"\nmsgid "x"\nmsgid_plural "y"\nmsgstr[0] "0"\nmsgstr[1] "1"\nmsgstr[2] "2"\nmsgstr[3] "3"\nmsgstr[4] "4"\nmsgstr[5] "5"\n'
+makes 'a rule that divides by zero' 1 'in.po:1: plural rule fails at 0' '' '' -c -o out.mo in.po
+text=$'#, c-format\nmsgid "%d of %s"\nmsgstr "%u of %s"\n'
+makes 'another argument' 1 'in.po:2: format arguments differ' '' '' -c -o out.mo in.po
+text=$'#, c-format\nmsgid "%<PRId64>"\nmsgstr "%<PRId64>"\n'
+makes 'a macro in a format' 1 'in.po:2: system-dependent format' '' '' -c -o out.mo in.po
+makes 'a macro in a format, unchecked' 1 'in.po:2: system-dependent format' '' '' -o out.mo in.po
+text=$'msgid "a\\n"\nmsgstr "b"\n'
+makes 'a newline is missing' 1 'in.po:1: newlines differ' '' '' -c -o out.mo in.po
+text=$hi
+
 # --- what FILE was before ---------------------------------------------------------------------------------------
 
 # same NAME: judges the last run, which is to end with 0 and say nothing, and the file out.mo, and that no other file

@@ -17,6 +17,8 @@ pub use steps::MOST_INPUT;
 #[cfg(test)]
 mod tests;
 #[cfg(test)]
+mod tests_checked;
+#[cfg(test)]
 mod tests_compiled;
 #[cfg(test)]
 mod tests_files;
