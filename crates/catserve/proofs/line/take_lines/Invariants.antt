@@ -1,0 +1,5 @@
+use Rattle.catserve.specs.Reading.{HasTaken}
+use Rattle.catserve.proofs.line.take_lines.Given as goal
+
+abbrev pub invariant-lines : goal.invariant-lines
+invariant-lines l = HasTaken l._taken l.text l.rest

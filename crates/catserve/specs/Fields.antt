@@ -1,0 +1,49 @@
+-- What the fields of a line stand for.
+use Rattle.std.specs.Prelude.{ℕ, ◌^◌, ◌&&◌, ◌==◌, Bool, true, false, if◌then◌else◌, nat_lt, List, [], ◌∷◌, length, codes, Option, Some, None, option_and_then}
+use Rattle.std.specs.Char.{is_ascii_digit}
+use Rattle.std.specs.Str.{bytes_eq}
+use Rattle.std.specs.Str.Parse.{digits_value}
+use Rattle.std.specs.List.{list_all}
+use Rattle.catalogue.specs.declared.compiler.Options.{Options}
+use Rattle.catserve.specs.declared.field.Worker.{Worker}
+use Rattle.catserve.specs.declared.field.Worker.TheVariants.{First, Second}
+
+-- one field after another, where each of them can be read
+infixl 10 ◌>>=◌
+abbrev pub ◌>>=◌ : {A B : Type 0} → Option A → (A → Option B) → Option B
+o >>= f = option_and_then f o
+
+-- one digit or more, of a number below 2 ^ 64
+abbrev pub is_number : List ℕ → Bool
+is_number digits = list_all is_ascii_digit digits && (nat_lt 0 (length digits) && nat_lt (digits_value 10 digits) (2 ^ 64))
+
+-- a decimal number
+abbrev pub number : List ℕ → Option ℕ
+number digits = if is_number digits then Some (digits_value 10 digits) else None
+
+-- the letter behind a backslash: `n` for LF, `t` for a tab, or a backslash again
+abbrev pub escaped_byte : ℕ → Option ℕ
+escaped_byte letter = if letter == 110 then Some 10 else if letter == 116 then Some 9 else if letter == 92 then Some 92 else None
+
+-- a text with its escapes, each a backslash and such a letter
+abbrev pub unescaped : List ℕ → Option (List ℕ)
+unescaped [] = Some []
+unescaped (b ∷ []) = if b == 92 then None else Some (b ∷ [])
+unescaped (b ∷ c ∷ text) = if b == 92 then (do
+  byte ← escaped_byte c
+  rest ← unescaped text
+  Some (byte ∷ rest)) else (do
+  rest ← unescaped (c ∷ text)
+  Some (b ∷ rest))
+
+-- how a text is compiled: `-`, or `c` for checked and `f` for fuzzy entries too
+abbrev pub options_of : List ℕ → Option Options
+options_of text =
+    if bytes_eq text (codes "-") then Some (record { checked = false; use_fuzzy = false }) else
+    if bytes_eq text (codes "c") then Some (record { checked = true; use_fuzzy = false }) else
+    if bytes_eq text (codes "f") then Some (record { checked = false; use_fuzzy = true }) else
+    if bytes_eq text (codes "cf") then Some (record { checked = true; use_fuzzy = true }) else None
+
+-- the worker that is asked
+abbrev pub worker_of : List ℕ → Option Worker
+worker_of text = if bytes_eq text (codes "0") then Some First else if bytes_eq text (codes "1") then Some Second else None

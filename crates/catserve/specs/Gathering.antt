@@ -1,0 +1,59 @@
+-- Private: how rounds are gathered from commands, one after another.
+use Rattle.std.specs.Prelude.{◌≡◌, ℕ, ◌+◌, ◌≤◌, Bool, true, false, if◌then◌else◌, List, [], ◌∷◌, ◌++◌, length, drop, fold, Option, Some, Result, Ok, Err}
+use Rattle.std.specs.Str.{IsUtf8}
+use Rattle.catserve.specs.Lines.{lines}
+use Rattle.catserve.specs.Commands.{Line}
+use Rattle.catserve.specs.Script.{Command, Load, Ask, Go, RoundValue, round_of, rounds_of, Saying, Says, IsBad, saying, commands_from, script}
+
+-- the rounds that have ended, the open one, and whether something stands in it
+pub record Gathered : Type 0 where
+  pub ended : List RoundValue
+  pub current : RoundValue
+  pub begun : Bool
+
+abbrev pub empty_round : RoundValue
+empty_round = record { loads = []; first = []; second = [] }
+
+abbrev pub nothing : Gathered
+nothing = record { ended = []; current = empty_round; begun = false }
+
+-- one round behind another, as one
+abbrev pub both : RoundValue → RoundValue → RoundValue
+both a b = record { loads = a.loads ++ b.loads; first = a.first ++ b.first; second = a.second ++ b.second }
+
+-- one more command
+abbrev pub gathered : Gathered → Command → Gathered
+gathered g (Load load) = record { ended = g.ended; current = both g.current (round_of (Load load ∷ [])); begun = true }
+gathered g (Ask worker query) = record { ended = g.ended; current = both g.current (round_of (Ask worker query ∷ [])); begun = true }
+gathered g Go = record { ended = g.ended ++ g.current ∷ []; current = empty_round; begun = false }
+
+-- the open round with what follows in it, and the rounds behind it
+abbrev pub onto_open : Gathered → List RoundValue → List RoundValue
+onto_open g [] = if g.begun then g.current ∷ [] else []
+onto_open g (round ∷ rounds) = both g.current round ∷ rounds
+
+abbrev pub all_rounds : Gathered → List RoundValue
+all_rounds g = g.ended ++ onto_open g []
+
+-- all rounds, where these commands follow
+abbrev pub going_on : Gathered → Result (List Command) ℕ → Result (List RoundValue) ℕ
+going_on g (Ok commands) = Ok (g.ended ++ onto_open g (rounds_of commands))
+going_on g (Err bad) = Err bad
+
+-- a line with this number was taken in, with its text: what follows it, and the number of the next line
+pub record TakesIn (old new : Gathered) (line : Line) (behind : List ℕ) (number : ℕ) (rest : List ℕ) (next : ℕ) : Type 0 where
+  pub commands : List Command
+  pub text : ℕ
+  pub says : saying (Some line) (lines behind) ≡ Says commands text
+  pub gathered_are : new ≡ fold gathered old commands
+  pub behind_text : lines rest ≡ drop text (lines behind)
+  pub enough : text ≤ length (lines behind)
+  pub next_is : next ≡ number + 1 + text
+  pub shorter : text + length rest ≤ length behind
+  pub utf8 : IsUtf8 rest
+
+-- the text was read up to the line with this number, from which on the rest is left
+pub record HasParsed (text : List ℕ) (rounds : Gathered) (rest : List ℕ) (number : ℕ) : Type 0 where
+  pub going : script text ≡ going_on rounds (commands_from number 0 (lines rest))
+  pub bounded : number + length rest ≤ 67108865
+  pub utf8 : IsUtf8 rest

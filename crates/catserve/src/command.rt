@@ -1,0 +1,155 @@
+//! What a line of a script says.
+ghost use Rattle.std.specs.Prelude.{◌≡◌};
+ghost use Rattle.catserve.specs.Commands.{plain_call, context_call, number_call, context_number_call, call_of, load_line, ask_line, go_line, command_line, is_blank, line_of};
+ghost use Rattle.catserve.specs.Reading.{Reads};
+ghost use Rattle.catserve.specs.Views.{line_value};
+ghost use Rattle.live_set.specs.Asks.{ask_value};
+
+use crate::fault::LineFault;
+use crate::field::{Worker, read_number, read_options, read_text, read_worker};
+use crate::fields::Fields;
+use catalogue::Options;
+use live_set::{Ask, Query};
+use std::alloc::Global;
+
+/// What a line says.
+#[derive(Drop)]
+pub(crate) enum Line<'a> {
+    /// Nothing.
+    Blank,
+    /// The next `count` lines are a PO text.
+    Loads {
+        domain: &'a str,
+        locale: &'a str,
+        options: Options,
+        count: u64,
+    },
+    /// A worker is asked.
+    Asks { worker: Worker, query: Query },
+    /// The round ends.
+    Goes,
+}
+
+/// The texts of a call of gettext.
+fn read_plain(alloc: Global, mut texts: Fields<'_>) -> Result<Ask, LineFault>
+    ensures { Reads ask_value result (plain_call texts.entry) }
+{
+    let id = read_text(alloc, texts.next()?)?;
+    texts.end()?;
+    Ok(Ask::Plain { id })
+}
+
+/// The texts of a call of pgettext.
+fn read_context(alloc: Global, mut texts: Fields<'_>) -> Result<Ask, LineFault>
+    ensures { Reads ask_value result (context_call texts.entry) }
+{
+    let context = read_text(alloc, texts.next()?)?;
+    let id = read_text(alloc, texts.next()?)?;
+    texts.end()?;
+    Ok(Ask::Context { context, id })
+}
+
+/// The texts of a call of ngettext.
+fn read_plural(alloc: Global, mut texts: Fields<'_>) -> Result<Ask, LineFault>
+    ensures { Reads ask_value result (number_call texts.entry) }
+{
+    let id = read_text(alloc, texts.next()?)?;
+    let plural = read_text(alloc, texts.next()?)?;
+    let n = read_number(texts.next()?)?;
+    texts.end()?;
+    Ok(Ask::Number { id, plural, n })
+}
+
+/// The texts of a call of npgettext.
+fn read_context_plural(alloc: Global, mut texts: Fields<'_>) -> Result<Ask, LineFault>
+    ensures { Reads ask_value result (context_number_call texts.entry) }
+{
+    let context = read_text(alloc, texts.next()?)?;
+    let id = read_text(alloc, texts.next()?)?;
+    let plural = read_text(alloc, texts.next()?)?;
+    let n = read_number(texts.next()?)?;
+    texts.end()?;
+    Ok(Ask::ContextNumber {
+        context,
+        id,
+        plural,
+        n,
+    })
+}
+
+/// A call by its name and its texts.
+fn read_call(alloc: Global, name: &str, texts: Fields<'_>) -> Result<Ask, LineFault>
+    ensures { Reads ask_value result (call_of name.now texts.entry) }
+{
+    match name {
+        "gettext" => read_plain(alloc, texts),
+        "pgettext" => read_context(alloc, texts),
+        "ngettext" => read_plural(alloc, texts),
+        "npgettext" => read_context_plural(alloc, texts),
+        _ => Err(LineFault::Bad),
+    }
+}
+
+/// What stands behind `load`.
+fn read_load(mut fields: Fields<'_>) -> Result<Line<'_>, LineFault>
+    ensures { Reads line_value result (load_line fields.entry) }
+{
+    let domain = fields.next()?;
+    let locale = fields.next()?;
+    let options = read_options(fields.next()?)?;
+    let count = read_number(fields.next()?)?;
+    fields.end()?;
+    Ok(Line::Loads {
+        domain,
+        locale,
+        options,
+        count,
+    })
+}
+
+/// What stands behind `ask`.
+fn read_ask<'a>(alloc: Global, mut fields: Fields<'a>) -> Result<Line<'a>, LineFault>
+    ensures { Reads line_value result (ask_line fields.entry) }
+{
+    let worker = read_worker(fields.next()?)?;
+    let domain = fields.next()?;
+    let locale = fields.next()?;
+    let name = fields.next()?;
+    let ask = read_call(alloc, name, fields)?;
+    let query = Query {
+        domain: String::from_str(alloc, domain)?,
+        locale: String::from_str(alloc, locale)?,
+        ask,
+    };
+    Ok(Line::Asks { worker, query })
+}
+
+/// What stands behind `go`: nothing.
+fn read_go<'a>(fields: Fields<'a>) -> Result<Line<'a>, LineFault>
+    ensures { Reads line_value result (go_line fields.entry) }
+{
+    fields.end()?;
+    Ok(Line::Goes)
+}
+
+/// What a line says, by its first field.
+fn read_command<'a>(alloc: Global, mut fields: Fields<'a>) -> Result<Line<'a>, LineFault>
+    ensures { Reads line_value result (command_line fields.entry) }
+{
+    match fields.next()? {
+        "load" => read_load(fields),
+        "ask" => read_ask(alloc, fields),
+        "go" => read_go(fields),
+        _ => Err(LineFault::Bad),
+    }
+}
+
+/// What a line says, which is given without its LF. `Bad` where it is no line of a script.
+pub(crate) fn read_line(alloc: Global, text: &str) -> Result<Line<'_>, LineFault>
+    ensures { Reads line_value result (line_of text.now) }
+{
+    if text.is_empty() || text.starts_with('#') {
+        return Ok(Line::Blank);
+    }
+    read_command(alloc, Fields::new(text))
+}

@@ -1,0 +1,19 @@
+//! Scripts of loads and look-ups, and what they write.
+//!
+//! A script is read whole before anything is done. It has rounds: in each round its loads are made and
+//! published, and then two workers look up what the round asks.
+#![tactic(auto)]
+
+mod command;
+mod fault;
+mod field;
+mod fields;
+mod line;
+mod parse;
+mod rounds;
+
+#[cfg(test)]
+mod tests;
+
+pub use fault::{ScriptFault, ScriptKind};
+pub use parse::MOST_SCRIPT;

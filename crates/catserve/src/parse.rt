@@ -1,0 +1,114 @@
+//! Reading a script whole.
+ghost use Rattle.std.specs.Prelude.{◌≡◌, ◌<◌, ◌≤◌, ◌+◌, ◌^◌, IfOk, IfErr, Some, Ok, length};
+ghost use Rattle.catserve.specs.Lines.{lines};
+ghost use Rattle.catserve.specs.Script.{script, saying, IsBad};
+ghost use Rattle.catserve.specs.Outcome.{IsScript};
+ghost use Rattle.catserve.specs.Views.{line_value};
+ghost use Rattle.catserve.specs.Gathering.{TakesIn};
+ghost use Rattle.catserve.specs.Reading.{IsLineFault, ParseFails, IsTextFault};
+
+use crate::command::{Line, read_line};
+use crate::fault::{LineFault, ScriptFault, ScriptKind};
+use crate::line::{split_line, take_lines};
+use crate::rounds::{LoadText, Round, Rounds};
+use simdutf8::compat::from_utf8;
+use std::alloc::Global;
+
+/// The most bytes that a script may have.
+pub const MOST_SCRIPT: usize = 67_108_864;
+
+/// The fault of a line.
+fn fault_at(fault: LineFault, line: u32) -> ScriptFault
+    ensures { IsLineFault fault line result }
+{
+    match fault {
+        LineFault::Bad => ScriptFault {
+            kind: ScriptKind::BadLine,
+            line,
+        },
+        LineFault::Memory => ScriptFault::from(ScriptKind::Memory),
+    }
+}
+
+/// Takes in a line, of which `behind` follows and which has this number, with the text of its load.
+/// Answers what follows the text, and the number of the next line.
+fn take_in<'a>(
+    alloc: Global,
+    rounds: &mut Rounds<'a>,
+    line: Line<'a>,
+    behind: &'a str,
+    number: u32,
+) -> Result<(&'a str, u32), LineFault>
+    requires { number + length behind.now + 1 < 2 ^ 32 }
+    ensures ok { IfOk result (λ next. TakesIn rounds.old rounds.new (line_value line.entry) behind.now number next.0.now next.1) }
+    ensures bad { IfErr result (λ fault. fault ≡ LineFault.Bad → saying (Some (line_value line.entry)) (lines behind.now) ≡ IsBad) }
+{
+    match line {
+        Line::Blank => Ok((behind, number + 1)),
+        Line::Goes => {
+            rounds.go(alloc)?;
+            Ok((behind, number + 1))
+        }
+        Line::Asks { worker, query } => {
+            rounds.ask(worker, query)?;
+            Ok((behind, number + 1))
+        }
+        Line::Loads {
+            domain,
+            locale,
+            options,
+            count,
+        } => {
+            let Some((text, rest)) = take_lines(behind, count) else {
+                return Err(LineFault::Bad);
+            };
+            rounds.load(LoadText {
+                domain,
+                locale,
+                options,
+                text,
+            })?;
+            Ok((rest, number + 1 + count as u32))
+        }
+    }
+}
+
+/// The rounds of a script.
+fn parse(alloc: Global, text: &str) -> Result<Vec<Round<'_>>, ScriptFault>
+    requires { length text.now ≤ MOST_SCRIPT }
+    ensures ok { IfOk result (λ rounds. script text.now ≡ Ok rounds.items) }
+    ensures err { IfErr result (λ fault. ParseFails (script text.now) fault) }
+{
+    let mut rounds = Rounds::new(alloc);
+    let mut rest = text;
+    let mut number = 1;
+    'lines: while let Some((line, behind)) = split_line(rest) {
+        let said = match read_line(alloc, line) {
+            Ok(said) => said,
+            Err(fault) => return Err(fault_at(fault, number)),
+        };
+        match take_in(alloc, &mut rounds, said, behind, number) {
+            Ok((next, next_number)) => {
+                rest = next;
+                number = next_number;
+            }
+            Err(fault) => return Err(fault_at(fault, number)),
+        }
+    }
+    let all = rounds.all()?;
+    Ok(all)
+}
+
+/// The rounds of a script, which is read whole.
+pub(crate) fn read_script(alloc: Global, bytes: &[u8]) -> Result<Vec<Round<'_>>, ScriptFault>
+    ensures ok { IfOk result (λ rounds. IsScript bytes.now rounds.items) }
+    ensures err { IfErr result (λ fault. IsTextFault bytes.now fault) }
+{
+    if bytes.len() > MOST_SCRIPT {
+        return Err(ScriptFault::from(ScriptKind::TooLarge));
+    }
+    match from_utf8(bytes) {
+        Ok(text) => parse(alloc, text),
+        Err(_) => Err(ScriptFault::from(ScriptKind::NotUtf8)),
+    }
+}

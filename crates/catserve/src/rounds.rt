@@ -1,0 +1,132 @@
+//! The rounds of a script.
+ghost use Rattle.std.specs.Prelude.{◌≡◌, [], ◌∷◌, ◌++◌, false, true, OnOk, IfOk};
+ghost use Rattle.catserve.specs.Script.{Load, Ask, Go};
+ghost use Rattle.catserve.specs.Gathering.{empty_round, nothing, gathered, all_rounds};
+
+use crate::field::Worker;
+use catalogue::Options;
+use live_set::Query;
+use std::alloc::{AllocError, Global};
+use std::marker::Model;
+use std::mem;
+
+/// A PO text for a domain and a locale, and how it is compiled.
+#[derive(Drop)]
+pub(crate) struct LoadText<'a> {
+    pub(crate) domain: &'a str,
+    pub(crate) locale: &'a str,
+    pub(crate) options: Options,
+    pub(crate) text: &'a [u8],
+}
+
+impl<'a> Model for LoadText<'a> {
+    ghost use Rattle.catserve.specs.Script.{LoadText as LoadValue};
+
+    ghost Value = { LoadValue };
+
+    ghost view = { λ l. record { domain = l.domain.now; locale = l.locale.now; options = l.options; text = l.text.now } };
+}
+
+/// A round: its loads, and what the two workers are asked.
+#[derive(Drop)]
+pub(crate) struct Round<'a> {
+    pub(crate) loads: Vec<LoadText<'a>>,
+    pub(crate) first: Vec<Query>,
+    pub(crate) second: Vec<Query>,
+}
+
+impl<'a> Model for Round<'a> {
+    ghost use Rattle.catserve.specs.Script.{RoundValue};
+
+    ghost Value = { RoundValue };
+
+    ghost view = { λ r. record { loads = r.loads.items; first = r.first.items; second = r.second.items } };
+}
+
+impl Round<'_> {
+    fn new<'a>(alloc: Global) -> Round<'a>
+        ensures { result ≡ empty_round }
+    {
+        Round {
+            loads: Vec::new(alloc),
+            first: Vec::new(alloc),
+            second: Vec::new(alloc),
+        }
+    }
+}
+
+/// The rounds that are read so far. Contracts see the rounds that have ended, the one that is current, and
+/// whether something stands in it.
+#[derive(Drop)]
+pub(crate) struct Rounds<'a> {
+    ended: Vec<Round<'a>>,
+    current: Round<'a>,
+    begun: bool,
+}
+
+impl<'a> Model for Rounds<'a> {
+    ghost use Rattle.catserve.specs.Gathering.{Gathered};
+
+    ghost Value = { Gathered };
+
+    ghost view = { λ r. record { ended = r.ended.items; current = r.current; begun = r.begun } };
+}
+
+impl<'a> Rounds<'a> {
+    /// No rounds.
+    pub(crate) fn new(alloc: Global) -> Rounds<'a>
+        ensures { result ≡ nothing }
+    {
+        Rounds {
+            ended: Vec::new(alloc),
+            current: Round::new(alloc),
+            begun: false,
+        }
+    }
+
+    /// One more load in the current round.
+    pub(crate) fn load(&mut self, load: LoadText<'a>) -> Result<(), AllocError>
+        ensures { OnOk result (self.new ≡ gathered self.old (Load load.entry)) }
+    {
+        self.begun = true;
+        self.current.loads.push(load)?;
+        Ok(())
+    }
+
+    /// One more question in the current round.
+    pub(crate) fn ask(&mut self, worker: Worker, query: Query) -> Result<(), AllocError>
+        ensures { OnOk result (self.new ≡ gathered self.old (Ask worker query)) }
+    {
+        self.begun = true;
+        match worker {
+            Worker::First => self.current.first.push(query)?,
+            Worker::Second => self.current.second.push(query)?,
+        }
+        Ok(())
+    }
+
+    /// The current round ends, and a new one is current.
+    pub(crate) fn go(&mut self, alloc: Global) -> Result<(), AllocError>
+        ensures { OnOk result (self.new ≡ gathered self.old Go) }
+    {
+        let round = mem::replace(&mut self.current, Round::new(alloc));
+        self.ended.push(round)?;
+        self.begun = false;
+        Ok(())
+    }
+
+    /// All rounds: the current one too, if something stands in it.
+    pub(crate) fn all(self) -> Result<Vec<Round<'a>>, AllocError>
+        ensures { IfOk result (λ rounds. rounds.items ≡ all_rounds self.entry) }
+    {
+        let Rounds {
+            mut ended,
+            current,
+            begun,
+        } = self;
+        if begun {
+            ended.push(current)?;
+        }
+        Ok(ended)
+    }
+}
