@@ -3,6 +3,8 @@ pub mod Fields
 pub mod Commands
 pub mod Script
 pub mod Outcome
+pub mod Output
+pub mod Meaning
 pub mod Reading
 pub mod Views
 pub mod Gathering

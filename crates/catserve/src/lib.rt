@@ -9,6 +9,7 @@ mod fault;
 mod field;
 mod fields;
 mod line;
+mod output;
 mod parse;
 mod rounds;
 

@@ -1,0 +1,58 @@
+-- The whole output of a script: what its rounds mean, one after another.
+use Rattle.std.specs.Prelude.{◌≡◌, ℕ, List, [], ◌∷◌, ◌++◌, length, Option, Some, None}
+use Rattle.std.specs.List.{AllZip, filter_map, flat_map}
+use Rattle.catalogue.specs.Meaning.{Means, Refuses}
+use Rattle.catalogue.specs.declared.compiler.Stats.{Stats}
+use Rattle.catalogue.specs.declared.compiler.Compiled.{Compiled}
+use Rattle.catalogue.specs.declared.fault.LoadKind.{LoadKind}
+use Rattle.live_set.specs.Loads.{LoadValue}
+use Rattle.live_set.specs.Asks.{QueryValue, IsAnswer}
+use Rattle.live_versions.specs.Store.{AreNames}
+use Rattle.catserve.specs.Script.{LoadText, RoundValue}
+use Rattle.catserve.specs.Outcome.{IsScript}
+use Rattle.catserve.specs.Output.{accepted_line, refused_line, unnamed_line, version_line, answer_line}
+
+-- what becomes of a load
+pub data Outcome : Type 0 where
+  Accepted : (load : LoadValue) (stats : Stats) → Outcome
+  Refused : (kind : LoadKind) (line : ℕ) → Outcome
+  Unnamed : Outcome
+
+-- it has the map that its text means; its text is refused; its domain or its locale is no name
+abbrev pub IsOutcome : LoadText → Outcome → Type 0
+IsOutcome l (Accepted load stats) = AreNames l.domain l.locale × ((c : Compiled) × Means l.text l.options c × (stats ≡ c.stats) × (load ≡ record { domain = l.domain; locale = l.locale; map = c.catalogue }))
+IsOutcome l (Refused kind line) = AreNames l.domain l.locale × Refuses l.text l.options kind line
+IsOutcome l Unnamed = ¬ AreNames l.domain l.locale
+
+abbrev pub outcome_line : Outcome → List ℕ
+outcome_line (Accepted load stats) = accepted_line stats
+outcome_line (Refused kind line) = refused_line kind line
+outcome_line Unnamed = unnamed_line
+
+abbrev pub accepted_load : Outcome → Option LoadValue
+accepted_load (Accepted load stats) = Some load
+accepted_load _ = None
+
+-- a worker answers its questions over these loads, in order; the version is how many they are
+abbrev pub Answers : List LoadValue → ℕ → List QueryValue → List ℕ → Type 0
+Answers loads worker queries output = (texts : List (List ℕ)) × AllZip (IsAnswer loads) queries texts × (output ≡ flat_map (answer_line worker (length loads)) texts)
+
+-- a round behind these loads: its own loads, its version, and the answers of the two workers over all loads up to it
+pub record Plays (before : List LoadValue) (round : RoundValue) (after : List LoadValue) (output : List ℕ) : Type 0 where
+  pub outcomes : List Outcome
+  pub loaded : AllZip IsOutcome round.loads outcomes
+  pub after_is : after ≡ before ++ filter_map accepted_load outcomes
+  pub first : List ℕ
+  pub first_answers : Answers after 0 round.first first
+  pub second : List ℕ
+  pub second_answers : Answers after 1 round.second second
+  pub output_is : output ≡ flat_map outcome_line outcomes ++ version_line (length after) ++ first ++ second
+
+-- the rounds behind these loads
+abbrev pub PlaysAll : List LoadValue → List RoundValue → List ℕ → Type 0
+PlaysAll before [] output = output ≡ []
+PlaysAll before (round ∷ rounds) output = (after : List LoadValue) × (front : List ℕ) × (back : List ℕ) × Plays before round after front × PlaysAll after rounds back × (output ≡ front ++ back)
+
+-- the output of a text that is a script
+abbrev pub HasOutput : List ℕ → List ℕ → Type 0
+HasOutput text output = (rounds : List RoundValue) × IsScript text rounds × PlaysAll [] rounds output

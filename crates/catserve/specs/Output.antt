@@ -1,0 +1,38 @@
+-- The lines that a run writes.
+use Rattle.std.specs.Prelude.{ℕ, ◌==◌, if◌then◌else◌, List, [], ◌∷◌, ◌++◌, codes}
+use Rattle.std.specs.List.{flat_map, join_with_byte}
+use Rattle.std.specs.Fmt.{decimal}
+use Rattle.catalogue.specs.Meaning.{rank}
+use Rattle.catalogue.specs.declared.compiler.Stats.{Stats}
+use Rattle.catalogue.specs.declared.fault.LoadKind.{LoadKind}
+
+-- fields with a tab between each two, and LF
+abbrev pub line : List (List ℕ) → List ℕ
+line parts = join_with_byte 9 parts ++ 10 ∷ []
+
+-- LF, a tab and a backslash are written as a backslash and a letter
+abbrev pub escape : ℕ → List ℕ
+escape b = if b == 10 then 92 ∷ 110 ∷ [] else if b == 9 then 92 ∷ 116 ∷ [] else if b == 92 then 92 ∷ 92 ∷ [] else b ∷ []
+
+abbrev pub escaped : List ℕ → List ℕ
+escaped text = flat_map escape text
+
+-- a load that was accepted: how many entries are translated, fuzzy and untranslated
+abbrev pub accepted_line : Stats → List ℕ
+accepted_line stats = line (codes "accepted" ∷ decimal stats.translated ∷ decimal stats.fuzzy ∷ decimal stats.untranslated ∷ [])
+
+-- a load whose text is refused: the number of the refusal, and its line
+abbrev pub refused_line : LoadKind → ℕ → List ℕ
+refused_line kind at = line (codes "refused" ∷ decimal (rank kind) ∷ decimal at ∷ [])
+
+-- a load for what is no name
+abbrev pub unnamed_line : List ℕ
+unnamed_line = line (codes "refused" ∷ codes "name" ∷ [])
+
+-- what a round publishes
+abbrev pub version_line : ℕ → List ℕ
+version_line version = line (codes "version" ∷ decimal version ∷ [])
+
+-- what a worker answers, at a version
+abbrev pub answer_line : ℕ → ℕ → List ℕ → List ℕ
+answer_line worker version text = line (decimal worker ∷ decimal version ∷ escaped text ∷ [])

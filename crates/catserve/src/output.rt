@@ -1,0 +1,125 @@
+//! The lines that a run writes.
+ghost use Rattle.std.specs.Prelude.{◌≡◌, ◌++◌, OnOk, string_bytes, codes};
+ghost use Rattle.std.specs.Fmt.{decimal};
+ghost use Rattle.catalogue.specs.Meaning.{rank};
+ghost use Rattle.catserve.specs.Output.{escape, escaped, accepted_line, refused_line, unnamed_line, version_line, answer_line};
+
+use catalogue::{LoadFault, LoadKind, Stats};
+use std::alloc::{AllocError, Global};
+
+/// Writes a byte of a text with escapes.
+fn write_byte(output: &mut Vec<u8>, byte: u8) -> Result<(), AllocError>
+    ensures { OnOk result (output.new.items ≡ output.old.items ++ escape byte) }
+{
+    match byte {
+        b'\n' => output.extend_from_slice(b"\\n"),
+        b'\t' => output.extend_from_slice(b"\\t"),
+        b'\\' => output.extend_from_slice(b"\\\\"),
+        plain => Ok(output.push(plain)?),
+    }
+}
+
+/// Writes a text with its escapes.
+#[tactic(auto, using(std::proofs::lemmas::List::flat_map_more))]
+fn write_escaped(output: &mut Vec<u8>, text: &str) -> Result<(), AllocError>
+    ensures { OnOk result (output.new.items ≡ output.old.items ++ escaped text.now) }
+{
+    'bytes: for byte in text.as_bytes() {
+        write_byte(output, *byte)?;
+    }
+    Ok(())
+}
+
+/// Writes a text as it is.
+fn write_text(output: &mut Vec<u8>, text: &str) -> Result<(), AllocError>
+    ensures { OnOk result (output.new.items ≡ output.old.items ++ text.now) }
+{
+    output.extend_from_slice(text.as_bytes())
+}
+
+/// The number of a refusal.
+fn rank_of(kind: LoadKind) -> u32
+    ensures { result ≡ rank kind }
+{
+    match kind {
+        LoadKind::TooLarge => 1,
+        LoadKind::NotUtf8 => 2,
+        LoadKind::BadEscape => 3,
+        LoadKind::OpenString => 4,
+        LoadKind::BadWord => 5,
+        LoadKind::BadText => 6,
+        LoadKind::BadOrder => 7,
+        LoadKind::BadIndex => 8,
+        LoadKind::Duplicate => 9,
+        LoadKind::Charset => 10,
+        LoadKind::SystemDependent => 11,
+        LoadKind::NoRule => 12,
+        LoadKind::BadRule => 13,
+        LoadKind::FormCount => 14,
+        LoadKind::PluralRange(_) => 15,
+        LoadKind::FormatMismatch => 16,
+        LoadKind::NewlineMismatch => 17,
+        LoadKind::Memory => 18,
+    }
+}
+
+/// Writes the line of a load that was accepted.
+pub(crate) fn write_accepted(
+    alloc: Global,
+    output: &mut Vec<u8>,
+    stats: Stats,
+) -> Result<(), AllocError>
+    ensures { OnOk result (output.new.items ≡ output.old.items ++ accepted_line stats) }
+{
+    let (translated, fuzzy, untranslated) = (stats.translated, stats.fuzzy, stats.untranslated);
+    let line = format!(in alloc; "accepted\t{translated}\t{fuzzy}\t{untranslated}\n")?;
+    write_text(output, line.as_str())
+}
+
+/// Writes the line of a load whose text is refused.
+pub(crate) fn write_refused(
+    alloc: Global,
+    output: &mut Vec<u8>,
+    fault: LoadFault,
+) -> Result<(), AllocError>
+    ensures { OnOk result (output.new.items ≡ output.old.items ++ refused_line fault.kind fault.line) }
+{
+    let (number, at) = (rank_of(fault.kind), fault.line);
+    let line = format!(in alloc; "refused\t{number}\t{at}\n")?;
+    write_text(output, line.as_str())
+}
+
+/// Writes the line of a load for what is no name.
+pub(crate) fn write_unnamed(output: &mut Vec<u8>) -> Result<(), AllocError>
+    ensures { OnOk result (output.new.items ≡ output.old.items ++ unnamed_line) }
+{
+    write_text(output, "refused\tname\n")
+}
+
+/// Writes the line of what a round published.
+pub(crate) fn write_version(
+    alloc: Global,
+    output: &mut Vec<u8>,
+    version: u64,
+) -> Result<(), AllocError>
+    ensures { OnOk result (output.new.items ≡ output.old.items ++ version_line version) }
+{
+    let line = format!(in alloc; "version\t{version}\n")?;
+    write_text(output, line.as_str())
+}
+
+/// Writes the line of an answer.
+pub(crate) fn write_answer(
+    alloc: Global,
+    output: &mut Vec<u8>,
+    worker: u32,
+    version: u64,
+    text: &str,
+) -> Result<(), AllocError>
+    ensures { OnOk result (output.new.items ≡ output.old.items ++ answer_line worker version text.now) }
+{
+    let front = format!(in alloc; "{worker}\t{version}\t")?;
+    write_text(output, front.as_str())?;
+    write_escaped(output, text)?;
+    write_text(output, "\n")
+}
