@@ -3,3 +3,4 @@ pub mod Numerals
 pub mod Escapes
 pub mod Taking
 pub mod Parsing
+pub mod Batching

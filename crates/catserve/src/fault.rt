@@ -79,3 +79,13 @@ impl From<AllocError> for ScriptFault {
         ScriptFault::from(ScriptKind::Memory)
     }
 }
+
+impl From<AllocError> for ScriptKind {
+    ghost use Rattle.catserve.specs.declared.fault.ScriptKind.TheVariants as kind;
+
+    ghost from_gives = { λ _ fault. fault ≡ kind.Memory };
+
+    fn from(_: AllocError) -> ScriptKind {
+        ScriptKind::Memory
+    }
+}

@@ -12,6 +12,7 @@ mod line;
 mod output;
 mod parse;
 mod rounds;
+mod worker;
 
 #[cfg(test)]
 mod tests;
