@@ -12,7 +12,7 @@ use Rattle.catserve.specs.Running.{AnswersOne}
 pub starts_trans : (a b c : List (List LoadValue)) → StartsWith a b → StartsWith b c → StartsWith a c
 starts_trans a b c (r, e) (s, f) = (s ++ r, e ∙ ap (λ x. x ++ r) f ∙ append_assoc c s r)
 
-joined-append : (a b : List (List LoadValue)) → joined (a ++ b) ≡ joined a ++ joined b
+pub joined-append : (a b : List (List LoadValue)) → joined (a ++ b) ≡ joined a ++ joined b
 joined-append [] b = refl
 joined-append (x ∷ a) b = ap (λ l. x ++ l) (joined-append a b) ∙ sym (append_assoc x (joined a) (joined b))
 
@@ -32,7 +32,7 @@ AllZip-snoc R [] (v ∷ ys) x y h r = absurd h
 AllZip-snoc R (u ∷ xs) [] x y h r = absurd h
 AllZip-snoc R (u ∷ xs) (v ∷ ys) x y h r = (h.0, AllZip-snoc R xs ys x y h.1 r)
 
-flat_map-snoc : {A B : Type 0} (f : A → List B) (xs : List A) (x : A) → flat_map f (xs ++ x ∷ []) ≡ flat_map f xs ++ f x
+pub flat_map-snoc : {A B : Type 0} (f : A → List B) (xs : List A) (x : A) → flat_map f (xs ++ x ∷ []) ≡ flat_map f xs ++ f x
 flat_map-snoc f [] x = append-nil (f x)
 flat_map-snoc f (y ∷ ys) x = ap (λ zs. f y ++ zs) (flat_map-snoc f ys x) ∙ sym (append_assoc (f y) (flat_map f ys) (f x))
 

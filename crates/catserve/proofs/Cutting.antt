@@ -55,11 +55,12 @@ utf8_behind c text front behind utf8 e small =
     let rest : drop (length front + 1) (front ++ c ∷ behind) ≡ behind = rw add-one (drop-past front c behind) in
     rw (← rest) (IsUtf8-drop (front ++ c ∷ behind) (length front + 1) whole (IsCharBoundary-after_ascii (front ++ c ∷ behind) (length front) whole (simp length-append (omega arith)) (rw here small)))
   where
-  sub_same : (n : ℕ) → n - n ≡ 0
-  sub_same n = omega arith
-  drop-past : (front : List ℕ) (c : ℕ) (behind : List ℕ) → drop (suc (length front)) (front ++ c ∷ behind) ≡ behind
-  drop-past [] c behind = refl
-  drop-past (x ∷ front) c behind = drop-past front c behind
+    sub_same : (n : ℕ) → n - n ≡ 0
+    sub_same n = omega arith
+
+    drop-past : (front : List ℕ) (c : ℕ) (behind : List ℕ) → drop (suc (length front)) (front ++ c ∷ behind) ≡ behind
+    drop-past [] c behind = refl
+    drop-past (x ∷ front) c behind = drop-past front c behind
 
 -- ---- lines
 

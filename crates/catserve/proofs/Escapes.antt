@@ -24,16 +24,17 @@ unescaped-plain (b ∷ plain) rest none =
     let other : eqb b 92 ≡ false = ne_eqb b 92 (none 0 (omega arith)) in
     unescaped-cons b (plain ++ rest) other ∙ ap (λ o. option_map (λ more. b ∷ more) o) (unescaped-plain plain rest (λ k lt. none (suc k) (omega arith))) ∙ map-map (unescaped rest)
   where
-  unescaped-cons : (b : ℕ) (text : List ℕ) → eqb b 92 ≡ false → unescaped (b ∷ text) ≡ option_map (λ more. b ∷ more) (unescaped text)
-  unescaped-cons b [] other = rw other refl
-  unescaped-cons b (c ∷ text) other = rw other (bind-map (unescaped (c ∷ text)))
-    where
-    bind-map : (o : Option (List ℕ)) → option_and_then (λ rest. Some (b ∷ rest)) o ≡ option_map (λ more. b ∷ more) o
-    bind-map None = refl
-    bind-map (Some x) = refl
-  map-map : (o : Option (List ℕ)) → option_map (λ more. b ∷ more) (option_map (λ more. plain ++ more) o) ≡ option_map (λ more. (b ∷ plain) ++ more) o
-  map-map None = refl
-  map-map (Some x) = refl
+    unescaped-cons : (b : ℕ) (text : List ℕ) → eqb b 92 ≡ false → unescaped (b ∷ text) ≡ option_map (λ more. b ∷ more) (unescaped text)
+    unescaped-cons b [] other = rw other refl
+    unescaped-cons b (c ∷ text) other = rw other (bind-map (unescaped (c ∷ text)))
+      where
+        bind-map : (o : Option (List ℕ)) → option_and_then (λ rest. Some (b ∷ rest)) o ≡ option_map (λ more. b ∷ more) o
+        bind-map None = refl
+        bind-map (Some x) = refl
+
+    map-map : (o : Option (List ℕ)) → option_map (λ more. b ∷ more) (option_map (λ more. plain ++ more) o) ≡ option_map (λ more. (b ∷ plain) ++ more) o
+    map-map None = refl
+    map-map (Some x) = refl
 
 -- ---- one step of reading a text
 
@@ -54,9 +55,9 @@ pub reads_more : (field bytes rest plain behind after : List ℕ) (letter byte :
 reads_more field bytes rest plain behind after letter byte h cut none e is =
     let one : unescaped rest ≡ option_map (λ more. plain ++ more) (unescaped (92 ∷ letter ∷ after)) = rw (cut, e) (unescaped-plain plain (92 ∷ letter ∷ after) none) in
     h ∙ ap (λ o. option_map (λ more. bytes ++ more) o) (one ∙ ap (λ o. option_map (λ more. plain ++ more) o) (unescaped-escape letter byte after is))
-      ∙ ap (λ o. option_map (λ more. bytes ++ more) o) (map-map plain (byte ∷ []) (unescaped after))
-      ∙ map-map bytes (plain ++ byte ∷ []) (unescaped after)
-      ∙ ap (λ front. option_map (λ more. front ++ more) (unescaped after)) (sym (append_assoc bytes plain (byte ∷ [])))
+    ∙ ap (λ o. option_map (λ more. bytes ++ more) o) (map-map plain (byte ∷ []) (unescaped after))
+    ∙ map-map bytes (plain ++ byte ∷ []) (unescaped after)
+    ∙ ap (λ front. option_map (λ more. front ++ more) (unescaped after)) (sym (append_assoc bytes plain (byte ∷ [])))
 
 -- a backslash behind which no letter stands
 pub reads_none : (field bytes rest plain behind : List ℕ) → unescaped field ≡ option_map (λ more. bytes ++ more) (unescaped rest) → rest ≡ plain ++ 92 ∷ behind → ((k : ℕ) → k < length plain → get_or plain k 0 ≢ 92) → SplitsEscape None behind → unescaped field ≡ None
@@ -64,9 +65,9 @@ reads_none field bytes rest plain behind h cut none bad =
     let one : unescaped rest ≡ option_map (λ more. plain ++ more) (unescaped (92 ∷ behind)) = rw cut (unescaped-plain plain (92 ∷ behind) none) in
     h ∙ ap (λ o. option_map (λ more. bytes ++ more) o) (one ∙ ap (λ o. option_map (λ more. plain ++ more) o) (is_none behind bad))
   where
-  is_none : (behind : List ℕ) → SplitsEscape None behind → unescaped (92 ∷ behind) ≡ None
-  is_none [] bad = refl
-  is_none (letter ∷ after) bad = rw (bad letter after refl) refl
+    is_none : (behind : List ℕ) → SplitsEscape None behind → unescaped (92 ∷ behind) ≡ None
+    is_none [] bad = refl
+    is_none (letter ∷ after) bad = rw (bad letter after refl) refl
 
 -- the last part has no backslash
 pub reads_all : (field bytes rest : List ℕ) → unescaped field ≡ option_map (λ more. bytes ++ more) (unescaped rest) → ((k : ℕ) → k < length rest → get_or rest k 0 ≢ 92) → unescaped field ≡ Some (bytes ++ rest)

@@ -4,3 +4,4 @@ pub mod Escapes
 pub mod Taking
 pub mod Parsing
 pub mod Batching
+pub mod Playing

@@ -30,7 +30,7 @@ no_number {E} text r fault digits parsed e =
     elim (cases_Bool (ltb 0 (length text))) [
       | inr none ↦ rw (digits, none) refl
       | inl some ↦ elim (cases_Bool (ltb (digits_value 10 text) (2 ^ 64))) [
-          | inr great ↦ rw (digits, some, great) refl
-          | inl small ↦ absurd (h (ltb-true 0 (length text) some, ltb-true (digits_value 10 text) (2 ^ 64) small))
-        ]
+        | inr great ↦ rw (digits, some, great) refl
+        | inl small ↦ absurd (h (ltb-true 0 (length text) some, ltb-true (digits_value 10 text) (2 ^ 64) small))
+      ]
     ]

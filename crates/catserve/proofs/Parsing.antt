@@ -90,6 +90,7 @@ starts text small utf8 = record { going = by_outcome (commands_from 1 0 (lines t
   by_rounds : (rs : List RoundValue) → rs ≡ onto_open nothing rs
   by_rounds [] = refl
   by_rounds (r ∷ rs) = refl
+
   by_outcome : (found : Result (List Command) ℕ) → rounds_in found ≡ going_on nothing found
   by_outcome (Ok cs) = ap (λ rs. Ok rs) (by_rounds (rounds_of cs))
   by_outcome (Err bad) = refl
@@ -113,12 +114,12 @@ bad_text text rest line behind rounds number saw parsed first is bad =
 pub goes_on : (text rest line behind : List ℕ) (old new : Gathered) (number : ℕ) (saw : Line) (after : List ℕ) (next : ℕ) → HasParsed text old rest number → IsFirstLine rest line behind → line_of line ≡ Some saw → TakesIn old new saw behind number after next → HasParsed text new after next
 goes_on text rest line behind old new number saw after next parsed first is taken = record {
   going = read_first text rest line behind old number (Some saw) parsed first is
-    ∙ ap (λ s. going_on old (and_then s number (λ n. commands_from (number + 1) n (lines behind)))) taken.says
-    ∙ ap (λ found. going_on old (and_then (Says taken.commands taken.text) number (λ n. found))) (skips taken.text (number + 1) (lines behind) taken.enough
-        ∙ ap (λ ls. commands_from (number + 1 + taken.text) 0 ls) (sym taken.behind_text)
-        ∙ ap (λ n. commands_from n 0 (lines after)) (sym taken.next_is))
-    ∙ by_outcome (commands_from next 0 (lines after))
-    ∙ ap (λ g. going_on g (commands_from next 0 (lines after))) (sym taken.gathered_are);
+      ∙ ap (λ s. going_on old (and_then s number (λ n. commands_from (number + 1) n (lines behind)))) taken.says
+      ∙ ap (λ found. going_on old (and_then (Says taken.commands taken.text) number (λ n. found))) (skips taken.text (number + 1) (lines behind) taken.enough
+      ∙ ap (λ ls. commands_from (number + 1 + taken.text) 0 ls) (sym taken.behind_text)
+      ∙ ap (λ n. commands_from n 0 (lines after)) (sym taken.next_is))
+      ∙ by_outcome (commands_from next 0 (lines after))
+      ∙ ap (λ g. going_on g (commands_from next 0 (lines after))) (sym taken.gathered_are);
   bounded = omega (arith, taken.shorter, taken.next_is, parsed.bounded, first.some, ap length first.whole, length-append first.raw behind);
   utf8 = taken.utf8;
 } where

@@ -37,8 +37,8 @@ takes_more i text rest line behind h first =
       within = omega (arith, cut.within);
       left = rw add-one (sym cut.behind);
       whole = h.whole ∙ ap (λ zs. concat (take i (lines text)) ++ zs) first.whole ∙ sym (append_assoc (concat (take i (lines text))) first.raw behind)
-        ∙ ap (λ zs. zs ++ behind) (sym (concat-snoc (take i (lines text)) first.raw))
-        ∙ rw (add-one, cut.front) refl;
+          ∙ ap (λ zs. zs ++ behind) (sym (concat-snoc (take i (lines text)) first.raw))
+          ∙ rw (add-one, cut.front) refl;
       shorter = omega (arith, h.shorter, first.some, ap length first.whole, length-append first.raw behind);
       utf8 = first.utf8;
     }

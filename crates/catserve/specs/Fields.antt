@@ -33,8 +33,8 @@ unescaped (b ∷ c ∷ text) = if b == 92 then (do
   byte ← escaped_byte c
   rest ← unescaped text
   Some (byte ∷ rest)) else (do
-  rest ← unescaped (c ∷ text)
-  Some (b ∷ rest))
+    rest ← unescaped (c ∷ text)
+    Some (b ∷ rest))
 
 -- how a text is compiled: `-`, or `c` for checked and `f` for fuzzy entries too
 abbrev pub options_of : List ℕ → Option Options

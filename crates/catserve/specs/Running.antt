@@ -1,5 +1,6 @@
 -- Private: the steps of a run.
-use Rattle.std.specs.Prelude.{◌≡◌, ◌⊎◌, ⊤, ℕ, List, ◌++◌, length, Result, Ok, Err}
+use Rattle.std.specs.Prelude.{◌≡◌, ◌⊎◌, ⊤, ℕ, List, [], ◌∷◌, ◌++◌, length, Result, Ok, Err}
+use Rattle.std.specs.List.{AllZip, filter_map, flat_map}
 use Rattle.live_set.specs.Loads.{LoadValue}
 use Rattle.live_set.specs.Asks.{QueryValue, IsAnswer}
 use Rattle.catserve.specs.declared.fault.ScriptKind.{ScriptKind}
@@ -7,7 +8,9 @@ use Rattle.catserve.specs.declared.fault.ScriptKind.TheVariants.{Closed, Memory}
 use Rattle.live_versions.specs.Batches.{StartsWith, joined}
 use Rattle.live_versions.specs.Told.{FrontValue}
 use Rattle.catserve.specs.Output.{answer_line}
-use Rattle.catserve.specs.Meaning.{Answers}
+use Rattle.live_versions.specs.Store.{StoreValue}
+use Rattle.catserve.specs.Script.{LoadText, RoundValue}
+use Rattle.catserve.specs.Meaning.{Answers, Outcome, IsOutcome, outcome_line, accepted_load, Plays}
 
 -- the line of one answer was written
 pub record AnswersOne (loads : List LoadValue) (worker : ℕ) (query : QueryValue) (before after : List ℕ) : Type 0 where
@@ -25,3 +28,29 @@ pub record HasAnswered (notice was now : FrontValue) (worker : ℕ) (queries : L
   pub answered : Answers (joined notice.batches) worker queries output
   pub seen : StartsWith now.batches notice.batches
   pub same_book : now.book ≡ was.book
+
+-- a load was made: its outcome, the pending loads, and its line
+pub record LoadsOne (load : LoadText) (pending pending' : List LoadValue) (before after : List ℕ) : Type 0 where
+  pub outcome : Outcome
+  pub is : IsOutcome load outcome
+  pub pending_are : pending' ≡ pending ++ filter_map accepted_load (outcome ∷ [])
+  pub written : after ≡ before ++ outcome_line outcome
+
+-- loads were made, one after another
+pub record LoadsAll (loads : List LoadText) (pending pending' : List LoadValue) (before after : List ℕ) : Type 0 where
+  pub outcomes : List Outcome
+  pub each : AllZip IsOutcome loads outcomes
+  pub pending_are : pending' ≡ pending ++ filter_map accepted_load outcomes
+  pub written : after ≡ before ++ flat_map outcome_line outcomes
+
+-- some first loads were made, by a publisher of the same published batches
+pub record HasLoaded (loads : List LoadText) (was now : StoreValue) (before after : List ℕ) : Type 0 where
+  pub loaded : LoadsAll loads was.pending now.pending before after
+  pub front : now.front ≡ was.front
+
+-- a round was played: what is published, and its lines
+pub record PlaysOne (round : RoundValue) (was now : StoreValue) (before after : List ℕ) : Type 0 where
+  pub output : List ℕ
+  pub plays : Plays (joined was.front.batches) round (joined now.front.batches) output
+  pub none_pending : now.pending ≡ []
+  pub written : after ≡ before ++ output

@@ -25,7 +25,10 @@ pub(crate) enum Line<'a> {
         count: u64,
     },
     /// A worker is asked.
-    Asks { worker: Worker, query: Query },
+    Asks {
+        worker: Worker,
+        query: Query,
+    },
     /// The round ends.
     Goes,
 }

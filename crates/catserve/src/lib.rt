@@ -11,11 +11,11 @@ mod fields;
 mod line;
 mod output;
 mod parse;
+mod round;
 mod rounds;
-mod worker;
-
 #[cfg(test)]
 mod tests;
+mod worker;
 
 pub use fault::{ScriptFault, ScriptKind};
 pub use parse::MOST_SCRIPT;

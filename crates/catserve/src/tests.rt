@@ -51,11 +51,32 @@ fn the_first_bad_line_is_given(rt: HostRuntime) -> Result<(), Fail> {
     assert_eq!(rt; rounds_of(rt.alloc(), b"go"), Ok(1));
     assert_eq!(rt; rounds_of(rt.alloc(), b"go\ngo\n"), Ok(2));
     assert_eq!(rt; rounds_of(rt.alloc(), b"\n# none\n"), Ok(0));
-    assert_eq!(rt; rounds_of(rt.alloc(), b"load\tapp\tfr\t-\t2\nask\nask\ngo\nload\tapp\tfr\tcf\t0"), Ok(2));
-    assert_eq!(rt; rounds_of(rt.alloc(), b"ask\t2\tapp\tfr\tgettext\thi\n"), bad(1));
-    assert_eq!(rt; rounds_of(rt.alloc(), b"load\tapp\tfr\t-\t3\na\nb\n"), bad(1));
-    assert_eq!(rt; rounds_of(rt.alloc(), b"load\tapp\tfr\t-\t2\na\nb\ngone\nask"), bad(4));
-    assert_eq!(rt; rounds_of(rt.alloc(), b"ask\t0\ta\tb\tngettext\tx\ty\t2\t\n"), bad(1));
-    assert_eq!(rt; rounds_of(rt.alloc(), b"go\n\xff"), Err((ScriptKind::NotUtf8, 0)));
+    assert_eq!(rt;
+        rounds_of(
+            rt.alloc(),
+            b"load\tapp\tfr\t-\t2\nask\nask\ngo\nload\tapp\tfr\tcf\t0"
+        ),
+        Ok(2)
+    );
+    assert_eq!(rt;
+        rounds_of(rt.alloc(), b"ask\t2\tapp\tfr\tgettext\thi\n"),
+        bad(1)
+    );
+    assert_eq!(rt;
+        rounds_of(rt.alloc(), b"load\tapp\tfr\t-\t3\na\nb\n"),
+        bad(1)
+    );
+    assert_eq!(rt;
+        rounds_of(rt.alloc(), b"load\tapp\tfr\t-\t2\na\nb\ngone\nask"),
+        bad(4)
+    );
+    assert_eq!(rt;
+        rounds_of(rt.alloc(), b"ask\t0\ta\tb\tngettext\tx\ty\t2\t\n"),
+        bad(1)
+    );
+    assert_eq!(rt;
+        rounds_of(rt.alloc(), b"go\n\xff"),
+        Err((ScriptKind::NotUtf8, 0))
+    );
     Ok(())
 }
