@@ -1,11 +1,11 @@
 //! The parts of a round of a script: its loads, and the answers of its two workers.
-ghost use Rattle.std.specs.Prelude.{◌≡◌, IfOk};
+ghost use Rattle.std.specs.Prelude.{◌≡◌, [], IfOk};
 ghost use Rattle.live_versions.specs.Batches.{StartsWith, joined};
 ghost use Rattle.catserve.specs.Meaning.{Answers};
-ghost use Rattle.catserve.specs.Running.{IsWorkerFault, LoadsOne, LoadsAll};
+ghost use Rattle.catserve.specs.Running.{IsWorkerFault, LoadsOne, LoadsAll, PlaysOne};
 
 use crate::fault::ScriptKind;
-use crate::output::{write_accepted, write_refused, write_unnamed};
+use crate::output::{write_accepted, write_refused, write_unnamed, write_version};
 use crate::rounds::{LoadText, Round};
 use crate::worker::answer_all;
 use live_versions::{Lookups, Notice, Publisher, StoreFault};
@@ -34,7 +34,7 @@ fn make_load(
 }
 
 /// Makes the loads of a round, in order, and writes their lines.
-pub(crate) fn make_loads(
+fn make_loads(
     alloc: Global,
     publisher: &mut Publisher,
     loads: &[LoadText<'_>],
@@ -51,7 +51,7 @@ pub(crate) fn make_loads(
 }
 
 /// The answers of the two workers of a round, each in a thread of its own.
-pub(crate) fn answer_both<R: Threads + Wait>(
+fn answer_both<R: Threads + Wait>(
     rt: &R,
     alloc: Global,
     first: &mut Lookups,
@@ -72,4 +72,34 @@ pub(crate) fn answer_both<R: Threads + Wait>(
         &mut || answer_all(alloc, first, notice, 0, asked),
         &mut || answer_all(alloc, second, notice, 1, others),
     )
+}
+
+/// Runs a round, and writes its lines behind the output so far.
+pub(crate) fn play<R: Threads + Wait>(
+    rt: &R,
+    alloc: Global,
+    publisher: &mut Publisher,
+    first: &mut Lookups,
+    second: &mut Lookups,
+    round: &Round<'_>,
+    output: &mut Vec<u8>,
+) -> Result<(), ScriptKind>
+    requires pending { publisher.old.pending ≡ [] }
+    requires books { (first.old.book ≡ publisher.old.front.book) × (second.old.book ≡ publisher.old.front.book) }
+    ensures ok { IfOk result (λ _. PlaysOne round.now publisher.old publisher.new output.old.items output.new.items) }
+    ensures fault { IsWorkerFault result }
+    ensures same { (publisher.new.front.book ≡ publisher.old.front.book) × (first.new.book ≡ first.old.book) × (second.new.book ≡ second.old.book) }
+{
+    make_loads(alloc, publisher, round.loads.as_slice(), output)?;
+    let Ok(version) = publisher.publish(rt) else {
+        return Err(ScriptKind::Memory);
+    };
+    write_version(alloc, output, version)?;
+    let notice = publisher.tell();
+    first.learn(&notice);
+    second.learn(&notice);
+    let (one, other) = answer_both(rt, alloc, first, second, &notice, round);
+    output.extend_from_slice(one?.as_slice())?;
+    output.extend_from_slice(other?.as_slice())?;
+    Ok(())
 }
