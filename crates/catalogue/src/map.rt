@@ -8,6 +8,7 @@ ghost use Rattle.catalogue.specs.Search.{AtMostDigits};
 ghost use Rattle.catalogue.specs.Value.{HasMapRule};
 
 use crate::image::Image;
+use crate::writer::EntryList;
 use crate::{EntryRef, EntryStrings, Steps};
 use po_header::{RuleRead, read_rule};
 use std::alloc::{AllocError, Global};
@@ -58,7 +59,15 @@ impl Catalogue {
         requires { IsLawful (entries_of messages.items) }
         ensures { IfOk result (λ catalogue. catalogue ≡ entries_of messages.items) }
     {
-        let image = Image::spelled(alloc, &messages)?;
+        Catalogue::from_list(alloc, &messages)
+    }
+
+    /// The catalogue of the entries of a list.
+    pub(crate) fn from_list<L: EntryList>(alloc: Global, list: &L) -> Result<Catalogue, AllocError>
+        requires { IsLawful (L.entries list.now) }
+        ensures { IfOk result (λ catalogue. catalogue ≡ L.entries list.now) }
+    {
+        let image = Image::spelled(alloc, list)?;
         let rule = rule_in(alloc, &image)?;
         Ok(Catalogue { image, rule })
     }

@@ -33,11 +33,7 @@ impl EntryStrings {
     pub(crate) fn lend(&self) -> LentStrings<'_>
         ensures { result ≡ stored_entry self.now }
     {
-        LentStrings {
-            key: self.key.as_str(),
-            plural: self.plural(),
-            translation: self.translation.as_str(),
-        }
+        LentStrings::new(self.key.as_str(), self.plural(), self.translation.as_str())
     }
 }
 
@@ -61,6 +57,20 @@ impl<'a> Model for LentStrings<'a> {
 }
 
 impl<'a> LentStrings<'a> {
+    pub(crate) fn new(
+        key: &'a str,
+        plural: Option<&'a str>,
+        translation: &'a str,
+    ) -> LentStrings<'a>
+        ensures { result ≡ entry_from key.now (option_map (λ p. p.now) plural.entry) translation.now }
+    {
+        LentStrings {
+            key,
+            plural,
+            translation,
+        }
+    }
+
     pub(crate) fn key(&self) -> &'a str
         ensures { result.now ≡ key self.now }
     {
