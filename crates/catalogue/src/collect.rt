@@ -13,7 +13,7 @@ use crate::LoadFault;
 use crate::checks::Findings;
 use crate::compiler::Options;
 use crate::drafts::Standing;
-use crate::joins::push_form;
+use crate::joins::{push_form, push_key};
 use crate::pool::{KeptSpan, Span};
 use po_text::{EntryBuffer, open_text};
 use std::alloc::{AllocError, Global};
@@ -55,21 +55,17 @@ fn standing_of(entry: &EntryBuffer) -> Standing
 }
 
 /// Adds the bytes of the entry's key, and says how many they are.
-fn push_key(texts: &mut String, entry: &EntryBuffer) -> Result<usize, AllocError>
+fn add_key(texts: &mut String, entry: &EntryBuffer) -> Result<usize, AllocError>
     ensures added { OnOk result (string_bytes texts.new ≡ string_bytes texts.old ++ Meaning.key_of entry.now) }
     ensures len { IfOk result (λ len. len ≡ length (Meaning.key_of entry.now)) }
 {
     let start = texts.len();
-    if let Some(context) = entry.context() {
-        texts.push_str(context)?;
-        texts.push('\u{4}')?;
-    }
-    texts.push_str(entry.id())?;
+    push_key(texts, entry.context(), entry.id())?;
     Ok(texts.len() - start)
 }
 
 /// Adds the plural, and says how many bytes it has.
-fn push_plural(texts: &mut String, entry: &EntryBuffer) -> Result<Option<usize>, AllocError>
+fn add_plural(texts: &mut String, entry: &EntryBuffer) -> Result<Option<usize>, AllocError>
     ensures added { OnOk result (string_bytes texts.new ≡ string_bytes texts.old ++ plural_bytes entry.now.plural) }
     ensures len { IfOk result (λ len. len ≡ option_map length entry.now.plural) }
 {
@@ -83,7 +79,7 @@ fn push_plural(texts: &mut String, entry: &EntryBuffer) -> Result<Option<usize>,
 }
 
 /// Adds the forms, with NUL between them, and says how many bytes they are.
-fn push_forms(texts: &mut String, entry: &EntryBuffer) -> Result<usize, AllocError>
+fn add_forms(texts: &mut String, entry: &EntryBuffer) -> Result<usize, AllocError>
     ensures added { OnOk result (string_bytes texts.new ≡ string_bytes texts.old ++ translation (message_of entry.now)) }
     ensures len { IfOk result (λ len. len ≡ length (translation (message_of entry.now))) }
 {
@@ -95,18 +91,18 @@ fn push_forms(texts: &mut String, entry: &EntryBuffer) -> Result<usize, AllocErr
 }
 
 /// Adds what a catalogue keeps of an entry beside its key, and says how long it is.
-fn push_kept(texts: &mut String, entry: &EntryBuffer) -> Result<KeptSpan, AllocError>
+fn add_kept(texts: &mut String, entry: &EntryBuffer) -> Result<KeptSpan, AllocError>
     ensures added { OnOk result (string_bytes texts.new ≡ string_bytes texts.old ++ kept_bytes (Drafts.texts_of entry.now)) }
     ensures span { IfOk result (λ span. span ≡ kept_span (Drafts.texts_of entry.now)) }
 {
     Ok(KeptSpan {
-        plural: push_plural(texts, entry)?,
-        translation: push_forms(texts, entry)?,
+        plural: add_plural(texts, entry)?,
+        translation: add_forms(texts, entry)?,
     })
 }
 
 /// The same of an entry that is kept.
-fn push_if_kept(
+fn add_if_kept(
     texts: &mut String,
     entry: &EntryBuffer,
     options: Options,
@@ -118,19 +114,19 @@ fn push_if_kept(
     if !is_kept(entry, options) {
         return Ok(None);
     }
-    let span = push_kept(texts, entry)?;
+    let span = add_kept(texts, entry)?;
     Ok(Some(span))
 }
 
 /// Adds the texts of an entry to the pool, and gives their span.
-fn push_entry(texts: &mut String, entry: &EntryBuffer, options: Options) -> Result<Span, AllocError>
+fn add_entry(texts: &mut String, entry: &EntryBuffer, options: Options) -> Result<Span, AllocError>
     ensures lawful { OnOk result (IsLawfulTexts entry.now) }
     ensures added { OnOk result (string_bytes texts.new ≡ string_bytes texts.old ++ stored (row_of options 0 entry.now)) }
     ensures span { IfOk result (λ span. span ≡ span_of (row_of options 0 entry.now)) }
 {
     Ok(Span {
-        key: push_key(texts, entry)?,
-        kept: push_if_kept(texts, entry, options)?,
+        key: add_key(texts, entry)?,
+        kept: add_if_kept(texts, entry, options)?,
         line: entry.line(),
         standing: standing_of(entry),
     })
@@ -158,7 +154,7 @@ pub(crate) fn collect(alloc: Global, text: &[u8], options: Options) -> Result<Co
     let mut spans = Vec::new(alloc);
     let mut findings = Findings::new();
     'entries: while reader.next_entry(&mut entry)? {
-        spans.push(push_entry(&mut texts, &entry, options)?)?;
+        spans.push(add_entry(&mut texts, &entry, options)?)?;
         findings.look_at(alloc, &entry, options)?;
     }
     Ok(Collected {
