@@ -2,7 +2,7 @@
 ghost use Rattle.std.specs.Prelude.{◌≡◌};
 
 use crate::{
-    Ahead, AskFault, Closed, Lookups, OpenFault, Pinned, Publisher, StoreFault, Version,
+    Ahead, AskFault, Closed, Lookups, Notice, OpenFault, Pinned, Publisher, StoreFault, Version,
     open_store, versions_never_fall,
 };
 use catalogue::{LoadFault, LoadKind, Options, Stats};
@@ -10,6 +10,7 @@ use live_set::{Ask, Query};
 use std::alloc::{AllocError, Global};
 use std::sync::Wait;
 use std::test::Fail;
+use std::thread::{Threads, join};
 
 const PLAIN: Options = Options {
     checked: false,
@@ -341,6 +342,86 @@ fn entries_answer_each_call(rt: HostRuntime) -> Result<(), Fail> {
     assert_eq!(rt; (loaded, published), (Ok(ONE), Ok(1)));
     assert_eq!(rt; found, Ok([true; 6]));
     assert!(rt; closed);
+    Ok(())
+}
+
+/// A value that may go to another thread.
+fn sent<T: Send>(_: &T) {}
+
+/// A value that threads may share.
+fn shared<T: Sync>(_: &T) {}
+
+/// What callers hand to threads.
+fn hand_over(publisher: &Publisher, reader: &Lookups, notice: &Notice) {
+    sent(publisher);
+    sent(reader);
+    sent(notice);
+    shared(notice);
+}
+
+/// Enters so many times, and says whether each entry had a text of its version and no version went back.
+fn enter_many(reader: &mut Lookups, turns: u32) -> bool {
+    let mut last = reader.seen();
+    let mut good = true;
+    'turns: for _ in 0..turns {
+        let Ok(pinned) = reader.enter() else {
+            return false;
+        };
+        let version = pinned.version();
+        let text = hi_in(&pinned, "fr");
+        let right = if version == 0 {
+            text == "hi"
+        } else {
+            text == "salut"
+        };
+        pinned.leave();
+        if version < last || !right {
+            good = false;
+        }
+        last = version;
+    }
+    good
+}
+
+fn publish_many<R: Wait>(rt: &R, alloc: Global, publisher: &mut Publisher, turns: u32) -> Version {
+    'turns: for _ in 0..turns {
+        let _ = publisher.load(alloc, "app", "fr", SALUT, PLAIN);
+        let _ = publisher.publish(rt);
+    }
+    publisher.version()
+}
+
+fn in_threads<R: Threads + Wait + Sync>(
+    rt: &R,
+    alloc: Global,
+    publisher: &mut Publisher,
+    first: &mut Lookups,
+    second: &mut Lookups,
+) -> (Version, bool) {
+    let (version, (one, other)) = join(
+        rt,
+        || publish_many(rt, alloc, publisher, 200),
+        || join(
+            rt,
+            || enter_many(first, 20_000),
+            || enter_many(second, 20_000),
+        ),
+    );
+    (version, one && other)
+}
+
+#[test]
+fn readers_never_go_back(rt: HostRuntime) -> Result<(), Fail> {
+    let (mut publisher, mut readers) = open_store(&rt, rt.alloc(), 2, 5000)?;
+    let (Some(mut second), Some(mut first)) = (readers.pop(), readers.pop()) else {
+        publisher.end(&rt);
+        return Ok(());
+    };
+    let notice = publisher.tell();
+    hand_over(&publisher, &first, &notice);
+    let found = in_threads(&rt, rt.alloc(), &mut publisher, &mut first, &mut second);
+    publisher.end(&rt);
+    assert_eq!(rt; found, (200, true));
     Ok(())
 }
 

@@ -10,3 +10,4 @@ pub mod FieldLemmas
 pub mod Running
 pub mod RuleLemmas
 pub mod StepLemmas
+pub mod PartLemmas

@@ -4,6 +4,7 @@ pub mod Grammar
 pub mod Meaning
 pub mod Expression
 pub mod Nodes
+pub mod Parts
 pub mod Expr
 pub mod Reading
 pub mod Stack

@@ -8,6 +8,7 @@ mod charset;
 mod expr;
 mod fields;
 mod parse;
+mod parts;
 mod rule;
 mod search;
 mod steps;

@@ -1,0 +1,70 @@
+/* Queries to glibc's dcgettext in 20 text domains, one for each language of crates/bench_store, with the same
+   messages in the same order: dcgettext FOLDER MESSAGES. Run by bench/store/run. */
+#include <libintl.h>
+#include <locale.h>
+#include <pthread.h>
+#include <stdint.h>
+#include <stdio.h>
+#include <stdlib.h>
+#include <string.h>
+#include <time.h>
+
+#define LANGUAGES 20
+#define QUERIES 100000
+#define ROUNDS 10
+#define THREADS 4
+
+struct query {
+    char domain[16], id[32], wanted[64];
+};
+
+static struct query queries[QUERIES];
+
+static double now(void) {
+    struct timespec t;
+    clock_gettime(CLOCK_MONOTONIC, &t);
+    return t.tv_sec * 1e9 + t.tv_nsec;
+}
+
+static void *ask_all(void *arg) {
+    size_t *lost = arg;
+    for (int r = 0; r < ROUNDS; r++)
+        for (int i = 0; i < QUERIES; i++)
+            if (!*dcgettext(queries[i].domain, queries[i].id, LC_MESSAGES))
+                ++*lost;
+    return NULL;
+}
+
+int main(int argc, char **argv) {
+    if (argc < 3 || !setlocale(LC_ALL, "C.UTF-8"))
+        return 1;
+    uint64_t messages = strtoull(argv[2], NULL, 10), state = 1;
+    for (int l = 0; l < LANGUAGES; l++) {
+        char domain[16];
+        snprintf(domain, sizeof domain, "l%d", l);
+        bindtextdomain(domain, argv[1]);
+    }
+    size_t wrong = 0;
+    for (int i = 0; i < QUERIES; i++) {
+        state = state * 6364136223846793005u + 1442695040888963407u;
+        unsigned long long message = (state >> 33) % messages, language = (state >> 40) % LANGUAGES;
+        struct query *q = &queries[i];
+        snprintf(q->domain, sizeof q->domain, "l%llu", language);
+        snprintf(q->id, sizeof q->id, "message %llu", message);
+        snprintf(q->wanted, sizeof q->wanted, "%.31s in %.15s", q->id, q->domain);
+        wrong += strcmp(dcgettext(q->domain, q->id, LC_MESSAGES), q->wanted) != 0;
+    }
+    printf("dcgettext: %zu answers wrong\n", wrong);
+    size_t lost[THREADS] = { 0 };
+    double start = now();
+    ask_all(&lost[0]);
+    printf("dcgettext, one thread: %.0f ns each\n", (now() - start) / ((double)ROUNDS * QUERIES));
+    pthread_t threads[THREADS];
+    start = now();
+    for (int t = 0; t < THREADS; t++)
+        pthread_create(&threads[t], NULL, ask_all, &lost[t]);
+    for (int t = 0; t < THREADS; t++)
+        pthread_join(threads[t], NULL);
+    printf("dcgettext, four threads: %.0f ns each\n", (now() - start) / ((double)ROUNDS * QUERIES * THREADS));
+    return 0;
+}

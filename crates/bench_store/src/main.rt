@@ -1,0 +1,300 @@
+//! Times a live store: entries, alone and of many readers beside a publisher; queries in one thread and in
+//! four; publishes beside many catalogues. The first word says how many messages each of 20 languages has
+//! (500 without a word). Standard output has what went wrong, the same each time; standard error has the
+//! times by the clock.
+#![tactic(auto)]
+
+mod messages;
+mod readers;
+
+use crate::messages::{LANGUAGES, PLAIN, locale_of, po_text, queries};
+use crate::readers::{ask_all, ask_each, enter_many, enter_until, look_all};
+use live_set::Query;
+use live_versions::{Lookups, Publisher, open_store};
+use std::alloc::AllocError;
+use std::rt::Clock;
+use std::sync::Wait;
+use std::sync::atomic::AtomicBool;
+use std::sync::atomic::Ordering::SeqCst;
+use std::thread::{Threads, join, map_vec};
+use std::time::{Duration, Instant};
+use std::{env, io};
+
+/// How many entries one reader makes.
+const ENTRIES: u32 = 1_000_000;
+
+/// How many loads are published beside the readers, each by itself, a thousandth of a second apart.
+const PUBLISHES: u32 = 1_000;
+
+/// How many catalogues lie beside the one that is published.
+const OTHERS: u32 = 1_000;
+
+/// How often all queries are made.
+const ROUNDS: u32 = 10;
+
+/// Prints how long each of so many turns took, and how many went wrong.
+fn print_time<R: Print + Eprint>(
+    rt: &R,
+    what: &str,
+    taken: Duration,
+    turns: u64,
+    wrong: u64,
+) -> io::Result<()> {
+    let nanos = taken.as_nanos() / u128::from(turns.max(1));
+    println!(rt; "{what}: {wrong} wrong")?;
+    eprintln!(rt; "{what}: {nanos} ns each, {turns} times")
+}
+
+/// Loads a text for a locale, and publishes it.
+fn replace<R: Wait + AllocGlobal>(
+    rt: &R,
+    publisher: &mut Publisher,
+    locale: &str,
+    text: &str,
+) -> bool {
+    let loaded = publisher.load(rt.alloc(), "app", locale, text.as_bytes(), PLAIN);
+    let published = publisher.publish(rt);
+    loaded.is_ok() && published.is_ok()
+}
+
+/// Publishes a thousand times a second, and then says that it is done. Answers how many publishes failed.
+fn publish_many<R: Wait + Clock + AllocGlobal>(
+    rt: &R,
+    publisher: &mut Publisher,
+    text: &str,
+    done: &AtomicBool,
+) -> u64 {
+    let mut wrong: u64 = 0;
+    'turns: for _ in 0..PUBLISHES {
+        if !replace(rt, publisher, "fr", text) {
+            wrong = wrong.saturating_add(1);
+        }
+        std::thread::sleep(rt, Duration::from_millis(1));
+    }
+    done.store(true, SeqCst);
+    wrong
+}
+
+/// One reader that enters and leaves.
+fn time_entries<R: Print + Eprint + Clock + Wait + AllocGlobal>(rt: &R) -> io::Result<()> {
+    let Ok((publisher, mut readers)) = open_store(rt, rt.alloc(), 1, u64::MAX) else {
+        return println!(rt; "no store");
+    };
+    let done = match readers.pop() {
+        Some(mut reader) => time_reader(rt, &mut reader),
+        None => Ok(()),
+    };
+    publisher.end(rt);
+    done
+}
+
+fn time_reader<R: Print + Eprint + Clock>(rt: &R, reader: &mut Lookups) -> io::Result<()> {
+    let start = Instant::now(rt)?;
+    let wrong = enter_many(reader, ENTRIES);
+    print_time(
+        rt,
+        "entries, one reader",
+        start.elapsed(rt)?,
+        u64::from(ENTRIES),
+        wrong,
+    )
+}
+
+/// Readers that enter and leave while a publisher publishes.
+fn time_beside<R: Print + Eprint + Clock + Threads + Wait + AllocGlobal + Sync>(
+    rt: &R,
+    count: u32,
+) -> io::Result<()> {
+    let Ok((mut publisher, readers)) = open_store(rt, rt.alloc(), count, u64::MAX) else {
+        return println!(rt; "no store");
+    };
+    let done = match po_text(rt.alloc(), 0, 100) {
+        Ok(text) => run_beside(rt, &mut publisher, readers, &text),
+        Err(_) => println!(rt; "out of memory"),
+    };
+    publisher.end(rt);
+    done
+}
+
+fn run_beside<R: Print + Eprint + Clock + Threads + Wait + AllocGlobal + Sync>(
+    rt: &R,
+    publisher: &mut Publisher,
+    readers: Vec<Lookups>,
+    text: &str,
+) -> io::Result<()> {
+    let count = readers.len();
+    let done = AtomicBool::new(false);
+    let start = Instant::now(rt)?;
+    let (found, unpublished) = join(
+        rt,
+        || map_vec(
+            rt,
+            readers,
+            &|mut reader: Lookups| enter_until(&mut reader, &done),
+        ),
+        || publish_many(rt, publisher, text, &done),
+    );
+    let taken = start.elapsed(rt)?;
+    let Ok(found) = found else {
+        return println!(rt; "out of memory");
+    };
+    let (mut entries, mut wrong) = (0_u64, unpublished);
+    'readers: for (entered, fallen) in found.iter() {
+        entries = entries.saturating_add(*entered);
+        wrong = wrong.saturating_add(*fallen);
+    }
+    println!(rt; "entries, {count} readers beside a publisher: {wrong} wrong")?;
+    eprintln!(rt;
+        "entries, {count} readers beside {PUBLISHES} publishes: {entries} in {} ms",
+        taken.as_millis()
+    )
+}
+
+/// Queries in 20 languages, of one reader and of four at once.
+fn time_queries<R: Print + Eprint + Clock + Threads + Wait + AllocGlobal + Sync>(
+    rt: &R,
+    messages: u32,
+) -> io::Result<()> {
+    let Ok((mut publisher, readers)) = open_store(rt, rt.alloc(), 4, u64::MAX) else {
+        return println!(rt; "no store");
+    };
+    let done = match (
+        publish_languages(rt, &mut publisher, messages),
+        queries(rt.alloc(), messages),
+    ) {
+        (Ok(true), Ok(queries)) => run_queries(rt, readers, &queries),
+        _ => println!(rt; "out of memory"),
+    };
+    publisher.end(rt);
+    done
+}
+
+/// Publishes a catalogue of so many messages for each language, all in one step.
+fn publish_languages<R: Wait + AllocGlobal>(
+    rt: &R,
+    publisher: &mut Publisher,
+    messages: u32,
+) -> Result<bool, AllocError> {
+    let mut all = true;
+    'languages: for language in 0..LANGUAGES {
+        let text = po_text(rt.alloc(), language, messages)?;
+        let locale = locale_of(rt.alloc(), language)?;
+        let loaded = publisher.load(rt.alloc(), "app", &locale, text.as_bytes(), PLAIN);
+        all = all && loaded.is_ok();
+    }
+    let published = publisher.publish(rt);
+    Ok(all && published.is_ok())
+}
+
+fn run_queries<R: Print + Eprint + Clock + Threads + Wait + AllocGlobal + Sync>(
+    rt: &R,
+    mut readers: Vec<Lookups>,
+    queries: &[Query],
+) -> io::Result<()> {
+    let turns = u64::from(ROUNDS).saturating_mul(queries.len() as u64);
+    if let Some(reader) = readers.first_mut() {
+        let wrong = ask_each(rt.alloc(), reader, queries);
+        println!(rt; "answers: {wrong} wrong")?;
+        let start = Instant::now(rt)?;
+        let wrong = look_all(reader, queries, ROUNDS);
+        print_time(
+            rt,
+            "look-ups without a copy, one reader",
+            start.elapsed(rt)?,
+            turns,
+            wrong,
+        )?;
+        let start = Instant::now(rt)?;
+        let wrong = ask_all(rt.alloc(), reader, queries, ROUNDS);
+        print_time(rt, "queries, one reader", start.elapsed(rt)?, turns, wrong)?;
+    }
+    let alloc = rt.alloc();
+    let start = Instant::now(rt)?;
+    let found = map_vec(
+        rt,
+        readers,
+        &|mut reader: Lookups| ask_all(alloc, &mut reader, queries, ROUNDS),
+    );
+    let taken = start.elapsed(rt)?;
+    let Ok(found) = found else {
+        return println!(rt; "out of memory");
+    };
+    let mut wrong: u64 = 0;
+    'readers: for lost in found.iter() {
+        wrong = wrong.saturating_add(*lost);
+    }
+    print_time(
+        rt,
+        "queries, four readers",
+        taken,
+        turns.saturating_mul(4),
+        wrong,
+    )
+}
+
+/// Publishes of one catalogue beside many others.
+fn time_publishes<R: Print + Eprint + Clock + Wait + AllocGlobal>(rt: &R) -> io::Result<()> {
+    let Ok((mut publisher, _readers)) = open_store(rt, rt.alloc(), 1, u64::MAX) else {
+        return println!(rt; "no store");
+    };
+    let done = match po_text(rt.alloc(), 0, 10) {
+        Ok(text) => run_publishes(rt, &mut publisher, &text),
+        Err(_) => println!(rt; "out of memory"),
+    };
+    publisher.end(rt);
+    done
+}
+
+fn run_publishes<R: Print + Eprint + Clock + Wait + AllocGlobal>(
+    rt: &R,
+    publisher: &mut Publisher,
+    text: &str,
+) -> io::Result<()> {
+    let mut wrong: u64 = 0;
+    'others: for other in 0..OTHERS {
+        let loaded = match locale_of(rt.alloc(), other) {
+            Ok(locale) => publisher
+                .load(rt.alloc(), "app", &locale, text.as_bytes(), PLAIN)
+                .is_ok(),
+            Err(_) => false,
+        };
+        if !loaded {
+            wrong = wrong.saturating_add(1);
+        }
+    }
+    let mut taken = Duration::from_millis(0);
+    'turns: for _ in 0..PUBLISHES {
+        let loaded = publisher.load(rt.alloc(), "app", "fr", text.as_bytes(), PLAIN);
+        let start = Instant::now(rt)?;
+        let published = publisher.publish(rt);
+        taken = taken.saturating_add(start.elapsed(rt)?);
+        if loaded.is_err() || published.is_err() {
+            wrong = wrong.saturating_add(1);
+        }
+    }
+    print_time(
+        rt,
+        "publishes of one catalogue",
+        taken,
+        u64::from(PUBLISHES),
+        wrong,
+    )
+}
+
+/// The number that the first word says.
+fn messages_of(word: Option<String>) -> u32 {
+    let messages: Option<u32> = match word {
+        Some(word) => word.as_str().parse().ok(),
+        None => None,
+    };
+    messages.unwrap_or(500)
+}
+
+fn main(rt: HostRuntime) -> io::Result<()> {
+    let messages = messages_of(env::args(&rt)?.nth(1));
+    time_entries(&rt)?;
+    time_beside(&rt, 4)?;
+    time_beside(&rt, 16)?;
+    time_queries(&rt, messages)?;
+    time_publishes(&rt)
+}

@@ -1,0 +1,58 @@
+//! What the store is filled with, and asked for.
+use catalogue::Options;
+use live_set::{Ask, Query};
+use std::alloc::{AllocError, Global};
+
+pub const PLAIN: Options = Options {
+    checked: false,
+    use_fuzzy: false,
+};
+
+pub const LANGUAGES: u32 = 20;
+
+/// How many queries are made ready.
+const QUERIES: u32 = 100_000;
+
+/// The name of a language's locale.
+pub fn locale_of(alloc: Global, language: u32) -> Result<String, AllocError> {
+    format!(in alloc; "l{language}")
+}
+
+/// The text of a message in a language.
+pub fn translation_of(alloc: Global, language: &str, id: &str) -> Result<String, AllocError> {
+    format!(in alloc; "{id} in {language}")
+}
+
+/// The PO text of a language, with so many messages.
+pub fn po_text(alloc: Global, language: u32, messages: u32) -> Result<String, AllocError> {
+    let locale = locale_of(alloc, language)?;
+    let mut text = String::new(alloc);
+    'messages: for message in 0..messages {
+        let entry = format!(in alloc;
+            "msgid \"message {message}\"\nmsgstr \"message {message} in {locale}\"\n"
+        )?;
+        text.push_str(&entry)?;
+    }
+    Ok(text)
+}
+
+/// Queries for messages here and there, each in one of the languages.
+pub fn queries(alloc: Global, messages: u32) -> Result<Vec<Query>, AllocError> {
+    let mut all = Vec::new(alloc);
+    let mut state: u64 = 1;
+    'queries: for _ in 0..QUERIES {
+        state = state
+            .wrapping_mul(6_364_136_223_846_793_005)
+            .wrapping_add(1_442_695_040_888_963_407);
+        let message = (state >> 33) % u64::from(messages.max(1));
+        let language = (state >> 40) % u64::from(LANGUAGES);
+        all.push(Query {
+            domain: String::from_str(alloc, "app")?,
+            locale: format!(in alloc; "l{language}")?,
+            ask: Ask::Plain {
+                id: format!(in alloc; "message {message}")?,
+            },
+        })?;
+    }
+    Ok(all)
+}

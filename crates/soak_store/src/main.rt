@@ -1,0 +1,188 @@
+//! Four readers look up in a live store while two catalogues are replaced over and over, for as many
+//! seconds as the first word says (1 without a word). Each text is the number of its version, so that a
+//! reader sees whether an answer is of the version that it entered, and whether a version went back.
+#![tactic(auto)]
+
+use catalogue::Options;
+use live_versions::{Lookups, Publisher, Version, open_store};
+use std::alloc::AllocError;
+use std::rt::Clock;
+use std::sync::Wait;
+use std::sync::atomic::AtomicBool;
+use std::sync::atomic::Ordering::SeqCst;
+use std::thread::{Threads, join};
+use std::time::Instant;
+use std::{env, io};
+
+const PLAIN: Options = Options {
+    checked: false,
+    use_fuzzy: false,
+};
+
+/// What a reader counted.
+#[derive(Clone, Copy)]
+struct Counts {
+    entries: u64,
+    /// Entries whose version was below the one before.
+    fallen: u64,
+    /// Texts of another version than their entry's.
+    mixed: u64,
+    /// Calls that gave no entry.
+    closed: u64,
+}
+
+impl Counts {
+    fn and(self, other: Counts) -> Counts {
+        Counts {
+            entries: self.entries.saturating_add(other.entries),
+            fallen: self.fallen.saturating_add(other.fallen),
+            mixed: self.mixed.saturating_add(other.mixed),
+            closed: self.closed.saturating_add(other.closed),
+        }
+    }
+}
+
+/// The version that a text tells; 0 where it is a msgid.
+fn version_in(text: &str) -> Version {
+    let number: Option<u64> = text.parse().ok();
+    number.unwrap_or(0)
+}
+
+/// Enters until it is told to stop.
+fn read(reader: &mut Lookups, stop: &AtomicBool) -> Counts {
+    let mut counts = Counts {
+        entries: 0,
+        fallen: 0,
+        mixed: 0,
+        closed: 0,
+    };
+    let mut last = 0;
+    'turns: for _ in 0..u64::MAX {
+        if stop.load(SeqCst) {
+            break;
+        }
+        let Ok(pinned) = reader.enter() else {
+            counts.closed = counts.closed.saturating_add(1);
+            continue;
+        };
+        let version = pinned.version();
+        let shop = version_in(pinned.gettext("shop", "fr", "hi"));
+        let mail = version_in(pinned.gettext("mail", "fr", "hi"));
+        pinned.leave();
+        counts.entries = counts.entries.saturating_add(1);
+        if shop != version || mail != version {
+            counts.mixed = counts.mixed.saturating_add(1);
+        }
+        if version < last {
+            counts.fallen = counts.fallen.saturating_add(1);
+        }
+        last = version;
+    }
+    counts
+}
+
+/// Replaces both catalogues by ones that tell this version, in one publish.
+fn replace_both<R: Wait + AllocGlobal>(
+    rt: &R,
+    publisher: &mut Publisher,
+    version: Version,
+) -> Result<bool, AllocError> {
+    let text = format!(in rt.alloc(); "msgid \"hi\"\nmsgstr \"{version}\"\n")?;
+    let shop = publisher.load(rt.alloc(), "shop", "fr", text.as_bytes(), PLAIN);
+    let mail = publisher.load(rt.alloc(), "mail", "fr", text.as_bytes(), PLAIN);
+    let published = publisher.publish(rt);
+    Ok(shop.is_ok() && mail.is_ok() && published == Ok(version))
+}
+
+/// Publishes for so many seconds, and then tells the readers to stop. Answers how many publishes went wrong.
+fn publish<R: Wait + Clock + AllocGlobal>(
+    rt: &R,
+    publisher: &mut Publisher,
+    seconds: u64,
+    stop: &AtomicBool,
+) -> u64 {
+    let mut wrong: u64 = 0;
+    if let Ok(start) = Instant::now(rt) {
+        'turns: for turn in 1..1_000_000_000_u64 {
+            if replace_both(rt, publisher, 2 * turn) != Ok(true) {
+                wrong = wrong.saturating_add(1);
+            }
+            match start.elapsed(rt) {
+                Ok(elapsed) if elapsed.as_secs() < seconds => {}
+                _ => break,
+            }
+        }
+    }
+    stop.store(true, SeqCst);
+    wrong
+}
+
+fn run_all<R: Threads + Wait + Clock + AllocGlobal + Sync>(
+    rt: &R,
+    publisher: &mut Publisher,
+    pair: (&mut Lookups, &mut Lookups),
+    other: (&mut Lookups, &mut Lookups),
+    seconds: u64,
+) -> (u64, Counts) {
+    let stop = AtomicBool::new(false);
+    let (a, b) = pair;
+    let (c, d) = other;
+    let (wrong, ((a, b), (c, d))) = join(
+        rt,
+        || publish(rt, publisher, seconds, &stop),
+        || {
+            join(
+                rt,
+                || join(rt, || read(a, &stop), || read(b, &stop)),
+                || join(rt, || read(c, &stop), || read(d, &stop)),
+            )
+        },
+    );
+    (wrong, a.and(b).and(c).and(d))
+}
+
+/// The number of seconds that the first word says.
+fn seconds_of(word: Option<String>) -> u64 {
+    let seconds: Option<u64> = match word {
+        Some(word) => word.as_str().parse().ok(),
+        None => None,
+    };
+    seconds.unwrap_or(1)
+}
+
+fn main(rt: HostRuntime) -> io::Result<()> {
+    let seconds = seconds_of(env::args(&rt)?.nth(1));
+    let Ok((mut publisher, mut readers)) = open_store(&rt, rt.alloc(), 4, u64::MAX) else {
+        return println!(rt; "no store");
+    };
+    let found = match (readers.pop(), readers.pop(), readers.pop(), readers.pop()) {
+        (Some(mut a), Some(mut b), Some(mut c), Some(mut d)) => Some(run_all(
+            &rt,
+            &mut publisher,
+            (&mut a, &mut b),
+            (&mut c, &mut d),
+            seconds,
+        )),
+        _ => None,
+    };
+    let version = publisher.version();
+    publisher.end(&rt);
+    match found {
+        Some((wrong, counts)) => {
+            let Counts {
+                entries,
+                fallen,
+                mixed,
+                closed,
+            } = counts;
+            println!(rt;
+                "{wrong} wrong publishes, {fallen} versions fell, {mixed} mixed texts, {closed} without an entry"
+            )?;
+            eprintln!(rt;
+                "{seconds} s: {entries} entries beside {} publishes",
+                version / 2
+            )
+        }
+        None => println!(rt; "no readers"),
+    }
+}
