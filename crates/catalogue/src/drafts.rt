@@ -7,7 +7,7 @@ ghost use Rattle.catalogue.specs.Drafts.{comes_before, drafts_entries, header_te
 ghost use Rattle.catalogue.specs.Drafts as Drafts;
 
 use crate::entry::split_form;
-use crate::messages::LentStrings;
+use crate::messages::EntryStrings;
 use crate::writer::EntryList;
 use std::cmp::Ordering;
 
@@ -168,11 +168,11 @@ impl<'a> EntryList for Vec<Draft<'a>> {
         self.len()
     }
 
-    fn strings_at(&self, i: usize) -> LentStrings<'_> {
+    fn strings_at(&self, i: usize) -> EntryStrings<'_> {
         let draft = &self[i];
         match &draft.texts {
-            Some(texts) => LentStrings::new(draft.key, texts.plural, texts.translation),
-            None => LentStrings::new(draft.key, None, ""),
+            Some(texts) => EntryStrings::new(draft.key, texts.plural, texts.translation),
+            None => EntryStrings::new(draft.key, None, ""),
         }
     }
 }

@@ -51,15 +51,16 @@ fn rule_in(alloc: Global, image: &Image) -> Result<RuleRead, AllocError>
 }
 
 impl Catalogue {
-    ghost use Rattle.catalogue.specs.Stored.{entries_of};
-
     /// The catalogue of the entries that have these strings. They list a lawful map, in rising order of
     /// their keys' bytes. Answers AllocError where memory is refused.
-    pub fn from_strings(alloc: Global, messages: Vec<EntryStrings>) -> Result<Catalogue, AllocError>
-        requires { IsLawful (entries_of messages.items) }
-        ensures { IfOk result (λ catalogue. catalogue ≡ entries_of messages.items) }
+    pub fn from_strings(
+        alloc: Global,
+        strings: Vec<EntryStrings<'_>>,
+    ) -> Result<Catalogue, AllocError>
+        requires { IsLawful strings.items }
+        ensures { IfOk result (λ catalogue. catalogue ≡ strings.entry.items) }
     {
-        Catalogue::from_list(alloc, &messages)
+        Catalogue::from_list(alloc, &strings)
     }
 
     /// The catalogue of the entries of a list.
