@@ -1,5 +1,5 @@
 -- Messages that list a lawful map: texts, keys in order, the header, and the size of the file.
-use Rattle.std.proofs.Common.{◌≡◌, ◌≢◌, ◌↔◌, ℕ, zero, suc, ◌+◌, ◌-◌, ◌*◌, ◌^◌, ◌<◌, ◌≤◌, Bool, true, false, not, cond, eqb, min, max, List, [], ◌∷◌, ◌++◌, length, map, take, drop, get_or, Option, Some, None, Ordering, String, Global, refl, sym, ap, ◌∙◌, subst, arith, add-one, append_assoc, length-append}
+use Rattle.std.proofs.Common.{◌≡◌, ◌↔◌, ℕ, zero, suc, ◌+◌, ◌<◌, ◌≤◌, Bool, true, false, cond, min, max, List, [], ◌∷◌, ◌++◌, length, map, take, drop, get_or, Some, None, Ordering, String, Global, refl, sym, ap, ◌∙◌, subst, arith, add-one, append_assoc, length-append}
 use Rattle.std.specs.Prelude.{IsTrue, option_map, IfSome}
 use Rattle.std.specs.Bool.{MatchBool}
 use Rattle.std.specs.List.{AllByRecursion, AllWithin, HoldsAt, IsAllAdjacentAnswer, find, sum_by, join_with_byte}
@@ -10,10 +10,10 @@ use Rattle.std.specs.Cmp.Lexicographic.{slice_cmp}
 use Rattle.std.proofs.lemmas.Cmp.{nat_list_cmp_total}
 use Rattle.std.specs.Str.{bytes_eq}
 use Rattle.std.proofs.lemmas.Bool.{false≢true}
-use Rattle.std.proofs.lemmas.List.{take-append-drop, length-take-le, take_all, length-map}
+use Rattle.std.proofs.lemmas.List.{take-append-drop, length-take-le}
 use Rattle.std.proofs.lemmas.List.Concat.{flat_map-cons}
-use Rattle.std.proofs.lemmas.List.Sums.{sum_by-cons, sum_by_more}
-use Rattle.catalogue.specs.Entry.{Entry, key, original, translation, Lacks}
+use Rattle.std.proofs.lemmas.List.Sums.{sum_by-cons}
+use Rattle.catalogue.specs.Entry.{Entry, key, translation}
 use Rattle.catalogue.specs.Map.{Rises, first_form, header_text, HasAcceptedCharset}
 use Rattle.catalogue.specs.MoFile.{closed, pool, spelling}
 use Rattle.catalogue.specs.Messages.{message_entry, messages_of}

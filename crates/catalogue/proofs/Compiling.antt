@@ -12,7 +12,7 @@ use Rattle.po_text.proofs.Sizes.{gives_count}
 use Rattle.catalogue.specs.Findings.{IsFault}
 use Rattle.catalogue.specs.Map.{IsLawful, HasAcceptedCharset}
 use Rattle.catalogue.specs.Meaning.{Means, IsMapOf, Refuses, kept, kept_header, header_line_of, header_text_of, lacking, none_missing, HasDistinctKeys, IsDuplicateAt, IsForeignAt, NamesCharset}
-use Rattle.catalogue.specs.Stored.{entries_of}
+use Rattle.catalogue.specs.Entry.{Entry}
 use Rattle.catalogue.specs.Drafts.{Row, row, rows, kept_entry, comes_before, counts_as, header_text_in, is_kept_header, IsRepeat, FirstRepeat, IsFirstRepeat, HasCollected}
 use Rattle.catalogue.specs.declared.checks.Findings.{Findings}
 use Rattle.catalogue.specs.declared.compiler.Options.{Options}
@@ -22,7 +22,6 @@ use Rattle.catalogue.specs.declared.drafts.Draft.{Draft}
 use Rattle.catalogue.specs.declared.drafts.Standing.TheVariants.{Untranslated, Fuzzy, Translated}
 use Rattle.catalogue.specs.declared.fault.LoadFault.{LoadFault}
 use Rattle.catalogue.specs.declared.fault.LoadKind.TheVariants.{Duplicate, Charset}
-use Rattle.catalogue.specs.declared.messages.EntryStrings.{EntryStrings}
 use Rattle.catalogue.proofs.Collecting.{drafts_are}
 use Rattle.catalogue.proofs.Counting.{untranslated_count, fuzzy_count, translated_count, header_line_is}
 use Rattle.catalogue.proofs.Fitting.{fits}
@@ -113,8 +112,8 @@ failed text o before after found header line fault c s none h named checks =
     as_refusal text o c.entries fault.kind fault.line c.gives (first_is_check o c.entries fault.kind fault.line (distinct_keys text o before after found c s none) (header_accepted text o before found header line c h named)
     (checks c.entries c.found (header_text text o before found header line c h) (lines_are text o before found header line c h)))
 
-pub lawful_map : (text : List ℕ) (o : Options) (before after : List Draft) (found : Findings) (header : Option (Bor (List ℕ))) (line : ℕ) (ms : List EntryStrings) → HasCollected text o before found → Sorts before after → FirstRepeat (rows after) (length after) None → IsHeader before header line → NamesCharsets header → entries_of ms ≡ filter_map kept_entry (rows after) → IsLawful (entries_of ms)
-lawful_map text o before after found header line ms c s none h named kept_are =
+pub lawful_map : (text : List ℕ) (o : Options) (before after : List Draft) (found : Findings) (header : Option (Bor (List ℕ))) (line : ℕ) (m : List Entry) → HasCollected text o before found → Sorts before after → FirstRepeat (rows after) (length after) None → IsHeader before header line → NamesCharsets header → m ≡ filter_map kept_entry (rows after) → IsLawful (m)
+lawful_map text o before after found header line m c s none h named kept_are =
     let sorted = ordered text o before after found c s in
     let is = is_map o c.entries (rows after) sorted c.lawful (no_repeat after none) in
     subst IsLawful (sym kept_are) (record {
@@ -139,8 +138,8 @@ stats_eq s t a b c =
 abbrev pub Lacks : Options → Option (Bor (List ℕ)) → List Bool → Type 0
 Lacks o header missing = missing ≡ (if o.checked then lacking (option_map (λ text. text.now) header) else none_missing)
 
-pub compiles : (text : List ℕ) (o : Options) (before after : List Draft) (found : Findings) (header : Option (Bor (List ℕ))) (ms : List EntryStrings) (compiled : Compiled) → HasCollected text o before found → Sorts before after → FirstRepeat (rows after) (length after) None → IsHeader before header compiled.header_line → NamesCharsets header → IsFault found o (option_map (λ text. text.now) header) compiled.header_line None → entries_of ms ≡ filter_map kept_entry (rows after) → Counts before compiled.stats → compiled.catalogue ≡ entries_of ms → Lacks o header compiled.missing → Means text o compiled
-compiles text o before after found header ms compiled c s none h named checks kept_are counts catalogue_is missing_are =
+pub compiles : (text : List ℕ) (o : Options) (before after : List Draft) (found : Findings) (header : Option (Bor (List ℕ))) (m : List Entry) (compiled : Compiled) → HasCollected text o before found → Sorts before after → FirstRepeat (rows after) (length after) None → IsHeader before header compiled.header_line → NamesCharsets header → IsFault found o (option_map (λ text. text.now) header) compiled.header_line None → m ≡ filter_map kept_entry (rows after) → Counts before compiled.stats → compiled.catalogue ≡ m → Lacks o header compiled.missing → Means text o compiled
+compiles text o before after found header m compiled c s none h named checks kept_are counts catalogue_is missing_are =
     let sorted = ordered text o before after found c s in
     let line_is : compiled.header_line ≡ header_line_of o c.entries = lines_are text o before found header compiled.header_line c h in
     let text_is : option_map (λ text. text.now) header ≡ header_text_of o c.entries = header_text text o before found header compiled.header_line c h in

@@ -10,7 +10,7 @@ use Rattle.catalogue.specs.Map.{IsLawful}
 use Rattle.catalogue.specs.Messages.{message_entry, messages_of}
 use Rattle.catalogue.specs.Stored.{stored_entry, entries_of}
 use Rattle.catalogue.specs.Parts.{entry_from}
-use Rattle.catalogue.specs.declared.messages.EntryStrings.{EntryStrings}
+use Rattle.catalogue.specs.declared.messages.OwnedStrings.{OwnedStrings}
 use Rattle.catalogue.specs.declared.sorted.Message.{Message}
 use Rattle.catalogue.proofs.EntryParts.{entry_again}
 
@@ -18,17 +18,17 @@ pub form_at : (forms : List (String Global)) (k : ℕ) (form : String Global) (t
 form_at forms k form text at is = slice_get-map (λ s. string_bytes s) forms k ∙ ap (option_map (λ s. string_bytes s)) at ∙ ap Some (sym is)
 
 -- all messages are in these strings and in what is left
-pub record Lists (strings : List EntryStrings) (left all : List Message) : Type 0 where
+pub record Lists (strings : List OwnedStrings) (left all : List Message) : Type 0 where
   pub split : entries_of strings ++ messages_of left ≡ messages_of all
   pub lawful : AllByRecursion IsLawfulEntry (messages_of left)
 
-pub lists_none : (strings : List EntryStrings) (left all : List Message) → strings ≡ [] → left ≡ all → IsLawful (messages_of all) → Lists strings left all
+pub lists_none : (strings : List OwnedStrings) (left all : List Message) → strings ≡ [] → left ≡ all → IsLawful (messages_of all) → Lists strings left all
 lists_none strings left all none same lawful = record {
-  split = ap (λ (s : List EntryStrings). entries_of s ++ messages_of left) none ∙ ap messages_of same;
+  split = ap (λ (s : List OwnedStrings). entries_of s ++ messages_of left) none ∙ ap messages_of same;
   lawful = subst (λ (ms : List Message). AllByRecursion IsLawfulEntry (messages_of ms)) (sym same) lawful.each;
 }
 
-pub lists_more : (strings more : List EntryStrings) (left left' all : List Message) (m : Message) (s : EntryStrings) → Lists strings left all → left ≡ m ∷ left' → more ≡ strings ++ s ∷ []
+pub lists_more : (strings more : List OwnedStrings) (left left' all : List Message) (m : Message) (s : OwnedStrings) → Lists strings left all → left ≡ m ∷ left' → more ≡ strings ++ s ∷ []
     → stored_entry s ≡ entry_from (key (message_entry m)) (message_entry m).plural (translation (message_entry m)) → Lists more left' all
 lists_more strings more left left' all m s so_far next pushed is =
     let each : AllByRecursion IsLawfulEntry (messages_of (m ∷ left')) = subst (λ (ms : List Message). AllByRecursion IsLawfulEntry (messages_of ms)) next so_far.lawful in
@@ -39,5 +39,5 @@ lists_more strings more left left' all m s so_far next pushed is =
       lawful = each.1;
     }
 
-pub lists_all : (strings : List EntryStrings) (left all : List Message) → Lists strings left all → left ≡ [] → entries_of strings ≡ messages_of all
+pub lists_all : (strings : List OwnedStrings) (left all : List Message) → Lists strings left all → left ≡ [] → entries_of strings ≡ messages_of all
 lists_all strings left all so_far none = sym (append-nil (entries_of strings)) ∙ sym (ap (λ (ms : List Message). entries_of strings ++ messages_of ms) none) ∙ so_far.split

@@ -2,7 +2,7 @@
 use Rattle.std.proofs.Common.{◌≡◌, ℕ, zero, suc, ◌+◌, ◌<◌, ◌≤◌, List, [], ◌∷◌, ◌++◌, length, take, Some, cond, refl, sym, ap, ◌∙◌, arith, append_assoc}
 use Rattle.std.specs.Prelude.{slice_get, ◌==◌}
 use Rattle.std.specs.List.{join_with_byte}
-use Rattle.std.proofs.lemmas.List.{take_more, take_all, length-take-le}
+use Rattle.std.proofs.lemmas.List.{append-nil, take_more, take_all, length-take-le}
 use Rattle.catalogue.proofs.Lists.{differs}
 use Rattle.std.proofs.lemmas.Option.{get_or_from_slice_get, slice_get_within}
 
@@ -21,13 +21,19 @@ first_form : (forms : List (List ℕ)) (form : List ℕ) → slice_get forms 0 �
 first_form [] form at = absurd cc
 first_form (f ∷ forms) form at = let same : f ≡ form = cc in sym same
 
-pub joined_step : (forms : List (List ℕ)) (k : ℕ) (form before after : List ℕ) → slice_get forms k ≡ Some form → before ≡ join_with_byte 0 (take k forms) → after ≡ cond (k == 0) (before ++ form) (before ++ 0 ∷ form) → after ≡ join_with_byte 0 (take (k + 1) forms)
-joined_step forms zero form before after at so_far grown = grown ∙ ap (λ (t : List ℕ). t ++ form) so_far ∙ first_form forms form at
-joined_step forms (suc k) form before after at so_far grown =
+-- behind what stood there
+pub joined_none : (start : List ℕ) (forms : List (List ℕ)) → start ≡ start ++ join_with_byte 0 (take 0 forms)
+joined_none start forms = sym (append-nil start)
+
+pub joined_step : (forms : List (List ℕ)) (k : ℕ) (form start before after : List ℕ) → slice_get forms k ≡ Some form → before ≡ start ++ join_with_byte 0 (take k forms) → after ≡ cond (k == 0) (before ++ form) (before ++ 0 ∷ form) → after ≡ start ++ join_with_byte 0 (take (k + 1) forms)
+joined_step forms zero form start before after at so_far grown =
+    grown ∙ ap (λ (t : List ℕ). t ++ form) (so_far ∙ append-nil start) ∙ ap (λ (t : List ℕ). start ++ t) (first_form forms form at)
+joined_step forms (suc k) form start before after at so_far grown =
     let within : suc k < length forms = slice_get_within forms (suc k) form at in
     let long : 0 < length (take (suc k) forms) = omega (arith, length-take-le {A = List ℕ} (suc k) forms (omega (arith, within))) in
     let added : after ≡ before ++ (0 ∷ form) = grown ∙ rw (differs (suc k) 0 (λ e. omega (arith, e))) refl in
-    added ∙ ap (λ (t : List ℕ). t ++ (0 ∷ form)) so_far ∙ sym (snoc (take (suc k) forms) form long) ∙ ap (join_with_byte 0) (sym (one_more forms (suc k) form at))
+    added ∙ ap (λ (t : List ℕ). t ++ (0 ∷ form)) so_far ∙ append_assoc start (join_with_byte 0 (take (suc k) forms)) (0 ∷ form)
+    ∙ ap (λ (t : List ℕ). start ++ t) (sym (snoc (take (suc k) forms) form long) ∙ ap (join_with_byte 0) (sym (one_more forms (suc k) form at)))
 
-pub joined_all : (forms : List (List ℕ)) (k : ℕ) (text : List ℕ) → length forms ≤ k → text ≡ join_with_byte 0 (take k forms) → text ≡ join_with_byte 0 forms
-joined_all forms k text all so_far = so_far ∙ ap (join_with_byte 0) (take_all k forms all)
+pub joined_all : (forms : List (List ℕ)) (k : ℕ) (start text : List ℕ) → length forms ≤ k → text ≡ start ++ join_with_byte 0 (take k forms) → text ≡ start ++ join_with_byte 0 forms
+joined_all forms k start text all so_far = so_far ∙ ap (λ (fs : List (List ℕ)). start ++ join_with_byte 0 fs) (take_all k forms all)

@@ -13,6 +13,7 @@ pub mod Joining
 pub mod Listing
 pub mod Fitting
 pub mod Collecting
+pub mod Pooling
 pub mod Counting
 pub mod HeaderFound
 pub mod Compiling

@@ -105,7 +105,7 @@ separator_utf8 : IsUtf8 (4 ∷ [])
 unfolding lib.Utf8.encode
 separator_utf8 = (4 ∷ [], (refl, refl))
 
-key_utf8 : (context : Option (List ℕ)) (id : List ℕ) → IfSome context IsKeyText → IsKeyText id → IsUtf8 (key_bytes context id)
+pub key_utf8 : (context : Option (List ℕ)) (id : List ℕ) → IfSome context IsKeyText → IsKeyText id → IsUtf8 (key_bytes context id)
 key_utf8 None id c i = i.utf8
 key_utf8 (Some context) id c i = IsUtf8-append context (4 ∷ id) c.utf8 (byte_utf8 4 id separator_utf8 i.utf8)
 

@@ -6,7 +6,6 @@ use Rattle.std.specs.List.{slice_index_or, slice_split, find, AllByRecursion}
 use Rattle.std.specs.Ordering.{nat_cmp, ordering_then, is_lt}
 use Rattle.std.specs.declared.cmp.Ordering.{Ordering}
 use Rattle.std.specs.Cmp.Lexicographic.{slice_cmp}
-use Rattle.std.specs.String.{string_bytes}
 use Rattle.po_text.specs.Entries as po
 use Rattle.po_text.specs.Outcome.{Gives}
 use Rattle.catalogue.specs.Entry.{Entry, IsLawfulEntry, translation}
@@ -34,10 +33,10 @@ pub record Row : Type 0 where
   pub texts : Option Kept
 
 abbrev pub kept_texts : Texts → Kept
-kept_texts t = (option_map (λ s. string_bytes s) t.plural, string_bytes t.translation)
+kept_texts t = (option_map (λ s. s.now) t.plural, t.translation.now)
 
 abbrev pub row : Draft → Row
-row d = record { number = d.number; line = d.line; key = string_bytes d.key; standing = d.standing; texts = option_map (λ b. kept_texts b.value) d.texts }
+row d = record { number = d.number; line = d.line; key = d.key.now; standing = d.standing; texts = option_map kept_texts d.texts }
 
 abbrev pub rows : List Draft → List Row
 rows drafts = map row drafts
@@ -52,6 +51,10 @@ standing_of e =
     if is_untranslated e then Untranslated else
     if e.fuzzy then Fuzzy else Translated
 
+-- what is kept of an entry that is kept
+abbrev pub texts_if_kept : Options → po.Entry → Option Kept
+texts_if_kept options e = if is_kept options e then Some (texts_of e) else None
+
 -- the row of the entry with this number
 abbrev pub row_of : Options → ℕ → po.Entry → Row
 row_of options number e = record {
@@ -59,7 +62,7 @@ row_of options number e = record {
   line = e.line;
   key = key_of e;
   standing = standing_of e;
-  texts = (if is_kept options e then Some (texts_of e) else None);
+  texts = texts_if_kept options e;
 }
 
 -- the rows of entries, the first of which has this number
@@ -77,6 +80,17 @@ comes_before a b = is_lt (row_cmp (row a) (row b))
 -- what is kept of a row
 abbrev pub kept_entry : Row → Option Entry
 kept_entry r = option_map (λ t. entry_from r.key t.0 t.1) r.texts
+
+-- the entry of a row that is kept; else one with its key alone
+abbrev pub entry_with : List ℕ → Option Kept → Entry
+entry_with key None = entry_from key None []
+entry_with key (Some t) = entry_from key t.0 t.1
+
+abbrev pub draft_entry : Draft → Entry
+draft_entry d = entry_with d.key.now (option_map kept_texts d.texts)
+
+abbrev pub drafts_entries : List Draft → List Entry
+drafts_entries drafts = map draft_entry drafts
 
 -- the row behind i has the key of the one at i
 pub record IsRepeat (rs : List Row) (i : ℕ) : Type 0 where

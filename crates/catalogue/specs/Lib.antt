@@ -14,6 +14,7 @@ pub mod Checks
 pub mod Meaning
 pub mod Findings
 pub mod Drafts
+pub mod Pool
 pub mod Value
 pub mod Laws
 pub mod Sizes

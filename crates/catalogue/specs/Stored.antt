@@ -3,10 +3,10 @@ use Rattle.std.specs.Prelude.{List, map, option_map}
 use Rattle.std.specs.String.{string_bytes}
 use Rattle.catalogue.specs.Entry.{Entry}
 use Rattle.catalogue.specs.Parts.{entry_from}
-use Rattle.catalogue.specs.declared.messages.EntryStrings.{EntryStrings}
+use Rattle.catalogue.specs.declared.messages.OwnedStrings.{OwnedStrings}
 
-abbrev pub stored_entry : EntryStrings → Entry
+abbrev pub stored_entry : OwnedStrings → Entry
 stored_entry m = entry_from (string_bytes m.key) (option_map (λ s. string_bytes s) m.plural) (string_bytes m.translation)
 
-abbrev pub entries_of : List EntryStrings → List Entry
+abbrev pub entries_of : List OwnedStrings → List Entry
 entries_of messages = map stored_entry messages

@@ -1,19 +1,20 @@
 //! The entries of a text as drafts, in the order of the text.
-ghost use Rattle.std.specs.Prelude.{◌≡◌, ◌⊎◌, ℕ, List, IfOk, IfErr, OnOk, string_bytes, option_map, if◌then◌else◌, Some, None};
+ghost use Rattle.std.specs.Prelude.{◌≡◌, ◌⊎◌, ◌++◌, length, IfOk, IfErr, OnOk, string_bytes, option_map};
 ghost use Rattle.po_text.specs.Lawful.{IsLawfulTexts};
-ghost use Rattle.po_text.specs.Entries.{Entry as PoEntry};
 ghost use Rattle.catalogue.specs.Entry.{translation};
 ghost use Rattle.catalogue.specs.Meaning as Meaning;
 ghost use Rattle.catalogue.specs.Meaning.{message_of, Refuses};
 ghost use Rattle.catalogue.specs.Drafts as Drafts;
-ghost use Rattle.catalogue.specs.Drafts.{row, row_of, kept_texts, HasCollected};
+ghost use Rattle.catalogue.specs.Drafts.{row_of, texts_if_kept};
+ghost use Rattle.catalogue.specs.Pool.{bytes_if_kept, kept_bytes, kept_span, plural_bytes, span_of, stored, HasPooled};
 ghost use Rattle.catalogue.specs.declared.fault.LoadKind.TheVariants.{Memory};
 
 use crate::LoadFault;
 use crate::checks::Findings;
 use crate::compiler::Options;
-use crate::drafts::{Draft, Standing, Texts};
-use crate::joins::{joined_key, push_form};
+use crate::drafts::Standing;
+use crate::joins::{push_form, push_key};
+use crate::pool::{KeptSpan, Span};
 use po_text::{EntryBuffer, open_text};
 use std::alloc::{AllocError, Global};
 
@@ -53,106 +54,112 @@ fn standing_of(entry: &EntryBuffer) -> Standing
     }
 }
 
-/// The bytes of the entry's key.
-fn key_of(alloc: Global, entry: &EntryBuffer) -> Result<String, AllocError>
-    ensures { IfOk result (λ key. string_bytes key ≡ Meaning.key_of entry.now) }
+/// Adds the bytes of the entry's key, and says how many they are.
+fn add_key(texts: &mut String, entry: &EntryBuffer) -> Result<usize, AllocError>
+    ensures added { OnOk result (string_bytes texts.new ≡ string_bytes texts.old ++ Meaning.key_of entry.now) }
+    ensures len { IfOk result (λ len. len ≡ length (Meaning.key_of entry.now)) }
 {
-    joined_key(alloc, entry.context(), entry.id())
+    let start = texts.len();
+    push_key(texts, entry.context(), entry.id())?;
+    Ok(texts.len() - start)
 }
 
-/// The forms, with NUL between them.
-fn translation_of(alloc: Global, entry: &EntryBuffer) -> Result<String, AllocError>
-    ensures { IfOk result (λ text. string_bytes text ≡ translation (message_of entry.now)) }
-{
-    let mut text = String::new(alloc);
-    'forms: for k in 0..entry.form_count() {
-        push_form(&mut text, entry.form(k), k == 0)?;
-    }
-    Ok(text)
-}
-
-fn plural_of(alloc: Global, entry: &EntryBuffer) -> Result<Option<String>, AllocError>
-    ensures { IfOk result (λ plural. option_map (λ s. string_bytes s) plural ≡ entry.now.plural) }
+/// Adds the plural, and says how many bytes it has.
+fn add_plural(texts: &mut String, entry: &EntryBuffer) -> Result<Option<usize>, AllocError>
+    ensures added { OnOk result (string_bytes texts.new ≡ string_bytes texts.old ++ plural_bytes entry.now.plural) }
+    ensures len { IfOk result (λ len. len ≡ option_map length entry.now.plural) }
 {
     match entry.plural() {
         Some(plural) => {
-            let plural = String::from_str(alloc, plural)?;
-            Ok(Some(plural))
+            texts.push_str(plural)?;
+            Ok(Some(plural.len()))
         }
         None => Ok(None),
     }
 }
 
-/// What a catalogue keeps of an entry beside its key.
-fn texts_of(alloc: Global, entry: &EntryBuffer) -> Result<Texts, AllocError>
-    ensures { IfOk result (λ texts. kept_texts texts ≡ Drafts.texts_of entry.now) }
+/// Adds the forms, with NUL between them, and says how many bytes they are.
+fn add_forms(texts: &mut String, entry: &EntryBuffer) -> Result<usize, AllocError>
+    ensures added { OnOk result (string_bytes texts.new ≡ string_bytes texts.old ++ translation (message_of entry.now)) }
+    ensures len { IfOk result (λ len. len ≡ length (translation (message_of entry.now))) }
 {
-    let plural = plural_of(alloc, entry)?;
-    let translation = translation_of(alloc, entry)?;
-    Ok(Texts {
-        plural,
-        translation,
+    let start = texts.len();
+    'forms: for k in 0..entry.form_count() {
+        push_form(texts, entry.form(k), k == 0)?;
+    }
+    Ok(texts.len() - start)
+}
+
+/// Adds what a catalogue keeps of an entry beside its key, and says how long it is.
+fn add_kept(texts: &mut String, entry: &EntryBuffer) -> Result<KeptSpan, AllocError>
+    ensures added { OnOk result (string_bytes texts.new ≡ string_bytes texts.old ++ kept_bytes (Drafts.texts_of entry.now)) }
+    ensures span { IfOk result (λ span. span ≡ kept_span (Drafts.texts_of entry.now)) }
+{
+    Ok(KeptSpan {
+        plural: add_plural(texts, entry)?,
+        translation: add_forms(texts, entry)?,
     })
 }
 
 /// The same of an entry that is kept.
-fn texts_if_kept(
-    alloc: Global,
+fn add_if_kept(
+    texts: &mut String,
     entry: &EntryBuffer,
     options: Options,
-) -> Result<Option<Box<Texts>>, AllocError>
+) -> Result<Option<KeptSpan>, AllocError>
     ensures lawful { IsLawfulTexts entry.now }
-    ensures texts { IfOk result (λ texts. option_map (λ b. kept_texts b.value) texts ≡ (if Meaning.is_kept options entry.now then Some (Drafts.texts_of entry.now) else None)) }
+    ensures added { OnOk result (string_bytes texts.new ≡ string_bytes texts.old ++ bytes_if_kept (texts_if_kept options entry.now)) }
+    ensures span { IfOk result (λ span. span ≡ option_map kept_span (texts_if_kept options entry.now)) }
 {
     if !is_kept(entry, options) {
         return Ok(None);
     }
-    let texts = Box::new(alloc, texts_of(alloc, entry)?)?;
-    Ok(Some(texts))
+    let span = add_kept(texts, entry)?;
+    Ok(Some(span))
 }
 
-/// The draft of an entry before which so many stand in the text.
-fn draft_of(
-    alloc: Global,
-    entry: &EntryBuffer,
-    number: usize,
-    options: Options,
-) -> Result<Draft, AllocError>
-    ensures draft { IfOk result (λ draft. row draft ≡ row_of options number entry.now) }
+/// Adds the texts of an entry to the pool, and gives their span.
+fn add_entry(texts: &mut String, entry: &EntryBuffer, options: Options) -> Result<Span, AllocError>
     ensures lawful { OnOk result (IsLawfulTexts entry.now) }
+    ensures added { OnOk result (string_bytes texts.new ≡ string_bytes texts.old ++ stored (row_of options 0 entry.now)) }
+    ensures span { IfOk result (λ span. span ≡ span_of (row_of options 0 entry.now)) }
 {
-    let key = key_of(alloc, entry)?;
-    let texts = texts_if_kept(alloc, entry, options)?;
-    Ok(Draft {
-        key,
-        number,
+    Ok(Span {
+        key: add_key(texts, entry)?,
+        kept: add_if_kept(texts, entry, options)?,
         line: entry.line(),
         standing: standing_of(entry),
-        texts,
     })
 }
 
 /// What was read of a text.
 #[derive(Drop)]
 pub(crate) struct Collected {
-    /// The drafts of its entries, in its order.
-    pub(crate) drafts: Vec<Draft>,
+    /// The texts of its entries: the key of each, and behind it the plural and the forms of one that is kept.
+    pub(crate) texts: String,
+    /// Its entries, in its order.
+    pub(crate) spans: Vec<Span>,
     /// What the checks found.
     pub(crate) findings: Findings,
 }
 
 /// Reads the entries of a text.
 pub(crate) fn collect(alloc: Global, text: &[u8], options: Options) -> Result<Collected, LoadFault>
-    ensures ok { IfOk result (λ collected. HasCollected text.now options collected.drafts.items collected.findings) }
+    ensures ok { IfOk result (λ collected. HasPooled text.now options (string_bytes collected.texts) collected.spans.items collected.findings) }
     ensures err { IfErr result (λ fault. (fault.kind ≡ Memory) ⊎ Refuses text.now options fault.kind fault.line) }
 {
     let mut reader = open_text(alloc, text)?;
     let mut entry = EntryBuffer::new(alloc);
-    let mut drafts = Vec::new(alloc);
+    let mut texts = String::new(alloc);
+    let mut spans = Vec::new(alloc);
     let mut findings = Findings::new();
     'entries: while reader.next_entry(&mut entry)? {
-        drafts.push(draft_of(alloc, &entry, drafts.len(), options)?)?;
+        spans.push(add_entry(&mut texts, &entry, options)?)?;
         findings.look_at(alloc, &entry, options)?;
     }
-    Ok(Collected { drafts, findings })
+    Ok(Collected {
+        texts,
+        spans,
+        findings,
+    })
 }

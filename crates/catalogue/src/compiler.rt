@@ -8,6 +8,7 @@ ghost use Rattle.catalogue.specs.declared.fault.LoadKind.TheVariants.{Memory};
 
 use crate::collect::{Collected, collect};
 use crate::drafts::{Draft, Standing, count, first_repeat, header_line, header_text, keep, sort};
+use crate::pool::lend;
 use crate::{Catalogue, LoadFault, LoadKind};
 use po_header::{charset_accepted, charset_of, missing_fields};
 use std::alloc::Global;
@@ -44,7 +45,7 @@ pub struct Compiled {
 }
 
 /// How the entries count.
-fn stats_of(drafts: &[Draft]) -> Stats
+fn stats_of(drafts: &[Draft<'_>]) -> Stats
     requires { length drafts.now < 2 ^ 32 }
     ensures translated { result.translated ≡ count_by (λ d. counts_as Standing.Translated (row d)) drafts.now }
     ensures fuzzy { result.fuzzy ≡ count_by (λ d. counts_as Standing.Fuzzy (row d)) drafts.now }
@@ -100,9 +101,11 @@ pub fn compile(alloc: Global, text: &[u8], options: Options) -> Result<Compiled,
     ensures err { IfErr result (λ fault. (fault.kind ≡ Memory) ⊎ Refuses text.now options fault.kind fault.line) }
 {
     let Collected {
-        mut drafts,
+        texts,
+        spans,
         findings,
     } = collect(alloc, text, options)?;
+    let mut drafts = lend(alloc, texts.as_str(), spans)?;
     let stats = stats_of(&drafts);
     let header_line = header_line(&drafts);
     let header = header_text(&drafts);
@@ -125,8 +128,8 @@ pub fn compile(alloc: Global, text: &[u8], options: Options) -> Result<Compiled,
     if let Some(fault) = failed {
         return Err(fault);
     }
-    let messages = keep(alloc, drafts)?;
-    let catalogue = Catalogue::from_strings(alloc, messages)?;
+    keep(&mut drafts);
+    let catalogue = Catalogue::from_list(alloc, &drafts)?;
     Ok(Compiled {
         catalogue,
         stats,

@@ -4,7 +4,18 @@ ghost use Rattle.catalogue.specs.Entry.{key_bytes};
 
 use std::alloc::{AllocError, Global};
 
-/// The bytes of a key: the msgid, behind its context and byte 4 where it has one.
+/// Adds the bytes of a key: the msgid, behind its context and byte 4 where it has one.
+pub(crate) fn push_key(text: &mut String, context: Option<&str>, id: &str) -> Result<(), AllocError>
+    ensures { OnOk result (string_bytes text.new ≡ string_bytes text.old ++ key_bytes (option_map (λ c. c.now) context.entry) id.now) }
+{
+    if let Some(context) = context {
+        text.push_str(context)?;
+        text.push('\u{4}')?;
+    }
+    text.push_str(id)
+}
+
+/// The bytes of a key.
 pub(crate) fn joined_key(
     alloc: Global,
     context: Option<&str>,
@@ -12,13 +23,8 @@ pub(crate) fn joined_key(
 ) -> Result<String, AllocError>
     ensures { IfOk result (λ key. string_bytes key ≡ key_bytes (option_map (λ c. c.now) context.entry) id.now) }
 {
-    let Some(context) = context else {
-        return String::from_str(alloc, id);
-    };
-    let mut key = String::with_capacity(alloc, context.len() + 1 + id.len())?;
-    key.push_str(context)?;
-    key.push('\u{4}')?;
-    key.push_str(id)?;
+    let mut key = String::new(alloc);
+    push_key(&mut key, context, id)?;
     Ok(key)
 }
 

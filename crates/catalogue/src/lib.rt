@@ -19,6 +19,7 @@ mod law;
 mod lookup;
 mod map;
 mod messages;
+mod pool;
 mod sizes;
 mod sorted;
 mod step_count;

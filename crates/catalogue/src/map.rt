@@ -8,6 +8,7 @@ ghost use Rattle.catalogue.specs.Search.{AtMostDigits};
 ghost use Rattle.catalogue.specs.Value.{HasMapRule};
 
 use crate::image::Image;
+use crate::writer::EntryList;
 use crate::{EntryRef, EntryStrings, Steps};
 use po_header::{RuleRead, read_rule};
 use std::alloc::{AllocError, Global};
@@ -50,15 +51,24 @@ fn rule_in(alloc: Global, image: &Image) -> Result<RuleRead, AllocError>
 }
 
 impl Catalogue {
-    ghost use Rattle.catalogue.specs.Stored.{entries_of};
-
     /// The catalogue of the entries that have these strings. They list a lawful map, in rising order of
     /// their keys' bytes. Answers AllocError where memory is refused.
-    pub fn from_strings(alloc: Global, messages: Vec<EntryStrings>) -> Result<Catalogue, AllocError>
-        requires { IsLawful (entries_of messages.items) }
-        ensures { IfOk result (λ catalogue. catalogue ≡ entries_of messages.items) }
+    pub fn from_strings(
+        alloc: Global,
+        strings: Vec<EntryStrings<'_>>,
+    ) -> Result<Catalogue, AllocError>
+        requires { IsLawful strings.items }
+        ensures { IfOk result (λ catalogue. catalogue ≡ strings.entry.items) }
     {
-        let image = Image::spelled(alloc, &messages)?;
+        Catalogue::from_list(alloc, &strings)
+    }
+
+    /// The catalogue of the entries of a list.
+    pub(crate) fn from_list<L: EntryList>(alloc: Global, list: &L) -> Result<Catalogue, AllocError>
+        requires { IsLawful (L.entries list.now) }
+        ensures { IfOk result (λ catalogue. catalogue ≡ L.entries list.now) }
+    {
+        let image = Image::spelled(alloc, list)?;
         let rule = rule_in(alloc, &image)?;
         Ok(Catalogue { image, rule })
     }

@@ -5,8 +5,9 @@ ghost use Rattle.catalogue.specs.Entry.{key, translation};
 ghost use Rattle.catalogue.specs.Parts.{entry_from};
 ghost use Rattle.catalogue.specs.Stored.{stored_entry};
 
+use crate::Catalogue;
 use crate::joins::{joined_key, push_form};
-use crate::{Catalogue, EntryStrings};
+use crate::messages::OwnedStrings;
 use std::alloc::{AllocError, Global};
 
 /// A message, with texts of its own.
@@ -44,12 +45,12 @@ impl Message {
     }
 
     /// The strings of the message, as an MO file has them.
-    fn into_strings(self, alloc: Global) -> Result<EntryStrings, AllocError>
+    fn into_strings(self, alloc: Global) -> Result<OwnedStrings, AllocError>
         ensures { let e = message_entry self in IfOk result (λ strings. stored_entry strings ≡ entry_from (key e) e.plural (translation e)) }
     {
         let key = joined_key(alloc, self.context(), self.id.as_str())?;
         let translation = translation_of(alloc, self.forms.as_slice())?;
-        Ok(EntryStrings {
+        Ok(OwnedStrings {
             key,
             plural: self.plural,
             translation,
@@ -71,6 +72,6 @@ impl Catalogue {
         'messages: for message in messages {
             strings.push(message.into_strings(alloc)?)?;
         }
-        Catalogue::from_strings(alloc, strings)
+        Catalogue::from_list(alloc, &strings)
     }
 }

@@ -8,7 +8,7 @@ ghost use Rattle.catalogue.specs.Map.{IsLawful};
 ghost use Rattle.catalogue.specs.MoFile.{word, closed, pool, pairs, header, spelling};
 ghost use Rattle.catalogue.specs.Strings.{string_of, strings_of};
 
-use crate::messages::{EntryStrings, LentStrings};
+use crate::messages::{EntryStrings, OwnedStrings};
 use byteorder::{ByteOrder, LittleEndian};
 use std::alloc::{AllocError, Global};
 
@@ -30,12 +30,24 @@ pub(crate) trait EntryList {
         ensures { result ≡ length (entries self.now) };
 
     /// The strings of the i-th entry.
-    fn strings_at(&self, i: usize) -> LentStrings<'_>
+    fn strings_at(&self, i: usize) -> EntryStrings<'_>
         requires { i < length (entries self.now) }
         ensures { slice_get (entries self.now) i ≡ Some result };
 }
 
-impl EntryList for Vec<EntryStrings> {
+impl<'a> EntryList for Vec<EntryStrings<'a>> {
+    ghost entries = { λ strings. strings.items };
+
+    fn count(&self) -> usize {
+        self.len()
+    }
+
+    fn strings_at(&self, i: usize) -> EntryStrings<'_> {
+        self[i].again()
+    }
+}
+
+impl EntryList for Vec<OwnedStrings> {
     ghost use Rattle.catalogue.specs.Stored.{entries_of};
 
     ghost entries = { λ messages. entries_of messages.items };
@@ -44,7 +56,7 @@ impl EntryList for Vec<EntryStrings> {
         self.len()
     }
 
-    fn strings_at(&self, i: usize) -> LentStrings<'_> {
+    fn strings_at(&self, i: usize) -> EntryStrings<'_> {
         self[i].lend()
     }
 }
@@ -75,7 +87,7 @@ fn push_closed(out: &mut Vec<u8>, text: &str) -> Result<(), AllocError>
 }
 
 /// The original, closed: the key, and behind NUL the plural where there is one.
-fn push_original(out: &mut Vec<u8>, entry: &LentStrings<'_>) -> Result<(), AllocError>
+fn push_original(out: &mut Vec<u8>, entry: &EntryStrings<'_>) -> Result<(), AllocError>
     ensures { OnOk result (out.new.items ≡ out.old.items ++ closed (original entry.now)) }
 {
     push_closed(out, entry.key())?;
@@ -86,7 +98,7 @@ fn push_original(out: &mut Vec<u8>, entry: &LentStrings<'_>) -> Result<(), Alloc
 }
 
 /// The string of one side, closed.
-fn push_string(out: &mut Vec<u8>, side: Side, entry: &LentStrings<'_>) -> Result<(), AllocError>
+fn push_string(out: &mut Vec<u8>, side: Side, entry: &EntryStrings<'_>) -> Result<(), AllocError>
     ensures { OnOk result (out.new.items ≡ out.old.items ++ closed (string_of side entry.now)) }
 {
     match side {
@@ -96,7 +108,7 @@ fn push_string(out: &mut Vec<u8>, side: Side, entry: &LentStrings<'_>) -> Result
 }
 
 /// How many bytes the original has, without its closing NUL.
-fn original_len(entry: &LentStrings<'_>) -> usize
+fn original_len(entry: &EntryStrings<'_>) -> usize
     requires { length (original entry.now) < 2 ^ 32 }
     ensures { result ≡ length (original entry.now) }
 {
@@ -107,7 +119,7 @@ fn original_len(entry: &LentStrings<'_>) -> usize
 }
 
 /// How many bytes the string of one side has, without its closing NUL.
-fn string_len(side: Side, entry: &LentStrings<'_>) -> usize
+fn string_len(side: Side, entry: &EntryStrings<'_>) -> usize
     requires { length (string_of side entry.now) < 2 ^ 32 }
     ensures { result ≡ length (string_of side entry.now) }
 {

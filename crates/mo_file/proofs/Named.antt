@@ -7,9 +7,6 @@ use Rattle.std.specs.Ordering.{nat_cmp}
 use Rattle.std.specs.declared.cmp.Ordering.TheVariants.{Less}
 use Rattle.std.specs.Cmp.Lexicographic.{slice_cmp}
 use Rattle.catalogue.specs.Entry.{Entry, key, original, translation, IsLawfulEntry}
-use Rattle.std.proofs.lemmas.List.{map-append}
-use Rattle.catalogue.specs.Stored as stored
-use Rattle.catalogue.specs.declared.EntryStrings.{EntryStrings}
 use Rattle.catalogue.specs.Map.{Rises, first_form, entry_at, header_text, HasAcceptedCharset, IsLawful}
 use Rattle.catalogue.specs.MoFile.{file, spelling}
 use Rattle.mo_file.specs.Tables.{string_at, strings}
@@ -162,16 +159,14 @@ named_split number bytes o t n i lt =
     ap (λ (os : List (List ℕ)). entries_of os (strings number bytes (t + 8 * i) (n - i))) (strings_split number bytes o n i lt)
     ∙ ap (entries_of (string_at number bytes (o + 8 * i) ∷ strings number bytes (o + 8 * (i + 1)) (n - (i + 1)))) (strings_split number bytes t n i lt)
 
-pub one_more : (number : ℕ → List ℕ → ℕ) (bytes : List ℕ) (o t n i : ℕ) (xs ys : List EntryStrings) (e : EntryStrings) (all : List Entry) → i < n
-    → stored.stored_entry e ≡ entry_of (string_at number bytes (o + 8 * i)) (string_at number bytes (t + 8 * i)) → ys ≡ xs ++ e ∷ []
-    → stored.entries_of xs ++ named_rows number bytes (o + 8 * i) (t + 8 * i) (n - i) ≡ all
-    → stored.entries_of ys ++ named_rows number bytes (o + 8 * (i + 1)) (t + 8 * (i + 1)) (n - (i + 1)) ≡ all
+pub one_more : (number : ℕ → List ℕ → ℕ) (bytes : List ℕ) (o t n i : ℕ) (xs ys : List Entry) (e : Entry) (all : List Entry) → i < n
+    → e ≡ entry_of (string_at number bytes (o + 8 * i)) (string_at number bytes (t + 8 * i)) → ys ≡ xs ++ e ∷ []
+    → xs ++ named_rows number bytes (o + 8 * i) (t + 8 * i) (n - i) ≡ all
+    → ys ++ named_rows number bytes (o + 8 * (i + 1)) (t + 8 * (i + 1)) (n - (i + 1)) ≡ all
 one_more number bytes o t n i xs ys e all lt same grown so_far =
     let rest : List Entry = named_rows number bytes (o + 8 * (i + 1)) (t + 8 * (i + 1)) (n - (i + 1)) in
-    let before : List Entry = stored.entries_of xs in
-    ap (λ (zs : List EntryStrings). stored.entries_of zs ++ rest) grown ∙ ap (λ (z : List Entry). z ++ rest) (map-append stored.stored_entry xs (e ∷ []))
-    ∙ append_assoc before (stored.stored_entry e ∷ []) rest ∙ ap (λ (x : Entry). before ++ (x ∷ rest)) same
-    ∙ ap (λ (z : List Entry). before ++ z) (sym (named_split number bytes o t n i lt)) ∙ so_far
+    ap (λ (zs : List Entry). zs ++ rest) grown ∙ append_assoc xs (e ∷ []) rest ∙ ap (λ (x : Entry). xs ++ (x ∷ rest)) same
+    ∙ ap (λ (z : List Entry). xs ++ z) (sym (named_split number bytes o t n i lt)) ∙ so_far
 
 pub named_words : (number : ℕ → List ℕ → ℕ) (bytes : List ℕ) (o t n : ℕ) → o ≡ originals_table number bytes → t ≡ translations_table number bytes → n ≡ count number bytes
     → named_rows number bytes o t n ≡ named_in number bytes

@@ -1,7 +1,6 @@
 //! The reading of MO files.
-ghost use Rattle.std.specs.Prelude.{◌≡◌, ◌+◌, ◌^◌, ◌<◌, ◌≤◌, length, IfOk, IfErr, Some, option_map, string_bytes};
+ghost use Rattle.std.specs.Prelude.{◌≡◌, ◌+◌, ◌^◌, ◌<◌, ◌≤◌, length, IfOk, IfErr, Some, option_map};
 ghost use Rattle.std.specs.Str.{IsUtf8};
-ghost use Rattle.catalogue.specs.Stored as stored;
 ghost use Rattle.mo_file.specs.Tables.{string_at};
 ghost use Rattle.mo_file.specs.Reading.{before_nul, StringLies, TableLies, AreOriginalTexts, AreTranslationTexts, MeetsBelow, Mo, Refused};
 ghost use Rattle.mo_file.specs.Pairs.{plural_part, entry_of, named, named_in};
@@ -36,52 +35,33 @@ fn split_original(original: &str) -> (&str, Option<&str>)
     }
 }
 
-/// A text of its own, where there is one.
-fn owned(alloc: Global, text: Option<&str>) -> Result<Option<String>, AllocError>
-    ensures { IfOk result (λ s. option_map (λ t. string_bytes t) s ≡ option_map (λ t. t.now) text.entry) }
-{
-    match text {
-        Some(text) => Ok(Some(String::from_str(alloc, text)?)),
-        None => Ok(None),
-    }
-}
-
 /// The entry of an original and a translation.
-fn entry_strings(
-    alloc: Global,
-    original: &str,
-    translation: &str,
-) -> Result<EntryStrings, AllocError>
-    ensures { IfOk result (λ e. stored.stored_entry e ≡ entry_of original.now translation.now) }
+fn entry_strings<'a>(original: &'a str, translation: &'a str) -> EntryStrings<'a>
+    ensures { result ≡ entry_of original.now translation.now }
 {
     let (key, plural) = split_original(original);
-    Ok(EntryStrings {
-        key: String::from_str(alloc, key)?,
-        plural: owned(alloc, plural)?,
-        translation: String::from_str(alloc, translation)?,
-    })
+    EntryStrings::new(key, plural, translation)
 }
 
 /// The entries of two tables of n rows.
-fn entries<T: ByteOrder>(
+fn entries<'a, T: ByteOrder>(
     alloc: Global,
-    bytes: &[u8],
+    bytes: &'a [u8],
     originals: usize,
     translations: usize,
     n: usize,
-) -> Result<Vec<EntryStrings>, AllocError>
+) -> Result<Vec<EntryStrings<'a>>, AllocError>
     requires originals { TableLies T.number_of bytes.now originals n }
     requires translations { TableLies T.number_of bytes.now translations n }
     requires original_texts { AreOriginalTexts T.number_of bytes.now originals n }
     requires translation_texts { AreTranslationTexts T.number_of bytes.now translations n }
-    ensures { IfOk result (λ v. stored.entries_of v.items ≡ named T.number_of bytes.now originals translations n) }
+    ensures { IfOk result (λ v. v.items ≡ named T.number_of bytes.now originals translations n) }
 {
     let mut entries = Vec::with_capacity(alloc, n)?;
     for i in 0..n {
         let original = text::<T>(bytes, originals + ROW_LEN * i);
         let translation = text::<T>(bytes, translations + ROW_LEN * i);
-        let entry = entry_strings(alloc, original, translation)?;
-        entries.push(entry)?;
+        entries.push(entry_strings(original, translation))?;
     }
     Ok(entries)
 }

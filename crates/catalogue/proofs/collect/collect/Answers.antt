@@ -1,4 +1,4 @@
-use Rattle.std.proofs.Common.{inl, inr, ap, arith}
+use Rattle.std.proofs.Common.{inl, inr, ap}
 use Rattle.std.proofs.lemmas.Result.{err_from_is_err_and}
 use Rattle.po_text.specs.Outcome.{body}
 use Rattle.po_text.proofs.Outcomes.{faulty_refuses}
@@ -23,14 +23,14 @@ returns-in_err-next_entry-clause-err c =
     ])
 
 pub entries-init : goal.entries-init
-entries-init c = collects_none _ _ _ _ _ c.in_ok-reader.ensures.read c.new-drafts.ensures.items (c.new-findings.ensures c.args.options)
+entries-init c = collects_none _ _ _ _ _ _ c.in_ok-reader.ensures.read c.new-texts.ensures.bytes c.new-spans.ensures.items (c.new-findings.ensures c.args.options)
 
 pub entries-preserved : goal.entries-preserved
 entries-preserved c =
     let inv = c.entries.invariant in
-    collects_more c.args.text.now c.args.options _ _ c.entries.drafts.items _ c.entries.findings c.look_at.new.self _ c.next_entry.new.into c.len.result inv (rw c.if-branch.true at (c.in_ok-next_entry.ensures.read (body c.args.text.now) inv.entries inv.read)) (omega (arith, c.len.ensures, c.entries.drafts.ok.0)) c.in_ok-draft_of.ensures.draft c.in_ok-draft_of.ensures.lawful c.in_ok-push.ensures.items c.in_ok-look_at.ensures
+    collects_more c.args.text.now c.args.options _ _ _ _ c.entries.spans.items _ c.entries.findings c.look_at.new.self _ c.next_entry.new.into inv (rw c.if-branch.true at (c.in_ok-next_entry.ensures.read (body c.args.text.now) inv.entries inv.read)) c.in_ok-add_entry.ensures.lawful c.in_ok-add_entry.ensures.added c.in_ok-add_entry.ensures.span c.in_ok-push.ensures.items c.in_ok-look_at.ensures
 
 pub returns-clause-ok : goal.returns-clause-ok
 returns-clause-ok c =
     let inv = c.entries.invariant in
-    collects_all c.args.text.now c.args.options _ _ c.entries.drafts.items c.entries.findings c.next_entry.new.into c.in_ok-reader.ensures.readable inv (rw c.if-branch.false at (c.in_ok-next_entry.ensures.read (body c.args.text.now) inv.entries inv.read))
+    collects_all c.args.text.now c.args.options _ _ _ c.entries.spans.items c.entries.findings c.next_entry.new.into c.in_ok-reader.ensures.readable inv (rw c.if-branch.false at (c.in_ok-next_entry.ensures.read (body c.args.text.now) inv.entries inv.read))

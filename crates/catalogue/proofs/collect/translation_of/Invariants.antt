@@ -1,7 +1,0 @@
-use Rattle.std.proofs.Common.{◌≡◌, take}
-use Rattle.std.specs.String.{string_bytes}
-use Rattle.std.specs.List.{join_with_byte}
-use Rattle.catalogue.proofs.collect.translation_of.Given as goal
-
-abbrev pub invariant-forms : goal.invariant-forms
-invariant-forms l = string_bytes l.text ≡ join_with_byte 0 (take l.k l.entry.forms)

@@ -1,0 +1,17 @@
+use Rattle.std.proofs.Common.{Option, Some, ap, sym, ◌∙◌}
+use Rattle.std.specs.Prelude.{option_map}
+use Rattle.catalogue.specs.Entry.{Entry}
+use Rattle.catalogue.specs.Drafts.{kept_texts, draft_entry, entry_with}
+use Rattle.catalogue.specs.declared.drafts.Texts.{Texts}
+use Rattle.catalogue.proofs.Lists.{image_at}
+use Rattle.catalogue.proofs.drafts.VecDraftEntryList.strings_at.Goals as goal
+
+pub returns-in-Some : goal.returns-in-Some
+returns-in-Some c =
+    image_at draft_entry c.args.self.now.items c.args.i c.index-draft.result.now c.requires c.index-draft.ensures
+    ∙ ap (λ (e : Entry). Some e) (ap (λ (t : Option Texts). entry_with c.index-draft.result.now.key.now (option_map kept_texts t)) c.in-Some.is ∙ sym c.new.ensures)
+
+pub returns-in-None : goal.returns-in-None
+returns-in-None c =
+    image_at draft_entry c.args.self.now.items c.args.i c.index-draft.result.now c.requires c.index-draft.ensures
+    ∙ ap (λ (e : Entry). Some e) (ap (λ (t : Option Texts). entry_with c.index-draft.result.now.key.now (option_map kept_texts t)) c.in-None.is ∙ sym c.new-in-None.ensures)

@@ -1,0 +1,106 @@
+-- Private: the texts of the entries that were read, in one pool: those of one entry behind those of another.
+use Rattle.std.specs.Prelude.{◌≡◌, ℕ, ◌+◌, ◌≤◌, List, [], ◌∷◌, ◌++◌, length, map, take, drop, ⊤, Option, Some, None, option_map, IfSome}
+use Rattle.std.specs.List.{AllByRecursion, flat_map}
+use Rattle.std.specs.Str.{IsUtf8}
+use Rattle.po_text.specs.Entries as po
+use Rattle.po_text.specs.Outcome.{Gives}
+use Rattle.catalogue.specs.Drafts.{Kept, Row, rows_from, IsLawfulMessage}
+use Rattle.catalogue.specs.Findings.{HasFound}
+use Rattle.catalogue.specs.declared.checks.Findings.{Findings}
+use Rattle.catalogue.specs.declared.compiler.Options.{Options}
+use Rattle.catalogue.specs.declared.pool.KeptSpan.{KeptSpan}
+use Rattle.catalogue.specs.declared.pool.Span.{Span}
+
+-- ---- what the pool has of a row, and how long it is
+
+abbrev pub plural_bytes : Option (List ℕ) → List ℕ
+plural_bytes None = []
+plural_bytes (Some plural) = plural
+
+abbrev pub kept_bytes : Kept → List ℕ
+kept_bytes t = plural_bytes t.0 ++ t.1
+
+abbrev pub bytes_if_kept : Option Kept → List ℕ
+bytes_if_kept None = []
+bytes_if_kept (Some t) = kept_bytes t
+
+abbrev pub stored : Row → List ℕ
+stored r = r.key ++ bytes_if_kept r.texts
+
+abbrev pub kept_span : Kept → KeptSpan
+kept_span t = record { plural = option_map length t.0; translation = length t.1 }
+
+abbrev pub span_of : Row → Span
+span_of r = record { key = length r.key; kept = option_map kept_span r.texts; line = r.line; standing = r.standing }
+
+-- ---- the row that stands in front, by its span
+
+abbrev pub plural_size : Option ℕ → ℕ
+plural_size None = 0
+plural_size (Some n) = n
+
+abbrev pub kept_size : KeptSpan → ℕ
+kept_size k = plural_size k.plural + k.translation
+
+abbrev pub size_if_kept : Option KeptSpan → ℕ
+size_if_kept None = 0
+size_if_kept (Some k) = kept_size k
+
+abbrev pub size : Span → ℕ
+size s = s.key + size_if_kept s.kept
+
+abbrev pub plural_at : List ℕ → Option ℕ → Option (List ℕ)
+plural_at text plural = option_map (λ n. take n text) plural
+
+abbrev pub kept_at : List ℕ → KeptSpan → Kept
+kept_at text k = (plural_at text k.plural, take k.translation (drop (plural_size k.plural) text))
+
+abbrev pub row_at : ℕ → List ℕ → Span → Row
+row_at number text s = record {
+  number = number;
+  line = s.line;
+  key = take s.key text;
+  standing = s.standing;
+  texts = option_map (kept_at (drop s.key text)) s.kept;
+}
+
+abbrev pub rows_at : ℕ → List ℕ → List Span → List Row
+rows_at number text [] = []
+rows_at number text (s ∷ spans) = row_at number text s ∷ rows_at (number + 1) (drop (size s) text) spans
+
+-- ---- where texts may be cut
+
+-- so many bytes in front are a text
+pub record HoldsText (text : List ℕ) (n : ℕ) : Type 0 where
+  pub within : n ≤ length text
+  pub utf8 : IsUtf8 (take n text)
+
+abbrev pub HoldsPlural : List ℕ → Option ℕ → Type 0
+HoldsPlural text plural = IfSome plural (HoldsText text)
+
+pub record HoldsKept (text : List ℕ) (k : KeptSpan) : Type 0 where
+  pub plural : HoldsPlural text k.plural
+  pub translation : HoldsText (drop (plural_size k.plural) text) k.translation
+
+pub record Holds (text : List ℕ) (s : Span) : Type 0 where
+  pub key : HoldsText text s.key
+  pub kept : IfSome s.kept (HoldsKept (drop s.key text))
+
+abbrev pub HoldsAll : List ℕ → List Span → Type 0
+HoldsAll text [] = ⊤
+HoldsAll text (s ∷ spans) = Holds text s × HoldsAll (drop (size s) text) spans
+
+-- ---- the pool of a text
+
+-- the pool has these rows, and nothing else
+pub record IsPool (texts : List ℕ) (spans : List Span) (rs : List Row) : Type 0 where
+  pub texts_are : texts ≡ flat_map stored rs
+  pub spans_are : spans ≡ map span_of rs
+
+-- the pool and the findings are those of the entries that the text gives
+pub record HasPooled (text : List ℕ) (options : Options) (texts : List ℕ) (spans : List Span) (findings : Findings) : Type 0 where
+  pub entries : List po.Entry
+  pub gives : Gives text entries
+  pub pool : IsPool texts spans (rows_from options 0 entries)
+  pub lawful : AllByRecursion IsLawfulMessage entries
+  pub found : HasFound options entries findings

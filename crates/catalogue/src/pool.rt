@@ -1,0 +1,101 @@
+//! The texts of the entries that were read, in one pool: those of one entry behind those of another.
+ghost use Rattle.std.specs.Prelude.{◌≡◌, IfOk, drop, option_map};
+ghost use Rattle.catalogue.specs.Drafts.{kept_texts, row, rows};
+ghost use Rattle.catalogue.specs.Pool.{kept_at, kept_size, plural_at, plural_size, row_at, rows_at, size, Holds, HoldsAll, HoldsKept, HoldsPlural};
+
+use crate::drafts::{Draft, Standing, Texts};
+use std::alloc::{AllocError, Global};
+
+/// How long the texts are that are kept of an entry beside its key.
+#[derive(Clone, Copy)]
+pub(crate) struct KeptSpan {
+    pub(crate) plural: Option<usize>,
+    /// That of the forms, with NUL between them.
+    pub(crate) translation: usize,
+}
+
+/// How long the texts of an entry are, and how it stands in the text that was read.
+#[derive(Clone, Copy)]
+pub(crate) struct Span {
+    /// The number of bytes of its key.
+    pub(crate) key: usize,
+    /// None for an entry that isn't kept.
+    pub(crate) kept: Option<KeptSpan>,
+    pub(crate) line: u32,
+    pub(crate) standing: Standing,
+}
+
+/// The plural, if there is one, and what is behind it.
+fn lend_plural(texts: &str, plural: Option<usize>) -> (Option<&str>, &str)
+    requires { HoldsPlural texts.now plural }
+    ensures plural { option_map (λ text. text.now) result.0 ≡ plural_at texts.now plural }
+    ensures behind { result.1.now ≡ drop (plural_size plural) texts.now }
+{
+    match plural {
+        Some(len) => {
+            let (plural, behind) = texts.split_at(len);
+            (Some(plural), behind)
+        }
+        None => (None, texts),
+    }
+}
+
+/// What is kept beside the key, and what is behind it.
+fn lend_kept<'a>(texts: &'a str, span: &KeptSpan) -> (Texts<'a>, &'a str)
+    requires { HoldsKept texts.now span.now }
+    ensures kept { kept_texts result.0 ≡ kept_at texts.now span.now }
+    ensures behind { result.1.now ≡ drop (kept_size span.now) texts.now }
+{
+    let (plural, behind) = lend_plural(texts, span.plural);
+    let (translation, behind) = behind.split_at(span.translation);
+    (
+        Texts {
+            plural,
+            translation,
+        },
+        behind,
+    )
+}
+
+/// The entry in front, before which so many stand in the text, and what is behind it.
+fn lend_entry<'a>(texts: &'a str, number: usize, span: &Span) -> (Draft<'a>, &'a str)
+    requires { Holds texts.now span.now }
+    ensures draft { row result.0 ≡ row_at number texts.now span.now }
+    ensures behind { result.1.now ≡ drop (size span.now) texts.now }
+{
+    let (key, behind) = texts.split_at(span.key);
+    let (texts, behind) = match &span.kept {
+        Some(kept) => {
+            let (texts, behind) = lend_kept(behind, kept);
+            (Some(texts), behind)
+        }
+        None => (None, behind),
+    };
+    let draft = Draft {
+        key,
+        number,
+        line: span.line,
+        standing: span.standing,
+        texts,
+    };
+    (draft, behind)
+}
+
+/// The entries that have these spans, in their order, with their texts lent.
+pub(crate) fn lend<'a>(
+    alloc: Global,
+    texts: &'a str,
+    spans: Vec<Span>,
+) -> Result<Vec<Draft<'a>>, AllocError>
+    requires { HoldsAll texts.now spans.items }
+    ensures { IfOk result (λ drafts. rows drafts.items ≡ rows_at 0 texts.now spans.items) }
+{
+    let mut drafts = Vec::with_capacity(alloc, spans.len())?;
+    let mut rest = texts;
+    'spans: for number in 0..spans.len() {
+        let (draft, behind) = lend_entry(rest, number, &spans[number]);
+        drafts.push(draft)?;
+        rest = behind;
+    }
+    Ok(drafts)
+}
