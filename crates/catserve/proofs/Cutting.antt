@@ -1,14 +1,14 @@
 -- Where a list is cut: its pieces, and the parts of a line.
-use Rattle.std.proofs.Common.{◌≡◌, ◌≢◌, ◌∙◌, refl, sym, ap, ℕ, zero, suc, ◌+◌, ◌-◌, ◌<◌, ◌≤◌, Bool, true, false, cond, eqb, List, [], ◌∷◌, ◌++◌, length, get_or, take, drop, subst, arith, inl, inr, append_assoc, add-one, length-append, length-take}
+use Rattle.std.proofs.Common.{◌≡◌, ◌≢◌, ◌∙◌, refl, sym, ap, ℕ, suc, ◌+◌, ◌-◌, ◌<◌, Bool, true, false, List, [], ◌∷◌, ◌++◌, length, get_or, take, drop, subst, arith, inl, inr, append_assoc, add-one, length-append, length-take}
 use Rattle.std.proofs.Math.Seq.{take-length}
 use Rattle.std.proofs.lemmas.List.{append-nil, get_or_append_left, get_or-append_right, take-append-drop}
-use Rattle.std.specs.List.{onto_first, slice_split, position_or_len, before_first, after_first, concat}
+use Rattle.std.specs.List.{position_or_len, before_first, after_first}
 use Rattle.std.proofs.lemmas.Bool.{cases_Bool, eqb-true}
 use Rattle.std.proofs.lemmas.List.Splits.{slice_split_first, length-slice_split}
 use Rattle.std.proofs.lemmas.List.Sums.{split_at_first, fails_before_first, passes_at_first}
 use Rattle.std.specs.Str.{IsUtf8}
 use Rattle.std.proofs.lemmas.Str.{IsUtf8-drop, IsUtf8-nil, IsCharBoundary-after_ascii}
-use Rattle.catserve.specs.Lines.{pieces, is_line_end, is_tab, lines, without_end, fields}
+use Rattle.catserve.specs.Lines.{pieces, is_line_end, is_tab, fields}
 use Rattle.catserve.specs.Reading.{IsFirstLine}
 
 -- ---- pieces

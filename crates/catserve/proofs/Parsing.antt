@@ -1,15 +1,14 @@
 -- A script read line by line.
-use Rattle.std.proofs.Common.{◌≡◌, ◌≢◌, ◌∙◌, refl, sym, ap, subst, ℕ, zero, suc, ◌+◌, ◌<◌, ◌≤◌, Bool, true, false, List, [], ◌∷◌, ◌++◌, length, map, take, drop, fold, Option, Some, None, Result, Ok, Err, arith, append_assoc, add-one, length-append}
-use Rattle.std.specs.List.{concat, filter_map, onto_first}
+use Rattle.std.proofs.Common.{◌≡◌, ◌∙◌, refl, sym, ap, subst, ℕ, zero, suc, ◌+◌, ◌<◌, ◌≤◌, true, false, List, [], ◌∷◌, ◌++◌, length, map, drop, fold, Option, Some, None, Result, Ok, Err, arith, append_assoc, length-append}
+use Rattle.std.specs.List.{onto_first}
 use Rattle.std.specs.Str.{IsUtf8}
 use Rattle.std.proofs.lemmas.List.{append-nil}
 use Rattle.std.proofs.lemmas.Bool.{le-leb, lt-leb}
 use Rattle.catalogue.specs.declared.compiler.Options.{Options}
-use Rattle.catserve.specs.declared.field.Worker.{Worker}
 use Rattle.catserve.specs.declared.field.Worker.TheVariants.{First, Second}
-use Rattle.catserve.specs.Lines.{lines, pieces, without_end}
-use Rattle.catserve.specs.Commands.{Line, Blank, Loads, Asks, Goes, line_of}
-use Rattle.catserve.specs.Script.{Command, Load, Ask, Go, LoadText, RoundValue, round_of, rounds_of, rounds_in, is_go, Saying, Says, IsBad, saying, and_then, commands_from, script}
+use Rattle.catserve.specs.Lines.{lines, pieces}
+use Rattle.catserve.specs.Commands.{Line, Loads, line_of}
+use Rattle.catserve.specs.Script.{Command, Load, Ask, Go, RoundValue, round_of, rounds_of, rounds_in, is_go, Says, IsBad, saying, and_then, commands_from, script}
 use Rattle.catserve.specs.Gathering.{Gathered, empty_round, nothing, both, gathered, onto_open, all_rounds, going_on, TakesIn, HasParsed}
 use Rattle.catserve.specs.Reading.{IsFirstLine, TakesLines}
 

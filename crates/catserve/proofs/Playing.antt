@@ -1,7 +1,7 @@
 -- A round, step by step.
-use Rattle.std.proofs.Common.{◌≡◌, ◌∙◌, refl, sym, ap, subst, ℕ, ◌+◌, List, [], ◌∷◌, ◌++◌, length, append_assoc}
+use Rattle.std.proofs.Common.{◌≡◌, ◌∙◌, refl, sym, ap, subst, ℕ, List, [], ◌∷◌, ◌++◌, append_assoc}
 use Rattle.std.proofs.lemmas.List.{append-nil}
-use Rattle.std.specs.List.{AllZip, filter_map, flat_map}
+use Rattle.std.specs.List.{filter_map, flat_map}
 use Rattle.catalogue.specs.Meaning.{Refuses}
 use Rattle.catalogue.specs.declared.compiler.Stats.{Stats}
 use Rattle.catalogue.specs.declared.fault.LoadFault.{LoadFault}
@@ -11,8 +11,8 @@ use Rattle.live_versions.specs.Store.{StoreValue, Accepts, AreNames}
 use Rattle.live_versions.specs.Told.{FrontValue}
 use Rattle.catserve.specs.Script.{LoadText, RoundValue}
 use Rattle.catserve.specs.Output.{accepted_line, refused_line, version_line}
-use Rattle.catserve.specs.Meaning.{Outcome, Accepted, Refused, Unnamed, IsOutcome, outcome_line, accepted_load, Answers, Plays}
-use Rattle.catserve.specs.Running.{LoadsOne, LoadsAll, PlaysOne}
+use Rattle.catserve.specs.Meaning.{Outcome, Accepted, Refused, Unnamed, IsOutcome, outcome_line, accepted_load, Answers, PlaysAll}
+use Rattle.catserve.specs.Running.{LoadsOne, LoadsAll, PlaysOne, HasPlayed}
 use Rattle.catserve.proofs.Batching.{AllZip-snoc, flat_map-snoc, joined-append}
 
 pub accepts_one : (load : LoadText) (s s' : StoreValue) (stats : Stats) (before after : List ℕ) → Accepts s load.domain load.locale load.text load.options stats s' → after ≡ before ++ accepted_line stats → LoadsOne load s.pending s'.pending before after
@@ -78,3 +78,26 @@ plays_one round was loaded now version a b c d e one other none all front shown 
           ∙ ap (λ xs. xs ++ other) (append_assoc a (lines ++ version_is) one)
           ∙ append_assoc a (lines ++ version_is ++ one) other;
     }
+
+-- one more round
+pub plays_more : (rounds : List RoundValue) (round : RoundValue) (was now after : StoreValue) (output written : List ℕ) → HasPlayed rounds was now output → PlaysOne round now after output written → after.front.book ≡ now.front.book → HasPlayed (rounds ++ round ∷ []) was after written
+plays_more rounds round was now after output written played one same = record {
+  going = λ rest tail all.
+      let P : List RoundValue → Type 0 = λ rs. PlaysAll (joined was.front.batches) rs (written ++ tail) in
+      let Q : List ℕ → Type 0 = λ out. PlaysAll (joined was.front.batches) (rounds ++ round ∷ rest) out in
+      subst P (sym (append_assoc rounds (round ∷ []) rest))
+      (subst Q (sym (ap (λ xs. xs ++ tail) one.written ∙ append_assoc output one.output tail))
+      (played.going (round ∷ rest) (one.output ++ tail) (joined after.front.batches, one.output, tail, one.plays, all, refl)));
+  none_pending = one.none_pending;
+  book = same ∙ played.book;
+}
+
+-- all rounds
+pub plays_all : (rounds : List RoundValue) (was now : StoreValue) (output : List ℕ) → HasPlayed rounds was now output → PlaysAll (joined was.front.batches) rounds output
+plays_all rounds was now output played =
+    let P : List RoundValue → Type 0 = λ rs. PlaysAll (joined was.front.batches) rs (output ++ []) in
+    let Q : List ℕ → Type 0 = λ out. PlaysAll (joined was.front.batches) rounds out in
+    subst Q (append-nil output) (subst P (append-nil rounds) (played.going [] [] refl))
+
+pub plays_none : (was : StoreValue) → was.pending ≡ [] → HasPlayed [] was was []
+plays_none was none = record { going = λ rest tail all. all; none_pending = none; book = refl }

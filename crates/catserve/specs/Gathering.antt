@@ -1,9 +1,9 @@
 -- Private: how rounds are gathered from commands, one after another.
-use Rattle.std.specs.Prelude.{◌≡◌, ℕ, ◌+◌, ◌≤◌, Bool, true, false, if◌then◌else◌, List, [], ◌∷◌, ◌++◌, length, drop, fold, Option, Some, Result, Ok, Err}
+use Rattle.std.specs.Prelude.{◌≡◌, ℕ, ◌+◌, ◌≤◌, Bool, true, false, if◌then◌else◌, List, [], ◌∷◌, ◌++◌, length, drop, fold, Some, Result, Ok, Err}
 use Rattle.std.specs.Str.{IsUtf8}
 use Rattle.catserve.specs.Lines.{lines}
 use Rattle.catserve.specs.Commands.{Line}
-use Rattle.catserve.specs.Script.{Command, Load, Ask, Go, RoundValue, round_of, rounds_of, Saying, Says, IsBad, saying, commands_from, script}
+use Rattle.catserve.specs.Script.{Command, Load, Ask, Go, RoundValue, round_of, rounds_of, Says, saying, commands_from, script}
 
 -- the rounds that have ended, the open one, and whether something stands in it
 pub record Gathered : Type 0 where

@@ -4,13 +4,15 @@ use Rattle.std.specs.List.{AllZip, filter_map, flat_map}
 use Rattle.live_set.specs.Loads.{LoadValue}
 use Rattle.live_set.specs.Asks.{QueryValue, IsAnswer}
 use Rattle.catserve.specs.declared.fault.ScriptKind.{ScriptKind}
-use Rattle.catserve.specs.declared.fault.ScriptKind.TheVariants.{Closed, Memory}
+use Rattle.catserve.specs.declared.fault.ScriptKind.TheVariants.{ReadFault, WriteFault, NoPlace, Closed, Memory}
 use Rattle.live_versions.specs.Batches.{StartsWith, joined}
 use Rattle.live_versions.specs.Told.{FrontValue}
 use Rattle.catserve.specs.Output.{answer_line}
 use Rattle.live_versions.specs.Store.{StoreValue}
 use Rattle.catserve.specs.Script.{LoadText, RoundValue}
-use Rattle.catserve.specs.Meaning.{Answers, Outcome, IsOutcome, outcome_line, accepted_load, Plays}
+use Rattle.catserve.specs.Meaning.{Answers, Outcome, IsOutcome, outcome_line, accepted_load, Plays, PlaysAll}
+use Rattle.catserve.specs.Outcome.{IsRefused}
+use Rattle.catserve.specs.Run.{InputSeen, FailsToRead}
 
 -- the line of one answer was written
 pub record AnswersOne (loads : List LoadValue) (worker : ℕ) (query : QueryValue) (before after : List ℕ) : Type 0 where
@@ -54,3 +56,29 @@ pub record PlaysOne (round : RoundValue) (was now : StoreValue) (before after : 
   pub plays : Plays (joined was.front.batches) round (joined now.front.batches) output
   pub none_pending : now.pending ≡ []
   pub written : after ≡ before ++ output
+
+-- these rounds were played behind a store's loads: what comes behind them in a script goes on from here
+pub record HasPlayed (rounds : List RoundValue) (was now : StoreValue) (output : List ℕ) : Type 0 where
+  pub going : (rest : List RoundValue) (tail : List ℕ) → PlaysAll (joined now.front.batches) rest tail → PlaysAll (joined was.front.batches) (rounds ++ rest) (output ++ tail)
+  pub none_pending : now.pending ≡ []
+  pub book : now.front.book ≡ was.front.book
+
+-- the rounds of a script fail for these alone
+abbrev pub IsPlayFault : {T : Type 0} → Result T ScriptKind → Type 0
+IsPlayFault (Ok x) = ⊤
+IsPlayFault (Err NoPlace) = ⊤
+IsPlayFault (Err Closed) = ⊤
+IsPlayFault (Err Memory) = ⊤
+IsPlayFault (Err _) = ⊥
+
+-- why a script wasn't read
+abbrev pub EndsReading : InputSeen → InputSeen → ScriptKind → ℕ → Type 0
+EndsReading i i' ReadFault line = FailsToRead i i' × (line ≡ 0)
+EndsReading i i' Memory line = line ≡ 0
+EndsReading i i' _ line = ⊥
+
+-- why a script that was read has given no output
+abbrev pub EndsPlaying : List ℕ → ScriptKind → ℕ → Type 0
+EndsPlaying text ReadFault line = ⊥
+EndsPlaying text WriteFault line = ⊥
+EndsPlaying text kind line = IsRefused text kind line

@@ -13,9 +13,11 @@ mod output;
 mod parse;
 mod round;
 mod rounds;
+mod run;
 #[cfg(test)]
 mod tests;
 mod worker;
 
 pub use fault::{ScriptFault, ScriptKind};
 pub use parse::MOST_SCRIPT;
+pub use run::run_script;

@@ -1,8 +1,6 @@
-use Rattle.std.proofs.Common.{◌≡◌, ◌∙◌, ◌<◌, ◌++◌, ◌∷◌, [], ℕ, List, Option, None, Some, length, sym, ap, refl, arith}
-use Rattle.std.specs.Option.{option_map}
+use Rattle.std.proofs.Common.{◌≡◌, ◌∙◌, ◌++◌, ◌∷◌, [], None, Some, sym, ap, refl, arith}
 use Rattle.std.specs.String.{string_bytes}
 use Rattle.std.proofs.lemmas.Str.Pattern.{split_parts}
-use Rattle.catserve.specs.Fields.{unescaped}
 use Rattle.catserve.proofs.Cutting.{utf8_behind}
 use Rattle.catserve.proofs.Escapes.{reads_nothing, reads_more, reads_none, reads_all}
 use Rattle.catserve.proofs.field.read_text.Goals as goal

@@ -1,4 +1,4 @@
-use Rattle.std.proofs.Common.{◌≡◌, [], Some, None, arith, length, sym, ap}
+use Rattle.std.proofs.Common.{Some, None, arith, length, sym, ap}
 use Rattle.std.proofs.lemmas.Bool.{eqb-false}
 use Rattle.std.proofs.lemmas.Str.Pattern.{split_once_first}
 use Rattle.catserve.proofs.Cutting.{first_line, last_line}

@@ -1,4 +1,4 @@
-use Rattle.std.proofs.Common.{◌≡◌, ◌<◌, length, arith}
+use Rattle.std.proofs.Common.{arith}
 use Rattle.catserve.proofs.Taking.{too_few, takes_more}
 use Rattle.catserve.proofs.line.take_lines.Goals as goal
 

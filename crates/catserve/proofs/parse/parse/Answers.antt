@@ -1,4 +1,3 @@
-use Rattle.std.proofs.Common.{Some}
 use Rattle.catserve.specs.Views.{line_value}
 use Rattle.catserve.proofs.Parsing.{goes_on}
 use Rattle.catserve.proofs.parse.parse.Goals as goal

@@ -1,6 +1,6 @@
 use Rattle.std.proofs.Common.{[], ◌∷◌, refl}
 use Rattle.catserve.specs.Script.{Ask, Go}
-use Rattle.catserve.specs.Commands.{Blank, Loads, Asks, Goes}
+use Rattle.catserve.specs.Commands.{Blank, Asks, Goes}
 use Rattle.catserve.proofs.Parsing.{takes_none, takes_text}
 use Rattle.catserve.proofs.parse.take_in.Goals as goal
 

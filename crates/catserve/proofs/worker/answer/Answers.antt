@@ -1,4 +1,4 @@
-use Rattle.std.proofs.Common.{◌≡◌, ◌∙◌}
+use Rattle.std.proofs.Common.{◌∙◌}
 use Rattle.catserve.proofs.Batching.{starts_trans, answers_one}
 use Rattle.catserve.proofs.worker.answer.Goals as goal
 

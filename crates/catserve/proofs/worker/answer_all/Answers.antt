@@ -1,4 +1,4 @@
-use Rattle.std.proofs.Common.{◌≡◌, ◌∙◌, ◌+◌, ◌∷◌, [], ◌++◌, List, sym, ap, subst, take, get_or, arith}
+use Rattle.std.proofs.Common.{◌≡◌, ◌∙◌, ◌+◌, ◌∷◌, [], ◌++◌, List, sym, ap, subst, take, arith}
 use Rattle.std.proofs.lemmas.List.{take_more}
 use Rattle.live_set.specs.Asks.{QueryValue}
 use Rattle.live_versions.specs.Batches.{joined}

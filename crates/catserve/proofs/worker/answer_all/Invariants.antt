@@ -1,6 +1,4 @@
-use Rattle.std.proofs.Common.{◌≡◌, take}
-use Rattle.live_versions.specs.Batches.{StartsWith, joined}
-use Rattle.catserve.specs.Meaning.{Answers}
+use Rattle.std.proofs.Common.{take}
 use Rattle.catserve.specs.Running.{HasAnswered}
 use Rattle.catserve.proofs.worker.answer_all.Given as goal
 

@@ -1,0 +1,78 @@
+-- What a run of a script does to the reader and the writer that it is given.
+use Rattle.std.specs.Prelude.{◌≡◌, ◌⊎◌, ℕ, List, Option, IfSome, take, Result, Ok, Err}
+use Rattle.std.specs.Io.KnownBytes.{Appends, Consumes}
+use Rattle.devices.specs.Devices.{RisesBy}
+use Rattle.catserve.specs.declared.fault.ScriptFault.{ScriptFault}
+use Rattle.catserve.specs.declared.fault.ScriptKind.{ScriptKind}
+use Rattle.catserve.specs.declared.fault.ScriptKind.TheVariants.{TooLarge, NotUtf8, BadLine, ReadFault, WriteFault}
+use Rattle.catserve.specs.Outcome.{IsRefused}
+use Rattle.catserve.specs.Meaning.{HasOutput}
+
+-- what is known of a reader: the bytes still to be read, where they are told, and the counts of reads and failures
+pub record InputSeen : Type 0 where
+  pub left : Option (List ℕ)
+  pub reads : ℕ
+  pub failures : ℕ
+
+-- what is known of a writer: the bytes that were written, where they are told, and the count of failures
+pub record OutputSeen : Type 0 where
+  pub bytes : Option (List ℕ)
+  pub failures : ℕ
+
+-- each as it stands, by what its type tells of it
+abbrev pub input_seen : {R : Type 0} → (R → Option (List ℕ)) → (R → ℕ) → (R → ℕ) → R → InputSeen
+input_seen remaining reads failures reader = record { left = remaining reader; reads = reads reader; failures = failures reader }
+
+abbrev pub output_seen : {W : Type 0} → (W → Option (List ℕ)) → (W → ℕ) → W → OutputSeen
+output_seen contents failures writer = record { bytes = contents writer; failures = failures writer }
+
+-- the text was read: all that was left, or the first 67,108,865 bytes where there are more
+pub record ReadsText (i i' : InputSeen) (text : List ℕ) : Type 0 where
+  pub front : IfSome i.left (λ bytes. text ≡ take 67108865 bytes)
+  pub consumed : Consumes i.left i'.left text
+
+-- a read failed, or the bound on the reads was reached
+abbrev pub FailsToRead : InputSeen → InputSeen → Type 0
+FailsToRead i i' = RisesBy 1 i.failures i'.failures ⊎ RisesBy 134217728 i.reads i'.reads
+
+-- the text that was read has an output, and just that was written
+pub record WritesOutput (i i' : InputSeen) (o o' : OutputSeen) : Type 0 where
+  pub text : List ℕ
+  pub read : ReadsText i i' text
+  pub output : List ℕ
+  pub is : HasOutput text output
+  pub written : Appends o.bytes o'.bytes output
+
+-- the text that was read is refused for this, at this line, and nothing was written
+pub record RefusesText (i i' : InputSeen) (o o' : OutputSeen) (kind : ScriptKind) (line : ℕ) : Type 0 where
+  pub text : List ℕ
+  pub read : ReadsText i i' text
+  pub refused : IsRefused text kind line
+  pub unwritten : o' ≡ o
+
+-- the script can't be read, and nothing was written
+pub record IsUnreadable (i i' : InputSeen) (o o' : OutputSeen) : Type 0 where
+  pub failed : FailsToRead i i'
+  pub unwritten : o' ≡ o
+
+-- the text that was read has an output, which can't be written
+pub record IsUnwritable (i i' : InputSeen) (o o' : OutputSeen) : Type 0 where
+  pub text : List ℕ
+  pub read : ReadsText i i' text
+  pub output : List ℕ
+  pub is : HasOutput text output
+  pub failed : RisesBy 1 o.failures o'.failures
+
+-- a run fails for this, at this line; after want of memory, of a thread or of a store nothing was written either
+abbrev pub Fails : InputSeen → InputSeen → OutputSeen → OutputSeen → ScriptKind → ℕ → Type 0
+Fails i i' o o' TooLarge line = RefusesText i i' o o' TooLarge line
+Fails i i' o o' NotUtf8 line = RefusesText i i' o o' NotUtf8 line
+Fails i i' o o' BadLine line = RefusesText i i' o o' BadLine line
+Fails i i' o o' ReadFault line = IsUnreadable i i' o o' × (line ≡ 0)
+Fails i i' o o' WriteFault line = IsUnwritable i i' o o' × (line ≡ 0)
+Fails i i' o o' kind line = (o' ≡ o) × (line ≡ 0)
+
+-- what a run did, by its answer
+abbrev pub Runs : {T : Type 0} → InputSeen → InputSeen → OutputSeen → OutputSeen → Result T ScriptFault → Type 0
+Runs i i' o o' (Ok _) = WritesOutput i i' o o'
+Runs i i' o o' (Err fault) = Fails i i' o o' fault.kind fault.line

@@ -1,0 +1,125 @@
+//! A run of a script over a reader and a writer.
+ghost use Rattle.std.specs.Prelude.{◌≡◌, [], All, IfOk, IfErr, vec_len};
+ghost use Rattle.live_versions.specs.Batches.{joined};
+ghost use Rattle.catserve.specs.Meaning.{HasOutput, PlaysAll};
+ghost use Rattle.catserve.specs.Run.{ReadsText, Runs, input_seen, output_seen};
+ghost use Rattle.catserve.specs.Running.{EndsPlaying, EndsReading, IsPlayFault};
+
+use crate::fault::{ScriptFault, ScriptKind};
+use crate::parse::{MOST_SCRIPT, read_script};
+use crate::round::play;
+use crate::rounds::Round;
+use devices::{InputFault, Sink, Source, read_all};
+use live_versions::{Lookups, OpenFault, Publisher, open_store};
+use std::alloc::Global;
+use std::sync::Wait;
+use std::thread::Threads;
+
+/// The output of some rounds, by a publisher and two readers of its store.
+fn play_rounds<T: Threads + Wait>(
+    rt: &T,
+    alloc: Global,
+    publisher: &mut Publisher,
+    first: &mut Lookups,
+    second: &mut Lookups,
+    rounds: &[Round<'_>],
+) -> Result<Vec<u8>, ScriptKind>
+    requires pending { publisher.old.pending ≡ [] }
+    requires books { (first.old.book ≡ publisher.old.front.book) × (second.old.book ≡ publisher.old.front.book) }
+    ensures ok { IfOk result (λ output. PlaysAll (joined publisher.old.front.batches) rounds.now output.items) }
+    ensures fault { IsPlayFault result }
+{
+    let mut output = Vec::new(alloc);
+    'rounds: for round in rounds {
+        play(rt, alloc, publisher, first, second, round, &mut output)?;
+    }
+    Ok(output)
+}
+
+/// The output of some rounds, by a publisher and its two readers.
+fn play_by<T: Threads + Wait>(
+    rt: &T,
+    alloc: Global,
+    publisher: &mut Publisher,
+    readers: Vec<Lookups>,
+    rounds: &[Round<'_>],
+) -> Result<Vec<u8>, ScriptKind>
+    requires pending { publisher.old.pending ≡ [] }
+    requires readers { All (λ l. l ≡ publisher.old.front) readers.items }
+    ensures ok { IfOk result (λ output. PlaysAll (joined publisher.old.front.batches) rounds.now output.items) }
+    ensures fault { IsPlayFault result }
+{
+    let mut readers = readers;
+    let (Some(mut second), Some(mut first)) = (readers.pop(), readers.pop()) else {
+        return Err(ScriptKind::NoPlace);
+    };
+    play_rounds(rt, alloc, publisher, &mut first, &mut second, rounds)
+}
+
+/// The output of a script's rounds, by a store of its own.
+fn play_all<T: Threads + Wait>(
+    rt: &T,
+    alloc: Global,
+    rounds: &[Round<'_>],
+) -> Result<Vec<u8>, ScriptKind>
+    ensures ok { IfOk result (λ output. PlaysAll [] rounds.now output.items) }
+    ensures fault { IsPlayFault result }
+{
+    match open_store(rt, alloc, 2, u64::MAX) {
+        Ok((mut publisher, readers)) => {
+            let output = play_by(rt, alloc, &mut publisher, readers, rounds);
+            publisher.end(rt);
+            output
+        }
+        Err(OpenFault::Memory) => Err(ScriptKind::Memory),
+        Err(_) => Err(ScriptKind::NoPlace),
+    }
+}
+
+/// The output of a text that is a script.
+fn output_of<T: Threads + Wait>(rt: &T, alloc: Global, text: &[u8]) -> Result<Vec<u8>, ScriptFault>
+    ensures ok { IfOk result (λ output. HasOutput text.now output.items) }
+    ensures fault { IfErr result (λ fault. EndsPlaying text.now fault.kind fault.line) }
+{
+    let rounds = read_script(alloc, text)?;
+    match play_all(rt, alloc, rounds.as_slice()) {
+        Ok(output) => Ok(output),
+        Err(kind) => Err(ScriptFault::from(kind)),
+    }
+}
+
+/// The text of a script: at most one byte more than it may have.
+fn read_text<R: Source>(alloc: Global, reader: &mut R) -> Result<Vec<u8>, ScriptFault>
+    ensures ok { let input = input_seen R.remaining R.reads R.failures in
+        IfOk result (λ text. ReadsText (input reader.old) (input reader.new) text.items) }
+    ensures fault { let input = input_seen R.remaining R.reads R.failures in
+        IfErr result (λ fault. EndsReading (input reader.old) (input reader.new) fault.kind fault.line) }
+{
+    match read_all(alloc, reader, MOST_SCRIPT + 1) {
+        Ok(text) => Ok(text),
+        Err(InputFault::Unreadable) => Err(ScriptFault::from(ScriptKind::ReadFault)),
+        Err(InputFault::Memory) => Err(ScriptFault::from(ScriptKind::Memory)),
+    }
+}
+
+/// Reads a script whole, runs it by a store of its own with two readers, and writes its output at the end.
+///
+/// Each round's loads are made and published, and then two workers, each in a thread of its own, answer what
+/// the round asks them. At most 67,108,865 bytes are read, in at most 134,217,728 reads. After every fault but
+/// `WriteFault` nothing was written; what a failed write left is open.
+pub fn run_script<T: Threads + Wait, R: Source, W: Sink>(
+    rt: &T,
+    alloc: Global,
+    reader: &mut R,
+    writer: &mut W,
+) -> Result<(), ScriptFault>
+    ensures { let input = input_seen R.remaining R.reads R.failures in let output = output_seen W.contents W.failures in
+        Runs (input reader.old) (input reader.new) (output writer.old) (output writer.new) result }
+{
+    let text = read_text(alloc, reader)?;
+    let output = output_of(rt, alloc, text.as_slice())?;
+    match writer.write_all(output.as_slice()) {
+        Ok(()) => Ok(()),
+        Err(_) => Err(ScriptFault::from(ScriptKind::WriteFault)),
+    }
+}
