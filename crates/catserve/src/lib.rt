@@ -16,6 +16,8 @@ mod rounds;
 mod run;
 #[cfg(test)]
 mod tests;
+#[cfg(test)]
+mod tests_run;
 mod worker;
 
 pub use fault::{ScriptFault, ScriptKind};
