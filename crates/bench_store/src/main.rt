@@ -1,6 +1,6 @@
 //! Times a live store: entries, alone and of many readers beside a publisher; queries in one thread and in
 //! four; publishes beside many catalogues. The first word says how many messages each of 20 languages has
-//! (500 without a word). Standard output has what went wrong, the same each time; standard error has the
+//! (500 without a word), the second how often is published (100). Standard output has what went wrong, the same each time; standard error has the
 //! times by the clock.
 #![tactic(auto)]
 
@@ -23,7 +23,7 @@ use std::{env, io};
 /// How many entries one reader makes.
 const ENTRIES: u32 = 1_000_000;
 
-/// How many loads are published beside the readers, each by itself, a thousandth of a second apart.
+/// How many publishes of one catalogue are timed.
 const PUBLISHES: u32 = 1_000;
 
 /// How many catalogues lie beside the one that is published.
@@ -57,15 +57,17 @@ fn replace<R: Wait + AllocGlobal>(
     loaded.is_ok() && published.is_ok()
 }
 
-/// Publishes a thousand times a second, and then says that it is done. Answers how many publishes failed.
+/// Publishes so many times, a thousandth of a second apart, and then says that it is done. Answers how many
+/// publishes failed.
 fn publish_many<R: Wait + Clock + AllocGlobal>(
     rt: &R,
     publisher: &mut Publisher,
     text: &str,
+    publishes: u32,
     done: &AtomicBool,
 ) -> u64 {
     let mut wrong: u64 = 0;
-    'turns: for _ in 0..PUBLISHES {
+    'turns: for _ in 0..publishes {
         if !replace(rt, publisher, "fr", text) {
             wrong = wrong.saturating_add(1);
         }
@@ -104,12 +106,13 @@ fn time_reader<R: Print + Eprint + Clock>(rt: &R, reader: &mut Lookups) -> io::R
 fn time_beside<R: Print + Eprint + Clock + Threads + Wait + AllocGlobal + Sync>(
     rt: &R,
     count: u32,
+    publishes: u32,
 ) -> io::Result<()> {
     let Ok((mut publisher, readers)) = open_store(rt, rt.alloc(), count, u64::MAX) else {
         return println!(rt; "no store");
     };
     let done = match po_text(rt.alloc(), 0, 100) {
-        Ok(text) => run_beside(rt, &mut publisher, readers, &text),
+        Ok(text) => run_beside(rt, &mut publisher, readers, &text, publishes),
         Err(_) => println!(rt; "out of memory"),
     };
     publisher.end(rt);
@@ -121,6 +124,7 @@ fn run_beside<R: Print + Eprint + Clock + Threads + Wait + AllocGlobal + Sync>(
     publisher: &mut Publisher,
     readers: Vec<Lookups>,
     text: &str,
+    publishes: u32,
 ) -> io::Result<()> {
     let count = readers.len();
     let done = AtomicBool::new(false);
@@ -132,7 +136,7 @@ fn run_beside<R: Print + Eprint + Clock + Threads + Wait + AllocGlobal + Sync>(
             readers,
             &|mut reader: Lookups| enter_until(&mut reader, &done),
         ),
-        || publish_many(rt, publisher, text, &done),
+        || publish_many(rt, publisher, text, publishes, &done),
     );
     let taken = start.elapsed(rt)?;
     let Ok(found) = found else {
@@ -145,7 +149,7 @@ fn run_beside<R: Print + Eprint + Clock + Threads + Wait + AllocGlobal + Sync>(
     }
     println!(rt; "entries, {count} readers beside a publisher: {wrong} wrong")?;
     eprintln!(rt;
-        "entries, {count} readers beside {PUBLISHES} publishes: {entries} in {} ms",
+        "entries, {count} readers beside {publishes} publishes: {entries} in {} ms",
         taken.as_millis()
     )
 }
@@ -281,20 +285,21 @@ fn run_publishes<R: Print + Eprint + Clock + Wait + AllocGlobal>(
     )
 }
 
-/// The number that the first word says.
-fn messages_of(word: Option<String>) -> u32 {
-    let messages: Option<u32> = match word {
+/// The number that a word says, or another one where it says none.
+fn number_of(word: Option<String>, otherwise: u32) -> u32 {
+    let number: Option<u32> = match word {
         Some(word) => word.as_str().parse().ok(),
         None => None,
     };
-    messages.unwrap_or(500)
+    number.unwrap_or(otherwise)
 }
 
 fn main(rt: HostRuntime) -> io::Result<()> {
-    let messages = messages_of(env::args(&rt)?.nth(1));
+    let messages = number_of(env::args(&rt)?.nth(1), 500);
+    let publishes = number_of(env::args(&rt)?.nth(2), 100);
     time_entries(&rt)?;
-    time_beside(&rt, 4)?;
-    time_beside(&rt, 16)?;
+    time_beside(&rt, 4, publishes)?;
+    time_beside(&rt, 16, publishes)?;
     time_queries(&rt, messages)?;
     time_publishes(&rt)
 }

@@ -34,7 +34,9 @@ fn load<R: Print + AllocGlobal>(
     publisher: &mut Publisher,
     locale: &str,
     text: &str,
-) -> io::Result<()> {
+) -> io::Result<()>
+    ensures { publisher.new.front.book ≡ publisher.old.front.book }
+{
     match publisher.load(rt.alloc(), "app", locale, text.as_bytes(), PLAIN) {
         Ok(stats) => println!(rt; "load {locale}: {} translated", stats.translated)?,
         Err(StoreFault::Refused(LoadFault { kind, line })) => {
@@ -45,7 +47,9 @@ fn load<R: Print + AllocGlobal>(
     print_state(rt, publisher)
 }
 
-fn publish<R: Wait + Print>(rt: &R, publisher: &mut Publisher) -> io::Result<()> {
+fn publish<R: Wait + Print>(rt: &R, publisher: &mut Publisher) -> io::Result<()>
+    ensures { publisher.new.front.book ≡ publisher.old.front.book }
+{
     match publisher.publish(rt) {
         Ok(version) => println!(rt; "publish: {version}")?,
         Err(fault) => println!(rt; "publish: {fault:?}")?,
@@ -54,7 +58,9 @@ fn publish<R: Wait + Print>(rt: &R, publisher: &mut Publisher) -> io::Result<()>
 }
 
 /// Enters, and prints the version and what `hi` is in three locales.
-fn enter<R: Print>(rt: &R, reader: &mut Lookups) -> io::Result<()> {
+fn enter<R: Print>(rt: &R, reader: &mut Lookups) -> io::Result<()>
+    ensures { reader.new.book ≡ reader.old.book }
+{
     let Ok(pinned) = reader.enter() else {
         return println!(rt; "enter: Closed");
     };
