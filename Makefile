@@ -31,7 +31,7 @@ examples: programs
 	  echo "build/examples/$$name.mo: $$(wc -c < build/examples/$$name.mo) bytes, compiled from examples/$$name.po"; \
 	done
 
-bin/msgfmt:
+bin/msgfmt bin/catserve:
 	@tools/build
 
 check:
@@ -40,11 +40,13 @@ check:
 bench: programs
 	@bench/run --rounds $(N)
 
-install: bin/msgfmt
+install: bin/msgfmt bin/catserve
 	install -d "$(DESTDIR)$(PREFIX)/bin"
 	install -m 755 bin/msgfmt "$(DESTDIR)$(PREFIX)/bin/msgfmt"
+	install -m 755 bin/catserve "$(DESTDIR)$(PREFIX)/bin/catserve"
 	install -d "$(DESTDIR)$(PREFIX)/share/man/man1"
 	install -m 644 docs/man/msgfmt.1 "$(DESTDIR)$(PREFIX)/share/man/man1/msgfmt.1"
+	install -m 644 docs/man/catserve.1 "$(DESTDIR)$(PREFIX)/share/man/man1/catserve.1"
 
 clean:
 	rm -rf bin build crates/*/out
