@@ -5,3 +5,4 @@ pub mod Taking
 pub mod Parsing
 pub mod Batching
 pub mod Playing
+pub mod OneOutput

@@ -5,6 +5,7 @@ pub mod Script
 pub mod Outcome
 pub mod Output
 pub mod Meaning
+pub mod Laws
 pub mod Run
 pub mod Running
 pub mod Reading

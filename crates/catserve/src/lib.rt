@@ -8,6 +8,7 @@ mod command;
 mod fault;
 mod field;
 mod fields;
+mod law;
 mod line;
 mod output;
 mod parse;
@@ -21,5 +22,6 @@ mod tests_run;
 mod worker;
 
 pub use fault::{ScriptFault, ScriptKind};
+pub use law::one_output;
 pub use parse::MOST_SCRIPT;
 pub use run::run_script;
