@@ -30,6 +30,8 @@ mod tests_accepts;
 #[cfg(test)]
 mod tests_checks;
 #[cfg(test)]
+mod tests_plain;
+#[cfg(test)]
 mod tests_search;
 mod writer;
 
