@@ -27,5 +27,7 @@ pub mod InStrings
 pub mod Originals
 pub mod FileStrings
 pub mod Writing
+pub mod Indexing
+pub mod Found
 pub mod ImageFacts
 pub mod Accepting

@@ -129,21 +129,24 @@ translation_utf8 e lawful = forms_utf8 e.forms lawful.forms
 pub parts_again : (o : List ℕ) → with_plural (key_part o) (plural_part o) ≡ o
 parts_again o = plural_again_by o (holds 0 o) refl
 
--- what isn't cut at a NUL has none
-lacks_from : (text : List ℕ) → length text ≤ place 0 text → Lacks 0 text
-lacks_from [] le = tt
-lacks_from (x ∷ xs) le = of (is 0 x) refl (λ h. lacks_from xs h)
+-- what isn't cut at a byte has none
+lacks_from : (byte : ℕ) (text : List ℕ) → length text ≤ place byte text → Lacks byte text
+lacks_from byte [] le = tt
+lacks_from byte (x ∷ xs) le = of (is byte x) refl (λ h. lacks_from byte xs h)
   where
-    of : (b : Bool) → is 0 x ≡ b → (length xs ≤ place 0 xs → Lacks 0 xs) → Lacks 0 (x ∷ xs)
-    of true here rest = absurd (omega (arith, le, ap (λ (b : Bool). cond (not b) (1 + place 0 xs) 0) here))
-    of false elsewhere rest = ((λ same. false≢true (sym elsewhere ∙ eq-eqb x 0 same)), rest (omega (arith, le, ap (λ (b : Bool). cond (not b) (1 + place 0 xs) 0) elsewhere)))
+    of : (b : Bool) → is byte x ≡ b → (length xs ≤ place byte xs → Lacks byte xs) → Lacks byte (x ∷ xs)
+    of true here rest = absurd (omega (arith, le, ap (λ (b : Bool). cond (not b) (1 + place byte xs) 0) here))
+    of false elsewhere rest = ((λ same. false≢true (sym elsewhere ∙ eq-eqb x byte same)), rest (omega (arith, le, ap (λ (b : Bool). cond (not b) (1 + place byte xs) 0) elsewhere)))
 
-uncut_by : (text : List ℕ) (test : Bool) → holds 0 text ≡ test → option_map (λ p. p.1) (cut_at 0 text test) ≡ None → Lacks 0 text
-uncut_by text true e none = absurd cc
-uncut_by text false e none = lacks_from text (ltb-false _ _ e)
+uncut_by : (byte : ℕ) (text : List ℕ) (test : Bool) → holds byte text ≡ test → option_map (λ p. p.1) (cut_at byte text test) ≡ None → Lacks byte text
+uncut_by byte text true e none = absurd cc
+uncut_by byte text false e none = lacks_from byte text (ltb-false _ _ e)
+
+pub uncut_at : (byte : ℕ) (text : List ℕ) → cut byte text ≡ None → Lacks byte text
+uncut_at byte text none = uncut_by byte text (holds byte text) refl (ap (option_map (λ p. p.1)) none)
 
 pub uncut : (text : List ℕ) → plural_part text ≡ None → Lacks 0 text
-uncut text none = uncut_by text (holds 0 text) refl none
+uncut text none = uncut_by 0 text (holds 0 text) refl none
 
 pub uncut_if : (text : List ℕ) (plural : Option (Bor (List ℕ))) (test : Bool) → option_map (λ s. s.now) plural ≡ plural_part text → is_some plural ≡ not test → test ≡ true → Lacks 0 text
 uncut_if text None test e some so = uncut text (sym e)

@@ -57,7 +57,7 @@ rises_pair (x ∷ m) (suc i) (suc j) d e rises lt di ej = rises_pair m i j d e (
 abbrev some : Entry → Option Entry
 some e = Some e
 
-some_is : (d e : Entry) → some d ≡ some e → d ≡ e
+pub some_is : (d e : Entry) → some d ≡ some e → d ≡ e
 some_is d e h = cc
 
 pub less_below : (m : List Entry) (mid : ℕ) (e : Entry) (asked : List ℕ) → Rises (map key m) → slice_get m mid ≡ Some e → slice_cmp nat_cmp (key e) asked ≡ Less → AllBelow m (mid + 1) asked
@@ -86,7 +86,7 @@ greater_above m mid e asked rises here greater j d le there =
     ]
 
 -- a key that compares otherwise is another key
-apart : (x y : List ℕ) (o : Ordering) → slice_cmp nat_cmp x y ≡ o → (o ≡ Equal → ⊥) → bytes_eq x y ≡ false
+pub apart : (x y : List ℕ) (o : Ordering) → slice_cmp nat_cmp x y ≡ o → (o ≡ Equal → ⊥) → bytes_eq x y ≡ false
 apart x y o h ne =
     elim (bytes_eq x y) as (λ r. bytes_eq x y ≡ r → r ≡ false) [
       | true ↦ λ e. absurd (ne (sym h ∙ sym (ap (slice_cmp nat_cmp x) ((bytes_eq-Decides x y).0 e)) ∙ tied_itself total x))
@@ -151,7 +151,7 @@ pub record Range (m : List Entry) (asked : List ℕ) (old now low high : ℕ) : 
   pub cost : 2 ^ (now - old) ≤ 2 * length m + 1
   pub left : (high - low) * 2 ^ (now - old) ≤ length m
 
-some_at : {X : Type 0} (xs : List X) (i : ℕ) → i < length xs → (x : X) × (slice_get xs i ≡ Some x)
+pub some_at : {X : Type 0} (xs : List X) (i : ℕ) → i < length xs → (x : X) × (slice_get xs i ≡ Some x)
 some_at [] i lt = absurd (omega arith)
 some_at (x ∷ xs) zero lt = (x, refl)
 some_at (x ∷ xs) (suc i) lt = some_at xs i (omega arith)

@@ -6,6 +6,7 @@ pub mod Tables
 pub mod Pairs
 pub mod Image
 pub mod Search
+pub mod Index
 pub mod Strings
 pub mod Refusal
 pub mod Stored

@@ -2,7 +2,7 @@
 ghost use Rattle.std.specs.Prelude.{◌≡◌, ◌<◌, ◌==◌, ◌∷◌, length, slice_get, Some, option_map};
 ghost use Rattle.std.specs.List.{count_by, slice_split};
 ghost use Rattle.catalogue.specs.Entry.{IsLawfulEntry, key, translation};
-ghost use Rattle.catalogue.specs.Parts.{forms_left};
+ghost use Rattle.catalogue.specs.Parts.{cut, forms_left};
 ghost use Rattle.catalogue.specs.Pairs.{key_part, plural_part};
 
 use std::marker::Model;
@@ -73,6 +73,13 @@ pub(crate) fn plural_of(original: &str) -> Option<&str>
 {
     let (_, plural) = original.split_once('\0')?;
     Some(plural)
+}
+
+/// The context and the msgid of a key that has a context: what stands before its first byte 4, and behind.
+pub(crate) fn split_context(key: &str) -> Option<(&str, &str)>
+    ensures { option_map (λ p. (p.0.now, p.1.now)) result ≡ cut 4 key.now }
+{
+    key.split_once('\u{4}')
 }
 
 /// An entry of a catalogue. Its texts are lent from the catalogue.

@@ -3,12 +3,14 @@ ghost use Rattle.std.specs.Prelude.{◌≡◌, ◌↔◌, IsTrue, ◌+◌, ◌-�
 ghost use Rattle.std.specs.Ordering.{nat_cmp};
 ghost use Rattle.std.specs.Cmp.Lexicographic.{slice_cmp};
 ghost use Rattle.catalogue.specs.Entry.{key, key_bytes, Lacks};
-ghost use Rattle.catalogue.specs.Map.{entry_at};
+ghost use Rattle.catalogue.specs.Map.{IsLawful, entry_at};
 ghost use Rattle.catalogue.specs.Pairs.{key_part, HasNulAt};
 ghost use Rattle.catalogue.specs.Search.{AtMostDigits};
+ghost use Rattle.catalogue.specs.Index.{tag, IsIndex};
 
-use crate::entry::{key_of, plural_of};
+use crate::entry::{key_of, plural_of, split_context};
 use crate::image::Image;
+use crate::index::{Index, tag_of, tag_within};
 use crate::keys::cmp_in_context;
 use crate::{EntryRef, Steps};
 use std::cmp::Ordering;
@@ -66,6 +68,20 @@ impl<'a> Asked<'a> {
         }
     }
 
+    /// The tag of this key; None where the context holds the byte that parts the two in keys.
+    fn tag(&self) -> Option<u64>
+        ensures tag { IfSome result (λ t. t ≡ tag self.now) }
+        ensures small { IfSome result (λ t. t < 1099511627776) }
+    {
+        let Some(context) = self.context else {
+            return Some(tag_of(self.id));
+        };
+        match split_context(context) {
+            Some(_) => None,
+            None => Some(tag_within(context, self.id)),
+        }
+    }
+
     /// The key of an original beside this one.
     fn cmp_original(&self, original: &str) -> Ordering
         ensures { result ≡ slice_cmp nat_cmp (key_part original.now) self.now }
@@ -96,6 +112,7 @@ impl Image {
         requires { i < length self.now }
         ensures order { IfSome (slice_get self.now i) (λ e. result ≡ slice_cmp nat_cmp (key e) asked.now) }
         ensures step { steps.new ≡ steps.old + 1 }
+        ensures lawful { IsLawful self.now }
     {
         steps.tick();
         asked.cmp_original(self.original(i))
@@ -119,34 +136,86 @@ impl Image {
         None
     }
 
+    /// The entry of this key, at the place that the index has for its tag.
+    fn search_in<L: Ledger>(
+        &self,
+        index: &Index,
+        asked: &Asked<'_>,
+        steps: &mut Steps<L>,
+    ) -> Option<EntryRef<'_>>
+        requires { IsIndex self.now index.now }
+        ensures found { result ≡ entry_at self.now asked.now }
+        ensures cost { AtMostDigits (length self.now) steps.old steps.new }
+    {
+        let Some(tag) = asked.tag() else {
+            return self.search(asked, steps);
+        };
+        let i = index.place_of(tag)?;
+        match self.compare(i, asked, steps) {
+            Ordering::Equal => Some(self.entry(i)),
+            _ => None,
+        }
+    }
+
+    /// The entry of this key, by the index where there is one.
+    fn search_by<L: Ledger>(
+        &self,
+        index: Option<&Index>,
+        asked: &Asked<'_>,
+        steps: &mut Steps<L>,
+    ) -> Option<EntryRef<'_>>
+        requires { IfSome index (λ index. IsIndex self.now index.now) }
+        ensures found { result ≡ entry_at self.now asked.now }
+        ensures cost { AtMostDigits (length self.now) steps.old steps.new }
+    {
+        match index {
+            Some(index) => self.search_in(index, asked, steps),
+            None => self.search(asked, steps),
+        }
+    }
+
     /// The same, for a caller that counts nothing.
-    fn search_uncounted<L: Ledger>(&self, asked: &Asked<'_>, blank: Blank) -> Option<EntryRef<'_>>
+    fn search_uncounted<L: Ledger>(
+        &self,
+        index: Option<&Index>,
+        asked: &Asked<'_>,
+        blank: Blank,
+    ) -> Option<EntryRef<'_>>
+        requires index { IfSome index (λ index. IsIndex self.now index.now) }
         requires name { blank.name ≡ L.name }
         requires parts { blank.parts ≡ L.parts }
         requires some { 0 < L.parts }
         ensures { result ≡ entry_at self.now asked.now }
     {
         let mut steps = Steps::<L>::new(blank);
-        self.search(asked, &mut steps)
+        self.search_by(index, asked, &mut steps)
     }
 
-    /// The entry of this msgid in this context, or in none.
-    pub(crate) fn find(&self, context: Option<&str>, id: &str) -> Option<EntryRef<'_>>
+    /// The entry of this msgid in this context, or in none, by the index where there is one.
+    pub(crate) fn find(
+        &self,
+        index: Option<&Index>,
+        context: Option<&str>,
+        id: &str,
+    ) -> Option<EntryRef<'_>>
+        requires { IfSome index (λ index. IsIndex self.now index.now) }
         ensures { result ≡ entry_at self.now (key_bytes (option_map (λ s. s.now) context.entry) id.now) }
     {
-        self.search_uncounted::<Brand>(&Asked::new(context, id), Blank::new(1))
+        self.search_uncounted::<Brand>(index, &Asked::new(context, id), Blank::new(1))
     }
 
     /// The same, with its steps counted.
     pub(crate) fn find_counted<L: Ledger>(
         &self,
+        index: Option<&Index>,
         context: Option<&str>,
         id: &str,
         steps: &mut Steps<L>,
     ) -> Option<EntryRef<'_>>
+        requires { IfSome index (λ index. IsIndex self.now index.now) }
         ensures found { result ≡ entry_at self.now (key_bytes (option_map (λ s. s.now) context.entry) id.now) }
         ensures cost { AtMostDigits (length self.now) steps.old steps.new }
     {
-        self.search(&Asked::new(context, id), steps)
+        self.search_by(index, &Asked::new(context, id), steps)
     }
 }

@@ -132,7 +132,8 @@ impl Image {
     /// The original of the i-th entry: its key, and its plural behind NUL.
     pub(crate) fn original(&self, i: usize) -> &str
         requires { i < length self.now }
-        ensures { IfSome (slice_get self.now i) (λ e. key_part result.now ≡ key e) }
+        ensures key { IfSome (slice_get self.now i) (λ e. key_part result.now ≡ key e) }
+        ensures lawful { IsLawful self.now }
     {
         original_of(&self.bytes, i)
     }

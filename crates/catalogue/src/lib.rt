@@ -13,6 +13,8 @@ mod entry;
 mod fault;
 mod find;
 mod image;
+mod index;
+mod index_rows;
 mod joins;
 mod keys;
 mod law;

@@ -8,6 +8,8 @@ ghost use Rattle.catalogue.specs.Search.{AtMostDigits};
 ghost use Rattle.catalogue.specs.Value.{HasMapRule};
 
 use crate::image::Image;
+use crate::index::Index;
+use crate::index_rows::index_of;
 use crate::writer::EntryList;
 use crate::{EntryRef, EntryStrings, Steps};
 use po_header::{RuleRead, read_rule};
@@ -22,6 +24,8 @@ use std::sync::ledger::Ledger;
 pub struct Catalogue {
     /// The entries, in rising order of the keys' bytes.
     image: Image,
+    /// Where look-ups find them, once `index` was called.
+    index: Option<Index>,
     /// The rule in the header's text.
     rule: RuleRead,
 }
@@ -33,18 +37,20 @@ impl Model for Catalogue {
     ghost Value = { List Entry };
 
     ghost use Rattle.po_header.specs.Rules.{rule_of};
+    ghost use Rattle.std.specs.Prelude.{IfSome};
+    ghost use Rattle.catalogue.specs.Index.{IsIndex};
     ghost use Rattle.catalogue.specs.Value.{HasMapRule};
 
     ghost view = { λ c. c.image };
 
-    ghost invariant = { λ c. HasMapRule c.image (rule_of c.rule) };
+    ghost invariant = { λ c. HasMapRule c.image (rule_of c.rule) × IfSome c.index (λ index. IsIndex c.image index) };
 }
 
 /// The rule for plural forms of these entries.
 fn rule_in(alloc: Global, image: &Image) -> Result<RuleRead, AllocError>
     ensures { IfOk result (λ rule. HasMapRule image.now (rule_of rule)) }
 {
-    match image.find(None, "") {
+    match image.find(None, None, "") {
         Some(header) => read_rule(alloc, header.form(0)),
         None => Ok(RuleRead::Absent),
     }
@@ -70,7 +76,21 @@ impl Catalogue {
     {
         let image = Image::spelled(alloc, list)?;
         let rule = rule_in(alloc, &image)?;
-        Ok(Catalogue { image, rule })
+        Ok(Catalogue {
+            image,
+            index: None,
+            rule,
+        })
+    }
+
+    /// Makes look-ups quick by an index of the keys' hashes, for a catalogue that is asked often: one
+    /// comparison of keys instead of a search by halves, for some 16 bytes an entry. The entries stay as
+    /// they are. Answers AllocError where memory is refused, and nothing is changed then.
+    pub fn index(&mut self, alloc: Global) -> Result<(), AllocError>
+        ensures { self.new ≡ self.old }
+    {
+        self.index = index_of(alloc, &self.image)?;
+        Ok(())
     }
 
     /// How many entries the catalogue has.
@@ -103,7 +123,7 @@ impl Catalogue {
     pub fn find(&self, context: Option<&str>, id: &str) -> Option<EntryRef<'_>>
         ensures { result ≡ entry_at self.now (key_bytes (option_map (λ s. s.now) context.entry) id.now) }
     {
-        self.image.find(context, id)
+        self.image.find(self.index.as_ref(), context, id)
     }
 
     /// The same as `find`, which also adds its steps to a count: a step is one comparison of the key that
@@ -118,7 +138,8 @@ impl Catalogue {
         ensures found { result ≡ entry_at self.now (key_bytes (option_map (λ s. s.now) context.entry) id.now) }
         ensures cost { AtMostDigits (length self.now) steps.old steps.new }
     {
-        self.image.find_counted(context, id, steps)
+        self.image
+            .find_counted(self.index.as_ref(), context, id, steps)
     }
 
     /// The one MO file of the catalogue: revision 0, words low byte first, no hash table and no padding

@@ -137,11 +137,12 @@ impl Publisher {
             return Err(StoreFault::VersionsSpent);
         }
         let Compiled {
-            catalogue,
+            mut catalogue,
             stats,
             missing: _,
             header_line: _,
         } = compiled(alloc, bytes, options)?;
+        catalogue.index(alloc)?;
         let load = Load {
             domain,
             locale,

@@ -1,0 +1,9 @@
+use Rattle.std.proofs.lemmas.List.Sorted.{IsNonDecreasingBy-from_sort}
+use Rattle.catalogue.proofs.Indexing.{named_in_order}
+use Rattle.catalogue.proofs.index_rows.sort_rows.Goals as goal
+
+pub returns-clause-names : goal.returns-clause-names
+returns-clause-names c = named_in_order c.args.image.now c.in_ok-rows.rows.items c.sort_unstable.new.self.items c.sort_unstable.ensures.permutation c.in_ok-rows.ensures
+
+pub returns-clause-climbs : goal.returns-clause-climbs
+returns-clause-climbs c = IsNonDecreasingBy-from_sort (λ row. row) c.sort_unstable.new.self.items c.sort_unstable.ensures.sorted
