@@ -151,8 +151,9 @@ impl Image {
             return self.search(asked, steps);
         };
         let i = index.place_of(tag)?;
+        let entry = self.entry(i);
         match self.compare(i, asked, steps) {
-            Ordering::Equal => Some(self.entry(i)),
+            Ordering::Equal => Some(entry),
             _ => None,
         }
     }

@@ -82,6 +82,20 @@ impl Index {
         Index { rows, spread }
     }
 
+    /// The first row from this place on that isn't below a bound, if there is one near.
+    fn row_near(&self, bound: u64, place: usize) -> Option<u64>
+        ensures { IfSome result (Contains self.now) }
+    {
+        let end = place.saturating_add(REACH).min(self.rows.len());
+        'rows: for i in place..end {
+            let row = self.rows[i];
+            if bound <= row {
+                return Some(row);
+            }
+        }
+        None
+    }
+
     /// How many of the rows are below a bound, if the last of them is near this place.
     fn cut_near(&self, bound: u64, place: usize) -> Option<usize>
         ensures { IfSome result (λ cut. IsCut self.now bound cut) }
@@ -116,8 +130,12 @@ impl Index {
         ensures small { IfSome result (λ i. i < places) }
         ensures none { IfNone result (HasNoRow self.now tag) }
     {
-        let cut = self.cut(tag * PLACES, home(tag, self.spread));
-        let row = *self.rows.get(cut)?;
+        let bound = tag * PLACES;
+        let home = home(tag, self.spread);
+        let row = match self.row_near(bound, home) {
+            Some(row) if row / PLACES == tag => row,
+            _ => *self.rows.get(self.cut(bound, home))?,
+        };
         if row / PLACES == tag {
             Some((row % PLACES) as usize)
         } else {

@@ -12,11 +12,11 @@ returns-in_err-i-clause-found g c =
 pub compare-requires : goal.compare-requires
 compare-requires g c = place_within c.args.self.now c.args.index.now c.in-Some.tag c.in_ok-i.i c.requires c.in_ok-i.ensures.some c.in_ok-i.ensures.small
 
-pub entry-requires : goal.entry-requires
-entry-requires g c = place_within c.args.self.now c.args.index.now c.in-Some.tag c.in_ok-i.i c.requires c.in_ok-i.ensures.some c.in_ok-i.ensures.small
+pub entry-entry-requires : goal.entry-entry-requires
+entry-entry-requires g c = place_within c.args.self.now c.args.index.now c.in-Some.tag c.in_ok-i.i c.requires c.in_ok-i.ensures.some c.in_ok-i.ensures.small
 
 pub returns-in-Equal-clause-found : goal.returns-in-Equal-clause-found
-returns-in-Equal-clause-found g c = sym (found_by_row c.args.self.now c.in_ok-i.i c.entry.result c.args.asked.now c.in-Equal.ensures.lawful c.entry.ensures c.in-Equal.ensures.order)
+returns-in-Equal-clause-found g c = sym (found_by_row c.args.self.now c.in_ok-i.i c.entry-entry.result c.args.asked.now c.in-Equal.ensures.lawful c.entry-entry.ensures c.in-Equal.ensures.order)
 
 pub returns-in_default-compare : goal.returns-in_default-compare
 returns-in_default-compare g c =
