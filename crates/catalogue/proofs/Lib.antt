@@ -29,5 +29,6 @@ pub mod FileStrings
 pub mod Writing
 pub mod Indexing
 pub mod Found
+pub mod Rows
 pub mod ImageFacts
 pub mod Accepting

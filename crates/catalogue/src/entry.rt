@@ -117,6 +117,13 @@ impl<'a> EntryRef<'a> {
         }
     }
 
+    /// The key, and the plural behind NUL.
+    pub(crate) fn original(&self) -> &'a str
+        ensures { key_part result.now ≡ key self.now }
+    {
+        self.original
+    }
+
     /// The bytes of the entry's key: the msgid, behind its context and byte 4 where it has one.
     pub fn key(&self) -> &'a str
         ensures { result.now ≡ key self.now }

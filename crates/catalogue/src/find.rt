@@ -3,7 +3,7 @@ ghost use Rattle.std.specs.Prelude.{◌≡◌, ◌↔◌, IsTrue, ◌+◌, ◌-�
 ghost use Rattle.std.specs.Ordering.{nat_cmp};
 ghost use Rattle.std.specs.Cmp.Lexicographic.{slice_cmp};
 ghost use Rattle.catalogue.specs.Entry.{key, key_bytes, Lacks};
-ghost use Rattle.catalogue.specs.Map.{IsLawful, entry_at};
+ghost use Rattle.catalogue.specs.Map.{entry_at};
 ghost use Rattle.catalogue.specs.Pairs.{key_part, HasNulAt};
 ghost use Rattle.catalogue.specs.Search.{AtMostDigits};
 ghost use Rattle.catalogue.specs.Index.{tag, IsIndex};
@@ -106,16 +106,23 @@ fn middle(low: usize, high: usize) -> usize
     low + (high - low) / 2
 }
 
+/// How the key of an original compares with the one asked for, which is one step.
+fn compare<L: Ledger>(original: &str, asked: &Asked<'_>, steps: &mut Steps<L>) -> Ordering
+    ensures order { result ≡ slice_cmp nat_cmp (key_part original.now) asked.now }
+    ensures step { steps.new ≡ steps.old + 1 }
+{
+    steps.tick();
+    asked.cmp_original(original)
+}
+
 impl Image {
     /// How the i-th key compares with the one asked for, which is one step.
     fn compare<L: Ledger>(&self, i: usize, asked: &Asked<'_>, steps: &mut Steps<L>) -> Ordering
         requires { i < length self.now }
         ensures order { IfSome (slice_get self.now i) (λ e. result ≡ slice_cmp nat_cmp (key e) asked.now) }
         ensures step { steps.new ≡ steps.old + 1 }
-        ensures lawful { IsLawful self.now }
     {
-        steps.tick();
-        asked.cmp_original(self.original(i))
+        compare(self.original(i), asked, steps)
     }
 
     /// The entry of this key, by halves.
@@ -136,7 +143,7 @@ impl Image {
         None
     }
 
-    /// The entry of this key, at the place that the index has for its tag.
+    /// The entry of this key, by the row that the index has of its tag.
     fn search_in<L: Ledger>(
         &self,
         index: &Index,
@@ -150,9 +157,8 @@ impl Image {
         let Some(tag) = asked.tag() else {
             return self.search(asked, steps);
         };
-        let i = index.place_of(tag)?;
-        let entry = self.entry(i);
-        match self.compare(i, asked, steps) {
+        let entry = self.entry_in(index.row_of(tag)?);
+        match compare(entry.original(), asked, steps) {
             Ordering::Equal => Some(entry),
             _ => None,
         }

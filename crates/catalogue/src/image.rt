@@ -1,5 +1,5 @@
 //! The entries of a catalogue, kept as the bytes of their MO file.
-ghost use Rattle.std.specs.Prelude.{◌≡◌, ◌+◌, ◌*◌, ◌<◌, ◌≤◌, ◌↔◌, length, slice_get, Some, IfOk, IfSome, IsTrue};
+ghost use Rattle.std.specs.Prelude.{◌≡◌, ◌+◌, ◌*◌, ◌%◌, ◌<◌, ◌≤◌, ◌↔◌, length, slice_get, Some, IfOk, IfSome, IsTrue};
 ghost use Rattle.byteorder.specs.Endian.{little_number};
 ghost use Rattle.catalogue.specs.Entry.{key};
 ghost use Rattle.catalogue.specs.Map.{IsLawful};
@@ -7,8 +7,12 @@ ghost use Rattle.catalogue.specs.MoFile.{spelling};
 ghost use Rattle.catalogue.specs.Tables.{word_at, string_at};
 ghost use Rattle.catalogue.specs.Pairs.{key_part};
 ghost use Rattle.catalogue.specs.Image.{listing, IsImage, NamesText};
+ghost use Rattle.catalogue.specs.Index.{name_of, places, IsRow};
 
 use crate::EntryRef;
+use crate::entry::key_of;
+use crate::extent::{extent_at, text_in};
+use crate::index::{Row, name_of};
 use crate::writer::{EntryList, spell};
 use byteorder::{ByteOrder, LittleEndian};
 use std::alloc::{AllocError, Global};
@@ -56,9 +60,7 @@ fn text(bytes: &[u8], place: usize) -> &str
     requires { NamesText bytes.now place }
     ensures { result.now ≡ string_at little_number bytes.now place }
 {
-    let len = word(bytes, place);
-    let start = word(bytes, place + 4);
-    unsafe { str::from_utf8_unchecked(&bytes[start..start + len]) }
+    text_in(bytes, extent_at(bytes, place))
 }
 
 fn count_of(bytes: &[u8]) -> usize
@@ -94,6 +96,35 @@ fn entry_of(bytes: &[u8], i: usize) -> EntryRef<'_>
     ensures { slice_get (listing bytes.now) i ≡ Some result }
 {
     EntryRef::new(original_of(bytes, i), translation_of(bytes, i))
+}
+
+/// The row by which an index finds the i-th entry.
+fn row_of(bytes: &[u8], i: usize) -> Row
+    requires image { IsImage bytes.now }
+    requires within { i < length (listing bytes.now) }
+    ensures row { IsRow bytes.now (length (listing bytes.now)) result }
+    ensures name { IfSome (slice_get (listing bytes.now) i) (λ e. result.name ≡ name_of (key e) i) }
+{
+    let original = original_of(bytes, i);
+    let originals = TABLES_AT + ROW_LEN * i;
+    let translations = originals + ROW_LEN * count_of(bytes);
+    Row {
+        name: name_of(key_of(original), i),
+        original: extent_at(bytes, originals),
+        translation: extent_at(bytes, translations),
+    }
+}
+
+/// The entry of a row.
+fn entry_in<'a>(bytes: &'a [u8], row: &Row) -> EntryRef<'a>
+    requires image { IsImage bytes.now }
+    requires row { IsRow bytes.now (length (listing bytes.now)) row.now }
+    ensures { slice_get (listing bytes.now) (row.now.name % places) ≡ Some result }
+{
+    EntryRef::new(
+        text_in(bytes, row.original),
+        text_in(bytes, row.translation),
+    )
 }
 
 impl Image {
@@ -132,10 +163,27 @@ impl Image {
     /// The original of the i-th entry: its key, and its plural behind NUL.
     pub(crate) fn original(&self, i: usize) -> &str
         requires { i < length self.now }
-        ensures key { IfSome (slice_get self.now i) (λ e. key_part result.now ≡ key e) }
-        ensures lawful { IsLawful self.now }
+        ensures { IfSome (slice_get self.now i) (λ e. key_part result.now ≡ key e) }
     {
         original_of(&self.bytes, i)
+    }
+
+    /// The row by which an index finds the i-th entry.
+    pub(crate) fn row(&self, i: usize) -> Row
+        requires { i < length self.now }
+        ensures row { IsRow (spelling self.now) (length self.now) result }
+        ensures name { IfSome (slice_get self.now i) (λ e. result.name ≡ name_of (key e) i) }
+    {
+        row_of(&self.bytes, i)
+    }
+
+    /// The entry of a row.
+    pub(crate) fn entry_in(&self, row: &Row) -> EntryRef<'_>
+        requires { IsRow (spelling self.now) (length self.now) row.now }
+        ensures entry { slice_get self.now (row.now.name % places) ≡ Some result }
+        ensures lawful { IsLawful self.now }
+    {
+        entry_in(&self.bytes, row)
     }
 
     /// The MO file.

@@ -10,6 +10,7 @@ mod collect;
 mod compiler;
 mod drafts;
 mod entry;
+mod extent;
 mod fault;
 mod find;
 mod image;

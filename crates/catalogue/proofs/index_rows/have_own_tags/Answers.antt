@@ -6,7 +6,7 @@ pub rows-init : goal.rows-init
 rows-init c = λ p q d pq lt. absurd (omega (arith, pq, lt))
 
 pub rows-preserved : goal.rows-preserved
-rows-preserved c = rise_more c.args.rows.now c.rows.i c.requires c.rows.invariant c.rows.auto.i c.rows-test.true c.if-rows-i.false
+rows-preserved c = rise_more c.args.rows.now c.rows.i _ c.requires c.rows.invariant c.rows.auto.i c.rows-test.true c.if-rows-i.false
 
 pub returns : goal.returns
 returns c so = own_tags c.args.rows.now c.rows.i c.rows-test.false c.rows.invariant

@@ -1,9 +1,9 @@
-use Rattle.std.proofs.Common.{ℕ, ◌≡◌, ◌∙◌, length, subst, arith}
-use Rattle.catalogue.proofs.Indexing.{Listed, few, named}
+use Rattle.std.proofs.Common.{ℕ, ◌≡◌, length, subst, arith}
+use Rattle.catalogue.proofs.Indexing.{Listed, listed_more, named}
 use Rattle.catalogue.proofs.index_rows.list_rows.Goals as goal
 
-pub row_of-requires : goal.row_of-requires
-row_of-requires c = omega (arith, few c.args.image.now c.len.ensures.lawful, c.entries-test.true, c.len-i-end.ensures.len)
+pub entries-preserved : goal.entries-preserved
+entries-preserved c = listed_more c.args.image.now c.entries.rows.items c.push.new.self.items c.entries.i c.row.result c.entries.invariant c.in_ok-push.ensures.items (c.row.ensures.row, c.row.ensures.name)
 
 pub returns : goal.returns
 returns c =

@@ -10,7 +10,7 @@ rows-preserved c =
     let old = c.rows.placed in
     let new = c.resize.new.self in
     let grown = c.in_ok-resize.ensures in
-    spread_more rows old.items new.items k (c.max-end.result + 1) (get_or rows k 0) c.requires c.rows-test.true (λ d. get_or_default rows k 0 d c.rows-test.true) c.rows.invariant
+    spread_more rows old.items new.items k (c.max-end.result + 1) (get_or rows k _) c.requires c.rows-test.true (λ d. get_or_default rows k _ d c.rows-test.true) c.rows.invariant
     (omega (arith, old.ok, c.max-end.ensures, c.len.ensures)) (omega (arith, new.ok, grown.len))
     (λ j d lt before. grown.by_index.0 j d lt (omega (arith, old.ok, before))) (λ j d from lt. grown.by_index.1 j d refl (omega (arith, old.ok, from)) lt)
 
