@@ -31,9 +31,12 @@ fn sum_of(catalogue: &Catalogue, ids: &[&str], rounds: u64) -> u64 {
 /// where the file is none, the msgids are no text, or there is no memory.
 #[unsafe(no_mangle)]
 pub extern "C" fn bench_lookups_sum(alloc: Global, file: &[u8], ids: &[u8], rounds: u64) -> u64 {
-    let Ok(catalogue) = read_mo(alloc, file) else {
+    let Ok(mut catalogue) = read_mo(alloc, file) else {
         return u64::MAX
     };
+    if catalogue.index(alloc).is_err() {
+        return u64::MAX;
+    }
     let Ok(text) = from_utf8(ids) else {
         return u64::MAX
     };
