@@ -102,10 +102,46 @@ fn finds_thousand<L: Ledger>(
 #[test]
 fn finds_among_a_thousand(rt: HostRuntime) -> Result<(), Fail> {
     let text = numbered(rt.alloc(), 1000, 3)?;
-    let compiled = compile(rt.alloc(), text.as_bytes(), PLAIN)?;
+    let mut compiled = compile(rt.alloc(), text.as_bytes(), PLAIN)?;
     assert_eq!(rt; compiled.catalogue.len(), 1000);
     let found = finds_thousand::<Brand>(rt.alloc(), &compiled.catalogue, Blank::new(1))?;
     assert!(rt; found);
+    compiled.catalogue.index(rt.alloc())?;
+    let found = finds_thousand::<Brand>(rt.alloc(), &compiled.catalogue, Blank::new(1))?;
+    assert!(rt; found);
+    Ok(())
+}
+
+/// Keys are the same where their bytes are, with an index too.
+#[test]
+fn finds_contexts_by_an_index(rt: HostRuntime) -> Result<(), Fail> {
+    let text = "msgctxt \"c\"\nmsgid \"a\"\nmsgstr \"x\"\n\
+        msgctxt \"\"\nmsgid \"a\"\nmsgstr \"y\"\n\
+        msgid \"a\"\nmsgid_plural \"as\"\nmsgstr[0] \"z\"\nmsgstr[1] \"w\"\n";
+    let mut compiled = compile(rt.alloc(), text.as_bytes(), PLAIN)?;
+    compiled.catalogue.index(rt.alloc())?;
+    let catalogue = &compiled.catalogue;
+    assert!(rt; catalogue.pgettext("c", "a") == "x");
+    assert!(rt; catalogue.pgettext("", "a") == "y");
+    assert!(rt; catalogue.gettext("a") == "z");
+    assert!(rt; catalogue.ngettext("a", "as", 2) == "w");
+    assert!(rt; catalogue.gettext("c\u{4}a") == "x");
+    assert!(rt; catalogue.gettext("\u{4}a") == "y");
+    assert!(rt; catalogue.pgettext("c\u{4}a", "a") == "a");
+    assert!(rt; catalogue.pgettext("", "\u{4}a") == "\u{4}a");
+    assert!(rt; catalogue.gettext("a\0as") == "a\0as");
+    assert!(rt; catalogue.gettext("as") == "as");
+    assert!(rt; catalogue.gettext("") == "");
+    Ok(())
+}
+
+#[test]
+fn finds_nothing_by_an_empty_index(rt: HostRuntime) -> Result<(), Fail> {
+    let mut compiled = compile(rt.alloc(), b"", PLAIN)?;
+    compiled.catalogue.index(rt.alloc())?;
+    assert!(rt; compiled.catalogue.is_empty());
+    assert!(rt; compiled.catalogue.find(None, "").is_none());
+    assert!(rt; compiled.catalogue.pgettext("c", "a") == "a");
     Ok(())
 }
 
@@ -118,22 +154,32 @@ fn looks_up(catalogue: &Catalogue, key: &str, digits: &str) -> bool {
         && catalogue.npgettext("z", key, "plural", 1) == key
 }
 
-/// A look-up that walks over the entries doesn't end in the time of a test.
-#[test]
-fn looks_up_among_half_a_million(rt: HostRuntime) -> Result<(), Fail> {
-    let text = numbered(rt.alloc(), 500_000, 6)?;
-    let compiled = compile(rt.alloc(), text.as_bytes(), PLAIN)?;
-    assert_eq!(rt; compiled.catalogue.len(), 500_000);
-    let mut key = String::new(rt.alloc());
-    let mut digits = String::new(rt.alloc());
-    for n in 0..500_000 {
+/// Whether all of these keys are looked up right.
+fn looks_up_each(alloc: Global, catalogue: &Catalogue, count: u32) -> Result<bool, AllocError> {
+    let mut key = String::new(alloc);
+    let mut digits = String::new(alloc);
+    for n in 0..count {
         key.clear();
         key.push('k')?;
         push_digits(&mut key, n, 6)?;
         digits.clear();
         push_digits(&mut digits, n, 6)?;
-        assert!(rt; looks_up(&compiled.catalogue, key.as_str(), digits.as_str()));
+        if !looks_up(catalogue, key.as_str(), digits.as_str()) {
+            return Ok(false);
+        }
     }
+    Ok(true)
+}
+
+/// A look-up that walks over the entries doesn't end in the time of a test.
+#[test]
+fn looks_up_among_half_a_million(rt: HostRuntime) -> Result<(), Fail> {
+    let text = numbered(rt.alloc(), 500_000, 6)?;
+    let mut compiled = compile(rt.alloc(), text.as_bytes(), PLAIN)?;
+    assert_eq!(rt; compiled.catalogue.len(), 500_000);
+    assert!(rt; looks_up_each(rt.alloc(), &compiled.catalogue, 500_000)?);
+    compiled.catalogue.index(rt.alloc())?;
+    assert!(rt; looks_up_each(rt.alloc(), &compiled.catalogue, 500_000)?);
     Ok(())
 }
 
