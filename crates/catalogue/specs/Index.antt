@@ -1,5 +1,5 @@
 -- Private: the rows by which an entry is found by the hash of its key.
-use Rattle.std.specs.Prelude.{◌≡◌, ℕ, ◌+◌, ◌*◌, ◌/◌, ◌%◌, ◌<◌, ◌≤◌, List, Option, Some, None, Contains, length, slice_get, take, drop}
+use Rattle.std.specs.Prelude.{◌≡◌, ℕ, ◌+◌, ◌*◌, ◌<◌, ◌≤◌, List, Option, Some, None, Contains, length, slice_get, take, drop}
 use Rattle.std.specs.List.Sorted.{IsNonDecreasingBy, IsPartitionPoint}
 use Rattle.std.specs.Str.{IsUtf8}
 use Rattle.std.specs.Hash.FoldHasher as folding
@@ -11,28 +11,20 @@ use Rattle.catalogue.specs.MoFile.{spelling}
 use Rattle.catalogue.specs.Parts.{cut}
 use Rattle.catalogue.specs.Tables.{word_at}
 
--- how many entries rows tell apart: no MO file has as many
-abbrev pub places : ℕ
-places = 16777216
+-- the hash of a msgid, or of a context and the msgid in it
+abbrev pub hash_alone : List ℕ → ℕ
+hash_alone id = folding.finish (folding.write folding.initial id)
 
--- the upper 40 bits of the hash of a msgid, or of a context and the msgid in it
-abbrev pub tag_alone : List ℕ → ℕ
-tag_alone id = folding.finish (folding.write folding.initial id) / places
+abbrev pub hash_within : List ℕ → List ℕ → ℕ
+hash_within context id = folding.finish (folding.write (folding.write folding.initial context) id)
 
-abbrev pub tag_within : List ℕ → List ℕ → ℕ
-tag_within context id = folding.finish (folding.write (folding.write folding.initial context) id) / places
+abbrev pub hash_by : List ℕ → Option (List ℕ × List ℕ) → ℕ
+hash_by key None = hash_alone key
+hash_by key (Some p) = hash_within p.0 p.1
 
-abbrev pub tag_by : List ℕ → Option (List ℕ × List ℕ) → ℕ
-tag_by key None = tag_alone key
-tag_by key (Some p) = tag_within p.0 p.1
-
--- the tag of a key, which EOT parts into a context and a msgid
-unfoldable pub tag : List ℕ → ℕ
-tag key = tag_by key (cut 4 key)
-
--- the name of the i-th entry's row: the tag of its key, and i
-abbrev pub name_of : List ℕ → ℕ → ℕ
-name_of key i = tag key * places + i
+-- the hash of a key, which EOT parts into a context and a msgid
+unfoldable pub hash : List ℕ → ℕ
+hash key = hash_by key (cut 4 key)
 
 -- the bytes of an extent
 abbrev pub piece : List ℕ → Extent → List ℕ
@@ -47,39 +39,41 @@ pub record IsNamedAt (bytes : List ℕ) (place : ℕ) (extent : Extent) : Type 0
   pub len : extent.len ≡ word_at little_number bytes place
   pub start : extent.start ≡ word_at little_number bytes (place + 4)
 
--- a row has the extents of the strings of its entry, in a file of n entries
-pub record IsRow (bytes : List ℕ) (n : ℕ) (row : Row) : Type 0 where
-  pub within : row.name % places < n
-  pub original : IsNamedAt bytes (28 + 8 * (row.name % places)) row.original
-  pub translation : IsNamedAt bytes (28 + 8 * n + 8 * (row.name % places)) row.translation
+-- the row of the i-th of n entries in a file: it has the extents of the entry's strings
+pub record IsRowOf (bytes : List ℕ) (n i : ℕ) (row : Row) : Type 0 where
+  pub within : i < n
+  pub original : IsNamedAt bytes (28 + 8 * i) row.original
+  pub translation : IsNamedAt bytes (28 + 8 * n + 8 * i) row.translation
 
--- a row has this name
-abbrev pub HasName : List Row → ℕ → Type 0
-HasName rows name = (row : Row) × Contains rows row × (row.name ≡ name)
+abbrev pub IsRow : List ℕ → ℕ → Row → Type 0
+IsRow bytes n row = (i : ℕ) × IsRowOf bytes n i row
 
--- no row has a lesser name than an earlier one
+-- no row has a lesser hash than an earlier one
 abbrev pub Climbs : List Row → Type 0
-Climbs rows = IsNonDecreasingBy (λ row. row.name) rows
+Climbs rows = IsNonDecreasingBy (λ row. row.hash) rows
 
--- rows of one tag have one name
-abbrev pub OneForEachTag : List Row → Type 0
-OneForEachTag rows = (x y : Row) → Contains rows x → Contains rows y → x.name / places ≡ y.name / places → x.name ≡ y.name
+-- rows of one hash are the same row
+abbrev pub OneForEachHash : List Row → Type 0
+OneForEachHash rows = (x y : Row) → Contains rows x → Contains rows y → x.hash ≡ y.hash → x ≡ y
+
+-- the row of the i-th entry is there, with the hash of its key
+abbrev pub HasRowOf : List Entry → List Row → ℕ → Entry → Type 0
+HasRowOf m rows i e = (row : Row) × Contains rows row × IsRowOf (spelling m) (length m) i row × (row.hash ≡ hash (key e))
 
 -- a row for each entry, and no other; some may stand there more than once
 pub record NamesEntries (m : List Entry) (rows : List Row) : Type 0 where
-  pub each : (i : ℕ) (e : Entry) → slice_get m i ≡ Some e → HasName rows (name_of (key e) i)
+  pub each : (i : ℕ) (e : Entry) → slice_get m i ≡ Some e → HasRowOf m rows i e
   pub only : (row : Row) → Contains rows row → IsRow (spelling m) (length m) row
-  pub few : length m < places
 
 pub record IsIndex (m : List Entry) (rows : List Row) : Type 0 where
   pub names : NamesEntries m rows
   pub climbs : Climbs rows
-  pub one : OneForEachTag rows
+  pub one : OneForEachHash rows
 
--- this many rows have names below a bound, and those behind them have not
+-- this many rows have hashes below a bound, and those behind them have not
 abbrev pub IsCut : List Row → ℕ → ℕ → Type 0
-IsCut rows bound cut = IsPartitionPoint (λ row. row.name < bound) (λ row. bound ≤ row.name) rows cut
+IsCut rows bound cut = IsPartitionPoint (λ row. row.hash < bound) (λ row. bound ≤ row.hash) rows cut
 
--- no row has this tag
+-- no row has this hash
 abbrev pub HasNoRow : List Row → ℕ → Type 0
-HasNoRow rows t = (row : Row) → Contains rows row → row.name / places ≡ t → ⊥
+HasNoRow rows h = (row : Row) → Contains rows row → row.hash ≡ h → ⊥

@@ -6,11 +6,11 @@ ghost use Rattle.catalogue.specs.Entry.{key, key_bytes, Lacks};
 ghost use Rattle.catalogue.specs.Map.{entry_at};
 ghost use Rattle.catalogue.specs.Pairs.{key_part, HasNulAt};
 ghost use Rattle.catalogue.specs.Search.{AtMostDigits};
-ghost use Rattle.catalogue.specs.Index.{tag, IsIndex};
+ghost use Rattle.catalogue.specs.Index.{hash, IsIndex};
 
 use crate::entry::{key_of, plural_of, split_context};
 use crate::image::Image;
-use crate::index::{Index, tag_of, tag_within};
+use crate::index::{Index, hash_of, hash_within};
 use crate::keys::cmp_in_context;
 use crate::{EntryRef, Steps};
 use std::cmp::Ordering;
@@ -68,17 +68,16 @@ impl<'a> Asked<'a> {
         }
     }
 
-    /// The tag of this key; None where the context holds the byte that parts the two in keys.
-    fn tag(&self) -> Option<u64>
-        ensures tag { IfSome result (λ t. t ≡ tag self.now) }
-        ensures small { IfSome result (λ t. t < 1099511627776) }
+    /// The hash of this key; None where the context holds the byte that parts the two in keys.
+    fn hash(&self) -> Option<u64>
+        ensures { IfSome result (λ h. h ≡ hash self.now) }
     {
         let Some(context) = self.context else {
-            return Some(tag_of(self.id));
+            return Some(hash_of(self.id));
         };
         match split_context(context) {
             Some(_) => None,
-            None => Some(tag_within(context, self.id)),
+            None => Some(hash_within(context, self.id)),
         }
     }
 
@@ -143,7 +142,7 @@ impl Image {
         None
     }
 
-    /// The entry of this key, by the row that the index has of its tag.
+    /// The entry of this key, by the row that the index has of its hash.
     fn search_in<L: Ledger>(
         &self,
         index: &Index,
@@ -154,10 +153,10 @@ impl Image {
         ensures found { result ≡ entry_at self.now asked.now }
         ensures cost { AtMostDigits (length self.now) steps.old steps.new }
     {
-        let Some(tag) = asked.tag() else {
+        let Some(hash) = asked.hash() else {
             return self.search(asked, steps);
         };
-        let entry = self.entry_in(index.row_of(tag)?);
+        let entry = self.entry_in(index.row_of(hash)?);
         match compare(entry.original(), asked, steps) {
             Ordering::Equal => Some(entry),
             _ => None,

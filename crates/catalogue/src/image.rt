@@ -1,5 +1,5 @@
 //! The entries of a catalogue, kept as the bytes of their MO file.
-ghost use Rattle.std.specs.Prelude.{◌≡◌, ◌+◌, ◌*◌, ◌%◌, ◌<◌, ◌≤◌, ◌↔◌, length, slice_get, Some, IfOk, IfSome, IsTrue};
+ghost use Rattle.std.specs.Prelude.{◌≡◌, ℕ, ◌+◌, ◌*◌, ◌<◌, ◌≤◌, ◌↔◌, length, slice_get, Some, IfOk, IfSome, IsTrue};
 ghost use Rattle.byteorder.specs.Endian.{little_number};
 ghost use Rattle.catalogue.specs.Entry.{key};
 ghost use Rattle.catalogue.specs.Map.{IsLawful};
@@ -7,12 +7,12 @@ ghost use Rattle.catalogue.specs.MoFile.{spelling};
 ghost use Rattle.catalogue.specs.Tables.{word_at, string_at};
 ghost use Rattle.catalogue.specs.Pairs.{key_part};
 ghost use Rattle.catalogue.specs.Image.{listing, IsImage, NamesText};
-ghost use Rattle.catalogue.specs.Index.{name_of, places, IsRow};
+ghost use Rattle.catalogue.specs.Index.{hash, IsRow, IsRowOf};
 
 use crate::EntryRef;
 use crate::entry::key_of;
 use crate::extent::{extent_at, text_in};
-use crate::index::{Row, name_of};
+use crate::index::{Row, hash_of};
 use crate::writer::{EntryList, spell};
 use byteorder::{ByteOrder, LittleEndian};
 use std::alloc::{AllocError, Global};
@@ -102,14 +102,14 @@ fn entry_of(bytes: &[u8], i: usize) -> EntryRef<'_>
 fn row_of(bytes: &[u8], i: usize) -> Row
     requires image { IsImage bytes.now }
     requires within { i < length (listing bytes.now) }
-    ensures row { IsRow bytes.now (length (listing bytes.now)) result }
-    ensures name { IfSome (slice_get (listing bytes.now) i) (λ e. result.name ≡ name_of (key e) i) }
+    ensures row { IsRowOf bytes.now (length (listing bytes.now)) i result }
+    ensures hash { IfSome (slice_get (listing bytes.now) i) (λ e. result.hash ≡ hash (key e)) }
 {
     let original = original_of(bytes, i);
     let originals = TABLES_AT + ROW_LEN * i;
     let translations = originals + ROW_LEN * count_of(bytes);
     Row {
-        name: name_of(key_of(original), i),
+        hash: hash_of(key_of(original)),
         original: extent_at(bytes, originals),
         translation: extent_at(bytes, translations),
     }
@@ -119,7 +119,7 @@ fn row_of(bytes: &[u8], i: usize) -> Row
 fn entry_in<'a>(bytes: &'a [u8], row: &Row) -> EntryRef<'a>
     requires image { IsImage bytes.now }
     requires row { IsRow bytes.now (length (listing bytes.now)) row.now }
-    ensures { slice_get (listing bytes.now) (row.now.name % places) ≡ Some result }
+    ensures { (i : ℕ) → IsRowOf bytes.now (length (listing bytes.now)) i row.now → slice_get (listing bytes.now) i ≡ Some result }
 {
     EntryRef::new(
         text_in(bytes, row.original),
@@ -171,8 +171,8 @@ impl Image {
     /// The row by which an index finds the i-th entry.
     pub(crate) fn row(&self, i: usize) -> Row
         requires { i < length self.now }
-        ensures row { IsRow (spelling self.now) (length self.now) result }
-        ensures name { IfSome (slice_get self.now i) (λ e. result.name ≡ name_of (key e) i) }
+        ensures row { IsRowOf (spelling self.now) (length self.now) i result }
+        ensures hash { IfSome (slice_get self.now i) (λ e. result.hash ≡ hash (key e)) }
     {
         row_of(&self.bytes, i)
     }
@@ -180,7 +180,7 @@ impl Image {
     /// The entry of a row.
     pub(crate) fn entry_in(&self, row: &Row) -> EntryRef<'_>
         requires { IsRow (spelling self.now) (length self.now) row.now }
-        ensures entry { slice_get self.now (row.now.name % places) ≡ Some result }
+        ensures entry { (i : ℕ) → IsRowOf (spelling self.now) (length self.now) i row.now → slice_get self.now i ≡ Some result }
         ensures lawful { IsLawful self.now }
     {
         entry_in(&self.bytes, row)

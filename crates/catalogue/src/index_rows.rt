@@ -1,10 +1,10 @@
 //! The rows of an index, made of a catalogue's entries.
 ghost use Rattle.std.specs.Prelude.{Contains, IfOk, IfSome, IsTrue};
 ghost use Rattle.catalogue.specs.declared.index.Row.{Row};
-ghost use Rattle.catalogue.specs.Index.{Climbs, IsIndex, NamesEntries, OneForEachTag};
+ghost use Rattle.catalogue.specs.Index.{Climbs, IsIndex, NamesEntries, OneForEachHash};
 
 use crate::image::Image;
-use crate::index::{Index, PLACES, Row, home};
+use crate::index::{Index, Row, home};
 use std::alloc::{AllocError, Global};
 
 /// The row of each entry, in the order of the entries.
@@ -24,24 +24,24 @@ fn sort_rows(alloc: Global, image: &Image) -> Result<Vec<Row>, AllocError>
     ensures climbs { IfOk result (λ rows. Climbs rows.items) }
 {
     let mut rows = list_rows(alloc, image)?;
-    rows.sort_unstable_by_key(|row| row.name);
+    rows.sort_unstable_by_key(|row| row.hash);
     Ok(rows)
 }
 
-/// Whether no two of these rows, which rise, have one tag.
-fn have_own_tags(rows: &[Row]) -> bool
+/// Whether no two of these rows, which rise, have one hash.
+fn have_own_hashes(rows: &[Row]) -> bool
     requires { Climbs rows.now }
-    ensures { IsTrue result → OneForEachTag rows.now }
+    ensures { IsTrue result → OneForEachHash rows.now }
 {
     'rows: for i in 1..rows.len() {
-        if rows[i - 1].name / PLACES == rows[i].name / PLACES {
+        if rows[i - 1].hash == rows[i].hash {
             return false;
         }
     }
     true
 }
 
-/// The rows, each at the place that its tag expects or behind it, and repeated where there is room before it.
+/// The rows, each at the place that its hash expects or behind it, and repeated where there is room before it.
 fn spread_out(alloc: Global, rows: &[Row], spread: usize) -> Result<Vec<Row>, AllocError>
     requires { Climbs rows.now }
     ensures climbs { IfOk result (λ spread. Climbs spread.items) }
@@ -49,18 +49,18 @@ fn spread_out(alloc: Global, rows: &[Row], spread: usize) -> Result<Vec<Row>, Al
 {
     let mut placed = Vec::with_capacity(alloc, spread)?;
     'rows: for row in rows {
-        let end = home(row.name / PLACES, spread).max(placed.len()) + 1;
+        let end = home(row.hash, spread).max(placed.len()) + 1;
         placed.resize(end, *row)?;
     }
     Ok(placed)
 }
 
-/// The index of a catalogue's entries; none, where two of their keys have one tag.
+/// The index of a catalogue's entries; none, where two of their keys have one hash.
 pub(crate) fn index_of(alloc: Global, image: &Image) -> Result<Option<Index>, AllocError>
     ensures { IfOk result (λ index. IfSome index (λ index. IsIndex image.now index)) }
 {
     let rows = sort_rows(alloc, image)?;
-    if !have_own_tags(&rows) {
+    if !have_own_hashes(&rows) {
         return Ok(None);
     }
     let spread = rows.len() + rows.len() / 2;

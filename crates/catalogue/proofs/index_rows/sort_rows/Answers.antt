@@ -8,4 +8,4 @@ pub returns-clause-names : goal.returns-clause-names
 returns-clause-names c = named_in_order c.args.image.now c.in_ok-rows.rows.items c.sort_unstable_by_key.new.self.items c.sort_unstable_by_key.ensures.permutation c.in_ok-rows.ensures
 
 pub returns-clause-climbs : goal.returns-clause-climbs
-returns-clause-climbs c = IsNonDecreasingBy-from_sort_by_key (λ (row : Row). row.name) c.sort_unstable_by_key.new.self.items c.sort_unstable_by_key.ensures.sorted (λ a r q k. search rules)
+returns-clause-climbs c = IsNonDecreasingBy-from_sort_by_key (λ (row : Row). row.hash) c.sort_unstable_by_key.new.self.items c.sort_unstable_by_key.ensures.sorted (λ a r q k. search rules)

@@ -8,5 +8,5 @@ pub returns-else-cut-len : goal.returns-else-cut-len
 returns-else-cut-len c so =
     let rows = c.self.inside.rows.items in
     let bound = c.args.bound in
-    subst (λ (r : List Row). AllWithin (λ (row : Row). bound ≤ row.name) r c.args.cut (length r)) c.self.view_is
+    subst (λ (r : List Row). AllWithin (λ (row : Row). bound ≤ row.hash) r c.args.cut (length r)) c.self.view_is
     (above_is rows bound c.args.cut c.index.result.now c.self.invariant c.index.ensures (omega (arith, c.requires, ap length c.self.view_is, c.if-cut-len.false, c.len.ensures, c.self.inside.rows.ok)) (leb-true _ _ so))

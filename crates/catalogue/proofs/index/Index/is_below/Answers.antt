@@ -8,5 +8,5 @@ pub returns-else-cut-eq0 : goal.returns-else-cut-eq0
 returns-else-cut-eq0 c so =
     let rows = c.self.inside.rows.items in
     let bound = c.args.bound in
-    subst (λ (r : List Row). AllWithin (λ (row : Row). row.name < bound) r 0 c.args.cut) c.self.view_is
+    subst (λ (r : List Row). AllWithin (λ (row : Row). row.hash < bound) r 0 c.args.cut) c.self.view_is
     (below_is rows bound c.args.cut c.index.result.now c.self.invariant c.index.ensures (omega (arith, c.if-cut-eq0.false)) (omega (arith, c.requires, ap length c.self.view_is)) (ltb-true _ _ so))
