@@ -1,15 +1,16 @@
 -- Where a list is cut: its pieces, and the parts of a line.
-use Rattle.std.proofs.Common.{◌≡◌, ◌≢◌, ◌∙◌, refl, sym, ap, ℕ, suc, ◌+◌, ◌-◌, ◌<◌, Bool, true, false, List, [], ◌∷◌, ◌++◌, length, get_or, take, drop, subst, arith, inl, inr, append_assoc, add-one, length-append, length-take}
+use Rattle.std.proofs.Common.{◌≡◌, ◌≢◌, ◌∙◌, refl, sym, ap, ℕ, suc, ◌+◌, ◌-◌, ◌<◌, Bool, true, false, List, Some, None, [], ◌∷◌, ◌++◌, length, get_or, take, drop, subst, arith, inl, inr, append_assoc, add-one, length-append, length-take}
 use Rattle.std.proofs.Math.Seq.{take-length}
 use Rattle.std.proofs.lemmas.List.{append-nil, get_or_append_left, get_or-append_right, take-append-drop}
-use Rattle.std.specs.List.{position_or_len, before_first, after_first}
-use Rattle.std.proofs.lemmas.Bool.{cases_Bool, eqb-true}
+use Rattle.std.specs.List.{position_or_len, before_first, after_first, slice_range}
+use Rattle.std.proofs.lemmas.Bool.{cases_Bool, eqb-true, eqb-false, false_from_ne_true}
 use Rattle.std.proofs.lemmas.List.Splits.{slice_split_first, length-slice_split}
-use Rattle.std.proofs.lemmas.List.Sums.{split_at_first, fails_before_first, passes_at_first}
+use Rattle.std.proofs.lemmas.List.Sums.{split_at_first, fails_before_first, passes_at_first, position_or_len_is}
 use Rattle.std.specs.Str.{IsUtf8}
 use Rattle.std.proofs.lemmas.Str.{IsUtf8-drop, IsUtf8-nil, IsCharBoundary-after_ascii}
 use Rattle.catserve.specs.Lines.{pieces, is_line_end, is_tab, fields}
-use Rattle.catserve.specs.Reading.{IsFirstLine}
+use Rattle.bstr.specs.Find.{IsFirstByte, is_byte}
+use Rattle.catserve.specs.Reading.{IsCut, IsFirstLine}
 
 -- ---- pieces
 
@@ -62,10 +63,38 @@ utf8_behind c text front behind utf8 e small =
     drop-past [] c behind = refl
     drop-past (x ∷ front) c behind = drop-past front c behind
 
--- ---- lines
+-- ---- bytes
 
-cut_get : (n : ℕ) (xs : List ℕ) (k : ℕ) → k < length (take n xs) → get_or (take n xs) k 0 ≡ get_or xs k 0
+pub cut_get : (n : ℕ) (xs : List ℕ) (k : ℕ) → k < length (take n xs) → get_or (take n xs) k 0 ≡ get_or xs k 0
 cut_get n xs k below = sym (get_or_append_left (take n xs) (drop n xs) 0 k below) ∙ ap (λ zs. get_or zs k 0) (take-append-drop n xs)
+
+-- what a search for a byte says of the place where the text is cut
+pub cuts_at : (byte : ℕ) (text front behind : List ℕ) (k : ℕ) → IsFirstByte (is_byte byte) text (Some k) → front ≡ slice_range text 0 k → behind ≡ drop (k + 1) text → IsCut byte text front behind
+cuts_at byte text front behind k found e f =
+    let at : position_or_len (is_byte byte) text ≡ k = position_or_len_is (is_byte byte) text k 0 (omega (arith, found.0.high)) (λ i lt. false_from_ne_true _ (found.0.before i (omega arith) lt)) (λ lt. found.1) in
+    let all : k - 0 ≡ k = omega arith in
+    record { within = omega (arith, at, found.0.high); front_is = rw at (e ∙ ap (λ n. take n text) all); behind_is = rw at f }
+
+pub cuts_nowhere : (byte : ℕ) (text : List ℕ) → IsFirstByte (is_byte byte) text None → position_or_len (is_byte byte) text ≡ length text
+cuts_nowhere byte text none = position_or_len_is (is_byte byte) text (length text) 0 (omega arith) (λ i lt. false_from_ne_true _ (none i (omega arith) lt)) (λ lt. absurd (omega arith))
+
+-- the byte stands between the two parts
+pub cut_whole : (byte : ℕ) (text front behind : List ℕ) → IsCut byte text front behind → text ≡ front ++ byte ∷ behind
+cut_whole byte text front behind cut =
+    let is : get_or text (position_or_len (is_byte byte) text) 0 ≡ byte = eqb-true _ _ (passes_at_first (is_byte byte) text 0 cut.within) in
+    rw (cut.front_is, cut.behind_is) (split_at_first (is_byte byte) text 0 cut.within ∙ ap (λ b. before_first (is_byte byte) text ++ b ∷ after_first (is_byte byte) text) is)
+
+-- and the first part lacks it
+pub cut_lacks : (byte : ℕ) (text front behind : List ℕ) → IsCut byte text front behind → (k : ℕ) → k < length front → get_or front k 0 ≢ byte
+cut_lacks byte text front behind cut k below =
+    let n = position_or_len (is_byte byte) text in
+    let lt : k < length (take n text) = rw (← cut.front_is) below in
+    rw (cut.front_is, cut_get n text k lt) (eqb-false _ _ (fails_before_first (is_byte byte) text k 0 (omega (arith, length-take n text, lt))))
+
+pub uncut_lacks : (byte : ℕ) (text : List ℕ) → position_or_len (is_byte byte) text ≡ length text → (k : ℕ) → k < length text → get_or text k 0 ≢ byte
+uncut_lacks byte text none k below = eqb-false _ _ (fails_before_first (is_byte byte) text k 0 (omega arith))
+
+-- ---- lines
 
 first_line-at : (line : List ℕ) (y : ℕ) (rest : List ℕ) → IsUtf8 (line ++ y ∷ rest) → ((k : ℕ) → k < length line → is_line_end (get_or line k 0) ≡ false) → is_line_end y ≡ true → IsFirstLine (line ++ y ∷ rest) line rest
 first_line-at line y rest utf8 fails ends = record {

@@ -5,6 +5,7 @@ ghost use Rattle.std.specs.Char.{is_ascii_digit};
 ghost use Rattle.catserve.specs.Fields.{number, unescaped, escaped_byte, options_of, worker_of};
 ghost use Rattle.catserve.specs.Reading.{Reads, SplitsEscape};
 
+use crate::cut::split_at_byte;
 use crate::fault::LineFault;
 use catalogue::Options;
 use std::alloc::Global;
@@ -57,7 +58,7 @@ pub(crate) fn read_text(alloc: Global, field: &str) -> Result<String, LineFault>
 {
     let mut text = String::new(alloc);
     let mut rest = field;
-    'escapes: while let Some((plain, behind)) = rest.split_once('\\') {
+    'escapes: while let Some((plain, behind)) = split_at_byte(rest, b'\\') {
         let Some((byte, after)) = split_escape(behind) else {
             return Err(LineFault::Bad);
         };

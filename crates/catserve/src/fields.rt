@@ -4,6 +4,7 @@ ghost use Rattle.std.specs.Option.{option_copied};
 ghost use Rattle.catserve.specs.Lines.{fields};
 ghost use Rattle.catserve.specs.Reading.{fields_left};
 
+use crate::cut::split_at_byte;
 use crate::fault::LineFault;
 use std::marker::Model;
 
@@ -27,7 +28,7 @@ impl<'a> Model for Fields<'a> {
 fn split_field(text: &str) -> (&str, Option<&str>)
     ensures { fields text.now ≡ result.0.now ∷ fields_left (option_copied result.1) }
 {
-    match text.split_once('\t') {
+    match split_at_byte(text, b'\t') {
         Some((field, rest)) => (field, Some(rest)),
         None => (text, None),
     }

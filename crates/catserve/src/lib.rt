@@ -5,6 +5,7 @@
 #![tactic(auto)]
 
 mod command;
+mod cut;
 mod fault;
 mod field;
 mod fields;

@@ -3,6 +3,8 @@ ghost use Rattle.std.specs.Prelude.{◌≡◌, ◌<◌, [], MatchOption, length}
 ghost use Rattle.catserve.specs.Lines.{lines};
 ghost use Rattle.catserve.specs.Reading.{IsFirstLine, TakesLines};
 
+use crate::cut::split_at_byte;
+
 /// The first line of a text, without its LF, and what follows it.
 pub(crate) fn split_line(text: &str) -> Option<(&str, &str)>
     ensures { MatchOption result (text.now ≡ []) (λ x. IsFirstLine text.now x.0.now x.1.now) }
@@ -10,10 +12,7 @@ pub(crate) fn split_line(text: &str) -> Option<(&str, &str)>
     if text.is_empty() {
         return None;
     }
-    match text.split_once('\n') {
-        Some((line, behind)) => Some((line, behind)),
-        None => Some((text, "")),
-    }
+    Some(split_at_byte(text, b'\n').unwrap_or((text, "")))
 }
 
 /// The first `count` lines of a text, each with its LF, and what follows them.

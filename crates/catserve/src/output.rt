@@ -4,6 +4,7 @@ ghost use Rattle.std.specs.Fmt.{decimal};
 ghost use Rattle.catalogue.specs.Meaning.{rank};
 ghost use Rattle.catserve.specs.Output.{escape, escaped, accepted_line, refused_line, unnamed_line, version_line, answer_line};
 
+use bstr::ByteSlice;
 use catalogue::{LoadFault, LoadKind, Stats};
 use std::alloc::{AllocError, Global};
 
@@ -20,14 +21,16 @@ fn write_byte(output: &mut Vec<u8>, byte: u8) -> Result<(), AllocError>
 }
 
 /// Writes a text with its escapes.
-#[tactic(auto, using(std::proofs::lemmas::List::flat_map_more))]
 fn write_escaped(output: &mut Vec<u8>, text: &str) -> Result<(), AllocError>
     ensures { OnOk result (output.new.items ≡ output.old.items ++ escaped text.now) }
 {
-    'bytes: for byte in text.as_bytes() {
-        write_byte(output, *byte)?;
+    let mut rest = text.as_bytes();
+    'runs: while let Some(at) = rest.find_byteset(b"\n\t\\") {
+        output.extend_from_slice(&rest[..at])?;
+        write_byte(output, rest[at])?;
+        rest = &rest[at + 1..];
     }
-    Ok(())
+    output.extend_from_slice(rest)
 }
 
 /// Writes a text as it is.

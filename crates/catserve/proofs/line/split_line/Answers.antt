@@ -1,14 +1,18 @@
-use Rattle.std.proofs.Common.{Some, None, arith, length, sym, ap}
+use Rattle.std.proofs.Common.{◌≡◌, ◌≢◌, ℕ, List, [], Bor, MatchOption, Option, Some, None, length, refl, sym, ap}
+use Rattle.std.specs.Option.{unwrap_or}
+use Rattle.std.specs.List.{position_or_len}
+use Rattle.std.specs.Str.{IsUtf8}
 use Rattle.std.proofs.lemmas.Bool.{eqb-false}
-use Rattle.std.proofs.lemmas.Str.Pattern.{split_once_first}
+use Rattle.bstr.specs.Find.{is_byte}
+use Rattle.catserve.specs.Reading.{IsCut, IsFirstLine}
 use Rattle.catserve.proofs.Cutting.{first_line, last_line}
 use Rattle.catserve.proofs.line.split_line.Goals as goal
 
-pub returns-in-Some : goal.returns-in-Some
-returns-in-Some c =
-    let h = split_once_first 10 c.args.text.now (Some (c.in-Some.line, c.in-Some.behind)) c.in-Some.ensures.cases (omega arith) in
-    first_line c.args.text.now c.in-Some.line.now c.in-Some.behind.now c.utf8.text h.0 h.1 h.2
+line_of : (text : List ℕ) (r : Option (Bor (List ℕ) × Bor (List ℕ))) (all : Bor (List ℕ) × Bor (List ℕ)) → text ≢ [] → IsUtf8 text → all.0.now ≡ text → all.1.now ≡ [] → MatchOption r (position_or_len (is_byte 10) text ≡ length text) (λ x. IsCut 10 text x.0.now x.1.now) → IsFirstLine text (unwrap_or r all).0.now (unwrap_or r all).1.now
+line_of text None all some utf8 e f none = rw (e, f) (last_line text some none)
+line_of text (Some x) all some utf8 e f cut = first_line text x.0.now x.1.now utf8 cut.within cut.front_is cut.behind_is
 
-pub returns-in-None : goal.returns-in-None
-returns-in-None c =
-    last_line c.args.text.now (λ e. eqb-false (length c.args.text.now) 0 (sym c.if-is_empty.ensures) (ap length e)) (split_once_first 10 c.args.text.now None c.in-None.ensures.cases (omega arith))
+pub returns : goal.returns
+returns c =
+    let some : c.args.text.now ≢ [] = λ e. eqb-false (length c.args.text.now) 0 (sym c.if-is_empty.ensures) (ap length e) in
+    rw c.unwrap_or.ensures (line_of c.args.text.now c.split_at_byte.result _ some c.utf8.text refl refl c.split_at_byte.ensures)

@@ -1,6 +1,9 @@
-use Rattle.std.proofs.Common.{◌≡◌, ◌++◌, take}
+use Rattle.std.proofs.Common.{◌≡◌, ◌++◌, length}
 use Rattle.catserve.specs.Output.{escaped}
 use Rattle.catserve.proofs.output.write_escaped.Given as goal
 
-abbrev pub invariant-bytes : goal.invariant-bytes
-invariant-bytes l = l.output.items ≡ l.fn.output.items ++ escaped (take l.byte-index l.byte-items)
+abbrev pub invariant-runs : goal.invariant-runs
+invariant-runs l = l.output.items ++ escaped l.rest ≡ l.fn.output.items ++ escaped l.text
+
+abbrev pub decreases-runs : goal.decreases-runs
+decreases-runs l = length l.rest
