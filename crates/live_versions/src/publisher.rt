@@ -110,7 +110,8 @@ impl Publisher {
         Notice::new(&self.front)
     }
 
-    /// Compiles a PO text for a domain and a locale (`catalogue::compile`), and puts it behind the pending loads.
+    /// Compiles a PO text for a domain and a locale (`catalogue::compile`), makes the catalogue's index, by which
+    /// look-ups are quick (`catalogue::Catalogue::index`), and puts it behind the pending loads.
     ///
     /// It is refused where the domain or the locale is no name (`live_set::Name::new`), else where the loads
     /// that are published or pending are as many as the store takes, else for what the text is refused for.
