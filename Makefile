@@ -39,6 +39,7 @@ check:
 
 bench: programs
 	@bench/run --rounds $(N)
+	@bench/scripts/run $(N)
 
 install: bin/msgfmt bin/catserve
 	install -d "$(DESTDIR)$(PREFIX)/bin"
