@@ -5,7 +5,7 @@ use Rattle.std.specs.Str.{IsUtf8}
 use Rattle.std.proofs.lemmas.List.{length-map}
 use Rattle.byteorder.specs.Endian.{little_number}
 use Rattle.catalogue.specs.Entry.{Entry, key, original, translation, IsLawfulEntry}
-use Rattle.catalogue.specs.Map.{IsLawful}
+use Rattle.catalogue.specs.Map.{IsFileOf, IsLawful}
 use Rattle.catalogue.specs.MoFile.{spelling}
 use Rattle.catalogue.specs.Tables.{string_at, strings}
 use Rattle.catalogue.specs.Pairs.{key_part, entry_of}
@@ -86,3 +86,12 @@ pub spelling_image : (m : List Entry) → IsLawful m → IsImage (spelling m)
 spelling_image m lawful =
     let same = listing_again m lawful in
     record { lawful = subst IsLawful (sym same) lawful; spelt = ap spelling (sym same) }
+
+-- the file of a map is the image of the map that its tables name
+pub file_image : (bytes : List ℕ) (m : List Entry) → IsFileOf bytes m → IsImage bytes
+file_image bytes m file =
+    let same : listing bytes ≡ m = ap listing file.spelt ∙ listing_again m file.lawful in
+    record { lawful = subst IsLawful (sym same) file.lawful; spelt = file.spelt ∙ sym (ap spelling same) }
+
+pub image_file : (bytes : List ℕ) → IsImage bytes → IsFileOf bytes (listing bytes)
+image_file bytes image = record { lawful = image.lawful; spelt = image.spelt }

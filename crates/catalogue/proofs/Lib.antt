@@ -32,3 +32,4 @@ pub mod Found
 pub mod Rows
 pub mod ImageFacts
 pub mod Accepting
+pub mod Cutting

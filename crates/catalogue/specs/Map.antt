@@ -38,3 +38,8 @@ pub record IsLawful (m : List Entry) : Type 0 where
   pub each : AllByRecursion IsLawfulEntry m
   pub charset : IfSome (header_text m) HasAcceptedCharset
   pub fits : length (spelling m) ≤ 268435456
+
+-- these bytes are the one MO file of a lawful map
+pub record IsFileOf (bytes : List ℕ) (m : List Entry) : Type 0 where
+  pub lawful : IsLawful m
+  pub spelt : bytes ≡ spelling m

@@ -5,7 +5,14 @@ ghost use Rattle.catalogue.specs.Entry.{IsLawfulEntry, key, translation};
 ghost use Rattle.catalogue.specs.Parts.{cut, forms_left};
 ghost use Rattle.catalogue.specs.Pairs.{key_part, plural_part};
 
+use crate::cut::split_at_byte;
 use std::marker::Model;
+
+/// What parts a key from its plural, and forms from one another.
+const NUL: u8 = 0;
+
+/// What parts a context from its msgid in a key.
+const EOT: u8 = 4;
 
 /// How many NULs a text has.
 fn nul_count(text: &str) -> usize
@@ -18,7 +25,7 @@ fn nul_count(text: &str) -> usize
 pub(crate) fn split_form(text: &str) -> (&str, Option<&str>)
     ensures { slice_split (λ b. b == 0) text.now ≡ result.0.now ∷ forms_left result.1 }
 {
-    match text.split_once('\0') {
+    match split_at_byte(text, NUL) {
         Some((form, others)) => (form, Some(others)),
         None => (text, None),
     }
@@ -61,7 +68,7 @@ impl<'a> Iterator for Forms<'a> {
 pub(crate) fn key_of(original: &str) -> &str
     ensures { result.now ≡ key_part original.now }
 {
-    match original.split_once('\0') {
+    match split_at_byte(original, NUL) {
         Some((key, _)) => key,
         None => original,
     }
@@ -71,7 +78,7 @@ pub(crate) fn key_of(original: &str) -> &str
 pub(crate) fn plural_of(original: &str) -> Option<&str>
     ensures { option_map (λ s. s.now) result ≡ plural_part original.now }
 {
-    let (_, plural) = original.split_once('\0')?;
+    let (_, plural) = split_at_byte(original, NUL)?;
     Some(plural)
 }
 
@@ -79,7 +86,7 @@ pub(crate) fn plural_of(original: &str) -> Option<&str>
 pub(crate) fn split_context(key: &str) -> Option<(&str, &str)>
     ensures { option_map (λ p. (p.0.now, p.1.now)) result ≡ cut 4 key.now }
 {
-    key.split_once('\u{4}')
+    split_at_byte(key, EOT)
 }
 
 /// An entry of a catalogue. Its texts are lent from the catalogue.
@@ -135,7 +142,7 @@ impl<'a> EntryRef<'a> {
     pub fn context(&self) -> Option<&'a str>
         ensures { option_map (λ s. s.now) result ≡ self.now.context }
     {
-        let (context, _) = key_of(self.original).split_once('\u{4}')?;
+        let (context, _) = split_context(key_of(self.original))?;
         Some(context)
     }
 
@@ -144,7 +151,7 @@ impl<'a> EntryRef<'a> {
         ensures { result.now ≡ self.now.id }
     {
         let key = key_of(self.original);
-        match key.split_once('\u{4}') {
+        match split_context(key) {
             Some((_, id)) => id,
             None => key,
         }

@@ -1,8 +1,8 @@
 //! The entries of a catalogue, kept as the bytes of their MO file.
-ghost use Rattle.std.specs.Prelude.{◌≡◌, ℕ, ◌+◌, ◌*◌, ◌<◌, ◌≤◌, ◌↔◌, length, slice_get, Some, IfOk, IfSome, IsTrue};
+ghost use Rattle.std.specs.Prelude.{◌≡◌, ℕ, ◌+◌, ◌*◌, ◌<◌, ◌≤◌, ◌↔◌, List, length, slice_get, Some, IfOk, IfSome, IsTrue};
 ghost use Rattle.byteorder.specs.Endian.{little_number};
-ghost use Rattle.catalogue.specs.Entry.{key};
-ghost use Rattle.catalogue.specs.Map.{IsLawful};
+ghost use Rattle.catalogue.specs.Entry.{Entry, key};
+ghost use Rattle.catalogue.specs.Map.{IsFileOf, IsLawful};
 ghost use Rattle.catalogue.specs.MoFile.{spelling};
 ghost use Rattle.catalogue.specs.Tables.{word_at, string_at};
 ghost use Rattle.catalogue.specs.Pairs.{key_part};
@@ -134,6 +134,16 @@ impl Image {
         ensures { IfOk result (λ image. image ≡ L.entries list.now) }
     {
         let bytes = spell(alloc, list)?;
+        Ok(Image { bytes })
+    }
+
+    /// The image that is this MO file.
+    pub(crate) fn copied(alloc: Global, file: &[u8]) -> Result<Image, AllocError>
+        requires { (m : List Entry) × IsFileOf file.now m }
+        ensures { IfOk result (λ image. IsFileOf file.now image) }
+    {
+        let mut bytes = Vec::with_capacity(alloc, file.len())?;
+        bytes.extend_from_slice(file)?;
         Ok(Image { bytes })
     }
 

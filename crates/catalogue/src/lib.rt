@@ -8,6 +8,7 @@ mod accepts;
 mod checks;
 mod collect;
 mod compiler;
+mod cut;
 mod drafts;
 mod entry;
 mod extent;

@@ -1,8 +1,8 @@
 //! Catalogues: entries in order, with the rule for plural forms in their header.
-ghost use Rattle.std.specs.Prelude.{◌≡◌, ◌<◌, ◌↔◌, length, slice_get, Some, IfOk, IsTrue, option_map};
+ghost use Rattle.std.specs.Prelude.{◌≡◌, ◌<◌, ◌↔◌, List, length, slice_get, Some, IfOk, IsTrue, option_map};
 ghost use Rattle.po_header.specs.Rules.{rule_of};
-ghost use Rattle.catalogue.specs.Entry.{key_bytes};
-ghost use Rattle.catalogue.specs.Map.{IsLawful, entry_at};
+ghost use Rattle.catalogue.specs.Entry.{Entry, key_bytes};
+ghost use Rattle.catalogue.specs.Map.{IsFileOf, IsLawful, entry_at};
 ghost use Rattle.catalogue.specs.MoFile.{spelling};
 ghost use Rattle.catalogue.specs.Search.{AtMostDigits};
 ghost use Rattle.catalogue.specs.Value.{HasMapRule};
@@ -69,12 +69,26 @@ impl Catalogue {
         Catalogue::from_list(alloc, &strings)
     }
 
+    /// The catalogue whose one MO file this is: what `file` lent, and was kept or sent. It is one copy.
+    /// Answers AllocError where memory is refused.
+    pub fn from_file(alloc: Global, file: &[u8]) -> Result<Catalogue, AllocError>
+        requires { (m : List Entry) × IsFileOf file.now m }
+        ensures { IfOk result (λ catalogue. IsFileOf file.now catalogue) }
+    {
+        Catalogue::from_image(alloc, Image::copied(alloc, file)?)
+    }
+
     /// The catalogue of the entries of a list.
     pub(crate) fn from_list<L: EntryList>(alloc: Global, list: &L) -> Result<Catalogue, AllocError>
         requires { IsLawful (L.entries list.now) }
         ensures { IfOk result (λ catalogue. catalogue ≡ L.entries list.now) }
     {
-        let image = Image::spelled(alloc, list)?;
+        Catalogue::from_image(alloc, Image::spelled(alloc, list)?)
+    }
+
+    fn from_image(alloc: Global, image: Image) -> Result<Catalogue, AllocError>
+        ensures { IfOk result (λ catalogue. catalogue ≡ image) }
+    {
         let rule = rule_in(alloc, &image)?;
         Ok(Catalogue {
             image,

@@ -13,7 +13,7 @@ use Rattle.live_set.specs.Places.{asked}
 
 pub total : IsTotalOrder compared
 total =
-    let both = then_total (on_total (λ (l : LoadValue). l.domain) nat_list_cmp_total) (on_total (λ (l : LoadValue). l.locale) nat_list_cmp_total) in
+    let both = then_total (on_total (λ (l : LoadValue). l.locale) nat_list_cmp_total) (on_total (λ (l : LoadValue). l.domain) nat_list_cmp_total) in
     record { antisymm = λ x y. both.antisymm x y; trans = λ x y z. both.trans x y z; congr = λ x y z. both.congr x y z }
 
 -- the other way round
@@ -34,16 +34,16 @@ equal_parts Greater b h = absurd (greater_ne h)
 -- a load that ties with the pair is for it, and no other is
 pub tied_for : (domain locale : List ℕ) (l : LoadValue) → compared l (asked domain locale) ≡ Equal → is_for domain locale l ≡ true
 tied_for domain locale l h =
-    let parts = equal_parts (slice_cmp nat_cmp l.domain domain) (slice_cmp nat_cmp l.locale locale) h in
-    let d : bytes_eq l.domain domain ≡ true = (bytes_eq-Decides l.domain domain).1 (slice_cmp-IsAntisymmetric nat_cmp-IsAntisymmetric l.domain domain parts.0) in
-    let e : bytes_eq l.locale locale ≡ true = (bytes_eq-Decides l.locale locale).1 (slice_cmp-IsAntisymmetric nat_cmp-IsAntisymmetric l.locale locale parts.1) in
+    let parts = equal_parts (slice_cmp nat_cmp l.locale locale) (slice_cmp nat_cmp l.domain domain) h in
+    let d : bytes_eq l.domain domain ≡ true = (bytes_eq-Decides l.domain domain).1 (slice_cmp-IsAntisymmetric nat_cmp-IsAntisymmetric l.domain domain parts.1) in
+    let e : bytes_eq l.locale locale ≡ true = (bytes_eq-Decides l.locale locale).1 (slice_cmp-IsAntisymmetric nat_cmp-IsAntisymmetric l.locale locale parts.0) in
     λ i. d i && e i
 
 pub for_tied : (domain locale : List ℕ) (l : LoadValue) → is_for domain locale l ≡ true → compared l (asked domain locale) ≡ Equal
 for_tied domain locale l h =
     let d : l.domain ≡ domain = (bytes_eq-Decides l.domain domain).0 (first_so (bytes_eq l.domain domain) (bytes_eq l.locale locale) h) in
     let e : l.locale ≡ locale = (bytes_eq-Decides l.locale locale).0 (second_so (bytes_eq l.domain domain) (bytes_eq l.locale locale) h) in
-    let same : compared l (asked domain locale) ≡ compared (asked domain locale) (asked domain locale) = λ i. ordering_then (slice_cmp nat_cmp (d i) domain) (slice_cmp nat_cmp (e i) locale) in
+    let same : compared l (asked domain locale) ≡ compared (asked domain locale) (asked domain locale) = λ i. ordering_then (slice_cmp nat_cmp (e i) locale) (slice_cmp nat_cmp (d i) domain) in
     same ∙ tied_itself total (asked domain locale)
 
 pub not_for : (domain locale : List ℕ) (l : LoadValue) (o : Ordering) → compared l (asked domain locale) ≡ o → (o ≡ Equal → ⊥) → is_for domain locale l ≡ false

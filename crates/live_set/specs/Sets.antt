@@ -9,9 +9,9 @@ use Rattle.std.specs.Cmp.Lexicographic.{slice_cmp}
 use Rattle.catalogue.specs.Entry.{Entry}
 use Rattle.live_set.specs.Loads.{LoadValue, is_for, map_or_empty}
 
--- by domain and then by locale, byte by byte
+-- by locale and then by domain, byte by byte
 abbrev pub compared : LoadValue → LoadValue → Ordering
-compared a b = ordering_then (slice_cmp nat_cmp a.domain b.domain) (slice_cmp nat_cmp a.locale b.locale)
+compared a b = ordering_then (slice_cmp nat_cmp a.locale b.locale) (slice_cmp nat_cmp a.domain b.domain)
 
 abbrev pub is_before : LoadValue → LoadValue → Bool
 is_before a b = is_lt (compared a b)

@@ -61,13 +61,14 @@ impl Load {
         &*self.catalogue
     }
 
-    /// How the load's domain and locale compare with these, by the domain and then by the locale.
+    /// How the load's domain and locale compare with these, by the locale, since that is what differs most,
+    /// and then by the domain.
     pub(crate) fn compare(&self, domain: &str, locale: &str) -> Ordering
         ensures { result ≡ compared self.now (asked domain.now locale.now) }
     {
-        self.domain
+        self.locale
             .as_str()
-            .cmp(domain)
-            .then_with(|| self.locale.as_str().cmp(locale))
+            .cmp(locale)
+            .then_with(|| self.domain.as_str().cmp(domain))
     }
 }

@@ -6,3 +6,4 @@ pub mod Named
 pub mod Texts
 pub mod ReadBack
 pub mod OneMap
+pub mod Spelt

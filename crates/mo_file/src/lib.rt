@@ -3,6 +3,7 @@
 
 mod fault;
 mod laws;
+mod own;
 mod read;
 mod refusals;
 mod rows;

@@ -1,0 +1,134 @@
+-- A file whose strings stand one behind the other is the one that is written of its map.
+use Rattle.std.proofs.Common.{◌≡◌, ℕ, zero, suc, ◌+◌, ◌-◌, ◌*◌, ◌/◌, ◌%◌, ◌^◌, ◌<◌, ◌≤◌, List, [], ◌∷◌, ◌++◌, length, take, drop, get_or, refl, sym, ap, ◌∙◌, subst, arith, append_assoc}
+use Rattle.std.proofs.Math.Seq.{drop-cons, take-add}
+use Rattle.std.proofs.lemmas.List.{get_or-drop, take-append-drop, length-drop, drop-drop, append-nil}
+use Rattle.std.proofs.lemmas.List.Concat.{flat_map-cons}
+use Rattle.byteorder.specs.Endian.{little_number}
+use Rattle.catalogue.specs.MoFile.{word, pairs, closed, pool, header, file}
+use Rattle.mo_file.specs.Tables.{word_at, string_at, strings}
+use Rattle.mo_file.specs.Reading.{TableLies, StringLies, AllClosed, IsClosed}
+use Rattle.mo_file.specs.Behind.{StandBehind}
+use Rattle.mo_file.proofs.RowLemmas.{first_row, later_rows, length-string}
+
+-- numbers that are bytes
+abbrev pub AreBytes : List ℕ → Type 0
+AreBytes bytes = (i : ℕ) → get_or bytes i 0 < 256
+
+-- ---- a word that is read and written again
+
+four : (a b c d : ℕ) (rest : List ℕ) → a < 256 → b < 256 → c < 256 → d < 256 → word (little_number 4 (a ∷ b ∷ c ∷ d ∷ rest)) ++ rest ≡ a ∷ b ∷ c ∷ d ∷ rest
+unfolding word
+four a b c d rest la lb lc ld =
+    let n : ℕ = a + 256 * (b + 256 * (c + 256 * (d + 256 * 0))) in
+    let e0 : n % 256 ≡ a = omega (arith, la) in
+    let e1 : n / 256 ^ 1 % 256 ≡ b = omega (arith, la, lb) in
+    let e2 : n / 256 ^ 2 % 256 ≡ c = omega (arith, la, lb, lc) in
+    let e3 : n / 256 ^ 3 % 256 ≡ d = omega (arith, la, lb, lc, ld) in
+    rw (e0, e1, e2, e3) refl
+
+words_again : (bytes : List ℕ) → AreBytes bytes → 4 ≤ length bytes → word (little_number 4 bytes) ++ drop 4 bytes ≡ bytes
+words_again [] each long = absurd (omega (arith, long))
+words_again (a ∷ []) each long = absurd (omega (arith, long))
+words_again (a ∷ b ∷ []) each long = absurd (omega (arith, long))
+words_again (a ∷ b ∷ c ∷ []) each long = absurd (omega (arith, long))
+words_again (a ∷ b ∷ c ∷ d ∷ rest) each long = four a b c d rest (each 0) (each 1) (each 2) (each 3)
+
+module _ (bytes : List ℕ) (each : AreBytes bytes) where
+  abbrev w : ℕ → ℕ
+  w place = word_at little_number bytes place
+
+  abbrev at : ℕ → List ℕ
+  at place = string_at little_number bytes place
+
+  abbrev all : ℕ → ℕ → List (List ℕ)
+  all place n = strings little_number bytes place n
+
+  behind : (place : ℕ) → AreBytes (drop place bytes)
+  behind place i = omega (arith, get_or-drop place bytes i 0, each (place + i))
+
+  -- the word at a place, and what is behind it
+  word_here : (place : ℕ) → place + 4 ≤ length bytes → drop place bytes ≡ word (w place) ++ drop (place + 4) bytes
+  word_here place room =
+      sym (words_again (drop place bytes) (behind place) (omega (arith, length-drop place bytes, room)))
+      ∙ ap (λ (rest : List ℕ). word (w place) ++ rest) (drop-drop 4 place bytes)
+
+  -- the string of the row at a place, closed, and what is behind it
+  string_here : (place start : ℕ) → w (place + 4) ≡ start → StringLies little_number bytes place → IsClosed little_number bytes place
+      → drop start bytes ≡ closed (at place) ++ drop (start + w place + 1) bytes
+  string_here place start is lies nul =
+      let len : ℕ = w place in
+      let end : ℕ = start + len in
+      let s0 : drop start bytes ≡ take len (drop start bytes) ++ drop len (drop start bytes) = sym (take-append-drop len (drop start bytes)) in
+      let s1 : take len (drop start bytes) ≡ at place = ap (λ (k : ℕ). take len (drop k bytes)) (sym is) in
+      let s2 : drop len (drop start bytes) ≡ drop end bytes = drop-drop len start bytes in
+      let s3 : drop end bytes ≡ get_or bytes end 0 ∷ drop (suc end) bytes = drop-cons bytes end 0 (omega (arith, lies, is)) in
+      let s4 : get_or bytes end 0 ≡ 0 = ap (λ (k : ℕ). get_or bytes (k + len) 0) (sym is) ∙ nul in
+      let s5 : suc end ≡ end + 1 = omega arith in
+      s0 ∙ ap (λ (s : List ℕ). s ++ drop len (drop start bytes)) s1 ∙ ap (λ (r : List ℕ). at place ++ r) (s2 ∙ s3 ∙ ap (λ (b : ℕ). b ∷ drop (suc end) bytes) s4 ∙ ap (λ (k : ℕ). 0 ∷ drop k bytes) s5)
+      ∙ sym (append_assoc (at place) (0 ∷ []) (drop (end + 1) bytes))
+
+  abbrev Lies : ℕ → ℕ → Type 0
+  Lies place other = StringLies little_number bytes place
+
+  abbrev Closed : ℕ → ℕ → Type 0
+  Closed place other = IsClosed little_number bytes place
+
+  pub table_again : (place n start end : ℕ) → place + 8 * n ≤ length bytes → ((i : ℕ) → i < n → Lies (place + 8 * i) (place + 8 * i)) → StandBehind bytes place n start end
+      → drop place bytes ≡ pairs start (all place n) ++ drop (place + 8 * n) bytes
+  table_again place zero start end room lies stand = ap (λ (k : ℕ). drop k bytes) (omega arith)
+  table_again place (suc n) start end room lies stand =
+      let lie : StringLies little_number bytes place = first_row Lies place place n lies in
+      let len : length (at place) ≡ w place = length-string little_number bytes place lie in
+      let four : place + 4 + 4 ≡ place + 8 = omega arith in
+      let next : place + 8 + 8 * n ≡ place + 8 * suc n = omega arith in
+      let rest : drop (place + 8) bytes ≡ pairs (start + w place + 1) (all (place + 8) n) ++ drop (place + 8 + 8 * n) bytes =
+      table_again (place + 8) n (start + w place + 1) end (omega (arith, room)) (later_rows Lies place place n lies) stand.1 in
+      let s0 : drop place bytes ≡ word (w place) ++ drop (place + 4) bytes = word_here place (omega (arith, room)) in
+      let s1 : drop (place + 4) bytes ≡ word (w (place + 4)) ++ drop (place + 4 + 4) bytes = word_here (place + 4) (omega (arith, room)) in
+      let s2 : drop (place + 4) bytes ≡ word start ++ drop (place + 8) bytes = s1 ∙ ap (λ (k : ℕ). word k ++ drop (place + 4 + 4) bytes) stand.0 ∙ ap (λ (k : ℕ). word start ++ drop k bytes) four in
+      let s3 : drop place bytes ≡ word (length (at place)) ++ (word start ++ (pairs (start + length (at place) + 1) (all (place + 8) n) ++ drop (place + 8 * suc n) bytes)) =
+      s0 ∙ ap (λ (r : List ℕ). word (w place) ++ r) (s2 ∙ ap (λ (r : List ℕ). word start ++ r) (rest ∙ ap (λ (k : ℕ). pairs (start + w place + 1) (all (place + 8) n) ++ drop k bytes) next))
+      ∙ ap (λ (k : ℕ). word k ++ (word start ++ (pairs (start + k + 1) (all (place + 8) n) ++ drop (place + 8 * suc n) bytes))) (sym len) in
+      s3 ∙ simp append_assoc
+
+  pub strings_again : (place n start end : ℕ) → ((i : ℕ) → i < n → Lies (place + 8 * i) (place + 8 * i)) → ((i : ℕ) → i < n → Closed (place + 8 * i) (place + 8 * i)) → StandBehind bytes place n start end
+      → drop start bytes ≡ pool (all place n) ++ drop end bytes
+  strings_again place zero start end lies nuls stand = ap (λ (k : ℕ). drop k bytes) stand
+  strings_again place (suc n) start end lies nuls stand =
+      let here = string_here place start stand.0 (first_row Lies place place n lies) (first_row Closed place place n nuls) in
+      let rest = strings_again (place + 8) n (start + w place + 1) end (later_rows Lies place place n lies) (later_rows Closed place place n nuls) stand.1 in
+      let split : pool (all place (suc n)) ≡ closed (at place) ++ pool (all (place + 8) n) = flat_map-cons closed (at place) (all (place + 8) n) in
+      here ∙ ap (λ (r : List ℕ). closed (at place) ++ r) rest ∙ sym (append_assoc (closed (at place)) (pool (all (place + 8) n)) (drop end bytes)) ∙ ap (λ (p : List ℕ). p ++ drop end bytes) (sym split)
+
+  -- where the strings end
+  pub end_is : (place n start end : ℕ) → StandBehind bytes place n start end → ((i : ℕ) → i < n → Lies (place + 8 * i) (place + 8 * i)) → end ≡ start + length (pool (all place n))
+  end_is place zero start end stand lies = omega (arith, stand)
+  end_is place (suc n) start end stand lies =
+      let rest = end_is (place + 8) n (start + w place + 1) end stand.1 (later_rows Lies place place n lies) in
+      let split : pool (all place (suc n)) ≡ closed (at place) ++ pool (all (place + 8) n) = flat_map-cons closed (at place) (all (place + 8) n) in
+      let len : length (at place) ≡ w place = length-string little_number bytes place (first_row Lies place place n lies) in
+      omega (arith, rest, ap length split, length-append (closed (at place)) (pool (all (place + 8) n)), length-append (at place) (0 ∷ []), len)
+
+  -- what the header's words say
+  record HasHeader (n : ℕ) : Type 0 where
+    magic : w 0 ≡ 0x950412de
+    revision : w 4 ≡ 0
+    count : w 8 ≡ n
+    originals : w 12 ≡ 28
+    translations : w 16 ≡ 28 + 8 * n
+    places : w 20 ≡ 0
+    hashes : w 24 ≡ 28 + 16 * n
+
+  header_again : (n : ℕ) → 28 ≤ length bytes → HasHeader n → bytes ≡ header n ++ drop 28 bytes
+  header_again n long h =
+      let P : List ℕ → Type 0 = λ b. bytes ≡ b in
+      let s0 = word_here 0 (omega (arith, long)) in
+      let s1 = word_here 4 (omega (arith, long)) in
+      let s2 = word_here 8 (omega (arith, long)) in
+      let s3 = word_here 12 (omega (arith, long)) in
+      let s4 = word_here 16 (omega (arith, long)) in
+      let s5 = word_here 20 (omega (arith, long)) in
+      let s6 = word_here 24 (omega (arith, long)) in
+      let all : bytes ≡ word (w 0) ++ (word (w 4) ++ (word (w 8) ++ (word (w 12) ++ (word (w 16) ++ (word (w 20) ++ (word (w 24) ++ drop 28 bytes)))))) =
+      s0 ∙ ap (λ (r : List ℕ). word (w 0) ++ r) (s1 ∙ ap (λ (r : List ℕ). word (w 4) ++ r) (s2 ∙ ap (λ (r : List ℕ). word (w 8) ++ r) (s3 ∙ ap (λ (r : List ℕ). word (w 12) ++ r) (s4 ∙ ap (λ (r : List ℕ). word (w 16) ++ r) (s5 ∙ ap (λ (r : List ℕ). word (w 20) ++ r) s6))))) in
+      all ∙ rw (h.magic, h.revision, h.count, h.originals, h.translations, h.places, h.hashes) (simp append_assoc)
