@@ -1,13 +1,16 @@
 -- A file whose strings stand one behind the other is the one that is written of its map.
-use Rattle.std.proofs.Common.{◌≡◌, ℕ, zero, suc, ◌+◌, ◌-◌, ◌*◌, ◌/◌, ◌%◌, ◌^◌, ◌<◌, ◌≤◌, List, [], ◌∷◌, ◌++◌, length, take, drop, get_or, refl, sym, ap, ◌∙◌, subst, arith, append_assoc}
-use Rattle.std.proofs.Math.Seq.{drop-cons, take-add}
+use Rattle.std.proofs.Common.{◌≡◌, ℕ, zero, suc, ◌+◌, ◌-◌, ◌*◌, ◌/◌, ◌%◌, ◌^◌, ◌<◌, ◌≤◌, List, [], ◌∷◌, ◌++◌, length, take, drop, get_or, refl, sym, ap, ◌∙◌, subst, arith, append_assoc, length-append}
+use Rattle.std.proofs.Math.Seq.{drop-cons, drop-length}
 use Rattle.std.proofs.lemmas.List.{get_or-drop, take-append-drop, length-drop, drop-drop, append-nil}
 use Rattle.std.proofs.lemmas.List.Concat.{flat_map-cons}
 use Rattle.byteorder.specs.Endian.{little_number}
-use Rattle.catalogue.specs.MoFile.{word, pairs, closed, pool, header, file}
+use Rattle.catalogue.specs.MoFile.{word, pairs, closed, pool, header, file, spelling}
 use Rattle.mo_file.specs.Tables.{word_at, string_at, strings}
-use Rattle.mo_file.specs.Reading.{TableLies, StringLies, AllClosed, IsClosed}
-use Rattle.mo_file.specs.Behind.{StandBehind}
+use Rattle.mo_file.specs.Reading.{TableLies, StringLies, AllClosed, IsClosed, MeetsBelow}
+use Rattle.mo_file.specs.declared.fault.MoFault.TheVariants.{Short, Magic, Revision, Bounds, NoNul}
+use Rattle.mo_file.specs.Pairs.{named_in}
+use Rattle.mo_file.proofs.Named.{at_words, named_words, spelling_named}
+use Rattle.mo_file.specs.Behind.{IsInOrder, StandBehind}
 use Rattle.mo_file.proofs.RowLemmas.{first_row, later_rows, length-string}
 
 -- numbers that are bytes
@@ -109,19 +112,8 @@ module _ (bytes : List ℕ) (each : AreBytes bytes) where
       let len : length (at place) ≡ w place = length-string little_number bytes place (first_row Lies place place n lies) in
       omega (arith, rest, ap length split, length-append (closed (at place)) (pool (all (place + 8) n)), length-append (at place) (0 ∷ []), len)
 
-  -- what the header's words say
-  record HasHeader (n : ℕ) : Type 0 where
-    magic : w 0 ≡ 0x950412de
-    revision : w 4 ≡ 0
-    count : w 8 ≡ n
-    originals : w 12 ≡ 28
-    translations : w 16 ≡ 28 + 8 * n
-    places : w 20 ≡ 0
-    hashes : w 24 ≡ 28 + 16 * n
-
-  header_again : (n : ℕ) → 28 ≤ length bytes → HasHeader n → bytes ≡ header n ++ drop 28 bytes
-  header_again n long h =
-      let P : List ℕ → Type 0 = λ b. bytes ≡ b in
+  header_again : (n : ℕ) → 28 ≤ length bytes → w 0 ≡ 0x950412de → w 4 ≡ 0 → w 8 ≡ n → IsInOrder bytes n → bytes ≡ header n ++ drop 28 bytes
+  header_again n long magic revision count h =
       let s0 = word_here 0 (omega (arith, long)) in
       let s1 = word_here 4 (omega (arith, long)) in
       let s2 = word_here 8 (omega (arith, long)) in
@@ -130,5 +122,90 @@ module _ (bytes : List ℕ) (each : AreBytes bytes) where
       let s5 = word_here 20 (omega (arith, long)) in
       let s6 = word_here 24 (omega (arith, long)) in
       let all : bytes ≡ word (w 0) ++ (word (w 4) ++ (word (w 8) ++ (word (w 12) ++ (word (w 16) ++ (word (w 20) ++ (word (w 24) ++ drop 28 bytes)))))) =
-      s0 ∙ ap (λ (r : List ℕ). word (w 0) ++ r) (s1 ∙ ap (λ (r : List ℕ). word (w 4) ++ r) (s2 ∙ ap (λ (r : List ℕ). word (w 8) ++ r) (s3 ∙ ap (λ (r : List ℕ). word (w 12) ++ r) (s4 ∙ ap (λ (r : List ℕ). word (w 16) ++ r) (s5 ∙ ap (λ (r : List ℕ). word (w 20) ++ r) s6))))) in
-      all ∙ rw (h.magic, h.revision, h.count, h.originals, h.translations, h.places, h.hashes) (simp append_assoc)
+      s0
+      ∙ ap (λ (r : List ℕ). word (w 0) ++ r)
+      (s1
+      ∙ ap (λ (r : List ℕ). word (w 4) ++ r)
+      (s2
+      ∙ ap (λ (r : List ℕ). word (w 8) ++ r)
+      (s3 ∙ ap (λ (r : List ℕ). word (w 12) ++ r) (s4 ∙ ap (λ (r : List ℕ). word (w 16) ++ r) (s5 ∙ ap (λ (r : List ℕ). word (w 20) ++ r) s6))))) in
+      let F : ℕ → ℕ → ℕ → ℕ → ℕ → ℕ → ℕ → List ℕ = λ a b c d e f g. word a ++ (word b ++ (word c ++ (word d ++ (word e ++ (word f ++ (word g ++ drop 28 bytes)))))) in
+      all ∙ (λ i. F (magic i) (revision i) (count i) (h.originals i) (h.translations i) (h.places i) (h.hashes i)) ∙ simp append_assoc
+
+  -- both tables, and then both lists of strings
+  pub whole : (n middle : ℕ) → 28 + 16 * n ≤ length bytes → w 0 ≡ 0x950412de → w 4 ≡ 0 → w 8 ≡ n → IsInOrder bytes n
+      → TableLies little_number bytes 28 n → TableLies little_number bytes (28 + 8 * n) n → AllClosed little_number bytes 28 n → AllClosed little_number bytes (28 + 8 * n) n
+      → StandBehind bytes 28 n (28 + 16 * n) middle → StandBehind bytes (28 + 8 * n) n middle (length bytes) → bytes ≡ file n (all 28 n) (all (28 + 8 * n) n)
+  whole n middle room magic revision count order ol tl oc tc os ts =
+      let a : ℕ = 28 + 16 * n in
+      let mid : middle ≡ a + length (pool (all 28 n)) = end_is 28 n a middle os ol.strings in
+      let h0 : bytes ≡ header n ++ drop 28 bytes = header_again n (omega (arith, room)) magic revision count order in
+      let h1 : drop 28 bytes ≡ pairs a (all 28 n) ++ drop (28 + 8 * n) bytes = table_again 28 n a middle (omega (arith, room)) ol.strings os in
+      let h2 : drop (28 + 8 * n) bytes ≡ pairs middle (all (28 + 8 * n) n) ++ drop (28 + 8 * n + 8 * n) bytes = table_again (28 + 8 * n) n middle (length bytes) (omega (arith, room)) tl.strings ts in
+      let both : 28 + 8 * n + 8 * n ≡ a = omega arith in
+      let h3 : drop a bytes ≡ pool (all 28 n) ++ drop middle bytes = strings_again 28 n a middle ol.strings oc.each os in
+      let h4 : drop middle bytes ≡ pool (all (28 + 8 * n) n) ++ drop (length bytes) bytes = strings_again (28 + 8 * n) n middle (length bytes) tl.strings tc.each ts in
+      let none : drop (length bytes) bytes ≡ [] = drop-length bytes in
+      let strings_are : drop (28 + 8 * n + 8 * n) bytes ≡ pool (all 28 n) ++ pool (all (28 + 8 * n) n) =
+      ap (λ (k : ℕ). drop k bytes) both ∙ h3 ∙ ap (λ (r : List ℕ). pool (all 28 n) ++ r) (h4 ∙ ap (λ (r : List ℕ). pool (all (28 + 8 * n) n) ++ r) none ∙ append-nil (pool (all (28 + 8 * n) n))) in
+      h0
+      ∙ ap (λ (r : List ℕ). header n ++ r)
+      (h1
+      ∙ ap (λ (r : List ℕ). pairs a (all 28 n) ++ r)
+      (h2 ∙ ap (λ (r : List ℕ). pairs middle (all (28 + 8 * n) n) ++ r) strings_are ∙ ap (λ (k : ℕ). pairs k (all (28 + 8 * n) n) ++ (pool (all 28 n) ++ pool (all (28 + 8 * n) n))) mid))
+      ∙ simp append_assoc
+
+-- the tables lie in the file
+pub tables_room : (bytes : List ℕ) (n : ℕ) → 28 ≤ length bytes → TableLies little_number bytes (28 + 8 * n) n → 28 + 16 * n ≤ length bytes
+tables_room bytes zero long lies = omega (arith, long)
+tables_room bytes (suc n) long lies = omega (arith, lies.rows (omega arith))
+
+-- what a loop over the rows has seen
+pub none_seen : (bytes : List ℕ) (table n end last : ℕ) → StandBehind bytes (table + 8 * 0) (n - 0) end last → StandBehind bytes table n end last
+none_seen bytes table n end last stand =
+    let P : ℕ → Type 0 = λ p. StandBehind bytes p n end last in
+    let Q : ℕ → Type 0 = λ k. StandBehind bytes (table + 8 * 0) k end last in
+    subst P (omega arith) (subst Q (omega arith) stand)
+
+pub one_behind : (bytes : List ℕ) (table n i start end len last : ℕ) → {word : ℕ} → i < n → word ≡ word_at little_number bytes (table + 8 * i + 4) → word ≡ end → len ≡ word_at little_number bytes (table + 8 * i)
+    → StandBehind bytes (table + 8 * (i + 1)) (n - (i + 1)) (end + (len + 1)) last → StandBehind bytes (table + 8 * i) (n - i) end last
+one_behind bytes table n i start end len last lt is at long rest =
+    let left : n - i ≡ suc (n - (i + 1)) = omega (arith, lt) in
+    let next : table + 8 * (i + 1) ≡ table + 8 * i + 8 = omega arith in
+    let behind : end + (len + 1) ≡ end + word_at little_number bytes (table + 8 * i) + 1 = omega (arith, long) in
+    let P : ℕ → Type 0 = λ k. StandBehind bytes (table + 8 * i) k end last in
+    let Q : ℕ → Type 0 = λ p. StandBehind bytes p (n - (i + 1)) (end + word_at little_number bytes (table + 8 * i) + 1) last in
+    let R : ℕ → Type 0 = λ e. StandBehind bytes (table + 8 * (i + 1)) (n - (i + 1)) e last in
+    subst P (sym left) (sym is ∙ at, subst Q next (subst R behind rest))
+
+pub all_seen : (bytes : List ℕ) (table n i end : ℕ) → n ≤ i → StandBehind bytes (table + 8 * i) (n - i) end end
+all_seen bytes table n i end le =
+    let P : ℕ → Type 0 = λ k. StandBehind bytes (table + 8 * i) k end end in
+    let none : 0 ≡ n - i = omega (arith, le) in
+    subst P none refl
+
+-- ---- a file that meets no refusal and is in order
+
+module _ (bytes : List ℕ) (n : ℕ) (met : MeetsBelow little_number bytes 12) (count : n ≡ word_at little_number bytes 8) (order : IsInOrder bytes n) where
+  pub originals_lie : TableLies little_number bytes 28 n
+  originals_lie = at_words (TableLies little_number bytes) _ _ _ _ (sym order.originals) count (met Bounds (omega arith)).0
+
+  pub translations_lie : TableLies little_number bytes (28 + 8 * n) n
+  translations_lie = at_words (TableLies little_number bytes) _ _ _ _ (sym order.translations) count (met Bounds (omega arith)).1
+
+  originals_closed : AllClosed little_number bytes 28 n
+  originals_closed = at_words (AllClosed little_number bytes) _ _ _ _ (sym order.originals) count (met NoNul (omega arith)).0
+
+  translations_closed : AllClosed little_number bytes (28 + 8 * n) n
+  translations_closed = at_words (AllClosed little_number bytes) _ _ _ _ (sym order.translations) count (met NoNul (omega arith)).1
+
+  pub room : 28 + 8 * n + 8 * n ≤ length bytes
+  room = omega (arith, tables_room bytes n (met Short (omega arith)) translations_lie)
+
+  pub own_file : (middle end : ℕ) → AreBytes bytes → StandBehind bytes 28 n (28 + 8 * n + 8 * n) middle → StandBehind bytes (28 + 8 * n) n middle end → end ≡ length bytes → bytes ≡ spelling (named_in little_number bytes)
+  own_file middle end each os ts all =
+      let start : 28 + 8 * n + 8 * n ≡ 28 + 16 * n = omega arith in
+      let Q : ℕ → Type 0 = λ a. StandBehind bytes 28 n a middle in
+      let R : ℕ → Type 0 = λ e. StandBehind bytes (28 + 8 * n) n middle e in
+      let spelt = whole bytes each n middle (omega (arith, room)) (met Magic (omega arith)) (met Revision (omega arith)) (sym count) order originals_lie translations_lie originals_closed translations_closed (subst Q start os) (subst R all ts) in
+      spelt ∙ sym (spelling_named little_number bytes 28 (28 + 8 * n) n) ∙ ap spelling (named_words little_number bytes 28 (28 + 8 * n) n (sym order.originals) (sym order.translations) count)

@@ -1,16 +1,28 @@
-//! Files that are written as this crate writes them.
-ghost use Rattle.std.specs.Prelude.{◌≡◌, ◌≤◌, length, IsTrue, IfSome};
+//! Files that stand as this crate writes them.
+ghost use Rattle.std.specs.Prelude.{◌≡◌, ◌<◌, ◌≤◌, ◌^◌, length, IsTrue, IfSome};
 ghost use Rattle.byteorder.specs.Endian.{little_number};
 ghost use Rattle.catalogue.specs.MoFile.{spelling};
-ghost use Rattle.mo_file.specs.Reading.{TableLies, MeetsBelow};
-ghost use Rattle.mo_file.specs.Behind.{StandBehind};
+ghost use Rattle.mo_file.specs.Behind.{IsInOrder, StandBehind};
 ghost use Rattle.mo_file.specs.Pairs.{named_in};
+ghost use Rattle.mo_file.specs.Reading.{TableLies, MeetsBelow};
 
 use crate::rows::{ROW_LEN, word};
 use byteorder::LittleEndian;
 
 /// How many bytes the header has.
 const HEADER_LEN: usize = 28;
+
+/// Whether the tables of n rows stand behind the header, and there is no hash table.
+fn is_in_order(bytes: &[u8], n: usize) -> bool
+    requires long { 28 ≤ length bytes.now }
+    requires count { n < 2 ^ 32 }
+    ensures { IsTrue result → IsInOrder bytes.now n }
+{
+    word::<LittleEndian>(bytes, 12) == HEADER_LEN
+        && word::<LittleEndian>(bytes, 16) == HEADER_LEN + ROW_LEN * n
+        && word::<LittleEndian>(bytes, 20) == 0
+        && word::<LittleEndian>(bytes, 24) == HEADER_LEN + 2 * ROW_LEN * n
+}
 
 /// Where the strings of a table's n rows end, if they stand one behind the other from `start` on.
 fn end_of_strings(bytes: &[u8], table: usize, n: usize, start: usize) -> Option<usize>
@@ -31,25 +43,23 @@ fn end_of_strings(bytes: &[u8], table: usize, n: usize, start: usize) -> Option<
     Some(end)
 }
 
-/// Whether a file is the one that is written of its map: its tables behind its header, its strings behind
-/// them, one behind the other, and nothing else.
+/// Whether a file is the one that is written of its map: its tables stand behind its header, its strings
+/// behind them, one behind the other, and nothing else.
 pub(crate) fn is_own(bytes: &[u8]) -> bool
     requires { MeetsBelow little_number bytes.now 12 }
     ensures { IsTrue result → bytes.now ≡ spelling (named_in little_number bytes.now) }
 {
     let n = word::<LittleEndian>(bytes, 8);
-    let translations = HEADER_LEN + ROW_LEN * n;
-    let strings = translations + ROW_LEN * n;
-    if word::<LittleEndian>(bytes, 12) != HEADER_LEN
-        || word::<LittleEndian>(bytes, 16) != translations
-        || word::<LittleEndian>(bytes, 20) != 0
-        || word::<LittleEndian>(bytes, 24) != strings
-        || strings > bytes.len()
-    {
+    if !is_in_order(bytes, n) {
         return false;
     }
-    match end_of_strings(bytes, HEADER_LEN, n, strings) {
-        Some(middle) => end_of_strings(bytes, translations, n, middle) == Some(bytes.len()),
+    let translations = HEADER_LEN + ROW_LEN * n;
+    let strings = translations + ROW_LEN * n;
+    let Some(middle) = end_of_strings(bytes, HEADER_LEN, n, strings) else {
+        return false;
+    };
+    match end_of_strings(bytes, translations, n, middle) {
+        Some(end) => end == bytes.len(),
         None => false,
     }
 }

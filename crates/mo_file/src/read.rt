@@ -6,6 +6,7 @@ ghost use Rattle.mo_file.specs.Reading.{before_nul, StringLies, TableLies, AreOr
 ghost use Rattle.mo_file.specs.Pairs.{plural_part, entry_of, named, named_in};
 
 use crate::fault::MoFault;
+use crate::own::is_own;
 use crate::refusals::{check_all, is_low_first};
 use crate::rows::{ROW_LEN, string, word};
 use crate::write::write_mo;
@@ -77,16 +78,20 @@ fn read_file<T: ByteOrder>(alloc: Global, bytes: &[u8]) -> Result<Catalogue, All
 }
 
 /// The map of an MO file, in either byte order, wherever its strings lie; its hash table isn't looked at.
-/// Else the first refusal that holds, or want of memory.
+/// Else the first refusal that holds, or want of memory. A file that stands as `write_mo` writes it is copied
+/// whole.
 pub fn read_mo(alloc: Global, bytes: &[u8]) -> Result<Catalogue, MoFault>
     ensures ok { IfOk result (λ c. Mo bytes.now c) }
     ensures err { IfErr result (λ f. Refused bytes.now f) }
 {
     check_all(bytes)?;
-    if is_low_first(bytes) {
-        return Ok(read_file::<LittleEndian>(alloc, bytes)?);
+    if !is_low_first(bytes) {
+        return Ok(read_file::<BigEndian>(alloc, bytes)?);
     }
-    Ok(read_file::<BigEndian>(alloc, bytes)?)
+    if is_own(bytes) {
+        return Ok(Catalogue::from_file(alloc, bytes)?);
+    }
+    Ok(read_file::<LittleEndian>(alloc, bytes)?)
 }
 
 /// A catalogue that is written and read again: the same map, unless memory was refused.
