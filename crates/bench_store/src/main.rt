@@ -57,18 +57,22 @@ fn replace<R: Wait + AllocGlobal>(
     loaded.is_ok() && published.is_ok()
 }
 
-/// Publishes so many times, a thousandth of a second apart, and then says that it is done. Answers how many
-/// publishes failed.
+/// Publishes so many times, a thousandth of a second apart, or lets as much time pass where there is no text, and
+/// then says that it is done. Answers how many publishes failed.
 fn publish_many<R: Wait + Clock + AllocGlobal>(
     rt: &R,
     publisher: &mut Publisher,
-    text: &str,
-    publishes: u32,
+    text: Option<&str>,
+    turns: u32,
     done: &AtomicBool,
 ) -> u64 {
     let mut wrong: u64 = 0;
-    'turns: for _ in 0..publishes {
-        if !replace(rt, publisher, "fr", text) {
+    'turns: for _ in 0..turns {
+        let failed = match text {
+            Some(text) => !replace(rt, publisher, "fr", text),
+            None => false,
+        };
+        if failed {
             wrong = wrong.saturating_add(1);
         }
         std::thread::sleep(rt, Duration::from_millis(1));
@@ -102,17 +106,19 @@ fn time_reader<R: Print + Eprint + Clock>(rt: &R, reader: &mut Lookups) -> io::R
     )
 }
 
-/// Readers that enter and leave while a publisher publishes.
+/// Readers that enter and leave, while a publisher publishes or does nothing.
 fn time_beside<R: Print + Eprint + Clock + Threads + Wait + AllocGlobal + Sync>(
     rt: &R,
     count: u32,
-    publishes: u32,
+    turns: u32,
+    publishing: bool,
 ) -> io::Result<()> {
     let Ok((mut publisher, readers)) = open_store(rt, rt.alloc(), count, u64::MAX) else {
         return println!(rt; "no store");
     };
     let done = match po_text(rt.alloc(), 0, 100) {
-        Ok(text) => run_beside(rt, &mut publisher, readers, &text, publishes),
+        Ok(text) if publishing => run_beside(rt, &mut publisher, readers, Some(&text), turns),
+        Ok(_) => run_beside(rt, &mut publisher, readers, None, turns),
         Err(_) => println!(rt; "out of memory"),
     };
     publisher.end(rt);
@@ -123,8 +129,8 @@ fn run_beside<R: Print + Eprint + Clock + Threads + Wait + AllocGlobal + Sync>(
     rt: &R,
     publisher: &mut Publisher,
     readers: Vec<Lookups>,
-    text: &str,
-    publishes: u32,
+    text: Option<&str>,
+    turns: u32,
 ) -> io::Result<()> {
     let count = readers.len();
     let done = AtomicBool::new(false);
@@ -136,7 +142,7 @@ fn run_beside<R: Print + Eprint + Clock + Threads + Wait + AllocGlobal + Sync>(
             readers,
             &|mut reader: Lookups| enter_until(&mut reader, &done),
         ),
-        || publish_many(rt, publisher, text, publishes, &done),
+        || publish_many(rt, publisher, text, turns, &done),
     );
     let taken = start.elapsed(rt)?;
     let Ok(found) = found else {
@@ -147,9 +153,11 @@ fn run_beside<R: Print + Eprint + Clock + Threads + Wait + AllocGlobal + Sync>(
         entries = entries.saturating_add(*entered);
         wrong = wrong.saturating_add(*fallen);
     }
-    println!(rt; "entries, {count} readers beside a publisher: {wrong} wrong")?;
+    let publishes = if text.is_some() { turns } else { 0 };
+    let each = u128::from(entries) / taken.as_millis().max(1) / (count as u128).max(1);
+    println!(rt; "entries, {count} readers: {wrong} wrong")?;
     eprintln!(rt;
-        "entries, {count} readers beside {publishes} publishes: {entries} in {} ms",
+        "entries, {count} readers beside {publishes} publishes: {each} each in a ms, for {} ms",
         taken.as_millis()
     )
 }
@@ -298,8 +306,10 @@ fn main(rt: HostRuntime) -> io::Result<()> {
     let messages = number_of(env::args(&rt)?.nth(1), 500);
     let publishes = number_of(env::args(&rt)?.nth(2), 100);
     time_entries(&rt)?;
-    time_beside(&rt, 4, publishes)?;
-    time_beside(&rt, 16, publishes)?;
+    'readers: for readers in [4, 16] {
+        time_beside(&rt, readers, publishes, false)?;
+        time_beside(&rt, readers, publishes, true)?;
+    }
     time_queries(&rt, messages)?;
     time_publishes(&rt)
 }
