@@ -85,6 +85,24 @@ behind_lacks byte text lt once =
     let it : one (eqb y byte) ≡ 1 = ap one (passes_at_first (is byte) text 0 lt) in
     none_counted byte (after_first (is byte) text) (omega (arith, counted, count-cons byte y (after_first (is byte) text), it, once))
 
+-- how often a byte that was found stands in a text
+pub count_absent : (byte : ℕ) (text : List ℕ) → IsFirstByte (is_byte byte) text None → count_by (is byte) text ≡ 0
+count_absent byte text none =
+    let at : place byte text ≡ length text = place_found byte text None none in
+    count_none byte text (subst (Lacks byte) (whole byte text (omega (arith, at))) (front_lacks byte text))
+
+pub count_past : (byte : ℕ) (text : List ℕ) (k : ℕ) → IsFirstByte (is_byte byte) text (Some k) → count_by (is byte) text ≡ 1 + count_by (is byte) (drop (k + 1) text)
+count_past byte text k found =
+    let at : place byte text ≡ k = place_found byte text (Some k) found in
+    let lt : place byte text < length text = omega (arith, at, found.0.high) in
+    let y : ℕ = get_or text (place byte text) 0 in
+    let counted : count_by (is byte) text ≡ count_by (is byte) (before_first (is byte) text) + count_by (is byte) (y ∷ after_first (is byte) text) =
+    ap (count_by (is byte)) (split_at_first (is byte) text 0 lt) ∙ sum_by-append (λ x. cond (eqb x byte) 1 0) (before_first (is byte) text) (y ∷ after_first (is byte) text) in
+    let it : one (eqb y byte) ≡ 1 = ap one (passes_at_first (is byte) text 0 lt) in
+    let none : count_by (is byte) (before_first (is byte) text) ≡ 0 = count_none byte (before_first (is byte) text) (front_lacks byte text) in
+    let rest : count_by (is byte) (after_first (is byte) text) ≡ count_by (is byte) (drop (k + 1) text) = ap (λ (n : ℕ). count_by (is byte) (drop (n + 1) text)) at in
+    omega (arith, counted, count-cons byte y (after_first (is byte) text), it, none, rest)
+
 pub Lacks-take : (byte n : ℕ) (text : List ℕ) → Lacks byte text → Lacks byte (take n text)
 Lacks-take byte zero text lacks = tt
 Lacks-take byte (suc n) [] lacks = tt

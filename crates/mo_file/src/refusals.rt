@@ -1,6 +1,6 @@
 //! The tests of bytes that are to be read as an MO file, one for each refusal. Each goes over the whole
 //! file, so that the first refusal in their order is found, and not the first place where one holds.
-ghost use Rattle.std.specs.Prelude.{◌-◌, [], ◌+◌, ◌≡◌, ◌≢◌, ◌↔◌, ◌^◌, ◌<◌, ◌≤◌, ◌==◌, ◌*◌, length, IsTrue, OnOk, IfErr, IfSome, count_by};
+ghost use Rattle.std.specs.Prelude.{◌-◌, [], ◌+◌, ◌≡◌, ◌≢◌, ◌↔◌, ◌^◌, ◌<◌, ◌≤◌, ◌==◌, ◌*◌, length, min, IsTrue, OnOk, IfErr, IfSome, count_by};
 ghost use Rattle.std.specs.Ordering.{nat_cmp};
 ghost use Rattle.std.specs.declared.cmp.Ordering.TheVariants.{Less};
 ghost use Rattle.std.specs.Cmp.Lexicographic.{slice_cmp};
@@ -36,11 +36,18 @@ pub(crate) fn before_nul(text: &[u8]) -> &[u8]
     &text[..len]
 }
 
-/// How many bytes of a text are this one.
-fn count_of(byte: u8, text: &[u8]) -> usize
-    ensures { result ≡ count_by (λ b. b == byte) text.now }
+/// How many bytes of a text are this one; 2 where there are more.
+fn count_to_two(byte: u8, text: &[u8]) -> usize
+    ensures { result ≡ min (count_by (λ b. b == byte) text.now) 2 }
 {
-    text.iter().filter(|b| **b == byte).count()
+    let Some(first) = text.find_byte(byte) else {
+        return 0;
+    };
+    let others = &text[first + 1..];
+    match others.find_byte(byte) {
+        Some(_) => 2,
+        None => 1,
+    }
 }
 
 /// Whether a table and its strings lie in the file.
@@ -81,7 +88,7 @@ fn is_original_text(original: &[u8]) -> bool
     ensures { IsTrue result ↔ IsOriginalText original.now }
 {
     match from_utf8(original) {
-        Ok(_) => count_of(4, before_nul(original)) <= 1,
+        Ok(_) => count_to_two(4, before_nul(original)) <= 1,
         Err(_) => false,
     }
 }
@@ -151,12 +158,12 @@ fn translations_are_text<T: ByteOrder>(bytes: &[u8], table: usize, n: usize) -> 
     true
 }
 
-/// How many NULs the string of row i has, where that of the row before has so many.
+/// How many NULs the string of row i has, where that of the row before has so many; 2 where there are more.
 fn nuls_at<T: ByteOrder>(bytes: &[u8], table: usize, n: usize, i: usize, before: usize) -> usize
     requires lies { TableLies T.number_of bytes.now table n }
     requires within { i < n }
-    requires before { 0 < i → before ≡ count_by (λ b. b == 0) (string_at T.number_of bytes.now (table + 8 * (i - 1))) }
-    ensures { result ≡ count_by (λ b. b == 0) (string_at T.number_of bytes.now (table + 8 * i)) }
+    requires before { 0 < i → before ≡ min (count_by (λ b. b == 0) (string_at T.number_of bytes.now (table + 8 * (i - 1)))) 2 }
+    ensures { result ≡ min (count_by (λ b. b == 0) (string_at T.number_of bytes.now (table + 8 * i))) 2 }
 {
     let row = table + ROW_LEN * i;
     if i > 0 {
@@ -164,7 +171,7 @@ fn nuls_at<T: ByteOrder>(bytes: &[u8], table: usize, n: usize, i: usize, before:
             return before;
         }
     }
-    count_of(0, string::<T>(bytes, row))
+    count_to_two(0, string::<T>(bytes, row))
 }
 
 /// Whether an original has one plural at most, and without one its translation one form, by their NULs.

@@ -1,5 +1,4 @@
-use Rattle.std.proofs.Common.{◌≡◌, ℕ, ◌+◌, ◌-◌, ◌*◌, refl, sym, subst, arith}
-use Rattle.mo_file.specs.Behind.{StandBehind}
+use Rattle.std.proofs.Common.{arith}
 use Rattle.mo_file.proofs.Spelt.{one_behind, none_seen, all_seen}
 use Rattle.mo_file.proofs.own.end_of_strings.Goals as goal
 
