@@ -6,11 +6,8 @@ ghost use Rattle.mo_file.specs.Behind.{IsInOrder, StandBehind};
 ghost use Rattle.mo_file.specs.Pairs.{named_in};
 ghost use Rattle.mo_file.specs.Reading.{TableLies, MeetsBelow};
 
-use crate::rows::{ROW_LEN, word};
+use crate::rows::{HEADER_LEN, ROW_LEN, word};
 use byteorder::LittleEndian;
-
-/// How many bytes the header has.
-const HEADER_LEN: usize = 28;
 
 /// Whether the tables of n rows stand behind the header, and there is no hash table.
 fn is_in_order(bytes: &[u8], n: usize) -> bool

@@ -12,15 +12,12 @@ ghost use Rattle.mo_file.specs.Tables.{string_at, strings};
 ghost use Rattle.mo_file.specs.Reading.{order, before_nul, IsOriginalText, IsTranslationText, HasLawfulForms, HasLawfulHeader, TableLies, AllClosed, AreOriginalTexts, AreTranslationTexts, HaveLawfulForms, KeysRise, HaveLawfulHeaders, Fits, Meets, MeetsBelow, RefusedBy, Refused, IsMoFile};
 
 use crate::fault::MoFault;
-use crate::rows::{ROW_LEN, is_closed, is_same_row, string, string_lies, word};
+use crate::rows::{HEADER_LEN, ROW_LEN, is_closed, is_same_row, string, string_lies, word};
 use bstr::ByteSlice;
 use byteorder::{BigEndian, ByteOrder, LittleEndian};
 use po_header::{charset_accepted, charset_of};
 use simdutf8::basic::from_utf8;
 use std::cmp::Ordering;
-
-/// How many bytes the header has.
-const HEADER_LEN: usize = 28;
 
 /// How many bytes a file may have.
 const MAX_LEN: usize = 268_435_456;

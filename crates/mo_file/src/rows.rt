@@ -5,6 +5,9 @@ ghost use Rattle.mo_file.specs.Reading.{StringLies, IsClosed};
 
 use byteorder::ByteOrder;
 
+/// How many bytes the header has.
+pub(crate) const HEADER_LEN: usize = 28;
+
 /// How many bytes a row has: a string's length and its offset.
 pub(crate) const ROW_LEN: usize = 8;
 
