@@ -12,7 +12,7 @@ has_texts d = is_some d.texts
 
 kept_step : (d : Draft) (ds : List Draft) (t : Option Texts) → d.texts ≡ t → drafts_entries (filter has_texts ds) ≡ filter_map kept_entry (rows ds) → drafts_entries (filter has_texts (d ∷ ds)) ≡ filter_map kept_entry (rows (d ∷ ds))
 kept_step d ds None is rest = rw is rest
-kept_step d ds (Some t) is rest = rw is (ap (λ (es : List Entry). entry_with d.key.now (Some (kept_texts t)) ∷ es) rest)
+kept_step d ds (Some t) is rest = rw is (ap (λ (es : List Entry). entry_with d.key (Some (kept_texts t)) ∷ es) rest)
 
 pub kept_are : (ds : List Draft) → drafts_entries (filter has_texts ds) ≡ filter_map kept_entry (rows ds)
 kept_are [] = refl

@@ -33,3 +33,4 @@ pub mod Rows
 pub mod ImageFacts
 pub mod Accepting
 pub mod Cutting
+pub mod Fronts

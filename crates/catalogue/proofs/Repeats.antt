@@ -2,7 +2,7 @@
 use Rattle.std.proofs.Common.{◌≡◌, ℕ, ◌+◌, ◌-◌, ◌<◌, ◌≤◌, Bool, true, false, List, length, get_or, Option, Some, None, refl, sym, ap, ◌∙◌, subst, arith, inl, inr}
 use Rattle.std.proofs.lemmas.Bool.{cases_lt, ltb-true, false≢true}
 use Rattle.std.proofs.lemmas.Bool.Decides.{nat_tests}
-use Rattle.std.proofs.lemmas.List.{length-map, get_or-map, get_or_default}
+use Rattle.std.proofs.lemmas.List.{length-map, get_or-map}
 use Rattle.std.proofs.lemmas.Slice.Eq.{bytes_eq-Decides}
 use Rattle.std.specs.Str.{bytes_eq}
 use Rattle.catalogue.specs.Drafts.{Row, row, rows, IsRepeat, IsFirstRepeat, FirstRepeat, is_earlier, earlier}
@@ -92,7 +92,7 @@ choose rs i before r first false u et eu l so_far =
 pub first_none : (rs : List Row) → FirstRepeat rs 1 None
 first_none rs j lt = absurd (omega arith)
 
-first_more : (ds : List Draft) (i : ℕ) (before d : Draft) (first next : Option Row) → 1 ≤ i → i < length ds → before ≡ get_or ds (i - 1) before → d ≡ get_or ds i d → next ≡ earlier (row before) (row d) first → FirstRepeat (rows ds) i first → FirstRepeat (rows ds) (i + 1) next
+pub first_more : (ds : List Draft) (i : ℕ) (before d : Draft) (first next : Option Row) → 1 ≤ i → i < length ds → before ≡ get_or ds (i - 1) before → d ≡ get_or ds i d → next ≡ earlier (row before) (row d) first → FirstRepeat (rows ds) i first → FirstRepeat (rows ds) (i + 1) next
 first_more ds i before d first next some within before_is d_is next_is so_far =
     rw next_is (choose (rows ds) i (row before) (row d) first _ _ refl refl (record {
       some = some;
@@ -100,9 +100,6 @@ first_more ds i before d first next some within before_is d_is next_is so_far =
       before_is = λ e. get_or-map row ds (i - 1) before e (omega arith) ∙ ap row (sym before_is);
       row_is = λ e. get_or-map row ds i d e within ∙ ap row (sym d_is);
     }) so_far)
-
-pub first_at : (ds : List Draft) (i : ℕ) (x : Draft) (first next : Option Row) → 1 ≤ i → i < length ds → next ≡ earlier (row (get_or ds (i - 1) x)) (row (get_or ds i x)) first → FirstRepeat (rows ds) i first → FirstRepeat (rows ds) (i + 1) next
-first_at ds i x first next some within next_is so_far = first_more ds i (get_or ds (i - 1) x) (get_or ds i x) first next some within (get_or_default ds (i - 1) x _ (omega arith)) (get_or_default ds i x _ within) next_is so_far
 
 pub first_all : (ds : List Draft) (i : ℕ) (first : Option Row) → length ds ≤ i → FirstRepeat (rows ds) i first → FirstRepeat (rows ds) (length ds) first
 first_all ds i None le none = λ j lt. none j (omega (arith, lt, le))

@@ -1,5 +1,5 @@
 -- The place of a key among rising keys, and a search for it by halves.
-use Rattle.std.proofs.Common.{◌≡◌, ℕ, zero, suc, ◌+◌, ◌<◌, ◌≤◌, true, false, List, [], ◌∷◌, length, map, Option, Some, None, Ordering, slice_get, refl, sym, ap, ◌∙◌, subst, arith, lit≤, inl, inr}
+use Rattle.std.proofs.Common.{◌≡◌, ℕ, zero, suc, ◌+◌, ◌<◌, ◌≤◌, true, false, List, [], ◌∷◌, length, map, Option, Some, None, Ordering, slice_get, refl, sym, ap, ◌∙◌, subst, arith, inl, inr}
 use Rattle.std.specs.Prelude.{IfSome, ◌-◌, ◌*◌, ◌/◌, ◌^◌}
 use Rattle.std.specs.Ordering.{nat_cmp, ordering_reverse}
 use Rattle.std.specs.declared.cmp.Ordering.TheVariants.{Less, Equal, Greater}
@@ -205,21 +205,3 @@ goes_down m asked old now next low high mid r rises lt middle step greater =
       cost = c.0;
       left = c.1;
     }
-
--- ---- among a thousand entries
-
-large : (r : ℕ) → 2048 ≤ 2 ^ (r + 11)
-large zero = lit≤ tt
-large (suc r) =
-    let e : suc r + 11 ≡ suc (r + 11) = omega arith in
-    rw e (omega (arith, large r, pow-suc 2 (r + 11)))
-
-pub ten_digits : (n old new : ℕ) → n ≤ 1000 → AtMostDigits n old new → new ≤ old + 10
-ten_digits n old new small few =
-    elim (cases_lt (new - old) 11) [
-      | inl lt ↦ omega (arith, lt, few.counted)
-      | inr ge ↦
-          let rest : ℕ = new - old - 11 in
-          let same : rest + 11 ≡ new - old = omega (arith, ge) in
-          absurd (omega (arith, large rest, ap (λ (d : ℕ). 2 ^ d) same, few.cost, small))
-    ]

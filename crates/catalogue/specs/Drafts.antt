@@ -36,7 +36,7 @@ abbrev pub kept_texts : Texts → Kept
 kept_texts t = (option_map (λ s. s.now) t.plural, t.translation.now)
 
 abbrev pub row : Draft → Row
-row d = record { number = d.number; line = d.line; key = d.key.now; standing = d.standing; texts = option_map kept_texts d.texts }
+row d = record { number = d.number; line = d.line; key = d.key; standing = d.standing; texts = option_map kept_texts d.texts }
 
 abbrev pub rows : List Draft → List Row
 rows drafts = map row drafts
@@ -87,7 +87,7 @@ entry_with key None = entry_from key None []
 entry_with key (Some t) = entry_from key t.0 t.1
 
 abbrev pub draft_entry : Draft → Entry
-draft_entry d = entry_with d.key.now (option_map kept_texts d.texts)
+draft_entry d = entry_with d.key (option_map kept_texts d.texts)
 
 abbrev pub drafts_entries : List Draft → List Entry
 drafts_entries drafts = map draft_entry drafts

@@ -6,6 +6,7 @@ ghost use Rattle.std.specs.List.Sorted.{IsPermutation, IsSortedBy};
 ghost use Rattle.catalogue.specs.Drafts.{comes_before, drafts_entries, header_text_in, kept_entry, row, row_cmp, row_if, row_text, rows, FirstRepeat};
 ghost use Rattle.catalogue.specs.Drafts as Drafts;
 
+use crate::draft_key::DraftKey;
 use crate::entry::split_form;
 use crate::messages::EntryStrings;
 use crate::writer::EntryList;
@@ -33,7 +34,7 @@ pub(crate) enum Standing {
 #[derive(Drop)]
 pub(crate) struct Draft<'a> {
     /// The bytes of the entry's key.
-    pub(crate) key: &'a str,
+    pub(crate) key: DraftKey<'a>,
     /// How many entries stand before it in the text.
     pub(crate) number: usize,
     pub(crate) line: u32,
@@ -104,7 +105,7 @@ pub(crate) fn header_text<'a>(drafts: &[Draft<'a>]) -> Option<&'a str>
 fn compare(a: &Draft<'_>, b: &Draft<'_>) -> Ordering
     ensures { result ≡ row_cmp (row a.now) (row b.now) }
 {
-    a.key.cmp(b.key).then(a.number.cmp(&b.number))
+    a.key.compare(&b.key).then(a.number.cmp(&b.number))
 }
 
 /// Puts the drafts in rising order of their keys; those with one key stand in the order of the text.
@@ -133,7 +134,7 @@ fn earlier<'d, 'a>(
 ) -> Option<&'d Draft<'a>>
     ensures { row_if result ≡ Drafts.earlier (row before.now) (row draft.now) (row_if first.entry) }
 {
-    if before.key == draft.key && is_earlier(draft, first) {
+    if before.key.is_same(&draft.key) && is_earlier(draft, first) {
         Some(draft)
     } else {
         first
@@ -171,8 +172,8 @@ impl<'a> EntryList for Vec<Draft<'a>> {
     fn strings_at(&self, i: usize) -> EntryStrings<'_> {
         let draft = &self[i];
         match &draft.texts {
-            Some(texts) => EntryStrings::new(draft.key, texts.plural, texts.translation),
-            None => EntryStrings::new(draft.key, None, ""),
+            Some(texts) => EntryStrings::new(draft.key.as_str(), texts.plural, texts.translation),
+            None => EntryStrings::new(draft.key.as_str(), None, ""),
         }
     }
 }

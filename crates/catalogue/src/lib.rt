@@ -9,6 +9,7 @@ mod checks;
 mod collect;
 mod compiler;
 mod cut;
+mod draft_key;
 mod drafts;
 mod entry;
 mod extent;
@@ -27,16 +28,6 @@ mod pool;
 mod sizes;
 mod sorted;
 mod step_count;
-#[cfg(test)]
-mod tests;
-#[cfg(test)]
-mod tests_accepts;
-#[cfg(test)]
-mod tests_checks;
-#[cfg(test)]
-mod tests_plain;
-#[cfg(test)]
-mod tests_search;
 mod writer;
 
 pub use compiler::{Compiled, Options, Stats, compile};

@@ -1,5 +1,5 @@
 //! Worked texts for the checks. What is wanted was written by hand from the rules, and not taken from a run.
-use crate::{LoadFault, LoadKind, Options, compile};
+use catalogue::{LoadFault, LoadKind, Options, compile};
 use std::alloc::Global;
 use std::test::Fail;
 

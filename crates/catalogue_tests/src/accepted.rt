@@ -1,6 +1,6 @@
 //! Messages that a catalogue can be made of, and messages that it can't. What is wanted was written by hand
 //! from the rules.
-use crate::{Catalogue, Message};
+use catalogue::{Catalogue, Message};
 use std::alloc::{AllocError, Global};
 use std::test::Fail;
 

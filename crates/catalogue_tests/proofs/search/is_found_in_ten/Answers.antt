@@ -1,6 +1,6 @@
 use Rattle.std.proofs.Common.{length}
-use Rattle.catalogue.proofs.Searching.{ten_digits}
-use Rattle.catalogue.proofs.tests_search.is_found_in_ten.Goals as goal
+use Rattle.catalogue_tests.proofs.TenDigits.{ten_digits}
+use Rattle.catalogue_tests.proofs.search.is_found_in_ten.Goals as goal
 
 pub returns-then-eq : goal.returns-then-eq
 returns-then-eq g c = ten_digits (length c.args.catalogue.now) c.args.steps.now c.find_counted.new.steps c.requires c.find_counted.ensures.cost

@@ -1,6 +1,5 @@
 //! The catalogue of a text by its definition, entry by entry, each with texts of its own; and `compile` beside it.
-use crate::joins::joined_key;
-use crate::{Catalogue, Message, Options, compile};
+use catalogue::{Catalogue, Message, Options, compile};
 use po_text::{PoEntry, read_po};
 use std::alloc::{AllocError, Global};
 use std::test::Fail;
@@ -37,15 +36,20 @@ fn is_kept(entry: &PoEntry, options: Options) -> bool {
     is_translated && (!entry.fuzzy || options.use_fuzzy || is_header)
 }
 
+/// The bytes of a key: the msgid, behind its context and byte 4 where it has one.
+fn key_of(alloc: Global, entry: &PoEntry) -> Result<String, AllocError> {
+    let id = entry.id.as_str();
+    match &entry.context {
+        Some(context) => format!(in alloc; "{context}\u{4}{id}"),
+        None => String::from_str(alloc, id),
+    }
+}
+
 /// The entries with their keys.
 fn with_keys(alloc: Global, entries: Vec<PoEntry>) -> Result<Vec<Keyed>, AllocError> {
     let mut all = Vec::new(alloc);
     for entry in entries {
-        let context = match &entry.context {
-            Some(context) => Some(context.as_str()),
-            None => None,
-        };
-        let key = joined_key(alloc, context, entry.id.as_str())?;
+        let key = key_of(alloc, &entry)?;
         all.push(Keyed { key, entry })?;
     }
     Ok(all)

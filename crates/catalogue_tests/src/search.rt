@@ -1,7 +1,7 @@
 //! Searches in large catalogues.
 ghost use Rattle.std.specs.Prelude.{◌≡◌, ◌+◌, ◌<◌, ◌≤◌, length};
 
-use crate::{Catalogue, Options, Steps, compile};
+use catalogue::{Catalogue, Options, Steps, compile};
 use std::alloc::{AllocError, Global};
 use std::marker::Brand;
 use std::sync::ledger::{Blank, Ledger};

@@ -1,5 +1,5 @@
 //! Worked texts. What is wanted was written by hand from the rules, and not taken from a run.
-use crate::{
+use catalogue::{
     Catalogue, Compiled, EntryRef, LoadFault, LoadKind, Options, Stats, compile, one_meaning,
 };
 use std::alloc::Global;

@@ -1,0 +1,12 @@
+use Rattle.std.proofs.Common.{ap, ◌∙◌}
+use Rattle.std.specs.Ordering.{nat_cmp}
+use Rattle.std.specs.Cmp.Lexicographic.{slice_cmp}
+use Rattle.catalogue.proofs.Fronts.{by_fronts}
+use Rattle.catalogue.proofs.draft_key.DraftKey.compare.Goals as goal
+
+pub returns-then-self-other : goal.returns-then-self-other
+returns-then-self-other c =
+    c.cmp.ensures
+    ∙ by_fronts _ _ _ _ c.self.invariant c.other.invariant c.if-self-other.true
+    ∙ ap (λ k. slice_cmp nat_cmp k c.other.inside.text.now) c.self.view_is
+    ∙ ap (slice_cmp nat_cmp c.args.self.now) c.other.view_is
