@@ -1,5 +1,5 @@
 /* Queries to glibc's dcgettext in 20 text domains, one for each language of crates/bench_store, with the same
-   messages in the same order: dcgettext FOLDER MESSAGES. Run by bench/store/run. */
+   messages in the same order: dcgettext FOLDER MESSAGES ROUNDS. Run by bench/store/run. */
 #include <libintl.h>
 #include <locale.h>
 #include <pthread.h>
@@ -10,15 +10,14 @@
 #include <time.h>
 
 #define LANGUAGES 20
-#define QUERIES 100000
-#define ROUNDS 10
 #define THREADS 4
 
 struct query {
     char domain[16], id[32], wanted[64];
 };
 
-static struct query queries[QUERIES];
+static struct query *queries;
+static size_t count, rounds;
 
 static double now(void) {
     struct timespec t;
@@ -28,24 +27,29 @@ static double now(void) {
 
 static void *ask_all(void *arg) {
     size_t *lost = arg;
-    for (int r = 0; r < ROUNDS; r++)
-        for (int i = 0; i < QUERIES; i++)
+    for (size_t r = 0; r < rounds; r++)
+        for (size_t i = 0; i < count; i++)
             if (!*dcgettext(queries[i].domain, queries[i].id, LC_MESSAGES))
                 ++*lost;
     return NULL;
 }
 
 int main(int argc, char **argv) {
-    if (argc < 3 || !setlocale(LC_ALL, "C.UTF-8"))
+    if (argc < 4 || !setlocale(LC_ALL, "C.UTF-8"))
         return 1;
     uint64_t messages = strtoull(argv[2], NULL, 10), state = 1;
+    rounds = strtoull(argv[3], NULL, 10);
+    count = rounds ? messages * LANGUAGES / rounds : 0;
+    queries = calloc(count, sizeof *queries);
+    if (!queries)
+        return 1;
     for (int l = 0; l < LANGUAGES; l++) {
         char domain[16];
         snprintf(domain, sizeof domain, "l%d", l);
         bindtextdomain(domain, argv[1]);
     }
     size_t wrong = 0;
-    for (int i = 0; i < QUERIES; i++) {
+    for (size_t i = 0; i < count; i++) {
         state = state * 6364136223846793005u + 1442695040888963407u;
         unsigned long long message = (state >> 33) % messages, language = (state >> 40) % LANGUAGES;
         struct query *q = &queries[i];
@@ -54,17 +58,17 @@ int main(int argc, char **argv) {
         snprintf(q->wanted, sizeof q->wanted, "%.31s in %.15s", q->id, q->domain);
         wrong += strcmp(dcgettext(q->domain, q->id, LC_MESSAGES), q->wanted) != 0;
     }
-    printf("dcgettext: %zu answers wrong\n", wrong);
+    printf("dcgettext, %zu queries: %zu answers wrong\n", count, wrong);
     size_t lost[THREADS] = { 0 };
     double start = now();
     ask_all(&lost[0]);
-    printf("dcgettext, one thread: %.0f ns each\n", (now() - start) / ((double)ROUNDS * QUERIES));
+    printf("dcgettext, one thread: %.0f ns each\n", (now() - start) / ((double)rounds * count));
     pthread_t threads[THREADS];
     start = now();
     for (int t = 0; t < THREADS; t++)
         pthread_create(&threads[t], NULL, ask_all, &lost[t]);
     for (int t = 0; t < THREADS; t++)
         pthread_join(threads[t], NULL);
-    printf("dcgettext, four threads: %.0f ns each\n", (now() - start) / ((double)ROUNDS * QUERIES * THREADS));
+    printf("dcgettext, four threads: %.0f ns each\n", (now() - start) / ((double)rounds * count * THREADS));
     return 0;
 }

@@ -29,8 +29,8 @@ const PUBLISHES: u32 = 1_000;
 /// How many catalogues lie beside the one that is published.
 const OTHERS: u32 = 1_000;
 
-/// How often all queries are made.
-const ROUNDS: u32 = 10;
+/// How often all queries are made: few of them often, and many once.
+const ROUNDS: [u32; 2] = [10, 1];
 
 /// Prints how long each of so many turns took, and how many went wrong.
 fn print_time<R: Print + Eprint>(
@@ -162,19 +162,21 @@ fn run_beside<R: Print + Eprint + Clock + Threads + Wait + AllocGlobal + Sync>(
     )
 }
 
-/// Queries in 20 languages, of one reader and of four at once.
+/// Queries in 20 languages, of one reader and of four at once: as many as there are messages, in so many rounds.
 fn time_queries<R: Print + Eprint + Clock + Threads + Wait + AllocGlobal + Sync>(
     rt: &R,
     messages: u32,
+    rounds: u32,
 ) -> io::Result<()> {
+    let count = messages.saturating_mul(LANGUAGES) / rounds.max(1);
     let Ok((mut publisher, readers)) = open_store(rt, rt.alloc(), 4, u64::MAX) else {
         return println!(rt; "no store");
     };
     let done = match (
         publish_languages(rt, &mut publisher, messages),
-        queries(rt.alloc(), messages),
+        queries(rt.alloc(), messages, count),
     ) {
-        (Ok(true), Ok(queries)) => run_queries(rt, readers, &queries),
+        (Ok(true), Ok(queries)) => run_queries(rt, readers, &queries, rounds),
         _ => println!(rt; "out of memory"),
     };
     publisher.end(rt);
@@ -202,13 +204,15 @@ fn run_queries<R: Print + Eprint + Clock + Threads + Wait + AllocGlobal + Sync>(
     rt: &R,
     mut readers: Vec<Lookups>,
     queries: &[Query],
+    rounds: u32,
 ) -> io::Result<()> {
-    let turns = u64::from(ROUNDS).saturating_mul(queries.len() as u64);
+    let count = queries.len();
+    let turns = u64::from(rounds).saturating_mul(count as u64);
     if let Some(reader) = readers.first_mut() {
         let wrong = ask_each(rt.alloc(), reader, queries);
-        println!(rt; "answers: {wrong} wrong")?;
+        println!(rt; "{count} answers: {wrong} wrong")?;
         let start = Instant::now(rt)?;
-        let wrong = look_all(reader, queries, ROUNDS);
+        let wrong = look_all(reader, queries, rounds);
         print_time(
             rt,
             "look-ups without a copy, one reader",
@@ -217,7 +221,7 @@ fn run_queries<R: Print + Eprint + Clock + Threads + Wait + AllocGlobal + Sync>(
             wrong,
         )?;
         let start = Instant::now(rt)?;
-        let wrong = ask_all(rt.alloc(), reader, queries, ROUNDS);
+        let wrong = ask_all(rt.alloc(), reader, queries, rounds);
         print_time(rt, "queries, one reader", start.elapsed(rt)?, turns, wrong)?;
     }
     let alloc = rt.alloc();
@@ -225,7 +229,7 @@ fn run_queries<R: Print + Eprint + Clock + Threads + Wait + AllocGlobal + Sync>(
     let found = map_vec(
         rt,
         readers,
-        &|mut reader: Lookups| ask_all(alloc, &mut reader, queries, ROUNDS),
+        &|mut reader: Lookups| ask_all(alloc, &mut reader, queries, rounds),
     );
     let taken = start.elapsed(rt)?;
     let Ok(found) = found else {
@@ -310,6 +314,8 @@ fn main(rt: HostRuntime) -> io::Result<()> {
         time_beside(&rt, readers, publishes, false)?;
         time_beside(&rt, readers, publishes, true)?;
     }
-    time_queries(&rt, messages)?;
+    'rounds: for rounds in ROUNDS {
+        time_queries(&rt, messages, rounds)?;
+    }
     time_publishes(&rt)
 }

@@ -10,9 +10,6 @@ pub const PLAIN: Options = Options {
 
 pub const LANGUAGES: u32 = 20;
 
-/// How many queries are made ready.
-const QUERIES: u32 = 100_000;
-
 /// The name of a language's locale.
 pub fn locale_of(alloc: Global, language: u32) -> Result<String, AllocError> {
     format!(in alloc; "l{language}")
@@ -36,11 +33,11 @@ pub fn po_text(alloc: Global, language: u32, messages: u32) -> Result<String, Al
     Ok(text)
 }
 
-/// Queries for messages here and there, each in one of the languages.
-pub fn queries(alloc: Global, messages: u32) -> Result<Vec<Query>, AllocError> {
+/// So many queries for messages here and there, each in one of the languages.
+pub fn queries(alloc: Global, messages: u32, count: u32) -> Result<Vec<Query>, AllocError> {
     let mut all = Vec::new(alloc);
     let mut state: u64 = 1;
-    'queries: for _ in 0..QUERIES {
+    'queries: for _ in 0..count {
         state = state
             .wrapping_mul(6_364_136_223_846_793_005)
             .wrapping_add(1_442_695_040_888_963_407);
