@@ -23,6 +23,9 @@ use std::{env, io};
 /// How many entries one reader makes.
 const ENTRIES: u32 = 1_000_000;
 
+/// How many turns of other work a busy reader does behind each entry: some ten microseconds.
+const WORK: u32 = 30_000;
+
 /// How many publishes of one catalogue are timed.
 const PUBLISHES: u32 = 1_000;
 
@@ -96,7 +99,7 @@ fn time_entries<R: Print + Eprint + Clock + Wait + AllocGlobal>(rt: &R) -> io::R
 
 fn time_reader<R: Print + Eprint + Clock>(rt: &R, reader: &mut Lookups) -> io::Result<()> {
     let start = Instant::now(rt)?;
-    let wrong = enter_many(reader, ENTRIES);
+    let wrong = enter_many(reader, ENTRIES, 0);
     print_time(
         rt,
         "entries, one reader",
@@ -106,19 +109,27 @@ fn time_reader<R: Print + Eprint + Clock>(rt: &R, reader: &mut Lookups) -> io::R
     )
 }
 
+/// Readers beside a publisher.
+#[derive(Clone, Copy)]
+struct Beside {
+    readers: u32,
+    /// How many turns of other work a reader does behind each entry.
+    work: u32,
+    /// Whether there are publishes.
+    publishing: bool,
+}
+
 /// Readers that enter and leave, while a publisher publishes or does nothing.
 fn time_beside<R: Print + Eprint + Clock + Threads + Wait + AllocGlobal + Sync>(
     rt: &R,
-    count: u32,
+    beside: Beside,
     turns: u32,
-    publishing: bool,
 ) -> io::Result<()> {
-    let Ok((mut publisher, readers)) = open_store(rt, rt.alloc(), count, u64::MAX) else {
+    let Ok((mut publisher, readers)) = open_store(rt, rt.alloc(), beside.readers, u64::MAX) else {
         return println!(rt; "no store");
     };
     let done = match po_text(rt.alloc(), 0, 100) {
-        Ok(text) if publishing => run_beside(rt, &mut publisher, readers, Some(&text), turns),
-        Ok(_) => run_beside(rt, &mut publisher, readers, None, turns),
+        Ok(text) => run_beside(rt, beside, &mut publisher, readers, &text, turns),
         Err(_) => println!(rt; "out of memory"),
     };
     publisher.end(rt);
@@ -127,12 +138,13 @@ fn time_beside<R: Print + Eprint + Clock + Threads + Wait + AllocGlobal + Sync>(
 
 fn run_beside<R: Print + Eprint + Clock + Threads + Wait + AllocGlobal + Sync>(
     rt: &R,
+    beside: Beside,
     publisher: &mut Publisher,
     readers: Vec<Lookups>,
-    text: Option<&str>,
+    text: &str,
     turns: u32,
 ) -> io::Result<()> {
-    let count = readers.len();
+    let text = if beside.publishing { Some(text) } else { None };
     let done = AtomicBool::new(false);
     let start = Instant::now(rt)?;
     let (found, unpublished) = join(
@@ -140,7 +152,7 @@ fn run_beside<R: Print + Eprint + Clock + Threads + Wait + AllocGlobal + Sync>(
         || map_vec(
             rt,
             readers,
-            &|mut reader: Lookups| enter_until(&mut reader, &done),
+            &|mut reader: Lookups| enter_until(&mut reader, &done, beside.work),
         ),
         || publish_many(rt, publisher, text, turns, &done),
     );
@@ -153,11 +165,24 @@ fn run_beside<R: Print + Eprint + Clock + Threads + Wait + AllocGlobal + Sync>(
         entries = entries.saturating_add(*entered);
         wrong = wrong.saturating_add(*fallen);
     }
-    let publishes = if text.is_some() { turns } else { 0 };
-    let each = u128::from(entries) / taken.as_millis().max(1) / (count as u128).max(1);
-    println!(rt; "entries, {count} readers: {wrong} wrong")?;
+    print_beside(rt, beside, turns, taken, entries, wrong)
+}
+
+fn print_beside<R: Print + Eprint>(
+    rt: &R,
+    beside: Beside,
+    turns: u32,
+    taken: Duration,
+    entries: u64,
+    wrong: u64,
+) -> io::Result<()> {
+    let count = beside.readers;
+    let busy = if beside.work == 0 { "" } else { " busy" };
+    let publishes = if beside.publishing { turns } else { 0 };
+    let each = u128::from(entries) / taken.as_millis().max(1) / u128::from(count.max(1));
+    println!(rt; "entries, {count}{busy} readers: {wrong} wrong")?;
     eprintln!(rt;
-        "entries, {count} readers beside {publishes} publishes: {each} each in a ms, for {} ms",
+        "entries, {count}{busy} readers beside {publishes} publishes: {each} each in a ms, for {} ms",
         taken.as_millis()
     )
 }
@@ -311,8 +336,16 @@ fn main(rt: HostRuntime) -> io::Result<()> {
     let publishes = number_of(env::args(&rt)?.nth(2), 100);
     time_entries(&rt)?;
     'readers: for readers in [4, 16] {
-        time_beside(&rt, readers, publishes, false)?;
-        time_beside(&rt, readers, publishes, true)?;
+        'work: for work in [0, WORK] {
+            'publishing: for publishing in [false, true] {
+                let beside = Beside {
+                    readers,
+                    work,
+                    publishing,
+                };
+                time_beside(&rt, beside, publishes)?;
+            }
+        }
     }
     'rounds: for rounds in ROUNDS {
         time_queries(&rt, messages, rounds)?;

@@ -6,13 +6,25 @@ use std::alloc::Global;
 use std::sync::atomic::AtomicBool;
 use std::sync::atomic::Ordering::SeqCst;
 
-/// Enters so many times, and counts the entries whose version was below the one before.
-pub fn enter_many(reader: &mut Lookups, turns: u32) -> u64 {
-    let mut last = reader.seen();
-    let mut fallen: u64 = 0;
+/// So many turns of work that has nothing to do with a store.
+fn other_work(turns: u32, mut state: u64) -> u64 {
     'turns: for _ in 0..turns {
+        state = state
+            .wrapping_mul(6_364_136_223_846_793_005)
+            .wrapping_add(1_442_695_040_888_963_407);
+    }
+    state
+}
+
+/// Enters so many times, with turns of other work behind each entry, and counts the entries whose version was below
+/// the one before.
+pub fn enter_many(reader: &mut Lookups, entries: u32, work: u32) -> u64 {
+    let mut last = reader.seen();
+    let mut state: u64 = 1;
+    let mut fallen: u64 = 0;
+    'turns: for _ in 0..entries {
         let Ok(pinned) = reader.enter() else {
-            return u64::from(turns);
+            return u64::from(entries);
         };
         let version = pinned.version();
         pinned.leave();
@@ -20,19 +32,21 @@ pub fn enter_many(reader: &mut Lookups, turns: u32) -> u64 {
             fallen = fallen.saturating_add(1);
         }
         last = version;
+        state = other_work(work, state);
     }
-    fallen
+    // (the work is for nothing, and would be left out if nobody asked for its end)
+    if state == 0 { u64::MAX } else { fallen }
 }
 
 /// Enters until it is told to stop. Answers how many entries there were, and how many had a version below
 /// the one before.
-pub fn enter_until(reader: &mut Lookups, done: &AtomicBool) -> (u64, u64) {
+pub fn enter_until(reader: &mut Lookups, done: &AtomicBool, work: u32) -> (u64, u64) {
     let (mut entries, mut fallen) = (0_u64, 0_u64);
     'turns: for _ in 0..u64::MAX {
         if done.load(SeqCst) {
             break;
         }
-        fallen = fallen.saturating_add(enter_many(reader, 1000));
+        fallen = fallen.saturating_add(enter_many(reader, 1000, work));
         entries = entries.saturating_add(1000);
     }
     (entries, fallen)
