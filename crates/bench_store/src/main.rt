@@ -23,7 +23,7 @@ use std::{env, io};
 /// How many entries one reader makes.
 const ENTRIES: u32 = 1_000_000;
 
-/// How many turns of other work a busy reader does behind each entry: some ten microseconds.
+/// How many turns of other work a busy reader does behind each entry: some five microseconds.
 const WORK: u32 = 30_000;
 
 /// How many publishes of one catalogue are timed.
