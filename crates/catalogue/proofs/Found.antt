@@ -1,10 +1,11 @@
 -- A key's entry, found by its row.
-use Rattle.std.proofs.Common.{◌≡◌, ℕ, length, ◌+◌, ◌<◌, true, false, List, ◌∷◌, ◌++◌, ◌-◌, Some, None, Ordering, slice_get, refl, sym, ap, ◌∙◌, subst, arith}
+use Rattle.std.proofs.Common.{◌≡◌, ℕ, length, ◌+◌, ◌<◌, true, false, List, ◌∷◌, ◌++◌, ◌-◌, Some, None, slice_get, refl, sym, ap, ◌∙◌, subst, arith}
 use Rattle.std.specs.Prelude.{Contains}
-use Rattle.std.specs.Ordering.{nat_cmp}
-use Rattle.std.specs.declared.cmp.Ordering.TheVariants.{Equal}
+use Rattle.std.specs.Ordering.{nat_cmp, is_eq}
+use Rattle.std.specs.declared.cmp.Ordering.TheVariants.{Less, Equal, Greater}
 use Rattle.std.specs.Cmp.Lexicographic.{slice_cmp}
 use Rattle.std.specs.Str.{bytes_eq}
+use Rattle.std.specs.FinMap.{slice_cmp-IsAntisymmetric, nat_cmp-IsAntisymmetric}
 use Rattle.std.proofs.lemmas.Bool.{false≢true}
 use Rattle.std.proofs.lemmas.Slice.Eq.{bytes_eq-Decides}
 use Rattle.catalogue.specs.Entry.{Entry, key}
@@ -14,7 +15,7 @@ use Rattle.catalogue.specs.Search.{AtMostDigits}
 use Rattle.catalogue.specs.Index.{hash, hash_by, hash_within, HasNoRow, IsIndex, IsRowOf}
 use Rattle.catalogue.specs.MoFile.{spelling}
 use Rattle.catalogue.specs.declared.index.Row.{Row}
-use Rattle.catalogue.proofs.Searching.{apart, find_none, found_equal, some_is}
+use Rattle.catalogue.proofs.Searching.{apart, find_none, find_some, greater_ne, less_ne, some_is}
 use Rattle.catalogue.proofs.EntryParts.{cut-some}
 use Rattle.catalogue.proofs.Originals.{uncut_at}
 
@@ -49,13 +50,17 @@ absent_by_row m rows asked row e index has hashed leads other = find_none m aske
     let is : e ≡ d = some_is e d (sym here ∙ there) in
     false≢true (sym (subst (λ (x : Entry). bytes_eq (key x) asked ≡ false) is other) ∙ same)))
 
--- what a comparison with the entry of a row says of the key
-pub found_by_row : (m : List Entry) (i : ℕ) (e : Entry) (asked : List ℕ) → IsLawful m → slice_get m i ≡ Some e → Equal ≡ slice_cmp nat_cmp (key e) asked → entry_at m asked ≡ Some e
-found_by_row m i e asked lawful here order = found_equal m i e asked lawful.rises here (sym order)
+-- the entry of a row has the key
+pub found_by_row : (m : List Entry) (i : ℕ) (e : Entry) (asked : List ℕ) → IsLawful m → slice_get m i ≡ Some e → bytes_eq (key e) asked ≡ true → entry_at m asked ≡ Some e
+found_by_row m i e asked lawful here same = find_some m i e asked lawful.rises here ((bytes_eq-Decides (key e) asked).0 same)
 
-pub other_by_row : (m : List Entry) (rows : List Row) (asked : List ℕ) (row : Row) (e : Entry) (o : Ordering) → IsIndex m rows → Contains rows row → row.hash ≡ hash asked
-    → LeadsTo m row e → o ≡ slice_cmp nat_cmp (key e) asked → (o ≡ Equal → ⊥) → entry_at m asked ≡ None
-other_by_row m rows asked row e o index has hashed leads order differs = absent_by_row m rows asked row e index has hashed leads (apart (key e) asked o (sym order) differs)
+-- keys are the same where they tie
+pub tied_same : (x y : List ℕ) → is_eq (slice_cmp nat_cmp x y) ≡ bytes_eq x y
+tied_same x y = elim (slice_cmp nat_cmp x y) as (λ o. slice_cmp nat_cmp x y ≡ o → is_eq o ≡ bytes_eq x y) [
+  | Less ↦ λ e. sym (apart x y Less e less_ne)
+  | Equal ↦ λ e. sym ((bytes_eq-Decides x y).1 (slice_cmp-IsAntisymmetric nat_cmp-IsAntisymmetric x y e))
+  | Greater ↦ λ e. sym (apart x y Greater e greater_ne)
+] refl
 
 pub one_digit : (n old new : ℕ) → new ≡ old + 1 → 0 < n → AtMostDigits n old new
 one_digit n old new step some =

@@ -33,4 +33,3 @@ pub mod Rows
 pub mod ImageFacts
 pub mod Accepting
 pub mod Cutting
-pub mod Fronts

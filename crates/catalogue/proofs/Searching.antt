@@ -93,10 +93,10 @@ apart x y o h ne =
       | false ↦ λ e. refl
     ] refl
 
-less_ne : Less ≡ Equal → ⊥
+pub less_ne : Less ≡ Equal → ⊥
 less_ne e = cc
 
-greater_ne : Greater ≡ Equal → ⊥
+pub greater_ne : Greater ≡ Equal → ⊥
 greater_ne e = cc
 
 -- no key is the one asked for

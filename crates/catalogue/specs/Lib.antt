@@ -7,7 +7,6 @@ pub mod Pairs
 pub mod Image
 pub mod Search
 pub mod Index
-pub mod Front
 pub mod Strings
 pub mod Refusal
 pub mod Stored

@@ -6,11 +6,11 @@ ghost use Rattle.std.specs.List.Sorted.{IsPermutation, IsSortedBy};
 ghost use Rattle.catalogue.specs.Drafts.{comes_before, drafts_entries, header_text_in, kept_entry, row, row_cmp, row_if, row_text, rows, FirstRepeat};
 ghost use Rattle.catalogue.specs.Drafts as Drafts;
 
-use crate::draft_key::DraftKey;
 use crate::entry::split_form;
 use crate::messages::EntryStrings;
 use crate::writer::EntryList;
 use std::cmp::Ordering;
+use text_key::TextKey;
 
 /// What a catalogue keeps of an entry beside its key.
 #[derive(Drop)]
@@ -34,7 +34,7 @@ pub(crate) enum Standing {
 #[derive(Drop)]
 pub(crate) struct Draft<'a> {
     /// The bytes of the entry's key.
-    pub(crate) key: DraftKey<'a>,
+    pub(crate) key: TextKey<'a>,
     /// How many entries stand before it in the text.
     pub(crate) number: usize,
     pub(crate) line: u32,

@@ -2,6 +2,7 @@
 ghost use Rattle.std.specs.Prelude.{◌≡◌, ◌↔◌, IsTrue, ◌+◌, ◌-◌, ◌/◌, ◌<◌, length, slice_get, Some, IfSome, option_map};
 ghost use Rattle.std.specs.Ordering.{nat_cmp};
 ghost use Rattle.std.specs.Cmp.Lexicographic.{slice_cmp};
+ghost use Rattle.std.specs.Str.{bytes_eq};
 ghost use Rattle.catalogue.specs.Entry.{key, key_bytes, Lacks};
 ghost use Rattle.catalogue.specs.Map.{entry_at};
 ghost use Rattle.catalogue.specs.Pairs.{key_part, HasNulAt};
@@ -22,7 +23,7 @@ use std::sync::ledger::{Blank, Ledger};
 struct Asked<'a> {
     context: Option<&'a str>,
     id: &'a str,
-    /// Whether the msgid has no NUL. No entry's has.
+    /// The msgid is known to have no NUL. No entry's has.
     is_text: bool,
 }
 
@@ -64,7 +65,18 @@ impl<'a> Asked<'a> {
         Asked {
             context,
             id,
-            is_text: plural_of(id).is_none(),
+            is_text: false,
+        }
+    }
+
+    /// The same, with its msgid looked through for a NUL, which makes many comparisons quick.
+    fn looked_through(&self) -> Asked<'a>
+        ensures { result ≡ self.now }
+    {
+        Asked {
+            context: self.context,
+            id: self.id,
+            is_text: plural_of(self.id).is_none(),
         }
     }
 
@@ -95,6 +107,16 @@ impl<'a> Asked<'a> {
             None => key_of(original).cmp(self.id),
         }
     }
+
+    /// Whether the key of an original is this one.
+    fn is_key_of(&self, original: &str) -> bool
+        ensures { result ≡ bytes_eq (key_part original.now) self.now }
+    {
+        match self.context {
+            Some(_) => self.cmp_original(original).is_eq(),
+            None => key_of(original) == self.id,
+        }
+    }
 }
 
 /// The place in the middle of those from `low` on and before `high`.
@@ -114,6 +136,15 @@ fn compare<L: Ledger>(original: &str, asked: &Asked<'_>, steps: &mut Steps<L>) -
     asked.cmp_original(original)
 }
 
+/// Whether the key of an original is the one asked for, which is one step.
+fn is_same<L: Ledger>(original: &str, asked: &Asked<'_>, count: &mut Steps<L>) -> bool
+    ensures same { result ≡ bytes_eq (key_part original.now) asked.now }
+    ensures step { count.new ≡ count.old + 1 }
+{
+    count.tick();
+    asked.is_key_of(original)
+}
+
 impl Image {
     /// How the i-th key compares with the one asked for, which is one step.
     fn compare<L: Ledger>(&self, i: usize, asked: &Asked<'_>, steps: &mut Steps<L>) -> Ordering
@@ -129,11 +160,12 @@ impl Image {
         ensures found { result ≡ entry_at self.now asked.now }
         ensures cost { AtMostDigits (length self.now) steps.old steps.new }
     {
+        let asked = asked.looked_through();
         let mut low = 0;
         let mut high = self.len();
         'halves: while low < high {
             let mid = middle(low, high);
-            match self.compare(mid, asked, steps) {
+            match self.compare(mid, &asked, steps) {
                 Ordering::Less => low = mid + 1,
                 Ordering::Equal => return Some(self.entry(mid)),
                 Ordering::Greater => high = mid,
@@ -157,9 +189,10 @@ impl Image {
             return self.search(asked, steps);
         };
         let entry = self.entry_in(index.row_of(hash)?);
-        match compare(entry.original(), asked, steps) {
-            Ordering::Equal => Some(entry),
-            _ => None,
+        if is_same(entry.original(), asked, steps) {
+            Some(entry)
+        } else {
+            None
         }
     }
 

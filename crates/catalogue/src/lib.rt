@@ -9,7 +9,6 @@ mod checks;
 mod collect;
 mod compiler;
 mod cut;
-mod draft_key;
 mod drafts;
 mod entry;
 mod extent;

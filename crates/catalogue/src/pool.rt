@@ -3,9 +3,9 @@ ghost use Rattle.std.specs.Prelude.{◌≡◌, IfOk, drop, option_map};
 ghost use Rattle.catalogue.specs.Drafts.{kept_texts, row, rows};
 ghost use Rattle.catalogue.specs.Pool.{kept_at, kept_size, plural_at, plural_size, row_at, rows_at, size, Holds, HoldsAll, HoldsKept, HoldsPlural};
 
-use crate::draft_key::DraftKey;
 use crate::drafts::{Draft, Standing, Texts};
 use std::alloc::{AllocError, Global};
+use text_key::TextKey;
 
 /// How long the texts are that are kept of an entry beside its key.
 #[derive(Clone, Copy)]
@@ -73,7 +73,7 @@ fn lend_entry<'a>(texts: &'a str, number: usize, span: &Span) -> (Draft<'a>, &'a
         None => (None, behind),
     };
     let draft = Draft {
-        key: DraftKey::new(key),
+        key: TextKey::new(key),
         number,
         line: span.line,
         standing: span.standing,

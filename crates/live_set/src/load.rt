@@ -9,6 +9,7 @@ use std::alloc::AllocError;
 use std::cmp::Ordering;
 use std::marker::Model;
 use std::sync::Arc;
+use text_key::TextKey;
 
 /// A catalogue for a text domain and a locale. Contracts see it as the two names and the catalogue's map.
 #[derive(Drop)]
@@ -41,17 +42,17 @@ impl Load {
     }
 
     /// The text domain's name.
-    pub(crate) fn domain(&self) -> &str
-        ensures { result.now ≡ self.now.domain }
+    pub(crate) fn domain(&self) -> TextKey<'_>
+        ensures { result ≡ self.now.domain }
     {
-        self.domain.as_str()
+        self.domain.key()
     }
 
     /// The locale's name.
-    pub(crate) fn locale(&self) -> &str
-        ensures { result.now ≡ self.now.locale }
+    pub(crate) fn locale(&self) -> TextKey<'_>
+        ensures { result ≡ self.now.locale }
     {
-        self.locale.as_str()
+        self.locale.key()
     }
 
     /// The load's catalogue.
@@ -63,12 +64,12 @@ impl Load {
 
     /// How the load's domain and locale compare with these, by the locale, since that is what differs most,
     /// and then by the domain.
-    pub(crate) fn compare(&self, domain: &str, locale: &str) -> Ordering
+    pub(crate) fn compare(&self, domain: &TextKey<'_>, locale: &TextKey<'_>) -> Ordering
         ensures { result ≡ compared self.now (asked domain.now locale.now) }
     {
-        self.locale
-            .as_str()
-            .cmp(locale)
-            .then_with(|| self.domain.as_str().cmp(domain))
+        match self.locale().compare(locale) {
+            Ordering::Equal => self.domain().compare(domain),
+            order => order,
+        }
     }
 }

@@ -5,6 +5,7 @@ ghost use Rattle.live_set.specs.declared.name.NameFault.TheVariants.{BadName, Me
 
 use std::alloc::{AllocError, Global};
 use std::marker::Model;
+use text_key::{TextKey, front_of};
 use thiserror::Error;
 
 /// How many bytes a name may have.
@@ -34,6 +35,8 @@ impl From<AllocError> for NameFault {
 #[derive(Debug, Drop)]
 pub struct Name {
     text: String,
+    /// The number that the text's first bytes spell.
+    front: u64,
 }
 
 impl Model for Name {
@@ -42,10 +45,11 @@ impl Model for Name {
     ghost Value = { List ℕ };
 
     ghost use Rattle.live_set.specs.Names.{IsName};
+    ghost use Rattle.text_key.specs.Front.{IsFrontOf};
 
     ghost view = { λ name. string_bytes name.text };
 
-    ghost invariant = { λ name. IsName (string_bytes name.text) };
+    ghost invariant = { λ name. IsName (string_bytes name.text) × IsFrontOf (string_bytes name.text) name.front };
 }
 
 /// Whether a name may have this byte.
@@ -74,6 +78,7 @@ impl Name {
         }
         Ok(Name {
             text: String::from_str(alloc, text)?,
+            front: front_of(text),
         })
     }
 
@@ -87,12 +92,20 @@ impl Name {
         self.text.as_str()
     }
 
+    /// The text with the number that its first bytes spell, to be compared.
+    pub(crate) fn key(&self) -> TextKey<'_>
+        ensures { result ≡ self.now }
+    {
+        TextKey::with_front(self.text.as_str(), self.front)
+    }
+
     /// The same name again. Answers AllocError where memory is refused.
     pub fn try_clone(&self) -> Result<Name, AllocError>
         ensures { IfOk result (λ name. name ≡ self.now) }
     {
         Ok(Name {
             text: self.text.clone()?,
+            front: self.front,
         })
     }
 }

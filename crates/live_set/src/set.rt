@@ -10,6 +10,7 @@ use crate::{Ask, Load, Query};
 use catalogue::Catalogue;
 use std::alloc::{AllocError, Global};
 use std::marker::Model;
+use text_key::TextKey;
 
 /// For each text domain and locale the catalogue that was loaded last, and how many loads there were.
 /// Contracts see it as this number and the loads that count.
@@ -56,7 +57,7 @@ impl CatalogueSet {
     }
 
     /// Where the load for this domain and locale stands, or where it would stand.
-    fn place(&self, domain: &str, locale: &str) -> Result<usize, usize>
+    fn place(&self, domain: &TextKey<'_>, locale: &TextKey<'_>) -> Result<usize, usize>
         ensures found { IfOk result (IsAt self.now.held domain.now locale.now) }
         ensures absent { IfErr result (IsGapFor self.now.held domain.now locale.now) }
     {
@@ -68,7 +69,7 @@ impl CatalogueSet {
     fn catalogue(&self, domain: &str, locale: &str) -> Option<&Catalogue>
         ensures { option_map (λ c. c.now) result ≡ option_map (λ l. l.map) (find (is_for domain.now locale.now) self.now.held) }
     {
-        match self.place(domain, locale) {
+        match self.place(&TextKey::new(domain), &TextKey::new(locale)) {
             Ok(at) => Some(self.held[at].catalogue()),
             Err(_) => None,
         }
@@ -78,7 +79,7 @@ impl CatalogueSet {
     fn put(&mut self, load: Load) -> Result<(), AllocError>
         ensures { MatchResult result (λ _. self.new ≡ record { version = self.old.version; held = placed self.old.held load }) (λ _. self.new ≡ self.old) }
     {
-        match self.place(load.domain(), load.locale()) {
+        match self.place(&load.domain(), &load.locale()) {
             Ok(at) => {
                 self.held[at] = load;
                 Ok(())

@@ -1,6 +1,7 @@
-use Rattle.std.proofs.Common.{◌≡◌, Some, get_or, option_map, sym, ap, subst, ◌∙◌}
+use Rattle.std.proofs.Common.{◌≡◌, ℕ, List, Some, get_or, option_map, sym, ap, subst, ◌∙◌}
 use Rattle.live_set.specs.Loads.{LoadValue}
 use Rattle.live_set.specs.Sets.{SetValue, Rises}
+use Rattle.live_set.specs.Places.{IsAt, IsGapFor}
 use Rattle.live_set.proofs.Placing.{find_at, find_gap}
 use Rattle.live_set.proofs.set.CatalogueSet.catalogue.Goals as goal
 
@@ -9,7 +10,11 @@ returns-in-Ok c =
     let held = c.args.self.now.held in
     let rises : Rises held = subst (λ (s : SetValue). Rises s.held) c.self.view_is c.self.invariant in
     let read = subst (λ (s : SetValue). c.index.result.now ≡ get_or s.held c.in-Ok.at c.index.result.now) c.self.view_is c.index.ensures in
-    ap (λ m. Some m) c.catalogue.ensures ∙ sym (ap (option_map (λ (l : LoadValue). l.map)) (find_at held c.args.domain.now c.args.locale.now c.in-Ok.at c.index.result.now rises c.in-Ok.ensures.found read))
+    let found = subst (λ (k : List ℕ). IsAt held k c.args.locale.now c.in-Ok.at) c.new.ensures (subst (λ (k : List ℕ). IsAt held c.new.result k c.in-Ok.at) c.new-2.ensures c.in-Ok.ensures.found) in
+    ap (λ m. Some m) c.catalogue.ensures ∙ sym (ap (option_map (λ (l : LoadValue). l.map)) (find_at held c.args.domain.now c.args.locale.now c.in-Ok.at c.index.result.now rises found read))
 
 pub returns-in-Err : goal.returns-in-Err
-returns-in-Err c = sym (ap (option_map (λ (l : LoadValue). l.map)) (find_gap c.args.self.now.held c.args.domain.now c.args.locale.now c.in-Err.field-0 c.in-Err.ensures.absent))
+returns-in-Err c =
+    let held = c.args.self.now.held in
+    let gap = subst (λ (k : List ℕ). IsGapFor held k c.args.locale.now c.in-Err.field-0) c.new.ensures (subst (λ (k : List ℕ). IsGapFor held c.new.result k c.in-Err.field-0) c.new-2.ensures c.in-Err.ensures.absent) in
+    sym (ap (option_map (λ (l : LoadValue). l.map)) (find_gap held c.args.domain.now c.args.locale.now c.in-Err.field-0 gap))

@@ -1,6 +1,6 @@
 use Rattle.std.proofs.Common.{◌≡◌, ap, ◌∙◌, arith}
-use Rattle.catalogue.specs.Front.{leading}
-use Rattle.catalogue.proofs.draft_key.front_of.Goals as goal
+use Rattle.text_key.specs.Front.{leading}
+use Rattle.text_key.proofs.key.front_of.Goals as goal
 
 pub returns : goal.returns
 unfolding leading

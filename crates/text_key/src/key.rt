@@ -1,27 +1,27 @@
-//! The keys of drafts. Most are told apart by their first eight bytes, which are compared as one number.
+//! The key of a text: the text with its front, the number that its first eight bytes spell.
 ghost use Rattle.std.specs.Prelude.{◌≡◌, slice_index};
 ghost use Rattle.std.specs.Ordering.{nat_cmp};
 ghost use Rattle.std.specs.Cmp.Lexicographic.{slice_cmp};
 ghost use Rattle.std.specs.Str.{bytes_eq};
-ghost use Rattle.catalogue.specs.Front.{IsFrontOf};
+ghost use Rattle.text_key.specs.Front.{IsFrontOf};
 
 use byteorder::{BigEndian, ByteOrder};
 use std::cmp::Ordering;
 use std::marker::Model;
 
-/// A key, and the number that its first bytes spell. Contracts see it as the key's bytes.
+/// A text, and its front. Contracts see it as the text's bytes.
 #[derive(Drop)]
-pub(crate) struct DraftKey<'a> {
+pub struct TextKey<'a> {
     text: &'a str,
     front: u64,
 }
 
-impl<'a> Model for DraftKey<'a> {
+impl<'a> Model for TextKey<'a> {
     ghost use Rattle.std.specs.Prelude.{ℕ, List};
 
     ghost Value = { List ℕ };
 
-    ghost use Rattle.catalogue.specs.Front.{IsFrontOf};
+    ghost use Rattle.text_key.specs.Front.{IsFrontOf};
 
     ghost view = { λ key. key.text.now };
 
@@ -38,9 +38,9 @@ fn byte_at(bytes: &[u8], i: usize) -> u8
     }
 }
 
-/// The number that the first eight bytes of a text spell, the first one highest; zeros stand for bytes that
-/// it lacks.
-fn front_of(text: &str) -> u64
+/// The front of a text: the number that its first eight bytes spell, the first one highest; zeros stand for
+/// bytes that it lacks.
+pub fn front_of(text: &str) -> u64
     ensures { IsFrontOf text.now result }
 {
     let bytes = text.as_bytes();
@@ -57,24 +57,34 @@ fn front_of(text: &str) -> u64
     BigEndian::read_u64(&first)
 }
 
-impl<'a> DraftKey<'a> {
-    pub(crate) fn new(text: &'a str) -> DraftKey<'a>
+impl<'a> TextKey<'a> {
+    /// The key of a text.
+    pub fn new(text: &'a str) -> TextKey<'a>
         ensures { result ≡ text.now }
     {
-        DraftKey {
+        TextKey {
             text,
             front: front_of(text),
         }
     }
 
-    pub(crate) fn as_str(&self) -> &'a str
+    /// The key of a text whose front is known already (`front_of`).
+    pub fn with_front(text: &'a str, front: u64) -> TextKey<'a>
+        requires { IsFrontOf text.now front }
+        ensures { result ≡ text.now }
+    {
+        TextKey { text, front }
+    }
+
+    /// The text.
+    pub fn as_str(&self) -> &'a str
         ensures { result.now ≡ self.now }
     {
         self.text
     }
 
-    /// Which of two keys comes first, by their bytes.
-    pub(crate) fn compare(&self, other: &DraftKey<'_>) -> Ordering
+    /// Which of two texts comes first, by their bytes.
+    pub fn compare(&self, other: &TextKey<'_>) -> Ordering
         ensures { result ≡ slice_cmp nat_cmp self.now other.now }
     {
         if self.front != other.front {
@@ -83,8 +93,8 @@ impl<'a> DraftKey<'a> {
         self.text.cmp(other.text)
     }
 
-    /// Whether two keys have the same bytes.
-    pub(crate) fn is_same(&self, other: &DraftKey<'_>) -> bool
+    /// Whether two texts have the same bytes.
+    pub fn is_same(&self, other: &TextKey<'_>) -> bool
         ensures { result ≡ bytes_eq self.now other.now }
     {
         self.front == other.front && self.text == other.text

@@ -1,4 +1,4 @@
--- Keys beside the numbers that their first bytes spell.
+-- Texts beside the numbers that their first bytes spell.
 use Rattle.std.proofs.Common.{◌≡◌, ℕ, zero, suc, ◌+◌, ◌*◌, ◌^◌, ◌<◌, ◌≤◌, List, [], ◌∷◌, Ordering, refl, sym, ap, ◌∙◌, arith, inl, inr}
 use Rattle.std.specs.Prelude.{slice_index, ◌≢◌}
 use Rattle.std.specs.Ordering.{nat_cmp, ordering_reverse, ordering_then}
@@ -10,7 +10,7 @@ use Rattle.std.proofs.lemmas.Cmp.{nat_list_cmp_total}
 use Rattle.std.specs.Cmp.{nat_cmp_is}
 use Rattle.byteorder.specs.Endian.{big_from, big_number}
 use Rattle.byteorder.specs.Numbers.{big_from-lt}
-use Rattle.catalogue.specs.Front.{leading, IsFrontOf}
+use Rattle.text_key.specs.Front.{leading, IsFrontOf}
 
 -- ---- the number behind the first byte
 
@@ -32,7 +32,7 @@ none i (suc n) = omega (arith, ap (λ x. x * 256 ^ n) (empty i), none (suc i) n)
 bytes_behind : (x : ℕ) (xs : List ℕ) → Bytes (x ∷ xs) → Bytes xs
 bytes_behind x xs h = λ k. h (suc k)
 
--- ---- a lesser number is that of a lesser key
+-- ---- a lesser number is that of a lesser text
 
 lower : (n u v : ℕ) (us vs : List ℕ) → Bytes vs → big_number (suc n) (u ∷ us) < big_number (suc n) (v ∷ vs) → u ≤ v
 lower n u v us vs small lt = elim (cases_lt v u) [
@@ -63,7 +63,7 @@ less (suc n) (u ∷ us) (v ∷ vs) a b lt = elim (cases_lt u v) [
       ap (λ r. head_then r us vs) (sym (nat_cmp_is u v Equal same)) ∙ less n us vs (bytes_behind u us a) (bytes_behind v vs b) (behind n u v us vs same lt)
 ]
 
--- keys with other numbers lie as those do
+-- texts with other numbers lie as those do
 pub by_fronts : (us vs : List ℕ) (m n : ℕ) → IsFrontOf us m → IsFrontOf vs n → m ≢ n → nat_cmp m n ≡ slice_cmp nat_cmp us vs
 unfolding leading
 by_fronts us vs m n a b differ = elim (cases_lt m n) [

@@ -1,8 +1,8 @@
 use Rattle.std.proofs.Common.{ap, ◌∙◌}
 use Rattle.std.specs.Ordering.{nat_cmp}
 use Rattle.std.specs.Cmp.Lexicographic.{slice_cmp}
-use Rattle.catalogue.proofs.Fronts.{by_fronts}
-use Rattle.catalogue.proofs.draft_key.DraftKey.compare.Goals as goal
+use Rattle.text_key.proofs.Fronts.{by_fronts}
+use Rattle.text_key.proofs.key.TextKey.compare.Goals as goal
 
 pub returns-then-self-other : goal.returns-then-self-other
 returns-then-self-other c =
