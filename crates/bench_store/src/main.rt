@@ -60,17 +60,25 @@ fn replace<R: Wait + AllocGlobal>(
     loaded.is_ok() && published.is_ok()
 }
 
-/// Publishes so many times, a thousandth of a second apart, or lets as much time pass where there is no text, and
-/// then says that it is done. Answers how many publishes failed.
-fn publish_many<R: Wait + Clock + AllocGlobal>(
+/// Sleeps until so much time has passed since the start.
+fn sleep_until<R: Wait + Clock>(rt: &R, start: &Instant, due: Duration) -> io::Result<()> {
+    if let Some(left) = due.checked_sub(start.elapsed(rt)?) {
+        std::thread::sleep(rt, left);
+    }
+    Ok(())
+}
+
+/// Publishes once in each millisecond, so many times, or lets as much time pass where there is no text. A publish that
+/// comes late doesn't put off the ones behind it. Answers how many publishes failed.
+fn publish_on_time<R: Wait + Clock + AllocGlobal>(
     rt: &R,
     publisher: &mut Publisher,
     text: Option<&str>,
     turns: u32,
-    done: &AtomicBool,
-) -> u64 {
+) -> io::Result<u64> {
+    let start = Instant::now(rt)?;
     let mut wrong: u64 = 0;
-    'turns: for _ in 0..turns {
+    'turns: for turn in 0..turns {
         let failed = match text {
             Some(text) => !replace(rt, publisher, "fr", text),
             None => false,
@@ -78,10 +86,22 @@ fn publish_many<R: Wait + Clock + AllocGlobal>(
         if failed {
             wrong = wrong.saturating_add(1);
         }
-        std::thread::sleep(rt, Duration::from_millis(1));
+        sleep_until(rt, &start, Duration::from_millis(u64::from(turn) + 1))?;
     }
+    Ok(wrong)
+}
+
+/// The same, which then says that it is done. All publishes failed where there is no clock.
+fn publish_many<R: Wait + Clock + AllocGlobal>(
+    rt: &R,
+    publisher: &mut Publisher,
+    text: Option<&str>,
+    turns: u32,
+    done: &AtomicBool,
+) -> u64 {
+    let wrong = publish_on_time(rt, publisher, text, turns);
     done.store(true, SeqCst);
-    wrong
+    wrong.unwrap_or(u64::MAX)
 }
 
 /// One reader that enters and leaves.

@@ -90,7 +90,7 @@ impl<'a> TextKey<'a> {
         if self.front != other.front {
             return self.front.cmp(&other.front);
         }
-        self.text.cmp(other.text)
+        self.as_str().cmp(other.as_str())
     }
 
     /// Whether two texts have the same bytes.
