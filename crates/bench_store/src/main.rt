@@ -69,13 +69,13 @@ fn sleep_until<R: Wait + Clock>(rt: &R, start: &Instant, due: Duration) -> io::R
 }
 
 /// Publishes once in each millisecond, so many times, or lets as much time pass where there is no text. A publish that
-/// comes late doesn't put off the ones behind it. Answers how many publishes failed.
+/// comes late doesn't put off the ones behind it. Answers how many publishes failed, and how long all of it took.
 fn publish_on_time<R: Wait + Clock + AllocGlobal>(
     rt: &R,
     publisher: &mut Publisher,
     text: Option<&str>,
     turns: u32,
-) -> io::Result<u64> {
+) -> io::Result<(u64, Duration)> {
     let start = Instant::now(rt)?;
     let mut wrong: u64 = 0;
     'turns: for turn in 0..turns {
@@ -88,7 +88,7 @@ fn publish_on_time<R: Wait + Clock + AllocGlobal>(
         }
         sleep_until(rt, &start, Duration::from_millis(u64::from(turn) + 1))?;
     }
-    Ok(wrong)
+    Ok((wrong, start.elapsed(rt)?))
 }
 
 /// The same, which then says that it is done. All publishes failed where there is no clock.
@@ -98,10 +98,10 @@ fn publish_many<R: Wait + Clock + AllocGlobal>(
     text: Option<&str>,
     turns: u32,
     done: &AtomicBool,
-) -> u64 {
-    let wrong = publish_on_time(rt, publisher, text, turns);
+) -> (u64, Duration) {
+    let published = publish_on_time(rt, publisher, text, turns);
     done.store(true, SeqCst);
-    wrong.unwrap_or(u64::MAX)
+    published.unwrap_or((u64::MAX, Duration::from_millis(0)))
 }
 
 /// One reader that enters and leaves.
@@ -167,7 +167,7 @@ fn run_beside<R: Print + Eprint + Clock + Threads + Wait + AllocGlobal + Sync>(
     let text = if beside.publishing { Some(text) } else { None };
     let done = AtomicBool::new(false);
     let start = Instant::now(rt)?;
-    let (found, unpublished) = join(
+    let (found, (unpublished, publishing)) = join(
         rt,
         || map_vec(
             rt,
@@ -185,13 +185,14 @@ fn run_beside<R: Print + Eprint + Clock + Threads + Wait + AllocGlobal + Sync>(
         entries = entries.saturating_add(*entered);
         wrong = wrong.saturating_add(*fallen);
     }
-    print_beside(rt, beside, turns, taken, entries, wrong)
+    print_beside(rt, beside, turns, publishing, taken, entries, wrong)
 }
 
 fn print_beside<R: Print + Eprint>(
     rt: &R,
     beside: Beside,
     turns: u32,
+    publishing: Duration,
     taken: Duration,
     entries: u64,
     wrong: u64,
@@ -202,7 +203,8 @@ fn print_beside<R: Print + Eprint>(
     let each = u128::from(entries) / taken.as_millis().max(1) / u128::from(count.max(1));
     println!(rt; "entries, {count}{busy} readers: {wrong} wrong")?;
     eprintln!(rt;
-        "entries, {count}{busy} readers beside {publishes} publishes: {each} each in a ms, for {} ms",
+        "entries, {count}{busy} readers beside {publishes} publishes in {} ms: {each} each in a ms, for {} ms",
+        publishing.as_millis(),
         taken.as_millis()
     )
 }

@@ -1,5 +1,5 @@
 //! The key of a text: the text with its front, the number that its first eight bytes spell.
-ghost use Rattle.std.specs.Prelude.{◌≡◌, slice_index};
+ghost use Rattle.std.specs.Prelude.{◌≡◌, ◌≤◌, length, slice_index, IsTrue};
 ghost use Rattle.std.specs.Ordering.{nat_cmp};
 ghost use Rattle.std.specs.Cmp.Lexicographic.{slice_cmp};
 ghost use Rattle.std.specs.Str.{bytes_eq};
@@ -26,6 +26,16 @@ impl<'a> Model for TextKey<'a> {
     ghost view = { λ key. key.text.now };
 
     ghost invariant = { λ key. IsFrontOf key.text.now key.front };
+}
+
+/// How many bytes a front spells.
+const FRONT_LEN: usize = 8;
+
+/// Whether two texts are as long as one another, and no longer than their fronts.
+fn are_short(text: &str, other: &str) -> bool
+    ensures { IsTrue result → (length text.now ≡ length other.now) × (length text.now ≤ 8) }
+{
+    text.len() == other.len() && text.len() <= FRONT_LEN
 }
 
 /// The byte at a place, or 0 behind the end.
@@ -89,6 +99,9 @@ impl<'a> TextKey<'a> {
     {
         if self.front != other.front {
             return self.front.cmp(&other.front);
+        }
+        if are_short(self.text, other.text) {
+            return Ordering::Equal;
         }
         self.as_str().cmp(other.as_str())
     }
