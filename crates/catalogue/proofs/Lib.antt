@@ -23,6 +23,7 @@ pub mod Refusals
 pub mod Checking
 pub mod Faults
 pub mod OneMeaning
+pub mod SomeMeaning
 pub mod InStrings
 pub mod Originals
 pub mod FileStrings

@@ -29,12 +29,12 @@ use Rattle.catalogue.proofs.Refusals.{first_refusal_one}
 abbrev total : IsTotalOrder (slice_cmp nat_cmp)
 total = nat_list_cmp_total
 
-rises_behind : (k : List ℕ) (ks : List (List ℕ)) → Rises (k ∷ ks) → Rises ks
+pub rises_behind : (k : List ℕ) (ks : List (List ℕ)) → Rises (k ∷ ks) → Rises ks
 rises_behind k [] rises = tt
 rises_behind k (l ∷ ks) rises = rises.1
 
 -- a key is below those of the members behind it
-below_members : (k : List ℕ) (m : List Entry) (e : Entry) → Rises (k ∷ map key m) → Contains m e → slice_cmp nat_cmp k (key e) ≡ Less
+pub below_members : (k : List ℕ) (m : List Entry) (e : Entry) → Rises (k ∷ map key m) → Contains m e → slice_cmp nat_cmp k (key e) ≡ Less
 below_members k [] e rises has = absurd (omega (arith, has.1))
 below_members k (d ∷ m) e rises has = elim (has_cases e d m has) [
   | inl same ↦ subst (λ (x : Entry). slice_cmp nat_cmp k (key x) ≡ Less) same rises.0

@@ -16,3 +16,7 @@ HasOneRefusal = (text : List ℕ) (options : Options) (kind other_kind : LoadKin
 -- and a text that compiles isn't refused
 abbrev pub MeansOrIsRefused : Type 0
 MeansOrIsRefused = (text : List ℕ) (options : Options) (compiled : Compiled) (kind : LoadKind) (line : ℕ) → Means text options compiled → ¬ Refuses text options kind line
+
+-- no text is without a meaning or a refusal
+abbrev pub HasSomeMeaning : Type 0
+HasSomeMeaning = (text : List ℕ) (options : Options) → ((compiled : Compiled) → ¬ Means text options compiled) → ¬ ¬ ((kind : LoadKind) × (line : ℕ) × Refuses text options kind line)

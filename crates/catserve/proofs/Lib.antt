@@ -6,3 +6,4 @@ pub mod Parsing
 pub mod Batching
 pub mod Playing
 pub mod OneOutput
+pub mod SomeOutput

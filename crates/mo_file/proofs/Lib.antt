@@ -6,4 +6,5 @@ pub mod Named
 pub mod Texts
 pub mod ReadBack
 pub mod OneMap
+pub mod SomeMap
 pub mod Spelt

@@ -6,10 +6,11 @@ ghost use Rattle.catalogue.specs.MoFile.{spelling};
 ghost use Rattle.mo_file.specs.Reading.{Mo, Refused, rank};
 ghost use Rattle.mo_file.specs.declared.fault.MoFault.{MoFault};
 
-/// Bytes are an MO file of one map at most, and of none where a refusal holds.
+/// Bytes are an MO file of one map, or a refusal holds, and never both nor neither.
 pub fn one_map()
     ensures unique { (bytes : List ℕ) (m n : List Entry) → Mo bytes m → Mo bytes n → m ≡ n }
     ensures refused { (bytes : List ℕ) (m : List Entry) (fault : MoFault) → rank fault < 12 → Refused bytes fault → ¬ Mo bytes m }
+    ensures some { (bytes : List ℕ) → ((m : List Entry) → ¬ Mo bytes m) → ¬ ¬ ((fault : MoFault) × (rank fault < 12) × Refused bytes fault) }
 {}
 
 /// The file that is written of a map is an MO file of that map, for each map of a catalogue.

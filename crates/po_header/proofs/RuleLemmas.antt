@@ -1,7 +1,8 @@
 -- A text has one rule.
 use Rattle.std.proofs.Common.{◌≡◌, ℕ, List, Option, Some, None, refl, sym, ap, subst, inl, inr}
-use Rattle.std.specs.Prelude.{◌⊎◌}
+use Rattle.std.specs.Prelude.{◌⊎◌, codes}
 use Rattle.po_header.specs.declared.token.Token.{Token}
+use Rattle.po_header.specs.Charset.{behind_first}
 use Rattle.po_header.specs.Grammar.{Tree, Derives}
 use Rattle.po_header.specs.Expression.{expression, IsTooLong, IsReadAs, IsMalformed}
 use Rattle.po_header.specs.Rule.{Rule, Given, Absent, Broken, HasRule, HasBoth, IsGiven, IsBroken, leading_number}
@@ -53,3 +54,32 @@ HasRule-one text Absent Broken h g = absurd (absent_both text _ _ h g.both)
 HasRule-one text Broken (Given m other) h g = absurd (given_broken text m other g h)
 HasRule-one text Broken Absent h g = absurd (absent_both text _ _ g h.both)
 HasRule-one text Broken Broken h g = refl
+
+-- ---- at least one rule
+
+option_cases : {A : Type 0} (o : Option A) → (o ≡ None) ⊎ ((x : A) × (o ≡ Some x))
+option_cases None = inl refl
+option_cases (Some x) = inr (x, refl)
+
+-- a text that has both parts
+some_of_both : (text count expr : List ℕ) → HasBoth text count expr → ((rule : Rule) → HasRule text rule → ⊥) → ⊥
+some_of_both text count expr both none = elim (option_cases (leading_number count)) [
+  | inl e ↦ none Broken (record { count = count; expr = expr; both = both; fails = inl e })
+  | inr (n, e) ↦
+      let short : ¬ IsTooLong expr = λ long. none Broken (record { count = count; expr = expr; both = both; fails = inr (inl long) }) in
+      none Broken (record {
+        count = count;
+        expr = expr;
+        both = both;
+        fails = inr (inr (λ tree read. none (Given n tree) (record { count = count; expr = expr; both = both; number = e; short = short; read = read })));
+      })
+]
+
+pub HasRule-some : (text : List ℕ) → ((rule : Rule) × HasRule text rule → ⊥) → ⊥
+HasRule-some text none = elim (option_cases (behind_first (codes "nplurals=") text)) [
+  | inl e ↦ none (Absent, inl e)
+  | inr (count, e) ↦ elim (option_cases (behind_first (codes "plural=") text)) [
+    | inl f ↦ none (Absent, inr f)
+    | inr (expr, f) ↦ some_of_both text count expr (record { count_is = e; expr_is = f }) (λ rule has. none (rule, has))
+  ]
+]

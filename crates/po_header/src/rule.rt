@@ -71,7 +71,8 @@ impl RuleRead {
     }
 }
 
-/// A text has at most one rule.
+/// A law, and no code: a text has one rule. So `read_rule` says which one, but for want of memory.
 pub fn one_rule()
-    ensures { (text : List ℕ) (rule other : Rule) → HasRule text rule → HasRule text other → rule ≡ other }
+    ensures one { (text : List ℕ) (rule other : Rule) → HasRule text rule → HasRule text other → rule ≡ other }
+    ensures some { (text : List ℕ) → ¬ ¬ ((rule : Rule) × HasRule text rule) }
 {}

@@ -17,4 +17,5 @@ pub mod Faults
 pub mod Taking
 pub mod Begun
 pub mod Outcomes
+pub mod SomeOutcome
 pub mod Sizes

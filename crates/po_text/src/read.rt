@@ -40,4 +40,6 @@ pub fn one_outcome()
         Refuses text kind line → Refuses text other m → (kind ≡ other) × (line ≡ m) }
     ensures either { (text : List ℕ) (entries : List Entry) (kind : KindOfFault) (line : ℕ) →
         Gives text entries → ¬ Refuses text kind line }
+    ensures some { (text : List ℕ) → ((entries : List Entry) → ¬ Gives text entries) →
+        ¬ ¬ ((kind : KindOfFault) × (line : ℕ) × Refuses text kind line) }
 {}

@@ -1,6 +1,7 @@
 // The units of a string: plain bytes, escapes and octal digits.
-ghost use Rattle.std.specs.Prelude.{◌≡◌, ℕ, ◌+◌, ◌-◌, ◌*◌, ◌<◌, ◌≤◌, ◌↔◌, ◌++◌, ◌∷◌, List, Bool, length, IfOk, IfErr, IsTrue, MatchOption, []};
+ghost use Rattle.std.specs.Prelude.{◌≢◌, ◌≡◌, ℕ, ◌+◌, ◌-◌, ◌*◌, ◌<◌, ◌≤◌, ◌↔◌, ◌++◌, ◌∷◌, List, Bool, length, IfOk, IfErr, IsTrue, MatchOption, []};
 ghost use Rattle.std.specs.List.{prefix_len};
+ghost use Rattle.po_text.specs.declared.fault.PoKind.TheVariants.{Memory};
 ghost use Rattle.po_text.specs.Spelling.{escaped, is_octal, octal_run, octal_value, is_plain, UnitsAt};
 ghost use Rattle.po_text.specs.Lexing.{StopsPlain, ReadsUnit, StopsBadly, UnitsFail, TakesUnits};
 
@@ -90,6 +91,9 @@ fn read_octal(text: &[u8]) -> Result<(u8, &[u8]), PoKind>
     ensures ok { IfOk result (λ found. ReadsUnit (92 ∷ text.now) found.0 found.1.now) }
     ensures shorter { IfOk result (λ found. length found.1.now < length text.now) }
     ensures err { IfErr result (λ kind. StopsBadly kind (92 ∷ text.now)) }
+
+    // It allocates nothing.
+    ensures no_memory { IfErr result (λ kind. kind ≢ Memory) }
 {
     let (digits, rest) = octal_digits(text);
     let value = octal_number(digits);
@@ -104,6 +108,9 @@ fn read_escape(text: &[u8]) -> Result<(u8, &[u8]), PoKind>
     ensures ok { IfOk result (λ found. ReadsUnit (92 ∷ text.now) found.0 found.1.now) }
     ensures shorter { IfOk result (λ found. length found.1.now < length text.now) }
     ensures err { IfErr result (λ kind. StopsBadly kind (92 ∷ text.now)) }
+
+    // It allocates nothing.
+    ensures no_memory { IfErr result (λ kind. kind ≢ Memory) }
 {
     let Some((letter, rest)) = split_byte(text) else {
         return Err(PoKind::OpenString)

@@ -1,4 +1,5 @@
 use Rattle.mo_file.proofs.OneMap.{unique_map, refused_map}
+use Rattle.mo_file.proofs.SomeMap.{some_map}
 use Rattle.mo_file.proofs.laws.one_map.Goals as goal
 
 pub returns-clause-unique : goal.returns-clause-unique
@@ -6,3 +7,6 @@ returns-clause-unique c = unique_map
 
 pub returns-clause-refused : goal.returns-clause-refused
 returns-clause-refused c = refused_map
+
+pub returns-clause-some : goal.returns-clause-some
+returns-clause-some c = some_map

@@ -1,0 +1,73 @@
+-- Bytes are an MO file of a map, or are refused: it leads to ⊥ that they are neither.
+use Rattle.std.proofs.Common.{◌≡◌, ℕ, zero, suc, ◌+◌, ◌<◌, List, [], ◌∷◌, get_or, refl, sym, ap, subst, ◌∙◌, arith, inl, inr}
+use Rattle.std.proofs.lemmas.Bool.{cases_lt}
+use Rattle.catalogue.specs.Entry.{Entry}
+use Rattle.mo_file.specs.Reading.{Mo, Meets, MeetsBelow, Refused, rank, order}
+use Rattle.mo_file.specs.declared.fault.MoFault.{MoFault}
+use Rattle.mo_file.specs.declared.fault.MoFault.TheVariants.{TooLarge, Short, Magic, Revision, Bounds, NoNul, BadText, Forms, Order, Charset, Swollen, Memory}
+use Rattle.mo_file.specs.Pairs.{named_in}
+use Rattle.mo_file.proofs.Named.{is_mo}
+
+-- ---- one refusal has each rank
+
+abbrev in_order : List MoFault
+in_order = TooLarge ∷ Short ∷ Magic ∷ Revision ∷ Bounds ∷ NoNul ∷ BadText ∷ Forms ∷ Order ∷ Charset ∷ Swollen ∷ Memory ∷ []
+
+abbrev fault_at : ℕ → MoFault
+fault_at k = get_or in_order k Memory
+
+record HasPlace (fault : MoFault) : Type 0 where
+  place : ℕ
+  rank_is : rank fault ≡ place + 1
+  fault_is : fault_at place ≡ fault
+
+has_place : (fault : MoFault) → HasPlace fault
+has_place TooLarge = record { place = 0; rank_is = refl; fault_is = refl }
+has_place Short = record { place = 1; rank_is = refl; fault_is = refl }
+has_place Magic = record { place = 2; rank_is = refl; fault_is = refl }
+has_place Revision = record { place = 3; rank_is = refl; fault_is = refl }
+has_place Bounds = record { place = 4; rank_is = refl; fault_is = refl }
+has_place NoNul = record { place = 5; rank_is = refl; fault_is = refl }
+has_place BadText = record { place = 6; rank_is = refl; fault_is = refl }
+has_place Forms = record { place = 7; rank_is = refl; fault_is = refl }
+has_place Order = record { place = 8; rank_is = refl; fault_is = refl }
+has_place Charset = record { place = 9; rank_is = refl; fault_is = refl }
+has_place Swollen = record { place = 10; rank_is = refl; fault_is = refl }
+has_place Memory = record { place = 11; rank_is = refl; fault_is = refl }
+
+rank_one : (f g : MoFault) → rank f ≡ rank g → f ≡ g
+rank_one f g e =
+    let p = has_place f in
+    let q = has_place g in
+    let same : p.place ≡ q.place = omega (arith, p.rank_is, q.rank_is, e) in
+    sym p.fault_is ∙ ap fault_at same ∙ q.fault_is
+
+-- ---- what no refusal stops is met
+
+met_below : (bytes : List ℕ) (n : ℕ) → n < 12 → ((fault : MoFault) → rank fault < 12 → Refused bytes fault → ⊥) → (MeetsBelow (order bytes) bytes (n + 1) → ⊥) → ⊥
+met_below bytes zero lt no_refusal none = none (λ fault less. let p = has_place fault in absurd (omega (arith, p.rank_is, less)))
+met_below bytes (suc n) lt no_refusal none = met_below bytes n (omega (arith, lt)) no_refusal (λ below. next below)
+  where
+    Here : Type 0
+    Here = (fault : MoFault) × (rank fault ≡ n + 1)
+
+    -- below the next rank, or of it
+    with_next : MeetsBelow (order bytes) bytes (n + 1) → ((fault : MoFault) → rank fault ≡ n + 1 → Meets (order bytes) bytes fault) → MeetsBelow (order bytes) bytes (suc n + 1)
+    with_next below here fault less = elim (cases_lt (rank fault) (n + 1)) [
+      | inl lower ↦ below fault lower
+      | inr more ↦ here fault (omega (arith, less, more))
+    ]
+
+    next : MeetsBelow (order bytes) bytes (n + 1) → ⊥
+    next below =
+        let nobody : ((fault : MoFault) → rank fault ≡ n + 1 → ⊥) → ⊥ = λ nobody. none (with_next below (λ fault is. absurd (nobody fault is))) in
+        nobody (λ f is.
+        no_refusal f (omega (arith, is, lt))
+        (λ test. (
+          λ meets. none (with_next below (λ fault also. subst (λ (g : MoFault). Meets (order bytes) bytes g) (rank_one f fault (is ∙ sym also)) meets)),
+          λ fault less. below fault (omega (arith, less, is)),
+        )))
+
+pub some_map : (bytes : List ℕ) → ((m : List Entry) → Mo bytes m → ⊥) → ((fault : MoFault) × (rank fault < 12) × Refused bytes fault → ⊥) → ⊥
+some_map bytes no_map no_refusal =
+    met_below bytes 11 (omega arith) (λ fault test refused. no_refusal (fault, test, refused)) (λ met. no_map (named_in (order bytes) bytes) (is_mo bytes met))
