@@ -13,16 +13,16 @@ use Rattle.std.proofs.lemmas.Bool.{false≢true}
 use Rattle.std.proofs.lemmas.List.{take-append-drop, length-take-le}
 use Rattle.std.proofs.lemmas.List.Concat.{flat_map-cons}
 use Rattle.std.proofs.lemmas.List.Sums.{sum_by-cons}
-use Rattle.catalogue.specs.Entry.{Entry, key, translation}
-use Rattle.catalogue.specs.Map.{Rises, first_form, header_text, HasAcceptedCharset}
-use Rattle.catalogue.specs.MoFile.{closed, pool, spelling}
+use Rattle.mo_image.specs.Entry.{Entry, key, translation}
+use Rattle.mo_image.specs.Map.{Rises, first_form, header_text, HasAcceptedCharset}
+use Rattle.mo_image.specs.MoFile.{closed, pool, spelling, entry_size}
 use Rattle.catalogue.specs.Messages.{message_entry, messages_of}
-use Rattle.catalogue.specs.Sizes.{capped, entry_size}
+use Rattle.catalogue.specs.Sizes.{capped}
 use Rattle.catalogue.specs.Accepted.{is_below, is_header}
 use Rattle.catalogue.specs.declared.sorted.Message.{Message}
-use Rattle.catalogue.proofs.KeyParts.{cmp-append, then_assoc}
-use Rattle.catalogue.proofs.MoLengths.{length-closed, closed_joined}
-use Rattle.catalogue.proofs.Fitting.{file_size}
+use Rattle.mo_image.proofs.KeyParts.{cmp-append, then_assoc}
+use Rattle.mo_image.proofs.MoLengths.{length-closed, closed_joined}
+use Rattle.mo_image.proofs.FileSizes.{file_size}
 
 -- ---- what is tested of each
 
@@ -60,37 +60,6 @@ not_rising (m ∷ n ∷ ms) (suc k) lt none rises = not_rising (n ∷ ms) k (ome
 pub rises_decided : (ms : List Message) (r : Bool) → IsAllAdjacentAnswer (λ x y b. b ≡ is_below x y) ms r → IsTrue r ↔ Rises (map key (messages_of ms))
 rises_decided ms true all = ((λ _. rises_below ms (λ k d lt. subst (λ (n : ℕ). true ≡ is_below (get_or ms k d) (get_or ms n d)) (add-one k) (all k d (omega arith)))), (λ _. refl))
 rises_decided ms false one = ((λ e. absurd (false≢true e)), (λ rises. absurd (not_rising ms one.0 (omega (arith, one.1)) (λ d. subst (λ (n : ℕ). false ≡ is_below (get_or ms one.0 d) (get_or ms n d)) (add-one one.0) (one.2 d)) rises)))
-
--- two keys with contexts, cut where the first context ends
-pub cmp_cut : (c d i j : List ℕ) → length c ≤ length d → slice_cmp nat_cmp (c ++ (4 ∷ i)) (d ++ (4 ∷ j)) ≡ ordering_then (slice_cmp nat_cmp c (take (length c) d)) (slice_cmp nat_cmp (4 ∷ i) (drop (length c) d ++ (4 ∷ j)))
-cmp_cut c d i j le =
-    let split : d ++ (4 ∷ j) ≡ take (length c) d ++ (drop (length c) d ++ (4 ∷ j)) = ap (λ (x : List ℕ). x ++ (4 ∷ j)) (sym (take-append-drop (length c) d)) ∙ append_assoc (take (length c) d) (drop (length c) d) (4 ∷ j) in
-    ap (slice_cmp nat_cmp (c ++ (4 ∷ i))) split ∙ cmp-append c (take (length c) d) (4 ∷ i) (drop (length c) d ++ (4 ∷ j)) (sym (length-take-le (length c) d le))
-
-pub longer_some : (c d i j front rest more : List ℕ) (byte : ℕ) (o p q t u : Ordering) → length c ≤ length d → front ≡ take (length c) d → rest ≡ drop (length c) d → rest ≡ byte ∷ more → o ≡ slice_cmp nat_cmp c front → p ≡ nat_cmp 4 byte → q ≡ slice_cmp nat_cmp i (more ++ (4 ∷ j)) → t ≡ ordering_then o p → u ≡ ordering_then t q → u ≡ slice_cmp nat_cmp (c ++ (4 ∷ i)) (d ++ (4 ∷ j))
-longer_some c d i j front rest more byte o p q t u le ef er es eo ep eq et eu =
-    let tail : drop (length c) d ≡ byte ∷ more = sym er ∙ es in
-    let cut : slice_cmp nat_cmp (c ++ (4 ∷ i)) (d ++ (4 ∷ j)) ≡ ordering_then (slice_cmp nat_cmp c (take (length c) d)) (ordering_then (nat_cmp 4 byte) (slice_cmp nat_cmp i (more ++ (4 ∷ j)))) = cmp_cut c d i j le ∙ ap (λ (x : List ℕ). ordering_then (slice_cmp nat_cmp c (take (length c) d)) (slice_cmp nat_cmp (4 ∷ i) (x ++ (4 ∷ j)))) tail in
-    rw (eu, et, eo, ep, eq, ef, then_assoc (slice_cmp nat_cmp c (take (length c) d)) (nat_cmp 4 byte) (slice_cmp nat_cmp i (more ++ (4 ∷ j)))) (sym cut)
-
-pub longer_none : (c d i j front rest : List ℕ) (o q u : Ordering) → length c ≤ length d → front ≡ take (length c) d → rest ≡ drop (length c) d → length rest ≡ 0 → o ≡ slice_cmp nat_cmp c front → q ≡ slice_cmp nat_cmp i j → u ≡ ordering_then o q → u ≡ slice_cmp nat_cmp (c ++ (4 ∷ i)) (d ++ (4 ∷ j))
-longer_none c d i j front rest o q u le ef er none eo eq eu =
-    let tail : drop (length c) d ≡ [] = sym er ∙ no_items rest none in
-    let cut : slice_cmp nat_cmp (c ++ (4 ∷ i)) (d ++ (4 ∷ j)) ≡ ordering_then (slice_cmp nat_cmp c (take (length c) d)) (slice_cmp nat_cmp i j) = cmp_cut c d i j le ∙ ap (λ (x : List ℕ). ordering_then (slice_cmp nat_cmp c (take (length c) d)) (slice_cmp nat_cmp (4 ∷ i) (x ++ (4 ∷ j)))) tail in
-    rw (eu, eo, eq, ef) (sym cut)
-  where
-    no_items : (xs : List ℕ) → length xs ≡ 0 → xs ≡ []
-    no_items [] e = refl
-    no_items (x ∷ xs) e = absurd (omega (arith, e))
-
--- the other way round
-pub reversed : (a b : List ℕ) (o r : Ordering) → o ≡ slice_cmp nat_cmp b a → r ≡ ordering_reverse o → r ≡ slice_cmp nat_cmp a b
-reversed a b o r eo er = er ∙ ap ordering_reverse eo ∙ sym (nat_list_cmp_total.antisymm a b)
-
--- a key with a context, and one without
-pub mixed : (first second : Message) (context : String Global) (t i j : List ℕ) (o r : Ordering) → first.context ≡ Some context → second.context ≡ None → t ≡ string_bytes context → i ≡ string_bytes first.id → j ≡ string_bytes second.id → o ≡ slice_cmp nat_cmp j (t ++ (4 ∷ i)) → r ≡ ordering_reverse o → r ≡ slice_cmp nat_cmp (key (message_entry first)) (key (message_entry second))
-mixed first second context t i j o r ef es et ei ej eo er =
-    rw (ef, es) (reversed (string_bytes context ++ (4 ∷ string_bytes first.id)) (string_bytes second.id) o r (rw (et, ei, ej) at eo) er)
 
 -- ---- the header
 

@@ -13,16 +13,16 @@ use Rattle.po_text.specs.Lawful.{IsLawfulTexts}
 use Rattle.po_text.specs.declared.reader.EntryReader.{EntryReader}
 use Rattle.po_text.specs.declared.fault.PoKind.{PoKind}
 use Rattle.po_text.specs.declared.fault.PoKind.TheVariants as kinds
-use Rattle.catalogue.specs.Findings.{HasFound, LooksAt}
+use Rattle.po_checks.specs.Findings.{HasFound, LooksAt}
 use Rattle.catalogue.specs.Meaning.{Refuses}
-use Rattle.catalogue.specs.Refusal.{kind_of}
+use Rattle.po_checks.specs.Refusal.{kind_of}
 use Rattle.catalogue.specs.Drafts.{Row, row, rows, row_of, rows_from, IsLawfulMessage}
 use Rattle.catalogue.specs.Pool.{span_of, stored, IsPool, HasPooled}
-use Rattle.catalogue.specs.declared.checks.Findings.{Findings}
-use Rattle.catalogue.specs.declared.compiler.Options.{Options}
+use Rattle.po_checks.specs.declared.findings.Findings.{Findings}
+use Rattle.po_checks.specs.declared.options.Options.{Options}
 use Rattle.catalogue.specs.declared.drafts.Draft.{Draft}
 use Rattle.catalogue.specs.declared.pool.Span.{Span}
-use Rattle.catalogue.specs.declared.fault.LoadKind.TheVariants.{Memory}
+use Rattle.po_checks.specs.declared.fault.LoadKind.TheVariants.{Memory}
 use Rattle.catalogue.proofs.PoEntries.{message_lawful}
 use Rattle.catalogue.proofs.InOrder.{length-rows_from}
 

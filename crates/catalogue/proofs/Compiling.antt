@@ -9,26 +9,26 @@ use Rattle.std.proofs.lemmas.List.Sorted.{IsPermutation-map}
 use denote.Ref.{Bor}
 use Rattle.po_text.specs.Entries as po
 use Rattle.po_text.proofs.Sizes.{gives_count}
-use Rattle.catalogue.specs.Findings.{IsFault}
-use Rattle.catalogue.specs.Map.{IsLawful, HasAcceptedCharset}
+use Rattle.po_checks.specs.Findings.{IsFault}
+use Rattle.mo_image.specs.Map.{IsLawful, HasAcceptedCharset}
 use Rattle.catalogue.specs.Meaning.{Means, IsMapOf, Refuses, kept, kept_header, header_line_of, header_text_of, lacking, none_missing, HasDistinctKeys, IsDuplicateAt, IsForeignAt, NamesCharset}
-use Rattle.catalogue.specs.Entry.{Entry}
+use Rattle.mo_image.specs.Entry.{Entry}
 use Rattle.catalogue.specs.Drafts.{Row, row, rows, kept_entry, comes_before, counts_as, header_text_in, is_kept_header, IsRepeat, FirstRepeat, IsFirstRepeat, HasCollected}
-use Rattle.catalogue.specs.declared.checks.Findings.{Findings}
-use Rattle.catalogue.specs.declared.compiler.Options.{Options}
+use Rattle.po_checks.specs.declared.findings.Findings.{Findings}
+use Rattle.po_checks.specs.declared.options.Options.{Options}
 use Rattle.catalogue.specs.declared.compiler.Stats.{Stats}
 use Rattle.catalogue.specs.declared.compiler.Compiled.{Compiled}
 use Rattle.catalogue.specs.declared.drafts.Draft.{Draft}
 use Rattle.catalogue.specs.declared.drafts.Standing.TheVariants.{Untranslated, Fuzzy, Translated}
-use Rattle.catalogue.specs.declared.fault.LoadFault.{LoadFault}
-use Rattle.catalogue.specs.declared.fault.LoadKind.TheVariants.{Duplicate, Charset}
+use Rattle.po_checks.specs.declared.fault.LoadFault.{LoadFault}
+use Rattle.po_checks.specs.declared.fault.LoadKind.TheVariants.{Duplicate, Charset}
 use Rattle.catalogue.proofs.Collecting.{drafts_are}
 use Rattle.catalogue.proofs.Counting.{untranslated_count, fuzzy_count, translated_count, header_line_is}
 use Rattle.catalogue.proofs.Fitting.{fits}
 use Rattle.catalogue.proofs.HeaderFound.{accepted, another, header_text_is, map_accepted}
 use Rattle.catalogue.proofs.InOrder.{AreOrdered, row_lt, all_distinct, first_duplicate}
 use Rattle.catalogue.proofs.Listing.{map_of, is_map, each_lawful}
-use Rattle.catalogue.proofs.Refusals.{all_pass, as_refusal, first_is_check, first_is_duplicate, first_is_foreign}
+use Rattle.po_checks.proofs.Refusals.{all_pass, as_refusal, first_is_check, first_is_duplicate, first_is_foreign}
 
 -- there are few drafts
 pub few : (text : List ℕ) (o : Options) (drafts : List Draft) (found : Findings) → HasCollected text o drafts found → length drafts < 2 ^ 32

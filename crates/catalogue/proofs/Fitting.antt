@@ -7,26 +7,16 @@ use Rattle.std.proofs.lemmas.List.Sorted.{sum_by-IsPermutation}
 use Rattle.po_text.specs.Entries as po
 use Rattle.po_text.specs.Outcome.{Gives}
 use Rattle.po_text.proofs.Sizes.{option_size, forms_size, entry_size, entries_size, gives_size}
-use Rattle.catalogue.specs.Entry.{Entry, key_bytes, with_plural, original, translation}
-use Rattle.catalogue.specs.MoFile.{closed, pool, spelling}
-use Rattle.catalogue.specs.Sizes.{entry_size as size}
+use Rattle.mo_image.specs.Entry.{Entry, key_bytes, with_plural, original, translation}
+use Rattle.mo_image.specs.MoFile.{closed, pool, spelling, entry_size as size}
 use Rattle.catalogue.specs.Meaning.{message_of, is_kept}
 use Rattle.catalogue.specs.Drafts.{Row, row_of, rows_from, kept_entry}
-use Rattle.catalogue.specs.declared.compiler.Options.{Options}
-use Rattle.catalogue.proofs.MoLengths.{length-closed, closed_joined, length-spelling}
-use Rattle.catalogue.proofs.EntryParts.{some_form}
+use Rattle.po_checks.specs.declared.options.Options.{Options}
+use Rattle.mo_image.proofs.MoLengths.{length-closed, closed_joined}
+use Rattle.mo_image.proofs.FileSizes.{file_size}
+use Rattle.mo_image.proofs.EntryParts.{some_form}
 use Rattle.catalogue.proofs.InOrder.{AreOrdered}
 use Rattle.catalogue.proofs.Listing.{Lawful, kept_is, left_out, map_of}
-
-sums : (m : List Entry) → 16 * length m + length (pool (map original m)) + length (pool (map translation m)) ≡ sum_by size m
-sums [] = refl
-sums (e ∷ m) =
-    let o = ap length (flat_map-cons closed (original e) (map original m)) ∙ length-append (closed (original e)) (pool (map original m)) in
-    let t = ap length (flat_map-cons closed (translation e) (map translation m)) ∙ length-append (closed (translation e)) (pool (map translation m)) in
-    omega (arith, sums m, sum_by-cons size e m, o, t)
-
-pub file_size : (m : List Entry) → length (spelling m) ≡ 28 + sum_by size m
-file_size m = omega (arith, length-spelling m, sums m)
 
 -- ---- an entry in the file and in the text
 

@@ -8,14 +8,14 @@ use Rattle.std.proofs.lemmas.List.{get_or-map, get_or_default, length-map}
 use Rattle.std.proofs.lemmas.List.Elements.{All-contains}
 use Rattle.std.proofs.lemmas.Slice.Eq.{bytes_eq-Decides}
 use Rattle.po_text.specs.Entries as po
-use Rattle.catalogue.specs.Entry.{Entry, key, key_bytes, translation}
-use Rattle.catalogue.specs.Map.{entry_at, first_form, header_text, HasAcceptedCharset}
+use Rattle.mo_image.specs.Entry.{Entry, key, key_bytes, translation}
+use Rattle.mo_image.specs.Map.{entry_at, first_form, header_text, HasAcceptedCharset}
 use Rattle.catalogue.specs.Meaning.{message_of, key_of, is_empty, is_header, is_kept, kept, kept_header, header_text_of, NamesCharset, HasDistinctKeys, IsMapOf}
 use Rattle.catalogue.specs.Drafts.{Row, Kept, row, rows, row_of, rows_from, texts_of, row_text, text_found, header_text_in, is_kept_header, IsLawfulMessage}
-use Rattle.catalogue.specs.declared.compiler.Options.{Options}
+use Rattle.po_checks.specs.declared.options.Options.{Options}
 use Rattle.catalogue.specs.declared.drafts.Draft.{Draft}
 use Rattle.catalogue.proofs.Counting.{AreRows, header_row, split_find}
-use Rattle.catalogue.proofs.EntryParts.{split_joined, some_form, lack_nul}
+use Rattle.mo_image.proofs.EntryParts.{split_joined, some_form, lack_nul}
 use Rattle.catalogue.proofs.Members.{has_head, has_tail, has_cases, from_map, from_filter, from_find}
 
 -- a row is that of a kept entry

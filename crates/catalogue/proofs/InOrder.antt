@@ -16,8 +16,8 @@ use Rattle.std.proofs.lemmas.List.Sorted.{ranks_by, sorted_far, Contains-permuta
 use Rattle.po_text.specs.Entries as po
 use Rattle.catalogue.specs.Meaning.{key_of, IsDuplicateAt, HasDistinctKeys}
 use Rattle.catalogue.specs.Drafts.{Row, row_cmp, row_of, rows_from, IsRepeat, IsFirstRepeat}
-use Rattle.catalogue.specs.declared.compiler.Options.{Options}
-use Rattle.catalogue.proofs.Lists.{differs}
+use Rattle.po_checks.specs.declared.options.Options.{Options}
+use Rattle.mo_image.proofs.Lists.{differs}
 use Rattle.catalogue.proofs.RowOrder.{row_total}
 
 abbrev pub row_lt : Row → Row → Bool

@@ -5,14 +5,14 @@ use Rattle.std.specs.List.{AllByRecursion}
 use Rattle.std.specs.String.{string_bytes}
 use Rattle.std.proofs.lemmas.List.{map-append, append-nil}
 use Rattle.std.proofs.lemmas.Option.{slice_get-map}
-use Rattle.catalogue.specs.Entry.{Entry, key, translation, IsLawfulEntry}
-use Rattle.catalogue.specs.Map.{IsLawful}
+use Rattle.mo_image.specs.Entry.{Entry, key, translation, IsLawfulEntry}
+use Rattle.mo_image.specs.Map.{IsLawful}
 use Rattle.catalogue.specs.Messages.{message_entry, messages_of}
-use Rattle.catalogue.specs.Stored.{stored_entry, entries_of}
-use Rattle.catalogue.specs.Parts.{entry_from}
-use Rattle.catalogue.specs.declared.messages.OwnedStrings.{OwnedStrings}
+use Rattle.mo_image.specs.Stored.{stored_entry, entries_of}
+use Rattle.mo_image.specs.Parts.{entry_from}
+use Rattle.mo_image.specs.declared.messages.OwnedStrings.{OwnedStrings}
 use Rattle.catalogue.specs.declared.sorted.Message.{Message}
-use Rattle.catalogue.proofs.EntryParts.{entry_again}
+use Rattle.mo_image.proofs.EntryParts.{entry_again}
 
 pub form_at : (forms : List (String Global)) (k : ℕ) (form : String Global) (text : List ℕ) → slice_get forms k ≡ Some form → text ≡ string_bytes form → slice_get (map (λ s. string_bytes s) forms) k ≡ Some text
 form_at forms k form text at is = slice_get-map (λ s. string_bytes s) forms k ∙ ap (option_map (λ s. string_bytes s)) at ∙ ap Some (sym is)

@@ -2,7 +2,7 @@
 use Rattle.std.proofs.Common.{◌≡◌, Bool, List, [], ◌∷◌, Option, Some, None, refl, ap}
 use Rattle.std.specs.Prelude.{is_some}
 use Rattle.std.specs.List.{filter, filter_map}
-use Rattle.catalogue.specs.Entry.{Entry}
+use Rattle.mo_image.specs.Entry.{Entry}
 use Rattle.catalogue.specs.Drafts.{kept_texts, rows, kept_entry, entry_with, drafts_entries}
 use Rattle.catalogue.specs.declared.drafts.Draft.{Draft}
 use Rattle.catalogue.specs.declared.drafts.Texts.{Texts}

@@ -10,14 +10,14 @@ use Rattle.std.proofs.lemmas.Bool.{false≢true}
 use Rattle.std.proofs.lemmas.Cmp.{nat_list_cmp_total}
 use Rattle.std.proofs.lemmas.List.Elements.{All-from_recursion, All-get_or, Contains-get_or}
 use Rattle.po_text.specs.Entries as po
-use Rattle.catalogue.specs.Entry.{Entry, key, IsLawfulEntry}
-use Rattle.catalogue.specs.Map.{Rises}
-use Rattle.catalogue.specs.Parts.{entry_from}
+use Rattle.mo_image.specs.Entry.{Entry, key, IsLawfulEntry}
+use Rattle.mo_image.specs.Map.{Rises}
+use Rattle.mo_image.specs.Parts.{entry_from}
 use Rattle.catalogue.specs.Meaning.{message_of, is_kept, kept, IsMapOf}
 use Rattle.catalogue.specs.Drafts.{Row, Kept, row_of, kept_entry, IsRepeat}
-use Rattle.catalogue.specs.declared.compiler.Options.{Options}
-use Rattle.catalogue.proofs.EntryParts.{entry_again}
-use Rattle.catalogue.proofs.KeyParts.{rejoined}
+use Rattle.po_checks.specs.declared.options.Options.{Options}
+use Rattle.mo_image.proofs.EntryParts.{entry_again}
+use Rattle.mo_image.proofs.KeyParts.{rejoined}
 use Rattle.catalogue.proofs.InOrder.{AreOrdered, Comes, comes, stands, row_lt}
 use Rattle.catalogue.proofs.Members.{has_head, has_tail, has_map, has_filter, has_filter_map}
 

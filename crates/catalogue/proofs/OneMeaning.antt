@@ -12,17 +12,17 @@ use Rattle.po_text.specs.Outcome as outcome
 use Rattle.po_text.specs.declared.fault.PoKind.{PoKind}
 use Rattle.po_text.specs.declared.fault.PoKind.TheVariants as kinds
 use Rattle.po_text.proofs.Outcomes.{gives_one, refuses_one, gives_or_refuses}
-use Rattle.catalogue.specs.Entry.{Entry, key}
-use Rattle.catalogue.specs.Map.{Rises}
+use Rattle.mo_image.specs.Entry.{Entry, key}
+use Rattle.mo_image.specs.Map.{Rises}
 use Rattle.catalogue.specs.Meaning.{message_of, kept, stats_of, header_line_of, missing_of, IsMapOf, Fails, IsFirst, Means, Refuses}
-use Rattle.catalogue.specs.Refusal.{kind_of}
-use Rattle.catalogue.specs.declared.compiler.Options.{Options}
+use Rattle.po_checks.specs.Refusal.{kind_of}
+use Rattle.po_checks.specs.declared.options.Options.{Options}
 use Rattle.catalogue.specs.declared.compiler.Stats.{Stats}
 use Rattle.catalogue.specs.declared.compiler.Compiled.{Compiled}
-use Rattle.catalogue.specs.declared.fault.LoadKind.{LoadKind}
-use Rattle.catalogue.specs.declared.fault.LoadKind.TheVariants.{TooLarge, NotUtf8, BadEscape, OpenString, BadWord, BadText, BadOrder, BadIndex}
+use Rattle.po_checks.specs.declared.fault.LoadKind.{LoadKind}
+use Rattle.po_checks.specs.declared.fault.LoadKind.TheVariants.{TooLarge, NotUtf8, BadEscape, OpenString, BadWord, BadText, BadOrder, BadIndex}
 use Rattle.catalogue.proofs.Members.{has_head, has_tail, has_cases}
-use Rattle.catalogue.proofs.Refusals.{first_refusal_one}
+use Rattle.po_checks.proofs.Refusals.{first_refusal_one}
 
 -- ---- one list of entries with rising keys
 

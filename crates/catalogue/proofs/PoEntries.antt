@@ -5,7 +5,7 @@ use Rattle.std.specs.List.{AllByRecursion}
 use Rattle.po_text.specs.Spelling as spelling
 use Rattle.po_text.specs.Entries as po
 use Rattle.po_text.specs.Lawful.{IsLawfulTexts, IsLawfulIf, HasNoFourIf, HasItsForms}
-use Rattle.catalogue.specs.Entry.{Lacks, IsText, IsKeyText, HasForms, IsLawfulEntry}
+use Rattle.mo_image.specs.Entry.{Lacks, IsText, IsKeyText, HasForms, IsLawfulEntry}
 use Rattle.catalogue.specs.Meaning.{message_of}
 use Rattle.catalogue.proofs.Members.{has_head, has_tail}
 

@@ -10,15 +10,15 @@ use Rattle.std.proofs.lemmas.List.Concat.{flat_map-cons}
 use Rattle.std.proofs.lemmas.Option.{get_or_from_slice_get, slice_get_within}
 use Rattle.std.proofs.lemmas.Str.{IsCharBoundary-from_take, IsUtf8-drop}
 use Rattle.po_text.specs.Entries as po
-use Rattle.catalogue.specs.Entry.{IsText}
+use Rattle.mo_image.specs.Entry.{IsText}
 use Rattle.catalogue.specs.Meaning.{message_of, is_kept}
 use Rattle.catalogue.specs.Drafts.{Row, Kept, row, rows, row_of, rows_from, texts_if_kept, IsLawfulMessage, HasCollected}
 use Rattle.catalogue.specs.Pool.{kept_bytes, bytes_if_kept, stored, kept_span, span_of, plural_size, kept_size, size_if_kept, size, kept_at, row_at, rows_at, HoldsText, HoldsPlural, HoldsKept, Holds, HoldsAll, HasPooled}
-use Rattle.catalogue.specs.declared.checks.Findings.{Findings}
-use Rattle.catalogue.specs.declared.compiler.Options.{Options}
+use Rattle.po_checks.specs.declared.findings.Findings.{Findings}
+use Rattle.po_checks.specs.declared.options.Options.{Options}
 use Rattle.catalogue.specs.declared.drafts.Draft.{Draft}
 use Rattle.catalogue.specs.declared.pool.Span.{Span}
-use Rattle.catalogue.proofs.Originals.{key_utf8, translation_utf8}
+use Rattle.mo_image.proofs.Originals.{key_utf8, translation_utf8}
 
 -- ---- a row in front
 

@@ -4,7 +4,7 @@ use Rattle.std.specs.List.{AllByRecursion}
 use Rattle.std.specs.Ordering.{nat_cmp, is_lt}
 use Rattle.std.specs.Cmp.Lexicographic.{slice_cmp}
 use Rattle.std.specs.Str.{bytes_eq}
-use Rattle.catalogue.specs.Entry.{Entry, key, IsText, IsKeyText, HasForms}
+use Rattle.mo_image.specs.Entry.{Entry, key, IsText, IsKeyText, HasForms}
 use Rattle.catalogue.specs.Messages.{message_entry}
 use Rattle.catalogue.specs.declared.sorted.Message.{Message}
 

@@ -8,13 +8,13 @@ use Rattle.std.specs.declared.cmp.Ordering.{Ordering}
 use Rattle.std.specs.Cmp.Lexicographic.{slice_cmp}
 use Rattle.po_text.specs.Entries as po
 use Rattle.po_text.specs.Outcome.{Gives}
-use Rattle.catalogue.specs.Entry.{Entry, IsLawfulEntry, translation}
-use Rattle.catalogue.specs.Map.{first_form}
-use Rattle.catalogue.specs.Parts.{entry_from}
+use Rattle.mo_image.specs.Entry.{Entry, IsLawfulEntry, translation}
+use Rattle.mo_image.specs.Map.{first_form}
+use Rattle.mo_image.specs.Parts.{entry_from}
 use Rattle.catalogue.specs.Meaning.{message_of, key_of, is_header, is_untranslated, is_kept}
-use Rattle.catalogue.specs.Findings.{HasFound}
-use Rattle.catalogue.specs.declared.checks.Findings.{Findings}
-use Rattle.catalogue.specs.declared.compiler.Options.{Options}
+use Rattle.po_checks.specs.Findings.{HasFound}
+use Rattle.po_checks.specs.declared.findings.Findings.{Findings}
+use Rattle.po_checks.specs.declared.options.Options.{Options}
 use Rattle.catalogue.specs.declared.drafts.Draft.{Draft}
 use Rattle.catalogue.specs.declared.drafts.Standing.{Standing}
 use Rattle.catalogue.specs.declared.drafts.Standing.TheVariants.{Header, Untranslated, Fuzzy, Translated}

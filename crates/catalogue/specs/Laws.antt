@@ -1,9 +1,9 @@
 -- The laws of the words above: a text has one meaning.
 use Rattle.std.specs.Prelude.{◌≡◌, ℕ, List}
 use Rattle.catalogue.specs.Meaning.{Means, Refuses}
-use Rattle.catalogue.specs.declared.compiler.Options.{Options}
+use Rattle.po_checks.specs.declared.options.Options.{Options}
 use Rattle.catalogue.specs.declared.compiler.Compiled.{Compiled}
-use Rattle.catalogue.specs.declared.fault.LoadKind.{LoadKind}
+use Rattle.po_checks.specs.declared.fault.LoadKind.{LoadKind}
 
 -- a text compiles to one thing
 abbrev pub HasOneMeaning : Type 0

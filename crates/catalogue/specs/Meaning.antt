@@ -8,15 +8,15 @@ use Rattle.po_text.specs.declared.PoKind.TheVariants as po_kind
 use Rattle.po_header.specs.Fields.{field_value}
 use Rattle.po_header.specs.Rule.{Rule, Given, Absent, Broken}
 use Rattle.po_header.specs.declared.fields.TheConstants.{FIELD_NAMES}
-use Rattle.catalogue.specs.Checks.{FirstAt, HasSystemDependentText, HasOtherArguments, IsPlural, HasOtherCount, IsFirstWithoutForm, HasOtherNewlines}
-use Rattle.catalogue.specs.Entry.{Entry, key}
-use Rattle.catalogue.specs.Map.{Rises, first_form, HasAcceptedCharset}
+use Rattle.po_checks.specs.Checks.{FirstAt, HasSystemDependentText, HasOtherArguments, IsPlural, HasOtherCount, IsFirstWithoutForm, HasOtherNewlines}
+use Rattle.mo_image.specs.Entry.{Entry, key}
+use Rattle.mo_image.specs.Map.{Rises, first_form, HasAcceptedCharset}
 use Rattle.catalogue.specs.Value.{HasRuleIn}
-use Rattle.catalogue.specs.declared.compiler.Options.{Options}
+use Rattle.po_checks.specs.declared.options.Options.{Options}
 use Rattle.catalogue.specs.declared.compiler.Stats.{Stats}
 use Rattle.catalogue.specs.declared.compiler.Compiled.{Compiled}
-use Rattle.catalogue.specs.declared.fault.LoadKind.{LoadKind}
-use Rattle.catalogue.specs.declared.fault.LoadKind.TheVariants.{TooLarge, NotUtf8, BadEscape, OpenString, BadWord, BadText, BadOrder, BadIndex, Duplicate, Charset, SystemDependent, NoRule, BadRule, FormCount, PluralRange, FormatMismatch, NewlineMismatch, Memory}
+use Rattle.po_checks.specs.declared.fault.LoadKind.{LoadKind}
+use Rattle.po_checks.specs.declared.fault.LoadKind.TheVariants.{TooLarge, NotUtf8, BadEscape, OpenString, BadWord, BadText, BadOrder, BadIndex, Duplicate, Charset, SystemDependent, NoRule, BadRule, FormCount, PluralRange, FormatMismatch, NewlineMismatch, Memory}
 
 -- ---- one entry of the text
 

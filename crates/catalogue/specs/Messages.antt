@@ -1,7 +1,7 @@
 -- Which entry a message is.
 use Rattle.std.specs.Prelude.{List, map, option_map}
 use Rattle.std.specs.String.{string_bytes}
-use Rattle.catalogue.specs.Entry.{Entry}
+use Rattle.mo_image.specs.Entry.{Entry}
 use Rattle.catalogue.specs.declared.sorted.Message.{Message}
 
 abbrev pub message_entry : Message → Entry

@@ -1,18 +1,14 @@
 -- What the look-ups answer (manual, "The interface of gettext"; "Additional functions for plural forms").
 use Rattle.std.specs.Prelude.{◌≡◌, ℕ, ◌==◌, nat_lt, if◌then◌else◌, List, length, Option, Some, None, slice_get}
-use Rattle.po_header.specs.Rule.{Rule, Absent, HasRule, place}
-use Rattle.catalogue.specs.Entry.{Entry}
-use Rattle.catalogue.specs.Map.{header_text}
+use Rattle.po_header.specs.Rule.{Rule, place}
+pub use Rattle.po_header.specs.Rule.{HasRuleIn}
+use Rattle.mo_image.specs.Entry.{Entry}
+use Rattle.mo_image.specs.Map.{header_text}
 
 -- the first form of the entry that was found, or the msgid
 abbrev pub IsFirstForm : Option Entry → List ℕ → List ℕ → Type 0
 IsFirstForm None id text = text ≡ id
 IsFirstForm (Some e) id text = slice_get e.forms 0 ≡ Some text
-
--- the rule for plural forms in the header's text, where there is a header
-abbrev pub HasRuleIn : Option (List ℕ) → Rule → Type 0
-HasRuleIn None rule = rule ≡ Absent
-HasRuleIn (Some text) rule = HasRule text rule
 
 -- a map's rule is that of its own header (manual, "Plural forms")
 abbrev pub HasMapRule : List Entry → Rule → Type 0

@@ -3,9 +3,9 @@ ghost use Rattle.std.specs.Prelude.{◌≡◌, ◌≤◌, ◌↔◌, [], length,
 ghost use Rattle.std.specs.List.{AllByRecursion, find};
 ghost use Rattle.std.specs.Ordering.{nat_cmp, is_lt};
 ghost use Rattle.std.specs.Cmp.Lexicographic.{slice_cmp};
-ghost use Rattle.catalogue.specs.Entry.{key, Lacks, IsText, IsKeyText, HasForms, IsLawfulEntry};
-ghost use Rattle.catalogue.specs.Map.{Rises, first_form, header_text, HasAcceptedCharset, IsLawful};
-ghost use Rattle.catalogue.specs.MoFile.{spelling};
+ghost use Rattle.mo_image.specs.Entry.{key, Lacks, IsText, IsKeyText, HasForms, IsLawfulEntry};
+ghost use Rattle.mo_image.specs.Map.{Rises, first_form, header_text, HasAcceptedCharset, IsLawful};
+ghost use Rattle.mo_image.specs.MoFile.{spelling};
 ghost use Rattle.catalogue.specs.Messages.{message_entry, messages_of};
 ghost use Rattle.catalogue.specs.Accepted as Accepted;
 

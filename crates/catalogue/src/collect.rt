@@ -1,13 +1,13 @@
 //! The entries of a text as drafts, in the order of the text.
 ghost use Rattle.std.specs.Prelude.{◌≡◌, ◌⊎◌, ◌++◌, length, IfOk, IfErr, OnOk, string_bytes, option_map};
 ghost use Rattle.po_text.specs.Lawful.{IsLawfulTexts};
-ghost use Rattle.catalogue.specs.Entry.{translation};
+ghost use Rattle.mo_image.specs.Entry.{translation};
 ghost use Rattle.catalogue.specs.Meaning as Meaning;
 ghost use Rattle.catalogue.specs.Meaning.{message_of, Refuses};
 ghost use Rattle.catalogue.specs.Drafts as Drafts;
 ghost use Rattle.catalogue.specs.Drafts.{row_of, texts_if_kept};
 ghost use Rattle.catalogue.specs.Pool.{bytes_if_kept, kept_bytes, kept_span, plural_bytes, span_of, stored, HasPooled};
-ghost use Rattle.catalogue.specs.declared.fault.LoadKind.TheVariants.{Memory};
+ghost use Rattle.po_checks.specs.declared.fault.LoadKind.TheVariants.{Memory};
 
 use crate::LoadFault;
 use crate::checks::Findings;

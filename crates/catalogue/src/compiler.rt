@@ -2,9 +2,9 @@
 ghost use Rattle.std.specs.Prelude.{◌≡◌, ◌<◌, ◌^◌, ◌⊎◌, ◌↔◌, IfOk, IfErr, IfSome, IsTrue, if◌then◌else◌, length, option_map};
 ghost use Rattle.std.specs.List.{count_by};
 ghost use Rattle.catalogue.specs.Drafts.{counts_as, row};
-ghost use Rattle.catalogue.specs.Map.{HasAcceptedCharset};
+ghost use Rattle.mo_image.specs.Map.{HasAcceptedCharset};
 ghost use Rattle.catalogue.specs.Meaning.{lacking, none_missing, Means, Refuses};
-ghost use Rattle.catalogue.specs.declared.fault.LoadKind.TheVariants.{Memory};
+ghost use Rattle.po_checks.specs.declared.fault.LoadKind.TheVariants.{Memory};
 
 use crate::collect::{Collected, collect};
 use crate::drafts::{Draft, Standing, count, first_repeat, header_line, header_text, keep, sort};

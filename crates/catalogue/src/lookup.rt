@@ -1,7 +1,7 @@
 //! The look-ups of gettext. They take no memory, and lend their answer from the catalogue or from an argument.
 ghost use Rattle.std.specs.Prelude.{◌≡◌, Some, None};
-ghost use Rattle.catalogue.specs.Entry.{key_bytes};
-ghost use Rattle.catalogue.specs.Map.{entry_at};
+ghost use Rattle.mo_image.specs.Entry.{key_bytes};
+ghost use Rattle.mo_image.specs.Map.{entry_at};
 ghost use Rattle.catalogue.specs.Value.{IsCounted, IsFirstForm, IsFormFor, text_by};
 ghost use Rattle.po_header.specs.Rules.{rule_of};
 

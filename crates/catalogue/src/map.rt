@@ -1,10 +1,10 @@
 //! Catalogues: entries in order, with the rule for plural forms in their header.
 ghost use Rattle.std.specs.Prelude.{◌≡◌, ◌<◌, ◌↔◌, List, length, slice_get, Some, IfOk, IsTrue, option_map};
 ghost use Rattle.po_header.specs.Rules.{rule_of};
-ghost use Rattle.catalogue.specs.Entry.{Entry, key_bytes};
-ghost use Rattle.catalogue.specs.Map.{IsFileOf, IsLawful, entry_at};
-ghost use Rattle.catalogue.specs.MoFile.{spelling};
-ghost use Rattle.catalogue.specs.Search.{AtMostDigits};
+ghost use Rattle.mo_image.specs.Entry.{Entry, key_bytes};
+ghost use Rattle.mo_image.specs.Map.{IsFileOf, IsLawful, entry_at};
+ghost use Rattle.mo_image.specs.MoFile.{spelling};
+ghost use Rattle.entry_search.specs.Search.{AtMostDigits};
 ghost use Rattle.catalogue.specs.Value.{HasMapRule};
 
 use crate::image::Image;
@@ -32,13 +32,13 @@ pub struct Catalogue {
 
 impl Model for Catalogue {
     ghost use Rattle.std.specs.Prelude.{List};
-    ghost use Rattle.catalogue.specs.Entry.{Entry};
+    ghost use Rattle.mo_image.specs.Entry.{Entry};
 
     ghost Value = { List Entry };
 
     ghost use Rattle.po_header.specs.Rules.{rule_of};
     ghost use Rattle.std.specs.Prelude.{IfSome};
-    ghost use Rattle.catalogue.specs.Index.{IsIndex};
+    ghost use Rattle.entry_search.specs.Index.{IsIndex};
     ghost use Rattle.catalogue.specs.Value.{HasMapRule};
 
     ghost view = { λ c. c.image };

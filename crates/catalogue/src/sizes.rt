@@ -1,7 +1,7 @@
 //! How many bytes the MO file of messages has. Numbers stop at 2^64 - 1.
 ghost use Rattle.std.specs.Prelude.{◌≡◌, ◌+◌, length, map, max, string_bytes};
-ghost use Rattle.catalogue.specs.Entry.{key, original};
-ghost use Rattle.catalogue.specs.MoFile.{pool, spelling};
+ghost use Rattle.mo_image.specs.Entry.{key, original};
+ghost use Rattle.mo_image.specs.MoFile.{pool, spelling};
 ghost use Rattle.catalogue.specs.Messages.{message_entry, messages_of};
 ghost use Rattle.catalogue.specs.Sizes.{capped, entry_size};
 

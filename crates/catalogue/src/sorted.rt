@@ -1,9 +1,9 @@
 //! Catalogues of messages that stand in order already.
 ghost use Rattle.std.specs.Prelude.{◌≡◌, IfOk, map, option_map, string_bytes};
 ghost use Rattle.std.specs.List.{join_with_byte};
-ghost use Rattle.catalogue.specs.Entry.{key, translation};
-ghost use Rattle.catalogue.specs.Parts.{entry_from};
-ghost use Rattle.catalogue.specs.Stored.{stored_entry};
+ghost use Rattle.mo_image.specs.Entry.{key, translation};
+ghost use Rattle.mo_image.specs.Parts.{entry_from};
+ghost use Rattle.mo_image.specs.Stored.{stored_entry};
 
 use crate::Catalogue;
 use crate::joins::{joined_key, push_form};
@@ -59,7 +59,7 @@ impl Message {
 }
 
 impl Catalogue {
-    ghost use Rattle.catalogue.specs.Map.{IsLawful};
+    ghost use Rattle.mo_image.specs.Map.{IsLawful};
     ghost use Rattle.catalogue.specs.Messages.{messages_of};
 
     /// The catalogue of these messages. They list a lawful map, in rising order of their keys' bytes.

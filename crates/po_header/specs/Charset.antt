@@ -1,5 +1,5 @@
 -- The charset that a header names (GNU gettext manual, "Header Entry": Content-Type).
-use Rattle.std.specs.Prelude.{ℕ, Bool, not, ◌||◌, ◌==◌, nat_eq, if◌then◌else◌, List, [], ◌∷◌, length, drop, Option, None, Some, codes}
+use Rattle.std.specs.Prelude.{ℕ, Bool, not, ◌||◌, ◌==◌, nat_eq, if◌then◌else◌, List, [], ◌∷◌, length, drop, Option, None, Some, IfSome, codes}
 use Rattle.std.specs.List.{take_while, starts_with, Contains}
 use Rattle.std.specs.Option.{option_map}
 use Rattle.std.specs.Str.{str_to_ascii_lowercase}
@@ -24,3 +24,7 @@ accepted_charsets = codes "utf-8" ∷ codes "utf8" ∷ codes "us-ascii" ∷ code
 -- ASCII case doesn't matter
 abbrev pub IsAcceptedCharset : List ℕ → Type 0
 IsAcceptedCharset name = Contains accepted_charsets (str_to_ascii_lowercase name)
+
+-- a header's text names no charset, or one that is accepted
+abbrev pub HasAcceptedCharset : List ℕ → Type 0
+HasAcceptedCharset text = IfSome (charset text) IsAcceptedCharset

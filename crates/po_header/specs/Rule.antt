@@ -49,6 +49,11 @@ HasRule text (Given nplurals tree) = IsGiven text nplurals tree
 HasRule text Absent = (behind_first (codes "nplurals=") text ≡ None) ⊎ (behind_first (codes "plural=") text ≡ None)
 HasRule text Broken = IsBroken text
 
+-- the rule in the header's text, where there is a header
+abbrev pub HasRuleIn : Option (List ℕ) → Rule → Type 0
+HasRuleIn None rule = rule ≡ Absent
+HasRuleIn (Some text) rule = HasRule text rule
+
 -- a form's number, where it is one of them; else the first form (our choice)
 abbrev pub form_of : ℕ → Option ℕ → ℕ
 form_of nplurals None = 0

@@ -2,7 +2,7 @@
 ghost use Rattle.std.specs.Prelude.{◌≡◌, ℕ, ◌↔◌, IsTrue, List, Option};
 ghost use Rattle.std.specs.List.{take_while};
 ghost use Rattle.std.specs.Option.{option_copied};
-ghost use Rattle.po_header.specs.Charset.{charset, is_charset_byte, IsAcceptedCharset};
+ghost use Rattle.po_header.specs.Charset.{charset, is_charset_byte, IsAcceptedCharset, HasAcceptedCharset};
 
 use crate::search::behind;
 use memchr::memchr3;
@@ -35,4 +35,14 @@ pub fn charset_accepted(name: &str) -> bool
         || name.eq_ignore_ascii_case("US-ASCII")
         || name.eq_ignore_ascii_case("ASCII")
         || name.eq_ignore_ascii_case("CHARSET")
+}
+
+/// Whether a header's text names no charset, or one in which texts can be read (`charset_accepted`).
+pub fn has_accepted_charset(text: &str) -> bool
+    ensures { IsTrue result ↔ HasAcceptedCharset text.now }
+{
+    match charset_of(text) {
+        Some(name) => charset_accepted(name),
+        None => true,
+    }
 }

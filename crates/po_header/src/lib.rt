@@ -15,11 +15,11 @@ mod steps;
 mod token;
 mod tree;
 
-pub use charset::{charset_accepted, charset_of};
+pub use charset::{charset_accepted, charset_of, has_accepted_charset};
 pub use expr::PluralExpr;
 pub use fields::{FIELD_NAMES, field, missing_fields};
 pub use parse::{one_tree, parse_expr};
-pub use rule::{RuleRead, one_rule, read_rule};
+pub use rule::{RuleRead, one_rule, read_rule, rule_in};
 use std::alloc::{AllocError, AllocFailed};
 use thiserror::Error;
 

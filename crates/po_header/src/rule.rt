@@ -1,6 +1,6 @@
 // The rule for plural forms.
-ghost use Rattle.std.specs.Prelude.{◌≡◌, ℕ, List, IfOk};
-ghost use Rattle.po_header.specs.Rule.{Rule, HasRule, leading_number, place};
+ghost use Rattle.std.specs.Prelude.{◌≡◌, ℕ, List, IfOk, option_map};
+ghost use Rattle.po_header.specs.Rule.{Rule, HasRule, HasRuleIn, leading_number, place};
 ghost use Rattle.po_header.specs.Rules.{rule_of};
 
 use crate::ExprFault;
@@ -52,6 +52,16 @@ pub fn read_rule(alloc: Global, text: &str) -> Result<RuleRead, AllocError>
         Err(ExprFault::Memory) => Err(AllocError),
         Err(ExprFault::TooLong) => Ok(RuleRead::Broken),
         Err(ExprFault::Malformed) => Ok(RuleRead::Broken),
+    }
+}
+
+/// The rule in the text of a header, where there is a header; without one it is absent.
+pub fn rule_in(alloc: Global, header: Option<&str>) -> Result<RuleRead, AllocError>
+    ensures { IfOk result (λ rule. HasRuleIn (option_map (λ text. text.now) header.entry) (rule_of rule)) }
+{
+    match header {
+        Some(text) => read_rule(alloc, text),
+        None => Ok(RuleRead::Absent),
     }
 }
 

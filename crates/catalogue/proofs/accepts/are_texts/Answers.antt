@@ -1,6 +1,6 @@
 use Rattle.std.proofs.Common.{rules, string_bytes}
 use Rattle.std.proofs.lemmas.Iterator.{cases_from_all, YieldsList-from_slice}
-use Rattle.catalogue.specs.Entry.{IsText}
+use Rattle.mo_image.specs.Entry.{IsText}
 use Rattle.catalogue.proofs.Accepting.{each_decided}
 use Rattle.catalogue.proofs.accepts.are_texts.Goals as goal
 

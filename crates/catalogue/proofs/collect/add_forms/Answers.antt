@@ -1,4 +1,4 @@
-use Rattle.catalogue.proofs.Joining.{joined_step}
+use Rattle.mo_image.proofs.Joining.{joined_step}
 use Rattle.catalogue.proofs.collect.add_forms.Goals as goal
 
 pub forms-preserved : goal.forms-preserved

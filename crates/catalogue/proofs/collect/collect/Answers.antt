@@ -3,7 +3,7 @@ use Rattle.std.proofs.lemmas.Result.{err_from_is_err_and}
 use Rattle.po_text.specs.Outcome.{body}
 use Rattle.po_text.proofs.Outcomes.{faulty_refuses}
 use Rattle.po_text.specs.declared.fault.PoFault.{PoFault}
-use Rattle.catalogue.specs.Refusal.{kind_of}
+use Rattle.po_checks.specs.Refusal.{kind_of}
 use Rattle.catalogue.proofs.Collecting.{collects_none, collects_more, collects_all, refused_as}
 use Rattle.catalogue.proofs.collect.collect.Goals as goal
 

@@ -1,6 +1,6 @@
 use Rattle.std.proofs.Common.{[], length, refl, arith}
 use Rattle.std.proofs.lemmas.Option.{slice_get_read}
-use Rattle.catalogue.proofs.Joining.{joined_step}
+use Rattle.mo_image.proofs.Joining.{joined_step}
 use Rattle.catalogue.proofs.InStrings.{form_at}
 use Rattle.catalogue.proofs.sorted.translation_of.Goals as goal
 

@@ -1,9 +1,9 @@
 use Rattle.std.proofs.Common.{ℕ, List, Option, Some, None, ap, sym, ◌∙◌}
 use Rattle.std.specs.Prelude.{option_map}
-use Rattle.catalogue.specs.Entry.{Entry}
+use Rattle.mo_image.specs.Entry.{Entry}
 use Rattle.catalogue.specs.Drafts.{kept_texts, draft_entry, entry_with}
 use Rattle.catalogue.specs.declared.drafts.Texts.{Texts}
-use Rattle.catalogue.proofs.Lists.{image_at}
+use Rattle.mo_image.proofs.Lists.{image_at}
 use Rattle.catalogue.proofs.drafts.VecDraftEntryList.strings_at.Goals as goal
 
 pub returns-in-Some : goal.returns-in-Some

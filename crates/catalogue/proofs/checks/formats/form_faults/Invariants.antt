@@ -1,5 +1,0 @@
-use Rattle.catalogue.proofs.Checking.{FormFaults}
-use Rattle.catalogue.proofs.checks.formats.form_faults.Given as goal
-
-abbrev pub invariant-forms : goal.invariant-forms
-invariant-forms l = FormFaults l.original l.rule l.entry.forms l.k l.faults

@@ -1,7 +1,0 @@
-use Rattle.std.proofs.Common.{sym, ap}
-use Rattle.catalogue.specs.Entry.{Entry}
-use Rattle.catalogue.proofs.FormLists.{form_count_is}
-use Rattle.catalogue.proofs.entry.EntryRef.form_count.Goals as goal
-
-pub returns-clause-count : goal.returns-clause-count
-returns-clause-count c = form_count_is c.self.inside.translation.now c.args.self.now.forms _ c.nul_count.ensures (ap (λ (e : Entry). e.forms) (sym c.self.view_is))

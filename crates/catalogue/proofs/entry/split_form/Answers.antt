@@ -1,8 +1,0 @@
-use Rattle.catalogue.proofs.FormLists.{cut_first, cut_none}
-use Rattle.catalogue.proofs.entry.split_form.Goals as goal
-
-pub returns-in-Some : goal.returns-in-Some
-returns-in-Some c = cut_first _ _ _ (rw c.in-Some.is at c.split_at_byte.ensures.cases)
-
-pub returns-in-None : goal.returns-in-None
-returns-in-None c = cut_none _ (rw c.in-None.is at c.split_at_byte.ensures.cases)

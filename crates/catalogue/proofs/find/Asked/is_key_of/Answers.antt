@@ -1,8 +1,0 @@
-use Rattle.std.proofs.Common.{ap, ◌∙◌}
-use Rattle.std.specs.Ordering.{is_eq}
-use Rattle.catalogue.specs.Pairs.{key_part}
-use Rattle.catalogue.proofs.Found.{tied_same}
-use Rattle.catalogue.proofs.find.Asked.is_key_of.Goals as goal
-
-pub returns-in-Some : goal.returns-in-Some
-returns-in-Some c = c.is_eq.ensures ∙ ap is_eq c.cmp_original.ensures ∙ tied_same (key_part c.args.original.now) c.args.self.now

@@ -1,7 +1,0 @@
-use Rattle.std.proofs.Common.{sym, ap, ◌∙◌}
-use Rattle.std.proofs.lemmas.List.Splits.{join_with_byte-slice_split}
-use Rattle.catalogue.specs.Entry.{translation}
-use Rattle.catalogue.proofs.messages.EntryStrings.translation.Goals as goal
-
-pub returns : goal.returns
-returns c = sym (join_with_byte-slice_split 0 c.self.inside.translation.now) ∙ ap translation c.self.view_is

@@ -1,6 +1,0 @@
-use Rattle.catalogue.specs.Stored.{stored_entry}
-use Rattle.catalogue.proofs.Lists.{image_at}
-use Rattle.catalogue.proofs.writer.VecOwnedStringsEntryList.strings_at.Goals as goal
-
-pub returns : goal.returns
-returns c = rw c.lend.ensures (image_at stored_entry c.args.self.now.items c.args.i c.index.result.now c.requires c.index.ensures)

@@ -1,9 +1,0 @@
-use Rattle.std.proofs.Common.{◌≡◌, ◌+◌, length, drop}
-use Rattle.catalogue.specs.MoFile.{pool}
-use Rattle.catalogue.specs.Strings.{strings_of}
-use Rattle.catalogue.proofs.writer.pool_len.Given as goal
-
-abbrev pub invariant-loop-i : goal.invariant-loop-i
-invariant-loop-i g l =
-    let strings = strings_of l.side (g.L.EntryList.entries l.list) in
-    l.len + length (pool (drop l.i strings)) ≡ length (pool strings)

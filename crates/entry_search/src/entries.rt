@@ -1,0 +1,82 @@
+//! The entries of a catalogue, found by their keys.
+ghost use Rattle.std.specs.Prelude.{◌≡◌, length, option_map};
+ghost use Rattle.mo_image.specs.Entry.{key_bytes};
+ghost use Rattle.mo_image.specs.Map.{entry_at};
+ghost use Rattle.entry_search.specs.Search.{AtMostDigits};
+
+use crate::Steps;
+use crate::find::{find_counted_in, find_in};
+use crate::index::Index;
+use crate::index_slots::index_of;
+use mo_image::{EntryRef, Image};
+use std::alloc::{AllocError, Global};
+use std::marker::Model;
+use std::sync::ledger::Ledger;
+
+/// The entries of a catalogue, in rising order of the keys' bytes, and where look-ups find them, once `index` was
+/// called. Contracts see it as the list of the entries.
+#[derive(Drop)]
+pub struct Entries {
+    image: Image,
+    index: Option<Index>,
+}
+
+impl Model for Entries {
+    ghost use Rattle.std.specs.Prelude.{List};
+    ghost use Rattle.mo_image.specs.Entry.{Entry};
+
+    ghost Value = { List Entry };
+
+    ghost use Rattle.std.specs.Prelude.{IfSome};
+    ghost use Rattle.entry_search.specs.Index.{IsIndex};
+
+    ghost view = { λ e. e.image };
+
+    ghost invariant = { λ e. IfSome e.index (λ index. IsIndex e.image index) };
+}
+
+impl Entries {
+    /// The entries of an image, without an index.
+    pub fn new(image: Image) -> Entries
+        ensures { result ≡ image }
+    {
+        Entries { image, index: None }
+    }
+
+    /// The entries as their one MO file.
+    pub fn image(&self) -> &Image
+        ensures { result.now ≡ self.now }
+    {
+        &self.image
+    }
+
+    /// Makes an index of the keys' hashes, by which a search is one comparison of keys. The entries stay as they are.
+    /// Answers AllocError where memory is refused, and nothing is changed then. Where two keys have one hash, of 64
+    /// bits, there is no index, and searches go on by halves.
+    pub fn index(&mut self, alloc: Global) -> Result<(), AllocError>
+        ensures { self.new ≡ self.old }
+    {
+        self.index = index_of(alloc, &self.image)?;
+        Ok(())
+    }
+
+    /// The entry of this msgid in this context, or in none; None exactly where there is no such entry.
+    pub fn find(&self, context: Option<&str>, id: &str) -> Option<EntryRef<'_>>
+        ensures { result ≡ entry_at self.now (key_bytes (option_map (λ s. s.now) context.entry) id.now) }
+    {
+        find_in(&self.image, self.index.as_ref(), context, id)
+    }
+
+    /// The same, with its steps counted: at most as many as the number of entries has binary digits.
+    pub fn find_counted<L: Ledger>(
+        &self,
+        context: Option<&str>,
+        id: &str,
+        steps: &mut Steps<L>,
+    ) -> Option<EntryRef<'_>>
+        ensures found { result ≡ entry_at self.now (key_bytes (option_map (λ s. s.now) context.entry) id.now) }
+        ensures cost { AtMostDigits (length self.now) steps.old steps.new }
+    {
+        find_counted_in(&self.image, self.index.as_ref(), context, id, steps)
+    }
+}

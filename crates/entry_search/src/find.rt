@@ -1,0 +1,261 @@
+//! The search for an entry by its key.
+ghost use Rattle.std.specs.Prelude.{◌≡◌, ◌↔◌, IsTrue, ◌+◌, ◌-◌, ◌/◌, ◌<◌, length, slice_get, Some, IfSome, option_map};
+ghost use Rattle.std.specs.Ordering.{nat_cmp};
+ghost use Rattle.std.specs.Cmp.Lexicographic.{slice_cmp};
+ghost use Rattle.std.specs.Str.{bytes_eq};
+ghost use Rattle.mo_image.specs.Entry.{key, key_bytes, Lacks};
+ghost use Rattle.mo_image.specs.Map.{entry_at};
+ghost use Rattle.mo_image.specs.Pairs.{key_part, HasNulAt};
+ghost use Rattle.entry_search.specs.Search.{AtMostDigits};
+ghost use Rattle.entry_search.specs.Index.{hash, IsIndex};
+
+use crate::Steps;
+use crate::index::{Index, hash_of, hash_within};
+use crate::keys::cmp_in_context;
+use mo_image::{EntryRef, Image, key_of, plural_of, split_context};
+use std::cmp::Ordering;
+use std::marker::{Brand, Model};
+use std::sync::ledger::{Blank, Ledger};
+
+/// The key that is asked for, seen as its bytes.
+#[derive(Drop)]
+struct Asked<'a> {
+    context: Option<&'a str>,
+    id: &'a str,
+    /// The msgid is known to have no NUL. No entry's has.
+    is_text: bool,
+}
+
+impl<'a> Model for Asked<'a> {
+    ghost use Rattle.std.specs.Prelude.{ℕ, List, IsTrue, option_map};
+    ghost use Rattle.mo_image.specs.Entry.{key_bytes, Lacks};
+
+    ghost Value = { List ℕ };
+
+    ghost view = { λ a. key_bytes (option_map (λ s. s.now) a.context) a.id.now };
+
+    ghost invariant = { λ a. IsTrue a.is_text → Lacks 0 a.id.now };
+}
+
+/// Whether a NUL stands at this place in an original.
+fn has_nul_at(original: &str, place: usize) -> bool
+    ensures { IsTrue result ↔ HasNulAt original.now place }
+{
+    place < original.len() && original.as_bytes()[place] == 0
+}
+
+/// The key of an original beside a msgid. The original is compared as it is, since a plural behind the key
+/// changes the order of no other key than the msgid itself.
+fn cmp_id(original: &str, id: &str) -> Ordering
+    requires { Lacks 0 id.now }
+    ensures { result ≡ slice_cmp nat_cmp (key_part original.now) id.now }
+{
+    let order = original.cmp(id);
+    if has_nul_at(original, id.len()) {
+        return key_of(original).cmp(id);
+    }
+    order
+}
+
+impl<'a> Asked<'a> {
+    fn new(context: Option<&'a str>, id: &'a str) -> Asked<'a>
+        ensures { result ≡ key_bytes (option_map (λ s. s.now) context.entry) id.now }
+    {
+        Asked {
+            context,
+            id,
+            is_text: false,
+        }
+    }
+
+    /// The same, with its msgid looked through for a NUL, which makes many comparisons quick.
+    fn looked_through(&self) -> Asked<'a>
+        ensures { result ≡ self.now }
+    {
+        Asked {
+            context: self.context,
+            id: self.id,
+            is_text: plural_of(self.id).is_none(),
+        }
+    }
+
+    /// The hash of this key; None where the context holds the byte that parts the two in keys.
+    fn hash(&self) -> Option<u64>
+        ensures { IfSome result (λ h. h ≡ hash self.now) }
+    {
+        let Some(context) = self.context else {
+            return Some(hash_of(self.id));
+        };
+        match split_context(context) {
+            Some(_) => None,
+            None => Some(hash_within(context, self.id)),
+        }
+    }
+
+    /// The key of an original beside this one.
+    fn cmp_original(&self, original: &str) -> Ordering
+        ensures { result ≡ slice_cmp nat_cmp (key_part original.now) self.now }
+    {
+        match self.context {
+            Some(context) => cmp_in_context(
+                key_of(original).as_bytes(),
+                context.as_bytes(),
+                self.id.as_bytes(),
+            ),
+            None if self.is_text => cmp_id(original, self.id),
+            None => key_of(original).cmp(self.id),
+        }
+    }
+
+    /// Whether the key of an original is this one.
+    fn is_key_of(&self, original: &str) -> bool
+        ensures { result ≡ bytes_eq (key_part original.now) self.now }
+    {
+        match self.context {
+            Some(_) => self.cmp_original(original).is_eq(),
+            None => key_of(original) == self.id,
+        }
+    }
+}
+
+/// The place in the middle of those from `low` on and before `high`.
+fn middle(low: usize, high: usize) -> usize
+    requires { low < high }
+    ensures { result ≡ low + (high - low) / 2 }
+{
+    low + (high - low) / 2
+}
+
+/// How the key of an original compares with the one asked for, which is one step.
+fn compare<L: Ledger>(original: &str, asked: &Asked<'_>, steps: &mut Steps<L>) -> Ordering
+    ensures order { result ≡ slice_cmp nat_cmp (key_part original.now) asked.now }
+    ensures step { steps.new ≡ steps.old + 1 }
+{
+    steps.tick();
+    asked.cmp_original(original)
+}
+
+/// Whether the key of an original is the one asked for, which is one step.
+fn is_same<L: Ledger>(original: &str, asked: &Asked<'_>, count: &mut Steps<L>) -> bool
+    ensures same { result ≡ bytes_eq (key_part original.now) asked.now }
+    ensures step { count.new ≡ count.old + 1 }
+{
+    count.tick();
+    asked.is_key_of(original)
+}
+
+/// How the i-th key compares with the one asked for, which is one step.
+fn compare_at<L: Ledger>(image: &Image, i: usize, asked: &Asked<'_>, steps: &mut Steps<L>) -> Ordering
+    requires { i < length image.now }
+    ensures order { IfSome (slice_get image.now i) (λ e. result ≡ slice_cmp nat_cmp (key e) asked.now) }
+    ensures step { steps.new ≡ steps.old + 1 }
+{
+    compare(image.original(i), asked, steps)
+}
+
+/// The entry of this key, by halves.
+fn search<'a, L: Ledger>(
+    image: &'a Image,
+    asked: &Asked<'_>,
+    steps: &mut Steps<L>,
+) -> Option<EntryRef<'a>>
+    ensures found { result ≡ entry_at image.now asked.now }
+    ensures cost { AtMostDigits (length image.now) steps.old steps.new }
+{
+    let asked = asked.looked_through();
+    let mut low = 0;
+    let mut high = image.len();
+    'halves: while low < high {
+        let mid = middle(low, high);
+        match compare_at(image, mid, &asked, steps) {
+            Ordering::Less => low = mid + 1,
+            Ordering::Equal => return Some(image.entry(mid)),
+            Ordering::Greater => high = mid,
+        }
+    }
+    None
+}
+
+/// The entry of this key, by the slot that the index has of its hash.
+fn search_indexed<'a, L: Ledger>(
+    image: &'a Image,
+    index: &Index,
+    asked: &Asked<'_>,
+    steps: &mut Steps<L>,
+) -> Option<EntryRef<'a>>
+    requires { IsIndex image.now index.now }
+    ensures found { result ≡ entry_at image.now asked.now }
+    ensures cost { AtMostDigits (length image.now) steps.old steps.new }
+{
+    let Some(hash) = asked.hash() else {
+        return search(image, asked, steps);
+    };
+    let entry = image.entry_in(&index.slot_of(hash)?.extents);
+    if is_same(entry.original(), asked, steps) {
+        Some(entry)
+    } else {
+        None
+    }
+}
+
+/// The entry of this key, by the index where there is one.
+fn search_by<'a, L: Ledger>(
+    image: &'a Image,
+    index: Option<&Index>,
+    asked: &Asked<'_>,
+    steps: &mut Steps<L>,
+) -> Option<EntryRef<'a>>
+    requires { IfSome index (λ index. IsIndex image.now index.now) }
+    ensures found { result ≡ entry_at image.now asked.now }
+    ensures cost { AtMostDigits (length image.now) steps.old steps.new }
+{
+    match index {
+        Some(index) => search_indexed(image, index, asked, steps),
+        None => search(image, asked, steps),
+    }
+}
+
+/// The same, for a caller that counts nothing.
+fn search_uncounted<'a, L: Ledger>(
+    image: &'a Image,
+    index: Option<&Index>,
+    asked: &Asked<'_>,
+    blank: Blank,
+) -> Option<EntryRef<'a>>
+    requires index { IfSome index (λ index. IsIndex image.now index.now) }
+    requires name { blank.name ≡ L.name }
+    requires parts { blank.parts ≡ L.parts }
+    requires some { 0 < L.parts }
+    ensures { result ≡ entry_at image.now asked.now }
+{
+    let mut steps = Steps::<L>::new(blank);
+    search_by(image, index, asked, &mut steps)
+}
+
+/// The entry of this msgid in this context, or in none, by the index where there is one.
+pub(crate) fn find_in<'a>(
+    image: &'a Image,
+    index: Option<&Index>,
+    context: Option<&str>,
+    id: &str,
+) -> Option<EntryRef<'a>>
+    requires { IfSome index (λ index. IsIndex image.now index.now) }
+    ensures { result ≡ entry_at image.now (key_bytes (option_map (λ s. s.now) context.entry) id.now) }
+{
+    search_uncounted::<Brand>(image, index, &Asked::new(context, id), Blank::new(1))
+}
+
+/// The same, with its steps counted.
+pub(crate) fn find_counted_in<'a, L: Ledger>(
+    image: &'a Image,
+    index: Option<&Index>,
+    context: Option<&str>,
+    id: &str,
+    steps: &mut Steps<L>,
+) -> Option<EntryRef<'a>>
+    requires { IfSome index (λ index. IsIndex image.now index.now) }
+    ensures found { result ≡ entry_at image.now (key_bytes (option_map (λ s. s.now) context.entry) id.now) }
+    ensures cost { AtMostDigits (length image.now) steps.old steps.new }
+{
+    search_by(image, index, &Asked::new(context, id), steps)
+}

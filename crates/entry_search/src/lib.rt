@@ -1,0 +1,13 @@
+//! The search for an entry by its key: by an index of the keys' hashes, or by halves, with its steps counted.
+#![tactic(auto)]
+
+mod entries;
+mod find;
+mod index;
+mod index_slots;
+mod keys;
+mod step_count;
+
+pub use entries::Entries;
+pub use keys::cmp_keys;
+pub use step_count::Steps;

@@ -1,0 +1,13 @@
+pub mod Lists
+pub mod KeyParts
+pub mod MoLengths
+pub mod EntryParts
+pub mod FormLists
+pub mod Originals
+pub mod FileStrings
+pub mod FileSizes
+pub mod Writing
+pub mod Extents
+pub mod ImageFacts
+pub mod Joining
+pub mod Cutting

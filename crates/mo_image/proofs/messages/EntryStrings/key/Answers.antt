@@ -1,0 +1,7 @@
+use Rattle.std.proofs.Common.{sym, ap, ◌∙◌}
+use Rattle.mo_image.specs.Entry.{key}
+use Rattle.mo_image.proofs.KeyParts.{rejoined}
+use Rattle.mo_image.proofs.messages.EntryStrings.key.Goals as goal
+
+pub returns : goal.returns
+returns c = sym (rejoined c.self.inside.key.now) ∙ ap key c.self.view_is

@@ -1,0 +1,30 @@
+-- Where the strings of an entry lie in an MO file.
+use Rattle.std.specs.Prelude.{◌≡◌, ℕ, ◌+◌, ◌*◌, ◌<◌, ◌≤◌, List, length, take, drop}
+use Rattle.std.specs.Str.{IsUtf8}
+use Rattle.byteorder.specs.Endian.{little_number}
+use Rattle.mo_image.specs.Tables.{word_at}
+use Rattle.mo_image.specs.declared.extent.EntryExtents.{EntryExtents}
+use Rattle.mo_image.specs.declared.extent.Extent.{Extent}
+
+-- the bytes of an extent
+abbrev pub piece : List ℕ → Extent → List ℕ
+piece bytes extent = take extent.len (drop extent.start bytes)
+
+pub record HoldsPiece (bytes : List ℕ) (extent : Extent) : Type 0 where
+  pub room : extent.start + extent.len ≤ length bytes
+  pub utf8 : IsUtf8 (piece bytes extent)
+
+-- an extent is what the row of a table at this place says
+pub record IsNamedAt (bytes : List ℕ) (place : ℕ) (extent : Extent) : Type 0 where
+  pub len : extent.len ≡ word_at little_number bytes place
+  pub start : extent.start ≡ word_at little_number bytes (place + 4)
+
+-- the extents of the strings of the i-th of n entries in a file
+pub record AreExtentsOf (bytes : List ℕ) (n i : ℕ) (extents : EntryExtents) : Type 0 where
+  pub within : i < n
+  pub original : IsNamedAt bytes (28 + 8 * i) extents.original
+  pub translation : IsNamedAt bytes (28 + 8 * n + 8 * i) extents.translation
+
+-- those of one of the n entries
+abbrev pub AreExtents : List ℕ → ℕ → EntryExtents → Type 0
+AreExtents bytes n extents = (i : ℕ) × AreExtentsOf bytes n i extents

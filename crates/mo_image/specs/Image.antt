@@ -1,0 +1,23 @@
+-- Private: a list of bytes that is the MO file of the entries that its own tables name.
+use Rattle.std.specs.Prelude.{◌≡◌, ℕ, ◌+◌, ◌*◌, ◌<◌, ◌≤◌, List, length}
+use Rattle.std.specs.Str.{IsUtf8}
+use Rattle.byteorder.specs.Endian.{little_number}
+use Rattle.mo_image.specs.Entry.{Entry}
+use Rattle.mo_image.specs.Map.{IsLawful}
+use Rattle.mo_image.specs.MoFile.{spelling}
+use Rattle.mo_image.specs.Tables.{word_at, string_at, strings}
+use Rattle.mo_image.specs.Pairs.{entries_of}
+
+-- the entries that the tables name
+unfoldable pub listing : List ℕ → List Entry
+listing bytes = entries_of (strings little_number bytes 28 (word_at little_number bytes 8)) (strings little_number bytes (28 + 8 * word_at little_number bytes 8) (word_at little_number bytes 8))
+
+pub record IsImage (bytes : List ℕ) : Type 0 where
+  pub lawful : IsLawful (listing bytes)
+  pub spelt : bytes ≡ spelling (listing bytes)
+
+-- the row at this place names a text that lies in the bytes
+pub record NamesText (bytes : List ℕ) (place : ℕ) : Type 0 where
+  pub row : place + 8 ≤ length bytes
+  pub room : word_at little_number bytes (place + 4) + word_at little_number bytes place < length bytes
+  pub utf8 : IsUtf8 (string_at little_number bytes place)

@@ -1,0 +1,10 @@
+pub mod Entry
+pub mod MoFile
+pub mod Map
+pub mod Parts
+pub mod Tables
+pub mod Pairs
+pub mod Image
+pub mod Extents
+pub mod Strings
+pub mod Stored

@@ -1,0 +1,26 @@
+-- Private: the entries that originals and translations are.
+use Rattle.std.specs.Prelude.{◌≡◌, ℕ, ◌<◌, ◌==◌, List, [], ◌∷◌, length, slice_index, Option, option_map}
+use Rattle.std.specs.List.{before_first}
+use Rattle.mo_image.specs.Entry.{Entry}
+use Rattle.mo_image.specs.Parts.{cut, entry_from}
+
+-- the key in front of an original's NUL
+abbrev pub key_part : List ℕ → List ℕ
+key_part o = before_first (λ b. b == 0) o
+
+-- the plural behind it
+abbrev pub plural_part : List ℕ → Option (List ℕ)
+plural_part o = option_map (λ p. p.1) (cut 0 o)
+
+abbrev pub entry_of : List ℕ → List ℕ → Entry
+entry_of o t = entry_from (key_part o) (plural_part o) t
+
+abbrev pub entries_of : List (List ℕ) → List (List ℕ) → List Entry
+entries_of [] ts = []
+entries_of (o ∷ os) [] = []
+entries_of (o ∷ os) (t ∷ ts) = entry_of o t ∷ entries_of os ts
+
+-- a NUL stands at this place
+pub record HasNulAt (text : List ℕ) (place : ℕ) : Type 0 where
+  pub within : place < length text
+  pub nul : slice_index text place ≡ 0

@@ -1,0 +1,12 @@
+-- Which entry has the strings that an MO file has of it: its key, cut at its EOT, and its forms, between NULs.
+use Rattle.std.specs.Prelude.{List, map, option_map}
+use Rattle.std.specs.String.{string_bytes}
+use Rattle.mo_image.specs.Entry.{Entry}
+use Rattle.mo_image.specs.Parts.{entry_from}
+use Rattle.mo_image.specs.declared.messages.OwnedStrings.{OwnedStrings}
+
+abbrev pub stored_entry : OwnedStrings → Entry
+stored_entry m = entry_from (string_bytes m.key) (option_map (λ s. string_bytes s) m.plural) (string_bytes m.translation)
+
+abbrev pub entries_of : List OwnedStrings → List Entry
+entries_of messages = map stored_entry messages

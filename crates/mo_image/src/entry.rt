@@ -1,0 +1,214 @@
+//! One entry of a catalogue, whose texts are lent.
+ghost use Rattle.std.specs.Prelude.{◌≡◌, ◌<◌, ◌==◌, ◌∷◌, length, slice_get, Some, option_map};
+ghost use Rattle.std.specs.List.{count_by, slice_split};
+ghost use Rattle.mo_image.specs.Entry.{IsLawfulEntry, key, translation};
+ghost use Rattle.mo_image.specs.Parts.{cut, forms_left};
+ghost use Rattle.mo_image.specs.Pairs.{key_part, plural_part};
+
+use crate::cut::split_at_byte;
+use std::marker::Model;
+
+/// What parts a key from its plural, and forms from one another.
+const NUL: u8 = 0;
+
+/// What parts a context from its msgid in a key.
+const EOT: u8 = 4;
+
+/// How many NULs a text has.
+fn nul_count(text: &str) -> usize
+    ensures { result ≡ count_by (λ b. b == 0) text.now }
+{
+    text.bytes().filter(|byte| *byte == 0).count()
+}
+
+/// The first of the forms in a translation, and the others.
+pub fn split_form(text: &str) -> (&str, Option<&str>)
+    ensures { slice_split (λ b. b == 0) text.now ≡ result.0.now ∷ forms_left result.1 }
+{
+    match split_at_byte(text, NUL) {
+        Some((form, others)) => (form, Some(others)),
+        None => (text, None),
+    }
+}
+
+/// The forms of an entry, one after another, seen as the list of those that are left.
+#[derive(Drop)]
+pub struct Forms<'a> {
+    /// The forms that are left, with NUL between them.
+    left: Option<&'a str>,
+}
+
+impl<'a> Model for Forms<'a> {
+    ghost use Rattle.std.specs.Prelude.{ℕ, List};
+
+    ghost Value = { List (List ℕ) };
+
+    ghost use Rattle.mo_image.specs.Parts.{forms_left};
+
+    ghost view = { λ forms. forms_left forms.left };
+}
+
+impl<'a> Iterator for Forms<'a> {
+    ghost use Rattle.std.specs.Iterator.{YieldsFirstRef, item_count};
+
+    type Item = &'a str;
+
+    ghost next_gives = { YieldsFirstRef (λ forms. forms) };
+
+    ghost remaining = { item_count (λ forms. forms) };
+
+    fn next(&mut self) -> Option<&'a str> {
+        let (form, others) = split_form(self.left?);
+        self.left = others;
+        Some(form)
+    }
+}
+
+/// The key of an original: what stands before its NUL.
+pub fn key_of(original: &str) -> &str
+    ensures { result.now ≡ key_part original.now }
+{
+    match split_at_byte(original, NUL) {
+        Some((key, _)) => key,
+        None => original,
+    }
+}
+
+/// The plural of an original: what stands behind its NUL.
+pub fn plural_of(original: &str) -> Option<&str>
+    ensures { option_map (λ s. s.now) result ≡ plural_part original.now }
+{
+    let (_, plural) = split_at_byte(original, NUL)?;
+    Some(plural)
+}
+
+/// The context and the msgid of a key that has a context: what stands before its first byte 4, and behind.
+pub fn split_context(key: &str) -> Option<(&str, &str)>
+    ensures { option_map (λ p. (p.0.now, p.1.now)) result ≡ cut 4 key.now }
+{
+    split_at_byte(key, EOT)
+}
+
+/// An entry of a catalogue. Its texts are lent from the catalogue.
+#[derive(Drop)]
+pub struct EntryRef<'a> {
+    /// The key, and the plural behind NUL.
+    original: &'a str,
+    /// The forms, with NUL between them.
+    translation: &'a str,
+}
+
+impl<'a> Model for EntryRef<'a> {
+    ghost use Rattle.mo_image.specs.Entry.{Entry};
+
+    ghost Value = { Entry };
+
+    ghost use Rattle.mo_image.specs.Entry.{IsLawfulEntry};
+    ghost use Rattle.mo_image.specs.Pairs.{entry_of};
+
+    ghost view = { λ e. entry_of e.original.now e.translation.now };
+
+    ghost invariant = { λ e. IsLawfulEntry (entry_of e.original.now e.translation.now) };
+}
+
+impl<'a> EntryRef<'a> {
+    ghost use Rattle.mo_image.specs.Pairs.{entry_of};
+
+    /// The entry of an original and a translation.
+    pub(crate) fn new(original: &'a str, translation: &'a str) -> EntryRef<'a>
+        requires { IsLawfulEntry (entry_of original.now translation.now) }
+        ensures { result ≡ entry_of original.now translation.now }
+    {
+        EntryRef {
+            original,
+            translation,
+        }
+    }
+
+    /// The key, and the plural behind NUL.
+    pub fn original(&self) -> &'a str
+        ensures { key_part result.now ≡ key self.now }
+    {
+        self.original
+    }
+
+    /// The bytes of the entry's key: the msgid, behind its context and byte 4 where it has one.
+    pub fn key(&self) -> &'a str
+        ensures { result.now ≡ key self.now }
+    {
+        key_of(self.original)
+    }
+
+    /// The context (`msgctxt`), if the entry has one; it may be empty.
+    pub fn context(&self) -> Option<&'a str>
+        ensures { option_map (λ s. s.now) result ≡ self.now.context }
+    {
+        let (context, _) = split_context(key_of(self.original))?;
+        Some(context)
+    }
+
+    /// The msgid.
+    pub fn id(&self) -> &'a str
+        ensures { result.now ≡ self.now.id }
+    {
+        let key = key_of(self.original);
+        match split_context(key) {
+            Some((_, id)) => id,
+            None => key,
+        }
+    }
+
+    /// The msgid_plural, if the entry has one.
+    pub fn plural(&self) -> Option<&'a str>
+        ensures { option_map (λ s. s.now) result ≡ self.now.plural }
+    {
+        plural_of(self.original)
+    }
+
+    /// The forms, with NUL between them, as an MO file holds them.
+    pub fn translation(&self) -> &'a str
+        ensures joined { result.now ≡ translation self.now }
+
+        // Every entry of a catalogue is lawful, and so has a form.
+        ensures lawful { IsLawfulEntry self.now }
+    {
+        self.translation
+    }
+
+    /// The forms, one after another, without memory. A catalogue's entry has one at least.
+    pub fn forms(&self) -> Forms<'a>
+        ensures { result ≡ self.now.forms }
+    {
+        Forms {
+            left: Some(self.translation),
+        }
+    }
+
+    /// How many forms the entry has: one at least, and just one without a plural.
+    pub fn form_count(&self) -> usize
+        ensures count { result ≡ length self.now.forms }
+
+        // Every entry of a catalogue is lawful.
+        ensures lawful { IsLawfulEntry self.now }
+        ensures some { 0 < result }
+    {
+        nul_count(self.translation) + 1
+    }
+
+    /// The form with this index. It is found by going over the forms before it.
+    pub fn form(&self, k: usize) -> &'a str
+        requires { k < length self.now.forms }
+        ensures { slice_get self.now.forms k ≡ Some result.now }
+    {
+        let mut forms = self.forms();
+        'skipped: for _i in 0..k {
+            let Some(_) = forms.next() else {
+                unreachable!()
+            };
+        }
+        let Some(form) = forms.next() else {
+            unreachable!()
+        };
+        form
+    }
+}

@@ -1,0 +1,42 @@
+//! Where strings lie in an MO file.
+ghost use Rattle.std.specs.Prelude.{◌≡◌, ◌+◌, ◌≤◌, length};
+ghost use Rattle.byteorder.specs.Endian.{little_number};
+ghost use Rattle.mo_image.specs.Tables.{word_at};
+ghost use Rattle.mo_image.specs.Extents.{piece, HoldsPiece, IsNamedAt};
+
+use byteorder::{ByteOrder, LittleEndian};
+
+/// A string's offset in an MO file, and its length.
+#[derive(Clone, Copy, Debug)]
+pub struct Extent {
+    start: u32,
+    len: u32,
+}
+
+/// Where an entry's two strings lie in an MO file.
+#[derive(Clone, Copy, Debug)]
+pub struct EntryExtents {
+    pub original: Extent,
+    pub translation: Extent,
+}
+
+/// What the row of a table says: a string's length and its offset.
+pub(crate) fn extent_at(bytes: &[u8], place: usize) -> Extent
+    requires { place + 8 ≤ length bytes.now }
+    ensures { IsNamedAt bytes.now place result }
+{
+    Extent {
+        start: LittleEndian::read_u32(&bytes[place + 4..]),
+        len: LittleEndian::read_u32(&bytes[place..]),
+    }
+}
+
+/// The text that lies there.
+pub(crate) fn text_in(bytes: &[u8], extent: Extent) -> &str
+    requires { HoldsPiece bytes.now extent }
+    ensures { result.now ≡ piece bytes.now extent }
+{
+    let start = extent.start as usize;
+    let end = start + extent.len as usize;
+    unsafe { str::from_utf8_unchecked(&bytes[start..end]) }
+}

@@ -1,0 +1,195 @@
+//! The entries of a catalogue, kept as the bytes of their MO file.
+ghost use Rattle.std.specs.Prelude.{◌≡◌, ℕ, ◌+◌, ◌*◌, ◌<◌, ◌≤◌, ◌↔◌, List, length, slice_get, Some, IfOk, IfSome, IsTrue};
+ghost use Rattle.byteorder.specs.Endian.{little_number};
+ghost use Rattle.mo_image.specs.Entry.{Entry, key};
+ghost use Rattle.mo_image.specs.Map.{IsFileOf, IsLawful};
+ghost use Rattle.mo_image.specs.MoFile.{spelling};
+ghost use Rattle.mo_image.specs.Tables.{word_at, string_at};
+ghost use Rattle.mo_image.specs.Pairs.{key_part};
+ghost use Rattle.mo_image.specs.Image.{listing, IsImage, NamesText};
+ghost use Rattle.mo_image.specs.Extents.{AreExtents, AreExtentsOf};
+
+use crate::EntryRef;
+use crate::extent::{EntryExtents, extent_at, text_in};
+use crate::layout::{COUNT_AT, HEADER_LEN, ROW_LEN};
+use crate::writer::{EntryList, spell};
+use byteorder::{ByteOrder, LittleEndian};
+use std::alloc::{AllocError, Global};
+use std::marker::Model;
+
+/// The entries of a catalogue, in rising order of the keys' bytes, as their one MO file: the table of originals stands
+/// behind the header, and that of translations behind it.
+///
+/// Contracts see it as the list of its entries.
+#[derive(Drop)]
+pub struct Image {
+    bytes: Vec<u8>,
+}
+
+impl Model for Image {
+    ghost use Rattle.std.specs.Prelude.{List};
+    ghost use Rattle.mo_image.specs.Entry.{Entry};
+
+    ghost Value = { List Entry };
+
+    ghost use Rattle.mo_image.specs.Pairs.{key_part};
+    ghost use Rattle.mo_image.specs.Image.{listing, IsImage};
+
+    ghost view = { λ image. listing image.bytes.items };
+
+    ghost invariant = { λ image. IsImage image.bytes.items };
+}
+
+/// A word of 32 bits.
+fn word(bytes: &[u8], place: usize) -> usize
+    requires { place + 4 ≤ length bytes.now }
+    ensures { result ≡ word_at little_number bytes.now place }
+{
+    LittleEndian::read_u32(&bytes[place..]) as usize
+}
+
+/// The text that the row at this place names.
+fn text(bytes: &[u8], place: usize) -> &str
+    requires { NamesText bytes.now place }
+    ensures { result.now ≡ string_at little_number bytes.now place }
+{
+    text_in(bytes, extent_at(bytes, place))
+}
+
+fn count_of(bytes: &[u8]) -> usize
+    requires { IsImage bytes.now }
+    ensures { result ≡ length (listing bytes.now) }
+{
+    word(bytes, COUNT_AT)
+}
+
+/// The original of the i-th entry: its key, and its plural behind NUL.
+fn original_of(bytes: &[u8], i: usize) -> &str
+    requires image { IsImage bytes.now }
+    requires within { i < length (listing bytes.now) }
+    ensures string { result.now ≡ string_at little_number bytes.now (28 + 8 * i) }
+    ensures key { IfSome (slice_get (listing bytes.now) i) (λ e. key_part result.now ≡ key e) }
+{
+    text(bytes, HEADER_LEN + ROW_LEN * i)
+}
+
+/// The translation of the i-th entry.
+fn translation_of(bytes: &[u8], i: usize) -> &str
+    requires image { IsImage bytes.now }
+    requires within { i < length (listing bytes.now) }
+    ensures { result.now ≡ string_at little_number bytes.now (28 + 8 * length (listing bytes.now) + 8 * i) }
+{
+    let translations = HEADER_LEN + ROW_LEN * count_of(bytes);
+    text(bytes, translations + ROW_LEN * i)
+}
+
+fn entry_of(bytes: &[u8], i: usize) -> EntryRef<'_>
+    requires image { IsImage bytes.now }
+    requires within { i < length (listing bytes.now) }
+    ensures { slice_get (listing bytes.now) i ≡ Some result }
+{
+    EntryRef::new(original_of(bytes, i), translation_of(bytes, i))
+}
+
+/// Where the strings of the i-th entry lie.
+fn extents_of(bytes: &[u8], i: usize) -> EntryExtents
+    requires image { IsImage bytes.now }
+    requires within { i < length (listing bytes.now) }
+    ensures { AreExtentsOf bytes.now (length (listing bytes.now)) i result }
+{
+    let originals = HEADER_LEN + ROW_LEN * i;
+    let translations = originals + ROW_LEN * count_of(bytes);
+    EntryExtents {
+        original: extent_at(bytes, originals),
+        translation: extent_at(bytes, translations),
+    }
+}
+
+/// The entry whose strings lie there.
+fn entry_in<'a>(bytes: &'a [u8], extents: &EntryExtents) -> EntryRef<'a>
+    requires image { IsImage bytes.now }
+    requires extents { AreExtents bytes.now (length (listing bytes.now)) extents.now }
+    ensures { (i : ℕ) → AreExtentsOf bytes.now (length (listing bytes.now)) i extents.now → slice_get (listing bytes.now) i ≡ Some result }
+{
+    EntryRef::new(
+        text_in(bytes, extents.original),
+        text_in(bytes, extents.translation),
+    )
+}
+
+impl Image {
+    /// The image of the entries that have these strings.
+    pub fn spelled<L: EntryList>(alloc: Global, list: &L) -> Result<Image, AllocError>
+        requires { IsLawful (L.entries list.now) }
+        ensures { IfOk result (λ image. image ≡ L.entries list.now) }
+    {
+        let bytes = spell(alloc, list)?;
+        Ok(Image { bytes })
+    }
+
+    /// The image that is this MO file.
+    pub fn copied(alloc: Global, file: &[u8]) -> Result<Image, AllocError>
+        requires { (m : List Entry) × IsFileOf file.now m }
+        ensures { IfOk result (λ image. IsFileOf file.now image) }
+    {
+        let mut bytes = Vec::with_capacity(alloc, file.len())?;
+        bytes.extend_from_slice(file)?;
+        Ok(Image { bytes })
+    }
+
+    /// How many entries there are.
+    pub fn len(&self) -> usize
+        ensures len { result ≡ length self.now }
+        ensures lawful { IsLawful self.now }
+    {
+        count_of(&self.bytes)
+    }
+
+    /// Whether there is none.
+    pub fn is_empty(&self) -> bool
+        ensures { IsTrue result ↔ (length self.now ≡ 0) }
+    {
+        self.len() == 0
+    }
+
+    /// The i-th entry.
+    pub fn entry(&self, i: usize) -> EntryRef<'_>
+        requires { i < length self.now }
+        ensures { slice_get self.now i ≡ Some result }
+    {
+        entry_of(&self.bytes, i)
+    }
+
+    /// The original of the i-th entry: its key, and its plural behind NUL.
+    pub fn original(&self, i: usize) -> &str
+        requires { i < length self.now }
+        ensures { IfSome (slice_get self.now i) (λ e. key_part result.now ≡ key e) }
+    {
+        original_of(&self.bytes, i)
+    }
+
+    /// Where the strings of the i-th entry lie in the file.
+    pub fn extents(&self, i: usize) -> EntryExtents
+        requires { i < length self.now }
+        ensures { AreExtentsOf (spelling self.now) (length self.now) i result }
+    {
+        extents_of(&self.bytes, i)
+    }
+
+    /// The entry whose strings lie there. It is found without a look at the tables.
+    pub fn entry_in(&self, extents: &EntryExtents) -> EntryRef<'_>
+        requires { AreExtents (spelling self.now) (length self.now) extents.now }
+        ensures entry { (i : ℕ) → AreExtentsOf (spelling self.now) (length self.now) i extents.now → slice_get self.now i ≡ Some result }
+        ensures lawful { IsLawful self.now }
+    {
+        entry_in(&self.bytes, extents)
+    }
+
+    /// The MO file.
+    pub fn file(&self) -> &[u8]
+        ensures file { result.now ≡ spelling self.now }
+        ensures lawful { IsLawful self.now }
+    {
+        &self.bytes
+    }
+}

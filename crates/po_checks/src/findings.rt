@@ -1,0 +1,150 @@
+//! The checks of a text, over its kept entries in the order in which they are read.
+ghost use Rattle.std.specs.Prelude.{◌≡◌, [], OnOk, IfOk, option_map};
+ghost use Rattle.po_header.specs.Rules.{rule_of};
+ghost use Rattle.catalogue.specs.Value.{HasRuleIn};
+ghost use Rattle.po_checks.specs.Findings.{first_or, AddsFormats, AddsTexts, HasFound, IsCheckedFault, IsFault, LooksAt};
+
+mod formats;
+mod newlines;
+mod plurals;
+
+use crate::collect::is_kept;
+use crate::compiler::Options;
+use crate::{LoadFault, LoadKind};
+use formats::format_faults;
+use newlines::newlines_differ;
+use plurals::Plurals;
+use po_header::{RuleRead, read_rule};
+use po_text::EntryBuffer;
+use std::alloc::{AllocError, Global};
+
+/// What the checks found so far: for each the line of the first kept entry that fails it.
+#[derive(Clone, Copy)]
+pub(crate) struct Findings {
+    /// A c-format text is system-dependent.
+    pub(crate) system_dependent: Option<u32>,
+    /// A form takes other arguments than its original.
+    pub(crate) mismatch: Option<u32>,
+    /// Some texts begin or end with a newline, and some don't.
+    pub(crate) newlines: Option<u32>,
+    pub(crate) plurals: Plurals,
+}
+
+/// The line that was found before, or else this one, where its entry fails.
+fn first_line(found: Option<u32>, fails: bool, line: u32) -> Option<u32>
+    ensures { result ≡ first_or found fails line }
+{
+    match found {
+        Some(_) => found,
+        None => if fails { Some(line) } else { None },
+    }
+}
+
+/// A fault of this kind, where there is a line.
+fn fault_at(line: Option<u32>, kind: LoadKind) -> Option<LoadFault>
+    ensures { result ≡ option_map (λ line. record { kind = kind; line = line }) line }
+{
+    match line {
+        Some(line) => Some(LoadFault { kind, line }),
+        None => None,
+    }
+}
+
+/// The rule in the header's text, where there is a header.
+fn rule_in(alloc: Global, header: Option<&str>) -> Result<RuleRead, AllocError>
+    ensures { IfOk result (λ rule. HasRuleIn (option_map (λ text. text.now) header.entry) (rule_of rule)) }
+{
+    match header {
+        Some(text) => read_rule(alloc, text),
+        None => Ok(RuleRead::Absent),
+    }
+}
+
+impl Findings {
+    /// Nothing was read.
+    pub(crate) fn new() -> Findings
+        ensures { (options : Options) → HasFound options [] result }
+    {
+        Findings {
+            system_dependent: None,
+            mismatch: None,
+            newlines: None,
+            plurals: Plurals::new(),
+        }
+    }
+
+    /// Looks at the formats of a kept entry.
+    fn look_at_formats(&mut self, alloc: Global, entry: &EntryBuffer) -> Result<(), AllocError>
+        ensures { OnOk result (AddsFormats self.old self.new entry.now) }
+    {
+        let faults = format_faults(alloc, entry)?;
+        let line = entry.line();
+        self.system_dependent = first_line(self.system_dependent, faults.system_dependent, line);
+        self.mismatch = first_line(self.mismatch, faults.mismatch, line);
+        Ok(())
+    }
+
+    /// Looks at the number of forms and the newlines of a kept entry.
+    fn look_at_texts(&mut self, entry: &EntryBuffer)
+        ensures { AddsTexts self.old self.new entry.now }
+    {
+        self.newlines = first_line(self.newlines, newlines_differ(entry), entry.line());
+        self.plurals.look_at(entry);
+    }
+
+    /// Looks at one more entry.
+    pub(crate) fn look_at(
+        &mut self,
+        alloc: Global,
+        entry: &EntryBuffer,
+        options: Options,
+    ) -> Result<(), AllocError>
+        ensures { OnOk result (LooksAt options entry.now self.old self.new) }
+    {
+        if !is_kept(entry, options) {
+            return Ok(());
+        }
+        self.look_at_formats(alloc, entry)?;
+        if options.checked {
+            self.look_at_texts(entry);
+        }
+        Ok(())
+    }
+
+    /// The first fault of the checked level, by the rule in the header, which stands at this line.
+    fn checked_fault(&self, rule: &RuleRead, header_line: u32) -> Option<LoadFault>
+        ensures { IsCheckedFault self.now (rule_of rule.now) header_line result }
+    {
+        if let Some(fault) = self.plurals.fault(rule, header_line) {
+            return Some(fault);
+        }
+        match self.mismatch {
+            Some(line) => Some(LoadFault {
+                kind: LoadKind::FormatMismatch,
+                line,
+            }),
+            None => fault_at(self.newlines, LoadKind::NewlineMismatch),
+        }
+    }
+
+    /// The first fault that the checks found, by the header's text and line.
+    pub(crate) fn fault(
+        &self,
+        alloc: Global,
+        options: Options,
+        header: Option<&str>,
+        header_line: u32,
+    ) -> Result<Option<LoadFault>, AllocError>
+        ensures { IfOk result (λ fault. IsFault self.now options (option_map (λ text. text.now) header.entry) header_line fault) }
+    {
+        if let Some(line) = self.system_dependent {
+            let kind = LoadKind::SystemDependent;
+            return Ok(Some(LoadFault { kind, line }));
+        }
+        if !options.checked {
+            return Ok(None);
+        }
+        let rule = rule_in(alloc, header)?;
+        Ok(self.checked_fault(&rule, header_line))
+    }
+}

@@ -1,0 +1,136 @@
+//! The check of C formats: the arguments of a form are those of its original.
+ghost use Rattle.std.specs.Prelude.{◌≡◌, ◌⊎◌, ◌↔◌, ◌||◌, false, IsTrue, IfOk};
+ghost use Rattle.std.specs.List.{Any};
+ghost use Rattle.c_signature.specs.Signature.{IsSystemDependent};
+ghost use Rattle.po_checks.specs.Checks.{texts, FormsDiffer, HasOtherArguments, HasSystemDependentText};
+ghost use Rattle.po_checks.specs.Findings.{is_dependent, DiffersFrom, FormatsDiffer, IsReadAs};
+
+use c_signature::{ArgKind, FormatFault, Strictness, agrees, signature};
+use po_text::EntryBuffer;
+use std::alloc::{AllocError, Global};
+
+/// What a text is as a format.
+#[derive(Drop)]
+pub(crate) enum Format {
+    Arguments(Vec<ArgKind>),
+    Invalid,
+    SystemDependent,
+}
+
+/// What the formats of an entry are refused for.
+#[derive(Clone, Copy)]
+pub(crate) struct FormatFaults {
+    /// A text is system-dependent.
+    pub(crate) system_dependent: bool,
+    /// A form differs from its original.
+    pub(crate) mismatch: bool,
+}
+
+fn read_format(alloc: Global, text: &str) -> Result<Format, AllocError>
+    ensures { IfOk result (λ format. IsReadAs text.now format) }
+{
+    match signature(alloc, text) {
+        Ok(kinds) => Ok(Format::Arguments(kinds)),
+        Err(FormatFault::Invalid) => Ok(Format::Invalid),
+        Err(FormatFault::SystemDependent) => Ok(Format::SystemDependent),
+        Err(FormatFault::Memory) => Err(AllocError),
+    }
+}
+
+fn is_system_dependent(format: &Format) -> bool
+    ensures { result ≡ is_dependent format.now }
+{
+    match format {
+        Format::SystemDependent => true,
+        Format::Arguments(_) | Format::Invalid => false,
+    }
+}
+
+/// Whether a form differs from its original. An original that is no format isn't compared.
+fn differs(original: &Format, form: &Format, rule: Strictness) -> bool
+    ensures { IsTrue result ↔ FormatsDiffer original.now form.now rule }
+{
+    match (original, form) {
+        (Format::Arguments(original), Format::Arguments(form)) => !agrees(original, form, rule),
+        (Format::Arguments(_), Format::Invalid) => true,
+        _ => false,
+    }
+}
+
+impl FormatFaults {
+    /// No text was looked at.
+    fn none() -> FormatFaults
+        ensures { result ≡ record { system_dependent = false; mismatch = false } }
+    {
+        FormatFaults {
+            system_dependent: false,
+            mismatch: false,
+        }
+    }
+
+    /// With one more text.
+    fn with_text(self, text: &Format) -> FormatFaults
+        ensures dependent { result.system_dependent ≡ (is_dependent text.now || self.system_dependent) }
+        ensures mismatch { result.mismatch ≡ self.mismatch }
+    {
+        FormatFaults {
+            system_dependent: is_system_dependent(text) || self.system_dependent,
+            mismatch: self.mismatch,
+        }
+    }
+
+    /// With one more form, beside its original.
+    fn with_form(self, original: &Format, form: &Format, rule: Strictness) -> FormatFaults
+        ensures dependent { result.system_dependent ≡ (is_dependent form.now || self.system_dependent) }
+        ensures mismatch { IsTrue result.mismatch ↔ (FormatsDiffer original.now form.now rule ⊎ IsTrue self.mismatch) }
+    {
+        FormatFaults {
+            system_dependent: is_system_dependent(form) || self.system_dependent,
+            mismatch: differs(original, form, rule) || self.mismatch,
+        }
+    }
+}
+
+/// The faults of the forms of an entry, beside their original.
+fn form_faults(
+    alloc: Global,
+    entry: &EntryBuffer,
+    original: &Format,
+    rule: Strictness,
+) -> Result<FormatFaults, AllocError>
+    ensures dependent { IfOk result (λ faults. IsTrue faults.system_dependent ↔ Any IsSystemDependent entry.now.forms) }
+    ensures mismatch { IfOk result (λ faults. IsTrue faults.mismatch ↔ Any (DiffersFrom original.now rule) entry.now.forms) }
+{
+    let mut faults = FormatFaults::none();
+    'forms: for k in 0..entry.form_count() {
+        let form = read_format(alloc, entry.form(k))?;
+        faults = faults.with_form(original, &form, rule);
+    }
+    Ok(faults)
+}
+
+/// The faults of an entry that is flagged `c-format`.
+fn flagged_faults(alloc: Global, entry: &EntryBuffer) -> Result<FormatFaults, AllocError>
+    ensures dependent { IfOk result (λ faults. IsTrue faults.system_dependent ↔ Any IsSystemDependent (texts entry.now)) }
+    ensures mismatch { IfOk result (λ faults. IsTrue faults.mismatch ↔ FormsDiffer entry.now) }
+{
+    let id = read_format(alloc, entry.id())?;
+    let Some(plural) = entry.plural() else {
+        let faults = form_faults(alloc, entry, &id, Strictness::Same)?;
+        return Ok(faults.with_text(&id));
+    };
+    let plural = read_format(alloc, plural)?;
+    let faults = form_faults(alloc, entry, &plural, Strictness::Prefix)?;
+    Ok(faults.with_text(&plural).with_text(&id))
+}
+
+/// What the formats of an entry are refused for.
+pub(crate) fn format_faults(alloc: Global, entry: &EntryBuffer) -> Result<FormatFaults, AllocError>
+    ensures dependent { IfOk result (λ faults. IsTrue faults.system_dependent ↔ HasSystemDependentText entry.now) }
+    ensures mismatch { IfOk result (λ faults. IsTrue faults.mismatch ↔ HasOtherArguments entry.now) }
+{
+    if !entry.is_c_format() {
+        return Ok(FormatFaults::none());
+    }
+    flagged_faults(alloc, entry)
+}

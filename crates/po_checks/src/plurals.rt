@@ -1,0 +1,147 @@
+//! The check of plural forms: that there is a rule, that each plural entry has its forms, and that it has a form for
+//! each number.
+ghost use Rattle.std.specs.Prelude.{◌≡◌, ◌++◌, ◌∷◌, [], List};
+ghost use Rattle.po_header.specs.Expr.{tree_of};
+ghost use Rattle.po_header.specs.Rule.{Given};
+ghost use Rattle.po_header.specs.Rules.{rule_of};
+ghost use Rattle.po_text.specs.Entries.{Entry as PoEntry};
+ghost use Rattle.po_checks.specs.Checks.{has_form};
+ghost use Rattle.po_checks.specs.Findings.{line_for, line_of, AddsPlural, FirstWithoutForm, FirstFault, HasPlurals};
+ghost use Rattle.catalogue.specs.Meaning.{RuleRefuses};
+
+use super::{fault_at, first_line};
+use crate::{LoadFault, LoadKind};
+use po_header::{PluralExpr, RuleRead};
+use po_text::EntryBuffer;
+
+/// The first plural entry: how many forms it has, and its line.
+#[derive(Clone, Copy)]
+pub(crate) struct FirstPlural {
+    pub(crate) forms: u64,
+    pub(crate) line: u32,
+    /// The line of the first one behind it that has another number of forms.
+    pub(crate) other: Option<u32>,
+}
+
+/// The plural entries so far. How many forms they should have is known only when the header was read.
+#[derive(Clone, Copy)]
+pub(crate) struct Plurals {
+    pub(crate) first: Option<FirstPlural>,
+}
+
+/// Whether n takes one of the forms.
+fn has_form_for(nplurals: u64, expr: &PluralExpr, n: u64) -> bool
+    ensures { result ≡ has_form nplurals (tree_of expr.now) n }
+{
+    match expr.eval(n) {
+        Some(form) => form < nplurals,
+        None => false,
+    }
+}
+
+/// The least number of 0 to 1000 that takes none of the forms.
+fn first_without_form(nplurals: u64, expr: &PluralExpr) -> Option<u64>
+    ensures { FirstWithoutForm nplurals (tree_of expr.now) result }
+{
+    'numbers: for n in 0..1001 {
+        if !has_form_for(nplurals, expr, n) {
+            return Some(n);
+        }
+    }
+    None
+}
+
+impl Plurals {
+    pub(crate) fn new() -> Plurals
+        ensures { HasPlurals [] result }
+    {
+        Plurals { first: None }
+    }
+
+    /// One more plural entry, of so many forms.
+    fn add(&mut self, forms: u64, line: u32)
+        ensures { AddsPlural self.old self.new forms line }
+    {
+        let first = match self.first {
+            None => FirstPlural {
+                forms,
+                line,
+                other: None,
+            },
+            Some(first) => FirstPlural {
+                other: first_line(first.other, forms != first.forms, line),
+                ..first
+            },
+        };
+        self.first = Some(first);
+    }
+
+    /// One more entry.
+    pub(crate) fn look_at(&mut self, entry: &EntryBuffer)
+        ensures { (entries : List PoEntry) → HasPlurals entries self.old → HasPlurals (entries ++ entry.now ∷ []) self.new }
+    {
+        if entry.plural().is_some() {
+            self.add(entry.form_count() as u64, entry.line());
+        }
+    }
+
+    /// The line of the first plural entry.
+    fn line(&self) -> Option<u32>
+        ensures { result ≡ line_of self.now.first }
+    {
+        match self.first {
+            Some(first) => Some(first.line),
+            None => None,
+        }
+    }
+
+    /// The line of the first plural entry that has another number of forms.
+    fn line_for(&self, nplurals: u64) -> Option<u32>
+        ensures { result ≡ line_for self.now.first nplurals }
+    {
+        match self.first {
+            None => None,
+            Some(first) => if first.forms == nplurals {
+                first.other
+            } else {
+                Some(first.line)
+            },
+        }
+    }
+
+    /// The first fault by this rule, in a header that stands at this line.
+    fn fault_by(&self, nplurals: u64, expr: &PluralExpr, header_line: u32) -> Option<LoadFault>
+        ensures { (entries : List PoEntry) → HasPlurals entries self.now → FirstFault (RuleRefuses (Given nplurals (tree_of expr.now)) entries header_line) result }
+    {
+        if let Some(line) = self.line_for(nplurals) {
+            return Some(LoadFault {
+                kind: LoadKind::FormCount,
+                line,
+            });
+        }
+        match first_without_form(nplurals, expr) {
+            Some(n) => Some(LoadFault {
+                kind: LoadKind::PluralRange(n),
+                line: header_line,
+            }),
+            None => None,
+        }
+    }
+
+    /// The first fault by the rule in a header that stands at this line.
+    pub(crate) fn fault(&self, rule: &RuleRead, header_line: u32) -> Option<LoadFault>
+        ensures { (entries : List PoEntry) → HasPlurals entries self.now → FirstFault (RuleRefuses (rule_of rule.now) entries header_line) result }
+    {
+        match rule {
+            RuleRead::Given { nplurals, expr } => self.fault_by(*nplurals, expr, header_line),
+            RuleRead::Absent => fault_at(self.line(), LoadKind::NoRule),
+            RuleRead::Broken => match self.line() {
+                Some(_) => Some(LoadFault {
+                    kind: LoadKind::BadRule,
+                    line: header_line,
+                }),
+                None => None,
+            },
+        }
+    }
+}
