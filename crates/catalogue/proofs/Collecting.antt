@@ -13,7 +13,7 @@ use Rattle.po_text.specs.Lawful.{IsLawfulTexts}
 use Rattle.po_text.specs.declared.reader.EntryReader.{EntryReader}
 use Rattle.po_text.specs.declared.fault.PoKind.{PoKind}
 use Rattle.po_text.specs.declared.fault.PoKind.TheVariants as kinds
-use Rattle.po_checks.specs.Findings.{HasFound, LooksAt}
+use Rattle.po_checks.specs.Found.{HasFound, LooksAt}
 use Rattle.catalogue.specs.Meaning.{Refuses}
 use Rattle.po_checks.specs.Refusal.{kind_of}
 use Rattle.catalogue.specs.Drafts.{Row, row, rows, row_of, rows_from, IsLawfulMessage}

@@ -9,9 +9,11 @@ use Rattle.std.proofs.lemmas.List.Sorted.{IsPermutation-map}
 use denote.Ref.{Bor}
 use Rattle.po_text.specs.Entries as po
 use Rattle.po_text.proofs.Sizes.{gives_count}
-use Rattle.po_checks.specs.Findings.{IsFault}
+use Rattle.po_checks.specs.Found.{IsFault}
 use Rattle.mo_image.specs.Map.{IsLawful, HasAcceptedCharset}
-use Rattle.catalogue.specs.Meaning.{Means, IsMapOf, Refuses, kept, kept_header, header_line_of, header_text_of, lacking, none_missing, HasDistinctKeys, IsDuplicateAt, IsForeignAt, NamesCharset}
+use Rattle.catalogue.specs.Meaning.{Means, IsMapOf, Refuses, lacking, none_missing}
+use Rattle.po_checks.specs.Kept.{kept, kept_header, header_line_of, header_text_of, NamesCharset}
+use Rattle.po_checks.specs.Fails.{HasDistinctKeys, IsDuplicateAt, IsForeignAt}
 use Rattle.mo_image.specs.Entry.{Entry}
 use Rattle.catalogue.specs.Drafts.{Row, row, rows, kept_entry, comes_before, counts_as, header_text_in, is_kept_header, IsRepeat, FirstRepeat, IsFirstRepeat, HasCollected}
 use Rattle.po_checks.specs.declared.findings.Findings.{Findings}
@@ -28,7 +30,19 @@ use Rattle.catalogue.proofs.Fitting.{fits}
 use Rattle.catalogue.proofs.HeaderFound.{accepted, another, header_text_is, map_accepted}
 use Rattle.catalogue.proofs.InOrder.{AreOrdered, row_lt, all_distinct, first_duplicate}
 use Rattle.catalogue.proofs.Listing.{map_of, is_map, each_lawful}
-use Rattle.po_checks.proofs.Refusals.{all_pass, as_refusal, first_is_check, first_is_duplicate, first_is_foreign}
+use Rattle.po_checks.proofs.Refusals.{all_pass, first_is_check, first_is_duplicate, first_is_foreign}
+
+-- a refusal of the entries is one of the text
+pub as_refusal : (text : List ℕ) (o : Options) (es : List po.Entry) (kind : LoadKind) (line : ℕ) → Gives text es → IsFirst (Fails o es) kind line → Refuses text o kind line
+as_refusal text o es TooLarge line gives f = absurd f.holds
+as_refusal text o es NotUtf8 line gives f = absurd f.holds
+as_refusal text o es BadEscape line gives f = absurd f.holds
+as_refusal text o es OpenString line gives f = absurd f.holds
+as_refusal text o es BadWord line gives f = absurd f.holds
+as_refusal text o es BadText line gives f = absurd f.holds
+as_refusal text o es BadOrder line gives f = absurd f.holds
+as_refusal text o es BadIndex line gives f = absurd f.holds
+as_refusal text o es _ line gives f = (es, gives, f)
 
 -- there are few drafts
 pub few : (text : List ℕ) (o : Options) (drafts : List Draft) (found : Findings) → HasCollected text o drafts found → length drafts < 2 ^ 32

@@ -5,7 +5,8 @@ use Rattle.std.specs.List.{find, count_by}
 use Rattle.std.specs.Option.{option_map_or}
 use Rattle.std.proofs.lemmas.List.Sums.{sum_by-cons}
 use Rattle.po_text.specs.Entries as po
-use Rattle.catalogue.specs.Meaning.{is_header, is_untranslated, is_fuzzy, is_translated, is_kept, kept, counted, header_line_of}
+use Rattle.po_checks.specs.Kept.{is_header, is_untranslated, is_kept, kept, header_line_of}
+use Rattle.catalogue.specs.Meaning.{is_fuzzy, is_translated, counted}
 use Rattle.catalogue.specs.Drafts.{Row, Kept, row, rows, row_of, rows_from, standing_of, texts_of, same_standing, counts_as, is_kept_header}
 use Rattle.po_checks.specs.declared.options.Options.{Options}
 use Rattle.catalogue.specs.declared.drafts.Draft.{Draft}

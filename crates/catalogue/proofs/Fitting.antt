@@ -9,7 +9,7 @@ use Rattle.po_text.specs.Outcome.{Gives}
 use Rattle.po_text.proofs.Sizes.{option_size, forms_size, entry_size, entries_size, gives_size}
 use Rattle.mo_image.specs.Entry.{Entry, key_bytes, with_plural, original, translation}
 use Rattle.mo_image.specs.MoFile.{closed, pool, spelling, entry_size as size}
-use Rattle.catalogue.specs.Meaning.{message_of, is_kept}
+use Rattle.po_checks.specs.Kept.{message_of, is_kept}
 use Rattle.catalogue.specs.Drafts.{Row, row_of, rows_from, kept_entry}
 use Rattle.po_checks.specs.declared.options.Options.{Options}
 use Rattle.mo_image.proofs.MoLengths.{length-closed, closed_joined}

@@ -10,7 +10,9 @@ use Rattle.std.proofs.lemmas.Slice.Eq.{bytes_eq-Decides}
 use Rattle.po_text.specs.Entries as po
 use Rattle.mo_image.specs.Entry.{Entry, key, key_bytes, translation}
 use Rattle.mo_image.specs.Map.{entry_at, first_form, header_text, HasAcceptedCharset}
-use Rattle.catalogue.specs.Meaning.{message_of, key_of, is_empty, is_header, is_kept, kept, kept_header, header_text_of, NamesCharset, HasDistinctKeys, IsMapOf}
+use Rattle.po_checks.specs.Kept.{message_of, key_of, is_empty, is_header, is_kept, kept, kept_header, header_text_of, NamesCharset}
+use Rattle.po_checks.specs.Fails.{HasDistinctKeys}
+use Rattle.catalogue.specs.Meaning.{IsMapOf}
 use Rattle.catalogue.specs.Drafts.{Row, Kept, row, rows, row_of, rows_from, texts_of, row_text, text_found, header_text_in, is_kept_header, IsLawfulMessage}
 use Rattle.po_checks.specs.declared.options.Options.{Options}
 use Rattle.catalogue.specs.declared.drafts.Draft.{Draft}

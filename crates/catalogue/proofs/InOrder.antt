@@ -14,7 +14,8 @@ use Rattle.std.proofs.lemmas.Cmp.{nat_list_cmp_total, tied_itself}
 use Rattle.std.proofs.lemmas.List.{get_or-map, length-map, get_or-take, get_or_default, length-take-le, take-append-drop, drop_more}
 use Rattle.std.proofs.lemmas.List.Sorted.{ranks_by, sorted_far, Contains-permutation, IsPermutation-sym, sum_by-IsPermutation}
 use Rattle.po_text.specs.Entries as po
-use Rattle.catalogue.specs.Meaning.{key_of, IsDuplicateAt, HasDistinctKeys}
+use Rattle.po_checks.specs.Kept.{key_of}
+use Rattle.po_checks.specs.Fails.{IsDuplicateAt, HasDistinctKeys}
 use Rattle.catalogue.specs.Drafts.{Row, row_cmp, row_of, rows_from, IsRepeat, IsFirstRepeat}
 use Rattle.po_checks.specs.declared.options.Options.{Options}
 use Rattle.mo_image.proofs.Lists.{differs}

@@ -13,7 +13,8 @@ use Rattle.po_text.specs.Entries as po
 use Rattle.mo_image.specs.Entry.{Entry, key, IsLawfulEntry}
 use Rattle.mo_image.specs.Map.{Rises}
 use Rattle.mo_image.specs.Parts.{entry_from}
-use Rattle.catalogue.specs.Meaning.{message_of, is_kept, kept, IsMapOf}
+use Rattle.po_checks.specs.Kept.{message_of, is_kept, kept}
+use Rattle.catalogue.specs.Meaning.{IsMapOf}
 use Rattle.catalogue.specs.Drafts.{Row, Kept, row_of, kept_entry, IsRepeat}
 use Rattle.po_checks.specs.declared.options.Options.{Options}
 use Rattle.mo_image.proofs.EntryParts.{entry_again}

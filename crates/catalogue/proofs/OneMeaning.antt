@@ -14,7 +14,9 @@ use Rattle.po_text.specs.declared.fault.PoKind.TheVariants as kinds
 use Rattle.po_text.proofs.Outcomes.{gives_one, refuses_one, gives_or_refuses}
 use Rattle.mo_image.specs.Entry.{Entry, key}
 use Rattle.mo_image.specs.Map.{Rises}
-use Rattle.catalogue.specs.Meaning.{message_of, kept, stats_of, header_line_of, missing_of, IsMapOf, Fails, IsFirst, Means, Refuses}
+use Rattle.po_checks.specs.Kept.{message_of, kept, header_line_of}
+use Rattle.catalogue.specs.Meaning.{stats_of, missing_of, IsMapOf, Means, Refuses}
+use Rattle.po_checks.specs.Fails.{Fails, IsFirst}
 use Rattle.po_checks.specs.Refusal.{kind_of}
 use Rattle.po_checks.specs.declared.options.Options.{Options}
 use Rattle.catalogue.specs.declared.compiler.Stats.{Stats}

@@ -6,7 +6,7 @@ use Rattle.po_text.specs.Spelling as spelling
 use Rattle.po_text.specs.Entries as po
 use Rattle.po_text.specs.Lawful.{IsLawfulTexts, IsLawfulIf, HasNoFourIf, HasItsForms}
 use Rattle.mo_image.specs.Entry.{Lacks, IsText, IsKeyText, HasForms, IsLawfulEntry}
-use Rattle.catalogue.specs.Meaning.{message_of}
+use Rattle.po_checks.specs.Kept.{message_of}
 use Rattle.catalogue.proofs.Members.{has_head, has_tail}
 
 lacks_from : (byte : ℕ) (text : List ℕ) → ¬ Contains text byte → Lacks byte text

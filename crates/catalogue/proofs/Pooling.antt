@@ -11,7 +11,7 @@ use Rattle.std.proofs.lemmas.Option.{get_or_from_slice_get, slice_get_within}
 use Rattle.std.proofs.lemmas.Str.{IsCharBoundary-from_take, IsUtf8-drop}
 use Rattle.po_text.specs.Entries as po
 use Rattle.mo_image.specs.Entry.{IsText}
-use Rattle.catalogue.specs.Meaning.{message_of, is_kept}
+use Rattle.po_checks.specs.Kept.{message_of, is_kept}
 use Rattle.catalogue.specs.Drafts.{Row, Kept, row, rows, row_of, rows_from, texts_if_kept, IsLawfulMessage, HasCollected}
 use Rattle.catalogue.specs.Pool.{kept_bytes, bytes_if_kept, stored, kept_span, span_of, plural_size, kept_size, size_if_kept, size, kept_at, row_at, rows_at, HoldsText, HoldsPlural, HoldsKept, Holds, HoldsAll, HasPooled}
 use Rattle.po_checks.specs.declared.findings.Findings.{Findings}

@@ -18,7 +18,9 @@ use Rattle.po_text.specs.declared.fault.PoKind.TheVariants as kinds
 use Rattle.po_text.proofs.SomeOutcome.{some_outcome}
 use Rattle.mo_image.specs.Entry.{Entry, key}
 use Rattle.mo_image.specs.Map.{Rises}
-use Rattle.catalogue.specs.Meaning.{message_of, key_of, is_kept, kept, stats_of, header_line_of, missing_of, IsMapOf, HasDistinctKeys, IsDuplicateAt, Fails, rank, IsFirst, Means, Refuses}
+use Rattle.po_checks.specs.Kept.{message_of, key_of, is_kept, kept, header_line_of}
+use Rattle.catalogue.specs.Meaning.{stats_of, missing_of, IsMapOf, Means, Refuses}
+use Rattle.po_checks.specs.Fails.{HasDistinctKeys, IsDuplicateAt, Fails, rank, IsFirst}
 use Rattle.po_checks.specs.Refusal.{kind_of}
 use Rattle.po_checks.specs.declared.options.Options.{Options}
 use Rattle.catalogue.specs.declared.compiler.Compiled.{Compiled}

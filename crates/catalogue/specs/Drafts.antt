@@ -11,8 +11,8 @@ use Rattle.po_text.specs.Outcome.{Gives}
 use Rattle.mo_image.specs.Entry.{Entry, IsLawfulEntry, translation}
 use Rattle.mo_image.specs.Map.{first_form}
 use Rattle.mo_image.specs.Parts.{entry_from}
-use Rattle.catalogue.specs.Meaning.{message_of, key_of, is_header, is_untranslated, is_kept}
-use Rattle.po_checks.specs.Findings.{HasFound}
+use Rattle.po_checks.specs.Kept.{message_of, key_of, is_header, is_untranslated, is_kept}
+use Rattle.po_checks.specs.Found.{HasFound}
 use Rattle.po_checks.specs.declared.findings.Findings.{Findings}
 use Rattle.po_checks.specs.declared.options.Options.{Options}
 use Rattle.catalogue.specs.declared.drafts.Draft.{Draft}

@@ -5,7 +5,7 @@ use Rattle.std.specs.Str.{IsUtf8}
 use Rattle.po_text.specs.Entries as po
 use Rattle.po_text.specs.Outcome.{Gives}
 use Rattle.catalogue.specs.Drafts.{Kept, Row, rows_from, IsLawfulMessage}
-use Rattle.po_checks.specs.Findings.{HasFound}
+use Rattle.po_checks.specs.Found.{HasFound}
 use Rattle.po_checks.specs.declared.findings.Findings.{Findings}
 use Rattle.po_checks.specs.declared.options.Options.{Options}
 use Rattle.catalogue.specs.declared.pool.KeptSpan.{KeptSpan}

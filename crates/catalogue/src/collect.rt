@@ -3,7 +3,8 @@ ghost use Rattle.std.specs.Prelude.{◌≡◌, ◌⊎◌, ◌++◌, length, IfOk
 ghost use Rattle.po_text.specs.Lawful.{IsLawfulTexts};
 ghost use Rattle.mo_image.specs.Entry.{translation};
 ghost use Rattle.catalogue.specs.Meaning as Meaning;
-ghost use Rattle.catalogue.specs.Meaning.{message_of, Refuses};
+ghost use Rattle.po_checks.specs.Kept.{message_of};
+ghost use Rattle.catalogue.specs.Meaning.{Refuses};
 ghost use Rattle.catalogue.specs.Drafts as Drafts;
 ghost use Rattle.catalogue.specs.Drafts.{row_of, texts_if_kept};
 ghost use Rattle.catalogue.specs.Pool.{bytes_if_kept, kept_bytes, kept_span, plural_bytes, span_of, stored, HasPooled};

@@ -12,8 +12,9 @@ use Rattle.c_signature.specs.declared.Strictness.{Strictness}
 use Rattle.c_signature.specs.declared.Strictness.TheVariants.{Same, Prefix}
 use Rattle.c_signature.proofs.OneOutcome.{lists_one, lists_valid, lists_independent, one_fault}
 use Rattle.po_checks.specs.Checks.{text_if, texts, HasSystemDependentText, format_original, original_or, strictness, Differs, FormsDiffer, HasOtherArguments, IsPlural, HasOtherCount, begins_with_newline, ends_with_newline, IsMixed, HasOtherNewlines}
-use Rattle.po_checks.specs.Findings.{FirstLine, first_or, IsReadAs, is_dependent, FormatsDiffer, DiffersFrom, line_for, line_of, HasPlurals, AddsPlural, NewlinesDiffer, AreFound, HasFound, AddsFormats, AddsTexts}
-use Rattle.catalogue.specs.Meaning.{is_kept, kept}
+use Rattle.po_checks.specs.Found.{FirstLine, line_for, line_of, HasPlurals, AreFound, HasFound}
+use Rattle.po_checks.specs.Findings.{first_or, IsReadAs, is_dependent, FormatsDiffer, DiffersFrom, AddsPlural, NewlinesDiffer, AddsFormats, AddsTexts}
+use Rattle.po_checks.specs.Kept.{is_kept, kept}
 use Rattle.po_checks.specs.declared.findings.Findings.{Findings}
 use Rattle.po_checks.specs.declared.formats.Format.{Format}
 use Rattle.po_checks.specs.declared.formats.Format.TheVariants.{Arguments, Invalid, SystemDependent}

@@ -6,8 +6,9 @@ use Rattle.po_text.specs.Entries as po
 use Rattle.po_header.specs.Grammar.{Tree}
 use Rattle.po_header.specs.Rule.{Rule, Given, Absent, Broken}
 use Rattle.po_checks.specs.Checks.{NoneOf, FirstAt, IsPlural, HasSystemDependentText, HasOtherArguments, HasOtherCount, HasOtherNewlines, has_form, IsFirstWithoutForm}
-use Rattle.po_checks.specs.Findings.{FirstFault, FailsFrom, FirstLine}
-use Rattle.catalogue.specs.Meaning.{kept, header_line_of, HasHeaderRule, RuleRefuses, HeaderRefuses, Fails, rank, IsFirst}
+use Rattle.po_checks.specs.Found.{FirstFault, FailsFrom, FirstLine}
+use Rattle.po_checks.specs.Kept.{kept, header_line_of, HasHeaderRule}
+use Rattle.po_checks.specs.Fails.{RuleRefuses, HeaderRefuses, Fails, rank, IsFirst}
 use Rattle.po_checks.specs.declared.options.Options.{Options}
 use Rattle.po_checks.specs.declared.fault.LoadFault.{LoadFault}
 use Rattle.po_checks.specs.declared.fault.LoadKind.{LoadKind}

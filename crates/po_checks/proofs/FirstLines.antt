@@ -5,7 +5,8 @@ use Rattle.std.specs.List.{Any}
 use Rattle.std.proofs.lemmas.Bool.{false≢true}
 use Rattle.po_text.specs.Entries as po
 use Rattle.po_checks.specs.Checks.{NoneOf, FirstAt}
-use Rattle.po_checks.specs.Findings.{FirstLine, first_or}
+use Rattle.po_checks.specs.Found.{FirstLine}
+use Rattle.po_checks.specs.Findings.{first_or}
 
 -- ---- lists of which it holds nowhere
 

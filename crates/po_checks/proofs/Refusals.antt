@@ -4,13 +4,13 @@ use Rattle.std.specs.Prelude.{◌⊎◌, ◌==◌, Contains, IfSome, if◌then�
 use Rattle.std.proofs.lemmas.Bool.{cases_lt, false≢true}
 use Rattle.std.proofs.lemmas.List.{map-append, get_or_append_left, get_or_at}
 use Rattle.po_text.specs.Entries as po
-use Rattle.po_text.specs.Outcome.{Gives}
 use Rattle.po_header.specs.Rule.{Rule, Given, Absent, Broken}
 use Rattle.po_header.proofs.RuleLemmas.{HasRule-one}
 use Rattle.po_checks.specs.Checks.{IsPlural, HasSystemDependentText, HasOtherArguments, HasOtherCount, HasOtherNewlines, IsFirstWithoutForm}
-use Rattle.po_checks.specs.Findings.{FailsFrom}
-use Rattle.catalogue.specs.Meaning.{key_of, kept, kept_header, header_line_of, HasDistinctKeys, IsDuplicateAt, NamesCharset, IsForeignAt, HasHeaderRule, RuleRefuses, HeaderRefuses, Fails, rank, IsFirst, Refuses}
-use Rattle.catalogue.specs.Value.{HasRuleIn}
+use Rattle.po_checks.specs.Found.{FailsFrom}
+use Rattle.po_checks.specs.Kept.{key_of, kept, kept_header, header_line_of, NamesCharset, HasHeaderRule}
+use Rattle.po_checks.specs.Fails.{HasDistinctKeys, IsDuplicateAt, IsForeignAt, RuleRefuses, HeaderRefuses, Fails, rank, IsFirst}
+use Rattle.po_header.specs.Rule.{HasRuleIn}
 use Rattle.po_checks.specs.declared.options.Options.{Options}
 use Rattle.po_checks.specs.declared.fault.LoadKind.{LoadKind}
 use Rattle.po_checks.specs.declared.fault.LoadKind.TheVariants.{TooLarge, NotUtf8, BadEscape, OpenString, BadWord, BadText, BadOrder, BadIndex, Duplicate, Charset, SystemDependent, NoRule, BadRule, FormCount, PluralRange, FormatMismatch, NewlineMismatch, Memory}
@@ -153,17 +153,6 @@ first_refusal_one o es kind other line m p q = elim (cases_lt (rank kind) (rank 
 ]
 
 -- ---- refusals in their order
-
-pub as_refusal : (text : List ℕ) (o : Options) (es : List po.Entry) (kind : LoadKind) (line : ℕ) → Gives text es → IsFirst (Fails o es) kind line → Refuses text o kind line
-as_refusal text o es TooLarge line gives f = absurd f.holds
-as_refusal text o es NotUtf8 line gives f = absurd f.holds
-as_refusal text o es BadEscape line gives f = absurd f.holds
-as_refusal text o es OpenString line gives f = absurd f.holds
-as_refusal text o es BadWord line gives f = absurd f.holds
-as_refusal text o es BadText line gives f = absurd f.holds
-as_refusal text o es BadOrder line gives f = absurd f.holds
-as_refusal text o es BadIndex line gives f = absurd f.holds
-as_refusal text o es _ line gives f = (es, gives, f)
 
 fails_below_nine : (o : Options) (es : List po.Entry) (kind : LoadKind) (line : ℕ) → rank kind < 9 → Fails o es kind line → ⊥
 fails_below_nine o es Duplicate line lt f = omega (arith, lt)

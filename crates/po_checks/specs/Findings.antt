@@ -1,4 +1,4 @@
--- Private: what the checks promise one another of the kept entries that were read so far.
+-- Private: what the steps of the checks promise one another.
 use Rattle.std.specs.Prelude.{◌≡◌, ◌≢◌, ◌⊎◌, ℕ, ◌≤◌, ◌==◌, Bool, not, true, false, IsTrue, if◌then◌else◌, List, [], ◌∷◌, ◌++◌, Option, Some, None}
 use Rattle.po_text.specs.Entries as po
 use Rattle.po_header.specs.Grammar.{Tree}
@@ -7,7 +7,8 @@ use Rattle.c_signature.specs.Agreement.{Agrees}
 use Rattle.c_signature.specs.Signature as signature
 use Rattle.c_signature.specs.declared.Strictness.{Strictness}
 use Rattle.po_checks.specs.Checks.{NoneOf, FirstAt, HasSystemDependentText, HasOtherArguments, IsPlural, HasOtherCount, HasOtherNewlines, has_form, IsFirstWithoutForm, Differs, begins_with_newline, ends_with_newline}
-use Rattle.catalogue.specs.Meaning.{kept, header_line_of, header_text_of, HasHeaderRule, rank, Fails, IsFirst}
+use Rattle.po_checks.specs.Kept.{kept, header_line_of, header_text_of, HasHeaderRule}
+use Rattle.po_checks.specs.Fails.{rank, Fails, IsFirst}
 use Rattle.po_checks.specs.declared.findings.Findings.{Findings}
 use Rattle.po_checks.specs.declared.formats.Format.{Format}
 use Rattle.po_checks.specs.declared.formats.Format.TheVariants.{Arguments, Invalid, SystemDependent}
@@ -16,25 +17,12 @@ use Rattle.po_checks.specs.declared.plurals.Plurals.{Plurals}
 use Rattle.po_checks.specs.declared.options.Options.{Options}
 use Rattle.po_checks.specs.declared.fault.LoadFault.{LoadFault}
 use Rattle.po_checks.specs.declared.fault.LoadKind.{LoadKind}
-
--- ---- lines
-
--- the line of the first entry of which P holds, or there is none
-abbrev pub FirstLine : (po.Entry → Type 0) → List po.Entry → Option ℕ → Type 0
-FirstLine P entries None = NoneOf P entries
-FirstLine P entries (Some line) = FirstAt P entries line
+use Rattle.po_checks.specs.Found.{AreFound, FailsFrom, FirstFault, FirstLine, HasFound, HasPlurals, IsFault, LooksAt, line_for, line_of}
 
 -- the line that was found before, or this one
 abbrev pub first_or : Option ℕ → Bool → ℕ → Option ℕ
 first_or (Some found) fails line = Some found
 first_or None fails line = if fails then Some line else None
-
--- the first fault by this table, or none
-abbrev pub FirstFault : (LoadKind → ℕ → Type 0) → Option LoadFault → Type 0
-FirstFault Failing None = (kind : LoadKind) (line : ℕ) → ¬ Failing kind line
-FirstFault Failing (Some fault) = IsFirst Failing fault.kind fault.line
-
--- ---- formats
 
 -- how a text reads as a format
 abbrev pub IsReadAs : List ℕ → Format → Type 0
@@ -57,22 +45,6 @@ abbrev pub DiffersFrom : Format → Strictness → List ℕ → Type 0
 DiffersFrom (Arguments kinds) rule form = Differs kinds.items rule form
 DiffersFrom _ rule form = ⊥
 
--- ---- plural entries
-
--- the line of the first plural entry that has another number of forms, as it is kept
-abbrev pub line_for : Option FirstPlural → ℕ → Option ℕ
-line_for None nplurals = None
-line_for (Some first) nplurals = if first.forms == nplurals then first.other else Some first.line
-
-abbrev pub line_of : Option FirstPlural → Option ℕ
-line_of None = None
-line_of (Some first) = Some first.line
-
--- these are the plural entries among the entries
-pub record HasPlurals (entries : List po.Entry) (plurals : Plurals) : Type 0 where
-  pub first : FirstLine IsPlural entries (line_of plurals.first)
-  pub other : (nplurals : ℕ) → FirstLine (HasOtherCount nplurals) entries (line_for plurals.first nplurals)
-
 -- one more plural entry, of so many forms, stands at this line
 pub record AddsPlural (old new : Plurals) (forms line : ℕ) : Type 0 where
   pub first : line_of new.first ≡ first_or (line_of old.first) true line
@@ -83,24 +55,9 @@ abbrev pub FirstWithoutForm : ℕ → Tree → Option ℕ → Type 0
 FirstWithoutForm nplurals tree None = (n : ℕ) → n ≤ 1000 → has_form nplurals tree n ≡ true
 FirstWithoutForm nplurals tree (Some n) = IsFirstWithoutForm nplurals tree n
 
--- ---- newlines
-
 -- one begins with a newline and the other doesn't, or so at their ends
 pub record NewlinesDiffer (id text : List ℕ) : Type 0 where
   pub either : (begins_with_newline id ≢ begins_with_newline text) ⊎ (ends_with_newline id ≢ ends_with_newline text)
-
--- ---- all checks
-
--- what was found among these entries: formats at both levels, the rest at the checked level
-pub record AreFound (checked : Bool) (entries : List po.Entry) (findings : Findings) : Type 0 where
-  pub dependent : FirstLine HasSystemDependentText entries findings.system_dependent
-  pub mismatch : FirstLine HasOtherArguments entries findings.mismatch
-  pub newlines : IsTrue checked → FirstLine HasOtherNewlines entries findings.newlines
-  pub plurals : IsTrue checked → HasPlurals entries findings.plurals
-
--- among the kept ones
-abbrev pub HasFound : Options → List po.Entry → Findings → Type 0
-HasFound options entries findings = AreFound options.checked (kept options entries) findings
 
 -- what was found of one more kept entry: of its formats
 pub record AddsFormats (old new : Findings) (e : po.Entry) : Type 0 where
@@ -116,18 +73,6 @@ pub record AddsTexts (old new : Findings) (e : po.Entry) : Type 0 where
   pub dependent : new.system_dependent ≡ old.system_dependent
   pub mismatch : new.mismatch ≡ old.mismatch
 
--- the entries are refused for this, which isn't before the n-th refusal
-abbrev pub FailsFrom : ℕ → Options → List po.Entry → LoadKind → ℕ → Type 0
-FailsFrom n options entries kind line = (n ≤ rank kind) × Fails options entries kind line
-
--- one more entry was looked at
-abbrev pub LooksAt : Options → po.Entry → Findings → Findings → Type 0
-LooksAt options e old new = (entries : List po.Entry) → HasFound options entries old → HasFound options (entries ++ e ∷ []) new
-
 -- the first fault that the findings come to, by the rule of a header on this line: from the twelfth refusal on
 abbrev pub IsCheckedFault : Findings → Rule → ℕ → Option LoadFault → Type 0
 IsCheckedFault findings rule at fault = (options : Options) (entries : List po.Entry) → HasFound options entries findings → IsTrue options.checked → HasHeaderRule options entries rule → at ≡ header_line_of options entries → FirstFault (FailsFrom 12 options entries) fault
-
--- and by the text of the header: from the eleventh on
-abbrev pub IsFault : Findings → Options → Option (List ℕ) → ℕ → Option LoadFault → Type 0
-IsFault findings options header at fault = (entries : List po.Entry) → HasFound options entries findings → header ≡ header_text_of options entries → at ≡ header_line_of options entries → FirstFault (FailsFrom 11 options entries) fault

@@ -1,37 +1,33 @@
 //! The checks of a text, over its kept entries in the order in which they are read.
 ghost use Rattle.std.specs.Prelude.{◌≡◌, [], OnOk, IfOk, option_map};
 ghost use Rattle.po_header.specs.Rules.{rule_of};
-ghost use Rattle.catalogue.specs.Value.{HasRuleIn};
-ghost use Rattle.po_checks.specs.Findings.{first_or, AddsFormats, AddsTexts, HasFound, IsCheckedFault, IsFault, LooksAt};
+ghost use Rattle.po_checks.specs.Findings.{first_or, AddsFormats, AddsTexts, IsCheckedFault};
+ghost use Rattle.po_checks.specs.Found.{HasFound, IsFault, LooksAt};
 
-mod formats;
-mod newlines;
-mod plurals;
-
-use crate::collect::is_kept;
-use crate::compiler::Options;
-use crate::{LoadFault, LoadKind};
-use formats::format_faults;
-use newlines::newlines_differ;
-use plurals::Plurals;
-use po_header::{RuleRead, read_rule};
+use crate::formats::format_faults;
+use crate::kept::is_kept;
+use crate::newlines::newlines_differ;
+use crate::plurals::Plurals;
+use crate::{LoadFault, LoadKind, Options};
+use po_header::{RuleRead, rule_in};
 use po_text::EntryBuffer;
 use std::alloc::{AllocError, Global};
 
 /// What the checks found so far: for each the line of the first kept entry that fails it.
 #[derive(Clone, Copy)]
-pub(crate) struct Findings {
+pub struct Findings {
     /// A c-format text is system-dependent.
-    pub(crate) system_dependent: Option<u32>,
+    pub system_dependent: Option<u32>,
     /// A form takes other arguments than its original.
-    pub(crate) mismatch: Option<u32>,
+    pub mismatch: Option<u32>,
     /// Some texts begin or end with a newline, and some don't.
-    pub(crate) newlines: Option<u32>,
-    pub(crate) plurals: Plurals,
+    pub newlines: Option<u32>,
+    /// The plural entries.
+    pub plurals: Plurals,
 }
 
 /// The line that was found before, or else this one, where its entry fails.
-fn first_line(found: Option<u32>, fails: bool, line: u32) -> Option<u32>
+pub(crate) fn first_line(found: Option<u32>, fails: bool, line: u32) -> Option<u32>
     ensures { result ≡ first_or found fails line }
 {
     match found {
@@ -41,7 +37,7 @@ fn first_line(found: Option<u32>, fails: bool, line: u32) -> Option<u32>
 }
 
 /// A fault of this kind, where there is a line.
-fn fault_at(line: Option<u32>, kind: LoadKind) -> Option<LoadFault>
+pub(crate) fn fault_at(line: Option<u32>, kind: LoadKind) -> Option<LoadFault>
     ensures { result ≡ option_map (λ line. record { kind = kind; line = line }) line }
 {
     match line {
@@ -50,19 +46,9 @@ fn fault_at(line: Option<u32>, kind: LoadKind) -> Option<LoadFault>
     }
 }
 
-/// The rule in the header's text, where there is a header.
-fn rule_in(alloc: Global, header: Option<&str>) -> Result<RuleRead, AllocError>
-    ensures { IfOk result (λ rule. HasRuleIn (option_map (λ text. text.now) header.entry) (rule_of rule)) }
-{
-    match header {
-        Some(text) => read_rule(alloc, text),
-        None => Ok(RuleRead::Absent),
-    }
-}
-
 impl Findings {
     /// Nothing was read.
-    pub(crate) fn new() -> Findings
+    pub fn new() -> Findings
         ensures { (options : Options) → HasFound options [] result }
     {
         Findings {
@@ -93,7 +79,7 @@ impl Findings {
     }
 
     /// Looks at one more entry.
-    pub(crate) fn look_at(
+    pub fn look_at(
         &mut self,
         alloc: Global,
         entry: &EntryBuffer,
@@ -128,7 +114,7 @@ impl Findings {
     }
 
     /// The first fault that the checks found, by the header's text and line.
-    pub(crate) fn fault(
+    pub fn fault(
         &self,
         alloc: Global,
         options: Options,

@@ -6,27 +6,29 @@ ghost use Rattle.po_header.specs.Rule.{Given};
 ghost use Rattle.po_header.specs.Rules.{rule_of};
 ghost use Rattle.po_text.specs.Entries.{Entry as PoEntry};
 ghost use Rattle.po_checks.specs.Checks.{has_form};
-ghost use Rattle.po_checks.specs.Findings.{line_for, line_of, AddsPlural, FirstWithoutForm, FirstFault, HasPlurals};
-ghost use Rattle.catalogue.specs.Meaning.{RuleRefuses};
+ghost use Rattle.po_checks.specs.Found.{line_for, line_of, FirstFault, HasPlurals};
+ghost use Rattle.po_checks.specs.Findings.{AddsPlural, FirstWithoutForm};
+ghost use Rattle.po_checks.specs.Fails.{RuleRefuses};
 
-use super::{fault_at, first_line};
+use crate::findings::{fault_at, first_line};
 use crate::{LoadFault, LoadKind};
 use po_header::{PluralExpr, RuleRead};
 use po_text::EntryBuffer;
 
 /// The first plural entry: how many forms it has, and its line.
 #[derive(Clone, Copy)]
-pub(crate) struct FirstPlural {
-    pub(crate) forms: u64,
-    pub(crate) line: u32,
+pub struct FirstPlural {
+    /// How many forms it has.
+    pub forms: u64,
+    pub line: u32,
     /// The line of the first one behind it that has another number of forms.
-    pub(crate) other: Option<u32>,
+    pub other: Option<u32>,
 }
 
 /// The plural entries so far. How many forms they should have is known only when the header was read.
 #[derive(Clone, Copy)]
-pub(crate) struct Plurals {
-    pub(crate) first: Option<FirstPlural>,
+pub struct Plurals {
+    pub first: Option<FirstPlural>,
 }
 
 /// Whether n takes one of the forms.

@@ -1,8 +1,9 @@
 use Rattle.std.proofs.Common.{sym, subst}
 use Rattle.po_header.specs.Rules.{rule_of}
 use Rattle.po_checks.specs.Checks.{HasOtherArguments}
-use Rattle.po_checks.specs.Findings.{FailsFrom, FirstFault, FirstLine}
-use Rattle.catalogue.specs.Meaning.{kept, RuleRefuses}
+use Rattle.po_checks.specs.Found.{FailsFrom, FirstFault, FirstLine}
+use Rattle.po_checks.specs.Kept.{kept}
+use Rattle.po_checks.specs.Fails.{RuleRefuses}
 use Rattle.po_checks.proofs.Faults.{by_the_rule, by_arguments, by_last}
 use Rattle.po_checks.proofs.findings.Findings.checked_fault.Goals as goal
 

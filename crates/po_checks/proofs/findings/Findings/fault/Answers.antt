@@ -2,9 +2,9 @@ use Rattle.std.proofs.Common.{subst}
 use Rattle.std.proofs.lemmas.Bool.{not-true, not-false}
 use Rattle.po_header.specs.Rules.{rule_of}
 use Rattle.po_checks.specs.Checks.{HasSystemDependentText}
-use Rattle.po_checks.specs.Findings.{FirstLine}
-use Rattle.catalogue.specs.Meaning.{kept}
-use Rattle.catalogue.specs.Value.{HasRuleIn}
+use Rattle.po_checks.specs.Found.{FirstLine}
+use Rattle.po_checks.specs.Kept.{kept}
+use Rattle.po_header.specs.Rule.{HasRuleIn}
 use Rattle.po_checks.proofs.Faults.{unchecked, from_eleventh}
 use Rattle.po_checks.proofs.findings.Findings.fault.Goals as goal
 

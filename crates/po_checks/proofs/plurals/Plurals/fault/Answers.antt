@@ -1,7 +1,7 @@
 use Rattle.std.proofs.Common.{sym, ◌∙◌, subst}
 use Rattle.po_checks.specs.Checks.{IsPlural}
-use Rattle.po_checks.specs.Findings.{FirstFault, FirstLine}
-use Rattle.catalogue.specs.Meaning.{RuleRefuses}
+use Rattle.po_checks.specs.Found.{FirstFault, FirstLine}
+use Rattle.po_checks.specs.Fails.{RuleRefuses}
 use Rattle.po_header.specs.Rule.{Absent}
 use Rattle.po_checks.proofs.Faults.{by_absence, bad_rule}
 use Rattle.po_checks.proofs.plurals.Plurals.fault.Goals as goal

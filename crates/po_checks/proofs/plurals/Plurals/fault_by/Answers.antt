@@ -1,7 +1,7 @@
 use Rattle.std.proofs.Common.{sym, ◌∙◌, subst}
 use Rattle.po_header.specs.Expr.{tree_of}
 use Rattle.po_checks.specs.Checks.{HasOtherCount}
-use Rattle.po_checks.specs.Findings.{FirstLine}
+use Rattle.po_checks.specs.Found.{FirstLine}
 use Rattle.po_checks.proofs.Faults.{plural_range, rule_passes}
 use Rattle.po_checks.proofs.plurals.Plurals.fault_by.Goals as goal
 

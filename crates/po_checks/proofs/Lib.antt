@@ -1,0 +1,4 @@
+pub mod FirstLines
+pub mod Refusals
+pub mod Checking
+pub mod Faults

@@ -1,0 +1,82 @@
+-- What the entries of a PO text are refused for, each with its line, and in which order (manual, "msgfmt Invocation").
+use Rattle.std.specs.Prelude.{◌≡◌, ◌≢◌, ℕ, ◌<◌, AllPairs, IsTrue, List, ◌∷◌, ◌++◌, map, Contains, Some}
+use Rattle.std.specs.List.{Any}
+use Rattle.po_text.specs.Entries as po
+use Rattle.po_header.specs.Rule.{Rule, Given, Absent, Broken}
+use Rattle.po_checks.specs.Checks.{FirstAt, HasSystemDependentText, HasOtherArguments, IsPlural, HasOtherCount, IsFirstWithoutForm, HasOtherNewlines}
+use Rattle.po_checks.specs.Kept.{key_of, kept, kept_header, header_line_of, HasHeaderRule, NamesCharset}
+use Rattle.po_checks.specs.declared.options.Options.{Options}
+use Rattle.po_checks.specs.declared.fault.LoadKind.{LoadKind}
+use Rattle.po_checks.specs.declared.fault.LoadKind.TheVariants.{TooLarge, NotUtf8, BadEscape, OpenString, BadWord, BadText, BadOrder, BadIndex, Duplicate, Charset, SystemDependent, NoRule, BadRule, FormCount, PluralRange, FormatMismatch, NewlineMismatch, Memory}
+
+-- all keys are different
+abbrev pub HasDistinctKeys : List po.Entry → Type 0
+HasDistinctKeys entries = AllPairs (λ k l. k ≢ l) (map key_of entries)
+
+-- the first entry that has the key of an earlier one stands at this line, kept or not
+pub record IsDuplicateAt (entries : List po.Entry) (line : ℕ) : Type 0 where
+  pub before : List po.Entry
+  pub e : po.Entry
+  pub after : List po.Entry
+  pub split : entries ≡ before ++ e ∷ after
+  pub distinct_before : HasDistinctKeys before
+  pub again : Contains (map key_of before) (key_of e)
+  pub line_is : line ≡ e.line
+
+-- the kept header, which stands at this line, names a charset that isn't accepted
+pub record IsForeignAt (options : Options) (entries : List po.Entry) (line : ℕ) : Type 0 where
+  pub header : po.Entry
+  pub is : kept_header options entries ≡ Some header
+  pub foreign : ¬ NamesCharset header
+  pub line_is : line ≡ header.line
+
+-- the kept entries aren't what the rule for plural forms says, or the rule isn't one; `at` is the header's line
+abbrev pub RuleRefuses : Rule → List po.Entry → ℕ → LoadKind → ℕ → Type 0
+RuleRefuses Absent entries at NoRule line = FirstAt IsPlural entries line
+RuleRefuses Broken entries at BadRule line = Any IsPlural entries × (line ≡ at)
+RuleRefuses (Given nplurals tree) entries at FormCount line = FirstAt (HasOtherCount nplurals) entries line
+RuleRefuses (Given nplurals tree) entries at (PluralRange n) line = IsFirstWithoutForm nplurals tree n × (line ≡ at)
+RuleRefuses _ entries at _ line = ⊥
+
+-- the rule in the kept header refuses them
+abbrev pub HeaderRefuses : Options → List po.Entry → LoadKind → ℕ → Type 0
+HeaderRefuses options entries kind line = (rule : Rule) × HasHeaderRule options entries rule × RuleRefuses rule (kept options entries) (header_line_of options entries) kind line
+
+-- the entries are refused for this at this line: from `NoRule` on at the checked level alone
+abbrev pub Fails : Options → List po.Entry → LoadKind → ℕ → Type 0
+Fails options entries Duplicate line = IsDuplicateAt entries line
+Fails options entries Charset line = IsForeignAt options entries line
+Fails options entries SystemDependent line = FirstAt HasSystemDependentText (kept options entries) line
+Fails options entries NoRule line = IsTrue options.checked × HeaderRefuses options entries NoRule line
+Fails options entries BadRule line = IsTrue options.checked × HeaderRefuses options entries BadRule line
+Fails options entries FormCount line = IsTrue options.checked × HeaderRefuses options entries FormCount line
+Fails options entries (PluralRange n) line = IsTrue options.checked × HeaderRefuses options entries (PluralRange n) line
+Fails options entries FormatMismatch line = IsTrue options.checked × FirstAt HasOtherArguments (kept options entries) line
+Fails options entries NewlineMismatch line = IsTrue options.checked × FirstAt HasOtherNewlines (kept options entries) line
+Fails options entries _ line = ⊥
+
+-- the order of the refusals
+abbrev pub rank : LoadKind → ℕ
+rank TooLarge = 1
+rank NotUtf8 = 2
+rank BadEscape = 3
+rank OpenString = 4
+rank BadWord = 5
+rank BadText = 6
+rank BadOrder = 7
+rank BadIndex = 8
+rank Duplicate = 9
+rank Charset = 10
+rank SystemDependent = 11
+rank NoRule = 12
+rank BadRule = 13
+rank FormCount = 14
+rank (PluralRange n) = 15
+rank FormatMismatch = 16
+rank NewlineMismatch = 17
+rank Memory = 18
+
+-- this is the first of them, in their order
+pub record IsFirst (Failing : LoadKind → ℕ → Type 0) (kind : LoadKind) (line : ℕ) : Type 0 where
+  pub holds : Failing kind line
+  pub first : (other : LoadKind) (at : ℕ) → rank other < rank kind → ¬ Failing other at

@@ -1,0 +1,66 @@
+-- What the checks found among the kept entries that were read so far, and the first fault that it comes to.
+use Rattle.std.specs.Prelude.{◌≡◌, ◌≢◌, ◌⊎◌, ℕ, ◌≤◌, ◌==◌, Bool, not, true, false, IsTrue, if◌then◌else◌, List, [], ◌∷◌, ◌++◌, Option, Some, None}
+use Rattle.po_text.specs.Entries as po
+use Rattle.po_header.specs.Grammar.{Tree}
+use Rattle.po_header.specs.Rule.{Rule}
+use Rattle.c_signature.specs.Agreement.{Agrees}
+use Rattle.c_signature.specs.Signature as signature
+use Rattle.c_signature.specs.declared.Strictness.{Strictness}
+use Rattle.po_checks.specs.Checks.{NoneOf, FirstAt, HasSystemDependentText, HasOtherArguments, IsPlural, HasOtherCount, HasOtherNewlines, has_form, IsFirstWithoutForm, Differs, begins_with_newline, ends_with_newline}
+use Rattle.po_checks.specs.Kept.{kept, header_line_of, header_text_of, HasHeaderRule}
+use Rattle.po_checks.specs.Fails.{rank, Fails, IsFirst}
+use Rattle.po_checks.specs.declared.findings.Findings.{Findings}
+use Rattle.po_checks.specs.declared.formats.Format.{Format}
+use Rattle.po_checks.specs.declared.formats.Format.TheVariants.{Arguments, Invalid, SystemDependent}
+use Rattle.po_checks.specs.declared.plurals.FirstPlural.{FirstPlural}
+use Rattle.po_checks.specs.declared.plurals.Plurals.{Plurals}
+use Rattle.po_checks.specs.declared.options.Options.{Options}
+use Rattle.po_checks.specs.declared.fault.LoadFault.{LoadFault}
+use Rattle.po_checks.specs.declared.fault.LoadKind.{LoadKind}
+
+-- the line of the first entry of which P holds, or there is none
+abbrev pub FirstLine : (po.Entry → Type 0) → List po.Entry → Option ℕ → Type 0
+FirstLine P entries None = NoneOf P entries
+FirstLine P entries (Some line) = FirstAt P entries line
+
+-- the first fault by this table, or none
+abbrev pub FirstFault : (LoadKind → ℕ → Type 0) → Option LoadFault → Type 0
+FirstFault Failing None = (kind : LoadKind) (line : ℕ) → ¬ Failing kind line
+FirstFault Failing (Some fault) = IsFirst Failing fault.kind fault.line
+
+-- the line of the first plural entry that has another number of forms, as it is kept
+abbrev pub line_for : Option FirstPlural → ℕ → Option ℕ
+line_for None nplurals = None
+line_for (Some first) nplurals = if first.forms == nplurals then first.other else Some first.line
+
+abbrev pub line_of : Option FirstPlural → Option ℕ
+line_of None = None
+line_of (Some first) = Some first.line
+
+-- these are the plural entries among the entries
+pub record HasPlurals (entries : List po.Entry) (plurals : Plurals) : Type 0 where
+  pub first : FirstLine IsPlural entries (line_of plurals.first)
+  pub other : (nplurals : ℕ) → FirstLine (HasOtherCount nplurals) entries (line_for plurals.first nplurals)
+
+-- what was found among these entries: formats at both levels, the rest at the checked level
+pub record AreFound (checked : Bool) (entries : List po.Entry) (findings : Findings) : Type 0 where
+  pub dependent : FirstLine HasSystemDependentText entries findings.system_dependent
+  pub mismatch : FirstLine HasOtherArguments entries findings.mismatch
+  pub newlines : IsTrue checked → FirstLine HasOtherNewlines entries findings.newlines
+  pub plurals : IsTrue checked → HasPlurals entries findings.plurals
+
+-- among the kept ones
+abbrev pub HasFound : Options → List po.Entry → Findings → Type 0
+HasFound options entries findings = AreFound options.checked (kept options entries) findings
+
+-- the entries are refused for this, which isn't before the n-th refusal
+abbrev pub FailsFrom : ℕ → Options → List po.Entry → LoadKind → ℕ → Type 0
+FailsFrom n options entries kind line = (n ≤ rank kind) × Fails options entries kind line
+
+-- one more entry was looked at
+abbrev pub LooksAt : Options → po.Entry → Findings → Findings → Type 0
+LooksAt options e old new = (entries : List po.Entry) → HasFound options entries old → HasFound options (entries ++ e ∷ []) new
+
+-- and by the text of the header: from the eleventh on
+abbrev pub IsFault : Findings → Options → Option (List ℕ) → ℕ → Option LoadFault → Type 0
+IsFault findings options header at fault = (entries : List po.Entry) → HasFound options entries findings → header ≡ header_text_of options entries → at ≡ header_line_of options entries → FirstFault (FailsFrom 11 options entries) fault

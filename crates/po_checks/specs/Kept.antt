@@ -1,0 +1,63 @@
+-- Which entries of a PO text go into its catalogue, and the header among them (manual, "msgfmt Invocation").
+use Rattle.std.specs.Prelude.{ℕ, ◌&&◌, ◌||◌, not, is_none, Bool, true, false, List, [], ◌∷◌, Option, option_map}
+use Rattle.std.specs.List.{filter, find}
+use Rattle.std.specs.Option.{option_map_or}
+use Rattle.po_text.specs.Entries as po
+use Rattle.po_header.specs.Rule.{Rule, HasRuleIn}
+use Rattle.mo_image.specs.Entry.{Entry, key}
+use Rattle.mo_image.specs.Map.{first_form, HasAcceptedCharset}
+use Rattle.po_checks.specs.declared.options.Options.{Options}
+
+-- ---- one entry of the text
+
+abbrev pub message_of : po.Entry → Entry
+message_of e = record { context = e.context; id = e.id; plural = e.plural; forms = e.forms }
+
+abbrev pub key_of : po.Entry → List ℕ
+key_of e = key (message_of e)
+
+abbrev pub is_empty : {X : Type 0} → List X → Bool
+is_empty [] = true
+is_empty (x ∷ xs) = false
+
+-- the header: no context and the empty msgid (manual, "Header Entry")
+abbrev pub is_header : po.Entry → Bool
+is_header e = is_none e.context && is_empty e.id
+
+abbrev pub has_empty_form : List (List ℕ) → Bool
+has_empty_form [] = true
+has_empty_form (form ∷ forms) = is_empty form
+
+-- an untranslated entry: its first form is empty
+abbrev pub is_untranslated : po.Entry → Bool
+is_untranslated e = has_empty_form e.forms
+
+-- what goes into the catalogue: no untranslated entry, and no fuzzy one but the header, unless it is asked for
+abbrev pub is_kept : Options → po.Entry → Bool
+is_kept options e = not (is_untranslated e) && (not e.fuzzy || (options.use_fuzzy || is_header e))
+
+-- ---- all entries of the text
+
+-- the entries that are kept, in the order of the text
+abbrev pub kept : Options → List po.Entry → List po.Entry
+kept options entries = filter (is_kept options) entries
+
+-- the header, where it is kept
+abbrev pub kept_header : Options → List po.Entry → Option po.Entry
+kept_header options entries = find is_header (kept options entries)
+
+-- the line of the kept header, or 0 where there is none
+abbrev pub header_line_of : Options → List po.Entry → ℕ
+header_line_of options entries = option_map_or (λ e. e.line) (kept_header options entries) 0
+
+-- the entry's first form names no charset, or one that is accepted
+abbrev pub NamesCharset : po.Entry → Type 0
+NamesCharset e = HasAcceptedCharset (first_form e.forms)
+
+-- the text of the kept header: its first form
+abbrev pub header_text_of : Options → List po.Entry → Option (List ℕ)
+header_text_of options entries = option_map (λ e. first_form e.forms) (kept_header options entries)
+
+-- the rule for plural forms in it
+abbrev pub HasHeaderRule : Options → List po.Entry → Rule → Type 0
+HasHeaderRule options entries rule = HasRuleIn (header_text_of options entries) rule
