@@ -9,13 +9,11 @@ ghost use Rattle.mo_image.specs.MoFile.{spelling};
 ghost use Rattle.catalogue.specs.Messages.{message_entry, messages_of};
 ghost use Rattle.catalogue.specs.Accepted as Accepted;
 
-use crate::keys::cmp_keys;
 use crate::sizes::file_len;
 use crate::{Catalogue, Message};
-use po_header::{charset_accepted, charset_of};
-
-/// How many bytes a catalogue's MO file may have.
-const MAX_LEN: usize = 268_435_456;
+use entry_search::cmp_keys;
+use mo_image::MAX_LEN;
+use po_header::has_accepted_charset;
 
 fn lacks(text: &str, byte: u8) -> bool
     ensures { IsTrue result ↔ Lacks byte text.now }
@@ -111,7 +109,13 @@ fn are_lawful(messages: &[Message]) -> bool
 fn is_below(first: &Message, second: &Message) -> bool
     ensures { result ≡ Accepted.is_below first.now second.now }
 {
-    cmp_keys(first, second).is_lt()
+    cmp_keys(
+        first.context(),
+        first.id.as_str(),
+        second.context(),
+        second.id.as_str(),
+    )
+    .is_lt()
 }
 
 /// Whether each key is above the one before.
@@ -141,16 +145,6 @@ fn first_form(forms: &[String]) -> &str
     match forms.first() {
         Some(form) => form.as_str(),
         None => "",
-    }
-}
-
-/// Whether a header's text names no charset, or one that is accepted.
-fn has_accepted_charset(text: &str) -> bool
-    ensures { IsTrue result ↔ HasAcceptedCharset text.now }
-{
-    match charset_of(text) {
-        Some(name) => charset_accepted(name),
-        None => true,
     }
 }
 

@@ -10,37 +10,14 @@ ghost use Rattle.catalogue.specs.Drafts.{row_of, texts_if_kept};
 ghost use Rattle.catalogue.specs.Pool.{bytes_if_kept, kept_bytes, kept_span, plural_bytes, span_of, stored, HasPooled};
 ghost use Rattle.po_checks.specs.declared.fault.LoadKind.TheVariants.{Memory};
 
-use crate::LoadFault;
-use crate::checks::Findings;
-use crate::compiler::Options;
 use crate::drafts::Standing;
-use crate::joins::{push_form, push_key};
 use crate::pool::{KeptSpan, Span};
+use mo_image::{push_form, push_key};
+use po_checks::{Findings, LoadFault, Options, is_header, is_kept, is_untranslated};
 use po_text::{EntryBuffer, open_text};
 use std::alloc::{AllocError, Global};
 
-/// The header has no context and the empty msgid.
-fn is_header(entry: &EntryBuffer) -> bool
-    ensures { result ≡ Meaning.is_header entry.now }
-{
-    entry.context().is_none() && entry.id().is_empty()
-}
-
-/// An untranslated entry has an empty first form.
-fn is_untranslated(entry: &EntryBuffer) -> bool
-    ensures is { result ≡ Meaning.is_untranslated entry.now }
-    ensures lawful { IsLawfulTexts entry.now }
-{
-    entry.form_count() == 0 || entry.form(0).is_empty()
-}
-
-pub(crate) fn is_kept(entry: &EntryBuffer, options: Options) -> bool
-    ensures is { result ≡ Meaning.is_kept options entry.now }
-    ensures lawful { IsLawfulTexts entry.now }
-{
-    !is_untranslated(entry) && (!entry.is_fuzzy() || options.use_fuzzy || is_header(entry))
-}
-
+/// How an entry counts in the statistics.
 fn standing_of(entry: &EntryBuffer) -> Standing
     ensures { result ≡ Drafts.standing_of entry.now }
 {

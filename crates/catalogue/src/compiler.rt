@@ -6,21 +6,15 @@ ghost use Rattle.mo_image.specs.Map.{HasAcceptedCharset};
 ghost use Rattle.catalogue.specs.Meaning.{lacking, none_missing, Means, Refuses};
 ghost use Rattle.po_checks.specs.declared.fault.LoadKind.TheVariants.{Memory};
 
+use crate::Catalogue;
 use crate::collect::{Collected, collect};
-use crate::drafts::{Draft, Standing, count, first_repeat, header_line, header_text, keep, sort};
+use crate::drafts::{
+    Draft, KeptDrafts, Standing, count, first_repeat, header_line, header_text, keep, sort,
+};
 use crate::pool::lend;
-use crate::{Catalogue, LoadFault, LoadKind};
-use po_header::{charset_accepted, charset_of, missing_fields};
+use po_checks::{LoadFault, LoadKind, Options};
+use po_header::{has_accepted_charset, missing_fields};
 use std::alloc::Global;
-
-/// How a text is compiled.
-#[derive(Clone, Copy, Debug, PartialEq, Eq)]
-pub struct Options {
-    /// The checked level (`msgfmt -c`).
-    pub checked: bool,
-    /// Fuzzy entries are kept too (`msgfmt -f`).
-    pub use_fuzzy: bool,
-}
 
 /// Counts of the entries of a text other than its header, kept or not.
 #[derive(Clone, Copy, Debug, PartialEq, Eq)]
@@ -59,14 +53,11 @@ fn stats_of(drafts: &[Draft<'_>]) -> Stats
 }
 
 /// Whether the header's text, if there is one, names no charset, or one that is accepted.
-fn has_accepted_charset(header: Option<&str>) -> bool
+fn is_accepted(header: Option<&str>) -> bool
     ensures { IsTrue result ↔ IfSome header.entry (λ text. HasAcceptedCharset text.now) }
 {
     match header {
-        Some(text) => match charset_of(text) {
-            Some(name) => charset_accepted(name),
-            None => true,
-        },
+        Some(text) => has_accepted_charset(text),
         None => true,
     }
 }
@@ -109,7 +100,7 @@ pub fn compile(alloc: Global, text: &[u8], options: Options) -> Result<Compiled,
     let stats = stats_of(&drafts);
     let header_line = header_line(&drafts);
     let header = header_text(&drafts);
-    let is_accepted = has_accepted_charset(header);
+    let is_accepted = is_accepted(header);
     let missing = missing_in(header, options);
     let failed = findings.fault(alloc, options, header, header_line)?;
     sort(&mut drafts);
@@ -129,7 +120,7 @@ pub fn compile(alloc: Global, text: &[u8], options: Options) -> Result<Compiled,
         return Err(fault);
     }
     keep(&mut drafts);
-    let catalogue = Catalogue::from_list(alloc, &drafts)?;
+    let catalogue = Catalogue::from_list(alloc, &KeptDrafts { drafts })?;
     Ok(Compiled {
         catalogue,
         stats,

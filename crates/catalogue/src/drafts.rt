@@ -6,9 +6,7 @@ ghost use Rattle.std.specs.List.Sorted.{IsPermutation, IsSortedBy};
 ghost use Rattle.catalogue.specs.Drafts.{comes_before, drafts_entries, header_text_in, kept_entry, row, row_cmp, row_if, row_text, rows, FirstRepeat};
 ghost use Rattle.catalogue.specs.Drafts as Drafts;
 
-use crate::entry::split_form;
-use crate::messages::EntryStrings;
-use crate::writer::EntryList;
+use mo_image::{EntryList, EntryStrings, split_form};
 use std::cmp::Ordering;
 use text_key::TextKey;
 
@@ -160,17 +158,23 @@ pub(crate) fn keep(drafts: &mut Vec<Draft<'_>>)
     drafts.retain(|draft| draft.texts.is_some());
 }
 
-impl<'a> EntryList for Vec<Draft<'a>> {
+/// The drafts that are kept, as the list of entries that a catalogue is made of.
+#[derive(Drop)]
+pub(crate) struct KeptDrafts<'a> {
+    pub(crate) drafts: Vec<Draft<'a>>,
+}
+
+impl<'a> EntryList for KeptDrafts<'a> {
     ghost use Rattle.catalogue.specs.Drafts.{drafts_entries};
 
-    ghost entries = { λ drafts. drafts_entries drafts.items };
+    ghost entries = { λ kept. drafts_entries kept.drafts.items };
 
     fn count(&self) -> usize {
-        self.len()
+        self.drafts.len()
     }
 
     fn strings_at(&self, i: usize) -> EntryStrings<'_> {
-        let draft = &self[i];
+        let draft = &self.drafts[i];
         match &draft.texts {
             Some(texts) => EntryStrings::new(draft.key.as_str(), texts.plural, texts.translation),
             None => EntryStrings::new(draft.key.as_str(), None, ""),

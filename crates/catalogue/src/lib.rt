@@ -5,35 +5,21 @@
 #![tactic(auto)]
 
 mod accepts;
-mod checks;
 mod collect;
 mod compiler;
-mod cut;
 mod drafts;
-mod entry;
-mod extent;
-mod fault;
-mod find;
-mod image;
-mod index;
-mod index_rows;
-mod joins;
-mod keys;
 mod law;
 mod lookup;
 mod map;
-mod messages;
 mod pool;
 mod sizes;
 mod sorted;
-mod step_count;
-mod writer;
 
-pub use compiler::{Compiled, Options, Stats, compile};
-pub use entry::{EntryRef, Forms};
-pub use fault::{LoadFault, LoadKind};
+pub use compiler::{Compiled, Stats, compile};
+pub use entry_search::Steps;
 pub use law::one_meaning;
+pub use lookup::untranslated;
 pub use map::Catalogue;
-pub use messages::EntryStrings;
+pub use mo_image::{EntryRef, EntryStrings, Forms};
+pub use po_checks::{LoadFault, LoadKind, Options};
 pub use sorted::Message;
-pub use step_count::Steps;

@@ -5,7 +5,8 @@ ghost use Rattle.mo_image.specs.Map.{entry_at};
 ghost use Rattle.catalogue.specs.Value.{IsCounted, IsFirstForm, IsFormFor, text_by};
 ghost use Rattle.po_header.specs.Rules.{rule_of};
 
-use crate::{Catalogue, EntryRef};
+use crate::Catalogue;
+use mo_image::EntryRef;
 use po_header::RuleRead;
 
 /// The form that a number takes by this rule; the first one, where the entry has no such form.
@@ -20,8 +21,9 @@ fn form_for<'a>(entry: &EntryRef<'a>, rule: &RuleRead, n: u64) -> &'a str
     }
 }
 
-/// The text that stands in place of a form where no entry is found.
-fn untranslated<'a>(id: &'a str, plural: &'a str, n: u64) -> &'a str
+/// The text that stands in place of a form where there is no translation: the msgid for 1, and the plural for other
+/// numbers (manual, "Additional functions for plural forms").
+pub fn untranslated<'a>(id: &'a str, plural: &'a str, n: u64) -> &'a str
     ensures { result.now ≡ text_by n id.now plural.now }
 {
     if n == 1 { id } else { plural }

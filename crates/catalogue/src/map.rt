@@ -7,11 +7,8 @@ ghost use Rattle.mo_image.specs.MoFile.{spelling};
 ghost use Rattle.entry_search.specs.Search.{AtMostDigits};
 ghost use Rattle.catalogue.specs.Value.{HasMapRule};
 
-use crate::image::Image;
-use crate::index::Index;
-use crate::index_rows::index_of;
-use crate::writer::EntryList;
-use crate::{EntryRef, EntryStrings, Steps};
+use entry_search::{Entries, Steps};
+use mo_image::{EntryList, EntryRef, EntryStrings, Image};
 use po_header::{RuleRead, read_rule};
 use std::alloc::{AllocError, Global};
 use std::marker::Model;
@@ -23,9 +20,7 @@ use std::sync::ledger::Ledger;
 #[derive(Drop)]
 pub struct Catalogue {
     /// The entries, in rising order of the keys' bytes.
-    image: Image,
-    /// Where look-ups find them, once `index` was called.
-    index: Option<Index>,
+    entries: Entries,
     /// The rule in the header's text.
     rule: RuleRead,
 }
@@ -37,20 +32,18 @@ impl Model for Catalogue {
     ghost Value = { List Entry };
 
     ghost use Rattle.po_header.specs.Rules.{rule_of};
-    ghost use Rattle.std.specs.Prelude.{IfSome};
-    ghost use Rattle.entry_search.specs.Index.{IsIndex};
     ghost use Rattle.catalogue.specs.Value.{HasMapRule};
 
-    ghost view = { λ c. c.image };
+    ghost view = { λ c. c.entries };
 
-    ghost invariant = { λ c. HasMapRule c.image (rule_of c.rule) × IfSome c.index (λ index. IsIndex c.image index) };
+    ghost invariant = { λ c. HasMapRule c.entries (rule_of c.rule) };
 }
 
 /// The rule for plural forms of these entries.
-fn rule_in(alloc: Global, image: &Image) -> Result<RuleRead, AllocError>
-    ensures { IfOk result (λ rule. HasMapRule image.now (rule_of rule)) }
+fn rule_of_header(alloc: Global, entries: &Entries) -> Result<RuleRead, AllocError>
+    ensures { IfOk result (λ rule. HasMapRule entries.now (rule_of rule)) }
 {
-    match image.find(None, None, "") {
+    match entries.find(None, "") {
         Some(header) => read_rule(alloc, header.form(0)),
         None => Ok(RuleRead::Absent),
     }
@@ -89,12 +82,9 @@ impl Catalogue {
     fn from_image(alloc: Global, image: Image) -> Result<Catalogue, AllocError>
         ensures { IfOk result (λ catalogue. catalogue ≡ image) }
     {
-        let rule = rule_in(alloc, &image)?;
-        Ok(Catalogue {
-            image,
-            index: None,
-            rule,
-        })
+        let entries = Entries::new(image);
+        let rule = rule_of_header(alloc, &entries)?;
+        Ok(Catalogue { entries, rule })
     }
 
     /// Makes look-ups quick by an index of the keys' hashes, for a catalogue that is asked often: one
@@ -105,8 +95,7 @@ impl Catalogue {
     pub fn index(&mut self, alloc: Global) -> Result<(), AllocError>
         ensures { self.new ≡ self.old }
     {
-        self.index = index_of(alloc, &self.image)?;
-        Ok(())
+        self.entries.index(alloc)
     }
 
     /// How many entries the catalogue has.
@@ -116,14 +105,14 @@ impl Catalogue {
         // Every catalogue stands for a lawful map.
         ensures lawful { IsLawful self.now }
     {
-        self.image.len()
+        self.entries.image().len()
     }
 
     /// Whether the catalogue has no entry.
     pub fn is_empty(&self) -> bool
         ensures { IsTrue result ↔ (length self.now ≡ 0) }
     {
-        self.image.is_empty()
+        self.entries.image().is_empty()
     }
 
     /// The i-th entry, in rising order of the keys' bytes.
@@ -131,7 +120,7 @@ impl Catalogue {
         requires { i < length self.now }
         ensures { slice_get self.now i ≡ Some result }
     {
-        self.image.entry(i)
+        self.entries.image().entry(i)
     }
 
     /// The entry of this msgid in this context, or in none; None exactly where there is no such entry.
@@ -139,7 +128,7 @@ impl Catalogue {
     pub fn find(&self, context: Option<&str>, id: &str) -> Option<EntryRef<'_>>
         ensures { result ≡ entry_at self.now (key_bytes (option_map (λ s. s.now) context.entry) id.now) }
     {
-        self.image.find(self.index.as_ref(), context, id)
+        self.entries.find(context, id)
     }
 
     /// The same as `find`, which also adds its steps to a count: a step is one comparison of the key that
@@ -154,8 +143,7 @@ impl Catalogue {
         ensures found { result ≡ entry_at self.now (key_bytes (option_map (λ s. s.now) context.entry) id.now) }
         ensures cost { AtMostDigits (length self.now) steps.old steps.new }
     {
-        self.image
-            .find_counted(self.index.as_ref(), context, id, steps)
+        self.entries.find_counted(context, id, steps)
     }
 
     /// The one MO file of the catalogue: revision 0, words low byte first, no hash table and no padding
@@ -166,7 +154,7 @@ impl Catalogue {
         // Every catalogue stands for a lawful map.
         ensures lawful { IsLawful self.now }
     {
-        self.image.file()
+        self.entries.image().file()
     }
 
     /// The rule for plural forms in the header's text.

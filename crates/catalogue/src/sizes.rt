@@ -1,17 +1,15 @@
 //! How many bytes the MO file of messages has. Numbers stop at 2^64 - 1.
 ghost use Rattle.std.specs.Prelude.{◌≡◌, ◌+◌, length, map, max, string_bytes};
 ghost use Rattle.mo_image.specs.Entry.{key, original};
-ghost use Rattle.mo_image.specs.MoFile.{pool, spelling};
+ghost use Rattle.mo_image.specs.MoFile.{pool, spelling, entry_size};
 ghost use Rattle.catalogue.specs.Messages.{message_entry, messages_of};
-ghost use Rattle.catalogue.specs.Sizes.{capped, entry_size};
+ghost use Rattle.catalogue.specs.Sizes.{capped};
 
 use crate::Message;
-
-/// How many bytes the header has.
-const HEADER_LEN: usize = 28;
+use mo_image::{HEADER_LEN, ROW_LEN};
 
 /// How many bytes the two rows of an entry have, in the tables of originals and of translations.
-const ROWS_LEN: usize = 16;
+const ROWS_LEN: usize = 2 * ROW_LEN;
 
 /// How many bytes the key has.
 fn key_len(message: &Message) -> usize

@@ -6,8 +6,7 @@ ghost use Rattle.mo_image.specs.Parts.{entry_from};
 ghost use Rattle.mo_image.specs.Stored.{stored_entry};
 
 use crate::Catalogue;
-use crate::joins::{joined_key, push_form};
-use crate::messages::OwnedStrings;
+use mo_image::{OwnedStrings, joined_key, push_form};
 use std::alloc::{AllocError, Global};
 
 /// A message, with texts of its own.
@@ -35,7 +34,7 @@ fn translation_of(alloc: Global, forms: &[String]) -> Result<String, AllocError>
 impl Message {
     ghost use Rattle.catalogue.specs.Messages.{message_entry};
 
-    fn context(&self) -> Option<&str>
+    pub(crate) fn context(&self) -> Option<&str>
         ensures { option_map (λ s. s.now) result ≡ option_map (λ s. string_bytes s) self.now.context }
     {
         match &self.context {

@@ -1,8 +1,8 @@
 use Rattle.std.proofs.Common.{◌≡◌, ◌+◌, length, max, sym, ap, ◌∙◌, arith}
 use Rattle.mo_image.specs.Entry.{original}
-use Rattle.mo_image.specs.MoFile.{pool}
+use Rattle.mo_image.specs.MoFile.{pool, entry_size}
 use Rattle.catalogue.specs.Messages.{message_entry}
-use Rattle.catalogue.specs.Sizes.{capped, entry_size}
+use Rattle.catalogue.specs.Sizes.{capped}
 use Rattle.mo_image.proofs.MoLengths.{length-closed}
 use Rattle.catalogue.proofs.Accepting.{translation_size, sums_capped}
 use Rattle.catalogue.proofs.sizes.message_len.Goals as goal
