@@ -145,7 +145,12 @@ fn is_same<L: Ledger>(original: &str, asked: &Asked<'_>, count: &mut Steps<L>) -
 }
 
 /// How the i-th key compares with the one asked for, which is one step.
-fn compare_at<L: Ledger>(image: &Image, i: usize, asked: &Asked<'_>, steps: &mut Steps<L>) -> Ordering
+fn compare_at<L: Ledger>(
+    image: &Image,
+    i: usize,
+    asked: &Asked<'_>,
+    steps: &mut Steps<L>,
+) -> Ordering
     requires { i < length image.now }
     ensures order { IfSome (slice_get image.now i) (λ e. result ≡ slice_cmp nat_cmp (key e) asked.now) }
     ensures step { steps.new ≡ steps.old + 1 }

@@ -16,11 +16,7 @@ pub fn push_key(text: &mut String, context: Option<&str>, id: &str) -> Result<()
 }
 
 /// The bytes of a key.
-pub fn joined_key(
-    alloc: Global,
-    context: Option<&str>,
-    id: &str,
-) -> Result<String, AllocError>
+pub fn joined_key(alloc: Global, context: Option<&str>, id: &str) -> Result<String, AllocError>
     ensures { IfOk result (λ key. string_bytes key ≡ key_bytes (option_map (λ c. c.now) context.entry) id.now) }
 {
     let mut key = String::new(alloc);

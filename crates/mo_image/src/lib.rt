@@ -18,8 +18,8 @@ pub use extent::{EntryExtents, Extent};
 pub use image::Image;
 pub use joins::{joined_key, push_form, push_key};
 pub use layout::{
-    COUNT_AT, HASH_SIZE_AT, HASH_TABLE_AT, HEADER_LEN, MAGIC, MAX_LEN, ORIGINALS_AT, REVISION_AT, ROW_LEN,
-    TRANSLATIONS_AT,
+    COUNT_AT, HASH_SIZE_AT, HASH_TABLE_AT, HEADER_LEN, MAGIC, MAX_LEN, ORIGINALS_AT, REVISION_AT,
+    ROW_LEN, TRANSLATIONS_AT,
 };
 pub use messages::{EntryStrings, OwnedStrings};
 pub use writer::EntryList;
