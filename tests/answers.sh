@@ -1,7 +1,8 @@
 #!/usr/bin/env bash
-# Refuses each request for memory of the program crates/answers in turn, which prints what expressions, plural rules
-# and C formats are read as. Each line must be the one that crates/answers/stdout has, or say that memory was refused: a
-# refused request is never taken for a malformed expression, a broken rule or an invalid format.
+# Runs the program crates/answers over its list data/cases, whose answers were worked out by hand, and then refuses
+# each of its requests for memory in turn while it reads the short list data/few. It prints each case whose answer
+# isn't the one of the list: none, but those that say that memory was refused. A refused request is never taken for a
+# malformed expression, a broken rule, an invalid format or a fault of a text.
 . "$(dirname "$0")/common"
 
 program=${ANSWERS:-crates/answers/out/answers}
@@ -10,14 +11,11 @@ if [ ! -x "$program" ]; then
   exit 0
 fi
 
-# worked out by hand from the rules of C: a text, and the values at 0, 1 and 5; the forms of 0, 1 and 7; the arguments
-cp crates/answers/stdout "$room/own"
-
-"$program" > "$room/got"
-if cmp -s "$room/got" "$room/own"; then
-  ok "answers: $(wc -l < "$room/own") lines as worked out"
+"$program" crates/answers/data/cases > "$room/got"
+if cmp -s "$room/got" crates/answers/stdout; then
+  ok "answers: $(grep -cvE '^(#|$)' crates/answers/data/cases) cases as worked out"
 else
-  failed answers "$(diff "$room/own" "$room/got" | head -n 3 | tr '\n' ' ')"
+  failed answers "$(diff crates/answers/stdout "$room/got" | head -n 3 | tr '\n' ' ')"
 fi
 
 if ! tests/needs gcc gcc libc6-dev || ! gcc -shared -fPIC -O2 -o "$room/refuse_nth.so" tests/refuse_nth.c 2> "$room/gcc"; then
@@ -25,22 +23,29 @@ if ! tests/needs gcc gcc libc6-dev || ! gcc -shared -fPIC -O2 -o "$room/refuse_n
   exit 0
 fi
 
+# each line is that of a case for which memory was refused, or counts the cases of a kind that are as written; where
+# a request for the list itself or for printing was refused, the lines end early
+told='^line [0-9]+, .*: out of memory$'
+counted='^(expression|rule|format|po): [0-9]+ of [0-9]+ as written$'
 n=0 spoke=0 wrong=
 while :; do
   rm -f "$room/refused"
-  REFUSE_NTH=$((n + 1)) REFUSED=$room/refused LD_PRELOAD=$room/refuse_nth.so "$program" > "$room/got" 2> /dev/null
+  REFUSE_NTH=$((n + 1)) REFUSED=$room/refused LD_PRELOAD=$room/refuse_nth.so \
+    "$program" crates/answers/data/few > "$room/got" 2> /dev/null
   [ -e "$room/refused" ] || break
   n=$((n + 1))
-  if grep -q ': out of memory$' "$room/got"; then spoke=$((spoke + 1)); fi
-  # each line is one of those of the file, but the one that says so; where a request for printing was refused, the
-  # lines end early
-  wrong=$(grep -v ': out of memory$' "$room/got" | grep -vxFf "$room/own" | head -n 1)
+  if grep -qE "$told" "$room/got"; then spoke=$((spoke + 1)); fi
+  wrong=$(grep -vE "$told|$counted" "$room/got" | head -n 1)
   [ -z "$wrong" ] || break
 done
+# the last run was refused nothing: each case of the list has the answer that is written
+strays=$(awk '$2 != $4' "$room/got" | head -n 1)
 if [ -n "$wrong" ]; then
   failed 'answers, refused' "request $n refused: '$wrong'"
+elif [ -n "$strays" ]; then
+  failed 'answers, refused' "with no request refused: '$strays'"
 elif [ "$spoke" = 0 ]; then
   failed 'answers, refused' "of $n requests none was told as want of memory"
 else
-  ok "answers, refused: $n requests in turn, $spoke of them told as want of memory, the others without effect on a line"
+  ok "answers, refused: $n requests in turn, $spoke of them told as want of memory, the others without effect on an answer"
 fi

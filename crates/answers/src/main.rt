@@ -1,94 +1,71 @@
-//! Prints what expressions, plural rules and C formats are read as, one line for each text. The tests
-//! refuse each of its requests for memory in turn: a line then says so, or is the same as ever.
+//! Reads a file of cases and prints each one whose answer isn't the one that its line gives, and at the end how
+//! many of each kind are as written. `data/cases` says how a case is written.
 #![tactic(auto)]
 
-use c_signature::signature;
-use po_header::{RuleRead, parse_expr, read_rule};
-use std::io;
+mod answer;
+mod case;
+mod entries;
 
-const EXPRESSIONS: [&str; 7] = [
-    "n==",
-    "18446744073709551615",
-    "18446744073709551616",
-    "n!=1;x",
-    "1 ? 2 : 0 ? 3 : 4",
-    "n && 1/n",
-    "n || 1/n",
-];
+use answer::answer;
+use case::{Case, CaseFault, spelled};
+use std::alloc::Global;
+use std::collections::BTreeMap;
+use std::{env, fs, io};
 
-const RULES: [&str; 6] = [
-    "nplurals=2 plural=n>1",
-    "nplurals=2; plural=n>1 ? 0 : 1",
-    "nplurals=3; plural=n==1 ? 0 : n%10>=2 && n%10<=4 && (n%100<10 || n%100>=20) ? 1 : 2;",
-    "Plural-Forms: nplurals=2;",
-    "nplurals=;plural=n",
-    "nplurals=18446744073709551616; plural=0",
-];
+/// How many cases of a kind there are, and how many of them are as written.
+#[derive(Clone, Copy, Debug)]
+struct Tally {
+    cases: u32,
+    as_written: u32,
+}
 
-const FORMATS: [&str; 7] = [
-    "%d of %s",
-    "%2$s / %1$d",
-    "%5.2f %-*d %%",
-    "%1$d %3$d",
-    "%1$d %1$s",
-    "%<PRId64>",
-    "100%",
-];
-
-/// Prints an expression's values at 0, 1 and 5.
-fn print_expression<R: Print + AllocGlobal>(rt: &R, text: &str) -> io::Result<()> {
-    match parse_expr(rt.alloc(), text) {
-        Ok(expr) => {
-            let (zero, one, five) = (expr.eval(0), expr.eval(1), expr.eval(5));
-            println!(rt; "{text}: {zero:?} {one:?} {five:?}")
-        }
-        Err(fault) => println!(rt; "{text}: {fault}"),
+/// What is wrong with the answer of a case, if anything.
+fn failure(alloc: Global, case: Case) -> Result<Option<String>, CaseFault> {
+    let wanted = spelled(alloc, case.wanted)?;
+    let answer = answer(alloc, case.kind, case.question)?;
+    if answer.as_str() == wanted.as_str() {
+        Ok(None)
+    } else {
+        Ok(Some(answer))
     }
 }
 
-/// The word for a rule.
-fn word_of(rule: &RuleRead) -> &'static str {
-    match rule {
-        RuleRead::Given { .. } => "given",
-        RuleRead::Absent => "absent",
-        RuleRead::Broken => "broken",
+/// Whether a case's answer is as written. Prints it where it isn't.
+fn is_as_written<R: Print + AllocGlobal>(rt: &R, line: usize, case: Case) -> io::Result<bool> {
+    let Case { kind, question, .. } = case;
+    match failure(rt.alloc(), case) {
+        Ok(None) => return Ok(true),
+        Ok(Some(answer)) => println!(rt; "line {line}, {kind} {question}: {answer}")?,
+        Err(fault) => println!(rt; "line {line}, {kind} {question}: {fault}")?,
     }
+    Ok(false)
 }
 
-/// Prints the forms that 0, 1 and 7 take by a rule.
-fn print_rule<R: Print + AllocGlobal>(rt: &R, text: &str) -> io::Result<()> {
-    match read_rule(rt.alloc(), text) {
-        Ok(rule) => {
-            let word = word_of(&rule);
-            let (zero, one, seven) = (rule.form_index(0), rule.form_index(1), rule.form_index(7));
-            println!(rt; "{text}: {word} {zero} {one} {seven}")
-        }
-        Err(_) => println!(rt; "{text}: out of memory"),
+/// Asks each case of a file's text.
+fn ask_all<R: Print + AllocGlobal>(rt: &R, text: &str) -> io::Result<()> {
+    let mut tallies: BTreeMap<&str, Tally> = BTreeMap::new(rt.alloc());
+    for (index, line) in text.lines().enumerate() {
+        let Some(case) = Case::on_line(line) else {
+            continue
+        };
+        let as_written = is_as_written(rt, index.saturating_add(1), case)?;
+        let tally = tallies.entry(case.kind)?.or_insert(Tally {
+            cases: 0,
+            as_written: 0,
+        });
+        tally.cases = tally.cases.saturating_add(1);
+        tally.as_written = tally.as_written.saturating_add(u32::from(as_written));
     }
-}
-
-/// Prints the arguments that a format takes.
-fn print_format<R: Print + AllocGlobal>(rt: &R, text: &str) -> io::Result<()> {
-    match signature(rt.alloc(), text) {
-        Ok(kinds) => {
-            for kind in kinds.iter() {
-                println!(rt; "{text}: {kind:?}")?;
-            }
-            Ok(())
-        }
-        Err(fault) => println!(rt; "{text}: {fault}"),
+    for (kind, Tally { cases, as_written }) in tallies.iter() {
+        println!(rt; "{kind}: {as_written} of {cases} as written")?;
     }
+    Ok(())
 }
 
 fn main(rt: HostRuntime) -> io::Result<()> {
-    for text in EXPRESSIONS {
-        print_expression(&rt, text)?;
-    }
-    for text in RULES {
-        print_rule(&rt, text)?;
-    }
-    for text in FORMATS {
-        print_format(&rt, text)?;
-    }
-    Ok(())
+    let Some(path) = env::args(&rt)?.nth(1) else {
+        return eprintln!(&rt; "usage: answers FILE")
+    };
+    let text = fs::read_to_string(&rt, path.as_str())?;
+    ask_all(&rt, text.as_str())
 }
