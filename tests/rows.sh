@@ -4,11 +4,17 @@
 # that are faulty.
 . "$(dirname "$0")/common"
 
-# run WORD..: runs the program on $room/in
+# run WORD..: runs the program on $room/in, of which it leaves $left bytes unread
 run() {
-  "$program" "$@" < "$room/in" > "$room/out" 2> "$room/err"
-  status=$?
+  {
+    "$program" "$@" > "$room/out" 2> "$room/err"
+    status=$?
+    left=$(($(cat | wc -c)))
+  } < "$room/in"
 }
+
+# whole: how many bytes $room/in has
+whole() { echo "$(($(wc -c < "$room/in")))"; }
 
 # judge NAME STATUS ERR: compares the last run's status, and what it said on its error output with the line ERR (or
 # nothing, where ERR is empty). False where one differs. Its standard output is the caller's to look at.
@@ -23,19 +29,28 @@ judge() {
   return 1
 }
 
-# writes NAME HEX WORD..: these words, on $room/in, write the bytes HEX (white space in it counts for nothing), say
-# nothing, and end with 0
-writes() {
-  local name=$1 wanted=${2//[[:space:]]/} wrote
-  shift 2
+# tells NAME ERR HEX WORD..: these words read all of $room/in, write the bytes HEX (white space in it counts for
+# nothing), say ERR, and end with 0
+tells() {
+  local name=$1 error=$2 wanted=${3//[[:space:]]/} wrote
+  shift 3
   run "$@"
-  judge "$name" 0 "" || return
+  judge "$name" 0 "$error" || return
   wrote=$(head -c 4096 "$room/out" | hex)
-  if [ "$wrote" = "$wanted" ]; then
-    ok "$name"
-  else
+  if [ "$wrote" != "$wanted" ]; then
     failed "$name" "it wrote $(($(wc -c < "$room/out"))) bytes: ${wrote:0:400}"
+  elif [ "$left" != 0 ]; then
+    failed "$name" "it left $left bytes unread"
+  else
+    ok "$name"
   fi
+}
+
+# writes NAME HEX WORD..: the same, and they say nothing
+writes() {
+  local name=$1 bytes=$2
+  shift 2
+  tells "$name" '' "$bytes" "$@"
 }
 
 # fails NAME ERR WORD..: these words, on $room/in, write nothing, say ERR, and end with 1
@@ -65,6 +80,8 @@ hi=$'msgid "hi"\nmsgstr "salut"\n'
 hi_file='de120495 00000000 01000000 1c000000 24000000 00000000 2c000000
   02000000 2c000000  05000000 2f000000  686900 73616c757400'
 no_entries='de120495 00000000 00000000 1c000000 1c000000 00000000 1c000000'
+fuzzy_hi=$'#, fuzzy\n'$hi
+twice=$'msgid "a"\nmsgstr "x"\n#, fuzzy\nmsgid "a"\nmsgstr "y"\n'
 x_file='de120495 00000000 01000000 1c000000 24000000 00000000 2c000000
   01000000 2c000000  01000000 2e000000  6100 7800'
 
@@ -82,6 +99,12 @@ compiles 'a plural entry with a context' \
   $'msgctxt "k"\nmsgid "a"\nmsgid_plural "b"\nmsgstr[0] "x"\nmsgstr[01] ""\nmsgstr[2] "z"\n' \
   'de120495 00000000 01000000 1c000000 24000000 00000000 2c000000
    05000000 2c000000  04000000 32000000  6b0461006200 7800007a00'
+compiles 'a plural entry of two forms, 60 bytes' \
+  $'msgid "cat"\nmsgid_plural "cats"\nmsgstr[0] "u"\nmsgstr[1] "vwxy"\n' \
+  'de120495 00000000 01000000 1c000000 24000000 00000000 2c000000
+   08000000 2c000000  06000000 35000000  636174006361747300 75007677787900'
+compiles 'a fuzzy entry alone, 28 bytes' "$fuzzy_hi" "$no_entries"
+writes 'the same, fuzzy entries too' "$hi_file" -f -o - -
 compiles 'every escape' $'msgid "a"\nmsgstr "\\n\\t\\b\\r\\f\\v\\a\\\\\\"\\1\\12\\1234\\303\\251"\n' \
   'de120495 00000000 01000000 1c000000 24000000 00000000 2c000000
    01000000 2c000000  0f000000 2e000000  6100 0a09080d0c0b075c22010a5334c3a900'
@@ -107,6 +130,7 @@ refuses 'a string that the text ends' 'msgid "a' '-:1: string not closed'
 refuses 'a string that its line ends' $'msgid "a"\nmsgstr "b\n' '-:2: string not closed'
 refuses 'a backslash that its line ends' $'msgid "a\\\n"' '-:1: string not closed'
 refuses 'a domain line' $'domain "x"\n' '-:1: unknown word'
+refuses 'a domain line, on line 2' $'\ndomain "x"\n' '-:2: unknown word'
 refuses 'a keyword in capitals' $'msgid "a"\nMSGSTR "b"\n' '-:2: unknown word'
 refuses 'a stray byte' $'msgid "a"\nmsgstr "b"\n@\n' '-:3: unknown word'
 refuses 'a number of ten digits' $'msgid "a"\nmsgid_plural "b"\nmsgstr[0000000000] "x"\n' '-:3: unknown word'
@@ -127,11 +151,15 @@ refuses 'two msgstr' $'msgid "a"\nmsgstr "b"\nmsgstr "c"\n' '-:3: out of order'
 refuses 'an index left out' $'msgid "a"\nmsgid_plural "b"\nmsgstr[0] "x"\nmsgstr[2] "y"\n' '-:4: wrong plural index'
 refuses 'an index that begins at 1' $'msgid "a"\nmsgid_plural "b"\nmsgstr[1] "x"\n' '-:3: wrong plural index'
 refuses 'a fault of words comes before one of grammar' $'msgstr "a"\nmsgid "\\q"\n' '-:2: bad escape'
-refuses 'a fuzzy duplicate' $'msgid "a"\nmsgstr "x"\n#, fuzzy\nmsgid "a"\nmsgstr "y"\n' '-:4: duplicate message'
+refuses 'a fuzzy duplicate' "$twice" '-:4: duplicate message'
+fails 'a fuzzy duplicate, fuzzy entries too' '-:4: duplicate message' -f -o - -
 refuses 'a duplicate of an untranslated entry' $'msgid "a"\nmsgstr ""\nmsgid "a"\nmsgstr "y"\n' '-:3: duplicate message'
 refuses 'the first of two duplicates, at its msgctxt' \
   $'msgid "b"\nmsgstr "x"\nmsgctxt "k"\nmsgid "a"\nmsgstr "x"\nmsgctxt "k"\nmsgid "a"\nmsgstr "x"\nmsgid "b"\nmsgstr "x"\n' \
   '-:6: duplicate message'
+
+refuses 'a charset that is not accepted' \
+  $'msgid ""\nmsgstr "Content-Type: text/plain; charset=ISO-8859-2\\n"\n' '-:1: unsupported charset'
 
 # --- the limit of 64 MiB ----------------------------------------------------------------------------------------
 
@@ -193,28 +221,72 @@ fi
 
 # --- command lines ----------------------------------------------------------------------------------------------
 
+# refuses_words ERR LINE: the words of LINE are refused with ERR, and nothing is read
+refuses_words() {
+  local list
+  read -r -a list <<< "$2"
+  run "${list[@]}"
+  judge "msgfmt $2" 1 "$1" || return
+  if [ -s "$room/out" ]; then
+    failed "msgfmt $2" "it wrote $(($(wc -c < "$room/out"))) bytes"
+  elif [ "$left" != "$(whole)" ]; then
+    failed "msgfmt $2" 'it read its standard input'
+  else
+    ok "msgfmt $2"
+  fi
+}
+
 cd "$room" || exit 1
-fails 'no words' 'msgfmt: no input file given'
-fails 'no INPUT' 'msgfmt: no input file given' -o -
-fails 'two INPUTs' 'msgfmt: bad command line' -o - - -
-fails 'an unknown option' 'msgfmt: bad command line' --bogus -o - -
-fails 'an unknown letter' 'msgfmt: bad command line' -Z -o - -
-fails 'an option cut short' 'msgfmt: bad command line' --stat -o - -
-fails '-o twice' 'msgfmt: bad command line' -o - -o - -
-fails '-c twice' 'msgfmt: bad command line' -c -c -o - -
-fails '-o without a name' 'msgfmt: bad command line' - -o
+there=$(ls -A)
+for words in '' '-o -' '-cf --statistics' '-o out.mo --'; do
+  refuses_words 'msgfmt: no input file given' "$words"
+done
+for words in '-o - - -' 'in.po in.po' '- - -h' '-- in.po -c' '--bogus -o - -' '-Z -o - -' '-V' '--stat in.po' \
+  '--stat -o - -' '--out=- -' '--check=yes in.po' '-o - -o - -' '-c -c -o - -' '-f -f -o - -' '-c --check in.po' \
+  '--no-hash --no-hash in.po' '- -o' 'in.po -o' '-o -- in.po' '--bogus --help' '--bogus -h'; do
+  refuses_words 'msgfmt: bad command line' "$words"
+done
 fails 'a word that is not UTF-8' 'msgfmt: bad command line' -o - $'\xff'
-fails 'an unknown option before help' 'msgfmt: bad command line' --bogus --help
-for words in '--output-file=- -' '--output-file - -' '-o- -' '- -o -' '-o - -- -' '-vo - -' '- --no-hash -f --verbose -o -'; do
+for words in '-o - -' '--output-file=- -' '--output-file - -' '-o- -' '- -o -' '-f - -o -' '-fo - -' \
+  '--use-fuzzy -o - -' '-o - -- -' '-vo - -' '- --no-hash -f --verbose -o -'; do
   read -r -a list <<< "$words"
   writes "msgfmt $words" "$hi_file" "${list[@]}"
 done
-for word in -h --help; do
-  run "$word"
-  judge "msgfmt $word" 0 "" || continue
-  if grep -q -e '--output-file' out; then ok "msgfmt $word"; else failed "msgfmt $word" 'its text does not name --output-file'; fi
+cat > help << 'END'
+Compiles a PO file to an MO file.
+
+Usage: msgfmt [OPTIONS] [INPUT]
+
+Arguments:
+  [INPUT]  PO file to read, or - for standard input
+
+Options:
+  -c, --check               Check header, plural forms, C formats and newlines
+  -f, --use-fuzzy           Keep fuzzy entries
+      --statistics          Print how many messages are translated, fuzzy, untranslated
+  -v, --verbose             Accepted, and changes nothing
+      --no-hash             Accepted, and changes nothing
+  -o, --output-file <FILE>  MO file to write, or - for standard output [messages.mo]
+  -h, --help                Print help
+
+Examples:
+  msgfmt -c --statistics -o fr.mo fr.po
+  msgfmt -o - - < fr.po > fr.mo
+END
+for words in -h --help '-o - -h' '-cfh in.po --bogus'; do
+  read -r -a list <<< "$words"
+  run "${list[@]}"
+  judge "msgfmt $words" 0 '' || continue
+  if ! cmp -s out help; then
+    failed "msgfmt $words" "it wrote '$(head -c 300 out)'"
+  elif [ "$left" != "$(whole)" ]; then
+    failed "msgfmt $words" 'it read its standard input'
+  else
+    ok "msgfmt $words"
+  fi
 done
-if [ -e messages.mo ]; then failed 'no file is made by these' "$(ls)"; else ok 'no file is made by these'; fi
+rm help
+if [ "$(ls -A)" = "$there" ]; then ok 'no file is made by these'; else failed 'no file is made by these' "$(ls -A)"; fi
 
 # --- files ------------------------------------------------------------------------------------------------------
 
@@ -224,23 +296,41 @@ in_folder() {
   mkdir "$room/folder"
   cd "$room/folder" || exit 1
   printf '%s' "$text" > in.po
+  printf '%s' "$text" > "$room/in"
 }
 
-# makes NAME STATUS ERR FILE HEX WORD..: in a new folder these words end with STATUS, say ERR, write nothing to standard
-# output, and leave the file FILE with the bytes HEX and no other file (FILE empty: no file at all)
+# makes NAME STATUS ERR FILE HEX WORD..: in a new folder, with $text at standard input too, these words end with STATUS,
+# say ERR, read standard input only where the last of them is `-`, write nothing to standard output, and leave the file
+# FILE with the bytes HEX and no other file (FILE empty: no file at all)
 makes() {
-  local name=$1 wanted=$2 error=$3 file=$4 bytes=${5//[[:space:]]/}
+  local name=$1 wanted=$2 error=$3 file=$4 bytes=${5//[[:space:]]/} unread
   shift 5
   in_folder
-  "$program" "$@" < /dev/null > "$room/out" 2> "$room/err"
-  status=$?
+  run "$@"
   judge "$name" "$wanted" "$error" || return
+  if [ "${!#}" = - ]; then unread=0; else unread=$(whole); fi
   if [ -s "$room/out" ]; then
     failed "$name" "it wrote $(($(wc -c < "$room/out"))) bytes to standard output"
+  elif [ "$left" != "$unread" ]; then
+    failed "$name" "it left $left bytes of standard input unread, and not $unread"
   elif [ "$(ls -A)" != "$(printf '%s\n' in.po ${file:+"$file"} | sort)" ]; then
     failed "$name" "there are these files: $(ls -A | tr '\n' ' ')"
   elif [ -n "$file" ] && [ "$(head -c 4096 "$file" | hex)" != "$bytes" ]; then
     failed "$name" "$file has the bytes $(head -c 400 "$file" | hex)"
+  else
+    ok "$name"
+  fi
+}
+
+# accepts NAME ERR WORD..: in a new folder these words end with 0, say ERR, and make the file out.mo alone
+accepts() {
+  local name=$1 error=$2
+  shift 2
+  in_folder
+  run "$@"
+  judge "$name" 0 "$error" || return
+  if [ -s "$room/out" ] || [ "$(ls -A | tr '\n' ' ')" != 'in.po out.mo ' ]; then
+    failed "$name" "$(($(wc -c < "$room/out"))) bytes at standard output, and there are these files: $(ls -A | tr '\n' ' ')"
   else
     ok "$name"
   fi
@@ -252,18 +342,51 @@ makes 'no FILE' 0 '' messages.mo "$hi_file" in.po
 makes '-oFILE' 0 '' out.mo "$hi_file" -oout.mo in.po
 makes '--output-file FILE' 0 '' out.mo "$hi_file" --output-file out.mo in.po
 makes '--output-file=FILE' 0 '' out.mo "$hi_file" --output-file=out.mo in.po
+makes '-o=FILE' 0 '' out.mo "$hi_file" -o=out.mo in.po
+makes 'FILE after INPUT' 0 '' out.mo "$hi_file" in.po -o out.mo
 makes 'options after INPUT' 0 '' out.mo "$hi_file" in.po -o out.mo -v --no-hash
+makes 'options on both sides of FILE' 0 '' out.mo "$hi_file" in.po --no-hash -fo out.mo --verbose
+makes 'standard input into a file' 0 '' out.mo "$hi_file" -o out.mo -
+makes 'standard input, and no FILE' 0 '' messages.mo "$hi_file" -v -
+name='a file into standard output'
+in_folder
+run -o - in.po
+if judge "$name" 0 ''; then
+  if [ "$(hex < "$room/out")" != "${hi_file//[[:space:]]/}" ]; then
+    failed "$name" "it wrote $(head -c 400 "$room/out" | hex)"
+  elif [ "$left" != "$(whole)" ] || [ "$(ls -A)" != in.po ]; then
+    failed "$name" "it left $left bytes of standard input, and there are these files: $(ls -A | tr '\n' ' ')"
+  else
+    ok "$name"
+  fi
+fi
 makes '--' 0 '' out.mo "$hi_file" -o out.mo -- in.po
 makes 'statistics' 0 '1 translated message.' out.mo "$hi_file" --statistics -o out.mo in.po
 makes 'an INPUT that is not there' 1 'msgfmt: cannot read none.po' '' '' -o out.mo none.po
+makes 'an INPUT that is not there, to standard output' 1 'msgfmt: cannot read none.po' '' '' -o - none.po
 makes 'an INPUT that is a folder' 1 'msgfmt: cannot read .' '' '' -o out.mo .
 makes 'a FILE in a folder that is not there' 1 'msgfmt: cannot write none/out.mo' '' '' -o none/out.mo in.po
+makes 'the same, with statistics' 1 'msgfmt: cannot write none/out.mo' '' '' --statistics -o none/out.mo in.po
 makes 'a FILE that is a folder' 1 'msgfmt: cannot write .' '' '' -o . in.po
 makes 'an empty FILE' 1 'msgfmt: cannot write ' '' '' -o '' in.po
 makes 'two INPUT files' 1 'msgfmt: bad command line' '' '' -o out.mo in.po in.po
 makes 'a FILE and no INPUT' 1 'msgfmt: no input file given' '' '' -o out.mo
+name='messages.mo is a folder'
+in_folder
+mkdir messages.mo
+run in.po
+judge "$name" 1 'msgfmt: cannot write messages.mo' && ok "$name"
 text=
 makes 'the empty text, with statistics' 0 '0 translated messages.' out.mo "$no_entries" --statistics -o out.mo in.po
+tells 'statistics of standard input' '0 translated messages.' "$no_entries" --statistics -o - -
+text=$'msgid "a"\nmsgstr ""\n'
+makes 'an untranslated entry is counted' 0 '0 translated messages, 1 untranslated message.' out.mo "$no_entries" \
+  --statistics -o out.mo in.po
+text=$'msgid "a"\nmsgstr ""\n#, fuzzy\nmsgid "b"\nmsgstr ""\nmsgid "c"\nmsgstr "1"\n'
+text+=$'#, fuzzy\nmsgid "d"\nmsgstr "2"\n#, fuzzy\nmsgid "e"\nmsgstr "3"\n'
+makes 'entries of every kind are counted' 0 '1 translated message, 2 fuzzy translations, 2 untranslated messages.' out.mo \
+  'de120495 00000000 01000000 1c000000 24000000 00000000 2c000000
+   01000000 2c000000  01000000 2e000000  6300 3100' --statistics -o out.mo in.po
 text=$'#, fuzzy\n#~ msgid "old"\n#~ msgstr "vieux"\nmsgid "new"\nmsgstr "neuf"\n'
 makes 'an obsolete entry counts for nothing' 0 '1 translated message.' out.mo \
   'de120495 00000000 01000000 1c000000 24000000 00000000 2c000000
@@ -276,8 +399,9 @@ makes 'the same, fuzzy entries too' 0 '0 translated messages, 1 fuzzy translatio
   'de120495 00000000 02000000 1c000000 2c000000 00000000 3c000000
    00000000 3c000000 01000000 3d000000  0d000000 3f000000 01000000 4d000000
    00 6100 4c616e67756167653a2066720a00 6200' -f --statistics -o out.mo in.po
-text=$'msgid "a"\nmsgstr "x"\n#, fuzzy\nmsgid "a"\nmsgstr "y"\n'
+text=$twice
 makes 'a duplicate in a file' 1 'in.po:4: duplicate message' '' '' -o out.mo in.po
+makes 'a duplicate in a file, to standard output' 1 'in.po:4: duplicate message' '' '' -o - in.po
 makes 'a duplicate in a file, fuzzy entries too' 1 'in.po:4: duplicate message' '' '' -f --statistics -o out.mo in.po
 text=$hi
 
@@ -303,19 +427,41 @@ in_folder
 "$program" -c -o out.mo in.po < /dev/null > "$room/out" 2> /dev/full
 status=$?
 if [ "$status" = 1 ] && [ "$(ls -A)" = in.po ]; then ok "$name"; else failed "$name" "status $status, files $(ls -A | tr '\n' ' ')"; fi
+text=$hi
+name='statistics that cannot be written, behind the file'
+in_folder
+"$program" --statistics -o out.mo in.po < /dev/null > "$room/out" 2> /dev/full
+status=$?
+if [ "$status" = 1 ] && [ "$(hex < out.mo)" = "${hi_file//[[:space:]]/}" ]; then
+  ok "$name"
+else
+  failed "$name" "status $status, files $(ls -A | tr '\n' ' ')"
+fi
 text=${polish%'msgstr[2] "plikow"'*}
 makes 'a form is missing' 1 'in.po:4: wrong number of plural forms' '' '' -c -o out.mo in.po
+accepts 'a form is missing, unchecked' '' -o out.mo in.po
 cats=$'msgid "cat"\nmsgid_plural "cats"\nmsgstr[0] "chat"\n'
 text=$cats
 makes 'a plural without a rule' 1 'in.po:1: plural message without a rule' '' '' -c -o out.mo in.po
+accepts 'a plural without a rule, unchecked' '' -o out.mo in.po
 text=$'msgid ""\nmsgstr "Plural-Forms: nplurals=2; plural=x;\\n"\n'$cats
 makes 'a rule that cannot be read' 1 'in.po:1: unreadable plural rule' '' '' -c -o out.mo in.po
+accepts 'a rule that cannot be read, unchecked' '' -o out.mo in.po
 text=$'msgid ""\nmsgstr "Plural-Forms: nplurals=2; plural=n-1;\\n"\nmsgid "x"\nmsgid_plural "y"\nmsgstr[0] "u"\nmsgstr[1] "v"\n'
 makes 'a rule that fails' 1 'in.po:1: plural rule fails at 0' '' '' -c -o out.mo in.po
+accepts 'a rule that fails, unchecked' '' -o out.mo in.po
+text=$'msgid ""\nmsgstr "Plural-Forms: nplurals=1; plural=n==1000;\\n"\n'
+makes 'a rule that fails at the last number' 1 'in.po:1: plural rule fails at 1000' '' '' -c -o out.mo in.po
 text=$'msgid ""\nmsgstr "Plural-Forms: nplurals=6; plural=5/n;\\n"\nmsgid "x"\nmsgid_plural "y"\nmsgstr[0] "0"\nmsgstr[1] "1"\nmsgstr[2] "2"\nmsgstr[3] "3"\nmsgstr[4] "4"\nmsgstr[5] "5"\n'
 makes 'a rule that divides by zero' 1 'in.po:1: plural rule fails at 0' '' '' -c -o out.mo in.po
+accepts 'a rule that divides by zero, unchecked' '' -o out.mo in.po
 text=$'#, c-format\nmsgid "%d of %s"\nmsgstr "%u of %s"\n'
 makes 'another argument' 1 'in.po:2: format arguments differ' '' '' -c -o out.mo in.po
+text=$'#, c-format\nmsgid "%d of %s"\nmsgstr "%2$s / %1$d"\n'
+accepts 'the same arguments by their numbers' '' -c -o out.mo in.po
+text=$'msgid ""\nmsgstr "Plural-Forms: nplurals=2; plural=n!=1;\\n"\n'
+text+=$'#, c-format\nmsgid "one file"\nmsgid_plural "%d files"\nmsgstr[0] "one file"\nmsgstr[1] "%d files"\n'
+accepts 'a form that takes fewer arguments' "${warnings%$'\n'}" -c -o out.mo in.po
 text=$'#, c-format\nmsgid "%<PRId64>"\nmsgstr "%<PRId64>"\n'
 makes 'a macro in a format' 1 'in.po:2: system-dependent format' '' '' -c -o out.mo in.po
 makes 'a macro in a format, unchecked' 1 'in.po:2: system-dependent format' '' '' -o out.mo in.po

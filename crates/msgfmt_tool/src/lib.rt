@@ -16,9 +16,3 @@ pub use steps::MOST_INPUT;
 
 #[cfg(test)]
 mod tests;
-#[cfg(test)]
-mod tests_checked;
-#[cfg(test)]
-mod tests_compiled;
-#[cfg(test)]
-mod tests_files;

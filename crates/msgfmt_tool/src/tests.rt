@@ -1,10 +1,8 @@
-//! Runs over devices that are made to fail, and the texts of the error output.
+//! Runs over devices that fail in mid-stream: at each read, at each write, on the error output.
 
 ghost use Rattle.std.specs.Prelude.{◌≡◌, IfOk, Some, map, string_bytes};
 
-use crate::texts::KindText;
 use crate::{Cause, Status, run};
-use catalogue::LoadKind;
 use devices::{FileFault, Files, Reading, Writing};
 use std::alloc::{AllocError, Global};
 use std::io;
@@ -55,7 +53,7 @@ impl Write for FailingWriter {
 
 /// The file `in.po`, and a log of what was written. Reads, or writes, fail where that is asked for.
 #[derive(Drop)]
-pub(crate) struct OneFile {
+struct OneFile {
     bytes: Vec<u8>,
     log: Vec<(String, Vec<u8>)>,
     can_read: bool,
@@ -106,16 +104,16 @@ impl Files for OneFile {
 
 /// How many calls of each stream succeed, and whether files can be read and written.
 #[derive(Clone, Copy)]
-pub(crate) struct Good {
-    pub(crate) reads: usize,
-    pub(crate) writes: usize,
-    pub(crate) error_writes: usize,
-    pub(crate) file_reads: bool,
-    pub(crate) file_writes: bool,
+struct Good {
+    reads: usize,
+    writes: usize,
+    error_writes: usize,
+    file_reads: bool,
+    file_writes: bool,
 }
 
 /// Devices that don't fail.
-pub(crate) const ALL_GOOD: Good = Good {
+const ALL_GOOD: Good = Good {
     reads: usize::MAX,
     writes: usize::MAX,
     error_writes: usize::MAX,
@@ -123,39 +121,22 @@ pub(crate) const ALL_GOOD: Good = Good {
     file_writes: true,
 };
 
-/// What a run did: its status, what it wrote on both outputs and to files, and how much of its standard
-/// input it left.
+/// What a run did: its status, what it wrote on both outputs, and how many files it wrote.
 #[derive(Drop)]
-pub(crate) struct Ran {
-    pub(crate) status: Status,
-    pub(crate) output: Vec<u8>,
-    pub(crate) errors: Vec<u8>,
-    pub(crate) files: Vec<(String, Vec<u8>)>,
-    pub(crate) left: usize,
+struct Ran {
+    status: Status,
+    output: Vec<u8>,
+    errors: Vec<u8>,
+    files: usize,
 }
 
 impl Ran {
-    /// Whether this is all that was said on the error output.
-    pub(crate) fn said(&self, text: &str) -> bool {
-        self.errors.as_slice() == text.as_bytes()
-    }
-
-    /// Whether nothing was written but to the error output.
-    pub(crate) fn wrote_nothing(&self) -> bool {
-        self.output.is_empty() && self.files.is_empty()
-    }
-
-    /// Whether one file was written, with this name and these bytes, and nothing to standard output.
-    pub(crate) fn wrote_file(&self, name: &str, bytes: &[u8]) -> bool {
-        match self.files.as_slice().first() {
-            Some((written, held)) => {
-                written.as_str() == name
-                    && held.as_slice() == bytes
-                    && self.files.len() == 1
-                    && self.output.is_empty()
-            }
-            None => false,
-        }
+    /// Whether it ended so, said just this, and wrote nothing else.
+    fn only_said(&self, status: Status, text: &str) -> bool {
+        self.status == status
+            && self.errors.as_slice() == text.as_bytes()
+            && self.output.is_empty()
+            && self.files == 0
     }
 }
 
@@ -170,21 +151,9 @@ fn words(alloc: Global, line: &str) -> Result<Vec<String>, AllocError> {
 }
 
 /// A run of these words, where standard input and the file `in.po` have this text.
-pub(crate) fn run_on(alloc: Global, line: &str, text: &str, good: Good) -> Result<Ran, AllocError> {
-    let bytes = text.as_bytes().to_vec(alloc)?;
-    run_over(alloc, line, text, bytes, good)
-}
-
-/// A run of these words, where standard input has this text, and the file `in.po` these bytes.
-pub(crate) fn run_over(
-    alloc: Global,
-    line: &str,
-    text: &str,
-    bytes: Vec<u8>,
-    good: Good,
-) -> Result<Ran, AllocError> {
+fn run_on(alloc: Global, line: &str, text: &str, good: Good) -> Result<Ran, AllocError> {
     let mut files = OneFile {
-        bytes,
+        bytes: text.as_bytes().to_vec(alloc)?,
         log: Vec::new(alloc),
         can_read: good.file_reads,
         can_write: good.file_writes,
@@ -215,138 +184,136 @@ pub(crate) fn run_over(
         status,
         output: writer.inner.held,
         errors: errors.inner.held,
-        files: files.log,
-        left: reader.inner.left.len(),
+        files: files.log.len(),
     })
 }
 
+const HI: &str = "msgid \"hi\"\nmsgstr \"salut\"\n";
+
+/// The MO file of `hi` and `salut`.
+const SALUT: [u8; 53] = *b"\xde\x12\x04\x95\0\0\0\0\x01\0\0\0\x1c\0\0\0\x24\0\0\0\0\0\0\0\x2c\0\0\0\
+    \x02\0\0\0\x2c\0\0\0\x05\0\0\0\x2f\0\0\0hi\0salut\0";
+
+// 26 bytes are read one by one, and the end.
 #[test]
-fn words_that_are_not_taken(rt: HostRuntime) {
+fn each_read_fails_in_turn(rt: HostRuntime) {
     let alloc = rt.alloc();
-    let no_input = (Cause::NoInput, "msgfmt: no input file given\n");
-    let bad_words = (Cause::Words, "msgfmt: bad command line\n");
-    for (line, (cause, want)) in [
-        ("", no_input),
-        ("-cf --statistics", no_input),
-        ("-o -", no_input),
-        ("-o out.mo --", no_input),
-        ("in.po in.po", bad_words),
-        ("-- in.po -c", bad_words),
-        ("-o - -o - -", bad_words),
-        ("-f -f -o - -", bad_words),
-        ("-c --check in.po", bad_words),
-        ("--no-hash --no-hash in.po", bad_words),
-        ("in.po -o", bad_words),
-        ("-o -- in.po", bad_words),
-        ("--stat in.po", bad_words),
-        ("--out=- -", bad_words),
-        ("--check=yes in.po", bad_words),
-        ("-V", bad_words),
-        ("--bogus -h", bad_words),
-        ("- - -h", bad_words),
-    ] {
-        let ran = run_on(alloc, line, "hi", ALL_GOOD).expect(&rt, "memory");
-        assert_eq!(rt; ran.status, Status::Failed(cause), "{line}");
-        assert!(rt; ran.wrote_nothing(), "{line}");
-        assert!(rt; ran.said(want), "{line}");
-        assert_eq!(rt; ran.left, 2, "{line}");
-    }
-}
-
-const HELP: &str = "Compiles a PO file to an MO file.
-
-Usage: msgfmt [OPTIONS] [INPUT]
-
-Arguments:
-  [INPUT]  PO file to read, or - for standard input
-
-Options:
-  -c, --check               Check header, plural forms, C formats and newlines
-  -f, --use-fuzzy           Keep fuzzy entries
-      --statistics          Print how many messages are translated, fuzzy, untranslated
-  -v, --verbose             Accepted, and changes nothing
-      --no-hash             Accepted, and changes nothing
-  -o, --output-file <FILE>  MO file to write, or - for standard output [messages.mo]
-  -h, --help                Print help
-
-Examples:
-  msgfmt -c --statistics -o fr.mo fr.po
-  msgfmt -o - - < fr.po > fr.mo
-";
-
-#[test]
-fn help_is_printed(rt: HostRuntime) {
-    let alloc = rt.alloc();
-    for line in ["-h", "--help", "-o - -h", "-cfh in.po --bogus"] {
-        let ran = run_on(alloc, line, "hi", ALL_GOOD).expect(&rt, "memory");
-        assert_eq!(rt; ran.status, Status::Done, "{line}");
-        assert!(rt; ran.output.as_slice() == HELP.as_bytes(), "{line}");
-        assert!(rt; ran.errors.is_empty() && ran.files.is_empty(), "{line}");
-        assert_eq!(rt; ran.left, 2, "{line}");
+    let unread = Status::Failed(Cause::CannotRead);
+    for reads in 0..27usize {
+        let good = Good { reads, ..ALL_GOOD };
+        let ran = run_on(alloc, "-o - -", HI, good).expect(&rt, "memory");
+        assert!(rt; ran.only_said(unread, "msgfmt: cannot read -\n"), "{reads}");
     }
     let good = Good {
-        writes: 0,
+        reads: 27,
         ..ALL_GOOD
     };
-    let ran = run_on(alloc, "-h", "hi", good).expect(&rt, "memory");
-    assert_eq!(rt; ran.status, Status::Failed(Cause::CannotWrite));
-    assert!(rt; ran.wrote_nothing() && ran.said("msgfmt: cannot write -\n"));
+    let ran = run_on(alloc, "-o - -", HI, good).expect(&rt, "memory");
+    assert_eq!(rt; ran.status, Status::Done);
+    assert!(rt; ran.output.as_slice() == SALUT.as_slice());
 }
 
-// The status is that of the failure whose line can't be written.
+// 53 bytes are written in four pieces.
 #[test]
-fn the_error_output_fails(rt: HostRuntime) {
+fn each_write_fails_in_turn(rt: HostRuntime) {
     let alloc = rt.alloc();
-    let good = Good {
+    for writes in 0..5usize {
+        let good = Good { writes, ..ALL_GOOD };
+        let ran = run_on(alloc, "-o - -", HI, good).expect(&rt, "memory");
+        assert_eq!(rt; ran.status == Status::Done, writes == 4, "{writes}");
+        assert_eq!(rt; ran.output.len(), (writes * 16).min(53), "{writes}");
+        assert!(rt; SALUT.starts_with(ran.output.as_slice()), "{writes}");
+    }
+}
+
+#[test]
+fn a_device_fails_at_its_first_call(rt: HostRuntime) {
+    let alloc = rt.alloc();
+    let unread = Good {
+        file_reads: false,
+        ..ALL_GOOD
+    };
+    let unwritten = Good {
+        writes: 0,
+        file_writes: false,
+        ..ALL_GOOD
+    };
+    let unsaid = Good {
         error_writes: 0,
         ..ALL_GOOD
     };
-    let ran = run_on(alloc, "-o -", "hi", good).expect(&rt, "memory");
-    assert_eq!(rt; ran.status, Status::Failed(Cause::NoInput));
-    assert!(rt; ran.wrote_nothing() && ran.errors.is_empty());
-}
-
-/// Whether this is the text of a kind of refusal.
-fn is_text_of(alloc: Global, kind: LoadKind, want: &str) -> Result<bool, AllocError> {
-    let text = KindText(kind);
-    let text = format!(in alloc; "{text}")?;
-    Ok(text.as_str() == want)
-}
-
-#[test]
-fn texts_of_the_refusals_of_a_text(rt: HostRuntime) {
-    let alloc = rt.alloc();
-    for (kind, want) in [
-        (LoadKind::TooLarge, "file too large"),
-        (LoadKind::NotUtf8, "not UTF-8"),
-        (LoadKind::BadEscape, "bad escape"),
-        (LoadKind::OpenString, "string not closed"),
-        (LoadKind::BadWord, "unknown word"),
-        (LoadKind::BadText, "bad text"),
-        (LoadKind::BadOrder, "out of order"),
-        (LoadKind::BadIndex, "wrong plural index"),
+    for (line, good, cause, said) in [
+        (
+            "-h",
+            unwritten,
+            Cause::CannotWrite,
+            "msgfmt: cannot write -\n",
+        ),
+        (
+            "--statistics -o - -",
+            unwritten,
+            Cause::CannotWrite,
+            "msgfmt: cannot write -\n",
+        ),
+        (
+            "-o out.mo in.po",
+            unread,
+            Cause::CannotRead,
+            "msgfmt: cannot read in.po\n",
+        ),
+        (
+            "--statistics in.po",
+            unwritten,
+            Cause::CannotWrite,
+            "msgfmt: cannot write messages.mo\n",
+        ),
+        ("-o -", unsaid, Cause::NoInput, ""),
     ] {
-        let is_text = is_text_of(alloc, kind, want).expect(&rt, "memory");
-        assert!(rt; is_text, "{want}");
+        let ran = run_on(alloc, line, HI, good).expect(&rt, "memory");
+        assert!(rt; ran.only_said(Status::Failed(cause), said), "{line}");
     }
 }
 
+/// Its header has none of the fields that are looked for.
+const HEADED: &str = "msgid \"\"\nmsgstr \"X: y\\n\"\nmsgid \"hi\"\nmsgstr \"salut\"\n";
+
+const WARNED: &str = "in.po:1: warning: header field 'Project-Id-Version' missing
+in.po:1: warning: header field 'PO-Revision-Date' missing
+in.po:1: warning: header field 'Last-Translator' missing
+in.po:1: warning: header field 'Language-Team' missing
+in.po:1: warning: header field 'MIME-Version' missing
+in.po:1: warning: header field 'Content-Type' missing
+in.po:1: warning: header field 'Content-Transfer-Encoding' missing
+in.po:1: warning: header field 'Language' missing
+1 translated message.
+";
+
+// The warnings are written in 4, 4, 4, 4, 4, 4, 5 and 4 pieces, then FILE, then the statistics in 2.
 #[test]
-fn texts_of_the_refusals_of_a_catalogue(rt: HostRuntime) {
+fn each_write_to_the_error_output_fails_in_turn(rt: HostRuntime) {
     let alloc = rt.alloc();
-    for (kind, want) in [
-        (LoadKind::Duplicate, "duplicate message"),
-        (LoadKind::Charset, "unsupported charset"),
-        (LoadKind::SystemDependent, "system-dependent format"),
-        (LoadKind::NoRule, "plural message without a rule"),
-        (LoadKind::BadRule, "unreadable plural rule"),
-        (LoadKind::FormCount, "wrong number of plural forms"),
-        (LoadKind::PluralRange(0), "plural rule fails at 0"),
-        (LoadKind::PluralRange(1000), "plural rule fails at 1000"),
-        (LoadKind::FormatMismatch, "format arguments differ"),
-        (LoadKind::NewlineMismatch, "newlines differ"),
-    ] {
-        let is_text = is_text_of(alloc, kind, want).expect(&rt, "memory");
-        assert!(rt; is_text, "{want}");
+    let untold = Status::Failed(Cause::ErrorOutput);
+    for error_writes in 0..36usize {
+        let good = Good {
+            error_writes,
+            ..ALL_GOOD
+        };
+        let ran = run_on(alloc, "-c --statistics in.po", HEADED, good).expect(&rt, "memory");
+        let status = if error_writes < 35 {
+            untold
+        } else {
+            Status::Done
+        };
+        assert!(rt;
+            ran.status == status && ran.output.is_empty(),
+            "{error_writes}"
+        );
+        assert!(rt; (ran.files == 1) == (error_writes >= 33), "{error_writes}");
+        let said = ran.errors.as_slice();
+        assert!(rt; WARNED.as_bytes().starts_with(said), "{error_writes}");
+        assert!(rt;
+            (said == WARNED.as_bytes()) == (error_writes == 35),
+            "{error_writes}"
+        );
     }
 }
