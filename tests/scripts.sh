@@ -29,28 +29,54 @@ else
   failed 'script, two rounds' "$(cat "$room/err")"
 fi
 
-: > "$room/in"
-answers 'script, empty' 0 '' ''
-printf 'go' > "$room/in"
-answers 'script, a round of nothing' 0 'version\t0\n' ''
-printf 'load\ta b\tfr\t-\t0\n' > "$room/in"
-answers 'script, a load for no name' 0 'refused\tname\nversion\t0\n' ''
-printf 'ask\t1\ta\tb\tgettext\tx\\ny\\\\z\\tw\n' > "$room/in"
-answers 'script, escapes' 0 'version\t0\n1\t0\tx\\ny\\\\z\\tw\n' ''
-printf 'ask\t2\tapp\tfr\tgettext\thi\n' > "$room/in"
-answers 'script, a third worker' 1 '' 'catserve: 3 1'
-printf 'load\tapp\tfr\t-\t3\nmsgid "hi"\nmsgstr "salut"\n' > "$room/in"
-answers 'script, a text that is too short' 1 '' 'catserve: 3 1'
+# is_answered NAME SCRIPT OUTPUT: it writes this
+is_answered() {
+  printf "$2" > "$room/in"
+  answers "script, $1" 0 "$3" ''
+}
+
+# is_bad NAME SCRIPT LINE: its first bad line is this one
+is_bad() {
+  printf "$2" > "$room/in"
+  answers "script, $1" 1 '' "catserve: 3 $3"
+}
+
+is_answered 'empty' '' ''
+is_answered 'a comment and an empty line' '\n# none\n' ''
+is_answered 'a round of nothing' 'go' 'version\t0\n'
+is_answered 'two rounds of nothing' 'go\ngo\n' 'version\t0\nversion\t0\n'
+is_answered 'two rounds of nothing, without the last LF' 'go\ngo' 'version\t0\nversion\t0\n'
+is_answered 'a load for no name' 'load\ta b\tfr\t-\t0\n' 'refused\tname\nversion\t0\n'
+is_answered 'texts that look like lines of a script' 'load\tapp\tfr\t-\t2\nask\nask\ngo\nload\tapp\tfr\tcf\t0' \
+  'refused\t5\t1\nversion\t0\naccepted\t0\t0\t0\nversion\t1\n'
+is_answered 'escapes' 'ask\t1\ta\tb\tgettext\tx\\ny\\\\z\\tw\n' 'version\t0\n1\t0\tx\\ny\\\\z\\tw\n'
+is_answered 'an empty msgid' 'ask\t0\ta\tb\tgettext\t\n' 'version\t0\n0\t0\t\n'
+is_answered 'the number 0' 'ask\t0\ta\tb\tngettext\tx\ty\t0\n' 'version\t0\n0\t0\ty\n'
+is_answered 'the number 001' 'ask\t0\ta\tb\tngettext\tx\ty\t001\n' 'version\t0\n0\t0\tx\n'
+is_answered 'the largest number' 'ask\t0\ta\tb\tngettext\tx\ty\t18446744073709551615\n' 'version\t0\n0\t0\ty\n'
+is_answered 'a text of 007 lines' 'load\tapp\tfr\t-\t007\n#\n#\n#\n#\n#\n#\n#\ngo\n' 'accepted\t0\t0\t0\nversion\t1\n'
+is_bad 'a number that is too large' 'ask\t0\ta\tb\tngettext\tx\ty\t18446744073709551616\n' 1
+is_bad 'no number' 'ask\t0\ta\tb\tngettext\tx\ty\t\n' 1
+is_bad 'a number with a sign' 'ask\t0\ta\tb\tngettext\tx\ty\t+1\n' 1
+is_bad 'a backslash at the end' 'ask\t0\ta\tb\tgettext\ta\\\n' 1
+is_bad 'a letter that no backslash takes' 'ask\t0\ta\tb\tgettext\t\\x\n' 1
+is_bad 'too many fields' 'ask\t0\ta\tb\tgettext\tx\ty\t2\t\n' 1
+is_bad 'a third worker' 'ask\t2\tapp\tfr\tgettext\thi\n' 1
+is_bad 'a text that is too short' 'load\tapp\tfr\t-\t3\nmsgid "hi"\nmsgstr "salut"\n' 1
+is_bad 'a text that is cut' 'load\tapp\tfr\t-\t2\nmsgid "hi"\n' 1
+is_bad 'a bad line behind a text' 'load\tapp\tfr\t-\t2\na\nb\ngone\nask' 4
+is_bad 'a word that is none' 'go\n\nstop\nend\n' 3
 head -n 2 $stored/stdin > "$room/in"
 answers 'script, cut' 1 '' 'catserve: 3 1'
-printf 'go\n# x\n\nload\tapp\tfr\t-\t1\nstop\ngo\tx\nstop\n' > "$room/in"
-answers 'script, the first of two bad lines' 1 '' 'catserve: 3 6'
+is_bad 'the first of two bad lines' 'go\n# x\n\nload\tapp\tfr\t-\t1\nstop\ngo\tx\nstop\n' 6
 printf 'go\n\377' > "$room/in"
 answers 'script, not UTF-8' 1 '' 'catserve: 2 0'
 head -c 67108865 /dev/zero > "$room/in"
 answers 'script, too large' 1 '' 'catserve: 1 0'
 head -c 67108864 /dev/zero | tr '\0' '\n' > "$room/in"
 answers 'script, 64 MiB' 0 '' ''
+head -c 67108864 /dev/zero | tr '\0' '#' > "$room/in"
+answers 'script, a comment of 64 MiB' 0 '' ''
 
 if "$program" < / > "$room/out" 2> "$room/err" || [ -s "$room/out" ] || [ "$(cat "$room/err")" != 'catserve: 4 0' ]; then
   failed 'script, a reader that fails' "'$(cat "$room/err")'"

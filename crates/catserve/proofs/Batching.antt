@@ -6,7 +6,7 @@ use Rattle.live_set.specs.Loads.{LoadValue}
 use Rattle.live_set.specs.Asks.{QueryValue, IsAnswer}
 use Rattle.live_versions.specs.Batches.{StartsWith, joined, version_of}
 use Rattle.catserve.specs.Output.{answer_line}
-use Rattle.catserve.specs.Meaning.{Answers}
+use Rattle.catserve.specs.Rounds.{Answers}
 use Rattle.catserve.specs.Running.{AnswersOne}
 
 pub starts_trans : (a b c : List (List LoadValue)) → StartsWith a b → StartsWith b c → StartsWith a c

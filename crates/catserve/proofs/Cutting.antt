@@ -10,7 +10,7 @@ use Rattle.std.specs.Str.{IsUtf8}
 use Rattle.std.proofs.lemmas.Str.{IsUtf8-drop, IsUtf8-nil, IsCharBoundary-after_ascii}
 use Rattle.catserve.specs.Lines.{pieces, is_line_end, is_tab, fields}
 use Rattle.bstr.specs.Find.{IsFirstByte, is_byte}
-use Rattle.catserve.specs.Reading.{IsCut, IsFirstLine}
+use Rattle.catserve.specs.Scanning.{IsCut, IsFirstLine}
 
 -- ---- pieces
 

@@ -12,7 +12,7 @@ use Rattle.live_set.specs.Loads.{LoadValue, map_of}
 use Rattle.live_set.specs.Asks.{AskValue, Plain, Context, Number, ContextNumber, QueryValue, HasValue, IsAnswer}
 use Rattle.catserve.specs.Script.{LoadText, RoundValue, script}
 use Rattle.catserve.specs.Output.{answer_line, version_line}
-use Rattle.catserve.specs.Meaning.{Outcome, Accepted, Refused, Unnamed, IsOutcome, outcome_line, accepted_load, Answers, Plays, PlaysAll, HasOutput}
+use Rattle.catserve.specs.Rounds.{Outcome, Accepted, Refused, Unnamed, IsOutcome, outcome_line, accepted_load, Answers, Plays, PlaysAll}
 use Rattle.catserve.specs.Laws.{HasOneOutput}
 
 zip_one : {A B : Type 0} (R : A → B → Type 0) → ((x : A) (y z : B) → R x y → R x z → y ≡ z) → (xs : List A) (ys zs : List B) → AllZip R xs ys → AllZip R xs zs → ys ≡ zs

@@ -10,7 +10,7 @@ use Rattle.catserve.specs.Lines.{lines, pieces}
 use Rattle.catserve.specs.Commands.{Line, Loads, line_of}
 use Rattle.catserve.specs.Script.{Command, Load, Ask, Go, RoundValue, round_of, rounds_of, rounds_in, is_go, Says, IsBad, saying, and_then, commands_from, script}
 use Rattle.catserve.specs.Gathering.{Gathered, empty_round, nothing, both, gathered, onto_open, all_rounds, going_on, TakesIn, HasParsed}
-use Rattle.catserve.specs.Reading.{IsFirstLine, TakesLines}
+use Rattle.catserve.specs.Scanning.{IsFirstLine, TakesLines}
 
 -- ---- lines that are a load's text
 

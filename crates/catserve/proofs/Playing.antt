@@ -8,10 +8,10 @@ use Rattle.catalogue.specs.declared.fault.LoadFault.{LoadFault}
 use Rattle.live_set.specs.Loads.{LoadValue}
 use Rattle.live_versions.specs.Batches.{joined, version_of, published}
 use Rattle.live_versions.specs.Store.{StoreValue, Accepts, AreNames}
-use Rattle.live_versions.specs.Told.{FrontValue}
+use Rattle.live_versions.specs.Seen.{SeenValue}
 use Rattle.catserve.specs.Script.{LoadText, RoundValue}
 use Rattle.catserve.specs.Output.{accepted_line, refused_line, version_line}
-use Rattle.catserve.specs.Meaning.{Outcome, Accepted, Refused, Unnamed, IsOutcome, outcome_line, accepted_load, Answers, PlaysAll}
+use Rattle.catserve.specs.Rounds.{Outcome, Accepted, Refused, Unnamed, IsOutcome, outcome_line, accepted_load, Answers, PlaysAll}
 use Rattle.catserve.specs.Running.{LoadsOne, LoadsAll, PlaysOne, HasPlayed}
 use Rattle.catserve.proofs.Batching.{AllZip-snoc, flat_map-snoc, joined-append}
 
@@ -54,18 +54,18 @@ joined-published bs [] = sym (append-nil (joined bs))
 joined-published bs (l ∷ ls) = joined-append bs ((l ∷ ls) ∷ []) ∙ ap (λ xs. joined bs ++ xs) (append-nil (l ∷ ls))
 
 -- the loads, the version and the answers of a round
-pub plays_one : (round : RoundValue) (was loaded now : StoreValue) (version : ℕ) (a b c d e : List ℕ) (one other : List ℕ) → was.pending ≡ [] → LoadsAll round.loads was.pending loaded.pending a b → loaded.front ≡ was.front → now.front.batches ≡ published loaded.front.batches loaded.pending → now.pending ≡ [] → version ≡ version_of now.front.batches → c ≡ b ++ version_line version → Answers (joined now.front.batches) 0 round.first one → Answers (joined now.front.batches) 1 round.second other → d ≡ c ++ one → e ≡ d ++ other → PlaysOne round was now a e
+pub plays_one : (round : RoundValue) (was loaded now : StoreValue) (version : ℕ) (a b c d e : List ℕ) (one other : List ℕ) → was.pending ≡ [] → LoadsAll round.loads was.pending loaded.pending a b → loaded.seen ≡ was.seen → now.seen.batches ≡ published loaded.seen.batches loaded.pending → now.pending ≡ [] → version ≡ version_of now.seen.batches → c ≡ b ++ version_line version → Answers (joined now.seen.batches) 0 round.first one → Answers (joined now.seen.batches) 1 round.second other → d ≡ c ++ one → e ≡ d ++ other → PlaysOne round was now a e
 plays_one round was loaded now version a b c d e one other none all front shown empty is_version c_is first second d_is e_is =
     let lines = flat_map outcome_line all.outcomes in
-    let version_is = version_line (version_of now.front.batches) in
+    let version_is = version_line (version_of now.seen.batches) in
     record {
       output = lines ++ version_is ++ one ++ other;
       plays = record {
         outcomes = all.outcomes;
         loaded = all.each;
-        after_is = ap joined shown ∙ joined-published loaded.front.batches loaded.pending
-            ∙ ap (λ xs. joined loaded.front.batches ++ xs) (all.pending_are ∙ ap (λ xs. xs ++ filter_map accepted_load all.outcomes) none)
-            ∙ ap (λ (f : FrontValue). joined f.batches ++ filter_map accepted_load all.outcomes) front;
+        after_is = ap joined shown ∙ joined-published loaded.seen.batches loaded.pending
+            ∙ ap (λ xs. joined loaded.seen.batches ++ xs) (all.pending_are ∙ ap (λ xs. xs ++ filter_map accepted_load all.outcomes) none)
+            ∙ ap (λ (f : SeenValue). joined f.batches ++ filter_map accepted_load all.outcomes) front;
         first = one;
         first_answers = first;
         second = other;
@@ -80,23 +80,23 @@ plays_one round was loaded now version a b c d e one other none all front shown 
     }
 
 -- one more round
-pub plays_more : (rounds : List RoundValue) (round : RoundValue) (was now after : StoreValue) (output written : List ℕ) → HasPlayed rounds was now output → PlaysOne round now after output written → after.front.book ≡ now.front.book → HasPlayed (rounds ++ round ∷ []) was after written
+pub plays_more : (rounds : List RoundValue) (round : RoundValue) (was now after : StoreValue) (output written : List ℕ) → HasPlayed rounds was now output → PlaysOne round now after output written → after.seen.book ≡ now.seen.book → HasPlayed (rounds ++ round ∷ []) was after written
 plays_more rounds round was now after output written played one same = record {
   going = λ rest tail all.
-      let P : List RoundValue → Type 0 = λ rs. PlaysAll (joined was.front.batches) rs (written ++ tail) in
-      let Q : List ℕ → Type 0 = λ out. PlaysAll (joined was.front.batches) (rounds ++ round ∷ rest) out in
+      let P : List RoundValue → Type 0 = λ rs. PlaysAll (joined was.seen.batches) rs (written ++ tail) in
+      let Q : List ℕ → Type 0 = λ out. PlaysAll (joined was.seen.batches) (rounds ++ round ∷ rest) out in
       subst P (sym (append_assoc rounds (round ∷ []) rest))
       (subst Q (sym (ap (λ xs. xs ++ tail) one.written ∙ append_assoc output one.output tail))
-      (played.going (round ∷ rest) (one.output ++ tail) (joined after.front.batches, one.output, tail, one.plays, all, refl)));
+      (played.going (round ∷ rest) (one.output ++ tail) (joined after.seen.batches, one.output, tail, one.plays, all, refl)));
   none_pending = one.none_pending;
   book = same ∙ played.book;
 }
 
 -- all rounds
-pub plays_all : (rounds : List RoundValue) (was now : StoreValue) (output : List ℕ) → HasPlayed rounds was now output → PlaysAll (joined was.front.batches) rounds output
+pub plays_all : (rounds : List RoundValue) (was now : StoreValue) (output : List ℕ) → HasPlayed rounds was now output → PlaysAll (joined was.seen.batches) rounds output
 plays_all rounds was now output played =
-    let P : List RoundValue → Type 0 = λ rs. PlaysAll (joined was.front.batches) rs (output ++ []) in
-    let Q : List ℕ → Type 0 = λ out. PlaysAll (joined was.front.batches) rounds out in
+    let P : List RoundValue → Type 0 = λ rs. PlaysAll (joined was.seen.batches) rs (output ++ []) in
+    let Q : List ℕ → Type 0 = λ out. PlaysAll (joined was.seen.batches) rounds out in
     subst Q (append-nil output) (subst P (append-nil rounds) (played.going [] [] refl))
 
 pub plays_none : (was : StoreValue) → was.pending ≡ [] → HasPlayed [] was was []

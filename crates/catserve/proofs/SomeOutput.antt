@@ -15,8 +15,8 @@ use Rattle.live_set.specs.Loads.{LoadValue, map_of, map_or_empty, is_for}
 use Rattle.live_set.specs.Asks.{AskValue, Plain, Context, Number, ContextNumber, QueryValue, HasValue, IsAnswer}
 use Rattle.catserve.specs.Script.{LoadText, RoundValue, script}
 use Rattle.catserve.specs.Output.{answer_line, version_line}
-use Rattle.catserve.specs.Outcome.{IsReadable}
-use Rattle.catserve.specs.Meaning.{Outcome, Accepted, Refused, Unnamed, IsOutcome, outcome_line, accepted_load, Answers, Plays, PlaysAll}
+use Rattle.catserve.specs.Texts.{IsReadable}
+use Rattle.catserve.specs.Rounds.{Outcome, Accepted, Refused, Unnamed, IsOutcome, outcome_line, accepted_load, Answers, Plays, PlaysAll}
 use Rattle.catserve.specs.Laws.{HasSomeOutput}
 
 -- where each item has a match, all of them have matches

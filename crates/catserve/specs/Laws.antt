@@ -1,7 +1,7 @@
 -- The laws of the words above: a text has one output, or a fault.
 use Rattle.std.specs.Prelude.{◌≡◌, ◌⊎◌, ℕ, ◌<◌, List, length}
-use Rattle.catserve.specs.Outcome.{most_script, IsUndecodable, HasBadLine}
-use Rattle.catserve.specs.Meaning.{HasOutput}
+use Rattle.catserve.specs.Texts.{most_script, IsUndecodable, HasBadLine}
+use Rattle.catserve.specs.Rounds.{HasOutput}
 
 abbrev pub HasOneOutput : Type 0
 HasOneOutput = (text output other : List ℕ) → HasOutput text output → HasOutput text other → output ≡ other

@@ -2,12 +2,12 @@ pub mod Lines
 pub mod Fields
 pub mod Commands
 pub mod Script
-pub mod Outcome
+pub mod Texts
 pub mod Output
-pub mod Meaning
+pub mod Rounds
 pub mod Laws
 pub mod Run
 pub mod Running
-pub mod Reading
-pub mod Views
+pub mod Scanning
+pub mod LineValues
 pub mod Gathering

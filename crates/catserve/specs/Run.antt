@@ -5,8 +5,8 @@ use Rattle.devices.specs.Devices.{RisesBy}
 use Rattle.catserve.specs.declared.fault.ScriptFault.{ScriptFault}
 use Rattle.catserve.specs.declared.fault.ScriptKind.{ScriptKind}
 use Rattle.catserve.specs.declared.fault.ScriptKind.TheVariants.{TooLarge, NotUtf8, BadLine, ReadFault, WriteFault}
-use Rattle.catserve.specs.Outcome.{IsRefused}
-use Rattle.catserve.specs.Meaning.{HasOutput}
+use Rattle.catserve.specs.Texts.{IsRefused}
+use Rattle.catserve.specs.Rounds.{HasOutput}
 
 -- what is known of a reader: the bytes still to be read, where they are told, and the counts of reads and failures
 pub record InputSeen : Type 0 where

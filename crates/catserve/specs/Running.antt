@@ -6,12 +6,12 @@ use Rattle.live_set.specs.Asks.{QueryValue, IsAnswer}
 use Rattle.catserve.specs.declared.fault.ScriptKind.{ScriptKind}
 use Rattle.catserve.specs.declared.fault.ScriptKind.TheVariants.{ReadFault, WriteFault, NoPlace, Closed, Memory}
 use Rattle.live_versions.specs.Batches.{StartsWith, joined}
-use Rattle.live_versions.specs.Told.{FrontValue}
+use Rattle.live_versions.specs.Seen.{SeenValue}
 use Rattle.catserve.specs.Output.{answer_line}
 use Rattle.live_versions.specs.Store.{StoreValue}
 use Rattle.catserve.specs.Script.{LoadText, RoundValue}
-use Rattle.catserve.specs.Meaning.{Answers, Outcome, IsOutcome, outcome_line, accepted_load, Plays, PlaysAll}
-use Rattle.catserve.specs.Outcome.{IsRefused}
+use Rattle.catserve.specs.Rounds.{Answers, Outcome, IsOutcome, outcome_line, accepted_load, Plays, PlaysAll}
+use Rattle.catserve.specs.Texts.{IsRefused}
 use Rattle.catserve.specs.Run.{InputSeen, FailsToRead}
 
 -- the line of one answer was written
@@ -26,7 +26,7 @@ IsWorkerFault (Ok x) = ⊤
 IsWorkerFault (Err fault) = (fault ≡ Closed) ⊎ (fault ≡ Memory)
 
 -- a worker has answered these queries, by a reader that has seen the notice
-pub record HasAnswered (notice was now : FrontValue) (worker : ℕ) (queries : List QueryValue) (output : List ℕ) : Type 0 where
+pub record HasAnswered (notice was now : SeenValue) (worker : ℕ) (queries : List QueryValue) (output : List ℕ) : Type 0 where
   pub answered : Answers (joined notice.batches) worker queries output
   pub seen : StartsWith now.batches notice.batches
   pub same_book : now.book ≡ was.book
@@ -48,20 +48,20 @@ pub record LoadsAll (loads : List LoadText) (pending pending' : List LoadValue) 
 -- some first loads were made, by a publisher of the same published batches
 pub record HasLoaded (loads : List LoadText) (was now : StoreValue) (before after : List ℕ) : Type 0 where
   pub loaded : LoadsAll loads was.pending now.pending before after
-  pub front : now.front ≡ was.front
+  pub seen : now.seen ≡ was.seen
 
 -- a round was played: what is published, and its lines
 pub record PlaysOne (round : RoundValue) (was now : StoreValue) (before after : List ℕ) : Type 0 where
   pub output : List ℕ
-  pub plays : Plays (joined was.front.batches) round (joined now.front.batches) output
+  pub plays : Plays (joined was.seen.batches) round (joined now.seen.batches) output
   pub none_pending : now.pending ≡ []
   pub written : after ≡ before ++ output
 
 -- these rounds were played behind a store's loads: what comes behind them in a script goes on from here
 pub record HasPlayed (rounds : List RoundValue) (was now : StoreValue) (output : List ℕ) : Type 0 where
-  pub going : (rest : List RoundValue) (tail : List ℕ) → PlaysAll (joined now.front.batches) rest tail → PlaysAll (joined was.front.batches) (rounds ++ rest) (output ++ tail)
+  pub going : (rest : List RoundValue) (tail : List ℕ) → PlaysAll (joined now.seen.batches) rest tail → PlaysAll (joined was.seen.batches) (rounds ++ rest) (output ++ tail)
   pub none_pending : now.pending ≡ []
-  pub book : now.front.book ≡ was.front.book
+  pub book : now.seen.book ≡ was.seen.book
 
 -- the rounds of a script fail for these alone
 abbrev pub IsPlayFault : {T : Type 0} → Result T ScriptKind → Type 0

@@ -2,7 +2,7 @@
 ghost use Rattle.std.specs.Prelude.{◌≡◌, ◌<◌, MatchOption, length};
 ghost use Rattle.std.specs.List.{position_or_len};
 ghost use Rattle.bstr.specs.Find.{is_byte};
-ghost use Rattle.catserve.specs.Reading.{IsCut};
+ghost use Rattle.catserve.specs.Scanning.{IsCut};
 
 use bstr::ByteSlice;
 

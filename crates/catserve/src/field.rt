@@ -3,7 +3,7 @@ ghost use Rattle.std.specs.Prelude.{◌≡◌, MatchOption, IfSome, option_map, 
 ghost use Rattle.std.specs.List.{list_all};
 ghost use Rattle.std.specs.Char.{is_ascii_digit};
 ghost use Rattle.catserve.specs.Fields.{number, unescaped, escaped_byte, options_of, worker_of};
-ghost use Rattle.catserve.specs.Reading.{Reads, SplitsEscape};
+ghost use Rattle.catserve.specs.Scanning.{Reads, SplitsEscape};
 
 use crate::cut::split_at_byte;
 use crate::fault::LineFault;

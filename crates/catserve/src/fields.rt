@@ -2,7 +2,7 @@
 ghost use Rattle.std.specs.Prelude.{◌≡◌, ◌≢◌, [], ◌∷◌, MatchResult};
 ghost use Rattle.std.specs.Option.{option_copied};
 ghost use Rattle.catserve.specs.Lines.{fields};
-ghost use Rattle.catserve.specs.Reading.{fields_left};
+ghost use Rattle.catserve.specs.Scanning.{fields_left};
 
 use crate::cut::split_at_byte;
 use crate::fault::LineFault;
@@ -17,7 +17,7 @@ pub(crate) struct Fields<'a> {
 impl<'a> Model for Fields<'a> {
     ghost use Rattle.std.specs.Prelude.{ℕ, List};
     ghost use Rattle.std.specs.Option.{option_copied};
-    ghost use Rattle.catserve.specs.Reading.{fields_left};
+    ghost use Rattle.catserve.specs.Scanning.{fields_left};
 
     ghost Value = { List (List ℕ) };
 

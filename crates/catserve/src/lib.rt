@@ -16,10 +16,6 @@ mod parse;
 mod round;
 mod rounds;
 mod run;
-#[cfg(test)]
-mod tests;
-#[cfg(test)]
-mod tests_run;
 mod worker;
 
 pub use fault::{ScriptFault, ScriptKind};

@@ -1,7 +1,7 @@
 //! Lines of a text.
 ghost use Rattle.std.specs.Prelude.{◌≡◌, ◌<◌, [], MatchOption, length};
 ghost use Rattle.catserve.specs.Lines.{lines};
-ghost use Rattle.catserve.specs.Reading.{IsFirstLine, TakesLines};
+ghost use Rattle.catserve.specs.Scanning.{IsFirstLine, TakesLines};
 
 use crate::cut::split_at_byte;
 

@@ -2,10 +2,10 @@
 ghost use Rattle.std.specs.Prelude.{◌≡◌, ◌<◌, ◌≤◌, ◌+◌, ◌^◌, IfOk, IfErr, Some, Ok, length};
 ghost use Rattle.catserve.specs.Lines.{lines};
 ghost use Rattle.catserve.specs.Script.{script, saying, IsBad};
-ghost use Rattle.catserve.specs.Outcome.{IsScript};
-ghost use Rattle.catserve.specs.Views.{line_value};
+ghost use Rattle.catserve.specs.Texts.{IsScript};
+ghost use Rattle.catserve.specs.LineValues.{line_value};
 ghost use Rattle.catserve.specs.Gathering.{TakesIn};
-ghost use Rattle.catserve.specs.Reading.{IsLineFault, ParseFails, IsTextFault};
+ghost use Rattle.catserve.specs.Scanning.{IsLineFault, ParseFails, IsTextFault};
 
 use crate::command::{Line, read_line};
 use crate::fault::{LineFault, ScriptFault, ScriptKind};

@@ -1,7 +1,7 @@
 //! The parts of a round of a script: its loads, and the answers of its two workers.
 ghost use Rattle.std.specs.Prelude.{◌≡◌, [], IfOk};
 ghost use Rattle.live_versions.specs.Batches.{StartsWith, joined};
-ghost use Rattle.catserve.specs.Meaning.{Answers};
+ghost use Rattle.catserve.specs.Rounds.{Answers};
 ghost use Rattle.catserve.specs.Running.{IsWorkerFault, LoadsOne, LoadsAll, PlaysOne};
 
 use crate::fault::ScriptKind;
@@ -22,7 +22,7 @@ fn make_load(
 ) -> Result<(), ScriptKind>
     ensures ok { IfOk result (λ _. LoadsOne load.now publisher.old.pending publisher.new.pending output.old.items output.new.items) }
     ensures fault { IsWorkerFault result }
-    ensures front { publisher.new.front ≡ publisher.old.front }
+    ensures seen { publisher.new.seen ≡ publisher.old.seen }
 {
     match publisher.load(alloc, load.domain, load.locale, load.text, load.options) {
         Ok(stats) => Ok(write_accepted(alloc, output, stats)?),
@@ -42,7 +42,7 @@ fn make_loads(
 ) -> Result<(), ScriptKind>
     ensures ok { IfOk result (λ _. LoadsAll loads.now publisher.old.pending publisher.new.pending output.old.items output.new.items) }
     ensures fault { IsWorkerFault result }
-    ensures front { publisher.new.front ≡ publisher.old.front }
+    ensures seen { publisher.new.seen ≡ publisher.old.seen }
 {
     'loads: for load in loads {
         make_load(alloc, publisher, load, output)?;
@@ -85,10 +85,10 @@ pub(crate) fn play<R: Threads + Wait>(
     output: &mut Vec<u8>,
 ) -> Result<(), ScriptKind>
     requires pending { publisher.old.pending ≡ [] }
-    requires books { (first.old.book ≡ publisher.old.front.book) × (second.old.book ≡ publisher.old.front.book) }
+    requires books { (first.old.book ≡ publisher.old.seen.book) × (second.old.book ≡ publisher.old.seen.book) }
     ensures ok { IfOk result (λ _. PlaysOne round.now publisher.old publisher.new output.old.items output.new.items) }
     ensures fault { IsWorkerFault result }
-    ensures same { (publisher.new.front.book ≡ publisher.old.front.book) × (first.new.book ≡ first.old.book) × (second.new.book ≡ second.old.book) }
+    ensures same { (publisher.new.seen.book ≡ publisher.old.seen.book) × (first.new.book ≡ first.old.book) × (second.new.book ≡ second.old.book) }
 {
     make_loads(alloc, publisher, round.loads.as_slice(), output)?;
     let Ok(version) = publisher.publish(rt) else {

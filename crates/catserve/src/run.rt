@@ -1,7 +1,7 @@
 //! A run of a script over a reader and a writer.
 ghost use Rattle.std.specs.Prelude.{◌≡◌, [], All, IfOk, IfErr, vec_len};
 ghost use Rattle.live_versions.specs.Batches.{joined};
-ghost use Rattle.catserve.specs.Meaning.{HasOutput, PlaysAll};
+ghost use Rattle.catserve.specs.Rounds.{HasOutput, PlaysAll};
 ghost use Rattle.catserve.specs.Run.{ReadsText, Runs, input_seen, output_seen};
 ghost use Rattle.catserve.specs.Running.{EndsPlaying, EndsReading, IsPlayFault};
 
@@ -25,8 +25,8 @@ fn play_rounds<T: Threads + Wait>(
     rounds: &[Round<'_>],
 ) -> Result<Vec<u8>, ScriptKind>
     requires pending { publisher.old.pending ≡ [] }
-    requires books { (first.old.book ≡ publisher.old.front.book) × (second.old.book ≡ publisher.old.front.book) }
-    ensures ok { IfOk result (λ output. PlaysAll (joined publisher.old.front.batches) rounds.now output.items) }
+    requires books { (first.old.book ≡ publisher.old.seen.book) × (second.old.book ≡ publisher.old.seen.book) }
+    ensures ok { IfOk result (λ output. PlaysAll (joined publisher.old.seen.batches) rounds.now output.items) }
     ensures fault { IsPlayFault result }
 {
     let mut output = Vec::new(alloc);
@@ -45,8 +45,8 @@ fn play_by<T: Threads + Wait>(
     rounds: &[Round<'_>],
 ) -> Result<Vec<u8>, ScriptKind>
     requires pending { publisher.old.pending ≡ [] }
-    requires readers { All (λ l. l ≡ publisher.old.front) readers.items }
-    ensures ok { IfOk result (λ output. PlaysAll (joined publisher.old.front.batches) rounds.now output.items) }
+    requires readers { All (λ l. l ≡ publisher.old.seen) readers.items }
+    ensures ok { IfOk result (λ output. PlaysAll (joined publisher.old.seen.batches) rounds.now output.items) }
     ensures fault { IsPlayFault result }
 {
     let mut readers = readers;

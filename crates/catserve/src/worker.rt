@@ -1,7 +1,7 @@
 //! A worker of a round: it answers its questions, one after another.
 ghost use Rattle.std.specs.Prelude.{◌≡◌, IfOk};
 ghost use Rattle.live_versions.specs.Batches.{StartsWith, joined, version_of};
-ghost use Rattle.catserve.specs.Meaning.{Answers};
+ghost use Rattle.catserve.specs.Rounds.{Answers};
 ghost use Rattle.catserve.specs.Running.{AnswersOne, IsWorkerFault};
 
 use crate::fault::ScriptKind;

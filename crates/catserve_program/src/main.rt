@@ -7,6 +7,9 @@ use devices::{Reading, Sink, Writing};
 use std::alloc::Global;
 use std::process::ExitCode;
 
+#[cfg(test)]
+mod tests;
+
 fn main(rt: HostRuntime) -> ExitCode {
     let alloc = rt.alloc();
     let mut reader = Reading::new(rt.stdin());

@@ -7,7 +7,7 @@ use prog.Atomic.{either}
 use Rattle.logbook.specs.Pages.{Cell, cell, keeps, no_nib, step, Moves, Goes}
 use Rattle.live_set.specs.Loads.{LoadValue}
 use Rattle.live_versions.specs.Batches.{version_of, NoneEmpty}
-use Rattle.live_versions.specs.Told.{IsKept, Adds}
+use Rattle.live_versions.specs.Book.{IsKept, Adds}
 use Rattle.live_versions.proofs.Joining.{whole, full_add, version-add}
 
 abbrev Batches : Type 0

@@ -1,12 +1,11 @@
 -- In legal histories the version that a reader has seen never falls, and is that of whole batches at the front.
-use Rattle.std.proofs.Common.{◌≡◌, ℕ, ◌+◌, ◌≤◌, ◌<◌, ◌==◌, Bool, true, false, max, if◌then◌else◌, List, [], ◌∷◌, ◌++◌, length, fold, sym, refl, ap, ◌∙◌, subst, append_assoc, length-append, arith}
+use Rattle.std.proofs.Common.{◌≡◌, ℕ, ◌+◌, ◌≤◌, ◌<◌, ◌==◌, Bool, true, false, max, if◌then◌else◌, List, [], ◌∷◌, ◌++◌, length, sym, refl, ap, ◌∙◌, subst, append_assoc, length-append, arith}
 use Rattle.std.specs.Prelude.{⊤}
 use Rattle.std.proofs.lemmas.List.{append-nil}
 use Rattle.std.proofs.lemmas.List.Sums.{fold-append}
 use Rattle.std.proofs.lemmas.Bool.Decides.{nat_tests}
 use lib.Dec.{leb}
-use Rattle.live_set.specs.Loads.{LoadValue}
-use Rattle.live_versions.specs.Batches.{joined, version_of, StartsWith, published}
+use Rattle.live_versions.specs.Batches.{joined, version_of, StartsWith}
 use Rattle.live_versions.specs.History.{Event, State, Accept, Refuse, Publish, Enter, Learn, opened, after, state_of, WasPublished, MayFollow, IsLegal, IsWhole, NeverFalls, EntersNoLess, SeesWholeBatches, EntersWholeBatches}
 use Rattle.live_versions.proofs.Joining.{joined-append, begins_refl, begins_trans, begins-published}
 

@@ -1,9 +1,11 @@
 pub mod Batches
 pub mod History
+pub mod Seen
 pub mod Store
-pub mod Told
-pub mod Views
+pub mod Entries
+pub mod Loading
+pub mod Book
 pub mod Changes
-pub mod Entered
 pub mod Rule
+pub mod SeatViews
 pub mod Known

@@ -7,19 +7,19 @@ use Rattle.catalogue.specs.declared.compiler.Compiled.{Compiled}
 use Rattle.live_set.specs.Names.{IsName}
 use Rattle.live_set.specs.Loads.{LoadValue}
 use Rattle.live_versions.specs.Batches.{version_of}
-use Rattle.live_versions.specs.Told.{FrontValue}
+use Rattle.live_versions.specs.Seen.{SeenValue}
 use Rattle.live_versions.specs.declared.fault.StoreFault.{StoreFault}
 use Rattle.live_versions.specs.declared.fault.StoreFault.TheVariants.{BadName, VersionsSpent, Refused, Memory}
 
--- the published batches, the loads that are pending, and how many loads may be accepted in all
+-- what is seen of the store: all that is published; the loads that are pending, and how many loads may be accepted in all
 pub record StoreValue : Type 0 where
-  pub front : FrontValue
+  pub seen : SeenValue
   pub pending : List LoadValue
   pub most : ℕ
 
 -- how many loads were accepted, published or pending
 abbrev pub accepted : StoreValue → ℕ
-accepted s = version_of s.front.batches + length s.pending
+accepted s = version_of s.seen.batches + length s.pending
 
 -- both are names
 pub record AreNames (domain locale : List ℕ) : Type 0 where
@@ -44,17 +44,3 @@ IsRefused s domain locale text options BadName = ¬ AreNames domain locale
 IsRefused s domain locale text options VersionsSpent = AreNames domain locale × (accepted s ≡ s.most)
 IsRefused s domain locale text options (Refused fault) = AreNames domain locale × HasRoom s × Refuses text options fault.kind fault.line
 IsRefused s domain locale text options Memory = ⊤
-
--- ---- private: what the steps of a load answer
-
--- this fault says that the text is no name, or nothing
-abbrev pub NameFaultOf : List ℕ → StoreFault → Type 0
-NameFaultOf text BadName = ¬ IsName text
-NameFaultOf text Memory = ⊤
-NameFaultOf text _ = ⊥
-
--- this fault is the text's refusal, or says nothing
-abbrev pub TextFaultOf : List ℕ → Options → StoreFault → Type 0
-TextFaultOf text options (Refused fault) = Refuses text options fault.kind fault.line
-TextFaultOf text options Memory = ⊤
-TextFaultOf text options _ = ⊥

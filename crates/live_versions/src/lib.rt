@@ -7,7 +7,6 @@
 #![tactic(auto)]
 
 mod fault;
-mod front;
 mod law;
 mod notice;
 mod pinned;
@@ -15,9 +14,8 @@ mod publisher;
 mod reader;
 mod rule;
 mod seal;
+mod seen;
 mod store;
-#[cfg(test)]
-mod tests;
 mod writer;
 
 pub use fault::{Ahead, AskFault, Closed, OpenFault, PublishFault, StoreFault};

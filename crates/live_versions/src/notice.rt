@@ -3,36 +3,34 @@ ghost use Rattle.std.specs.Prelude.{◌≡◌};
 ghost use Rattle.live_versions.specs.Batches.{version_of};
 
 use crate::Version;
-use crate::front::Front;
+use crate::seen::Seen;
 use std::marker::Model;
 
 /// A notice of what was published, for readers of the same store. Contracts see it as the batches.
 #[derive(Drop)]
 pub struct Notice {
-    pub(crate) front: Front,
+    pub(crate) seen: Seen,
 }
 
 impl Model for Notice {
-    ghost use Rattle.live_versions.specs.Told.{FrontValue};
+    ghost use Rattle.live_versions.specs.Seen.{SeenValue};
 
-    ghost Value = { FrontValue };
+    ghost Value = { SeenValue };
 
-    ghost view = { λ notice. notice.front };
+    ghost view = { λ notice. notice.seen };
 }
 
 impl Notice {
-    pub(crate) fn new(front: &Front) -> Notice
-        ensures { result ≡ front.now }
+    pub(crate) fn new(seen: &Seen) -> Notice
+        ensures { result ≡ seen.now }
     {
-        Notice {
-            front: front.again(),
-        }
+        Notice { seen: seen.again() }
     }
 
     /// How many loads were published.
     pub fn version(&self) -> Version
         ensures { result ≡ version_of self.now.batches }
     {
-        self.front.version()
+        self.seen.version()
     }
 }

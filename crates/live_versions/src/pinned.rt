@@ -5,12 +5,12 @@ ghost use Rattle.live_set.specs.Asks.{HasValue, IsAnswer, Plain, Context, Number
 ghost use Rattle.live_set.specs.Loads.{map_of};
 ghost use Rattle.live_set.specs.Sets.{fold};
 ghost use Rattle.live_versions.specs.Batches.{joined, version_of};
-ghost use Rattle.live_versions.specs.Entered.{entry_of};
+ghost use Rattle.live_versions.specs.Entries.{entry_of};
 
 use crate::Version;
-use crate::front::Front;
 use crate::reader::{Lookups, StoreReader};
 use crate::rule::{Shown, Versions, View};
+use crate::seen::Seen;
 use left_right::reader::Reading;
 use live_set::{CatalogueSet, Query};
 use std::marker::Model;
@@ -20,7 +20,7 @@ pub(crate) type StoreReading = Reading<Shown, View, Versions>;
 /// The set of one entry. Contracts see it as the batches that were published at its step.
 pub struct Entry {
     reading: StoreReading,
-    front: Front,
+    seen: Seen,
 }
 
 impl Model for Entry {
@@ -28,28 +28,28 @@ impl Model for Entry {
     ghost use Rattle.left_right.specs.Sides.{view as known};
     ghost use Rattle.live_set.specs.Sets.{fold};
     ghost use Rattle.live_versions.specs.Batches.{joined};
-    ghost use Rattle.live_versions.specs.Told.{FrontValue};
+    ghost use Rattle.live_versions.specs.Seen.{SeenValue};
 
-    ghost Value = { FrontValue };
+    ghost Value = { SeenValue };
 
-    ghost view = { λ e. e.front };
+    ghost view = { λ e. e.seen };
 
-    ghost invariant = { λ e. (e.reading.part.value.set ≡ fold (joined e.front.batches)) × ((known e.reading.place).books ≡ e.front.book ∷ []) × ((known e.reading.place).batches ≡ e.front.batches) };
+    ghost invariant = { λ e. (e.reading.part.value.set ≡ fold (joined e.seen.batches)) × ((known e.reading.place).books ≡ e.seen.book ∷ []) × ((known e.reading.place).batches ≡ e.seen.batches) };
 }
 
 impl Entry {
-    pub(crate) fn new(reading: StoreReading, front: Front) -> Entry
-        requires { (reading.part.value.set ≡ fold (joined front.batches)) × ((view reading.place).books ≡ front.book ∷ []) × ((view reading.place).batches ≡ front.batches) }
-        ensures { result ≡ front }
+    pub(crate) fn new(reading: StoreReading, seen: Seen) -> Entry
+        requires { (reading.part.value.set ≡ fold (joined seen.batches)) × ((view reading.place).books ≡ seen.book ∷ []) × ((view reading.place).batches ≡ seen.batches) }
+        ensures { result ≡ seen }
     {
-        Entry { reading, front }
+        Entry { reading, seen }
     }
 
-    fn leave(self) -> (StoreReader, Front)
+    fn leave(self) -> (StoreReader, Seen)
         ensures { ((view result.0.place).books ≡ self.book ∷ []) × ((view result.0.place).batches ≡ self.batches) × (result.1 ≡ self) }
     {
-        let Entry { reading, front } = self;
-        (reading.leave(), front)
+        let Entry { reading, seen } = self;
+        (reading.leave(), seen)
     }
 }
 
@@ -66,7 +66,7 @@ impl Pinned<'_> {
         ensures { result ≡ version_of (entry_of self.now).batches }
     {
         let entry = &self.entry;
-        entry.front.version()
+        entry.seen.version()
     }
 
     /// The text of a query.
@@ -133,7 +133,7 @@ impl Pinned<'_> {
         ensures { self.exit.0.now ≡ entry_of self.entry }
     {
         let Pinned { home, entry } = self;
-        let (reader, front) = entry.leave();
-        home.come_home(reader, front);
+        let (reader, seen) = entry.leave();
+        home.come_home(reader, seen);
     }
 }

@@ -4,14 +4,15 @@ ghost use Rattle.std.specs.Arc.{arc_value};
 ghost use Rattle.catalogue.specs.Meaning.{Means};
 ghost use Rattle.live_set.specs.Names.{IsName};
 ghost use Rattle.live_versions.specs.Batches.{version_of, published};
-ghost use Rattle.live_versions.specs.Store.{Accepts, IsRefused, NameFaultOf, TextFaultOf};
+ghost use Rattle.live_versions.specs.Loading.{NameFaultOf, TextFaultOf};
+ghost use Rattle.live_versions.specs.Store.{Accepts, IsRefused};
 
 use crate::Version;
 use crate::fault::{PublishFault, StoreFault};
-use crate::front::Front;
 use crate::notice::Notice;
-use crate::seal::{Home, Seal, bundle_of};
-use crate::writer::{StoreWriter, append_load, append_seal, publish_at, shown_front};
+use crate::seal::{Seal, Sealing, bundle_of};
+use crate::seen::Seen;
+use crate::writer::{StoreWriter, append_load, append_seal, just_shown, publish_at};
 use catalogue::{Compiled, LoadKind, Options, Stats, compile};
 use live_set::{Load, Name, NameFault};
 use std::alloc::Global;
@@ -25,8 +26,8 @@ use std::sync::{Arc, Wait};
 /// may accept in all.
 pub struct Publisher {
     writer: StoreWriter,
-    home: Arc<Home>,
-    front: Front,
+    sealing: Arc<Sealing>,
+    seen: Seen,
     most: u64,
     /// How many loads are pending.
     pending: u64,
@@ -41,9 +42,9 @@ impl Model for Publisher {
 
     ghost Value = { StoreValue };
 
-    ghost view = { λ p. record { front = p.front; pending = loads_of (drop p.writer.behind p.writer.log.items); most = p.most } };
+    ghost view = { λ p. record { seen = p.seen; pending = loads_of (drop p.writer.behind p.writer.log.items); most = p.most } };
 
-    ghost invariant = { λ p. (p.writer.desk.shown.value.front ≡ p.front) × ((arc_value p.home).head.word.book ≡ p.front.book) × (p.pending ≡ length (loads_of (drop p.writer.behind p.writer.log.items))) × (version_of p.front.batches + p.pending ≤ p.most) × (p.most < 2 ^ 64) };
+    ghost invariant = { λ p. (p.writer.desk.shown.value.seen ≡ p.seen) × ((arc_value p.sealing).head.word.book ≡ p.seen.book) × (p.pending ≡ length (loads_of (drop p.writer.behind p.writer.log.items))) × (version_of p.seen.batches + p.pending ≤ p.most) × (p.most < 2 ^ 64) };
 }
 
 /// The name with this text.
@@ -73,16 +74,21 @@ fn compiled(alloc: Global, bytes: &[u8], options: Options) -> Result<Compiled, S
 }
 
 impl Publisher {
-    pub(crate) fn new(writer: StoreWriter, home: Arc<Home>, front: Front, most: u64) -> Publisher
-        requires shown { (writer.desk.shown.value.front ≡ front) × (front.batches ≡ []) }
+    pub(crate) fn new(
+        writer: StoreWriter,
+        sealing: Arc<Sealing>,
+        seen: Seen,
+        most: u64,
+    ) -> Publisher
+        requires shown { (writer.desk.shown.value.seen ≡ seen) × (seen.batches ≡ []) }
         requires pending { drop writer.behind writer.log.items ≡ [] }
-        requires home { (arc_value home).head.word.book ≡ front.book }
-        ensures { result ≡ record { front = front; pending = []; most = most } }
+        requires sealing { (arc_value sealing).head.word.book ≡ seen.book }
+        ensures { result ≡ record { seen = seen; pending = []; most = most } }
     {
         Publisher {
             writer,
-            home,
-            front,
+            sealing,
+            seen,
             most,
             pending: 0,
         }
@@ -90,9 +96,9 @@ impl Publisher {
 
     /// How many loads are published.
     pub fn version(&self) -> Version
-        ensures { result ≡ version_of self.now.front.batches }
+        ensures { result ≡ version_of self.now.seen.batches }
     {
-        self.front.version()
+        self.seen.version()
     }
 
     /// How many loads are pending: accepted and not published.
@@ -104,10 +110,10 @@ impl Publisher {
 
     /// A notice of what is published now.
     pub fn tell(&mut self) -> Notice
-        ensures notice { result ≡ self.old.front }
+        ensures notice { result ≡ self.old.seen }
         ensures same { self.new ≡ self.old }
     {
-        Notice::new(&self.front)
+        Notice::new(&self.seen)
     }
 
     /// Compiles a PO text for a domain and a locale (`catalogue::compile`), makes the catalogue's index, by which
@@ -130,11 +136,11 @@ impl Publisher {
         ensures unchanged { OnErr result (self.new ≡ self.old) }
 
         // Its published batches stay in any case.
-        ensures front { self.new.front ≡ self.old.front }
+        ensures seen { self.new.seen ≡ self.old.seen }
     {
         let domain = name_of(alloc, domain)?;
         let locale = name_of(alloc, locale)?;
-        if self.most - self.front.version() <= self.pending {
+        if self.most - self.seen.version() <= self.pending {
             return Err(StoreFault::VersionsSpent);
         }
         let Compiled {
@@ -161,23 +167,23 @@ impl Publisher {
     /// them with those that were accepted meanwhile. It waits for readers that entered the copy that it
     /// writes next: a `Pinned` that is never left may keep it from returning.
     pub fn publish<R: Wait>(&mut self, rt: &R) -> Result<Version, PublishFault>
-        ensures ok { IfOk result (λ _. self.new.front ≡ record { book = self.old.front.book; batches = published self.old.front.batches self.old.pending }) }
-        ensures version { IfOk result (λ version. version ≡ version_of self.new.front.batches) }
+        ensures ok { IfOk result (λ _. self.new.seen ≡ record { book = self.old.seen.book; batches = published self.old.seen.batches self.old.pending }) }
+        ensures version { IfOk result (λ version. version ≡ version_of self.new.seen.batches) }
         ensures empty { IfOk result (λ _. self.new.pending ≡ []) }
         ensures err { OnErr result (self.new ≡ self.old) }
         ensures most { self.new.most ≡ self.old.most }
 
         // It stays the publisher of the same store.
-        ensures book { self.new.front.book ≡ self.old.front.book }
+        ensures book { self.new.seen.book ≡ self.old.seen.book }
     {
         if self.pending == 0 {
-            return Ok(self.front.version());
+            return Ok(self.seen.version());
         }
-        let Ok(home) = Arc::try_clone(&self.home) else {
+        let Ok(sealing) = Arc::try_clone(&self.sealing) else {
             return Err(PublishFault::Memory);
         };
         let bundle = bundle_of(&self.writer);
-        let seal = Seal::new(home, self.front.again(), self.pending, bundle);
+        let seal = Seal::new(sealing, self.seen.again(), self.pending, bundle);
         let shown = Snapshot::of(&seal);
         if append_seal(&mut self.writer, seal).is_err() {
             return Err(PublishFault::Memory);
@@ -185,9 +191,9 @@ impl Publisher {
         if publish_at(rt, &mut self.writer, &shown).is_err() {
             return Err(PublishFault::Memory);
         }
-        self.front = shown_front(rt, &self.writer);
+        self.seen = just_shown(rt, &self.writer);
         self.pending = 0;
-        Ok(self.front.version())
+        Ok(self.seen.version())
     }
 
     /// Ends the publisher. Its pending loads are dropped, and readers that enter from now on may find the
@@ -195,8 +201,8 @@ impl Publisher {
     pub fn end<R: Wait>(self, rt: &R) {
         let Publisher {
             writer,
-            home: _,
-            front: _,
+            sealing: _,
+            seen: _,
             most: _,
             pending: _,
         } = self;

@@ -4,15 +4,15 @@ ghost use Rattle.std.specs.Borrow.{sem, RestsIfErr};
 ghost use Rattle.left_right.specs.Sides.{view};
 ghost use Rattle.live_set.specs.Asks.{IsAnswer};
 ghost use Rattle.live_versions.specs.Batches.{joined, version_of, StartsWith};
-ghost use Rattle.live_versions.specs.Entered.{entry_of, home_name};
+ghost use Rattle.live_versions.specs.Entries.{entry_of, home_name};
 ghost use Rattle.live_versions.specs.contracts.reader.Lookups.{the_row};
 
 use crate::Version;
 use crate::fault::{Ahead, AskFault, Closed};
-use crate::front::Front;
 use crate::notice::Notice;
 use crate::pinned::{Entry, Pinned};
 use crate::rule::{Entered, Shown, Versions, View};
+use crate::seen::Seen;
 use left_right::reader::Reader;
 use live_set::Query;
 use std::alloc::Global;
@@ -26,42 +26,42 @@ pub(crate) type StoreReader = Reader<Shown, View, Versions>;
 pub struct Lookups {
     /// A `Pinned` has it while it lives.
     reader: Option<StoreReader>,
-    front: Front,
+    seen: Seen,
     /// What was seen last was learnt of a notice, and not entered.
     apart: bool,
 }
 
 impl Model for Lookups {
-    ghost use Rattle.live_versions.specs.Told.{FrontValue};
+    ghost use Rattle.live_versions.specs.Seen.{SeenValue};
 
-    ghost Value = { FrontValue };
+    ghost Value = { SeenValue };
 
     ghost use Rattle.live_versions.specs.Known.{IsHome};
 
-    ghost view = { λ l. l.front };
+    ghost view = { λ l. l.seen };
 
-    ghost invariant = { λ l. IsHome l.reader l.apart l.front };
+    ghost invariant = { λ l. IsHome l.reader l.apart l.seen };
 }
 
 impl Lookups {
-    pub(crate) fn new(reader: StoreReader, front: Front) -> Lookups
-        requires { (view reader.place).books ≡ front.book ∷ [] }
-        ensures { result ≡ front }
+    pub(crate) fn new(reader: StoreReader, seen: Seen) -> Lookups
+        requires { (view reader.place).books ≡ seen.book ∷ [] }
+        ensures { result ≡ seen }
     {
         Lookups {
             reader: Some(reader),
-            front,
+            seen,
             apart: true,
         }
     }
 
     /// A reader that has left its entry again.
-    pub(crate) fn come_home(&mut self, reader: StoreReader, front: Front)
-        requires { ((view reader.place).books ≡ front.book ∷ []) × ((view reader.place).batches ≡ front.batches) }
-        ensures { self.new ≡ front }
+    pub(crate) fn come_home(&mut self, reader: StoreReader, seen: Seen)
+        requires { ((view reader.place).books ≡ seen.book ∷ []) × ((view reader.place).batches ≡ seen.batches) }
+        ensures { self.new ≡ seen }
     {
         self.reader = Some(reader);
-        self.front = front;
+        self.seen = seen;
         self.apart = false;
     }
 
@@ -69,7 +69,7 @@ impl Lookups {
     pub fn seen(&self) -> Version
         ensures { result ≡ version_of self.now.batches }
     {
-        self.front.version()
+        self.seen.version()
     }
 
     /// Enters what is published now. It waits for nothing and takes no memory. The entry lasts until it is left.
@@ -88,16 +88,16 @@ impl Lookups {
         match reader.enter_as::<Entered>() {
             Ok(reading) => {
                 // What is shown is in the book, and it is not behind what was learnt. No contract says so.
-                let Some(front) = reading.get().front.token() else {
+                let Some(seen) = reading.get().seen.token() else {
                     self.apart = true;
                     self.reader = Some(reading.leave());
                     return Err(Closed);
                 };
-                if self.apart && !self.front.begins(&front) {
+                if self.apart && !self.seen.begins(&seen) {
                     self.reader = Some(reading.leave());
                     return Err(Closed);
                 }
-                let entry = Entry::new(reading, front);
+                let entry = Entry::new(reading, seen);
                 Ok(Pinned { home: self, entry })
             }
             Err(reader) => {
@@ -136,8 +136,8 @@ impl Lookups {
         ensures one { (self.new ≡ self.old) ⊎ (self.new ≡ notice.now) }
         ensures book { self.new.book ≡ self.old.book }
     {
-        if self.front.begins(&notice.front) {
-            self.front = notice.front.again();
+        if self.seen.begins(&notice.seen) {
+            self.seen = notice.seen.again();
             self.apart = true;
         }
     }
@@ -150,12 +150,12 @@ impl Lookups {
         ensures ahead { IfErr result (λ ahead. (ahead.seen ≡ version_of self.old.batches) × StartsWith self.old.batches notice.now.batches × (version_of notice.now.batches < version_of self.old.batches) × (self.new ≡ self.old)) }
         ensures book { self.new.book ≡ self.old.book }
     {
-        if !self.front.begins(&notice.front) {
+        if !self.seen.begins(&notice.seen) {
             return Err(Ahead {
-                seen: self.front.version(),
+                seen: self.seen.version(),
             });
         }
-        self.front = notice.front.again();
+        self.seen = notice.seen.again();
         self.apart = true;
         Ok(notice.version())
     }

@@ -1,10 +1,10 @@
 //! The rule between the publisher and the readers, over the two copies of `left_right`.
 ghost use Rattle.std.specs.Prelude.{◌≡◌, MatchResult};
 ghost use Rattle.live_versions.specs.Rule.{Keeps, Sees, applied_to};
-ghost use Rattle.live_versions.specs.Views.{fresh};
+ghost use Rattle.live_versions.specs.SeatViews.{fresh};
 
-use crate::front::Front;
 use crate::seal::{Cover, Seal};
+use crate::seen::Seen;
 use crossbeam_utils::rule::{Outcome, Protocol};
 use left_right::Absorb;
 use live_set::{CatalogueSet, Load};
@@ -24,19 +24,19 @@ pub(crate) enum Change {
 #[derive(Drop)]
 pub(crate) struct Shown {
     pub(crate) set: CatalogueSet,
-    pub(crate) front: Cover,
+    pub(crate) seen: Cover,
 }
 
 /// What the two copies have in common. No value of it is made.
 pub(crate) struct Common {
     pub(crate) set: CatalogueSet,
-    pub(crate) front: Front,
+    pub(crate) seen: Seen,
 }
 
 impl Absorb<Change> for Shown {
     type State = Common;
 
-    ghost state = { λ s. record { set = s.set; front = s.front } };
+    ghost state = { λ s. record { set = s.set; seen = s.seen } };
 
     ghost applied = { applied_to };
 
@@ -45,7 +45,7 @@ impl Absorb<Change> for Shown {
             Change::Load(load) => self.set.absorb(load),
             // By now each load before it was taken in, so nothing that follows takes memory.
             Change::Seal(seal) => {
-                self.front = seal.cover();
+                self.seen = seal.cover();
                 Ok(())
             }
         }
@@ -58,7 +58,7 @@ pub(crate) struct View {
 }
 
 impl Model for View {
-    ghost use Rattle.live_versions.specs.Views.{ViewValue, fresh};
+    ghost use Rattle.live_versions.specs.SeatViews.{ViewValue, fresh};
 
     ghost Value = { ViewValue };
 
@@ -68,7 +68,7 @@ impl Model for View {
 pub(crate) struct Versions;
 
 impl Protocol<Shown, View> for Versions {
-    ghost holds = { λ x views. Keeps x.set x.front views };
+    ghost holds = { λ x views. Keeps x.set x.seen views };
 
     ghost first = { fresh };
 }
@@ -77,5 +77,5 @@ impl Protocol<Shown, View> for Versions {
 pub(crate) struct Entered;
 
 impl Outcome<Shown, View> for Entered {
-    ghost then = { λ v x y w. Sees v y.set y.front w };
+    ghost then = { λ v x y w. Sees v y.set y.seen w };
 }

@@ -7,20 +7,20 @@ ghost use Rattle.std.specs.Arc.{arc_value};
 ghost use Rattle.live_versions.specs.Batches.{version_of};
 ghost use Rattle.live_versions.specs.Changes.{loads_of};
 
-use crate::front::{Front, Head, add_batch};
+use crate::seen::{Head, Seen, add_batch};
 use crate::writer::StoreWriter;
-use logbook::{Opening, Rule, Seen, Start};
+use logbook::{Opening, Rule, Start};
 use std::marker::{Brand, Model, PhantomData};
 use std::sync::Arc;
 use std::sync::atomic::AtomicU64;
 use std::sync::atomic::Ordering::SeqCst;
 
 /// A load, as a bundle's book has it. No value of it is made.
-pub(crate) struct Line {
+pub(crate) struct BundleLoad {
     nothing: (),
 }
 
-impl Model for Line {
+impl Model for BundleLoad {
     ghost use Rattle.std.specs.Prelude.{[]};
     ghost use Rattle.live_set.specs.Loads.{LoadValue};
 
@@ -30,9 +30,9 @@ impl Model for Line {
 }
 
 /// The rule of a bundle's book: none.
-pub(crate) struct Page;
+pub(crate) struct BundleRule;
 
-impl Rule<Line, u64> for Page {
+impl Rule<BundleLoad, u64> for BundleRule {
     ghost use Rattle.std.specs.Prelude.{⊤, []};
     ghost use base.Fml.{ftrue};
 
@@ -67,7 +67,7 @@ struct Pages<N: Batch> {
     of: PhantomData<N>,
 }
 
-impl<N: Batch> Opening<u64, Line> for Pages<N> {
+impl<N: Batch> Opening<u64, BundleLoad> for Pages<N> {
     ghost log = { λ n x. N.loads };
 }
 
@@ -75,7 +75,7 @@ impl<N: Batch> Opening<u64, Line> for Pages<N> {
 #[derive(Drop)]
 pub(crate) struct Bundle {
     /// The first page of a book of its own.
-    page: Seen<Line, u64, Page>,
+    page: logbook::Seen<BundleLoad, u64, BundleRule>,
 }
 
 impl Model for Bundle {
@@ -102,7 +102,7 @@ fn name_batch<N: Batch>(writer: &StoreWriter) -> Bundle
     ensures { result ≡ N.loads }
 {
     let _ = writer;
-    let (page, _pens) = Seen::open_row::<u64, Pages<N>>(&0, Start::alone(), 0);
+    let (page, _pens) = logbook::Seen::open_row::<u64, Pages<N>>(&0, Start::alone(), 0);
     Bundle { page }
 }
 
@@ -115,16 +115,16 @@ pub(crate) fn bundle_of(writer: &StoreWriter) -> Bundle
 
 /// The word of the book, and the number of the seal that may still be bound.
 #[derive(Drop)]
-pub(crate) struct Home {
+pub(crate) struct Sealing {
     pub(crate) head: Head,
     pub(crate) live: AtomicU64,
 }
 
-/// A batch that a publish is about to show, behind those that are shown. Contracts see it as the front that it makes.
+/// A batch that a publish is about to show, behind those that are shown. Contracts see it as what is seen behind it.
 #[derive(Drop)]
 pub(crate) struct Seal {
-    home: Arc<Home>,
-    base: Front,
+    sealing: Arc<Sealing>,
+    base: Seen,
     loads: u64,
     bundle: Bundle,
     number: u64,
@@ -134,26 +134,26 @@ impl Model for Seal {
     ghost use Rattle.std.specs.Prelude.{◌≡◌, ◌<◌, ◌+◌, ◌^◌, ◌++◌, ◌∷◌, [], length};
     ghost use Rattle.std.specs.Arc.{arc_value};
     ghost use Rattle.live_versions.specs.Batches.{version_of};
-    ghost use Rattle.live_versions.specs.Told.{FrontValue};
+    ghost use Rattle.live_versions.specs.Seen.{SeenValue};
 
-    ghost Value = { FrontValue };
+    ghost Value = { SeenValue };
 
     ghost view = { λ s. record { book = s.base.book; batches = s.base.batches ++ s.bundle ∷ [] } };
 
-    ghost invariant = { λ s. ((arc_value s.home).head.word.book ≡ s.base.book) × (0 < s.loads) × (s.loads ≡ length s.bundle) × (version_of s.base.batches + s.loads < 2 ^ 64) };
+    ghost invariant = { λ s. ((arc_value s.sealing).head.word.book ≡ s.base.book) × (0 < s.loads) × (s.loads ≡ length s.bundle) × (version_of s.base.batches + s.loads < 2 ^ 64) };
 }
 
 impl Seal {
     /// A seal for so many loads behind these batches. A seal that was made before it is void from now on.
-    pub(crate) fn new(home: Arc<Home>, base: Front, loads: u64, bundle: Bundle) -> Seal
-        requires book { (arc_value home).head.word.book ≡ base.book }
+    pub(crate) fn new(sealing: Arc<Sealing>, base: Seen, loads: u64, bundle: Bundle) -> Seal
+        requires book { (arc_value sealing).head.word.book ≡ base.book }
         requires loads { (0 < loads) × (loads ≡ length bundle) }
         requires room { version_of base.batches + loads < 2 ^ 64 }
         ensures { result ≡ record { book = base.book; batches = base.batches ++ bundle ∷ [] } }
     {
-        let number = home.live.fetch_add(1, SeqCst).wrapping_add(1);
+        let number = sealing.live.fetch_add(1, SeqCst).wrapping_add(1);
         Seal {
-            home,
+            sealing,
             base,
             loads,
             bundle,
@@ -162,13 +162,13 @@ impl Seal {
     }
 
     /// Puts the batch into the book, for good. It does not where a later seal was made, or the book is further.
-    fn bind(&self) -> Option<Front>
+    fn bind(&self) -> Option<Seen>
         ensures { IfSome result (λ f. f ≡ self.now) }
     {
-        if self.home.live.load(SeqCst) != self.number {
+        if self.sealing.live.load(SeqCst) != self.number {
             return None;
         }
-        add_batch(&self.home.head, &self.base, self.loads, &self.bundle)
+        add_batch(&self.sealing.head, &self.base, self.loads, &self.bundle)
     }
 
     /// What a copy shows once it has taken in this seal, bound where it can be.
@@ -183,41 +183,42 @@ impl Seal {
     }
 }
 
-/// Which batches a copy shows, with their front where they are in the book.
+/// Which batches a copy shows, and that they were seen, where they are in the book.
 /// They are, in each copy that a publish shows. No contract says so.
 #[derive(Drop)]
 pub(crate) struct Cover {
-    base: Front,
+    base: Seen,
     bundle: Option<Bundle>,
-    token: Option<Front>,
+    token: Option<Seen>,
 }
 
 impl Model for Cover {
-    ghost use Rattle.live_versions.specs.Told.{FrontValue, claimed, IsFrontOf};
+    ghost use Rattle.live_versions.specs.Seen.{SeenValue};
+    ghost use Rattle.live_versions.specs.Book.{claimed, IsTokenOf};
 
-    ghost Value = { FrontValue };
+    ghost Value = { SeenValue };
 
     ghost view = { λ c. claimed c.base c.bundle };
 
-    ghost invariant = { λ c. IsFrontOf c.token (claimed c.base c.bundle) };
+    ghost invariant = { λ c. IsTokenOf c.token (claimed c.base c.bundle) };
 }
 
 impl Cover {
     /// What a new copy shows.
-    pub(crate) fn first(front: &Front) -> Cover
-        ensures { result ≡ front.now }
+    pub(crate) fn first(seen: &Seen) -> Cover
+        ensures { result ≡ seen.now }
     {
         Cover {
-            base: front.again(),
+            base: seen.again(),
             bundle: None,
-            token: Some(front.again()),
+            token: Some(seen.again()),
         }
     }
 
-    /// The front of what is shown, where it is in the book.
-    pub(crate) fn token(&self) -> Option<Front>
+    /// What is shown, as seen in the book, where it is there.
+    pub(crate) fn token(&self) -> Option<Seen>
         ensures { IfSome result (λ f. f ≡ self.now) }
     {
-        self.token.as_ref().map(|front| front.again())
+        self.token.as_ref().map(|seen| seen.again())
     }
 }

@@ -5,11 +5,11 @@ ghost use Rattle.live_versions.specs.declared.fault.OpenFault.TheVariants.{BadCo
 ghost use Rattle.left_right.specs.Sides.{view};
 
 use crate::fault::OpenFault;
-use crate::front::{Front, open_book};
 use crate::publisher::Publisher;
 use crate::reader::Lookups;
 use crate::rule::{Shown, View};
-use crate::seal::{Cover, Home};
+use crate::seal::{Cover, Sealing};
+use crate::seen::{Seen, open_book};
 use crate::writer::{StoreWriter, name_book};
 use atomic_table::{Join, Split};
 use left_right::writer::Writer;
@@ -30,7 +30,7 @@ impl Split<View> for Same {
 }
 
 impl Join<View> for Same {
-    ghost use Rattle.live_versions.specs.Views.{fresh};
+    ghost use Rattle.live_versions.specs.SeatViews.{fresh};
 
     ghost both = { λ v w. w };
 
@@ -38,9 +38,9 @@ impl Join<View> for Same {
 }
 
 /// A reader of the writer's book.
-fn new_reader(writer: &mut StoreWriter, front: &Front) -> Result<Lookups, OpenFault>
-    requires { (view writer.old.desk.place).books ≡ front.now.book ∷ [] }
-    ensures reader { IfOk result (λ l. l ≡ front.now) }
+fn new_reader(writer: &mut StoreWriter, seen: &Seen) -> Result<Lookups, OpenFault>
+    requires { (view writer.old.desk.place).books ≡ seen.now.book ∷ [] }
+    ensures reader { IfOk result (λ l. l ≡ seen.now) }
     ensures fault { IfErr result (λ fault. fault ≢ BadCount) }
     ensures kept { (writer.new.desk.shown ≡ writer.old.desk.shown) × (writer.new.log ≡ writer.old.log) × (writer.new.behind ≡ writer.old.behind) × (view writer.new.desk.place ≡ view writer.old.desk.place) }
 {
@@ -48,24 +48,24 @@ fn new_reader(writer: &mut StoreWriter, front: &Front) -> Result<Lookups, OpenFa
         return Err(OpenFault::NoPlace);
     };
     reader.learn::<Same>(writer.tell::<Same>());
-    Ok(Lookups::new(reader, front.again()))
+    Ok(Lookups::new(reader, seen.again()))
 }
 
 /// So many readers of this book, which have seen nothing.
 fn new_readers(
     alloc: Global,
     writer: &mut StoreWriter,
-    front: &Front,
+    seen: &Seen,
     readers: u32,
 ) -> Result<Vec<Lookups>, OpenFault>
-    requires { (view writer.old.desk.place).books ≡ front.now.book ∷ [] }
-    ensures readers { IfOk result (λ v. (vec_len v ≡ readers) × All (λ l. l ≡ front.now) v.items) }
+    requires { (view writer.old.desk.place).books ≡ seen.now.book ∷ [] }
+    ensures readers { IfOk result (λ v. (vec_len v ≡ readers) × All (λ l. l ≡ seen.now) v.items) }
     ensures fault { IfErr result (λ fault. fault ≢ BadCount) }
     ensures kept { (writer.new.desk.shown ≡ writer.old.desk.shown) × (writer.new.log ≡ writer.old.log) × (writer.new.behind ≡ writer.old.behind) }
 {
     let mut lookups = Vec::new(alloc);
     for _ in 0..readers {
-        let lookup = new_reader(writer, front)?;
+        let lookup = new_reader(writer, seen)?;
         if lookups.push(lookup).is_err() {
             return Err(OpenFault::Memory);
         }
@@ -74,13 +74,13 @@ fn new_readers(
 }
 
 /// A copy of what is published at first.
-fn first_shown(alloc: Global, front: &Front) -> Shown
+fn first_shown(alloc: Global, seen: &Seen) -> Shown
     ensures set { result.set ≡ no_loads }
-    ensures front { result.front ≡ front.now }
+    ensures seen { result.seen ≡ seen.now }
 {
     Shown {
         set: CatalogueSet::new(alloc),
-        front: Cover::first(front),
+        seen: Cover::first(seen),
     }
 }
 
@@ -94,22 +94,22 @@ pub fn open_store<R: Wait>(
     readers: u32,
     most: u64,
 ) -> Result<(Publisher, Vec<Lookups>), OpenFault>
-    ensures publisher { IfOk result (λ t. (t.0.front.batches ≡ []) × (t.0.pending ≡ []) × (t.0.most ≡ most)) }
+    ensures publisher { IfOk result (λ t. (t.0.seen.batches ≡ []) × (t.0.pending ≡ []) × (t.0.most ≡ most)) }
 
     // Each reader is of this store, and has seen nothing.
-    ensures readers { IfOk result (λ t. (vec_len t.1 ≡ readers) × All (λ l. l ≡ t.0.front) t.1.items) }
+    ensures readers { IfOk result (λ t. (vec_len t.1 ≡ readers) × All (λ l. l ≡ t.0.seen) t.1.items) }
     ensures counted { IfOk result (λ _. (1 ≤ readers) × (readers ≤ 16)) }
     ensures bad_count { IfErr result (λ fault. (fault ≡ BadCount) ↔ ((readers ≡ 0) ⊎ (16 < readers))) }
 {
     if readers == 0 || readers > MOST_READERS {
         return Err(OpenFault::BadCount);
     }
-    let (head, front) = open_book();
+    let (head, seen) = open_book();
     let live = AtomicU64::new(0);
-    let Ok(home) = Arc::new(alloc, Home { head, live }) else {
+    let Ok(sealing) = Arc::new(alloc, Sealing { head, live }) else {
         return Err(OpenFault::Memory);
     };
-    let (first, second) = (first_shown(alloc, &front), first_shown(alloc, &front));
+    let (first, second) = (first_shown(alloc, &seen), first_shown(alloc, &seen));
     let Ok(writer) = Writer::new(alloc, first, second, readers as usize) else {
         return Err(OpenFault::Memory);
     };
@@ -118,8 +118,8 @@ pub fn open_store<R: Wait>(
         drop(writer.take(rt));
         return Err(OpenFault::Memory);
     }
-    match new_readers(alloc, &mut writer, &front, readers) {
-        Ok(lookups) => Ok((Publisher::new(writer, home, front, most), lookups)),
+    match new_readers(alloc, &mut writer, &seen, readers) {
+        Ok(lookups) => Ok((Publisher::new(writer, sealing, seen, most), lookups)),
         Err(fault) => {
             drop(writer.take(rt));
             Err(fault)

@@ -4,9 +4,9 @@ ghost use Rattle.left_right.specs.Sides.{view};
 ghost use Rattle.live_versions.specs.Batches.{version_of};
 ghost use Rattle.live_versions.specs.Changes.{loads_of, EndsIn};
 
-use crate::front::Front;
 use crate::rule::{Change, Shown, Versions, View};
 use crate::seal::Seal;
+use crate::seen::Seen;
 use core::mem::replace_with;
 use crossbeam_utils::rule::Outcome;
 use left_right::writer::Writer;
@@ -20,7 +20,7 @@ pub(crate) type StoreWriter = Writer<Shown, Change, View, Versions>;
 struct Publishing;
 
 impl Outcome<Shown, View> for Publishing {
-    ghost then = { λ v x y w. w ≡ record { books = y.front.book ∷ []; batches = y.front.batches } };
+    ghost then = { λ v x y w. w ≡ record { books = y.seen.book ∷ []; batches = y.seen.batches } };
 }
 
 /// A publish with nothing pending, by which the writer knows its book.
@@ -30,8 +30,8 @@ pub(crate) fn name_book<R: Wait>(
 ) -> (StoreWriter, Result<(), AllocError>)
     requires { drop writer.behind writer.log.items ≡ [] }
     ensures pending { drop result.0.behind result.0.log.items ≡ [] }
-    ensures shown { result.0.desk.shown.value.front ≡ writer.desk.shown.value.front }
-    ensures book { OnOk result.1 ((view result.0.desk.place).books ≡ writer.desk.shown.value.front.book ∷ []) }
+    ensures shown { result.0.desk.shown.value.seen ≡ writer.desk.shown.value.seen }
+    ensures book { OnOk result.1 ((view result.0.desk.place).books ≡ writer.desk.shown.value.seen.book ∷ []) }
 {
     writer.publish_as::<Publishing, R>(rt)
 }
@@ -43,11 +43,11 @@ fn publish_sealed<R: Wait>(
     seal: &Snapshot<Seal>,
 ) -> (StoreWriter, Result<(), AllocError>)
     requires sealed { EndsIn seal.now.value (drop writer.behind writer.log.items) }
-    requires bound { seal.now.value ≡ record { book = writer.desk.shown.value.front.book; batches = writer.desk.shown.value.front.batches ++ loads_of (drop writer.behind writer.log.items) ∷ [] } }
+    requires bound { seal.now.value ≡ record { book = writer.desk.shown.value.seen.book; batches = writer.desk.shown.value.seen.batches ++ loads_of (drop writer.behind writer.log.items) ∷ [] } }
     requires some { 0 < length (loads_of (drop writer.behind writer.log.items)) }
-    requires room { version_of writer.desk.shown.value.front.batches + length (loads_of (drop writer.behind writer.log.items)) < 2 ^ 64 }
-    ensures sum { version_of seal.now.value.batches ≡ version_of writer.desk.shown.value.front.batches + length (loads_of (drop writer.behind writer.log.items)) }
-    ensures ok { OnOk result.1 ((result.0.desk.shown.value.front ≡ seal.now.value) × (drop result.0.behind result.0.log.items ≡ [])) }
+    requires room { version_of writer.desk.shown.value.seen.batches + length (loads_of (drop writer.behind writer.log.items)) < 2 ^ 64 }
+    ensures sum { version_of seal.now.value.batches ≡ version_of writer.desk.shown.value.seen.batches + length (loads_of (drop writer.behind writer.log.items)) }
+    ensures ok { OnOk result.1 ((result.0.desk.shown.value.seen ≡ seal.now.value) × (drop result.0.behind result.0.log.items ≡ [])) }
     ensures err { OnErr result.1 ((result.0.desk.shown.value ≡ writer.desk.shown.value) × (drop result.0.behind result.0.log.items ≡ drop writer.behind writer.log.items)) }
 {
     writer.publish_as::<Publishing, R>(rt)
@@ -60,11 +60,11 @@ pub(crate) fn publish_at<R: Wait>(
     seal: &Snapshot<Seal>,
 ) -> Result<(), AllocError>
     requires sealed { EndsIn seal.now.value (drop writer.old.behind writer.old.log.items) }
-    requires bound { seal.now.value ≡ record { book = writer.old.desk.shown.value.front.book; batches = writer.old.desk.shown.value.front.batches ++ loads_of (drop writer.old.behind writer.old.log.items) ∷ [] } }
+    requires bound { seal.now.value ≡ record { book = writer.old.desk.shown.value.seen.book; batches = writer.old.desk.shown.value.seen.batches ++ loads_of (drop writer.old.behind writer.old.log.items) ∷ [] } }
     requires some { 0 < length (loads_of (drop writer.old.behind writer.old.log.items)) }
-    requires room { version_of writer.old.desk.shown.value.front.batches + length (loads_of (drop writer.old.behind writer.old.log.items)) < 2 ^ 64 }
-    ensures sum { version_of seal.now.value.batches ≡ version_of writer.old.desk.shown.value.front.batches + length (loads_of (drop writer.old.behind writer.old.log.items)) }
-    ensures ok { OnOk result ((writer.new.desk.shown.value.front ≡ seal.now.value) × (drop writer.new.behind writer.new.log.items ≡ [])) }
+    requires room { version_of writer.old.desk.shown.value.seen.batches + length (loads_of (drop writer.old.behind writer.old.log.items)) < 2 ^ 64 }
+    ensures sum { version_of seal.now.value.batches ≡ version_of writer.old.desk.shown.value.seen.batches + length (loads_of (drop writer.old.behind writer.old.log.items)) }
+    ensures ok { OnOk result ((writer.new.desk.shown.value.seen ≡ seal.now.value) × (drop writer.new.behind writer.new.log.items ≡ [])) }
     ensures err { OnErr result ((writer.new.desk.shown.value ≡ writer.old.desk.shown.value) × (drop writer.new.behind writer.new.log.items ≡ drop writer.old.behind writer.old.log.items)) }
 {
     replace_with(writer, rt, |writer, rt| publish_sealed(rt, writer, seal))
@@ -94,14 +94,14 @@ pub(crate) fn append_seal(writer: &mut StoreWriter, seal: Seal) -> Result<(), Al
     }
 }
 
-/// The front of what was just shown. Its seal was the last change that the copy took in, so it is bound.
+/// What was just shown, as seen in the book. Its seal was the last change that the copy took in, so it is bound.
 /// No contract says so: where it were not, this would not return.
-pub(crate) fn shown_front<R: Wait>(rt: &R, writer: &StoreWriter) -> Front
-    ensures { result ≡ writer.now.desk.shown.value.front }
+pub(crate) fn just_shown<R: Wait>(rt: &R, writer: &StoreWriter) -> Seen
+    ensures { result ≡ writer.now.desk.shown.value.seen }
 {
     for _ in rt.forever() {
-        if let Some(front) = writer.published().front.token() {
-            return front;
+        if let Some(seen) = writer.published().seen.token() {
+            return seen;
         }
     }
     unreachable!()

@@ -35,7 +35,7 @@ fn load<R: Print + AllocGlobal>(
     locale: &str,
     text: &str,
 ) -> io::Result<()>
-    ensures { publisher.new.front.book ≡ publisher.old.front.book }
+    ensures { publisher.new.seen.book ≡ publisher.old.seen.book }
 {
     match publisher.load(rt.alloc(), "app", locale, text.as_bytes(), PLAIN) {
         Ok(stats) => println!(rt; "load {locale}: {} translated", stats.translated)?,
@@ -48,7 +48,7 @@ fn load<R: Print + AllocGlobal>(
 }
 
 fn publish<R: Wait + Print>(rt: &R, publisher: &mut Publisher) -> io::Result<()>
-    ensures { publisher.new.front.book ≡ publisher.old.front.book }
+    ensures { publisher.new.seen.book ≡ publisher.old.seen.book }
 {
     match publisher.publish(rt) {
         Ok(version) => println!(rt; "publish: {version}")?,
@@ -100,7 +100,7 @@ fn rows<R: Wait + Print + AllocGlobal>(
     publisher: &mut Publisher,
     reader: &mut Lookups,
 ) -> io::Result<()>
-    requires { reader.old.book ≡ publisher.old.front.book }
+    requires { reader.old.book ≡ publisher.old.seen.book }
 {
     load(rt, publisher, "fr", SALUT)?;
     load(rt, publisher, "de", HALLO)?;

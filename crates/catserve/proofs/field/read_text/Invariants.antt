@@ -1,6 +1,6 @@
 use Rattle.std.proofs.Common.{length}
 use Rattle.std.specs.String.{string_bytes}
-use Rattle.catserve.specs.Reading.{HasRead}
+use Rattle.catserve.specs.Scanning.{HasRead}
 use Rattle.catserve.proofs.field.read_text.Given as goal
 
 abbrev pub invariant-escapes : goal.invariant-escapes

@@ -4,7 +4,7 @@ use Rattle.std.specs.List.{position_or_len}
 use Rattle.std.specs.Str.{IsUtf8}
 use Rattle.std.proofs.lemmas.Bool.{eqb-false}
 use Rattle.bstr.specs.Find.{is_byte}
-use Rattle.catserve.specs.Reading.{IsCut, IsFirstLine}
+use Rattle.catserve.specs.Scanning.{IsCut, IsFirstLine}
 use Rattle.catserve.proofs.Cutting.{first_line, last_line}
 use Rattle.catserve.proofs.line.split_line.Goals as goal
 

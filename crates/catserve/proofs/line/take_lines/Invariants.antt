@@ -1,4 +1,4 @@
-use Rattle.catserve.specs.Reading.{HasTaken}
+use Rattle.catserve.specs.Scanning.{HasTaken}
 use Rattle.catserve.proofs.line.take_lines.Given as goal
 
 abbrev pub invariant-lines : goal.invariant-lines

@@ -1,4 +1,4 @@
-use Rattle.catserve.specs.Views.{line_value}
+use Rattle.catserve.specs.LineValues.{line_value}
 use Rattle.catserve.proofs.Parsing.{goes_on}
 use Rattle.catserve.proofs.parse.parse.Goals as goal
 

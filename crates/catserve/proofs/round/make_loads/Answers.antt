@@ -16,5 +16,5 @@ loads-preserved c =
     let P : List LoadText → Type 0 = λ ls. LoadsAll ls was now c.args.output.now.items c.make_load.new.output.items in
     record {
       loaded = subst P (sym front) (loads_more (take i loads) load was c.loads.publisher.pending now c.args.output.now.items c.loads.output.items c.make_load.new.output.items c.loads.invariant.loaded c.in_ok-make_load.ensures.ok);
-      front = c.make_load.ensures.front ∙ c.loads.invariant.front;
+      seen = c.make_load.ensures.seen ∙ c.loads.invariant.seen;
     }

@@ -1,6 +1,6 @@
 use Rattle.std.proofs.Common.{subst, ℕ, List}
 use Rattle.std.specs.Io.KnownBytes.{Appends}
-use Rattle.catserve.specs.Meaning.{HasOutput}
+use Rattle.catserve.specs.Rounds.{HasOutput}
 use Rattle.catserve.proofs.run.run_script.Goals as goal
 
 pub returns-in-Ok : goal.returns-in-Ok

@@ -2,7 +2,7 @@ use Rattle.std.proofs.Common.{◌≡◌, ◌∙◌, ◌+◌, ◌∷◌, [], ◌+
 use Rattle.std.proofs.lemmas.List.{take_more}
 use Rattle.live_set.specs.Asks.{QueryValue}
 use Rattle.live_versions.specs.Batches.{joined}
-use Rattle.catserve.specs.Meaning.{Answers}
+use Rattle.catserve.specs.Rounds.{Answers}
 use Rattle.catserve.proofs.Batching.{one_answer_more}
 use Rattle.catserve.proofs.worker.answer_all.Goals as goal
 

@@ -1,12 +1,12 @@
 //! Worked values. They were written by hand, and not taken from a run.
 ghost use Rattle.std.specs.Prelude.{◌≡◌};
 
-use crate::{
+use catalogue::{LoadFault, LoadKind, Options, Stats};
+use live_set::{Ask, Query};
+use live_versions::{
     Ahead, AskFault, Closed, Lookups, Notice, OpenFault, Pinned, Publisher, StoreFault, Version,
     open_store, versions_never_fall,
 };
-use catalogue::{LoadFault, LoadKind, Options, Stats};
-use live_set::{Ask, Query};
 use std::alloc::{AllocError, Global};
 use std::sync::Wait;
 use std::test::Fail;
@@ -78,7 +78,7 @@ fn publish_two<R: Wait>(
     publisher: &mut Publisher,
     reader: &mut Lookups,
 ) -> Published
-    requires { reader.old.book ≡ publisher.old.front.book }
+    requires { reader.old.book ≡ publisher.old.seen.book }
 {
     let loads = (
         publisher.load(alloc, "app", "fr", SALUT, PLAIN),
@@ -162,7 +162,7 @@ struct Told {
 }
 
 fn tell_two<R: Wait>(rt: &R, alloc: Global, publisher: &mut Publisher, reader: &mut Lookups) -> Told
-    requires { reader.old.book ≡ publisher.old.front.book }
+    requires { reader.old.book ≡ publisher.old.seen.book }
 {
     let empty = shows(reader, 0, "hi", "hi", "hi");
     let _ = publisher.load(alloc, "app", "fr", SALUT, PLAIN);
@@ -285,8 +285,8 @@ fn both_learn<R: Wait>(
     first: &mut Lookups,
     second: &mut Lookups,
 ) -> Result<(bool, bool), Closed>
-    requires first { first.old.book ≡ publisher.old.front.book }
-    requires second { second.old.book ≡ publisher.old.front.book }
+    requires first { first.old.book ≡ publisher.old.seen.book }
+    requires second { second.old.book ≡ publisher.old.seen.book }
 {
     let _ = publisher.load(alloc, "app", "fr", SALUT, PLAIN);
     let _ = publisher.publish(rt);

@@ -1,6 +1,6 @@
-//! Runs of whole scripts, also over devices that are made to fail. What is wanted was written by hand, and not
-//! taken from a run.
-use crate::{MOST_SCRIPT, ScriptFault, ScriptKind, run_script};
+//! Runs of a script over devices that fail in mid-stream. What is wanted was written by hand, and not taken from
+//! a run. More scripts are run by the program itself (`tests/scripts.sh`).
+use catserve::{ScriptFault, ScriptKind, run_script};
 use devices::{Reading, Writing};
 use std::alloc::Global;
 use std::io;
@@ -112,72 +112,11 @@ fn run_over<T: Threads + Wait>(
     (done, writer.inner.held)
 }
 
-/// Whether a script writes this.
-fn writes<T: Threads + Wait>(rt: &T, alloc: Global, script: &str, output: &str) -> bool {
-    let (done, written) = run_over(rt, alloc, script.as_bytes(), usize::MAX, usize::MAX);
-    done == Ok(()) && written.as_slice() == output.as_bytes()
-}
-
-/// Whether a script is refused for this, at this line, and nothing is written.
-fn is_refused<T: Threads + Wait>(
-    rt: &T,
-    alloc: Global,
-    script: &[u8],
-    kind: ScriptKind,
-    line: u32,
-) -> bool {
-    let (done, written) = run_over(rt, alloc, script, usize::MAX, usize::MAX);
-    done == Err(ScriptFault { kind, line }) && written.is_empty()
-}
-
 #[test]
-fn scripts_are_run(rt: HostRuntime) -> Result<(), Fail> {
-    let alloc = rt.alloc();
-    assert!(rt; writes(&rt, alloc, SCRIPT, OUTPUT));
-    assert!(rt; writes(&rt, alloc, "", ""));
-    assert!(rt; writes(&rt, alloc, "# none\n\n", ""));
-    assert!(rt; writes(&rt, alloc, "go\n", "version\t0\n"));
-    assert!(rt; writes(&rt, alloc, "go\ngo", "version\t0\nversion\t0\n"));
-    let unnamed = "load\ta b\tfr\t-\t0\n";
-    assert!(rt; writes(&rt, alloc, unnamed, "refused\tname\nversion\t0\n"));
-    let escaped = "ask\t1\ta\tb\tgettext\tx\\n\\t\\\\y\n";
-    assert!(rt; writes(&rt, alloc, escaped, "version\t0\n1\t0\tx\\n\\t\\\\y\n"));
-    Ok(())
-}
-
-#[test]
-fn texts_that_are_no_scripts(rt: HostRuntime) -> Result<(), Fail> {
-    let alloc = rt.alloc();
-    let bad = ScriptKind::BadLine;
-    let third_worker = b"ask\t2\tapp\tfr\tgettext\thi\n";
-    assert!(rt; is_refused(&rt, alloc, third_worker, bad, 1));
-    let cut_text = b"load\tapp\tfr\t-\t3\nmsgid \"hi\"\nmsgstr \"salut\"\n";
-    assert!(rt; is_refused(&rt, alloc, cut_text, bad, 1));
-    let cut_script = b"load\tapp\tfr\t-\t2\nmsgid \"hi\"\n";
-    assert!(rt; is_refused(&rt, alloc, cut_script, bad, 1));
-    assert!(rt; is_refused(&rt, alloc, b"go\n\nstop\nend\n", bad, 3));
-    assert!(rt; is_refused(&rt, alloc, b"go\n\xff", ScriptKind::NotUtf8, 0));
-    Ok(())
-}
-
-// The text is one comment.
-#[test]
-fn a_script_may_have_64_mib(rt: HostRuntime) -> Result<(), Fail> {
-    let alloc = rt.alloc();
-    let text = vec![in alloc; b'#'; MOST_SCRIPT + 1]?;
-    let mut writer = Writing::new(Vec::new(alloc));
-    let done = run_script(&rt, alloc, &mut Reading::new(text.as_slice()), &mut writer);
-    assert_eq!(rt;
-        done,
-        Err(ScriptFault {
-            kind: ScriptKind::TooLarge,
-            line: 0
-        })
-    );
-    let done = run_script(&rt, alloc, &mut Reading::new(&text[1..]), &mut writer);
-    assert_eq!(rt; done, Ok(()));
-    assert!(rt; writer.inner.is_empty());
-    Ok(())
+fn a_script_is_run(rt: HostRuntime) {
+    let (done, written) = run_over(&rt, rt.alloc(), SCRIPT.as_bytes(), usize::MAX, usize::MAX);
+    assert!(rt; done == Ok(()));
+    assert!(rt; written.as_slice() == OUTPUT.as_bytes());
 }
 
 #[test]

@@ -9,7 +9,7 @@ use Rattle.live_set.specs.Loads.{LoadValue}
 use Rattle.live_set.specs.Asks.{QueryValue, IsAnswer}
 use Rattle.live_versions.specs.Store.{AreNames}
 use Rattle.catserve.specs.Script.{LoadText, RoundValue}
-use Rattle.catserve.specs.Outcome.{IsScript}
+use Rattle.catserve.specs.Texts.{IsScript}
 use Rattle.catserve.specs.Output.{accepted_line, refused_line, unnamed_line, version_line, answer_line}
 
 -- what becomes of a load

@@ -1,22 +1,22 @@
 //! The batches of a store as its book keeps them, and beginnings of them that were seen.
 //!
 //! A book is a history that exists in proofs alone (`logbook`). What threads share of it is one word, the
-//! version; a front is a beginning of the history that was seen.
+//! version; a `Seen` is a beginning of the history.
 ghost use Rattle.std.specs.Prelude.{◌≡◌, ◌+◌, ◌<◌, ◌^◌, ◌++◌, ◌∷◌, [], length, MatchBool, IfSome};
 ghost use Rattle.live_versions.specs.Batches.{version_of, StartsWith, NoneEmpty};
-ghost use Rattle.live_versions.specs.Told.{head_of};
+ghost use Rattle.live_versions.specs.Book.{head_of};
 
 use crate::Version;
 use crate::seal::Bundle;
-use logbook::{Gain, Offer, Plain, Play, Rule, Seen, Start, Word};
+use logbook::{Gain, Offer, Plain, Play, Rule, Start, Word};
 use std::marker::Model;
 
 /// A batch, as the book has it. No value of it is made.
-pub(crate) struct Entered {
+pub(crate) struct BookBatch {
     nothing: (),
 }
 
-impl Model for Entered {
+impl Model for BookBatch {
     ghost use Rattle.std.specs.Prelude.{List, []};
     ghost use Rattle.live_set.specs.Loads.{LoadValue};
 
@@ -26,12 +26,12 @@ impl Model for Entered {
 }
 
 /// The rule of a book: its word is the version of its batches.
-pub(crate) struct Law;
+pub(crate) struct BookRule;
 
-impl Rule<Entered, u64> for Law {
+impl Rule<BookBatch, u64> for BookRule {
     ghost use Rattle.std.specs.Prelude.{⊤, []};
     ghost use base.Fml.{ftrue};
-    ghost use Rattle.live_versions.specs.Told.{IsKept};
+    ghost use Rattle.live_versions.specs.Book.{IsKept};
 
     ghost holds = { λ cells log. IsKept cells log };
 
@@ -48,7 +48,7 @@ impl Rule<Entered, u64> for Law {
 
 struct Nothing;
 
-impl Gain<Entered, u64> for Nothing {
+impl Gain<BookBatch, u64> for Nothing {
     ghost use base.Fml.{ftrue};
 
     ghost after = { λ names about answer. ftrue };
@@ -56,15 +56,15 @@ impl Gain<Entered, u64> for Nothing {
 
 struct Adding;
 
-impl Play<Entered, u64> for Adding {
-    ghost use Rattle.live_versions.specs.Told.{Adds};
+impl Play<BookBatch, u64> for Adding {
+    ghost use Rattle.live_versions.specs.Book.{Adds};
 
     ghost then = { λ s v found w. Adds s.ask s v found w };
 }
 
-struct Ask;
+struct Offered;
 
-impl Plain<Bundle, Entered, u64> for Ask {
+impl Plain<Bundle, BookBatch, u64> for Offered {
     ghost use Rattle.std.specs.Prelude.{None};
 
     ghost ask = { λ bundle. bundle };
@@ -74,40 +74,46 @@ impl Plain<Bundle, Entered, u64> for Ask {
 
 /// The first batches of a store that were seen.
 #[derive(Drop)]
-pub(crate) struct Front {
+pub(crate) struct Seen {
     version: Version,
-    seen: Seen<Entered, u64, Law>,
+    beginning: logbook::Seen<BookBatch, u64, BookRule>,
 }
 
-impl Model for Front {
+impl Model for Seen {
     ghost use Rattle.std.specs.Prelude.{◌≡◌};
     ghost use Rattle.live_versions.specs.Batches.{version_of, NoneEmpty};
-    ghost use Rattle.live_versions.specs.Told.{FrontValue};
+    ghost use Rattle.live_versions.specs.Seen.{SeenValue};
 
-    ghost Value = { FrontValue };
+    ghost Value = { SeenValue };
 
-    ghost view = { λ f. record { book = f.seen.book; batches = f.seen.log } };
+    ghost view = { λ s. record { book = s.beginning.book; batches = s.beginning.log } };
 
-    ghost invariant = { λ f. (f.version ≡ version_of f.seen.log) × NoneEmpty f.seen.log };
+    ghost invariant = { λ s. (s.version ≡ version_of s.beginning.log) × NoneEmpty s.beginning.log };
 }
 
 /// The word of a book, which its publisher has.
 #[derive(Drop)]
 pub(crate) struct Head {
-    pub(crate) word: Word<Entered, u64, Law>,
+    pub(crate) word: Word<BookBatch, u64, BookRule>,
     pub ghost book: { word ≡ head_of word.book },
 }
 
-/// A new book, and its front.
-pub(crate) fn open_book() -> (Head, Front)
+/// A new book, and its beginning, in which nothing is.
+pub(crate) fn open_book() -> (Head, Seen)
     ensures { (result.1.batches ≡ []) × (result.0.word.book ≡ result.1.book) }
 {
-    let (seen, mut first, _second) = Seen::open(Start::alone(), 0, 0);
+    let (beginning, mut first, _second) = logbook::Seen::open(Start::alone(), 0, 0);
     let word = Word::tracked(0, &mut first);
-    (Head { word }, Front { version: 0, seen })
+    (
+        Head { word },
+        Seen {
+            version: 0,
+            beginning,
+        },
+    )
 }
 
-impl Front {
+impl Seen {
     pub(crate) fn version(&self) -> Version
         ensures version { result ≡ version_of self.now.batches }
         ensures full { NoneEmpty self.now.batches }
@@ -115,43 +121,50 @@ impl Front {
         self.version
     }
 
-    pub(crate) fn again(&self) -> Front
+    pub(crate) fn again(&self) -> Seen
         ensures { result ≡ self.now }
     {
-        Front {
+        Seen {
             version: self.version,
-            seen: self.seen.again(),
+            beginning: self.beginning.again(),
         }
     }
 
-    /// Whether this front begins the other one; else the other one begins it, and is shorter.
-    pub(crate) fn begins(&self, other: &Front) -> bool
+    /// Whether this one begins the other one; else the other one begins it, and is shorter.
+    pub(crate) fn begins(&self, other: &Seen) -> bool
         requires { other.now.book ≡ self.now.book }
         ensures { MatchBool result (StartsWith other.now.batches self.now.batches) (StartsWith self.now.batches other.now.batches × (version_of other.now.batches < version_of self.now.batches)) }
     {
-        let mut both = self.seen.again();
-        both.learn(&other.seen);
+        let mut both = self.beginning.again();
+        both.learn(&other.beginning);
         self.version <= other.version
     }
 }
 
 /// Adds a batch of so many loads behind all that was seen. It does not where the book is further.
-pub(crate) fn add_batch(head: &Head, front: &Front, loads: u64, bundle: &Bundle) -> Option<Front>
-    requires book { head.now.word.book ≡ front.now.book }
+pub(crate) fn add_batch(head: &Head, seen: &Seen, loads: u64, bundle: &Bundle) -> Option<Seen>
+    requires book { head.now.word.book ≡ seen.now.book }
     requires loads { (0 < loads) × (loads ≡ length bundle.now) }
-    requires room { version_of front.now.batches + loads < 2 ^ 64 }
-    ensures { IfSome result (λ f. f ≡ record { book = front.now.book; batches = front.now.batches ++ bundle.now ∷ [] }) }
+    requires room { version_of seen.now.batches + loads < 2 ^ 64 }
+    ensures { IfSome result (λ f. f ≡ record { book = seen.now.book; batches = seen.now.batches ++ bundle.now ∷ [] }) }
 {
-    let mut seen = front.seen.again();
-    let mut offer: Offer<Entered, u64, Law, Nothing> = seen.plain::<Nothing, Bundle, Ask>(bundle);
-    let mut pen = seen.no_pen();
-    let old = front.version;
+    let mut beginning = seen.beginning.again();
+    let mut offer: Offer<BookBatch, u64, BookRule, Nothing> = beginning.plain::<
+        Nothing,
+        Bundle,
+        Offered,
+    >(bundle);
+    let mut pen = beginning.no_pen();
+    let old = seen.version;
     let new = old + loads;
     let found = head
         .word
-        .compare_exchange::<Adding, Nothing>(old, new, &mut seen, &mut offer, &mut pen);
+        .compare_exchange::<Adding, Nothing>(old, new, &mut beginning, &mut offer, &mut pen);
     if found != old {
         return None;
     }
-    Some(Front { version: new, seen })
+    Some(Seen {
+        version: new,
+        beginning,
+    })
 }

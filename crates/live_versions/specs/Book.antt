@@ -1,15 +1,9 @@
--- What is seen of a store, and private: what the book of a store keeps.
+-- Private: what the book of a store keeps, and what a copy shows of it.
 use Rattle.std.specs.Prelude.{◌≡◌, ⊤, ℕ, ◌^◌, ◌<◌, List, [], ◌∷◌, ◌++◌, true, Option, Some, None}
 use Rattle.logbook.specs.Pages.{Cell, Book, Named, Step, View}
 use Rattle.live_set.specs.Loads.{LoadValue}
 use Rattle.live_versions.specs.Batches.{version_of, NoneEmpty}
-
--- Batches that were published first in a store, and which store it is: the book that it keeps
-pub record FrontValue : Type 0 where
-  pub book : Book
-  pub batches : List (List LoadValue)
-
--- ---- private
+use Rattle.live_versions.specs.Seen.{SeenValue}
 
 -- the first word of a book is the version; it has two words, of which this one leaves the second at 0
 pub record IsKept (cells : List Cell) (log : List (List LoadValue)) : Type 0 where
@@ -17,6 +11,7 @@ pub record IsKept (cells : List Cell) (log : List (List LoadValue)) : Type 0 whe
   pub full : NoneEmpty log
   pub fits : version_of log < 2 ^ 64
 
+-- the word of a book's version
 abbrev pub head_of : Book → Named
 head_of b = record { tracked = true; key = 0; book = b }
 
@@ -24,11 +19,12 @@ head_of b = record { tracked = true; key = 0; book = b }
 abbrev pub Adds : List LoadValue → Step (List LoadValue) → View (List LoadValue) ℕ → ℕ → View (List LoadValue) ℕ → Type 0
 Adds batch s v found w = found ≡ s.old → w.0 ≡ v.0 ++ batch ∷ []
 
--- a batch behind a front, if there is one
-abbrev pub claimed : FrontValue → Option (List LoadValue) → FrontValue
-claimed f (Some batch) = record { book = f.book; batches = f.batches ++ batch ∷ [] }
-claimed f None = f
+-- a batch behind what was seen, if there is one
+abbrev pub claimed : SeenValue → Option (List LoadValue) → SeenValue
+claimed s (Some batch) = record { book = s.book; batches = s.batches ++ batch ∷ [] }
+claimed s None = s
 
-abbrev pub IsFrontOf : Option FrontValue → FrontValue → Type 0
-IsFrontOf (Some f) c = f ≡ c
-IsFrontOf None c = ⊤
+-- what was seen of the book is what is claimed
+abbrev pub IsTokenOf : Option SeenValue → SeenValue → Type 0
+IsTokenOf (Some s) claim = s ≡ claim
+IsTokenOf None claim = ⊤

@@ -8,7 +8,7 @@ use Rattle.catserve.specs.declared.fault.ScriptFault.{ScriptFault}
 use Rattle.catserve.specs.declared.fault.ScriptKind.{ScriptKind}
 use Rattle.catserve.specs.declared.fault.ScriptKind.TheVariants as kind
 use Rattle.catserve.specs.Script.{RoundValue}
-use Rattle.catserve.specs.Outcome.{IsRefused}
+use Rattle.catserve.specs.Texts.{IsRefused}
 use Rattle.catserve.specs.Lines.{lines, without_end, fields}
 use Rattle.std.specs.Str.{IsUtf8}
 use Rattle.bstr.specs.Find.{is_byte}
