@@ -108,6 +108,7 @@ COMPILED = [
 REFUSED = [
     (b"\xff" * (LIMIT + 1), 0, "file too large"),
     (b"\xff", 1, "not UTF-8"),
+    (b"\n\xff", 2, "not UTF-8"),
     (b"\n\n# \xc3", 3, "not UTF-8"),
     (b"\n\xc3\n", 2, "not UTF-8"),
     (b"@\n" + said(b'"\\q\xed\xa0\x80"'), 3, "not UTF-8"),

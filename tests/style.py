@@ -1,0 +1,190 @@
+#!/usr/bin/env python3
+"""Rules for the sources that neither the prover nor the formatter looks at, over the files that git tracks. Prints a
+line for each rule, which names the first findings.
+
+    tests/style.py          a line for each rule
+    tests/style.py --all    a line for each finding, too
+"""
+import re
+import subprocess
+import sys
+from collections import defaultdict
+from pathlib import Path
+
+MOST_COLUMNS = 120
+NAMED = 4  # findings that the line of a rule names
+
+# Files of specs/ that two crates may both have: the crates use the name for the same thing.
+SHARED_NAMES = ()
+
+PRIVATE = "-- Private: "
+SPECS = re.compile(r"crates/(\w+)/specs/(\w+)\.antt")
+IMPORT = re.compile(r"^ *ghost use Rattle\.(\w+)\.specs\.(\w+)(?:\.\{([^}]*)\}| as (\w+)|);", re.M)
+PUBLIC_FUNCTION = re.compile(r"^( *)pub (?:const |unsafe )*fn (\w+)", re.M)
+CLAUSE = re.compile(r"^ *(?:requires|ensures)\b", re.M)
+WORD = re.compile(r"[^\s(){}\[\],;.]+")
+PATH_OF_A_MACHINE = re.compile(r"(?<![\w.*}])/(?:work|opt|farm|home|root)/")
+CITATION = re.compile(
+    r"\[paper\]|\bpaper (?:says|wants|asks)\b|\b(?:rung|row|request|requirement|demand) (?:no\. ?)?[0-9]+", re.I
+)
+
+
+def tracked(*patterns):
+    listed = subprocess.run(["git", "ls-files", "-z", *patterns], capture_output=True, check=True).stdout
+    return [Path(name) for name in listed.decode().split("\0") if name and Path(name).is_file()]
+
+
+def specs():
+    """The files of specs/ with their crate and name, without those that only list the others."""
+    for path in tracked("crates/*/specs/*.antt"):
+        found = SPECS.fullmatch(str(path))
+        if found and found[2] != "Lib":
+            yield path, found[1], found[2]
+
+
+def read(path):
+    return path.read_text(encoding="utf-8")
+
+
+def first_line(path):
+    return read(path).split("\n", 1)[0]
+
+
+# --- the rules: each gives what it finds --------------------------------------------------------------------------
+
+
+def files_without_comment():
+    """each file of specs/ begins with a comment"""
+    return [str(path) for path, _, _ in specs() if not first_line(path).startswith("-- ")]
+
+
+def other_words_for_private():
+    """a file of private definitions begins with `-- Private: `"""
+    lines = {path: first_line(path) for path, _, _ in specs()}
+    return [str(path) for path, line in lines.items() if line.startswith("-- Private") and not line.startswith(PRIVATE)]
+
+
+def private_words_in_public_clauses():
+    """no public clause names a private definition"""
+    private = {(crate, name) for path, crate, name in specs() if first_line(path).startswith(PRIVATE)}
+    findings = []
+    for path in tracked("crates/*/src/*.rt"):
+        text = read(path)
+        words = private_words(text, private)
+        for function, clauses in public_clauses(text):
+            findings += [f"{path} {function}: {word}" for word in sorted(words & set(WORD.findall(clauses)))]
+    return findings
+
+
+def private_words(text, private):
+    """The names that a file imports from private files of specs/."""
+    words = set()
+    for crate, name, listed, other in IMPORT.findall(text):
+        if (crate, name) in private:
+            parts = [part.strip() for part in listed.split(",") if part.strip()]
+            words |= {part.split(" as ")[-1] for part in parts} or {other or name}
+    return words
+
+
+def public_clauses(text):
+    """Each public function with the text of its clauses: from the first one to the line that opens the body."""
+    for head in PUBLIC_FUNCTION.finditer(text):
+        body = re.compile(rf"^{head[1]}(?:\{{|\S.*\{{$|\S.*;$)", re.M).search(text, head.end())
+        signature = text[head.start() : body.start() if body else len(text)]
+        if clause := CLAUSE.search(signature):
+            yield head[2], signature[clause.start() :]
+
+
+def names_of_two_files():
+    """no two crates have a file of specs/ with one name"""
+    crates = defaultdict(list)
+    for _, crate, name in specs():
+        crates[name].append(crate)
+    return [
+        f"{name} ({', '.join(sorted(owners))})"
+        for name, owners in sorted(crates.items())
+        if len(owners) > 1 and name not in SHARED_NAMES
+    ]
+
+
+def wide_lines(part):
+    """Lines that are too wide, but for attributes, which `rt fmt` puts on one line."""
+    findings = []
+    for path in tracked(f"crates/*/{part}/*.rt", f"crates/*/{part}/*.antt"):
+        for number, line in enumerate(read(path).split("\n"), 1):
+            if len(line) > MOST_COLUMNS and not line.lstrip().startswith("#["):
+                findings.append(f"{path}:{number}")
+    return findings
+
+
+def wide_lines_of_code():
+    """no line of src/ is wider than 120 columns"""
+    return wide_lines("src")
+
+
+def wide_lines_of_definitions():
+    """no line of specs/ is wider than 120 columns"""
+    return wide_lines("specs")
+
+
+def wide_lines_of_proofs():
+    """no line of proofs/ is wider than 120 columns"""
+    return wide_lines("proofs")
+
+
+def texts():
+    """Each tracked file that is UTF-8, but for the file that has the patterns."""
+    for path in tracked():
+        if path != Path("tests/style.py"):
+            try:
+                yield path, read(path)
+            except UnicodeDecodeError:
+                pass
+
+
+def found_in_texts(pattern):
+    findings = []
+    for path, text in texts():
+        for number, line in enumerate(text.split("\n"), 1):
+            if found := pattern.search(line):
+                findings.append(f"{path}:{number}: {found[0]}")
+    return findings
+
+
+def paths_of_a_machine():
+    """no file names a path of one machine"""
+    return found_in_texts(PATH_OF_A_MACHINE)
+
+
+def citations():
+    """no file cites a paper or a demand"""
+    return found_in_texts(CITATION)
+
+
+RULES = (
+    files_without_comment,
+    other_words_for_private,
+    private_words_in_public_clauses,
+    names_of_two_files,
+    wide_lines_of_code,
+    wide_lines_of_definitions,
+    wide_lines_of_proofs,
+    paths_of_a_machine,
+    citations,
+)
+
+
+def main():
+    for rule in RULES:
+        findings = rule()
+        if not findings:
+            print(f"ok style: {rule.__doc__}")
+            continue
+        more = f"; and {len(findings) - NAMED} more" if len(findings) > NAMED else ""
+        print(f"FAILED style: {rule.__doc__}: {'; '.join(findings[:NAMED])}{more}")
+        if "--all" in sys.argv:
+            print("".join(f"    {it}\n" for it in findings), end="")
+
+
+if __name__ == "__main__":
+    main()
