@@ -6,7 +6,7 @@ use Rattle.po_header.proofs.RuleLemmas.{HasRule-one}
 use Rattle.catalogue.specs.Entry.{Entry, key_bytes}
 use Rattle.catalogue.specs.Map.{header_text, entry_at}
 use Rattle.catalogue.specs.Value.{IsFirstForm, IsCounted, HasRuleIn, form_or_first, text_by}
-use Rattle.catalogue.specs.declared.compiler.Compiled.{Compiled}
+use Rattle.catalogue.specs.declared.Compiled.{Compiled}
 use Rattle.catalogue.proofs.OneMeaning.{meaning_one, refusal_one, means_or_refuses}
 use Rattle.live_set.specs.Loads.{LoadValue, map_of}
 use Rattle.live_set.specs.Asks.{AskValue, Plain, Context, Number, ContextNumber, QueryValue, HasValue, IsAnswer}

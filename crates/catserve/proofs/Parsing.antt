@@ -4,7 +4,7 @@ use Rattle.std.specs.List.{onto_first}
 use Rattle.std.specs.Str.{IsUtf8}
 use Rattle.std.proofs.lemmas.List.{append-nil}
 use Rattle.std.proofs.lemmas.Bool.{le-leb, lt-leb}
-use Rattle.catalogue.specs.declared.compiler.Options.{Options}
+use Rattle.catalogue.specs.declared.Options.{Options}
 use Rattle.catserve.specs.declared.field.Worker.TheVariants.{First, Second}
 use Rattle.catserve.specs.Lines.{lines, pieces}
 use Rattle.catserve.specs.Commands.{Line, Loads, line_of}

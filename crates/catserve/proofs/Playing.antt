@@ -3,8 +3,8 @@ use Rattle.std.proofs.Common.{◌≡◌, ◌∙◌, refl, sym, ap, subst, ℕ, L
 use Rattle.std.proofs.lemmas.List.{append-nil}
 use Rattle.std.specs.List.{filter_map, flat_map}
 use Rattle.catalogue.specs.Meaning.{Refuses}
-use Rattle.catalogue.specs.declared.compiler.Stats.{Stats}
-use Rattle.catalogue.specs.declared.fault.LoadFault.{LoadFault}
+use Rattle.catalogue.specs.declared.Stats.{Stats}
+use Rattle.catalogue.specs.declared.LoadFault.{LoadFault}
 use Rattle.live_set.specs.Loads.{LoadValue}
 use Rattle.live_versions.specs.Batches.{joined, version_of, published}
 use Rattle.live_versions.specs.Store.{StoreValue, Accepts, AreNames}

@@ -9,7 +9,7 @@ use Rattle.catalogue.specs.Entry.{Entry, key_bytes}
 use Rattle.catalogue.specs.Map.{header_text, entry_at}
 use Rattle.catalogue.specs.Value.{IsFirstForm, IsCounted, HasRuleIn, form_or_first, text_by}
 use Rattle.catalogue.proofs.Members.{from_find}
-use Rattle.catalogue.proofs.Searching.{some_at}
+use Rattle.entry_search.proofs.Searching.{some_at}
 use Rattle.catalogue.proofs.SomeMeaning.{some_meaning, IsFormed, means_formed}
 use Rattle.live_set.specs.Loads.{LoadValue, map_of, map_or_empty, is_for}
 use Rattle.live_set.specs.Asks.{AskValue, Plain, Context, Number, ContextNumber, QueryValue, HasValue, IsAnswer}

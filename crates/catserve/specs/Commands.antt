@@ -1,7 +1,7 @@
 -- What a line of a script says.
 use Rattle.std.specs.Prelude.{ℕ, ◌==◌, Bool, true, if◌then◌else◌, List, [], ◌∷◌, codes, Option, Some, None}
 use Rattle.std.specs.Str.{bytes_eq}
-use Rattle.catalogue.specs.declared.compiler.Options.{Options}
+use Rattle.catalogue.specs.declared.Options.{Options}
 use Rattle.live_set.specs.Asks.{AskValue, QueryValue, Plain, Context, Number, ContextNumber}
 use Rattle.catserve.specs.declared.field.Worker.{Worker}
 use Rattle.catserve.specs.Lines.{fields}

@@ -4,7 +4,7 @@ use Rattle.std.specs.Char.{is_ascii_digit}
 use Rattle.std.specs.Str.{bytes_eq}
 use Rattle.std.specs.Str.Parse.{digits_value}
 use Rattle.std.specs.List.{list_all}
-use Rattle.catalogue.specs.declared.compiler.Options.{Options}
+use Rattle.catalogue.specs.declared.Options.{Options}
 use Rattle.catserve.specs.declared.field.Worker.{Worker}
 use Rattle.catserve.specs.declared.field.Worker.TheVariants.{First, Second}
 

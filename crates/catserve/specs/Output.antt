@@ -3,8 +3,8 @@ use Rattle.std.specs.Prelude.{ℕ, ◌==◌, if◌then◌else◌, List, [], ◌�
 use Rattle.std.specs.List.{flat_map, join_with_byte}
 use Rattle.std.specs.Fmt.{decimal}
 use Rattle.catalogue.specs.Meaning.{rank}
-use Rattle.catalogue.specs.declared.compiler.Stats.{Stats}
-use Rattle.catalogue.specs.declared.fault.LoadKind.{LoadKind}
+use Rattle.catalogue.specs.declared.Stats.{Stats}
+use Rattle.catalogue.specs.declared.LoadKind.{LoadKind}
 
 -- fields with a tab between each two, and LF
 abbrev pub line : List (List ℕ) → List ℕ

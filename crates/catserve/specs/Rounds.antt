@@ -2,9 +2,9 @@
 use Rattle.std.specs.Prelude.{◌≡◌, ℕ, List, [], ◌∷◌, ◌++◌, length, Option, Some, None}
 use Rattle.std.specs.List.{AllZip, filter_map, flat_map}
 use Rattle.catalogue.specs.Meaning.{Means, Refuses}
-use Rattle.catalogue.specs.declared.compiler.Stats.{Stats}
-use Rattle.catalogue.specs.declared.compiler.Compiled.{Compiled}
-use Rattle.catalogue.specs.declared.fault.LoadKind.{LoadKind}
+use Rattle.catalogue.specs.declared.Stats.{Stats}
+use Rattle.catalogue.specs.declared.Compiled.{Compiled}
+use Rattle.catalogue.specs.declared.LoadKind.{LoadKind}
 use Rattle.live_set.specs.Loads.{LoadValue}
 use Rattle.live_set.specs.Asks.{QueryValue, IsAnswer}
 use Rattle.live_versions.specs.Store.{AreNames}

@@ -1,7 +1,7 @@
 -- What a script says: its rounds, or the first line that is no line of a script.
 use Rattle.std.specs.Prelude.{ℕ, zero, suc, ◌+◌, Bool, true, false, if◌then◌else◌, nat_le, List, [], ◌∷◌, ◌++◌, length, map, take, Option, Some, None, Result, Ok, Err}
 use Rattle.std.specs.List.{concat, filter_map}
-use Rattle.catalogue.specs.declared.compiler.Options.{Options}
+use Rattle.catalogue.specs.declared.Options.{Options}
 use Rattle.live_set.specs.Asks.{QueryValue}
 use Rattle.catserve.specs.declared.field.Worker.{Worker}
 use Rattle.catserve.specs.declared.field.Worker.TheVariants.{First, Second}

@@ -1,7 +1,7 @@
 -- Private: what the steps of a load answer.
 use Rattle.std.specs.Prelude.{⊤, ℕ, List}
 use Rattle.catalogue.specs.Meaning.{Refuses}
-use Rattle.catalogue.specs.declared.compiler.Options.{Options}
+use Rattle.catalogue.specs.declared.Options.{Options}
 use Rattle.live_set.specs.Names.{IsName}
 use Rattle.live_versions.specs.declared.fault.StoreFault.{StoreFault}
 use Rattle.live_versions.specs.declared.fault.StoreFault.TheVariants.{BadName, Refused, Memory}

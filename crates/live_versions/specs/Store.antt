@@ -1,9 +1,9 @@
 -- What a publisher stands for, and what a load does to it.
 use Rattle.std.specs.Prelude.{◌≡◌, ⊤, ℕ, ◌+◌, ◌<◌, List, [], ◌∷◌, ◌++◌, length}
 use Rattle.catalogue.specs.Meaning.{Means, Refuses}
-use Rattle.catalogue.specs.declared.compiler.Options.{Options}
-use Rattle.catalogue.specs.declared.compiler.Stats.{Stats}
-use Rattle.catalogue.specs.declared.compiler.Compiled.{Compiled}
+use Rattle.catalogue.specs.declared.Options.{Options}
+use Rattle.catalogue.specs.declared.Stats.{Stats}
+use Rattle.catalogue.specs.declared.Compiled.{Compiled}
 use Rattle.live_set.specs.Names.{IsName}
 use Rattle.live_set.specs.Loads.{LoadValue}
 use Rattle.live_versions.specs.Batches.{version_of}

@@ -11,7 +11,7 @@ use Rattle.std.proofs.lemmas.Str.{IsUtf8-take, IsUtf8-drop, IsCharBoundary-befor
 use Rattle.bstr.specs.Find.{IsFirstByte, is_byte}
 use Rattle.catalogue.specs.Entry.{Lacks, IsText}
 use Rattle.catalogue.specs.Map.{first_form}
-use Rattle.catalogue.proofs.EntryParts.{lacks_at}
+use Rattle.mo_image.proofs.EntryParts.{lacks_at}
 
 abbrev pub is : ℕ → ℕ → Bool
 is byte b = eqb b byte

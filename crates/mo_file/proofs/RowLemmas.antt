@@ -3,7 +3,7 @@ use Rattle.std.proofs.Common.{◌≡◌, ℕ, zero, suc, ◌+◌, ◌-◌, ◌*�
 use Rattle.std.proofs.lemmas.List.{length-take-le, length-drop}
 use Rattle.std.proofs.lemmas.List.Concat.{flat_map-cons}
 use Rattle.catalogue.specs.MoFile.{closed, pool, file}
-use Rattle.catalogue.proofs.MoLengths.{length-word, length-pairs, length-closed}
+use Rattle.mo_image.proofs.MoLengths.{length-word, length-pairs, length-closed}
 use Rattle.mo_file.specs.Tables.{word_at, string_at, strings}
 use Rattle.mo_file.specs.Reading.{StringLies}
 

@@ -3,7 +3,7 @@ ghost use Rattle.std.specs.Prelude.{◌≡◌, Some, IfSome};
 ghost use Rattle.catalogue.specs.Map.{entry_at};
 ghost use Rattle.catalogue.specs.Meaning.{Means};
 ghost use Rattle.catalogue.specs.Value.{IsCounted, IsFirstForm, text_by};
-ghost use Rattle.catalogue.specs.declared.compiler.Compiled.{Compiled};
+ghost use Rattle.catalogue.specs.declared.Compiled.{Compiled};
 
 use crate::{one_map, read_mo, write_mo, written_is_read};
 use catalogue::{Catalogue, Options, compile};

@@ -3,7 +3,7 @@ use Rattle.std.proofs.Common.{◌≡◌, ◌∙◌, ◌⊎◌, ◌≤◌, ◌++�
 use Rattle.devices.specs.Devices.{RisesBy}
 use Rattle.devices.specs.Files.{KeepsLog, Log, Logs}
 use Rattle.catalogue.specs.MoFile.{spelling}
-use Rattle.catalogue.specs.declared.compiler.Compiled.{Compiled}
+use Rattle.catalogue.specs.declared.Compiled.{Compiled}
 use Rattle.msgfmt_tool.specs.Words.{AreTaken, Asked, asked}
 use Rattle.msgfmt_tool.specs.Runs.{Compiles, Fails, FailsToWarn, FailsToWrite, FilesSeen, InputSeen, IsUnwritten, MakesFile, MakesFileFirst, OutputSeen, Runs, World, Writes, is_standard}
 use Rattle.msgfmt_tool.specs.Steps.{CompilesNamed, Delivers, EndsCompiling, EndsTelling, Tells, Works, WritesCompiled}

@@ -2,9 +2,9 @@
 use Rattle.std.specs.Prelude.{Bool, true, false, if◌then◌else◌}
 use Rattle.devices.specs.declared.input.InputFault.{InputFault}
 use Rattle.devices.specs.declared.input.InputFault.TheVariants as input
-use Rattle.catalogue.specs.declared.fault.LoadFault.{LoadFault}
-use Rattle.catalogue.specs.declared.fault.LoadKind.{LoadKind}
-use Rattle.catalogue.specs.declared.fault.LoadKind.TheVariants as load
+use Rattle.catalogue.specs.declared.LoadFault.{LoadFault}
+use Rattle.catalogue.specs.declared.LoadKind.{LoadKind}
+use Rattle.catalogue.specs.declared.LoadKind.TheVariants as load
 use Rattle.msgfmt_tool.specs.declared.outcome.Cause.{Cause}
 use Rattle.msgfmt_tool.specs.declared.outcome.Cause.TheVariants.{CannotRead, Refused, Memory}
 

@@ -6,8 +6,8 @@ use Rattle.devices.specs.Devices.{RisesBy}
 use Rattle.devices.specs.Files.{KeepsLog, Log, Logs}
 use Rattle.catalogue.specs.MoFile.{spelling}
 use Rattle.catalogue.specs.Meaning.{Means, Refuses}
-use Rattle.catalogue.specs.declared.compiler.Compiled.{Compiled}
-use Rattle.catalogue.specs.declared.fault.LoadFault.{LoadFault}
+use Rattle.catalogue.specs.declared.Compiled.{Compiled}
+use Rattle.catalogue.specs.declared.LoadFault.{LoadFault}
 use Rattle.msgfmt_tool.specs.Words.{Asked, AreFaulty, AreTaken, AskForHelp, asked}
 use Rattle.msgfmt_tool.specs.declared.outcome.Cause.{Cause}
 use Rattle.msgfmt_tool.specs.declared.outcome.Cause.TheVariants.{Words, NoInput, CannotRead, Refused, CannotWrite, ErrorOutput, Memory}

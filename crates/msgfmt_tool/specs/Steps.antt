@@ -4,9 +4,9 @@ use Rattle.std.specs.Io.KnownBytes.{Appends}
 use Rattle.devices.specs.Devices.{RisesBy}
 use Rattle.catalogue.specs.Meaning.{Means, Refuses}
 use Rattle.catalogue.specs.MoFile.{spelling}
-use Rattle.catalogue.specs.declared.compiler.Options.{Options}
-use Rattle.catalogue.specs.declared.compiler.Compiled.{Compiled}
-use Rattle.catalogue.specs.declared.fault.LoadFault.{LoadFault}
+use Rattle.catalogue.specs.declared.Options.{Options}
+use Rattle.catalogue.specs.declared.Compiled.{Compiled}
+use Rattle.catalogue.specs.declared.LoadFault.{LoadFault}
 use Rattle.msgfmt_tool.specs.Words.{Asked}
 use Rattle.msgfmt_tool.specs.Runs.{Fails, FailsToRead, FailsToWrite, FilesSeen, InputSeen, IsUnwritten, MakesFile, OutputSeen, Reads, World, Writes, is_standard}
 use Rattle.msgfmt_tool.specs.declared.outcome.Cause.{Cause}

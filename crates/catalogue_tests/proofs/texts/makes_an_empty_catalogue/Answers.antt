@@ -1,7 +1,7 @@
 use Rattle.std.proofs.Common.{List, [], arith}
 use Rattle.catalogue.specs.Entry.{Entry}
 use Rattle.catalogue.specs.Map.{IsLawful}
-use Rattle.catalogue.proofs.MoLengths.{length-spelling}
+use Rattle.mo_image.proofs.MoLengths.{length-spelling}
 use Rattle.catalogue_tests.proofs.texts.makes_an_empty_catalogue.Goals as goal
 
 abbrev nothing : List Entry
