@@ -16,7 +16,7 @@ use Rattle.catalogue.specs.Meaning.{Means, IsMapOf, Refuses, lacking, none_missi
 use Rattle.po_checks.specs.Kept.{kept, kept_header, header_line_of, header_text_of, NamesCharset}
 use Rattle.po_checks.specs.Fails.{Fails, HasDistinctKeys, IsDuplicateAt, IsFirst, IsForeignAt}
 use Rattle.mo_image.specs.Entry.{Entry}
-use Rattle.catalogue.specs.Drafts.{Row, row, rows, kept_entry, comes_before, counts_as, header_text_in, is_kept_header, IsRepeat, FirstRepeat, IsFirstRepeat, HasCollected}
+use Rattle.catalogue.specs.Drafts.{Outline, outline, outlines, kept_entry, comes_before, counts_as, header_text_in, is_kept_header, IsRepeat, FirstRepeat, IsFirstRepeat, HasCollected}
 use Rattle.po_checks.specs.declared.findings.Findings.{Findings}
 use Rattle.po_checks.specs.declared.options.Options.{Options}
 use Rattle.catalogue.specs.declared.compiler.Stats.{Stats}
@@ -30,7 +30,7 @@ use Rattle.catalogue.proofs.Collecting.{drafts_are}
 use Rattle.catalogue.proofs.Counting.{untranslated_count, fuzzy_count, translated_count, header_line_is}
 use Rattle.catalogue.proofs.Fitting.{fits}
 use Rattle.catalogue.proofs.HeaderFound.{accepted, another, header_text_is, map_accepted}
-use Rattle.catalogue.proofs.InOrder.{AreOrdered, row_lt, all_distinct, first_duplicate}
+use Rattle.catalogue.proofs.InOrder.{AreOrdered, outline_lt, all_distinct, first_duplicate}
 use Rattle.catalogue.proofs.Listing.{map_of, is_map, each_lawful}
 use Rattle.po_checks.proofs.Refusals.{all_pass, first_is_check, first_is_duplicate, first_is_foreign}
 
@@ -55,40 +55,40 @@ pub record Sorts (before after : List Draft) : Type 0 where
   pub same : IsPermutation before after
   pub sorted : IsSortedBy comes_before after
 
-sorted_rows : (ds : List Draft) → IsSortedBy comes_before ds → IsSortedBy row_lt (rows ds)
+sorted_rows : (ds : List Draft) → IsSortedBy comes_before ds → IsSortedBy outline_lt (outlines ds)
 sorted_rows [] sorted k d le lt = absurd (omega arith)
 sorted_rows (x ∷ ds) sorted k d le lt =
-    let short : k + 1 < length (x ∷ ds) = omega (arith, lt, length-map (x ∷ ds) row) in
-    let here : get_or (rows (x ∷ ds)) k d ≡ row (get_or (x ∷ ds) k x) = get_or-map row (x ∷ ds) k x d (omega arith) in
-    let next : get_or (rows (x ∷ ds)) (k + 1) d ≡ row (get_or (x ∷ ds) (k + 1) x) = get_or-map row (x ∷ ds) (k + 1) x d short in
-    ap (λ r. row_lt r (get_or (rows (x ∷ ds)) k d)) next ∙ ap (row_lt (row (get_or (x ∷ ds) (k + 1) x))) here ∙ sorted k x (omega arith) short
+    let short : k + 1 < length (x ∷ ds) = omega (arith, lt, length-map (x ∷ ds) outline) in
+    let here : get_or (outlines (x ∷ ds)) k d ≡ outline (get_or (x ∷ ds) k x) = get_or-map outline (x ∷ ds) k x d (omega arith) in
+    let next : get_or (outlines (x ∷ ds)) (k + 1) d ≡ outline (get_or (x ∷ ds) (k + 1) x) = get_or-map outline (x ∷ ds) (k + 1) x d short in
+    ap (λ r. outline_lt r (get_or (outlines (x ∷ ds)) k d)) next ∙ ap (outline_lt (outline (get_or (x ∷ ds) (k + 1) x))) here ∙ sorted k x (omega arith) short
 
-ordered : (text : List ℕ) (o : Options) (before after : List Draft) (found : Findings) → (c : HasCollected text o before found) → Sorts before after → AreOrdered o c.entries (rows after)
+ordered : (text : List ℕ) (o : Options) (before after : List Draft) (found : Findings) → (c : HasCollected text o before found) → Sorts before after → AreOrdered o c.entries (outlines after)
 ordered text o before after found c s = record {
-  same = subst (λ (rs : List Row). IsPermutation rs (rows after)) c.rows_are (IsPermutation-map row before after s.same);
+  same = subst (λ (rs : List Outline). IsPermutation rs (outlines after)) c.rows_are (IsPermutation-map outline before after s.same);
   sorted = sorted_rows after s.sorted;
 }
 
 -- ---- a repeat
 
-pub refused : (text : List ℕ) (o : Options) (before after : List Draft) (found : Findings) (d : Draft) → HasCollected text o before found → Sorts before after → IsFirstRepeat (rows after) (length after) (row d) → Refuses text o Duplicate d.line
+pub refused : (text : List ℕ) (o : Options) (before after : List Draft) (found : Findings) (d : Draft) → HasCollected text o before found → Sorts before after → IsFirstRepeat (outlines after) (length after) (outline d) → Refuses text o Duplicate d.line
 refused text o before after found d c s first =
-    let n : length (rows after) ≡ length after = length-map after row in
-    let is : IsDuplicateAt c.entries d.line = first_duplicate o c.entries (rows after) (ordered text o before after found c s) (row d) (subst (λ k. IsFirstRepeat (rows after) k (row d)) (sym n) first) in
+    let n : length (outlines after) ≡ length after = length-map after outline in
+    let is : IsDuplicateAt c.entries d.line = first_duplicate o c.entries (outlines after) (ordered text o before after found c s) (outline d) (subst (λ k. IsFirstRepeat (outlines after) k (outline d)) (sym n) first) in
     (c.entries, c.gives, first_is_duplicate o c.entries d.line is)
 
 -- ---- none
 
-no_repeat : (after : List Draft) → FirstRepeat (rows after) (length after) None → (j : ℕ) → ¬ IsRepeat (rows after) j
-no_repeat after none j repeats = none j (omega (arith, repeats.within, length-map after row)) repeats
+no_repeat : (after : List Draft) → FirstRepeat (outlines after) (length after) None → (j : ℕ) → ¬ IsRepeat (outlines after) j
+no_repeat after none j repeats = none j (omega (arith, repeats.within, length-map after outline)) repeats
 
 -- the keys are distinct, then
-distinct_keys : (text : List ℕ) (o : Options) (before after : List Draft) (found : Findings) → (c : HasCollected text o before found) → Sorts before after → FirstRepeat (rows after) (length after) None → HasDistinctKeys c.entries
-distinct_keys text o before after found c s none = all_distinct o c.entries (rows after) (ordered text o before after found c s) (no_repeat after none)
+distinct_keys : (text : List ℕ) (o : Options) (before after : List Draft) (found : Findings) → (c : HasCollected text o before found) → Sorts before after → FirstRepeat (outlines after) (length after) None → HasDistinctKeys c.entries
+distinct_keys text o before after found c s none = all_distinct o c.entries (outlines after) (ordered text o before after found c s) (no_repeat after none)
 
 -- what was read of the header: its line, and its text where there is one
 pub record IsHeader (drafts : List Draft) (header : Option (Bor (List ℕ))) (line : ℕ) : Type 0 where
-  pub line_is : line ≡ option_map_or (λ d. d.line) (find (λ d. is_kept_header (row d)) drafts) 0
+  pub line_is : line ≡ option_map_or (λ d. d.line) (find (λ d. is_kept_header (outline d)) drafts) 0
   pub text_is : option_map (λ text. text.now) header ≡ header_text_in drafts
 
 pub header_text : (text : List ℕ) (o : Options) (before : List Draft) (found : Findings) (header : Option (Bor (List ℕ))) (line : ℕ) → (c : HasCollected text o before found) → IsHeader before header line → option_map (λ text. text.now) header ≡ header_text_of o c.entries
@@ -112,7 +112,7 @@ header_accepted : (text : List ℕ) (o : Options) (before : List Draft) (found :
 header_accepted text o before found header line c h named = accepted o c.entries (text_accepted header (header_text_of o c.entries) (header_text text o before found header line c h) named)
 
 -- the header names another charset
-pub foreign : (text : List ℕ) (o : Options) (before after : List Draft) (found : Findings) (header : Option (Bor (List ℕ))) (line : ℕ) → HasCollected text o before found → Sorts before after → FirstRepeat (rows after) (length after) None → IsHeader before header line → (NamesCharsets header → ⊥) → Refuses text o Charset line
+pub foreign : (text : List ℕ) (o : Options) (before after : List Draft) (found : Findings) (header : Option (Bor (List ℕ))) (line : ℕ) → HasCollected text o before found → Sorts before after → FirstRepeat (outlines after) (length after) None → IsHeader before header line → (NamesCharsets header → ⊥) → Refuses text o Charset line
 foreign text o before after found header line c s none h unnamed =
     let a = another o c.entries (λ named. unnamed (accepted_text header (header_text_of o c.entries) (header_text text o before found header line c h) named)) in
     let is : IsForeignAt o c.entries line = record {
@@ -123,27 +123,27 @@ foreign text o before after found header line c s none h unnamed =
     } in
     (c.entries, c.gives, first_is_foreign o c.entries line (distinct_keys text o before after found c s none) is)
 
-pub failed : (text : List ℕ) (o : Options) (before after : List Draft) (found : Findings) (header : Option (Bor (List ℕ))) (line : ℕ) (fault : LoadFault) → HasCollected text o before found → Sorts before after → FirstRepeat (rows after) (length after) None → IsHeader before header line → NamesCharsets header → IsFault found o (option_map (λ text. text.now) header) line (Some fault) → Refuses text o fault.kind fault.line
+pub failed : (text : List ℕ) (o : Options) (before after : List Draft) (found : Findings) (header : Option (Bor (List ℕ))) (line : ℕ) (fault : LoadFault) → HasCollected text o before found → Sorts before after → FirstRepeat (outlines after) (length after) None → IsHeader before header line → NamesCharsets header → IsFault found o (option_map (λ text. text.now) header) line (Some fault) → Refuses text o fault.kind fault.line
 failed text o before after found header line fault c s none h named checks =
     as_refusal text o c.entries fault.kind fault.line c.gives (first_is_check o c.entries fault.kind fault.line (distinct_keys text o before after found c s none) (header_accepted text o before found header line c h named)
     (checks c.entries c.found (header_text text o before found header line c h) (lines_are text o before found header line c h)))
 
-pub lawful_map : (text : List ℕ) (o : Options) (before after : List Draft) (found : Findings) (header : Option (Bor (List ℕ))) (line : ℕ) (m : List Entry) → HasCollected text o before found → Sorts before after → FirstRepeat (rows after) (length after) None → IsHeader before header line → NamesCharsets header → m ≡ filter_map kept_entry (rows after) → IsLawful (m)
+pub lawful_map : (text : List ℕ) (o : Options) (before after : List Draft) (found : Findings) (header : Option (Bor (List ℕ))) (line : ℕ) (m : List Entry) → HasCollected text o before found → Sorts before after → FirstRepeat (outlines after) (length after) None → IsHeader before header line → NamesCharsets header → m ≡ filter_map kept_entry (outlines after) → IsLawful (m)
 lawful_map text o before after found header line m c s none h named kept_are =
     let sorted = ordered text o before after found c s in
-    let is = is_map o c.entries (rows after) sorted c.lawful (no_repeat after none) in
+    let is = is_map o c.entries (outlines after) sorted c.lawful (no_repeat after none) in
     subst IsLawful (sym kept_are) (record {
       rises = is.rises;
-      each = each_lawful o c.entries (rows after) sorted c.lawful;
-      charset = map_accepted o c.entries (map_of (rows after)) is (distinct_keys text o before after found c s none) (header_accepted text o before found header line c h named);
-      fits = fits o text c.entries (rows after) c.gives sorted c.lawful;
+      each = each_lawful o c.entries (outlines after) sorted c.lawful;
+      charset = map_accepted o c.entries (map_of (outlines after)) is (distinct_keys text o before after found c s none) (header_accepted text o before found header line c h named);
+      fits = fits o text c.entries (outlines after) c.gives sorted c.lawful;
     })
 
 -- what was counted of the drafts
 pub record Counts (drafts : List Draft) (stats : Stats) : Type 0 where
-  pub translated : stats.translated ≡ count_by (λ d. counts_as Translated (row d)) drafts
-  pub fuzzy : stats.fuzzy ≡ count_by (λ d. counts_as Fuzzy (row d)) drafts
-  pub untranslated : stats.untranslated ≡ count_by (λ d. counts_as Untranslated (row d)) drafts
+  pub translated : stats.translated ≡ count_by (λ d. counts_as Translated (outline d)) drafts
+  pub fuzzy : stats.fuzzy ≡ count_by (λ d. counts_as Fuzzy (outline d)) drafts
+  pub untranslated : stats.untranslated ≡ count_by (λ d. counts_as Untranslated (outline d)) drafts
 
 stats_eq : (s t : Stats) → s.translated ≡ t.translated → s.fuzzy ≡ t.fuzzy → s.untranslated ≡ t.untranslated → s ≡ t
 stats_eq s t a b c =
@@ -154,7 +154,7 @@ stats_eq s t a b c =
 abbrev pub Lacks : Options → Option (Bor (List ℕ)) → List Bool → Type 0
 Lacks o header missing = missing ≡ (if o.checked then lacking (option_map (λ text. text.now) header) else none_missing)
 
-pub compiles : (text : List ℕ) (o : Options) (before after : List Draft) (found : Findings) (header : Option (Bor (List ℕ))) (m : List Entry) (compiled : Compiled) → HasCollected text o before found → Sorts before after → FirstRepeat (rows after) (length after) None → IsHeader before header compiled.header_line → NamesCharsets header → IsFault found o (option_map (λ text. text.now) header) compiled.header_line None → m ≡ filter_map kept_entry (rows after) → Counts before compiled.stats → compiled.catalogue ≡ m → Lacks o header compiled.missing → Means text o compiled
+pub compiles : (text : List ℕ) (o : Options) (before after : List Draft) (found : Findings) (header : Option (Bor (List ℕ))) (m : List Entry) (compiled : Compiled) → HasCollected text o before found → Sorts before after → FirstRepeat (outlines after) (length after) None → IsHeader before header compiled.header_line → NamesCharsets header → IsFault found o (option_map (λ text. text.now) header) compiled.header_line None → m ≡ filter_map kept_entry (outlines after) → Counts before compiled.stats → compiled.catalogue ≡ m → Lacks o header compiled.missing → Means text o compiled
 compiles text o before after found header m compiled c s none h named checks kept_are counts catalogue_is missing_are =
     let sorted = ordered text o before after found c s in
     let line_is : compiled.header_line ≡ header_line_of o c.entries = lines_are text o before found header compiled.header_line c h in
@@ -163,7 +163,7 @@ compiles text o before after found header m compiled c s none h named checks kep
       entries = c.entries;
       gives = c.gives;
       passes = all_pass o c.entries (distinct_keys text o before after found c s none) (header_accepted text o before found header compiled.header_line c h named) (checks c.entries c.found text_is line_is);
-      map_is = subst (IsMapOf (kept o c.entries)) (sym (catalogue_is ∙ kept_are)) (is_map o c.entries (rows after) sorted c.lawful (no_repeat after none));
+      map_is = subst (IsMapOf (kept o c.entries)) (sym (catalogue_is ∙ kept_are)) (is_map o c.entries (outlines after) sorted c.lawful (no_repeat after none));
       stats_are = stats_eq compiled.stats _ (counts.translated ∙ translated_count o c.entries before c.rows_are) (counts.fuzzy ∙ fuzzy_count o c.entries before c.rows_are) (counts.untranslated ∙ untranslated_count o c.entries before c.rows_are);
       header_line_is = line_is;
       missing_is = missing_are ∙ ap (λ (t : Option (List ℕ)). if o.checked then lacking t else none_missing) text_is;

@@ -10,7 +10,7 @@ use Rattle.po_text.proofs.Sizes.{option_size, forms_size, entry_size, entries_si
 use Rattle.mo_image.specs.Entry.{Entry, key_bytes, with_plural, original, translation}
 use Rattle.mo_image.specs.MoFile.{closed, pool, spelling, entry_size as size}
 use Rattle.po_checks.specs.Kept.{message_of, is_kept}
-use Rattle.catalogue.specs.Drafts.{Row, row_of, rows_from, kept_entry}
+use Rattle.catalogue.specs.Drafts.{Outline, outline_of, outlines_from, kept_entry}
 use Rattle.po_checks.specs.declared.options.Options.{Options}
 use Rattle.mo_image.proofs.MoLengths.{length-closed, closed_joined}
 use Rattle.mo_image.proofs.FileSizes.{file_size}
@@ -39,35 +39,35 @@ message_size e lawful =
     let t = ap length (closed_joined e.forms (some_form e.plural e.forms lawful.counted)) in
     omega (arith, length-closed (original (message_of e)), original_size (key_bytes e.context e.id) e.plural, key_size e.context e.id, t, pool_size e.forms)
 
--- ---- the rows
+-- ---- the outlines
 
 abbrev option_entry_size : Option Entry → ℕ
 option_entry_size None = 0
 option_entry_size (Some m) = size m
 
-abbrev row_size : Row → ℕ
-row_size r = option_entry_size (kept_entry r)
+abbrev outline_size : Outline → ℕ
+outline_size r = option_entry_size (kept_entry r)
 
 of_one : (o : Option Entry) (ms : List Entry) → sum_by size (cons_option o ms) ≡ option_entry_size o + sum_by size ms
 of_one None ms = omega arith
 of_one (Some m) ms = sum_by-cons size m ms
 
-of_rows : (rs : List Row) → sum_by size (map_of rs) ≡ sum_by row_size rs
-of_rows [] = refl
-of_rows (r ∷ rs) = omega (arith, of_one (kept_entry r) (map_of rs), of_rows rs, sum_by-cons row_size r rs)
+of_outlines : (rs : List Outline) → sum_by size (map_of rs) ≡ sum_by outline_size rs
+of_outlines [] = refl
+of_outlines (r ∷ rs) = omega (arith, of_one (kept_entry r) (map_of rs), of_outlines rs, sum_by-cons outline_size r rs)
 
-row_fits : (o : Options) (k : ℕ) (e : po.Entry) → Lawful e → row_size (row_of o k e) ≤ entry_size e
-row_fits o k e lawful = of (is_kept o e) refl
+outline_fits : (o : Options) (k : ℕ) (e : po.Entry) → Lawful e → outline_size (outline_of o k e) ≤ entry_size e
+outline_fits o k e lawful = of (is_kept o e) refl
   where
-    of : (b : Bool) → is_kept o e ≡ b → row_size (row_of o k e) ≤ entry_size e
+    of : (b : Bool) → is_kept o e ≡ b → outline_size (outline_of o k e) ≤ entry_size e
     of true is = let same = ap option_entry_size (kept_is o k e lawful is) in omega (arith, same, message_size e lawful)
     of false is = let same = ap option_entry_size (left_out o k e is) in omega (arith, same)
 
-rows_fit : (o : Options) (k : ℕ) (es : List po.Entry) → AllByRecursion Lawful es → sum_by row_size (rows_from o k es) ≤ entries_size es
-rows_fit o k [] lawful = omega arith
-rows_fit o k (e ∷ es) lawful = omega (arith, sum_by-cons row_size (row_of o k e) (rows_from o (k + 1) es), row_fits o k e lawful.0, rows_fit o (k + 1) es lawful.1)
+outlines_fit : (o : Options) (k : ℕ) (es : List po.Entry) → AllByRecursion Lawful es → sum_by outline_size (outlines_from o k es) ≤ entries_size es
+outlines_fit o k [] lawful = omega arith
+outlines_fit o k (e ∷ es) lawful = omega (arith, sum_by-cons outline_size (outline_of o k e) (outlines_from o (k + 1) es), outline_fits o k e lawful.0, outlines_fit o (k + 1) es lawful.1)
 
-pub fits : (o : Options) (text : List ℕ) (entries : List po.Entry) (rs : List Row) → Gives text entries → AreOrdered o entries rs → AllByRecursion Lawful entries → length (spelling (map_of rs)) ≤ 268435456
+pub fits : (o : Options) (text : List ℕ) (entries : List po.Entry) (rs : List Outline) → Gives text entries → AreOrdered o entries rs → AllByRecursion Lawful entries → length (spelling (map_of rs)) ≤ 268435456
 fits o text entries rs gives ordered lawful =
-    let all = sum_by-IsPermutation row_size (rows_from o 0 entries) rs ordered.same in
-    omega (arith, file_size (map_of rs), of_rows rs, all, rows_fit o 0 entries lawful, gives_size text entries gives, gives.readable.size)
+    let all = sum_by-IsPermutation outline_size (outlines_from o 0 entries) rs ordered.same in
+    omega (arith, file_size (map_of rs), of_outlines rs, all, outlines_fit o 0 entries lawful, gives_size text entries gives, gives.readable.size)

@@ -13,47 +13,47 @@ use Rattle.mo_image.specs.Map.{entry_at, first_form, header_text, HasAcceptedCha
 use Rattle.po_checks.specs.Kept.{message_of, key_of, is_empty, is_header, is_kept, kept, kept_header, header_text_of, NamesCharset}
 use Rattle.po_checks.specs.Fails.{HasDistinctKeys}
 use Rattle.catalogue.specs.Meaning.{IsMapOf}
-use Rattle.catalogue.specs.Drafts.{Row, Kept, row, rows, row_of, rows_from, texts_of, row_text, text_found, header_text_in, is_kept_header, IsLawfulMessage}
+use Rattle.catalogue.specs.Drafts.{Outline, Kept, outline, outlines, outline_of, outlines_from, texts_of, outline_text, text_found, header_text_in, is_kept_header, IsLawfulMessage}
 use Rattle.po_checks.specs.declared.options.Options.{Options}
 use Rattle.catalogue.specs.declared.drafts.Draft.{Draft}
-use Rattle.catalogue.proofs.Counting.{AreRows, header_row, split_find}
+use Rattle.catalogue.proofs.Counting.{AreOutlines, header_outline, split_find}
 use Rattle.mo_image.proofs.EntryParts.{split_joined, some_form, lack_nul}
 use Rattle.catalogue.proofs.Members.{has_head, has_tail, has_cases, from_map, from_filter, from_find}
 
--- a row is that of a kept entry
-pub record IsRowOf (o : Options) (es : List po.Entry) (r : Row) (e : po.Entry) : Type 0 where
+-- an outline is that of a kept entry
+pub record IsRowOf (o : Options) (es : List po.Entry) (r : Outline) (e : po.Entry) : Type 0 where
   pub number : ℕ
-  pub is : r ≡ row_of o number e
+  pub is : r ≡ outline_of o number e
   pub has : Contains es e
   pub is_kept : is_kept o e ≡ true
   pub lawful : IsLawfulMessage e
 
--- a row and an entry were found, or neither
-abbrev Found : Options → List po.Entry → Option Row → Option po.Entry → Type 0
+-- an outline and an entry were found, or neither
+abbrev Found : Options → List po.Entry → Option Outline → Option po.Entry → Type 0
 Found o es None None = Unit {0}
 Found o es None (Some e) = ⊥
 Found o es (Some r) None = ⊥
 Found o es (Some r) (Some e) = IsRowOf o es r e
 
-longer : (o : Options) (x : po.Entry) (es : List po.Entry) (r : Option Row) (e : Option po.Entry) → Found o es r e → Found o (x ∷ es) r e
+longer : (o : Options) (x : po.Entry) (es : List po.Entry) (r : Option Outline) (e : Option po.Entry) → Found o es r e → Found o (x ∷ es) r e
 longer o x es None None f = tt
 longer o x es None (Some e) f = f
 longer o x es (Some r) None f = f
 longer o x es (Some r) (Some e) f = record { number = f.number; is = f.is; has = has_tail e x es f.has; is_kept = f.is_kept; lawful = f.lawful }
 
-step : (o : Options) (k : ℕ) (e : po.Entry) (es : List po.Entry) (h t : Bool) (r : Option Row) (x : Option po.Entry) → is_kept o e ≡ t → IsLawfulMessage e → Found o es r x → Found o (e ∷ es) (cond (h && t) (Some (row_of o k e)) r) (cond t (cond h (Some e) x) x)
+step : (o : Options) (k : ℕ) (e : po.Entry) (es : List po.Entry) (h t : Bool) (r : Option Outline) (x : Option po.Entry) → is_kept o e ≡ t → IsLawfulMessage e → Found o es r x → Found o (e ∷ es) (cond (h && t) (Some (outline_of o k e)) r) (cond t (cond h (Some e) x) x)
 step o k e es true true r x is lawful f = record { number = k; is = refl; has = has_head e e es refl; is_kept = is; lawful = lawful }
 step o k e es true false r x is lawful f = longer o e es r x f
 step o k e es false true r x is lawful f = longer o e es r x f
 step o k e es false false r x is lawful f = longer o e es r x f
 
-found : (o : Options) (k : ℕ) (es : List po.Entry) → AllByRecursion IsLawfulMessage es → Found o es (find is_kept_header (rows_from o k es)) (kept_header o es)
+found : (o : Options) (k : ℕ) (es : List po.Entry) → AllByRecursion IsLawfulMessage es → Found o es (find is_kept_header (outlines_from o k es)) (kept_header o es)
 found o k [] lawful = tt
 found o k (e ∷ es) lawful =
-    let rest = find is_kept_header (rows_from o (k + 1) es) in
-    let R : Bool → Type 0 = λ b. Found o (e ∷ es) (cond b (Some (row_of o k e)) rest) (kept_header o (e ∷ es)) in
-    let X : Option po.Entry → Type 0 = λ x. Found o (e ∷ es) (cond (is_header e && is_kept o e) (Some (row_of o k e)) rest) x in
-    subst R (sym (header_row o k e)) (subst X (sym (split_find (is_kept o e) e (kept o es)))
+    let rest = find is_kept_header (outlines_from o (k + 1) es) in
+    let R : Bool → Type 0 = λ b. Found o (e ∷ es) (cond b (Some (outline_of o k e)) rest) (kept_header o (e ∷ es)) in
+    let X : Option po.Entry → Type 0 = λ x. Found o (e ∷ es) (cond (is_header e && is_kept o e) (Some (outline_of o k e)) rest) x in
+    subst R (sym (header_outline o k e)) (subst X (sym (split_find (is_kept o e) e (kept o es)))
     (step o k e es (is_header e) (is_kept o e) rest (kept_header o es) refl lawful.0 (found o (k + 1) es lawful.1)))
 
 -- ---- what it names
@@ -61,29 +61,29 @@ found o k (e ∷ es) lawful =
 forms_again : (e : po.Entry) → IsLawfulMessage e → slice_split (λ b. b == 0) (translation (message_of e)) ≡ e.forms
 forms_again e lawful = split_joined e.forms (some_form e.plural e.forms lawful.counted) (lack_nul e.forms lawful.forms)
 
-row_texts : (o : Options) (es : List po.Entry) (r : Row) (e : po.Entry) → IsRowOf o es r e → r.texts ≡ Some (texts_of e)
-row_texts o es r e f = ap (λ (x : Row). x.texts) f.is ∙ rw f.is_kept refl
+row_texts : (o : Options) (es : List po.Entry) (r : Outline) (e : po.Entry) → IsRowOf o es r e → r.texts ≡ Some (texts_of e)
+row_texts o es r e f = ap (λ (x : Outline). x.texts) f.is ∙ rw f.is_kept refl
 
-row_text_is : (o : Options) (es : List po.Entry) (r : Row) (e : po.Entry) → IsRowOf o es r e → row_text r ≡ Some (first_form e.forms)
+row_text_is : (o : Options) (es : List po.Entry) (r : Outline) (e : po.Entry) → IsRowOf o es r e → outline_text r ≡ Some (first_form e.forms)
 row_text_is o es r e f = ap (option_map (λ (t : Kept). first_form (slice_split (λ b. b == 0) t.1))) (row_texts o es r e f) ∙ ap (λ (forms : List (List ℕ)). Some (first_form forms)) (forms_again e f.lawful)
 
-text_is : (o : Options) (es : List po.Entry) (r : Option Row) (e : Option po.Entry) → Found o es r e → text_found r ≡ option_map (λ e. first_form e.forms) e
+text_is : (o : Options) (es : List po.Entry) (r : Option Outline) (e : Option po.Entry) → Found o es r e → text_found r ≡ option_map (λ e. first_form e.forms) e
 text_is o es None None f = refl
 text_is o es None (Some e) f = absurd f
 text_is o es (Some r) None f = absurd f
 text_is o es (Some r) (Some e) f = row_text_is o es r e f
 
-find_rows : (ds : List Draft) → option_map row (find (λ d. is_kept_header (row d)) ds) ≡ find is_kept_header (rows ds)
-find_rows [] = refl
-find_rows (d ∷ ds) = of (is_kept_header (row d)) (find_rows ds)
+find_outlines : (ds : List Draft) → option_map outline (find (λ d. is_kept_header (outline d)) ds) ≡ find is_kept_header (outlines ds)
+find_outlines [] = refl
+find_outlines (d ∷ ds) = of (is_kept_header (outline d)) (find_outlines ds)
   where
-    of : (b : Bool) → option_map row (find (λ d. is_kept_header (row d)) ds) ≡ find is_kept_header (rows ds) → option_map row (cond b (Some d) (find (λ d. is_kept_header (row d)) ds)) ≡ cond b (Some (row d)) (find is_kept_header (rows ds))
+    of : (b : Bool) → option_map outline (find (λ d. is_kept_header (outline d)) ds) ≡ find is_kept_header (outlines ds) → option_map outline (cond b (Some d) (find (λ d. is_kept_header (outline d)) ds)) ≡ cond b (Some (outline d)) (find is_kept_header (outlines ds))
     of true rest = refl
     of false rest = rest
 
 -- the text of the kept header
-pub header_text_is : (o : Options) (es : List po.Entry) (ds : List Draft) → AreRows o es ds → AllByRecursion IsLawfulMessage es → header_text_in ds ≡ header_text_of o es
-header_text_is o es ds are lawful = ap text_found (find_rows ds ∙ ap (find is_kept_header) are) ∙ text_is o es (find is_kept_header (rows_from o 0 es)) (kept_header o es) (found o 0 es lawful)
+pub header_text_is : (o : Options) (es : List po.Entry) (ds : List Draft) → AreOutlines o es ds → AllByRecursion IsLawfulMessage es → header_text_in ds ≡ header_text_of o es
+header_text_is o es ds are lawful = ap text_found (find_outlines ds ∙ ap (find is_kept_header) are) ∙ text_is o es (find is_kept_header (outlines_from o 0 es)) (kept_header o es) (found o 0 es lawful)
 
 accepted_by : (e : Option po.Entry) → IfSome (option_map (λ e. first_form e.forms) e) HasAcceptedCharset → IfSome e NamesCharset
 accepted_by None named = tt

@@ -1,5 +1,5 @@
 pub mod Members
-pub mod RowOrder
+pub mod OutlineOrder
 pub mod Repeats
 pub mod Keeping
 pub mod InOrder
@@ -7,7 +7,7 @@ pub mod PoEntries
 pub mod Listing
 pub mod Fitting
 pub mod Collecting
-pub mod Pooling
+pub mod Lending
 pub mod Counting
 pub mod HeaderFound
 pub mod Compiling

@@ -1,4 +1,4 @@
--- The entries that are kept of the rows in order are the map of the text.
+-- The entries that are kept of the outlines in order are the map of the text.
 use Rattle.std.proofs.Common.{◌≡◌, ◌≢◌, ℕ, suc, ◌+◌, ◌<◌, Bool, true, false, cond, List, [], ◌∷◌, length, map, get_or, Option, Some, None, Ordering, refl, sym, ap, ◌∙◌, subst, arith}
 use Rattle.std.specs.Prelude.{Contains, option_map}
 use Rattle.std.specs.List.{AllByRecursion, filter, filter_map, cons_option}
@@ -15,27 +15,27 @@ use Rattle.mo_image.specs.Map.{Rises}
 use Rattle.mo_image.specs.Parts.{entry_from}
 use Rattle.po_checks.specs.Kept.{message_of, is_kept, kept}
 use Rattle.catalogue.specs.Meaning.{IsMapOf}
-use Rattle.catalogue.specs.Drafts.{Row, Kept, row_of, kept_entry, IsRepeat}
+use Rattle.catalogue.specs.Drafts.{Outline, Kept, outline_of, kept_entry, IsRepeat}
 use Rattle.po_checks.specs.declared.options.Options.{Options}
 use Rattle.mo_image.proofs.EntryParts.{entry_again}
 use Rattle.mo_image.proofs.KeyParts.{rejoined}
-use Rattle.catalogue.proofs.InOrder.{AreOrdered, Comes, comes, stands, row_lt}
+use Rattle.catalogue.proofs.InOrder.{AreOrdered, Comes, comes, stands, outline_lt}
 use Rattle.catalogue.proofs.Members.{has_head, has_tail, has_map, has_filter, has_filter_map}
 
 abbrev pub Lawful : po.Entry → Type 0
 Lawful e = IsLawfulEntry (message_of e)
 
--- ---- one row
+-- ---- one outline
 
--- a kept row is the entry of the text
-pub kept_is : (o : Options) (n : ℕ) (e : po.Entry) → Lawful e → is_kept o e ≡ true → kept_entry (row_of o n e) ≡ Some (message_of e)
+-- a kept outline is the entry of the text
+pub kept_is : (o : Options) (n : ℕ) (e : po.Entry) → Lawful e → is_kept o e ≡ true → kept_entry (outline_of o n e) ≡ Some (message_of e)
 kept_is o n e lawful yes_kept = rw yes_kept (ap (λ (m : Entry). Some m) (entry_again (message_of e) lawful))
 
-pub left_out : (o : Options) (n : ℕ) (e : po.Entry) → is_kept o e ≡ false → kept_entry (row_of o n e) ≡ None
+pub left_out : (o : Options) (n : ℕ) (e : po.Entry) → is_kept o e ≡ false → kept_entry (outline_of o n e) ≡ None
 left_out o n e not_kept = rw not_kept refl
 
--- what a row gives has its key
-kept_key : (r : Row) (m : Entry) → kept_entry r ≡ Some m → key m ≡ r.key
+-- what an outline gives has its key
+kept_key : (r : Outline) (m : Entry) → kept_entry r ≡ Some m → key m ≡ r.key
 kept_key r m e = of r.texts refl
   where
     of : (t : Option Kept) → r.texts ≡ t → key m ≡ r.key
@@ -60,10 +60,10 @@ rises_under : (j k : List ℕ) (ks : List (List ℕ)) → slice_cmp nat_cmp j k 
 rises_under j k [] less rises = tt
 rises_under j k (l ∷ ks) less rises = (nat_list_cmp_total.trans j k l less rises.0, rises.1)
 
-abbrev row_keys : List Row → List (List ℕ)
-row_keys rs = map (λ (r : Row). r.key) rs
+abbrev row_keys : List Outline → List (List ℕ)
+row_keys rs = map (λ (r : Outline). r.key) rs
 
-kept_rise : (k : List ℕ) (rs : List Row) → Rises (k ∷ row_keys rs) → Rises (k ∷ map key (filter_map kept_entry rs))
+kept_rise : (k : List ℕ) (rs : List Outline) → Rises (k ∷ row_keys rs) → Rises (k ∷ map key (filter_map kept_entry rs))
 kept_rise k [] rises = tt
 kept_rise k (r ∷ rs) rises = of (λ j h. kept_rise j rs h) (kept_entry r) refl
   where
@@ -73,7 +73,7 @@ kept_rise k (r ∷ rs) rises = of (λ j h. kept_rise j rs h) (kept_entry r) refl
         let P : List ℕ → Type 0 = λ l. (slice_cmp nat_cmp k l ≡ Less) × Rises (l ∷ map key (filter_map kept_entry rs)) in
         rw is (subst P (sym (kept_key r m is)) (rises.0, rest r.key rises.1))
 
-kept_all_rise : (rs : List Row) → Rises (row_keys rs) → Rises (map key (filter_map kept_entry rs))
+kept_all_rise : (rs : List Outline) → Rises (row_keys rs) → Rises (map key (filter_map kept_entry rs))
 kept_all_rise [] rises = tt
 kept_all_rise (r ∷ rs) rises = of (kept_all_rise rs (rises_on r.key (row_keys rs) rises)) (kept_entry r) refl
   where
@@ -87,13 +87,13 @@ by_less Less m n later differ = refl
 by_less Equal m n later differ = absurd (differ refl)
 by_less Greater m n later differ = absurd (false≢true (sym later))
 
-neighbour : (a b : Row) → row_lt b a ≡ false → a.key ≢ b.key → slice_cmp nat_cmp a.key b.key ≡ Less
+neighbour : (a b : Outline) → outline_lt b a ≡ false → a.key ≢ b.key → slice_cmp nat_cmp a.key b.key ≡ Less
 neighbour a b later differ =
     by_less (slice_cmp nat_cmp a.key b.key) a.number b.number
     (sym (ap (λ (o : Ordering). is_lt (ordering_then o (nat_cmp b.number a.number))) (nat_list_cmp_total.antisymm b.key a.key)) ∙ later)
     (λ e. differ (slice_cmp-IsAntisymmetric nat_cmp-IsAntisymmetric a.key b.key e))
 
-from_neighbours : (rs : List Row) → ((i : ℕ) (d : Row) → i + 1 < length rs → slice_cmp nat_cmp (get_or rs i d).key (get_or rs (i + 1) d).key ≡ Less) → Rises (row_keys rs)
+from_neighbours : (rs : List Outline) → ((i : ℕ) (d : Outline) → i + 1 < length rs → slice_cmp nat_cmp (get_or rs i d).key (get_or rs (i + 1) d).key ≡ Less) → Rises (row_keys rs)
 from_neighbours [] h = tt
 from_neighbours (r ∷ []) h = tt
 from_neighbours (r ∷ s ∷ rs) h = (
@@ -103,16 +103,16 @@ from_neighbours (r ∷ s ∷ rs) h = (
       subst (λ k. slice_cmp nat_cmp (get_or (s ∷ rs) i d).key (get_or (r ∷ s ∷ rs) k d).key ≡ Less) next (h (suc i) d (omega arith))),
 )
 
-rows_rise : (o : Options) (entries : List po.Entry) (rs : List Row) → AreOrdered o entries rs → ((j : ℕ) → ¬ IsRepeat rs j) → Rises (row_keys rs)
+rows_rise : (o : Options) (entries : List po.Entry) (rs : List Outline) → AreOrdered o entries rs → ((j : ℕ) → ¬ IsRepeat rs j) → Rises (row_keys rs)
 rows_rise o entries rs ordered none = from_neighbours rs (λ i d lt. neighbour (get_or rs i d) (get_or rs (i + 1) d) (ordered.sorted i d (omega arith) lt)
-    (λ same. none i (record { within = lt; same = λ e. ap (λ (r : Row). r.key) (first i e d (omega arith)) ∙ same ∙ ap (λ (r : Row). r.key) (first (i + 1) d e lt) })))
+    (λ same. none i (record { within = lt; same = λ e. ap (λ (r : Outline). r.key) (first i e d (omega arith)) ∙ same ∙ ap (λ (r : Outline). r.key) (first (i + 1) d e lt) })))
   where
-    first : (i : ℕ) (d e : Row) → i < length rs → get_or rs i d ≡ get_or rs i e
+    first : (i : ℕ) (d e : Outline) → i < length rs → get_or rs i d ≡ get_or rs i e
     first i d e lt = Rattle.std.proofs.lemmas.List.get_or_default rs i d e lt
 
 -- ---- the members
 
-each_given : (P : Entry → Type 0) (rs : List Row) → ((r : Row) → Contains rs r → (m : Entry) → kept_entry r ≡ Some m → P m) → AllByRecursion P (filter_map kept_entry rs)
+each_given : (P : Entry → Type 0) (rs : List Outline) → ((r : Outline) → Contains rs r → (m : Entry) → kept_entry r ≡ Some m → P m) → AllByRecursion P (filter_map kept_entry rs)
 each_given P [] h = tt
 each_given P (r ∷ rs) h = of (each_given P rs (λ s has m is. h s (has_tail s r rs has) m is)) (kept_entry r) refl
   where
@@ -131,7 +131,7 @@ pub record Was (o : Options) (entries : List po.Entry) (m : Entry) : Type 0 wher
 some_is : (a b : Entry) → Some a ≡ Some b → a ≡ b
 some_is a b e = cc
 
-was : (o : Options) (entries : List po.Entry) → AllByRecursion Lawful entries → (r : Row) → Comes o entries r → (m : Entry) → kept_entry r ≡ Some m → Was o entries m
+was : (o : Options) (entries : List po.Entry) → AllByRecursion Lawful entries → (r : Outline) → Comes o entries r → (m : Entry) → kept_entry r ≡ Some m → Was o entries m
 was o [] lawful r comes m is = absurd (omega (arith, comes.within))
 was o (x ∷ es) lawful r comes m is = of (is_kept o e) refl
   where
@@ -141,7 +141,7 @@ was o (x ∷ es) lawful r comes m is = of (is_kept o e) refl
     fine : Lawful e
     fine = All-get_or Lawful (x ∷ es) comes.number x comes.within (All-from_recursion Lawful (x ∷ es) lawful)
 
-    row_is : r ≡ row_of o comes.number e
+    row_is : r ≡ outline_of o comes.number e
     row_is = comes.is x
 
     of : (b : Bool) → is_kept o e ≡ b → Was o (x ∷ es) m
@@ -162,23 +162,23 @@ each_listed o m (e ∷ es) h = of (each_listed o m es (λ i d lt is. h (suc i) d
     of rest true is = rw is (h 0 e (omega arith) is, rest)
     of rest false is = rw is rest
 
-abbrev pub map_of : List Row → List Entry
+abbrev pub map_of : List Outline → List Entry
 map_of rs = filter_map kept_entry rs
 
-pub is_map : (o : Options) (entries : List po.Entry) (rs : List Row) → AreOrdered o entries rs → AllByRecursion Lawful entries → ((j : ℕ) → ¬ IsRepeat rs j) → IsMapOf (kept o entries) (map_of rs)
+pub is_map : (o : Options) (entries : List po.Entry) (rs : List Outline) → AreOrdered o entries rs → AllByRecursion Lawful entries → ((j : ℕ) → ¬ IsRepeat rs j) → IsMapOf (kept o entries) (map_of rs)
 is_map o entries rs ordered lawful none = record {
   rises = kept_all_rise rs (rows_rise o entries rs ordered none);
   listed = All-from_recursion (Contains (map_of rs)) (map message_of (kept o entries)) (each_listed o (map_of rs) entries (λ i d lt is.
       let e = get_or entries i d in
       let p = stands o entries rs ordered i d lt in
-      let has : Contains rs (row_of o i e) = (p.place, p.within, p.is (row_of o i e)) in
-      has_filter_map kept_entry rs (row_of o i e) (message_of e) has (kept_is o i e (All-get_or Lawful entries i d lt (All-from_recursion Lawful entries lawful)) is)));
+      let has : Contains rs (outline_of o i e) = (p.place, p.within, p.is (outline_of o i e)) in
+      has_filter_map kept_entry rs (outline_of o i e) (message_of e) has (kept_is o i e (All-get_or Lawful entries i d lt (All-from_recursion Lawful entries lawful)) is)));
   nothing_else = All-from_recursion (Contains (map message_of (kept o entries))) (map_of rs) (each_given (Contains (map message_of (kept o entries))) rs (λ r has m is.
       let w = was o entries lawful r (comes o entries rs ordered r has) m is in
       subst (λ (x : Entry). Contains (map message_of (kept o entries)) x) (sym w.is) (has_map message_of (kept o entries) w.entry (has_filter (is_kept o) entries w.entry w.has w.is_kept))));
 }
 
-pub each_lawful : (o : Options) (entries : List po.Entry) (rs : List Row) → AreOrdered o entries rs → AllByRecursion Lawful entries → AllByRecursion IsLawfulEntry (map_of rs)
+pub each_lawful : (o : Options) (entries : List po.Entry) (rs : List Outline) → AreOrdered o entries rs → AllByRecursion Lawful entries → AllByRecursion IsLawfulEntry (map_of rs)
 each_lawful o entries rs ordered lawful = each_given IsLawfulEntry rs (λ r has m is.
     let w = was o entries lawful r (comes o entries rs ordered r has) m is in
     subst IsLawfulEntry (sym w.is) w.lawful)

@@ -25,7 +25,7 @@ abbrev pub Kept : Type 0
 Kept = Option (List ℕ) × List ℕ
 
 -- an entry by its place in the text, its line, its key and how it counts, and what is kept of it
-pub record Row : Type 0 where
+pub record Outline : Type 0 where
   pub number : ℕ
   pub line : ℕ
   pub key : List ℕ
@@ -35,11 +35,11 @@ pub record Row : Type 0 where
 abbrev pub kept_texts : Texts → Kept
 kept_texts t = (option_map (λ s. s.now) t.plural, t.translation.now)
 
-abbrev pub row : Draft → Row
-row d = record { number = d.number; line = d.line; key = d.key; standing = d.standing; texts = option_map kept_texts d.texts }
+abbrev pub outline : Draft → Outline
+outline d = record { number = d.number; line = d.line; key = d.key; standing = d.standing; texts = option_map kept_texts d.texts }
 
-abbrev pub rows : List Draft → List Row
-rows drafts = map row drafts
+abbrev pub outlines : List Draft → List Outline
+outlines drafts = map outline drafts
 
 abbrev pub texts_of : po.Entry → Kept
 texts_of e = (e.plural, translation (message_of e))
@@ -55,9 +55,9 @@ standing_of e =
 abbrev pub texts_if_kept : Options → po.Entry → Option Kept
 texts_if_kept options e = if is_kept options e then Some (texts_of e) else None
 
--- the row of the entry with this number
-abbrev pub row_of : Options → ℕ → po.Entry → Row
-row_of options number e = record {
+-- the outline of the entry with this number
+abbrev pub outline_of : Options → ℕ → po.Entry → Outline
+outline_of options number e = record {
   number = number;
   line = e.line;
   key = key_of e;
@@ -65,23 +65,23 @@ row_of options number e = record {
   texts = texts_if_kept options e;
 }
 
--- the rows of entries, the first of which has this number
-abbrev pub rows_from : Options → ℕ → List po.Entry → List Row
-rows_from options number [] = []
-rows_from options number (e ∷ es) = row_of options number e ∷ rows_from options (number + 1) es
+-- the outlines of entries, the first of which has this number
+abbrev pub outlines_from : Options → ℕ → List po.Entry → List Outline
+outlines_from options number [] = []
+outlines_from options number (e ∷ es) = outline_of options number e ∷ outlines_from options (number + 1) es
 
 -- by keys, and those with one key in the order of the text
-abbrev pub row_cmp : Row → Row → Ordering
-row_cmp a b = ordering_then (slice_cmp nat_cmp a.key b.key) (nat_cmp a.number b.number)
+abbrev pub outline_cmp : Outline → Outline → Ordering
+outline_cmp a b = ordering_then (slice_cmp nat_cmp a.key b.key) (nat_cmp a.number b.number)
 
 abbrev pub comes_before : Draft → Draft → Bool
-comes_before a b = is_lt (row_cmp (row a) (row b))
+comes_before a b = is_lt (outline_cmp (outline a) (outline b))
 
--- what is kept of a row
-abbrev pub kept_entry : Row → Option Entry
+-- what is kept of an outline
+abbrev pub kept_entry : Outline → Option Entry
 kept_entry r = option_map (λ t. entry_from r.key t.0 t.1) r.texts
 
--- the entry of a row that is kept; else one with its key alone
+-- the entry of an outline that is kept; else one with its key alone
 abbrev pub entry_with : List ℕ → Option Kept → Entry
 entry_with key None = entry_from key None []
 entry_with key (Some t) = entry_from key t.0 t.1
@@ -92,34 +92,34 @@ draft_entry d = entry_with d.key (option_map kept_texts d.texts)
 abbrev pub drafts_entries : List Draft → List Entry
 drafts_entries drafts = map draft_entry drafts
 
--- the row behind i has the key of the one at i
-pub record IsRepeat (rs : List Row) (i : ℕ) : Type 0 where
+-- the outline behind i has the key of the one at i
+pub record IsRepeat (rs : List Outline) (i : ℕ) : Type 0 where
   pub within : i + 1 < length rs
-  pub same : (d : Row) → (slice_index_or rs i d).key ≡ (slice_index_or rs (i + 1) d).key
+  pub same : (d : Outline) → (slice_index_or rs i d).key ≡ (slice_index_or rs (i + 1) d).key
 
--- of the first n rows that have the key of the one before them, this one comes first in the text
-pub record IsFirstRepeat (rs : List Row) (n : ℕ) (r : Row) : Type 0 where
+-- of the first n outlines that have the key of the one before them, this one comes first in the text
+pub record IsFirstRepeat (rs : List Outline) (n : ℕ) (r : Outline) : Type 0 where
   pub place : ℕ
   pub within : place + 1 < n
   pub repeats : IsRepeat rs place
-  pub row_is : (d : Row) → slice_index_or rs (place + 1) d ≡ r
-  pub first : (j : ℕ) (d : Row) → j + 1 < n → IsRepeat rs j → r.number ≤ (slice_index_or rs (j + 1) d).number
+  pub row_is : (d : Outline) → slice_index_or rs (place + 1) d ≡ r
+  pub first : (j : ℕ) (d : Outline) → j + 1 < n → IsRepeat rs j → r.number ≤ (slice_index_or rs (j + 1) d).number
 
-abbrev pub FirstRepeat : List Row → ℕ → Option Row → Type 0
+abbrev pub FirstRepeat : List Outline → ℕ → Option Outline → Type 0
 FirstRepeat rs n None = (j : ℕ) → j + 1 < n → ¬ IsRepeat rs j
 FirstRepeat rs n (Some r) = IsFirstRepeat rs n r
 
--- whether a row comes before another one in the text, or there is no other one
-abbrev pub is_earlier : Row → Option Row → Bool
+-- whether an outline comes before another one in the text, or there is no other one
+abbrev pub is_earlier : Outline → Option Outline → Bool
 is_earlier r None = true
 is_earlier r (Some other) = nat_lt r.number other.number
 
--- the first repeat, with one more row behind another
-abbrev pub earlier : Row → Row → Option Row → Option Row
+-- the first repeat, with one more outline behind another
+abbrev pub earlier : Outline → Outline → Option Outline → Option Outline
 earlier before r first = if bytes_eq before.key r.key && is_earlier r first then Some r else first
 
-abbrev pub row_if : Option (Bor Draft) → Option Row
-row_if found = option_map (λ d. row d.now) found
+abbrev pub outline_if : Option (Bor Draft) → Option Outline
+outline_if found = option_map (λ d. outline d.now) found
 
 abbrev pub same_standing : Standing → Standing → Bool
 same_standing Header Header = true
@@ -128,11 +128,11 @@ same_standing Fuzzy Fuzzy = true
 same_standing Translated Translated = true
 same_standing _ _ = false
 
--- the row counts so
-abbrev pub counts_as : Standing → Row → Bool
+-- the outline counts so
+abbrev pub counts_as : Standing → Outline → Bool
 counts_as standing r = same_standing r.standing standing
 
-abbrev pub is_kept_header : Row → Bool
+abbrev pub is_kept_header : Outline → Bool
 is_kept_header r = counts_as Header r && is_some r.texts
 
 -- an entry whose texts a catalogue may hold
@@ -143,17 +143,17 @@ IsLawfulMessage e = IsLawfulEntry (message_of e)
 pub record HasCollected (text : List ℕ) (options : Options) (drafts : List Draft) (findings : Findings) : Type 0 where
   pub entries : List po.Entry
   pub gives : Gives text entries
-  pub rows_are : rows drafts ≡ rows_from options 0 entries
+  pub rows_are : outlines drafts ≡ outlines_from options 0 entries
   pub lawful : AllByRecursion IsLawfulMessage entries
   pub found : HasFound options entries findings
 
 -- the text of the kept header, if there is one: its first form
-abbrev pub row_text : Row → Option (List ℕ)
-row_text r = option_map (λ t. first_form (slice_split (λ b. b == 0) t.1)) r.texts
+abbrev pub outline_text : Outline → Option (List ℕ)
+outline_text r = option_map (λ t. first_form (slice_split (λ b. b == 0) t.1)) r.texts
 
-abbrev pub text_found : Option Row → Option (List ℕ)
+abbrev pub text_found : Option Outline → Option (List ℕ)
 text_found None = None
-text_found (Some r) = row_text r
+text_found (Some r) = outline_text r
 
 abbrev pub header_text_in : List Draft → Option (List ℕ)
-header_text_in drafts = text_found (option_map row (find (λ d. is_kept_header (row d)) drafts))
+header_text_in drafts = text_found (option_map outline (find (λ d. is_kept_header (outline d)) drafts))

@@ -13,6 +13,6 @@ pub mod Meaning
 pub mod Value
 pub mod Laws
 pub mod Drafts
-pub mod Pool
+pub mod Spans
 pub mod Sizes
 pub mod Accepted

@@ -6,12 +6,12 @@ ghost use Rattle.catalogue.specs.Meaning as Meaning;
 ghost use Rattle.po_checks.specs.Kept.{message_of};
 ghost use Rattle.catalogue.specs.Meaning.{Refuses};
 ghost use Rattle.catalogue.specs.Drafts as Drafts;
-ghost use Rattle.catalogue.specs.Drafts.{row_of, texts_if_kept};
-ghost use Rattle.catalogue.specs.Pool.{bytes_if_kept, kept_bytes, kept_span, plural_bytes, span_of, stored, HasPooled};
+ghost use Rattle.catalogue.specs.Drafts.{outline_of, texts_if_kept};
+ghost use Rattle.catalogue.specs.Spans.{bytes_if_kept, kept_bytes, kept_span, plural_bytes, span_of, stored, HasGathered};
 ghost use Rattle.po_checks.specs.declared.fault.LoadKind.TheVariants.{Memory};
 
 use crate::drafts::Standing;
-use crate::pool::{KeptSpan, Span};
+use crate::spans::{KeptSpan, Span};
 use mo_image::{push_form, push_key};
 use po_checks::{Findings, LoadFault, Options, is_header, is_kept, is_untranslated};
 use po_text::{EntryBuffer, open_text};
@@ -96,11 +96,11 @@ fn add_if_kept(
     Ok(Some(span))
 }
 
-/// Adds the texts of an entry to the pool, and gives their span.
+/// Adds the texts of an entry to those before, and gives their span.
 fn add_entry(texts: &mut String, entry: &EntryBuffer, options: Options) -> Result<Span, AllocError>
     ensures lawful { OnOk result (IsLawfulTexts entry.now) }
-    ensures added { OnOk result (string_bytes texts.new ≡ string_bytes texts.old ++ stored (row_of options 0 entry.now)) }
-    ensures span { IfOk result (λ span. span ≡ span_of (row_of options 0 entry.now)) }
+    ensures added { OnOk result (string_bytes texts.new ≡ string_bytes texts.old ++ stored (outline_of options 0 entry.now)) }
+    ensures span { IfOk result (λ span. span ≡ span_of (outline_of options 0 entry.now)) }
 {
     Ok(Span {
         key: add_key(texts, entry)?,
@@ -123,7 +123,7 @@ pub(crate) struct Collected {
 
 /// Reads the entries of a text.
 pub(crate) fn collect(alloc: Global, text: &[u8], options: Options) -> Result<Collected, LoadFault>
-    ensures ok { IfOk result (λ collected. HasPooled text.now options (string_bytes collected.texts) collected.spans.items collected.findings) }
+    ensures ok { IfOk result (λ collected. HasGathered text.now options (string_bytes collected.texts) collected.spans.items collected.findings) }
     ensures err { IfErr result (λ fault. (fault.kind ≡ Memory) ⊎ Refuses text.now options fault.kind fault.line) }
 {
     let mut reader = open_text(alloc, text)?;

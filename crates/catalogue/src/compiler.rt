@@ -1,7 +1,7 @@
 //! From a PO text to a catalogue.
 ghost use Rattle.std.specs.Prelude.{◌≡◌, ◌<◌, ◌^◌, ◌⊎◌, ◌↔◌, IfOk, IfErr, IfSome, IsTrue, if◌then◌else◌, length, option_map};
 ghost use Rattle.std.specs.List.{count_by};
-ghost use Rattle.catalogue.specs.Drafts.{counts_as, row};
+ghost use Rattle.catalogue.specs.Drafts.{counts_as, outline};
 ghost use Rattle.mo_image.specs.Map.{HasAcceptedCharset};
 ghost use Rattle.catalogue.specs.Meaning.{lacking, none_missing, Means, Refuses};
 ghost use Rattle.po_checks.specs.declared.fault.LoadKind.TheVariants.{Memory};
@@ -11,7 +11,7 @@ use crate::collect::{Collected, collect};
 use crate::drafts::{
     Draft, KeptDrafts, Standing, count, first_repeat, header_line, header_text, keep, sort,
 };
-use crate::pool::lend;
+use crate::spans::lend;
 use po_checks::{LoadFault, LoadKind, Options};
 use po_header::{has_accepted_charset, missing_fields};
 use std::alloc::Global;
@@ -41,9 +41,9 @@ pub struct Compiled {
 /// How the entries count.
 fn stats_of(drafts: &[Draft<'_>]) -> Stats
     requires { length drafts.now < 2 ^ 32 }
-    ensures translated { result.translated ≡ count_by (λ d. counts_as Standing.Translated (row d)) drafts.now }
-    ensures fuzzy { result.fuzzy ≡ count_by (λ d. counts_as Standing.Fuzzy (row d)) drafts.now }
-    ensures untranslated { result.untranslated ≡ count_by (λ d. counts_as Standing.Untranslated (row d)) drafts.now }
+    ensures translated { result.translated ≡ count_by (λ d. counts_as Standing.Translated (outline d)) drafts.now }
+    ensures fuzzy { result.fuzzy ≡ count_by (λ d. counts_as Standing.Fuzzy (outline d)) drafts.now }
+    ensures untranslated { result.untranslated ≡ count_by (λ d. counts_as Standing.Untranslated (outline d)) drafts.now }
 {
     Stats {
         translated: count(drafts, Standing::Translated) as u32,

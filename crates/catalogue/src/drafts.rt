@@ -3,7 +3,7 @@ ghost use Rattle.std.specs.Prelude.{◌≡◌, ◌<◌, ◌+◌, ◌^◌, ℕ, l
 ghost use Rattle.std.specs.List.{count_by, filter_map, find};
 ghost use Rattle.std.specs.Option.{option_map_or};
 ghost use Rattle.std.specs.List.Sorted.{IsPermutation, IsSortedBy};
-ghost use Rattle.catalogue.specs.Drafts.{comes_before, drafts_entries, header_text_in, kept_entry, row, row_cmp, row_if, row_text, rows, FirstRepeat};
+ghost use Rattle.catalogue.specs.Drafts.{comes_before, drafts_entries, header_text_in, kept_entry, outline, outline_cmp, outline_if, outline_text, outlines, FirstRepeat};
 ghost use Rattle.catalogue.specs.Drafts as Drafts;
 
 use mo_image::{EntryList, EntryStrings, split_form};
@@ -42,14 +42,14 @@ pub(crate) struct Draft<'a> {
 }
 
 fn counts_as(draft: &Draft<'_>, standing: Standing) -> bool
-    ensures { result ≡ Drafts.counts_as standing (row draft.now) }
+    ensures { result ≡ Drafts.counts_as standing (outline draft.now) }
 {
     draft.standing == standing
 }
 
 /// How many drafts count so.
 pub(crate) fn count(drafts: &[Draft<'_>], standing: Standing) -> usize
-    ensures { result ≡ count_by (λ d. Drafts.counts_as standing (row d)) drafts.now }
+    ensures { result ≡ count_by (λ d. Drafts.counts_as standing (outline d)) drafts.now }
 {
     drafts
         .iter()
@@ -58,20 +58,20 @@ pub(crate) fn count(drafts: &[Draft<'_>], standing: Standing) -> usize
 }
 
 fn is_kept_header(draft: &Draft<'_>) -> bool
-    ensures { result ≡ Drafts.is_kept_header (row draft.now) }
+    ensures { result ≡ Drafts.is_kept_header (outline draft.now) }
 {
     counts_as(draft, Standing::Header) && draft.texts.is_some()
 }
 
 fn kept_header<'d, 'a>(drafts: &'d [Draft<'a>]) -> Option<&'d Draft<'a>>
-    ensures { option_map (λ d. d.now) result ≡ find (λ d. Drafts.is_kept_header (row d)) drafts.now }
+    ensures { option_map (λ d. d.now) result ≡ find (λ d. Drafts.is_kept_header (outline d)) drafts.now }
 {
     drafts.iter().find(|draft| is_kept_header(draft))
 }
 
 /// The line of the kept header, or 0 where there is none.
 pub(crate) fn header_line(drafts: &[Draft<'_>]) -> u32
-    ensures { result ≡ option_map_or (λ d. d.line) (find (λ d. Drafts.is_kept_header (row d)) drafts.now) 0 }
+    ensures { result ≡ option_map_or (λ d. d.line) (find (λ d. Drafts.is_kept_header (outline d)) drafts.now) 0 }
 {
     match kept_header(drafts) {
         Some(draft) => draft.line,
@@ -81,7 +81,7 @@ pub(crate) fn header_line(drafts: &[Draft<'_>]) -> u32
 
 /// The first form of a draft that is kept.
 fn first_form_of<'a>(draft: &Draft<'a>) -> Option<&'a str>
-    ensures { option_map (λ text. text.now) result ≡ row_text (row draft.now) }
+    ensures { option_map (λ text. text.now) result ≡ outline_text (outline draft.now) }
 {
     match &draft.texts {
         Some(texts) => Some(split_form(texts.translation).0),
@@ -101,7 +101,7 @@ pub(crate) fn header_text<'a>(drafts: &[Draft<'a>]) -> Option<&'a str>
 
 /// Which of two comes first: by key, and by their places in the text where the keys are the same.
 fn compare(a: &Draft<'_>, b: &Draft<'_>) -> Ordering
-    ensures { result ≡ row_cmp (row a.now) (row b.now) }
+    ensures { result ≡ outline_cmp (outline a.now) (outline b.now) }
 {
     a.key.compare(&b.key).then(a.number.cmp(&b.number))
 }
@@ -116,7 +116,7 @@ pub(crate) fn sort(drafts: &mut Vec<Draft<'_>>)
 
 /// Whether the draft comes before the other one in the text, or there is no other one.
 fn is_earlier(draft: &Draft<'_>, other: Option<&Draft<'_>>) -> bool
-    ensures { result ≡ Drafts.is_earlier (row draft.now) (row_if other.entry) }
+    ensures { result ≡ Drafts.is_earlier (outline draft.now) (outline_if other.entry) }
 {
     match other {
         Some(other) => draft.number < other.number,
@@ -130,7 +130,7 @@ fn earlier<'d, 'a>(
     draft: &'d Draft<'a>,
     first: Option<&'d Draft<'a>>,
 ) -> Option<&'d Draft<'a>>
-    ensures { row_if result ≡ Drafts.earlier (row before.now) (row draft.now) (row_if first.entry) }
+    ensures { outline_if result ≡ Drafts.earlier (outline before.now) (outline draft.now) (outline_if first.entry) }
 {
     if before.key.is_same(&draft.key) && is_earlier(draft, first) {
         Some(draft)
@@ -142,7 +142,7 @@ fn earlier<'d, 'a>(
 /// The first entry in the text that has the key of an earlier one. The drafts are sorted, so such an
 /// entry stands behind one with its key.
 pub(crate) fn first_repeat<'d, 'a>(drafts: &'d [Draft<'a>]) -> Option<&'d Draft<'a>>
-    ensures { FirstRepeat (rows drafts.now) (length drafts.now) (row_if result) }
+    ensures { FirstRepeat (outlines drafts.now) (length drafts.now) (outline_if result) }
 {
     let mut first = None;
     'pairs: for i in 1..drafts.len() {
@@ -153,7 +153,7 @@ pub(crate) fn first_repeat<'d, 'a>(drafts: &'d [Draft<'a>]) -> Option<&'d Draft<
 
 /// Leaves the drafts that are kept.
 pub(crate) fn keep(drafts: &mut Vec<Draft<'_>>)
-    ensures { drafts_entries drafts.new.items ≡ filter_map kept_entry (rows drafts.old.items) }
+    ensures { drafts_entries drafts.new.items ≡ filter_map kept_entry (outlines drafts.old.items) }
 {
     drafts.retain(|draft| draft.texts.is_some());
 }

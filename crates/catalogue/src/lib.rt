@@ -11,9 +11,9 @@ mod drafts;
 mod law;
 mod lookup;
 mod map;
-mod pool;
 mod sizes;
 mod sorted;
+mod spans;
 
 pub use compiler::{Compiled, Stats, compile};
 pub use entry_search::Steps;

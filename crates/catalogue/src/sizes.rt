@@ -52,7 +52,7 @@ fn translation_len(forms: &[String]) -> usize
     }
 }
 
-/// How many bytes a message takes: two rows, and two strings, each with the NUL behind it.
+/// How many bytes a message takes: two outlines, and two strings, each with the NUL behind it.
 fn message_len(message: &Message) -> usize
     ensures { result ≡ capped (entry_size (message_entry message.now)) }
 {

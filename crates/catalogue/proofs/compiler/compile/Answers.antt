@@ -1,7 +1,7 @@
 use Rattle.std.proofs.Common.{inr, sym, ◌∙◌}
 use Rattle.std.proofs.lemmas.Bool.{false≢true}
 use Rattle.catalogue.proofs.Compiling.{few, refused, foreign, failed, lawful_map, compiles}
-use Rattle.catalogue.proofs.Pooling.{lent, may_lend}
+use Rattle.catalogue.proofs.Lending.{lent, may_lend}
 use Rattle.catalogue.proofs.compiler.compile.Goals as goal
 
 pub lend-requires : goal.lend-requires

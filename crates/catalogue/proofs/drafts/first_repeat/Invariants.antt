@@ -1,5 +1,5 @@
-use Rattle.catalogue.specs.Drafts.{row_if, rows, FirstRepeat}
+use Rattle.catalogue.specs.Drafts.{outline_if, outlines, FirstRepeat}
 use Rattle.catalogue.proofs.drafts.first_repeat.Given as goal
 
 abbrev pub invariant-pairs : goal.invariant-pairs
-invariant-pairs l = FirstRepeat (rows l.drafts) l.i (row_if l.first)
+invariant-pairs l = FirstRepeat (outlines l.drafts) l.i (outline_if l.first)

@@ -1,11 +1,11 @@
 use Rattle.std.proofs.Common.{Option, ap, ◌∙◌}
 use Rattle.std.specs.Prelude.{option_map}
-use Rattle.catalogue.specs.Drafts.{row, text_found}
+use Rattle.catalogue.specs.Drafts.{outline, text_found}
 use Rattle.catalogue.specs.declared.drafts.Draft.{Draft}
 use Rattle.catalogue.proofs.drafts.header_text.Goals as goal
 
 pub returns-in-Some : goal.returns-in-Some
-returns-in-Some c = c.first_form_of.ensures ∙ ap (λ (found : Option Draft). text_found (option_map row found)) c.in-Some.ensures
+returns-in-Some c = c.first_form_of.ensures ∙ ap (λ (found : Option Draft). text_found (option_map outline found)) c.in-Some.ensures
 
 pub returns-in-None : goal.returns-in-None
-returns-in-None c = ap (λ (found : Option Draft). text_found (option_map row found)) c.in-None.ensures
+returns-in-None c = ap (λ (found : Option Draft). text_found (option_map outline found)) c.in-None.ensures

@@ -1,7 +1,7 @@
 use Rattle.std.proofs.Common.{rules}
 use Rattle.std.proofs.lemmas.List.Sorted.{answers_always}
 use Rattle.catalogue.specs.Drafts.{comes_before}
-use Rattle.catalogue.proofs.RowOrder.{draft_order}
+use Rattle.catalogue.proofs.OutlineOrder.{draft_order}
 use Rattle.catalogue.proofs.drafts.sort.Goals as goal
 
 pub returns-clause-sorted : goal.returns-clause-sorted

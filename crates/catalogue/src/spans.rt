@@ -1,7 +1,7 @@
-//! The texts of the entries that were read, in one pool: those of one entry behind those of another.
+//! The texts of the entries that were read, in one text: those of one entry behind those of another.
 ghost use Rattle.std.specs.Prelude.{◌≡◌, IfOk, drop, option_map};
-ghost use Rattle.catalogue.specs.Drafts.{kept_texts, row, rows};
-ghost use Rattle.catalogue.specs.Pool.{kept_at, kept_size, plural_at, plural_size, row_at, rows_at, size, Holds, HoldsAll, HoldsKept, HoldsPlural};
+ghost use Rattle.catalogue.specs.Drafts.{kept_texts, outline, outlines};
+ghost use Rattle.catalogue.specs.Spans.{kept_at, kept_size, plural_at, plural_size, outline_at, outlines_at, size, Holds, HoldsAll, HoldsKept, HoldsPlural};
 
 use crate::drafts::{Draft, Standing, Texts};
 use std::alloc::{AllocError, Global};
@@ -61,7 +61,7 @@ fn lend_kept<'a>(texts: &'a str, span: &KeptSpan) -> (Texts<'a>, &'a str)
 /// The entry in front, before which so many stand in the text, and what is behind it.
 fn lend_entry<'a>(texts: &'a str, number: usize, span: &Span) -> (Draft<'a>, &'a str)
     requires { Holds texts.now span.now }
-    ensures draft { row result.0 ≡ row_at number texts.now span.now }
+    ensures draft { outline result.0 ≡ outline_at number texts.now span.now }
     ensures behind { result.1.now ≡ drop (size span.now) texts.now }
 {
     let (key, behind) = texts.split_at(span.key);
@@ -89,7 +89,7 @@ pub(crate) fn lend<'a>(
     spans: Vec<Span>,
 ) -> Result<Vec<Draft<'a>>, AllocError>
     requires { HoldsAll texts.now spans.items }
-    ensures { IfOk result (λ drafts. rows drafts.items ≡ rows_at 0 texts.now spans.items) }
+    ensures { IfOk result (λ drafts. outlines drafts.items ≡ outlines_at 0 texts.now spans.items) }
 {
     let mut drafts = Vec::with_capacity(alloc, spans.len())?;
     let mut rest = texts;

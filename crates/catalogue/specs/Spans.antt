@@ -1,17 +1,17 @@
--- Private: the texts of the entries that were read, in one pool: those of one entry behind those of another.
+-- Private: the texts of the entries that were read, in one text: those of one entry behind those of another.
 use Rattle.std.specs.Prelude.{◌≡◌, ℕ, ◌+◌, ◌≤◌, List, [], ◌∷◌, ◌++◌, length, map, take, drop, ⊤, Option, Some, None, option_map, IfSome}
 use Rattle.std.specs.List.{AllByRecursion, flat_map}
 use Rattle.std.specs.Str.{IsUtf8}
 use Rattle.po_text.specs.Entries as po
 use Rattle.po_text.specs.Outcome.{Gives}
-use Rattle.catalogue.specs.Drafts.{Kept, Row, rows_from, IsLawfulMessage}
+use Rattle.catalogue.specs.Drafts.{Kept, Outline, outlines_from, IsLawfulMessage}
 use Rattle.po_checks.specs.Found.{HasFound}
 use Rattle.po_checks.specs.declared.findings.Findings.{Findings}
 use Rattle.po_checks.specs.declared.options.Options.{Options}
-use Rattle.catalogue.specs.declared.pool.KeptSpan.{KeptSpan}
-use Rattle.catalogue.specs.declared.pool.Span.{Span}
+use Rattle.catalogue.specs.declared.spans.KeptSpan.{KeptSpan}
+use Rattle.catalogue.specs.declared.spans.Span.{Span}
 
--- ---- what the pool has of a row, and how long it is
+-- ---- what the texts have of an outline, and how long it is
 
 abbrev pub plural_bytes : Option (List ℕ) → List ℕ
 plural_bytes None = []
@@ -24,16 +24,16 @@ abbrev pub bytes_if_kept : Option Kept → List ℕ
 bytes_if_kept None = []
 bytes_if_kept (Some t) = kept_bytes t
 
-abbrev pub stored : Row → List ℕ
+abbrev pub stored : Outline → List ℕ
 stored r = r.key ++ bytes_if_kept r.texts
 
 abbrev pub kept_span : Kept → KeptSpan
 kept_span t = record { plural = option_map length t.0; translation = length t.1 }
 
-abbrev pub span_of : Row → Span
+abbrev pub span_of : Outline → Span
 span_of r = record { key = length r.key; kept = option_map kept_span r.texts; line = r.line; standing = r.standing }
 
--- ---- the row that stands in front, by its span
+-- ---- the outline that stands in front, by its span
 
 abbrev pub plural_size : Option ℕ → ℕ
 plural_size None = 0
@@ -55,8 +55,8 @@ plural_at text plural = option_map (λ n. take n text) plural
 abbrev pub kept_at : List ℕ → KeptSpan → Kept
 kept_at text k = (plural_at text k.plural, take k.translation (drop (plural_size k.plural) text))
 
-abbrev pub row_at : ℕ → List ℕ → Span → Row
-row_at number text s = record {
+abbrev pub outline_at : ℕ → List ℕ → Span → Outline
+outline_at number text s = record {
   number = number;
   line = s.line;
   key = take s.key text;
@@ -64,9 +64,9 @@ row_at number text s = record {
   texts = option_map (kept_at (drop s.key text)) s.kept;
 }
 
-abbrev pub rows_at : ℕ → List ℕ → List Span → List Row
-rows_at number text [] = []
-rows_at number text (s ∷ spans) = row_at number text s ∷ rows_at (number + 1) (drop (size s) text) spans
+abbrev pub outlines_at : ℕ → List ℕ → List Span → List Outline
+outlines_at number text [] = []
+outlines_at number text (s ∷ spans) = outline_at number text s ∷ outlines_at (number + 1) (drop (size s) text) spans
 
 -- ---- where texts may be cut
 
@@ -90,17 +90,17 @@ abbrev pub HoldsAll : List ℕ → List Span → Type 0
 HoldsAll text [] = ⊤
 HoldsAll text (s ∷ spans) = Holds text s × HoldsAll (drop (size s) text) spans
 
--- ---- the pool of a text
+-- ---- the texts of a whole PO text
 
--- the pool has these rows, and nothing else
-pub record IsPool (texts : List ℕ) (spans : List Span) (rs : List Row) : Type 0 where
+-- the texts are those of these outlines, and nothing else
+pub record AreTextsOf (texts : List ℕ) (spans : List Span) (rs : List Outline) : Type 0 where
   pub texts_are : texts ≡ flat_map stored rs
   pub spans_are : spans ≡ map span_of rs
 
--- the pool and the findings are those of the entries that the text gives
-pub record HasPooled (text : List ℕ) (options : Options) (texts : List ℕ) (spans : List Span) (findings : Findings) : Type 0 where
+-- the texts, their spans and the findings are those of the entries that the text gives
+pub record HasGathered (text : List ℕ) (options : Options) (texts : List ℕ) (spans : List Span) (findings : Findings) : Type 0 where
   pub entries : List po.Entry
   pub gives : Gives text entries
-  pub pool : IsPool texts spans (rows_from options 0 entries)
+  pub texts_are : AreTextsOf texts spans (outlines_from options 0 entries)
   pub lawful : AllByRecursion IsLawfulMessage entries
   pub found : HasFound options entries findings

@@ -1,5 +1,5 @@
-use Rattle.catalogue.proofs.Pooling.{cut_at, behind_plural}
-use Rattle.catalogue.proofs.pool.lend_kept.Goals as goal
+use Rattle.catalogue.proofs.Lending.{cut_at, behind_plural}
+use Rattle.catalogue.proofs.spans.lend_kept.Goals as goal
 
 pub split_at-requires : goal.split_at-requires
 split_at-requires c =
