@@ -26,7 +26,8 @@ pub rises_before : (a b c : ℕ) → RisesBy 1 a b → b ≤ c → RisesBy 1 a c
 rises_before a b c (inl h) le = inl (omega arith)
 rises_before a b c (inr h) le = inr (omega arith)
 
-pub tells_later : (a b c : ℕ) (cause : Cause) → a ≤ b → EndsTelling (between b c) cause → EndsTelling (between a c) cause
+pub tells_later : (a b c : ℕ) (cause : Cause) → a ≤ b → EndsTelling (between b c) cause
+    → EndsTelling (between a c) cause
 tells_later a b c Words le h = absurd h
 tells_later a b c NoInput le h = absurd h
 tells_later a b c CannotRead le h = absurd h
@@ -49,15 +50,22 @@ logged_after (Some xs) (Some ys) (Some zs) name bytes h k = k ∙ ap (λ files. 
 
 -- ---- FILE, after INPUT was read
 
-module _ (f f' f'' : FilesSeen) (output : Change OutputSeen) (kept : KeepsLog f.log f'.log) (later : f.failures ≤ f'.failures) where
+module _ (f f' f'' : FilesSeen) (output : Change OutputSeen)
+    (kept : KeepsLog f.log f'.log) (later : f.failures ≤ f'.failures) where
   unwritten_after : IsUnwritten (between f' f'') output → IsUnwritten (between f f'') output
   unwritten_after h = record { no_file = kept_twice f.log f'.log f''.log kept h.no_file; no_output = h.no_output }
 
-  writes_after : (standard : Bool) (name bytes : List ℕ) → Writes standard (between f' f'') output name bytes → Writes standard (between f f'') output name bytes
-  writes_after true name bytes h = record { written = h.written; no_file = kept_twice f.log f'.log f''.log kept h.no_file }
-  writes_after false name bytes h = record { written = logged_after f.log f'.log f''.log name bytes kept h.written; no_output = h.no_output }
+  writes_after : (standard : Bool) (name bytes : List ℕ) → Writes standard (between f' f'') output name bytes
+      → Writes standard (between f f'') output name bytes
+  writes_after true name bytes h =
+      record { written = h.written; no_file = kept_twice f.log f'.log f''.log kept h.no_file }
+  writes_after false name bytes h = record {
+    written = logged_after f.log f'.log f''.log name bytes kept h.written;
+    no_output = h.no_output;
+  }
 
-  fails_after : (standard : Bool) → FailsToWrite standard (between f' f'') output → FailsToWrite standard (between f f'') output
+  fails_after : (standard : Bool) → FailsToWrite standard (between f' f'') output
+      → FailsToWrite standard (between f f'') output
   fails_after true h = (h.0, kept_twice f.log f'.log f''.log kept h.1)
   fails_after false h = (rises_after f.failures f'.failures f''.failures later h.0, h.1)
 
@@ -66,9 +74,11 @@ module _ (f f' f'' : FilesSeen) (output : Change OutputSeen) (kept : KeepsLog f.
 abbrev pub run_over : Change FilesSeen → Change InputSeen → Change OutputSeen → Change ℕ → Run
 run_over files input output errors = record { files = files; input = input; output = output; error_failures = errors }
 
-module _ (f f' : FilesSeen) (i : Change InputSeen) (a : Asked) (name : List ℕ) (input : a.input ≡ Some name) (kept : KeepsLog f.log f'.log) where
+module _ (f f' : FilesSeen) (i : Change InputSeen) (a : Asked) (name : List ℕ) (input : a.input ≡ Some name)
+    (kept : KeepsLog f.log f'.log) where
   -- it can't be read, or is refused, or there is no memory
-  not_compiled : (o : OutputSeen) (errors : Change ℕ) (cause : Cause) → EndsCompiling (between f f') i name a.options cause
+  not_compiled : (o : OutputSeen) (errors : Change ℕ) (cause : Cause)
+      → EndsCompiling (between f f') i name a.options cause
       → Fails (run_over (between f f') i (between o o) errors) a cause
   not_compiled o errors Words h = absurd h
   not_compiled o errors NoInput h = absurd h
@@ -90,14 +100,16 @@ module _ (f f' : FilesSeen) (i : Change InputSeen) (a : Asked) (name : List ℕ)
   not_compiled o errors ErrorOutput h = absurd h
   not_compiled o errors Memory h = inl (record { no_file = kept; no_output = refl })
 
-  pub ends_compiling : {T : Type 0} (o : OutputSeen) (errors : Change ℕ) (r : Result T Cause) (cause : Cause) → IsErrAnd r (λ x. x ≡ cause)
+  pub ends_compiling : {T : Type 0} (o : OutputSeen) (errors : Change ℕ) (r : Result T Cause) (cause : Cause)
+      → IsErrAnd r (λ x. x ≡ cause)
       → EndsCompiling (between f f') i name a.options cause → Works (run_over (between f f') i (between o o) errors) a r
   ends_compiling o errors (Ok u) cause is h = absurd is
   ends_compiling o errors (Err x) cause is h =
       subst (λ c. Fails (run_over (between f f') i (between o o) errors) a c) (sym is) (not_compiled o errors cause h)
 
   -- it compiles
-  module _ (later : f.failures ≤ f'.failures) (c : Compiled) (named : CompilesNamed f i name a.options c) (f'' : FilesSeen) (output : Change OutputSeen) (errors : Change ℕ) where
+  module _ (later : f.failures ≤ f'.failures) (c : Compiled) (named : CompilesNamed f i name a.options c)
+      (f'' : FilesSeen) (output : Change OutputSeen) (errors : Change ℕ) where
     abbrev run : Run
     run = run_over (between f f'') i output errors
 
@@ -114,7 +126,8 @@ module _ (f f' : FilesSeen) (i : Change InputSeen) (a : Asked) (name : List ℕ)
     makes_first : (IsTrue a.statistics × WritesCompiled (between f' f'') output a c) → MakesFileFirst run a
     makes_first h = record { statistics = h.0; makes = makes h.1 }
 
-    fails_to_tell : ((IsTrue a.options.checked × IsUnwritten (between f' f'') output) ⊎ (IsTrue a.statistics × WritesCompiled (between f' f'') output a c))
+    fails_to_tell : ((IsTrue a.options.checked × IsUnwritten (between f' f'') output)
+        ⊎ (IsTrue a.statistics × WritesCompiled (between f' f'') output a c))
         → FailsToWarn run a ⊎ MakesFileFirst run a
     fails_to_tell (inl h) = inl (record {
       compiled = c;
@@ -124,7 +137,8 @@ module _ (f f' : FilesSeen) (i : Change InputSeen) (a : Asked) (name : List ℕ)
     })
     fails_to_tell (inr h) = inr (makes_first h)
 
-    lacks_memory : IsUnwritten (between f' f'') output ⊎ (IsTrue a.statistics × WritesCompiled (between f' f'') output a c)
+    lacks_memory : IsUnwritten (between f' f'') output
+        ⊎ (IsTrue a.statistics × WritesCompiled (between f' f'') output a c)
         → Fails run a Memory
     lacks_memory (inl h) = inl (unwritten_after f f' f'' output kept later h)
     lacks_memory (inr h) = inr (inr (makes_first h))
@@ -168,7 +182,8 @@ untold run a ErrorOutput h = untold_line run a h.1
 untold run a Memory h = h
 
 -- another failure of the error output changes nothing
-module _ (files : Change FilesSeen) (input : Change InputSeen) (output : Change OutputSeen) (e e' e'' : ℕ) (later : e' ≤ e'') where
+module _ (files : Change FilesSeen) (input : Change InputSeen) (output : Change OutputSeen)
+    (e e' e'' : ℕ) (later : e' ≤ e'') where
   -- the run when its work had ended, and when that was told
   abbrev worked : Run
   worked = run_over files input output (between e e')
@@ -183,7 +198,8 @@ module _ (files : Change FilesSeen) (input : Change InputSeen) (output : Change 
   makes_on a h = record { compiled = h.compiled; compiles = compiles_on a h.compiled h.compiles; written = h.written }
 
   unwritable_on : (a : Asked) → IsUnwritable worked a → IsUnwritable told a
-  unwritable_on a h = record { compiled = h.compiled; compiles = compiles_on a h.compiled h.compiles; failed = h.failed }
+  unwritable_on a h =
+      record { compiled = h.compiled; compiles = compiles_on a h.compiled h.compiles; failed = h.failed }
 
   first_on : (a : Asked) → MakesFileFirst worked a → MakesFileFirst told a
   first_on a h = record { statistics = h.statistics; makes = makes_on a h.makes }
@@ -232,8 +248,8 @@ module _ (files : Change FilesSeen) (input : Change InputSeen) (output : Change 
     failed Memory h = inr (inr (taken, h))
 
     -- the work ended, and that was told
-    pub ended : {T : Type 0} (a : Asked) (is : a ≡ asked words) (done : Result T Cause) (status : Status) → Works worked a done → Tells done status
-        → Runs told words status
+    pub ended : {T : Type 0} (a : Asked) (is : a ≡ asked words) (done : Result T Cause) (status : Status)
+        → Works worked a done → Tells done status → Runs told words status
     ended a is (Ok u) status works tells =
         subst (λ s. Runs told words s) (sym tells) (inr (taken, subst (λ b. MakesFile told b) is (makes_on a works)))
     ended a is (Err cause) status works (inl tells) =

@@ -22,7 +22,8 @@ pub record FilesSeen : Type 0 where
   pub log : Log
   pub failures : ℕ
 
--- what is known of standard input: the bytes still to be read, where they are told, and the counts of reads and failures
+-- what is known of standard input: the bytes still to be read, where they are told, and the counts of reads and of
+-- failures
 pub record InputSeen : Type 0 where
   pub left : Option (List ℕ)
   pub reads : ℕ
@@ -47,10 +48,12 @@ pub record Run : Type 0 where
 
 -- each device as it stands, by what its type tells of it
 abbrev pub files_seen : {F : Type 0} → (F → List ℕ → Option (List ℕ)) → (F → Log) → (F → ℕ) → F → FilesSeen
-files_seen content written failures files = record { content = content files; log = written files; failures = failures files }
+files_seen content written failures files =
+    record { content = content files; log = written files; failures = failures files }
 
 abbrev pub input_seen : {R : Type 0} → (R → Option (List ℕ)) → (R → ℕ) → (R → ℕ) → R → InputSeen
-input_seen remaining reads failures reader = record { left = remaining reader; reads = reads reader; failures = failures reader }
+input_seen remaining reads failures reader =
+    record { left = remaining reader; reads = reads reader; failures = failures reader }
 
 abbrev pub output_seen : {W : Type 0} → (W → Option (List ℕ)) → (W → ℕ) → W → OutputSeen
 output_seen contents failures writer = record { bytes = contents writer; failures = failures writer }
@@ -180,7 +183,8 @@ Fails run request CannotRead = IsUnreadable run request
 Fails run request (Refused fault) = IsRefused run request fault
 Fails run request CannotWrite = IsUnwritable run request
 Fails run request ErrorOutput =
-    RisesBy 1 run.error_failures.before run.error_failures.after × (FailsToWarn run request ⊎ MakesFileFirst run request)
+    RisesBy 1 run.error_failures.before run.error_failures.after
+    × (FailsToWarn run request ⊎ MakesFileFirst run request)
 Fails run request Memory =
     IsUnwritten run.files run.output ⊎ (IsUnwritable run request ⊎ MakesFileFirst run request)
 

@@ -26,13 +26,15 @@ EndsReading standard files input Memory = ⊤
 EndsReading standard files input _ = ⊥
 
 -- the text of INPUT was read and compiled
-pub record CompilesNamed (files : FilesSeen) (input : Change InputSeen) (name : List ℕ) (options : Options) (compiled : Compiled) : Type 0 where
+pub record CompilesNamed (files : FilesSeen) (input : Change InputSeen) (name : List ℕ) (options : Options)
+    (compiled : Compiled) : Type 0 where
   pub text : List ℕ
   pub read : Reads (is_standard name) files input name text
   pub means : Means text options compiled
 
 -- it was read and refused
-pub record RefusesNamed (files : FilesSeen) (input : Change InputSeen) (name : List ℕ) (options : Options) (fault : LoadFault) : Type 0 where
+pub record RefusesNamed (files : FilesSeen) (input : Change InputSeen) (name : List ℕ) (options : Options)
+    (fault : LoadFault) : Type 0 where
   pub text : List ℕ
   pub read : Reads (is_standard name) files input name text
   pub refuses : Refuses text options fault.kind fault.line
@@ -66,11 +68,13 @@ WritesCompiled files output request compiled =
     Writes (is_standard request.output) files output request.output (spelling compiled.catalogue)
 
 -- what was compiled is delivered: warnings, FILE, statistics
-abbrev pub Delivers : {T : Type 0} → Change FilesSeen → Change OutputSeen → Change ℕ → Asked → Compiled → Result T Cause → Type 0
+abbrev pub Delivers : {T : Type 0} → Change FilesSeen → Change OutputSeen → Change ℕ → Asked → Compiled
+    → Result T Cause → Type 0
 Delivers files output errors request compiled (Ok done) = WritesCompiled files output request compiled
 Delivers files output errors request compiled (Err CannotWrite) = FailsToWrite (is_standard request.output) files output
 Delivers files output errors request compiled (Err ErrorOutput) = RisesBy 1 errors.before errors.after
-    × ((IsTrue request.options.checked × IsUnwritten files output) ⊎ (IsTrue request.statistics × WritesCompiled files output request compiled))
+    × ((IsTrue request.options.checked × IsUnwritten files output)
+    ⊎ (IsTrue request.statistics × WritesCompiled files output request compiled))
 Delivers files output errors request compiled (Err Memory) =
     IsUnwritten files output ⊎ (IsTrue request.statistics × WritesCompiled files output request compiled)
 Delivers files output errors request compiled (Err _) = ⊥
