@@ -39,3 +39,8 @@ pub rises_more : (n a b c : ℕ) → RisesBy n a b → RisesBy 1 b c → b ≤ c
 rises_more n a b c (inl h) (inl k) le = inl (omega arith)
 rises_more n a b c (inl h) (inr k) le = inr k
 rises_more n a b c (inr h) k le = inr (omega arith)
+
+-- what a single read adds up to, and many of them
+pub ruleset one_read = (consumes_none, reads_no_more, rises_none)
+
+pub ruleset many_reads = (consumes_none, consumes_more, is_front, rises_none, rises_more)

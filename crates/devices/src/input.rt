@@ -37,7 +37,7 @@ impl From<AllocError> for InputFault {
 
 /// One read through `chunk`, whose bytes go to the end of `bytes`. True where that was all: `limit` bytes
 /// are there, or no more are left.
-#[tactic(auto, using(crate::proofs::ReadLemmas::consumes_none, crate::proofs::ReadLemmas::reads_no_more, crate::proofs::ReadLemmas::rises_none))]
+#[tactic(auto, using(crate::proofs::ReadLemmas::one_read))]
 fn read_some<R: Source>(
     reader: &mut R,
     chunk: &mut [u8],
@@ -45,9 +45,11 @@ fn read_some<R: Source>(
     limit: usize,
 ) -> Result<bool, InputFault>
     requires { length bytes.old.items ≤ limit }
-    ensures more { IfOk result (λ _. ReadsMore (R.remaining reader.old) (R.remaining reader.new) bytes.old.items bytes.new.items) }
+    ensures more { IfOk result (λ _.
+        ReadsMore (R.remaining reader.old) (R.remaining reader.new) bytes.old.items bytes.new.items) }
     ensures within { IfOk result (λ _. length bytes.new.items ≤ limit) }
-    ensures all { IfOk result (λ all. all ≡ true → 0 < length chunk.old → IsWhole (R.remaining reader.new) limit bytes.new.items) }
+    ensures all { IfOk result (λ all.
+        all ≡ true → 0 < length chunk.old → IsWhole (R.remaining reader.new) limit bytes.new.items) }
     ensures counted { IfOk result (λ all. all ≡ false → RisesBy 1 (R.reads reader.old) (R.reads reader.new)) }
     ensures later { R.failures reader.old ≤ R.failures reader.new }
     ensures cause { IsErrOf result InputFault.Unreadable → RisesBy 1 (R.failures reader.old) (R.failures reader.new) }
@@ -68,7 +70,7 @@ fn read_some<R: Source>(
 }
 
 /// The first `limit` bytes of an input, in at most `most_reads` reads through `chunk`.
-#[tactic(auto, using(crate::proofs::ReadLemmas::consumes_none, crate::proofs::ReadLemmas::consumes_more, crate::proofs::ReadLemmas::is_front, crate::proofs::ReadLemmas::rises_none, crate::proofs::ReadLemmas::rises_more))]
+#[tactic(auto, using(crate::proofs::ReadLemmas::many_reads))]
 fn read_within<R: Source>(
     alloc: Global,
     reader: &mut R,
@@ -81,7 +83,8 @@ fn read_within<R: Source>(
     ensures none_lost { IfOk result (λ v. Consumes (R.remaining reader.old) (R.remaining reader.new) v.items) }
     ensures later { R.failures reader.old ≤ R.failures reader.new }
     ensures cause { IsErrOf result InputFault.Unreadable
-        → RisesBy 1 (R.failures reader.old) (R.failures reader.new) ⊎ RisesBy most_reads (R.reads reader.old) (R.reads reader.new) }
+        → RisesBy 1 (R.failures reader.old) (R.failures reader.new)
+        ⊎ RisesBy most_reads (R.reads reader.old) (R.reads reader.new) }
 {
     let mut bytes = Vec::new(alloc);
     for turn in 0..most_reads {
@@ -104,7 +107,8 @@ pub fn read_all<R: Source>(
     ensures none_lost { IfOk result (λ v. Consumes (R.remaining reader.old) (R.remaining reader.new) v.items) }
     ensures later { R.failures reader.old ≤ R.failures reader.new }
     ensures cause { IsErrOf result InputFault.Unreadable
-        → RisesBy 1 (R.failures reader.old) (R.failures reader.new) ⊎ RisesBy MOST_READS (R.reads reader.old) (R.reads reader.new) }
+        → RisesBy 1 (R.failures reader.old) (R.failures reader.new)
+        ⊎ RisesBy MOST_READS (R.reads reader.old) (R.reads reader.new) }
 {
     let mut chunk = vec![in alloc; 0u8; CHUNK]?;
     read_within(alloc, reader, &mut chunk, limit, MOST_READS)

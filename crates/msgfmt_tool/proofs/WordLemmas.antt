@@ -1,7 +1,5 @@
 -- From the answers of `clap` to what the words ask for.
 use Rattle.std.proofs.Common.{◌≡◌, ◌∙◌, ◌⊎◌, ap, sym, subst, inl, inr, true≢false, Bool, true, false, ℕ, List, [], ◌∷◌, Option, Some, None, codes, option_map, refl, unwrap_or}
-use Rattle.std.specs.Option.{option_map_or}
-use Rattle.std.specs.Str.{bytes_eq}
 use Rattle.std.specs.Borrow.{Bor}
 use Rattle.clap.proofs.WalkLemmas.{first_value-rows}
 use Rattle.clap.specs.Words.{first_value, rows_of}
@@ -11,14 +9,11 @@ use Rattle.clap.specs.Kinds.{IsAmong}
 use Rattle.clap.specs.declared.parser.matches.Found.{Found}
 use Rattle.clap.specs.declared.error.kind.ErrorKind.{ErrorKind}
 use Rattle.clap.specs.declared.error.kind.ErrorKind.TheVariants as kind
-use Rattle.msgfmt_tool.specs.Words.{Asked, asked_by, msgfmt, word_faults}
+use Rattle.msgfmt_tool.specs.Words.{Asked, asked_by, is_true, msgfmt, word_faults}
 use Rattle.msgfmt_tool.proofs.OneFault.{One, among_one, built_one}
 use Rattle.msgfmt_tool.specs.Requests.{AnswersKind, Explains}
 use Rattle.msgfmt_tool.specs.declared.words.WordsFault.{WordsFault}
 use Rattle.msgfmt_tool.specs.declared.words.WordsFault.TheVariants as fault
-
-abbrev is_true : Option (List ℕ) → Bool
-is_true o = option_map_or (λ t. bytes_eq t (codes "true")) o false
 
 -- what the values that were found ask for
 pub asked_built : (f : Found) (checked use_fuzzy statistics : Bool) (input : Option (List ℕ)) (output : List ℕ)

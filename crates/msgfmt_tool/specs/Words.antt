@@ -52,8 +52,11 @@ pub record Asked : Type 0 where
   pub output : List ℕ
 
 -- clap gives a flag the text "true" where it stands among the words
+abbrev pub is_true : Option (List ℕ) → Bool
+is_true value = option_map_or (λ text. bytes_eq text (codes "true")) value false
+
 abbrev pub is_on : List ℕ → List Row → Bool
-is_on id rows = option_map_or (λ t. bytes_eq t (codes "true")) (first_of id rows) false
+is_on id rows = is_true (first_of id rows)
 
 abbrev pub asked_by : List Row → Asked
 asked_by rows = record {

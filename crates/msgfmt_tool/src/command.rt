@@ -1,7 +1,7 @@
 //! A run of the command.
 ghost use Rattle.std.specs.Prelude.{◌≡◌, ◌≤◌, map, string_bytes};
 ghost use Rattle.msgfmt_tool.specs.Requests.{asked_in};
-ghost use Rattle.msgfmt_tool.specs.Runs.{Runs, files_seen, input_seen, output_seen, seen};
+ghost use Rattle.msgfmt_tool.specs.Runs.{Runs, change, files_seen, input_seen, output_seen};
 ghost use Rattle.msgfmt_tool.specs.Steps.{AnswersWords, Delivers, Tells, Works};
 
 use crate::outcome::{Cause, Status};
@@ -23,9 +23,11 @@ fn deliver<F: Files, W: Sink, E: Sink>(
     writer: &mut W,
     errors: &mut E,
 ) -> Result<(), Cause>
-    ensures { let stored = files_seen F.content F.written F.failures in let output = output_seen W.contents W.failures in
-        Delivers (stored files.old) (stored files.new) (output writer.old) (output writer.new)
-        (E.failures errors.old) (E.failures errors.new) (asked_in request.now) compiled.now result }
+    ensures { Delivers
+        (change (files_seen F.content F.written F.failures) files.old files.new)
+        (change (output_seen W.contents W.failures) writer.old writer.new)
+        (change E.failures errors.old errors.new)
+        (asked_in request.now) compiled.now result }
 {
     if request.options.checked {
         warn(alloc, name, compiled, errors)?;
@@ -47,10 +49,12 @@ fn work<F: Files, R: Source, W: Sink, E: Sink>(
     writer: &mut W,
     errors: &mut E,
 ) -> Result<(), Cause>
-    ensures { let world = seen (files_seen F.content F.written F.failures) (input_seen R.remaining R.reads R.failures)
-        (output_seen W.contents W.failures) in
-        Works (world files.old reader.old writer.old) (world files.new reader.new writer.new)
-        (E.failures errors.old) (E.failures errors.new) (asked_in request.now) result }
+    ensures { Works (record {
+      files = change (files_seen F.content F.written F.failures) files.old files.new;
+      input = change (input_seen R.remaining R.reads R.failures) reader.old reader.new;
+      output = change (output_seen W.contents W.failures) writer.old writer.new;
+      error_failures = change E.failures errors.old errors.new;
+    }) (asked_in request.now) result }
 {
     let Some(name) = request.input else {
         return Err(Cause::NoInput);
@@ -61,7 +65,7 @@ fn work<F: Files, R: Source, W: Sink, E: Sink>(
 
 /// Answers words that give no request: with the help text where they ask for it.
 fn answer_words<W: Sink>(fault: &WordsFault, writer: &mut W) -> Result<(), Cause>
-    ensures { let output = output_seen W.contents W.failures in AnswersWords (output writer.old) (output writer.new) fault.now result }
+    ensures { AnswersWords (change (output_seen W.contents W.failures) writer.old writer.new) fault.now result }
 {
     match fault {
         WordsFault::Help(text) => {
@@ -132,10 +136,12 @@ pub fn run<F: Files, R: Source, W: Sink, E: Sink>(
     writer: &mut W,
     errors: &mut E,
 ) -> Status
-    ensures { let world = seen (files_seen F.content F.written F.failures) (input_seen R.remaining R.reads R.failures)
-        (output_seen W.contents W.failures) in
-        Runs (world files.old reader.old writer.old) (world files.new reader.new writer.new)
-        (E.failures errors.old) (E.failures errors.new) (map string_bytes words.items) result }
+    ensures { Runs (record {
+      files = change (files_seen F.content F.written F.failures) files.old files.new;
+      input = change (input_seen R.remaining R.reads R.failures) reader.old reader.new;
+      output = change (output_seen W.contents W.failures) writer.old writer.new;
+      error_failures = change E.failures errors.old errors.new;
+    }) (map string_bytes words.items) result }
 {
     match parse(alloc, words.as_slice()) {
         Ok(request) => {

@@ -1,7 +1,7 @@
 //! The steps of a run, in their order.
 ghost use Rattle.std.specs.Prelude.{◌≤◌, IfErr, IfOk, OnOk};
 ghost use Rattle.devices.specs.Files.{KeepsLog};
-ghost use Rattle.msgfmt_tool.specs.Runs.{Reads, Writes, files_seen, input_seen, is_standard, output_seen};
+ghost use Rattle.msgfmt_tool.specs.Runs.{Reads, Writes, change, files_seen, input_seen, is_standard, output_seen};
 ghost use Rattle.msgfmt_tool.specs.Steps.{CompilesNamed, EndsCompiling, EndsReading, EndsTelling, EndsWriting};
 
 use crate::outcome::Cause;
@@ -21,10 +21,12 @@ fn read_input<F: Files, R: Source>(
     files: &mut F,
     reader: &mut R,
 ) -> Result<Vec<u8>, Cause>
-    ensures read { let stored = files_seen F.content F.written F.failures in let input = input_seen R.remaining R.reads R.failures in
-        IfOk result (λ v. Reads (is_standard name.now) (stored files.old) (input reader.old) (input reader.new) name.now v.items) }
-    ensures fails { let stored = files_seen F.content F.written F.failures in let input = input_seen R.remaining R.reads R.failures in
-        IfErr result (EndsReading (is_standard name.now) (stored files.old) (stored files.new) (input reader.old) (input reader.new)) }
+    ensures read { IfOk result (λ v. Reads (is_standard name.now)
+        (files_seen F.content F.written F.failures files.old)
+        (change (input_seen R.remaining R.reads R.failures) reader.old reader.new) name.now v.items) }
+    ensures fails { IfErr result (EndsReading (is_standard name.now)
+        (change (files_seen F.content F.written F.failures) files.old files.new)
+        (change (input_seen R.remaining R.reads R.failures) reader.old reader.new)) }
     ensures none_written { KeepsLog (F.written files.old) (F.written files.new) }
     ensures later { F.failures files.old ≤ F.failures files.new }
 {
@@ -47,10 +49,12 @@ pub(crate) fn compile_input<F: Files, R: Source>(
     files: &mut F,
     reader: &mut R,
 ) -> Result<Compiled, Cause>
-    ensures compiles { let stored = files_seen F.content F.written F.failures in let input = input_seen R.remaining R.reads R.failures in
-        IfOk result (CompilesNamed (stored files.old) (input reader.old) (input reader.new) name.now options) }
-    ensures fails { let stored = files_seen F.content F.written F.failures in let input = input_seen R.remaining R.reads R.failures in
-        IfErr result (EndsCompiling (stored files.old) (stored files.new) (input reader.old) (input reader.new) name.now options) }
+    ensures compiles { IfOk result (CompilesNamed
+        (files_seen F.content F.written F.failures files.old)
+        (change (input_seen R.remaining R.reads R.failures) reader.old reader.new) name.now options) }
+    ensures fails { IfErr result (EndsCompiling
+        (change (files_seen F.content F.written F.failures) files.old files.new)
+        (change (input_seen R.remaining R.reads R.failures) reader.old reader.new) name.now options) }
     ensures none_written { KeepsLog (F.written files.old) (F.written files.new) }
     ensures later { F.failures files.old ≤ F.failures files.new }
 {
@@ -62,7 +66,7 @@ pub(crate) fn compile_input<F: Files, R: Source>(
 /// Tells a line on the error output.
 fn tell<E: Sink>(errors: &mut E, line: &str) -> Result<(), Cause>
     ensures later { E.failures errors.old ≤ E.failures errors.new }
-    ensures fails { IfErr result (EndsTelling (E.failures errors.old) (E.failures errors.new)) }
+    ensures fails { IfErr result (EndsTelling (change E.failures errors.old errors.new)) }
 {
     match errors.write_all(line.as_bytes()) {
         Ok(()) => Ok(()),
@@ -79,7 +83,7 @@ pub(crate) fn warn<E: Sink>(
     errors: &mut E,
 ) -> Result<(), Cause>
     ensures later { E.failures errors.old ≤ E.failures errors.new }
-    ensures fails { IfErr result (EndsTelling (E.failures errors.old) (E.failures errors.new)) }
+    ensures fails { IfErr result (EndsTelling (change E.failures errors.old errors.new)) }
 {
     let line = compiled.header_line;
     'fields: for (is_missing, field) in compiled.missing.iter().zip(FIELD_NAMES.iter()) {
@@ -101,10 +105,12 @@ pub(crate) fn write_output<F: Files, W: Sink>(
     files: &mut F,
     writer: &mut W,
 ) -> Result<(), Cause>
-    ensures written { let stored = files_seen F.content F.written F.failures in let output = output_seen W.contents W.failures in
-        OnOk result (Writes (is_standard name.now) (stored files.old) (stored files.new) (output writer.old) (output writer.new) name.now file.now) }
-    ensures fails { let stored = files_seen F.content F.written F.failures in let output = output_seen W.contents W.failures in
-        IfErr result (EndsWriting (is_standard name.now) (stored files.old) (stored files.new) (output writer.old) (output writer.new)) }
+    ensures written { OnOk result (Writes (is_standard name.now)
+        (change (files_seen F.content F.written F.failures) files.old files.new)
+        (change (output_seen W.contents W.failures) writer.old writer.new) name.now file.now) }
+    ensures fails { IfErr result (EndsWriting (is_standard name.now)
+        (change (files_seen F.content F.written F.failures) files.old files.new)
+        (change (output_seen W.contents W.failures) writer.old writer.new)) }
 {
     if name == "-" {
         writer.write_all(file)?;
@@ -120,7 +126,7 @@ pub(crate) fn write_output<F: Files, W: Sink>(
 /// Tells the statistics.
 pub(crate) fn report<E: Sink>(alloc: Global, stats: Stats, errors: &mut E) -> Result<(), Cause>
     ensures later { E.failures errors.old ≤ E.failures errors.new }
-    ensures fails { IfErr result (EndsTelling (E.failures errors.old) (E.failures errors.new)) }
+    ensures fails { IfErr result (EndsTelling (change E.failures errors.old errors.new)) }
 {
     let text = StatisticsText(stats);
     let line = format!(in alloc; "{text}\n")?;

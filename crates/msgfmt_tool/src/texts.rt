@@ -1,39 +1,9 @@
 //! The texts of the error output.
 
 use crate::outcome::Cause;
-use catalogue::{LoadKind, Stats};
+use catalogue::{LoadFault, Stats};
 use std::fmt;
 use std::fmt::{Display, Formatter};
-
-/// The text of a kind of refusal.
-#[derive(Clone, Copy)]
-pub(crate) struct KindText(pub(crate) LoadKind);
-
-impl Display for KindText {
-    fn fmt<W: fmt::Write>(&self, f: &mut Formatter<W>) -> fmt::Result {
-        let text = match self.0 {
-            LoadKind::TooLarge => "file too large",
-            LoadKind::NotUtf8 => "not UTF-8",
-            LoadKind::BadEscape => "bad escape",
-            LoadKind::OpenString => "string not closed",
-            LoadKind::BadWord => "unknown word",
-            LoadKind::BadText => "bad text",
-            LoadKind::BadOrder => "out of order",
-            LoadKind::BadIndex => "wrong plural index",
-            LoadKind::Duplicate => "duplicate message",
-            LoadKind::Charset => "unsupported charset",
-            LoadKind::SystemDependent => "system-dependent format",
-            LoadKind::NoRule => "plural message without a rule",
-            LoadKind::BadRule => "unreadable plural rule",
-            LoadKind::FormCount => "wrong number of plural forms",
-            LoadKind::PluralRange(n) => return write!(f, "plural rule fails at {n}"),
-            LoadKind::FormatMismatch => "format arguments differ",
-            LoadKind::NewlineMismatch => "newlines differ",
-            LoadKind::Memory => "out of memory",
-        };
-        f.write_str(text)
-    }
-}
 
 /// Why a run failed, and the words that named INPUT and FILE: the line that says so. A failing error
 /// output has none.
@@ -52,11 +22,7 @@ impl Display for Failure<'_> {
             Cause::Words => f.write_str("msgfmt: bad command line"),
             Cause::NoInput => f.write_str("msgfmt: no input file given"),
             Cause::CannotRead => write!(f, "msgfmt: cannot read {input}"),
-            Cause::Refused(fault) => {
-                let line = fault.line;
-                let text = KindText(fault.kind);
-                write!(f, "{input}:{line}: {text}")
-            }
+            Cause::Refused(LoadFault { kind, line }) => write!(f, "{input}:{line}: {kind}"),
             Cause::CannotWrite => write!(f, "msgfmt: cannot write {output}"),
             Cause::ErrorOutput => Ok(()),
             Cause::Memory => f.write_str("msgfmt: out of memory"),

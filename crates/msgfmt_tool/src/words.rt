@@ -1,9 +1,8 @@
 //! What the words of the command line ask for.
-ghost use Rattle.std.specs.Prelude.{◌≡◌, [], IfOk, IfErr, codes, false, map, string_bytes};
-ghost use Rattle.std.specs.Option.{option_map_or};
-ghost use Rattle.std.specs.Str.{bytes_eq};
+ghost use Rattle.std.specs.Prelude.{◌≡◌, IfOk, IfErr, codes, false, map, string_bytes};
 ghost use Rattle.clap.specs.Words.{app_of, first_value, found_of, kind_of, new_app, rows_of, rule_of};
-ghost use Rattle.msgfmt_tool.specs.Words.{AreTaken, asked, asked_by, flag_rule, input_rule, letter_flag_rule, msgfmt, msgfmt_flags, output_rule};
+ghost use Rattle.msgfmt_tool.specs.Words.{AreTaken, asked, asked_by, is_true, msgfmt, msgfmt_flags};
+ghost use Rattle.msgfmt_tool.specs.Words.{flag_rule, input_rule, letter_flag_rule, output_rule};
 ghost use Rattle.msgfmt_tool.specs.Requests.{AnswersKind, Explains, asked_in};
 
 use catalogue::Options;
@@ -119,7 +118,7 @@ fn command<'a>(alloc: Global) -> Result<Command<'a>, AllocError>
 }
 
 fn is_on(matches: &ArgMatches<'_>, id: &str) -> bool
-    ensures { result ≡ option_map_or (λ t. bytes_eq t (codes "true")) (first_value (found_of matches.now) id.now) false }
+    ensures { result ≡ is_true (first_value (found_of matches.now) id.now) }
 {
     match matches.get_str(id) {
         Some(text) => text == "true",

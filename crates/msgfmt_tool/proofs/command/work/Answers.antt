@@ -1,7 +1,7 @@
 use Rattle.std.proofs.Common.{ap, option_map}
 use Rattle.msgfmt_tool.specs.Requests.{asked_in}
-use Rattle.msgfmt_tool.specs.Runs.{files_seen, input_seen, output_seen}
-use Rattle.msgfmt_tool.proofs.RunLemmas.{delivered, ends_compiling}
+use Rattle.msgfmt_tool.specs.Runs.{change, files_seen, input_seen, output_seen}
+use Rattle.msgfmt_tool.proofs.RunLemmas.{between, delivered, ends_compiling}
 use Rattle.msgfmt_tool.proofs.command.work.Goals as goal
 
 pub returns-in_err-compiled : goal.returns-in_err-compiled
@@ -9,9 +9,10 @@ returns-in_err-compiled g c =
     let f = files_seen g.F.Files.content g.F.Files.written g.F.Files.failures in
     let i = input_seen g.R.Source.remaining g.R.Source.reads g.R.Source.failures in
     let o = output_seen g.W.Sink.contents g.W.Sink.failures in
-    ends_compiling (f c.args.files.now) (f c.compile_input.new.files) (i c.args.reader.now) (i c.compile_input.new.reader)
+    let told = g.E.Sink.failures c.args.errors.now in
+    ends_compiling (f c.args.files.now) (f c.compile_input.new.files) (change i c.args.reader.now c.compile_input.new.reader)
     (asked_in c.args.request.now) c.in-Some.name.now (ap (option_map (λ s. s.now)) c.in-Some.is) c.compile_input.ensures.none_written
-    (o c.args.writer.now) (g.E.Sink.failures c.args.errors.now) (g.E.Sink.failures c.args.errors.now)
+    (o c.args.writer.now) (between told told)
     _ c.in_err-compiled.field-0.0 c.from_residual.ensures.1 c.in_err-compiled.ensures.fails
 
 pub returns : goal.returns
@@ -19,8 +20,8 @@ returns g c =
     let f = files_seen g.F.Files.content g.F.Files.written g.F.Files.failures in
     let i = input_seen g.R.Source.remaining g.R.Source.reads g.R.Source.failures in
     let o = output_seen g.W.Sink.contents g.W.Sink.failures in
-    delivered (f c.args.files.now) (f c.compile_input.new.files) (i c.args.reader.now) (i c.compile_input.new.reader)
+    delivered (f c.args.files.now) (f c.compile_input.new.files) (change i c.args.reader.now c.compile_input.new.reader)
     (asked_in c.args.request.now) c.in-Some.name.now (ap (option_map (λ s. s.now)) c.in-Some.is) c.compile_input.ensures.none_written
     c.compile_input.ensures.later c.in_ok-compiled.compiled c.in_ok-compiled.ensures.compiles (f c.deliver.new.files)
-    (o c.args.writer.now) (o c.deliver.new.writer) (g.E.Sink.failures c.args.errors.now) (g.E.Sink.failures c.deliver.new.errors)
+    (change o c.args.writer.now c.deliver.new.writer) (change g.E.Sink.failures c.args.errors.now c.deliver.new.errors)
     _ c.deliver.ensures
