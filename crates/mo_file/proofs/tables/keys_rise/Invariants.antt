@@ -3,8 +3,8 @@ use Rattle.std.specs.Ordering.{nat_cmp}
 use Rattle.std.specs.declared.cmp.Ordering.TheVariants.{Less}
 use Rattle.std.specs.Cmp.Lexicographic.{slice_cmp}
 use Rattle.mo_file.specs.Tables.{string_at}
-use Rattle.mo_file.specs.Reading.{before_nul}
-use Rattle.mo_file.proofs.refusals.keys_rise.Given as goal
+use Rattle.mo_file.specs.MoReading.{before_nul}
+use Rattle.mo_file.proofs.tables.keys_rise.Given as goal
 
 abbrev pub invariant-loop-i : goal.invariant-loop-i
 invariant-loop-i g l =

@@ -2,7 +2,7 @@ use Rattle.std.proofs.Common.{arith}
 use Rattle.std.proofs.lemmas.Bool.{leb-true, le-leb}
 use Rattle.mo_file.specs.Tables.{strings}
 use Rattle.mo_file.proofs.RowLemmas.{length-file, length-strings}
-use Rattle.mo_file.proofs.refusals.fits.Goals as goal
+use Rattle.mo_file.proofs.tables.fits.Goals as goal
 
 pub overflow_add-result-2 : goal.overflow_add-result-2
 overflow_add-result-2 g c = omega (arith, c.requires.count, c.pool_len.ensures.small)

@@ -1,6 +1,6 @@
 use Rattle.std.proofs.Common.{arith}
 use Rattle.mo_file.proofs.RowLemmas.{length-pool_row}
-use Rattle.mo_file.proofs.refusals.pool_len.Goals as goal
+use Rattle.mo_file.proofs.tables.pool_len.Goals as goal
 
 pub overflow_add-len-in-loop-i : goal.overflow_add-len-in-loop-i
 overflow_add-len-in-loop-i g c =

@@ -1,7 +1,7 @@
 use Rattle.std.proofs.Common.{◌≡◌, ◌≤◌, ◌+◌, ◌-◌, ◌*◌, ◌^◌, length}
 use Rattle.catalogue.specs.MoFile.{pool}
 use Rattle.mo_file.specs.Tables.{strings}
-use Rattle.mo_file.proofs.refusals.pool_len.Given as goal
+use Rattle.mo_file.proofs.tables.pool_len.Given as goal
 
 abbrev pub invariant-loop-i : goal.invariant-loop-i
 invariant-loop-i g l =

@@ -1,8 +1,8 @@
 use Rattle.std.proofs.Common.{List, ℕ, arith, subst, sym}
 use Rattle.std.specs.Str.{IsUtf8}
-use Rattle.mo_file.specs.Reading.{before_nul}
+use Rattle.mo_file.specs.MoReading.{before_nul}
 use Rattle.mo_file.proofs.Cuts.{front_utf8}
-use Rattle.mo_file.proofs.refusals.have_lawful_headers.Goals as goal
+use Rattle.mo_file.proofs.tables.have_lawful_headers.Goals as goal
 
 pub has_lawful_header-requires : goal.has_lawful_header-requires
 has_lawful_header-requires g c =

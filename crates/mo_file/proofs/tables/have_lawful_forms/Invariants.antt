@@ -2,8 +2,8 @@ use Rattle.std.proofs.Common.{◌≡◌, ℕ, ◌+◌, ◌-◌, ◌*◌, ◌<◌
 use Rattle.std.specs.Prelude.{min}
 use Rattle.std.specs.List.{count_by}
 use Rattle.mo_file.specs.Tables.{string_at}
-use Rattle.mo_file.specs.Reading.{HasLawfulForms}
-use Rattle.mo_file.proofs.refusals.have_lawful_forms.Given as goal
+use Rattle.mo_file.specs.MoReading.{HasLawfulForms}
+use Rattle.mo_file.proofs.tables.have_lawful_forms.Given as goal
 
 abbrev pub invariant-loop-i : goal.invariant-loop-i
 invariant-loop-i g l =

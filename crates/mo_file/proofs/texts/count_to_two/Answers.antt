@@ -2,7 +2,7 @@ use Rattle.std.proofs.Common.{ℕ, ◌+◌, List, Some, None, drop, subst, arith
 use Rattle.std.proofs.lemmas.List.{take_rest}
 use Rattle.bstr.specs.Find.{IsFirstByte, is_byte}
 use Rattle.mo_file.proofs.Cuts.{count_absent, count_past}
-use Rattle.mo_file.proofs.refusals.count_to_two.Goals as goal
+use Rattle.mo_file.proofs.texts.count_to_two.Goals as goal
 
 pub returns-in_default : goal.returns-in_default
 returns-in_default c = omega (arith, count_absent c.args.byte c.args.text.now c.in_default.ensures)

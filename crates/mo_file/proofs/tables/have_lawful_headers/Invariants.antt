@@ -1,7 +1,7 @@
 use Rattle.std.proofs.Common.{ℕ, ◌+◌, ◌*◌, ◌<◌}
 use Rattle.mo_file.specs.Tables.{string_at}
-use Rattle.mo_file.specs.Reading.{HasLawfulHeader}
-use Rattle.mo_file.proofs.refusals.have_lawful_headers.Given as goal
+use Rattle.mo_file.specs.MoReading.{HasLawfulHeader}
+use Rattle.mo_file.proofs.tables.have_lawful_headers.Given as goal
 
 abbrev pub invariant-loop-i : goal.invariant-loop-i
 invariant-loop-i g l =

@@ -1,6 +1,6 @@
 use Rattle.std.proofs.Common.{ℕ, take, ap, sym, ◌∙◌}
 use Rattle.mo_file.proofs.Cuts.{place_found}
-use Rattle.mo_file.proofs.refusals.before_nul.Goals as goal
+use Rattle.mo_file.proofs.texts.before_nul.Goals as goal
 
 pub returns : goal.returns
 returns c =
