@@ -1,9 +1,8 @@
 use Rattle.std.proofs.Common.{rules}
 use Rattle.std.proofs.lemmas.Fn.{always_returns_same}
-use Rattle.live_set.specs.Sets.{compared}
-use Rattle.live_set.specs.Places.{asked}
-use Rattle.live_set.proofs.Placing.{searched}
-use Rattle.live_set.proofs.set.CatalogueSet.place.Goals as goal
+use Rattle.live_set.specs.Slots.{compared, asked}
+use Rattle.live_set.proofs.Slotting.{searched}
+use Rattle.live_set.proofs.set.CatalogueSet.slot.Goals as goal
 
 -- the closure compares a load with the pair, and the slice is the set's loads
 pub returns : goal.returns

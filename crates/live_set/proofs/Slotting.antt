@@ -1,4 +1,4 @@
--- A load that is put at its place among rising loads, and a search for that place by halves.
+-- A load that is put in its slot among rising loads, and a search for that slot by halves.
 use Rattle.std.proofs.Common.{◌≡◌, ℕ, zero, suc, ◌+◌, ◌<◌, ◌≤◌, min, Bool, true, false, cond, List, [], ◌∷◌, ◌++◌, length, get_or, take, drop, set, insert, filter, find, Some, None, Ordering, Less, Equal, Greater, Result, Ok, Err, IfOk, IfErr, refl, sym, ap, ap₂, ◌∙◌, subst, arith, inl, inr}
 use Rattle.std.specs.List.{AllByRecursion}
 use Rattle.std.specs.List.Sorted.{IsStrictlySortedBy, IsNonDecreasingBy, IsSearchInRange, IsBinarySearchResult}
@@ -8,8 +8,8 @@ use Rattle.std.proofs.lemmas.Cmp.{alike_right, tied_back}
 use Rattle.std.proofs.lemmas.List.Kept.{IsStrictlySortedBy-filter}
 use Rattle.std.proofs.lemmas.Map.Keys.{sorted_head, sorted_tail, Less-from_sorted}
 use Rattle.live_set.specs.Loads.{LoadValue, is_for}
-use Rattle.live_set.specs.Sets.{SetValue, absorbed, compared, is_before, placed, Rises}
-use Rattle.live_set.specs.Places.{asked, IsAt, IsGapFor}
+use Rattle.live_set.specs.Sets.{SetValue, absorbed}
+use Rattle.live_set.specs.Slots.{compared, is_before, slotted, Rises, asked, IsAt, IsGapFor}
 use Rattle.live_set.proofs.Order.{total, flipped, rises_with, tied_for, not_for, beside, less_ne, greater_ne}
 
 -- ---- the search
@@ -37,7 +37,7 @@ searched held domain locale (Err at) rises in_range parted =
       };
     }
 
--- the load after a lesser one, at a place
+-- the load after a lesser one, in a slot
 all_at : (y : LoadValue) (ys : List LoadValue) (i : ℕ) (d : LoadValue) → AllByRecursion (λ z. compared y z ≡ Less) ys → i < length ys → compared y (get_or ys i d) ≡ Less
 all_at y [] i d all lt = absurd (omega arith)
 all_at y (z ∷ zs) zero d all lt = all.0
@@ -71,7 +71,7 @@ pub rises_none : Rises []
 unfolding IsStrictlySortedBy
 rises_none = tt
 
--- ---- the place
+-- ---- the slot
 
 module _ (x : LoadValue) where
   abbrev before : LoadValue → Bool
@@ -122,10 +122,10 @@ module _ (x : LoadValue) where
       first_after y ys Greater (flipped y x Less (below 0 y (omega arith))) ∙ gap_after ys i (rest_below y ys i below) (rest_above y ys i above)
 
   -- among loads that leave a gap it is inserted there
-  pub placed_gap : (held : List LoadValue) (i : ℕ) → IsBelow held i → IsAbove held i → placed held x ≡ insert held i x
-  placed_gap held i below above = ap₂ (λ s t. s ++ x ∷ t) (gap_before held i below above) (gap_after held i below above)
+  pub slotted_gap : (held : List LoadValue) (i : ℕ) → IsBelow held i → IsAbove held i → slotted held x ≡ insert held i x
+  slotted_gap held i below above = ap₂ (λ s t. s ++ x ∷ t) (gap_before held i below above) (gap_after held i below above)
 
-  -- ---- the place of a load that it ties with
+  -- ---- the slot of a load that it ties with
 
   none_before : (ys : List LoadValue) → AllByRecursion (λ z. compared x z ≡ Less) ys → filter before ys ≡ []
   none_before [] all = refl
@@ -140,19 +140,19 @@ module _ (x : LoadValue) where
   same_beside y (z ∷ zs) tied all = (sym (total.congr y x z tied) ∙ all.0, same_beside y zs tied all.1)
 
   -- it takes the place of that load
-  pub placed_at : (held : List LoadValue) (i : ℕ) → Rises held → i < length held → compared (get_or held i x) x ≡ Equal → placed held x ≡ set held i x
-  placed_at [] i rises lt tied = absurd (omega arith)
-  placed_at (y ∷ ys) zero rises lt tied =
+  pub slotted_at : (held : List LoadValue) (i : ℕ) → Rises held → i < length held → compared (get_or held i x) x ≡ Equal → slotted held x ≡ set held i x
+  slotted_at [] i rises lt tied = absurd (omega arith)
+  slotted_at (y ∷ ys) zero rises lt tied =
       let greater = same_beside y ys tied (sorted_head compared y ys rises) in
       let front : filter before (y ∷ ys) ≡ [] = first_before y ys Equal tied ∙ none_before ys greater in
       let back : filter after (y ∷ ys) ≡ ys = first_after y ys Equal (tied_back total y x tied) ∙ all_after ys greater in
       ap₂ (λ s t. s ++ x ∷ t) front back
-  placed_at (y ∷ ys) (suc i) rises lt tied =
+  slotted_at (y ∷ ys) (suc i) rises lt tied =
       let inside : i < length ys = omega (arith, lt) in
       let less : compared y x ≡ Less = sym (alike_right total (get_or ys i x) x y tied) ∙ all_at y ys i x (sorted_head compared y ys rises) inside in
       let front : filter before (y ∷ ys) ≡ y ∷ filter before ys = first_before y ys Less less in
       let back : filter after (y ∷ ys) ≡ filter after ys = first_after y ys Greater (flipped y x Less less) in
-      ap₂ (λ s t. s ++ x ∷ t) front back ∙ ap (λ t. y ∷ t) (placed_at ys i (sorted_tail compared y ys rises) inside tied)
+      ap₂ (λ s t. s ++ x ∷ t) front back ∙ ap (λ t. y ∷ t) (slotted_at ys i (sorted_tail compared y ys rises) inside tied)
 
   -- ---- the loads rise afterwards
 
@@ -191,8 +191,8 @@ module _ (x : LoadValue) where
   joined_rises (z ∷ zs) ys front lower upper back =
       cons_rises z (zs ++ x ∷ ys) (joined z zs (x ∷ ys) (sorted_head compared z zs front) (lower.0, farther z ys lower.0 upper)) (joined_rises zs ys (sorted_tail compared z zs front) lower.1 upper back)
 
-  pub placed_rises : (held : List LoadValue) → Rises held → Rises (placed held x)
-  placed_rises held rises =
+  pub slotted_rises : (held : List LoadValue) → Rises held → Rises (slotted held x)
+  slotted_rises held rises =
       joined_rises (filter before held) (filter after held) (IsStrictlySortedBy-filter compared before held rises) (passes_before held) (passes_after held) (IsStrictlySortedBy-filter compared after held rises)
 
   -- ---- by a search for its own domain and locale
@@ -200,21 +200,21 @@ module _ (x : LoadValue) where
   own : (d l : List ℕ) → d ≡ x.domain → l ≡ x.locale → (y : LoadValue) → compared y x ≡ compared y (asked d l)
   own d l de le y = λ i. compared y (asked (sym de i) (sym le i))
 
-  pub put_at : (held : List LoadValue) (d l : List ℕ) (i : ℕ) → Rises held → d ≡ x.domain → l ≡ x.locale → IsAt held d l i → placed held x ≡ set held i x
-  put_at held d l i rises de le at = placed_at held i rises at.in_range (own d l de le (get_or held i x) ∙ at.tied x)
+  pub put_at : (held : List LoadValue) (d l : List ℕ) (i : ℕ) → Rises held → d ≡ x.domain → l ≡ x.locale → IsAt held d l i → slotted held x ≡ set held i x
+  put_at held d l i rises de le at = slotted_at held i rises at.in_range (own d l de le (get_or held i x) ∙ at.tied x)
 
-  pub put_gap : (held : List LoadValue) (d l : List ℕ) (i : ℕ) → d ≡ x.domain → l ≡ x.locale → IsGapFor held d l i → placed held x ≡ insert held i x
-  put_gap held d l i de le gap = placed_gap held i (λ k z lt. own d l de le (get_or held k z) ∙ gap.below k z lt) (λ k z from lt. own d l de le (get_or held k z) ∙ gap.above k z from lt)
+  pub put_gap : (held : List LoadValue) (d l : List ℕ) (i : ℕ) → d ≡ x.domain → l ≡ x.locale → IsGapFor held d l i → slotted held x ≡ insert held i x
+  put_gap held d l i de le gap = slotted_gap held i (λ k z lt. own d l de le (get_or held k z) ∙ gap.below k z lt) (λ k z from lt. own d l de le (get_or held k z) ∙ gap.above k z from lt)
 
 abbrev set_value : ℕ → List LoadValue → SetValue
 set_value version held = record { version = version; held = held }
 
 -- a set of these loads, after the load was put there
-pub put_value : (x : LoadValue) (version : ℕ) (items new : List LoadValue) (s : SetValue) → set_value version items ≡ s → placed items x ≡ new → set_value version new ≡ set_value s.version (placed s.held x)
-put_value x version items new s view is = ap (set_value version) (sym is) ∙ ap (λ (t : SetValue). set_value t.version (placed t.held x)) view
+pub put_value : (x : LoadValue) (version : ℕ) (items new : List LoadValue) (s : SetValue) → set_value version items ≡ s → slotted items x ≡ new → set_value version new ≡ set_value s.version (slotted s.held x)
+put_value x version items new s view is = ap (set_value version) (sym is) ∙ ap (λ (t : SetValue). set_value t.version (slotted t.held x)) view
 
 -- and with one version more
-pub absorb_value : (x y : LoadValue) (version risen : ℕ) (items : List LoadValue) (s t : SetValue) → set_value version items ≡ t → t ≡ set_value s.version (placed s.held y) → y ≡ x → risen ≡ min (version + 1) 18446744073709551615 → set_value risen items ≡ absorbed s x
+pub absorb_value : (x y : LoadValue) (version risen : ℕ) (items : List LoadValue) (s t : SetValue) → set_value version items ≡ t → t ≡ set_value s.version (slotted s.held y) → y ≡ x → risen ≡ min (version + 1) 18446744073709551615 → set_value risen items ≡ absorbed s x
 absorb_value x y version risen items s t view put same rises =
     ap (λ v. set_value v items) rises
     ∙ ap (λ (u : SetValue). set_value (min (u.version + 1) 18446744073709551615) u.held) (view ∙ put)
