@@ -4,7 +4,7 @@ use Rattle.std.specs.List.{last_or}
 use Rattle.live_set.specs.Loads.{LoadValue, is_for, map_or_empty, map_of}
 use Rattle.live_set.specs.Sets.{SetValue, no_loads, absorbed, map_in}
 use Rattle.live_set.specs.Sets.{fold as set_of}
-use Rattle.live_set.proofs.Finding.{find-placed}
+use Rattle.live_set.proofs.Finding.{find-slotted}
 
 -- one more load is the last one, where it is for the pair
 last_of : (b : Bool) (o : Option LoadValue) (x : LoadValue) (xs : List LoadValue) → last_or (cond b (Some x) o) xs ≡ last_or o (cond b (x ∷ xs) xs)
@@ -16,7 +16,7 @@ found domain locale [] s = refl
 found domain locale (x ∷ loads) s =
     let p = is_for domain locale in
     found domain locale loads (absorbed s x)
-    ∙ ap (λ o. last_or o (filter p loads)) (find-placed domain locale s.held x)
+    ∙ ap (λ o. last_or o (filter p loads)) (find-slotted domain locale s.held x)
     ∙ last_of (p x) (find p s.held) x (filter p loads)
 
 -- the set of some loads has for each pair the map of the last load for it

@@ -1,4 +1,4 @@
 pub mod Order
 pub mod Finding
-pub mod Placing
+pub mod Slotting
 pub mod Folding

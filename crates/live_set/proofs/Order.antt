@@ -8,8 +8,7 @@ use Rattle.std.proofs.lemmas.Cmp.{nat_list_cmp_total, tied_itself, alike_right, 
 use Rattle.std.proofs.lemmas.Slice.Eq.{bytes_eq-Decides}
 use Rattle.std.specs.FinMap.{slice_cmp-IsAntisymmetric, nat_cmp-IsAntisymmetric}
 use Rattle.live_set.specs.Loads.{LoadValue, is_for}
-use Rattle.live_set.specs.Sets.{compared}
-use Rattle.live_set.specs.Places.{asked}
+use Rattle.live_set.specs.Slots.{compared, asked}
 
 pub total : IsTotalOrder compared
 total =

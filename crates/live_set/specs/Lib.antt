@@ -1,5 +1,5 @@
 pub mod Names
 pub mod Loads
 pub mod Asks
+pub mod Slots
 pub mod Sets
-pub mod Places

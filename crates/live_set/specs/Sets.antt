@@ -1,45 +1,36 @@
--- A set of catalogues: how many loads it absorbed, and those of them that count.
-use Rattle.std.specs.Prelude.{ℕ, ◌+◌, min, Bool, List, [], ◌∷◌, ◌++◌}
+-- A set of catalogues: how many loads it absorbed, the map that it has for a domain and a locale, and what one more
+-- load changes.
+use Rattle.std.specs.Prelude.{◌≡◌, ℕ, ◌+◌, min, if◌then◌else◌, List, []}
 use Rattle.std.specs.Prelude.{fold as fold_list}
-use Rattle.std.specs.List.{filter, find}
-use Rattle.std.specs.List.Sorted.{IsStrictlySortedBy}
-use Rattle.std.specs.declared.cmp.Ordering.{Ordering}
-use Rattle.std.specs.Ordering.{ordering_then, is_lt, nat_cmp}
-use Rattle.std.specs.Cmp.Lexicographic.{slice_cmp}
+use Rattle.std.specs.List.{find}
 use Rattle.catalogue.specs.Entry.{Entry}
 use Rattle.live_set.specs.Loads.{LoadValue, is_for, map_or_empty}
+use Rattle.live_set.specs.Slots.{slotted}
 
--- by locale and then by domain, byte by byte
-abbrev pub compared : LoadValue → LoadValue → Ordering
-compared a b = ordering_then (slice_cmp nat_cmp a.locale b.locale) (slice_cmp nat_cmp a.domain b.domain)
-
-abbrev pub is_before : LoadValue → LoadValue → Bool
-is_before a b = is_lt (compared a b)
-
--- the number of loads absorbed, and the last load of each domain and locale, in rising order of these
+-- the number of loads absorbed, and the loads that count
 pub record SetValue : Type 0 where
   pub version : ℕ
   pub held : List LoadValue
 
--- each load is before those behind it
-abbrev pub Rises : List LoadValue → Type 0
-Rises held = IsStrictlySortedBy compared held
+-- the map that a set has for the domain and the locale, or the empty map
+abbrev pub map_in : List LoadValue → List ℕ → List ℕ → List Entry
+map_in held domain locale = map_or_empty (find (is_for domain locale) held)
 
 abbrev pub no_loads : SetValue
 no_loads = record { version = 0; held = [] }
 
--- the load stands at its place, and no other one for its domain and locale
-abbrev pub placed : List LoadValue → LoadValue → List LoadValue
-placed held load = filter (λ l. is_before l load) held ++ load ∷ filter (λ l. is_before load l) held
+-- one more load: the version rises by one, and stays at 2 ^ 64 - 1; the load's domain and locale have the load's map,
+-- and all others the map that they had
+pub record HasAbsorbed (load : LoadValue) (old new : SetValue) : Type 0 where
+  pub version : new.version ≡ min (old.version + 1) 18446744073709551615
+  pub maps : (domain locale : List ℕ) → map_in new.held domain locale ≡ (if is_for domain locale load then load.map else map_in old.held domain locale)
 
--- one more load; the version stays at 2 ^ 64 - 1
+-- ---- for the crates above, which keep two copies of a set alike: the one value that a set has after its loads
+
+-- one more load
 abbrev pub absorbed : SetValue → LoadValue → SetValue
-absorbed s load = record { version = min (s.version + 1) 18446744073709551615; held = placed s.held load }
+absorbed s load = record { version = min (s.version + 1) 18446744073709551615; held = slotted s.held load }
 
--- the set of a list of loads, absorbed one after another
+-- the loads of a list, absorbed one after another
 abbrev pub fold : List LoadValue → SetValue
 fold loads = fold_list absorbed no_loads loads
-
--- the map that a set has for the domain and the locale, or the empty map
-abbrev pub map_in : List LoadValue → List ℕ → List ℕ → List Entry
-map_in held domain locale = map_or_empty (find (is_for domain locale) held)

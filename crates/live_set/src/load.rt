@@ -1,7 +1,6 @@
 //! Loads: a catalogue for a domain and a locale.
 ghost use Rattle.std.specs.Prelude.{◌≡◌, IfOk};
-ghost use Rattle.live_set.specs.Sets.{compared};
-ghost use Rattle.live_set.specs.Places.{asked};
+ghost use Rattle.live_set.specs.Slots.{compared, asked};
 
 use crate::Name;
 use catalogue::Catalogue;

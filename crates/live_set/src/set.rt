@@ -1,10 +1,10 @@
 //! Sets of catalogues.
-ghost use Rattle.std.specs.Prelude.{◌≡◌, MatchResult, IfOk, IfErr, find, option_map};
+ghost use Rattle.std.specs.Prelude.{◌≡◌, MatchResult, IfOk, IfErr, OnOk, OnErr, find, option_map};
 ghost use Rattle.live_set.specs.Loads.{is_for};
-ghost use Rattle.live_set.specs.Sets.{no_loads, absorbed, placed, map_in};
+ghost use Rattle.live_set.specs.Sets.{no_loads, map_in, HasAbsorbed, absorbed};
 ghost use Rattle.live_set.specs.Asks.{HasValue, Plain, Context, Number, ContextNumber};
 ghost use Rattle.catalogue.specs.Value.{text_by};
-ghost use Rattle.live_set.specs.Places.{IsAt, IsGapFor};
+ghost use Rattle.live_set.specs.Slots.{slotted, IsAt, IsGapFor};
 
 use crate::{Ask, Load, Query};
 use catalogue::Catalogue;
@@ -17,12 +17,13 @@ use text_key::TextKey;
 #[derive(Drop)]
 pub struct CatalogueSet {
     version: u64,
-    /// The last load of each domain and locale, in rising order of these.
+    /// The last load of each domain and locale, in rising order of locale and domain.
     held: Vec<Load>,
 }
 
 impl Model for CatalogueSet {
-    ghost use Rattle.live_set.specs.Sets.{SetValue, Rises};
+    ghost use Rattle.live_set.specs.Sets.{SetValue};
+    ghost use Rattle.live_set.specs.Slots.{Rises};
 
     ghost Value = { SetValue };
 
@@ -56,8 +57,8 @@ impl CatalogueSet {
         self.version
     }
 
-    /// Where the load for this domain and locale stands, or where it would stand.
-    fn place(&self, domain: &TextKey<'_>, locale: &TextKey<'_>) -> Result<usize, usize>
+    /// The slot of the load for this domain and locale, or the one that it would have.
+    fn slot(&self, domain: &TextKey<'_>, locale: &TextKey<'_>) -> Result<usize, usize>
         ensures found { IfOk result (IsAt self.now.held domain.now locale.now) }
         ensures absent { IfErr result (IsGapFor self.now.held domain.now locale.now) }
     {
@@ -69,17 +70,17 @@ impl CatalogueSet {
     fn catalogue(&self, domain: &str, locale: &str) -> Option<&Catalogue>
         ensures { option_map (λ c. c.now) result ≡ option_map (λ l. l.map) (find (is_for domain.now locale.now) self.now.held) }
     {
-        match self.place(&TextKey::new(domain), &TextKey::new(locale)) {
+        match self.slot(&TextKey::new(domain), &TextKey::new(locale)) {
             Ok(at) => Some(self.held[at].catalogue()),
             Err(_) => None,
         }
     }
 
-    /// Puts a load at its place, over the one for its domain and locale if there is one.
+    /// Puts a load in its slot, over the one for its domain and locale if there is one.
     fn put(&mut self, load: Load) -> Result<(), AllocError>
-        ensures { MatchResult result (λ _. self.new ≡ record { version = self.old.version; held = placed self.old.held load }) (λ _. self.new ≡ self.old) }
+        ensures { MatchResult result (λ _. self.new ≡ record { version = self.old.version; held = slotted self.old.held load }) (λ _. self.new ≡ self.old) }
     {
-        match self.place(&load.domain(), &load.locale()) {
+        match self.slot(&load.domain(), &load.locale()) {
             Ok(at) => {
                 self.held[at] = load;
                 Ok(())
@@ -91,7 +92,11 @@ impl CatalogueSet {
     /// Takes in a load: its catalogue takes the place of the one for its domain and locale, and the
     /// version rises by one. Answers AllocError where memory is refused, and leaves the set as it was.
     pub fn absorb(&mut self, load: &Load) -> Result<(), AllocError>
-        ensures { MatchResult result (λ _. self.new ≡ absorbed self.old load.now) (λ _. self.new ≡ self.old) }
+        ensures ok { OnOk result (HasAbsorbed load.now self.old self.new) }
+        ensures err { OnErr result (self.new ≡ self.old) }
+
+        // The value is the one that each set has after this load: two copies stay alike.
+        ensures value { OnOk result (self.new ≡ absorbed self.old load.now) }
     {
         self.put(load.try_clone()?)?;
         self.version = self.version.saturating_add(1);

@@ -3,7 +3,7 @@ use Rattle.std.proofs.Common.{◌≡◌, ◌≢◌, ℕ, Bool, true, false, cond
 use Rattle.std.specs.Prelude.{IsTrue, ◌↔◌}
 use Rattle.std.proofs.lemmas.Bool.{eqb-true, false≢true}
 use Rattle.byteorder.specs.Endian.{little_number, big_number}
-use Rattle.mo_file.specs.Reading.{order}
+use Rattle.mo_file.specs.MoReading.{order}
 
 pub eqb-ne : (a b : ℕ) → a ≢ b → eqb a b ≡ false
 eqb-ne a b ne = elim (eqb a b) as (λ r. eqb a b ≡ r → r ≡ false) [ true ↦ λ e. absurd (ne (eqb-true a b e)) | false ↦ λ e. refl ] refl

@@ -3,7 +3,7 @@ pub mod Cuts
 pub mod Entries
 pub mod RowLemmas
 pub mod Named
-pub mod Texts
+pub mod LawfulStrings
 pub mod ReadBack
 pub mod OneMap
 pub mod SomeMap

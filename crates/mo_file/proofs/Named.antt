@@ -10,7 +10,7 @@ use Rattle.catalogue.specs.Entry.{Entry, key, original, translation, IsLawfulEnt
 use Rattle.catalogue.specs.Map.{Rises, first_form, entry_at, header_text, HasAcceptedCharset, IsLawful}
 use Rattle.catalogue.specs.MoFile.{file, spelling}
 use Rattle.mo_file.specs.Tables.{string_at, strings}
-use Rattle.mo_file.specs.Reading.{before_nul, IsOriginalText, IsTranslationText, HasLawfulForms, HasLawfulHeader, AreOriginalTexts, AreTranslationTexts, HaveLawfulForms, KeysRise, HaveLawfulHeaders, Fits, MeetsBelow, Mo, order, count, originals_table, translations_table, IsMoFile}
+use Rattle.mo_file.specs.MoReading.{table_at, count, originals_start, translations_start, file_by, order, file_of, before_nul, IsOriginalText, IsTranslationText, HasLawfulForms, HasLawfulHeader, AreOriginalTexts, AreTranslationTexts, HaveLawfulForms, KeysRise, HaveLawfulHeaders, Fits, PassesBelow, Mo, IsMoFile}
 use Rattle.mo_file.specs.declared.fault.MoFault.{MoFault}
 use Rattle.mo_file.specs.declared.fault.MoFault.TheVariants.{BadText, Forms, Order, Charset, Swollen}
 use Rattle.mo_file.proofs.Cuts.{first_form_is}
@@ -76,7 +76,7 @@ module _ (number : ℕ → List ℕ → ℕ) (bytes : List ℕ) where
       let first : IsPair o t = first_row IsPair o t n each in
       (lawful_entry (at o) (at t) first.0 first.1 first.2, lawful_from (o + 8) (t + 8) n (later_rows IsPair o t n each))
 
-  pub lawful_named : (o t n : ℕ) → AreOriginalTexts number bytes o n → AreTranslationTexts number bytes t n → HaveLawfulForms number bytes o t n → AllByRecursion IsLawfulEntry (named o t n)
+  pub lawful_named : (o t n : ℕ) → AreOriginalTexts (table_at number bytes o n) → AreTranslationTexts (table_at number bytes t n) → HaveLawfulForms (table_at number bytes o n) (table_at number bytes t n) → AllByRecursion IsLawfulEntry (named o t n)
   lawful_named o t n os ts forms = lawful_from o t n (λ i lt. (os.each i lt, ts.each i lt, forms.each i lt))
 
   -- ---- the keys rise
@@ -88,12 +88,12 @@ module _ (number : ℕ → List ℕ → ℕ) (bytes : List ℕ) where
   rises_from o zero each = tt
   rises_from o (suc n) each = (first_row IsStep o (o + 8) n each, rises_from (o + 8) n (later_rows IsStep o (o + 8) n each))
 
-  rises_all : (o n : ℕ) → KeysRise number bytes o n → Rises (map before_nul (strings number bytes o n))
+  rises_all : (o n : ℕ) → KeysRise (table_at number bytes o n) → Rises (map before_nul (strings number bytes o n))
   rises_all o zero rise = tt
   rises_all o (suc n) rise =
       rises_from o n (λ i lt. let next : o + 8 * (i + 1) ≡ o + 8 + 8 * i = omega arith in subst (λ b. IsStep (o + 8 * i) b) next (rise.each i (omega (arith, lt))))
 
-  pub rises_named : (o t n : ℕ) → KeysRise number bytes o n → Rises (map key (named o t n))
+  pub rises_named : (o t n : ℕ) → KeysRise (table_at number bytes o n) → Rises (map key (named o t n))
   rises_named o t n rise = subst Rises (sym (keys_named o t n)) (rises_all o n rise)
 
   -- ---- the header's charset is accepted
@@ -107,7 +107,7 @@ module _ (number : ℕ → List ℕ → ℕ) (bytes : List ℕ) where
       let first : IsHeader o t = first_row IsHeader o t n each in
       (λ e. subst HasAcceptedCharset (sym (first_form_is (at t))) (first.accepted (sym (key_is (at o) (at t)) ∙ e)), headers_from (o + 8) (t + 8) n (later_rows IsHeader o t n each))
 
-  pub headers_named : (o t n : ℕ) → HaveLawfulHeaders number bytes o t n → AllByRecursion IsNoForeign (named o t n)
+  pub headers_named : (o t n : ℕ) → HaveLawfulHeaders (table_at number bytes o n) (table_at number bytes t n) → AllByRecursion IsNoForeign (named o t n)
   headers_named o t n headers = headers_from o t n headers.each
 
   -- ---- the file of the map
@@ -118,38 +118,38 @@ module _ (number : ℕ → List ℕ → ℕ) (bytes : List ℕ) where
       ap (λ (k : ℕ). file k (map original (named o t n)) (map translation (named o t n))) (length-named o t n)
       ∙ ap (λ (os : List (List ℕ)). file n os (map translation (named o t n))) (originals_named o t n) ∙ ap (file n (strings number bytes o n)) (translations_named o t n)
 
-  pub fits_named : (o t n : ℕ) → Fits number bytes o t n → length (spelling (named o t n)) ≤ 268435456
+  pub fits_named : (o t n : ℕ) → Fits (table_at number bytes o n) (table_at number bytes t n) → length (spelling (named o t n)) ≤ 268435456
   fits_named o t n fits = omega (arith, ap length (spelling_named o t n), fits.short)
 
 -- ---- the map of a file that meets no refusal
 
-pub lawful_map : (number : ℕ → List ℕ → ℕ) (bytes : List ℕ) → MeetsBelow number bytes 12 → IsLawful (named_in number bytes)
-lawful_map number bytes met =
-    let o : ℕ = originals_table number bytes in
-    let t : ℕ = translations_table number bytes in
+pub lawful_map : (number : ℕ → List ℕ → ℕ) (bytes : List ℕ) → PassesBelow (file_by number bytes) 12 → IsLawful (named_in number bytes)
+lawful_map number bytes passed =
+    let o : ℕ = originals_start number bytes in
+    let t : ℕ = translations_start number bytes in
     let n : ℕ = count number bytes in
-    let texts = met BadText (omega arith) in
+    let texts = passed BadText (omega arith) in
     record {
-      rises = rises_named number bytes o t n (met Order (omega arith));
-      each = lawful_named number bytes o t n texts.0 texts.1 (met Forms (omega arith));
-      charset = header_accepted (named_in number bytes) (headers_named number bytes o t n (met Charset (omega arith)));
-      fits = fits_named number bytes o t n (met Swollen (omega arith));
+      rises = rises_named number bytes o t n (passed Order (omega arith));
+      each = lawful_named number bytes o t n texts.0 texts.1 (passed Forms (omega arith));
+      charset = header_accepted (named_in number bytes) (headers_named number bytes o t n (passed Charset (omega arith)));
+      fits = fits_named number bytes o t n (passed Swollen (omega arith));
     }
 
-pub is_mo : (bytes : List ℕ) → MeetsBelow (order bytes) bytes 12 → Mo bytes (named_in (order bytes) bytes)
-is_mo bytes met =
+pub is_mo : (bytes : List ℕ) → PassesBelow (file_of bytes) 12 → Mo bytes (named_in (order bytes) bytes)
+is_mo bytes passed =
     let number = order bytes in
     record {
-      lawful = lawful_map number bytes met;
-      met = met;
-      originals = originals_named number bytes (originals_table number bytes) (translations_table number bytes) (count number bytes);
-      translations = translations_named number bytes (originals_table number bytes) (translations_table number bytes) (count number bytes);
+      lawful = lawful_map number bytes passed;
+      passed = passed;
+      originals = originals_named number bytes (originals_start number bytes) (translations_start number bytes) (count number bytes);
+      translations = translations_named number bytes (originals_start number bytes) (translations_start number bytes) (count number bytes);
     }
 
 -- what was tested without a refusal
-pub checked : (bytes : List ℕ) (r : Result (Unit {0}) MoFault) → OnOk r (MeetsBelow (order bytes) bytes 12) → OnOk r (IsMoFile bytes)
-checked bytes (Ok x) met = (named_in (order bytes) bytes, is_mo bytes met)
-checked bytes (Err f) met = tt
+pub checked : (bytes : List ℕ) (r : Result (Unit {0}) MoFault) → OnOk r (PassesBelow (file_of bytes) 12) → OnOk r (IsMoFile bytes)
+checked bytes (Ok x) passed = (named_in (order bytes) bytes, is_mo bytes passed)
+checked bytes (Err f) passed = tt
 
 -- ---- the entries that were read, one after another
 
@@ -168,11 +168,11 @@ one_more number bytes o t n i xs ys e all lt same grown so_far =
     ap (λ (zs : List Entry). zs ++ rest) grown ∙ append_assoc xs (e ∷ []) rest ∙ ap (λ (x : Entry). xs ++ (x ∷ rest)) same
     ∙ ap (λ (z : List Entry). xs ++ z) (sym (named_split number bytes o t n i lt)) ∙ so_far
 
-pub named_words : (number : ℕ → List ℕ → ℕ) (bytes : List ℕ) (o t n : ℕ) → o ≡ originals_table number bytes → t ≡ translations_table number bytes → n ≡ count number bytes
+pub named_words : (number : ℕ → List ℕ → ℕ) (bytes : List ℕ) (o t n : ℕ) → o ≡ originals_start number bytes → t ≡ translations_start number bytes → n ≡ count number bytes
     → named_rows number bytes o t n ≡ named_in number bytes
 named_words number bytes o t n eo et en =
-    ap (λ (a : ℕ). named_rows number bytes a t n) eo ∙ ap (λ (a : ℕ). named_rows number bytes (originals_table number bytes) a n) et
-    ∙ ap (named_rows number bytes (originals_table number bytes) (translations_table number bytes)) en
+    ap (λ (a : ℕ). named_rows number bytes a t n) eo ∙ ap (λ (a : ℕ). named_rows number bytes (originals_start number bytes) a n) et
+    ∙ ap (named_rows number bytes (originals_start number bytes) (translations_start number bytes)) en
 
 pub at_words : (P : ℕ → ℕ → Type 0) (a b x y : ℕ) → a ≡ x → b ≡ y → P x y → P a b
 at_words P a b x y ea eb p = subst (λ c. P c b) (sym ea) (subst (P x) (sym eb) p)

@@ -3,7 +3,7 @@ use Rattle.std.proofs.Common.{◌≡◌, ℕ, ◌<◌, List, map, refl, sym, ap,
 use Rattle.std.specs.Prelude.{Result, Ok, Err, IfOk, IfErr}
 use Rattle.catalogue.specs.Entry.{Entry, translation}
 use Rattle.mo_file.specs.Tables.{strings}
-use Rattle.mo_file.specs.Reading.{Mo, Refused, rank, order, count, originals_table, translations_table}
+use Rattle.mo_file.specs.MoReading.{Mo, Refused, rank, order, count, originals_start, translations_start}
 use Rattle.mo_file.specs.declared.fault.MoFault.{MoFault}
 use Rattle.mo_file.specs.declared.fault.MoFault.TheVariants.{TooLarge, Short, Magic, Revision, Bounds, NoNul, BadText, Forms, Order, Charset, Swollen, Memory}
 use Rattle.catalogue.specs.Map.{IsLawful}
@@ -13,16 +13,16 @@ use Rattle.mo_file.proofs.ReadBack.{reads_back}
 use Rattle.mo_file.proofs.Entries.{entries_again}
 
 read_from : (bytes : List ℕ) (m : List Entry) → Mo bytes m
-    → m ≡ entries_of (strings (order bytes) bytes (originals_table (order bytes) bytes) (count (order bytes) bytes)) (strings (order bytes) bytes (translations_table (order bytes) bytes) (count (order bytes) bytes))
+    → m ≡ entries_of (strings (order bytes) bytes (originals_start (order bytes) bytes) (count (order bytes) bytes)) (strings (order bytes) bytes (translations_start (order bytes) bytes) (count (order bytes) bytes))
 read_from bytes m mo =
     sym (entries_again m mo.lawful.each) ∙ ap (λ (os : List (List ℕ)). entries_of os (map translation m)) mo.originals
-    ∙ ap (entries_of (strings (order bytes) bytes (originals_table (order bytes) bytes) (count (order bytes) bytes))) mo.translations
+    ∙ ap (entries_of (strings (order bytes) bytes (originals_start (order bytes) bytes) (count (order bytes) bytes))) mo.translations
 
 pub unique_map : (bytes : List ℕ) (m n : List Entry) → Mo bytes m → Mo bytes n → m ≡ n
 unique_map bytes m n p q = read_from bytes m p ∙ sym (read_from bytes n q)
 
 pub refused_map : (bytes : List ℕ) (m : List Entry) (fault : MoFault) → rank fault < 12 → Refused bytes fault → Mo bytes m → ⊥
-refused_map bytes m fault test refused mo = (refused test).0 (mo.met fault test)
+refused_map bytes m fault test refused mo = (refused test).0 (mo.passed fault test)
 
 -- the file of a map is read back
 pub reread_map : (m : List Entry) (bytes : List ℕ) (r : Result (List Entry) MoFault) → IsLawful m → bytes ≡ spelling m → IfOk r (λ c. Mo bytes c) → IfOk r (λ c. c ≡ m)

@@ -9,50 +9,50 @@ use Rattle.byteorder.specs.Endian.{little_number}
 use Rattle.catalogue.specs.Entry.{Entry, key, original, translation, IsLawfulEntry}
 use Rattle.catalogue.specs.MoFile.{file, spelling}
 use Rattle.catalogue.specs.Map.{first_form, HasAcceptedCharset, IsLawful}
-use Rattle.mo_image.proofs.EntryParts.{key_lacks_nul, split_joined, some_form, lack_nul}
-use Rattle.mo_image.proofs.Lists.{slice_get-map, at_place}
-use Rattle.entry_search.proofs.Searching.{rises_pair, find_some}
+use Rattle.catalogue.proofs.EntryParts.{key_lacks_nul, split_joined, some_form, lack_nul}
+use Rattle.catalogue.proofs.Lists.{slice_get-map, at_place}
+use Rattle.catalogue.proofs.Searching.{rises_pair, find_some}
 use Rattle.mo_file.specs.Tables.{word_at, string_at, strings}
-use Rattle.mo_file.specs.Reading.{order, before_nul, count, originals_table, translations_table, TableLies, AllClosed, AreOriginalTexts, AreTranslationTexts, HaveLawfulForms, KeysRise, HaveLawfulHeaders, Fits, Meets, Mo, rank}
+use Rattle.mo_file.specs.MoReading.{table_at, count, originals_start, translations_start, file_by, order, before_nul, TableLies, AllClosed, AreOriginalTexts, AreTranslationTexts, HaveLawfulForms, KeysRise, HaveLawfulHeaders, Fits, Passes, rank, Mo}
 use Rattle.mo_file.specs.declared.fault.MoFault.{MoFault}
 use Rattle.mo_file.specs.declared.fault.MoFault.TheVariants.{TooLarge, Short, Magic, Revision, Bounds, NoNul, BadText, Forms, Order, Charset, Swollen, Memory}
 use Rattle.mo_file.proofs.ByteOrders.{order_little}
 use Rattle.mo_file.proofs.Cuts.{first_form_is}
 use Rattle.mo_file.proofs.Entries.{key_of_original}
-use Rattle.mo_file.proofs.Texts.{original_text, translation_text, lawful_forms}
-use Rattle.mo_image.proofs.FileStrings.{Names, strings_named, named_at, Describes, spelling_describes}
+use Rattle.mo_file.proofs.LawfulStrings.{original_text, translation_text, lawful_forms}
+use Rattle.catalogue.proofs.FileStrings.{Names, strings_named, named_at, Describes, spelling_describes}
 
--- what the refusals miss, where the words of the header are known
-record AllMet (number : ℕ → List ℕ → ℕ) (bytes : List ℕ) (o t n : ℕ) : Type 0 where
+-- what passes the tests, where the words of the header are known
+record AllPass (number : ℕ → List ℕ → ℕ) (bytes : List ℕ) (o t n : ℕ) : Type 0 where
   short : length bytes ≤ 268435456
   long : 28 ≤ length bytes
   magic : word_at number bytes 0 ≡ 0x950412de
   revision : word_at number bytes 4 ≡ 0
-  originals_lie : TableLies number bytes o n
-  translations_lie : TableLies number bytes t n
-  originals_closed : AllClosed number bytes o n
-  translations_closed : AllClosed number bytes t n
-  original_texts : AreOriginalTexts number bytes o n
-  translation_texts : AreTranslationTexts number bytes t n
-  forms : HaveLawfulForms number bytes o t n
-  rise : KeysRise number bytes o n
-  headers : HaveLawfulHeaders number bytes o t n
-  fits : Fits number bytes o t n
+  originals_lie : TableLies (table_at number bytes o n)
+  translations_lie : TableLies (table_at number bytes t n)
+  originals_closed : AllClosed (table_at number bytes o n)
+  translations_closed : AllClosed (table_at number bytes t n)
+  original_texts : AreOriginalTexts (table_at number bytes o n)
+  translation_texts : AreTranslationTexts (table_at number bytes t n)
+  forms : HaveLawfulForms (table_at number bytes o n) (table_at number bytes t n)
+  rise : KeysRise (table_at number bytes o n)
+  headers : HaveLawfulHeaders (table_at number bytes o n) (table_at number bytes t n)
+  fits : Fits (table_at number bytes o n) (table_at number bytes t n)
 
-met : (number : ℕ → List ℕ → ℕ) (bytes : List ℕ) → AllMet number bytes (originals_table number bytes) (translations_table number bytes) (count number bytes)
-    → (fault : MoFault) → rank fault < 12 → Meets number bytes fault
-met number bytes all TooLarge below = all.short
-met number bytes all Short below = all.long
-met number bytes all Magic below = all.magic
-met number bytes all Revision below = all.revision
-met number bytes all Bounds below = (all.originals_lie, all.translations_lie)
-met number bytes all NoNul below = (all.originals_closed, all.translations_closed)
-met number bytes all BadText below = (all.original_texts, all.translation_texts)
-met number bytes all Forms below = all.forms
-met number bytes all Order below = all.rise
-met number bytes all Charset below = all.headers
-met number bytes all Swollen below = all.fits
-met number bytes all Memory below = tt
+passed : (number : ℕ → List ℕ → ℕ) (bytes : List ℕ) → AllPass number bytes (originals_start number bytes) (translations_start number bytes) (count number bytes)
+    → (fault : MoFault) → rank fault < 12 → Passes (file_by number bytes) fault
+passed number bytes all TooLarge below = all.short
+passed number bytes all Short below = all.long
+passed number bytes all Magic below = all.magic
+passed number bytes all Revision below = all.revision
+passed number bytes all Bounds below = (all.originals_lie, all.translations_lie)
+passed number bytes all NoNul below = (all.originals_closed, all.translations_closed)
+passed number bytes all BadText below = (all.original_texts, all.translation_texts)
+passed number bytes all Forms below = all.forms
+passed number bytes all Order below = all.rise
+passed number bytes all Charset below = all.headers
+passed number bytes all Swollen below = all.fits
+passed number bytes all Memory below = tt
 
 entry_in : (m : List Entry) (i : ℕ) → i < length m → (e : Entry) × (slice_get m i ≡ Some e)
 entry_in [] i lt = absurd (omega (arith, lt))
@@ -125,8 +125,8 @@ module _ (m : List Entry) (lawful : IsLawful m) where
   unfolding spelling
   spelled = ap (λ (os : List (List ℕ)). file n os (strings little_number (spelling m) t n)) originals_are ∙ ap (file n (map original m)) translations_are
 
-  all_met : AllMet little_number bytes 28 t n
-  all_met = record {
+  all_pass : AllPass little_number bytes 28 t n
+  all_pass = record {
     short = lawful.fits;
     long = omega (arith, told.long);
     magic = told.magic;
@@ -145,24 +145,24 @@ module _ (m : List Entry) (lawful : IsLawful m) where
 
   -- what is claimed of the order of the bytes and the words of the header
   abbrev Claim : (ℕ → List ℕ → ℕ) → ℕ → ℕ → ℕ → Type 0
-  Claim number a b c = AllMet number bytes a b c × (map original m ≡ strings number bytes a c) × (map translation m ≡ strings number bytes b c)
+  Claim number a b c = AllPass number bytes a b c × (map original m ≡ strings number bytes a c) × (map translation m ≡ strings number bytes b c)
 
   claimed : Claim little_number 28 t n
-  claimed = (all_met, sym originals_are, sym translations_are)
+  claimed = (all_pass, sym originals_are, sym translations_are)
 
   counted : Claim little_number 28 t (count little_number bytes)
   counted = subst (λ c. Claim little_number 28 t c) (sym told.count) claimed
 
-  placed : Claim little_number 28 (translations_table little_number bytes) (count little_number bytes)
+  placed : Claim little_number 28 (translations_start little_number bytes) (count little_number bytes)
   placed = subst (λ b. Claim little_number 28 b (count little_number bytes)) (sym told.translations_table) counted
 
-  read : Claim little_number (originals_table little_number bytes) (translations_table little_number bytes) (count little_number bytes)
-  read = subst (λ a. Claim little_number a (translations_table little_number bytes) (count little_number bytes)) (sym told.originals_table) placed
+  read : Claim little_number (originals_start little_number bytes) (translations_start little_number bytes) (count little_number bytes)
+  read = subst (λ a. Claim little_number a (translations_start little_number bytes) (count little_number bytes)) (sym told.originals_table) placed
 
-  ordered : Claim (order bytes) (originals_table (order bytes) bytes) (translations_table (order bytes) bytes) (count (order bytes) bytes)
+  ordered : Claim (order bytes) (originals_start (order bytes) bytes) (translations_start (order bytes) bytes) (count (order bytes) bytes)
   ordered =
-      let P : (ℕ → List ℕ → ℕ) → Type 0 = λ number. Claim number (originals_table number bytes) (translations_table number bytes) (count number bytes) in
+      let P : (ℕ → List ℕ → ℕ) → Type 0 = λ number. Claim number (originals_start number bytes) (translations_start number bytes) (count number bytes) in
       subst P (sym (order_little bytes told.magic)) read
 
   pub reads_back : Mo (spelling m) m
-  reads_back = record { lawful = lawful; met = met (order bytes) bytes ordered.0; originals = ordered.1; translations = ordered.2 }
+  reads_back = record { lawful = lawful; passed = passed (order bytes) bytes ordered.0; originals = ordered.1; translations = ordered.2 }

@@ -5,7 +5,7 @@ use Rattle.std.proofs.lemmas.List.Concat.{flat_map-cons}
 use Rattle.catalogue.specs.MoFile.{closed, pool, file}
 use Rattle.mo_image.proofs.MoLengths.{length-word, length-pairs, length-closed}
 use Rattle.mo_file.specs.Tables.{word_at, string_at, strings}
-use Rattle.mo_file.specs.Reading.{StringLies}
+use Rattle.mo_file.specs.MoReading.{StringLies}
 
 pub length-strings : (number : ℕ → List ℕ → ℕ) (bytes : List ℕ) (place n : ℕ) → length (strings number bytes place n) ≡ n
 length-strings number bytes place zero = refl
@@ -53,9 +53,7 @@ later_rows Q o t n each i lt =
     let et : t + 8 * suc i ≡ t + 8 + 8 * i = omega arith in
     subst (λ a. Q a (t + 8 + 8 * i)) eo (subst (λ b. Q (o + 8 * suc i) b) et here)
 
--- a row that says the same as the one before
-pub as_before : (P : List ℕ → Type 0) (number : ℕ → List ℕ → ℕ) (bytes : List ℕ) (table i : ℕ) → 0 < i → string_at number bytes (table + 8 * i - 8) ≡ string_at number bytes (table + 8 * i)
-    → P (string_at number bytes (table + 8 * (i - 1))) → P (string_at number bytes (table + 8 * i))
-as_before P number bytes table i some same before =
-    let back : table + 8 * (i - 1) ≡ table + 8 * i - 8 = omega (arith, some) in
-    subst P (ap (string_at number bytes) back ∙ same) before
+-- the string of a row that says the same as the one before
+pub as_before : (P : List ℕ → Type 0) (number : ℕ → List ℕ → ℕ) (bytes : List ℕ) (table i : ℕ) → (0 < i) × (string_at number bytes (table + 8 * (i - 1)) ≡ string_at number bytes (table + 8 * i))
+    → ((k : ℕ) → k < i → P (string_at number bytes (table + 8 * k))) → P (string_at number bytes (table + 8 * i))
+as_before P number bytes table i same before = subst P same.1 (before (i - 1) (omega (arith, same.0)))

@@ -2,7 +2,7 @@
 use Rattle.std.proofs.Common.{◌≡◌, ℕ, zero, suc, ◌+◌, ◌<◌, List, [], ◌∷◌, get_or, refl, sym, ap, subst, ◌∙◌, arith, inl, inr}
 use Rattle.std.proofs.lemmas.Bool.{cases_lt}
 use Rattle.catalogue.specs.Entry.{Entry}
-use Rattle.mo_file.specs.Reading.{Mo, Meets, MeetsBelow, Refused, rank, order}
+use Rattle.mo_file.specs.MoReading.{order, file_of, Passes, rank, PassesBelow, Refused, Mo}
 use Rattle.mo_file.specs.declared.fault.MoFault.{MoFault}
 use Rattle.mo_file.specs.declared.fault.MoFault.TheVariants.{TooLarge, Short, Magic, Revision, Bounds, NoNul, BadText, Forms, Order, Charset, Swollen, Memory}
 use Rattle.mo_file.specs.Pairs.{named_in}
@@ -42,32 +42,32 @@ rank_one f g e =
     let same : p.place ≡ q.place = omega (arith, p.rank_is, q.rank_is, e) in
     sym p.fault_is ∙ ap fault_at same ∙ q.fault_is
 
--- ---- what no refusal stops is met
+-- ---- what no refusal stops passes
 
-met_below : (bytes : List ℕ) (n : ℕ) → n < 12 → ((fault : MoFault) → rank fault < 12 → Refused bytes fault → ⊥) → (MeetsBelow (order bytes) bytes (n + 1) → ⊥) → ⊥
-met_below bytes zero lt no_refusal none = none (λ fault less. let p = has_place fault in absurd (omega (arith, p.rank_is, less)))
-met_below bytes (suc n) lt no_refusal none = met_below bytes n (omega (arith, lt)) no_refusal (λ below. next below)
+passed_below : (bytes : List ℕ) (n : ℕ) → n < 12 → ((fault : MoFault) → rank fault < 12 → Refused bytes fault → ⊥) → (PassesBelow (file_of bytes) (n + 1) → ⊥) → ⊥
+passed_below bytes zero lt no_refusal none = none (λ fault less. let p = has_place fault in absurd (omega (arith, p.rank_is, less)))
+passed_below bytes (suc n) lt no_refusal none = passed_below bytes n (omega (arith, lt)) no_refusal (λ below. next below)
   where
     Here : Type 0
     Here = (fault : MoFault) × (rank fault ≡ n + 1)
 
     -- below the next rank, or of it
-    with_next : MeetsBelow (order bytes) bytes (n + 1) → ((fault : MoFault) → rank fault ≡ n + 1 → Meets (order bytes) bytes fault) → MeetsBelow (order bytes) bytes (suc n + 1)
+    with_next : PassesBelow (file_of bytes) (n + 1) → ((fault : MoFault) → rank fault ≡ n + 1 → Passes (file_of bytes) fault) → PassesBelow (file_of bytes) (suc n + 1)
     with_next below here fault less = elim (cases_lt (rank fault) (n + 1)) [
       | inl lower ↦ below fault lower
       | inr more ↦ here fault (omega (arith, less, more))
     ]
 
-    next : MeetsBelow (order bytes) bytes (n + 1) → ⊥
+    next : PassesBelow (file_of bytes) (n + 1) → ⊥
     next below =
         let nobody : ((fault : MoFault) → rank fault ≡ n + 1 → ⊥) → ⊥ = λ nobody. none (with_next below (λ fault is. absurd (nobody fault is))) in
         nobody (λ f is.
         no_refusal f (omega (arith, is, lt))
         (λ test. (
-          λ meets. none (with_next below (λ fault also. subst (λ (g : MoFault). Meets (order bytes) bytes g) (rank_one f fault (is ∙ sym also)) meets)),
+          λ passes. none (with_next below (λ fault also. subst (λ (g : MoFault). Passes (file_of bytes) g) (rank_one f fault (is ∙ sym also)) passes)),
           λ fault less. below fault (omega (arith, less, is)),
         )))
 
 pub some_map : (bytes : List ℕ) → ((m : List Entry) → Mo bytes m → ⊥) → ((fault : MoFault) × (rank fault < 12) × Refused bytes fault → ⊥) → ⊥
 some_map bytes no_map no_refusal =
-    met_below bytes 11 (omega arith) (λ fault test refused. no_refusal (fault, test, refused)) (λ met. no_map (named_in (order bytes) bytes) (is_mo bytes met))
+    passed_below bytes 11 (omega arith) (λ fault test refused. no_refusal (fault, test, refused)) (λ passed. no_map (named_in (order bytes) bytes) (is_mo bytes passed))

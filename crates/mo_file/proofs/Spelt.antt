@@ -6,7 +6,7 @@ use Rattle.std.proofs.lemmas.List.Concat.{flat_map-cons}
 use Rattle.byteorder.specs.Endian.{little_number}
 use Rattle.catalogue.specs.MoFile.{word, pairs, closed, pool, header, file, spelling}
 use Rattle.mo_file.specs.Tables.{word_at, string_at, strings}
-use Rattle.mo_file.specs.Reading.{TableLies, StringLies, AllClosed, IsClosed, MeetsBelow}
+use Rattle.mo_file.specs.MoReading.{table_at, file_by, StringLies, IsClosed, TableLies, AllClosed, PassesBelow}
 use Rattle.mo_file.specs.declared.fault.MoFault.TheVariants.{Short, Magic, Revision, Bounds, NoNul}
 use Rattle.mo_file.specs.Pairs.{named_in}
 use Rattle.mo_file.proofs.Named.{at_words, named_words, spelling_named}
@@ -134,7 +134,7 @@ module _ (bytes : List ℕ) (each : AreBytes bytes) where
 
   -- both tables, and then both lists of strings
   pub whole : (n middle : ℕ) → 28 + 16 * n ≤ length bytes → w 0 ≡ 0x950412de → w 4 ≡ 0 → w 8 ≡ n → IsInOrder bytes n
-      → TableLies little_number bytes 28 n → TableLies little_number bytes (28 + 8 * n) n → AllClosed little_number bytes 28 n → AllClosed little_number bytes (28 + 8 * n) n
+      → TableLies (table_at little_number bytes 28 n) → TableLies (table_at little_number bytes (28 + 8 * n) n) → AllClosed (table_at little_number bytes 28 n) → AllClosed (table_at little_number bytes (28 + 8 * n) n)
       → StandBehind bytes 28 n (28 + 16 * n) middle → StandBehind bytes (28 + 8 * n) n middle (length bytes) → bytes ≡ file n (all 28 n) (all (28 + 8 * n) n)
   whole n middle room magic revision count order ol tl oc tc os ts =
       let a : ℕ = 28 + 16 * n in
@@ -156,7 +156,7 @@ module _ (bytes : List ℕ) (each : AreBytes bytes) where
       ∙ simp append_assoc
 
 -- the tables lie in the file
-pub tables_room : (bytes : List ℕ) (n : ℕ) → 28 ≤ length bytes → TableLies little_number bytes (28 + 8 * n) n → 28 + 16 * n ≤ length bytes
+pub tables_room : (bytes : List ℕ) (n : ℕ) → 28 ≤ length bytes → TableLies (table_at little_number bytes (28 + 8 * n) n) → 28 + 16 * n ≤ length bytes
 tables_room bytes zero long lies = omega (arith, long)
 tables_room bytes (suc n) long lies = omega (arith, lies.rows (omega arith))
 
@@ -186,26 +186,26 @@ all_seen bytes table n i end le =
 
 -- ---- a file that meets no refusal and is in order
 
-module _ (bytes : List ℕ) (n : ℕ) (met : MeetsBelow little_number bytes 12) (count : n ≡ word_at little_number bytes 8) (order : IsInOrder bytes n) where
-  pub originals_lie : TableLies little_number bytes 28 n
-  originals_lie = at_words (TableLies little_number bytes) _ _ _ _ (sym order.originals) count (met Bounds (omega arith)).0
+module _ (bytes : List ℕ) (n : ℕ) (passed : PassesBelow (file_by little_number bytes) 12) (count : n ≡ word_at little_number bytes 8) (order : IsInOrder bytes n) where
+  pub originals_lie : TableLies (table_at little_number bytes 28 n)
+  originals_lie = at_words (λ a n. TableLies (table_at little_number bytes a n)) _ _ _ _ (sym order.originals) count (passed Bounds (omega arith)).0
 
-  pub translations_lie : TableLies little_number bytes (28 + 8 * n) n
-  translations_lie = at_words (TableLies little_number bytes) _ _ _ _ (sym order.translations) count (met Bounds (omega arith)).1
+  pub translations_lie : TableLies (table_at little_number bytes (28 + 8 * n) n)
+  translations_lie = at_words (λ a n. TableLies (table_at little_number bytes a n)) _ _ _ _ (sym order.translations) count (passed Bounds (omega arith)).1
 
-  originals_closed : AllClosed little_number bytes 28 n
-  originals_closed = at_words (AllClosed little_number bytes) _ _ _ _ (sym order.originals) count (met NoNul (omega arith)).0
+  originals_closed : AllClosed (table_at little_number bytes 28 n)
+  originals_closed = at_words (λ a n. AllClosed (table_at little_number bytes a n)) _ _ _ _ (sym order.originals) count (passed NoNul (omega arith)).0
 
-  translations_closed : AllClosed little_number bytes (28 + 8 * n) n
-  translations_closed = at_words (AllClosed little_number bytes) _ _ _ _ (sym order.translations) count (met NoNul (omega arith)).1
+  translations_closed : AllClosed (table_at little_number bytes (28 + 8 * n) n)
+  translations_closed = at_words (λ a n. AllClosed (table_at little_number bytes a n)) _ _ _ _ (sym order.translations) count (passed NoNul (omega arith)).1
 
   pub room : 28 + 8 * n + 8 * n ≤ length bytes
-  room = omega (arith, tables_room bytes n (met Short (omega arith)) translations_lie)
+  room = omega (arith, tables_room bytes n (passed Short (omega arith)) translations_lie)
 
   pub own_file : (middle end : ℕ) → AreBytes bytes → StandBehind bytes 28 n (28 + 8 * n + 8 * n) middle → StandBehind bytes (28 + 8 * n) n middle end → end ≡ length bytes → bytes ≡ spelling (named_in little_number bytes)
   own_file middle end each os ts all =
       let start : 28 + 8 * n + 8 * n ≡ 28 + 16 * n = omega arith in
       let Q : ℕ → Type 0 = λ a. StandBehind bytes 28 n a middle in
       let R : ℕ → Type 0 = λ e. StandBehind bytes (28 + 8 * n) n middle e in
-      let spelt = whole bytes each n middle (omega (arith, room)) (met Magic (omega arith)) (met Revision (omega arith)) (sym count) order originals_lie translations_lie originals_closed translations_closed (subst Q start os) (subst R all ts) in
+      let spelt = whole bytes each n middle (omega (arith, room)) (passed Magic (omega arith)) (passed Revision (omega arith)) (sym count) order originals_lie translations_lie originals_closed translations_closed (subst Q start os) (subst R all ts) in
       spelt ∙ sym (spelling_named little_number bytes 28 (28 + 8 * n) n) ∙ ap spelling (named_words little_number bytes 28 (28 + 8 * n) n (sym order.originals) (sym order.translations) count)

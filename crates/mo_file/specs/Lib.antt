@@ -1,4 +1,4 @@
 pub mod Tables
-pub mod Reading
+pub mod MoReading
 pub mod Pairs
 pub mod Behind

@@ -3,7 +3,7 @@ use Rattle.std.specs.Prelude.{ℕ, List}
 use Rattle.catalogue.specs.Entry.{Entry}
 pub use Rattle.catalogue.specs.Pairs.{plural_part, entry_of, entries_of}
 use Rattle.mo_file.specs.Tables.{strings}
-use Rattle.mo_file.specs.Reading.{count, originals_table, translations_table}
+use Rattle.mo_file.specs.MoReading.{count, originals_start, translations_start}
 
 -- those of the n rows of two tables
 abbrev pub named : (ℕ → List ℕ → ℕ) → List ℕ → ℕ → ℕ → ℕ → List Entry
@@ -11,4 +11,4 @@ named number bytes o t n = entries_of (strings number bytes o n) (strings number
 
 -- those of a file
 abbrev pub named_in : (ℕ → List ℕ → ℕ) → List ℕ → List Entry
-named_in number bytes = named number bytes (originals_table number bytes) (translations_table number bytes) (count number bytes)
+named_in number bytes = named number bytes (originals_start number bytes) (translations_start number bytes) (count number bytes)

@@ -3,7 +3,7 @@ ghost use Rattle.std.specs.Prelude.{◌≡◌, ℕ, ◌<◌, List};
 ghost use Rattle.catalogue.specs.Entry.{Entry};
 ghost use Rattle.catalogue.specs.Map.{IsLawful};
 ghost use Rattle.catalogue.specs.MoFile.{spelling};
-ghost use Rattle.mo_file.specs.Reading.{Mo, Refused, rank};
+ghost use Rattle.mo_file.specs.MoReading.{Mo, Refused, rank};
 ghost use Rattle.mo_file.specs.declared.fault.MoFault.{MoFault};
 
 /// Bytes are an MO file of one map, or a refusal holds, and never both nor neither.

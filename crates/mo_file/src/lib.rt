@@ -7,6 +7,8 @@ mod own;
 mod read;
 mod refusals;
 mod rows;
+mod tables;
+mod texts;
 mod write;
 
 pub use fault::MoFault;

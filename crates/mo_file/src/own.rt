@@ -4,7 +4,7 @@ ghost use Rattle.byteorder.specs.Endian.{little_number};
 ghost use Rattle.catalogue.specs.MoFile.{spelling};
 ghost use Rattle.mo_file.specs.Behind.{IsInOrder, StandBehind};
 ghost use Rattle.mo_file.specs.Pairs.{named_in};
-ghost use Rattle.mo_file.specs.Reading.{TableLies, MeetsBelow};
+ghost use Rattle.mo_file.specs.MoReading.{table_at, file_by, TableLies, PassesBelow};
 
 use crate::rows::{HEADER_LEN, ROW_LEN, word};
 use byteorder::LittleEndian;
@@ -23,7 +23,7 @@ fn is_in_order(bytes: &[u8], n: usize) -> bool
 
 /// Where the strings of a table's n rows end, if they stand one behind the other from `start` on.
 fn end_of_strings(bytes: &[u8], table: usize, n: usize, start: usize) -> Option<usize>
-    requires lies { TableLies little_number bytes.now table n }
+    requires lies { TableLies (table_at little_number bytes.now table n) }
     requires start { start ≤ length bytes.now }
     requires short { length bytes.now ≤ 268435456 }
     ensures within { IfSome result (λ end. end ≤ length bytes.now) }
@@ -43,7 +43,7 @@ fn end_of_strings(bytes: &[u8], table: usize, n: usize, start: usize) -> Option<
 /// Whether a file is the one that is written of its map: its tables stand behind its header, its strings
 /// behind them, one behind the other, and nothing else.
 pub(crate) fn is_own(bytes: &[u8]) -> bool
-    requires { MeetsBelow little_number bytes.now 12 }
+    requires { PassesBelow (file_by little_number bytes.now) 12 }
     ensures { IsTrue result → bytes.now ≡ spelling (named_in little_number bytes.now) }
 {
     let n = word::<LittleEndian>(bytes, 8);

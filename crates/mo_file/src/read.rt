@@ -2,7 +2,7 @@
 ghost use Rattle.std.specs.Prelude.{◌≡◌, ◌+◌, ◌^◌, ◌<◌, ◌≤◌, length, IfOk, IfErr, Some, option_map};
 ghost use Rattle.std.specs.Str.{IsUtf8};
 ghost use Rattle.mo_file.specs.Tables.{string_at};
-ghost use Rattle.mo_file.specs.Reading.{before_nul, StringLies, TableLies, AreOriginalTexts, AreTranslationTexts, MeetsBelow, Mo, Refused};
+ghost use Rattle.mo_file.specs.MoReading.{table_at, file_by, StringLies, before_nul, TableLies, AreOriginalTexts, AreTranslationTexts, PassesBelow, Refused, Mo};
 ghost use Rattle.mo_file.specs.Pairs.{plural_part, entry_of, named, named_in};
 
 use crate::fault::MoFault;
@@ -52,10 +52,10 @@ fn entries<'a, T: ByteOrder>(
     translations: usize,
     n: usize,
 ) -> Result<Vec<EntryStrings<'a>>, AllocError>
-    requires originals { TableLies T.number_of bytes.now originals n }
-    requires translations { TableLies T.number_of bytes.now translations n }
-    requires original_texts { AreOriginalTexts T.number_of bytes.now originals n }
-    requires translation_texts { AreTranslationTexts T.number_of bytes.now translations n }
+    requires originals { TableLies (table_at T.number_of bytes.now originals n) }
+    requires translations { TableLies (table_at T.number_of bytes.now translations n) }
+    requires original_texts { AreOriginalTexts (table_at T.number_of bytes.now originals n) }
+    requires translation_texts { AreTranslationTexts (table_at T.number_of bytes.now translations n) }
     ensures { IfOk result (λ v. v.items ≡ named T.number_of bytes.now originals translations n) }
 {
     let mut entries = Vec::with_capacity(alloc, n)?;
@@ -69,7 +69,7 @@ fn entries<'a, T: ByteOrder>(
 
 /// The map of a file that meets no refusal.
 fn read_file<T: ByteOrder>(alloc: Global, bytes: &[u8]) -> Result<Catalogue, AllocError>
-    requires { MeetsBelow T.number_of bytes.now 12 }
+    requires { PassesBelow (file_by T.number_of bytes.now) 12 }
     ensures { IfOk result (λ c. c ≡ named_in T.number_of bytes.now) }
 {
     let n = word::<T>(bytes, 8);

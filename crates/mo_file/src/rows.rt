@@ -1,9 +1,12 @@
 //! A row of a table of strings, and the string that it names.
 ghost use Rattle.std.specs.Prelude.{◌≡◌, ◌↔◌, ◌+◌, ◌^◌, ◌<◌, ◌≤◌, length, IsTrue};
 ghost use Rattle.mo_file.specs.Tables.{word_at, string_at};
-ghost use Rattle.mo_file.specs.Reading.{StringLies, IsClosed};
+ghost use Rattle.mo_file.specs.MoReading.{StringLies, IsClosed};
 
 use byteorder::ByteOrder;
+
+/// How many bytes a file may have.
+pub(crate) const MAX_LEN: usize = 268_435_456;
 
 /// How many bytes the header has.
 pub(crate) const HEADER_LEN: usize = 28;

@@ -1,6 +1,6 @@
 use Rattle.std.proofs.Common.{ℕ, List, refl, arith, sym, ap, subst, ◌∙◌}
 use Rattle.byteorder.specs.Endian.{little_number}
-use Rattle.mo_file.specs.Reading.{MeetsBelow, Mo}
+use Rattle.mo_file.specs.MoReading.{file_by, PassesBelow, Mo}
 use Rattle.mo_file.specs.Pairs.{named_in}
 use Rattle.mo_file.specs.declared.fault.MoFault.TheVariants.{Short}
 use Rattle.mo_file.proofs.ByteOrders.{order_low, order_high}
@@ -13,7 +13,7 @@ is_low_first-requires c = c.in_ok-check_all.ensures.ok Short (omega arith)
 
 pub read_file-requires : goal.read_file-requires
 read_file-requires c =
-    let P : (ℕ → List ℕ → ℕ) → Type 0 = λ number. MeetsBelow number c.args.bytes.now 12 in
+    let P : (ℕ → List ℕ → ℕ) → Type 0 = λ number. PassesBelow (file_by number c.args.bytes.now) 12 in
     subst P (order_high c.args.bytes.now c.if-not-is_low_first.ensures) c.in_ok-check_all.ensures.ok
 
 pub returns-then-not-is_low_first-clause-ok : goal.returns-then-not-is_low_first-clause-ok
@@ -23,15 +23,15 @@ returns-then-not-is_low_first-clause-ok c =
 
 pub is_own-requires : goal.is_own-requires
 is_own-requires c =
-    let P : (ℕ → List ℕ → ℕ) → Type 0 = λ number. MeetsBelow number c.args.bytes.now 12 in
+    let P : (ℕ → List ℕ → ℕ) → Type 0 = λ number. PassesBelow (file_by number c.args.bytes.now) 12 in
     subst P (order_low c.args.bytes.now c.if-not-is_low_first.ensures) c.in_ok-check_all.ensures.ok
 
 pub from_file-requires : goal.from_file-requires
 from_file-requires c =
     let bytes : List ℕ = c.args.bytes.now in
-    let P : (ℕ → List ℕ → ℕ) → Type 0 = λ number. MeetsBelow number bytes 12 in
-    let met : MeetsBelow little_number bytes 12 = subst P (order_low bytes c.if-not-is_low_first.ensures) c.in_ok-check_all.ensures.ok in
-    (named_in little_number bytes, record { lawful = lawful_map little_number bytes met; spelt = c.if-is_own.ensures refl })
+    let P : (ℕ → List ℕ → ℕ) → Type 0 = λ number. PassesBelow (file_by number bytes) 12 in
+    let passed : PassesBelow (file_by little_number bytes) 12 = subst P (order_low bytes c.if-not-is_low_first.ensures) c.in_ok-check_all.ensures.ok in
+    (named_in little_number bytes, record { lawful = lawful_map little_number bytes passed; spelt = c.if-is_own.ensures refl })
 
 pub returns-then-is_own-clause-ok : goal.returns-then-is_own-clause-ok
 returns-then-is_own-clause-ok c =
@@ -41,7 +41,7 @@ returns-then-is_own-clause-ok c =
 
 pub read_file-requires-2 : goal.read_file-requires-2
 read_file-requires-2 c =
-    let P : (ℕ → List ℕ → ℕ) → Type 0 = λ number. MeetsBelow number c.args.bytes.now 12 in
+    let P : (ℕ → List ℕ → ℕ) → Type 0 = λ number. PassesBelow (file_by number c.args.bytes.now) 12 in
     subst P (order_low c.args.bytes.now c.if-not-is_low_first.ensures) c.in_ok-check_all.ensures.ok
 
 pub returns-clause-ok : goal.returns-clause-ok

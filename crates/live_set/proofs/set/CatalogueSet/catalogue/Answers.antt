@@ -1,8 +1,8 @@
 use Rattle.std.proofs.Common.{◌≡◌, ℕ, List, Some, get_or, option_map, sym, ap, subst, ◌∙◌}
 use Rattle.live_set.specs.Loads.{LoadValue}
-use Rattle.live_set.specs.Sets.{SetValue, Rises}
-use Rattle.live_set.specs.Places.{IsAt, IsGapFor}
-use Rattle.live_set.proofs.Placing.{find_at, find_gap}
+use Rattle.live_set.specs.Sets.{SetValue}
+use Rattle.live_set.specs.Slots.{Rises, IsAt, IsGapFor}
+use Rattle.live_set.proofs.Slotting.{find_at, find_gap}
 use Rattle.live_set.proofs.set.CatalogueSet.catalogue.Goals as goal
 
 pub returns-in-Ok : goal.returns-in-Ok
