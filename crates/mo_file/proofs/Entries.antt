@@ -8,7 +8,7 @@ use Rattle.std.proofs.lemmas.List.{take_all}
 use Rattle.std.proofs.lemmas.List.Splits.{length-slice_split}
 use Rattle.catalogue.specs.Entry.{Lacks, IsText, IsKeyText, HasForms, IsLawfulEntry}
 use Rattle.catalogue.specs.Parts.{cut, behind}
-pub use Rattle.catalogue.proofs.Originals.{key_of_original, plural_of_original, entry_again_of, entries_again, key_is, original_is, translation_is}
+pub use Rattle.mo_image.proofs.Originals.{key_of_original, plural_of_original, entry_again_of, entries_again, key_is, original_is, translation_is}
 use Rattle.mo_file.specs.MoReading.{before_nul, IsOriginalText, IsTranslationText, HasLawfulForms}
 use Rattle.mo_file.specs.Pairs.{plural_part, entry_of}
 use Rattle.mo_file.proofs.Cuts.{is, place, holds, front_lacks, absent, count_none, behind_lacks, Lacks-take, Lacks-drop, front_utf8, behind_utf8, parts_are_texts}

@@ -4,8 +4,8 @@ use Rattle.std.specs.Prelude.{IfSome}
 use Rattle.std.specs.List.{AllByRecursion, join_with_byte, count_by}
 use Rattle.std.proofs.lemmas.List.Sums.{sum_by-append}
 use Rattle.catalogue.specs.Entry.{Entry, key, key_bytes, with_plural, original, translation, Lacks, IsText, IsKeyText, HasForms, IsLawfulEntry}
-use Rattle.catalogue.proofs.EntryParts.{key_lacks_nul}
-use Rattle.catalogue.proofs.Originals.{original_utf8, translation_utf8}
+use Rattle.mo_image.proofs.EntryParts.{key_lacks_nul}
+use Rattle.mo_image.proofs.Originals.{original_utf8, translation_utf8}
 use Rattle.mo_file.specs.MoReading.{before_nul, IsOriginalText, IsTranslationText, HasLawfulForms}
 use Rattle.mo_file.proofs.Cuts.{is, count_none}
 use Rattle.mo_file.proofs.Entries.{key_of_original}

@@ -9,9 +9,9 @@ use Rattle.byteorder.specs.Endian.{little_number}
 use Rattle.catalogue.specs.Entry.{Entry, key, original, translation, IsLawfulEntry}
 use Rattle.catalogue.specs.MoFile.{file, spelling}
 use Rattle.catalogue.specs.Map.{first_form, HasAcceptedCharset, IsLawful}
-use Rattle.catalogue.proofs.EntryParts.{key_lacks_nul, split_joined, some_form, lack_nul}
-use Rattle.catalogue.proofs.Lists.{slice_get-map, at_place}
-use Rattle.catalogue.proofs.Searching.{rises_pair, find_some}
+use Rattle.mo_image.proofs.EntryParts.{key_lacks_nul, split_joined, some_form, lack_nul}
+use Rattle.mo_image.proofs.Lists.{slice_get-map, at_place}
+use Rattle.entry_search.proofs.Searching.{rises_pair, find_some}
 use Rattle.mo_file.specs.Tables.{word_at, string_at, strings}
 use Rattle.mo_file.specs.MoReading.{table_at, count, originals_start, translations_start, file_by, order, before_nul, TableLies, AllClosed, AreOriginalTexts, AreTranslationTexts, HaveLawfulForms, KeysRise, HaveLawfulHeaders, Fits, Passes, rank, Mo}
 use Rattle.mo_file.specs.declared.fault.MoFault.{MoFault}
@@ -20,7 +20,7 @@ use Rattle.mo_file.proofs.ByteOrders.{order_little}
 use Rattle.mo_file.proofs.Cuts.{first_form_is}
 use Rattle.mo_file.proofs.Entries.{key_of_original}
 use Rattle.mo_file.proofs.LawfulStrings.{original_text, translation_text, lawful_forms}
-use Rattle.catalogue.proofs.FileStrings.{Names, strings_named, named_at, Describes, spelling_describes}
+use Rattle.mo_image.proofs.FileStrings.{Names, strings_named, named_at, Describes, spelling_describes}
 
 -- what passes the tests, where the words of the header are known
 record AllPass (number : ℕ → List ℕ → ℕ) (bytes : List ℕ) (o t n : ℕ) : Type 0 where
