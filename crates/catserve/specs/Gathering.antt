@@ -24,7 +24,8 @@ both a b = record { loads = a.loads ++ b.loads; first = a.first ++ b.first; seco
 -- one more command
 abbrev pub gathered : Gathered → Command → Gathered
 gathered g (Load load) = record { ended = g.ended; current = both g.current (round_of (Load load ∷ [])); begun = true }
-gathered g (Ask worker query) = record { ended = g.ended; current = both g.current (round_of (Ask worker query ∷ [])); begun = true }
+gathered g (Ask worker query) = record
+    { ended = g.ended; current = both g.current (round_of (Ask worker query ∷ [])); begun = true }
 gathered g Go = record { ended = g.ended ++ g.current ∷ []; current = empty_round; begun = false }
 
 -- the open round with what follows in it, and the rounds behind it

@@ -8,4 +8,5 @@ HasOneOutput = (text output other : List ℕ) → HasOutput text output → HasO
 
 -- no text is without an output or a fault: it is too large, isn't UTF-8, or has a bad line
 abbrev pub HasSomeOutput : Type 0
-HasSomeOutput = (text : List ℕ) → ((output : List ℕ) → ¬ HasOutput text output) → ¬ ¬ ((most_script < length text) ⊎ (IsUndecodable text ⊎ ((line : ℕ) × HasBadLine text line)))
+HasSomeOutput = (text : List ℕ) → ((output : List ℕ) → ¬ HasOutput text output)
+    → ¬ ¬ ((most_script < length text) ⊎ (IsUndecodable text ⊎ ((line : ℕ) × HasBadLine text line)))

@@ -19,7 +19,8 @@ escaped text = flat_map escape text
 
 -- a load that was accepted: how many entries are translated, fuzzy and untranslated
 abbrev pub accepted_line : Stats → List ℕ
-accepted_line stats = line (codes "accepted" ∷ decimal stats.translated ∷ decimal stats.fuzzy ∷ decimal stats.untranslated ∷ [])
+accepted_line stats = line
+    (codes "accepted" ∷ decimal stats.translated ∷ decimal stats.fuzzy ∷ decimal stats.untranslated ∷ [])
 
 -- a load whose text is refused: the number of the refusal, and its line
 abbrev pub refused_line : LoadKind → ℕ → List ℕ

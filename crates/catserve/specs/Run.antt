@@ -21,7 +21,8 @@ pub record OutputSeen : Type 0 where
 
 -- each as it stands, by what its type tells of it
 abbrev pub input_seen : {R : Type 0} → (R → Option (List ℕ)) → (R → ℕ) → (R → ℕ) → R → InputSeen
-input_seen remaining reads failures reader = record { left = remaining reader; reads = reads reader; failures = failures reader }
+input_seen remaining reads failures reader = record
+    { left = remaining reader; reads = reads reader; failures = failures reader }
 
 abbrev pub output_seen : {W : Type 0} → (W → Option (List ℕ)) → (W → ℕ) → W → OutputSeen
 output_seen contents failures writer = record { bytes = contents writer; failures = failures writer }

@@ -32,7 +32,12 @@ abbrev pub saying : Option Line → List (List ℕ) → Saying
 saying None behind = IsBad
 saying (Some Blank) behind = Says [] 0
 saying (Some (Loads domain locale options count)) behind =
-    if nat_le count (length behind) then Says (Load (record { domain = domain; locale = locale; options = options; text = concat (take count behind) }) ∷ []) count else IsBad
+    if nat_le count (length behind) then Says (Load (record {
+      domain = domain;
+      locale = locale;
+      options = options;
+      text = concat (take count behind);
+    }) ∷ []) count else IsBad
 saying (Some (Asks worker query)) behind = Says (Ask worker query ∷ []) 0
 saying (Some Goes) behind = Says (Go ∷ []) 0
 
@@ -48,7 +53,8 @@ and_then (Says commands text) number behind = in_front commands (behind text) wh
 abbrev pub commands_from : ℕ → ℕ → List (List ℕ) → Result (List Command) ℕ
 commands_from number text [] = Ok []
 commands_from number (suc text) (line ∷ rest) = commands_from (number + 1) text rest
-commands_from number zero (line ∷ rest) = and_then (saying (line_of (without_end line)) rest) number (λ text. commands_from (number + 1) text rest)
+commands_from number zero (line ∷ rest) = and_then (saying (line_of (without_end line)) rest) number
+    (λ text. commands_from (number + 1) text rest)
 
 -- ---- rounds
 
@@ -71,7 +77,11 @@ asked_second (Ask Second query) = Some query
 asked_second _ = None
 
 abbrev pub round_of : List Command → RoundValue
-round_of commands = record { loads = filter_map load_in commands; first = filter_map asked_first commands; second = filter_map asked_second commands }
+round_of commands = record {
+  loads = filter_map load_in commands;
+  first = filter_map asked_first commands;
+  second = filter_map asked_second commands;
+}
 
 abbrev pub is_go : Command → Bool
 is_go Go = true

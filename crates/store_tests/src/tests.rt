@@ -114,11 +114,10 @@ fn loads_are_published_together(rt: HostRuntime) -> Result<(), Fail> {
     };
     let found = publish_two(&rt, rt.alloc(), &mut publisher, &mut reader);
     publisher.end(&rt);
-    assert_eq!(rt; found.loads, (Ok(ONE), Ok(ONE)));
-    assert_eq!(rt; (found.before, found.first), ((2, 0), Some(2)));
-    assert!(rt; found.shown);
-    assert_eq!(rt; (found.refused, found.pending), (Err(DUPLICATE), 0));
-    assert_eq!(rt; (found.second, found.still), (Some(2), true));
+    assert!(rt; found.loads == (Ok(ONE), Ok(ONE)));
+    assert!(rt; found.before == (2, 0) && found.first == Some(2) && found.shown);
+    assert!(rt; found.refused == Err(DUPLICATE) && found.pending == 0);
+    assert!(rt; found.second == Some(2) && found.still);
     Ok(())
 }
 
@@ -202,17 +201,10 @@ fn notices_are_learnt(rt: HostRuntime) -> Result<(), Fail> {
     };
     let found = tell_two(&rt, rt.alloc(), &mut publisher, &mut reader);
     publisher.end(&rt);
-    assert!(rt; found.empty);
-    assert_eq!(rt;
-        (found.published, found.notice, found.seen),
-        (Some(1), 1, 1)
-    );
-    assert_eq!(rt; (found.shown, found.again), (true, true));
-    assert_eq!(rt; (found.answered, found.settled), (Some((1, true)), Ok(1)));
-    assert_eq!(rt;
-        (found.second, found.ahead),
-        (Some(2), Err(Ahead { seen: 2 }))
-    );
+    assert!(rt; found.empty && found.shown && found.again);
+    assert!(rt; found.published == Some(1) && found.notice == 1 && found.seen == 1);
+    assert!(rt; found.answered == Some((1, true)) && found.settled == Ok(1));
+    assert!(rt; found.second == Some(2) && found.ahead == Err(Ahead { seen: 2 }));
     Ok(())
 }
 
