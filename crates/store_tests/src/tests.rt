@@ -252,12 +252,9 @@ fn loads_are_refused_in_order(rt: HostRuntime) -> Result<(), Fail> {
     let [name, first, second, empty] = load_four(rt.alloc(), &mut publisher);
     let pending = publisher.pending();
     publisher.end(&rt);
-    assert_eq!(rt; (name, first), (Err(StoreFault::BadName), Ok(ONE)));
-    assert_eq!(rt;
-        (second, empty),
-        (Err(StoreFault::VersionsSpent), Err(StoreFault::BadName))
-    );
-    assert_eq!(rt; pending, 1);
+    assert!(rt; name == Err(StoreFault::BadName) && first == Ok(ONE));
+    assert!(rt; second == Err(StoreFault::VersionsSpent) && empty == Err(StoreFault::BadName));
+    assert!(rt; pending == 1);
     Ok(())
 }
 
@@ -297,7 +294,7 @@ fn readers_enter_side_by_side(rt: HostRuntime) -> Result<(), Fail> {
     };
     let found = both_learn(&rt, rt.alloc(), &mut publisher, &mut first, &mut second);
     publisher.end(&rt);
-    assert_eq!(rt; found, Ok((true, true)));
+    assert!(rt; found == Ok((true, true)));
     Ok(())
 }
 
@@ -331,8 +328,8 @@ fn entries_answer_each_call(rt: HostRuntime) -> Result<(), Fail> {
     let found = look_all(rt.alloc(), &mut reader);
     publisher.end(&rt);
     let closed = !shows(&mut reader, 1, "hi", "hi", "hi");
-    assert_eq!(rt; (loaded, published), (Ok(ONE), Ok(1)));
-    assert_eq!(rt; found, Ok([true; 6]));
+    assert!(rt; loaded == Ok(ONE) && published == Ok(1));
+    assert!(rt; found == Ok([true; 6]));
     assert!(rt; closed);
     Ok(())
 }
@@ -413,7 +410,7 @@ fn readers_never_go_back(rt: HostRuntime) -> Result<(), Fail> {
     hand_over(&publisher, &first, &notice);
     let found = in_threads(&rt, rt.alloc(), &mut publisher, &mut first, &mut second);
     publisher.end(&rt);
-    assert_eq!(rt; found, (200, true));
+    assert!(rt; found == (200, true));
     Ok(())
 }
 
