@@ -3,6 +3,7 @@ use Rattle.std.specs.Prelude.{◌≡◌, ◌⊎◌, ℕ, ◌<◌, List, length}
 use Rattle.catserve.specs.Texts.{most_script, IsUndecodable, HasBadLine}
 use Rattle.catserve.specs.Rounds.{HasOutput}
 
+-- a text has one output at most
 abbrev pub HasOneOutput : Type 0
 HasOneOutput = (text output other : List ℕ) → HasOutput text output → HasOutput text other → output ≡ other
 

@@ -14,6 +14,7 @@ line parts = join_with_byte 9 parts ++ 10 ∷ []
 abbrev pub escape : ℕ → List ℕ
 escape b = if b == 10 then 92 ∷ 110 ∷ [] else if b == 9 then 92 ∷ 116 ∷ [] else if b == 92 then 92 ∷ 92 ∷ [] else b ∷ []
 
+-- a text with its escapes
 abbrev pub escaped : List ℕ → List ℕ
 escaped text = flat_map escape text
 

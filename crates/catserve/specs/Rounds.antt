@@ -26,11 +26,13 @@ IsOutcome l (Accepted load stats) = AreNames l.domain l.locale
 IsOutcome l (Refused kind line) = AreNames l.domain l.locale × Refuses l.text l.options kind line
 IsOutcome l Unnamed = ¬ AreNames l.domain l.locale
 
+-- the line that is written of it
 abbrev pub outcome_line : Outcome → List ℕ
 outcome_line (Accepted load stats) = accepted_line stats
 outcome_line (Refused kind line) = refused_line kind line
 outcome_line Unnamed = unnamed_line
 
+-- the load, where it was accepted
 abbrev pub accepted_load : Outcome → Option LoadValue
 accepted_load (Accepted load stats) = Some load
 accepted_load _ = None

@@ -17,6 +17,7 @@ pub record LoadText : Type 0 where
 
 -- ---- commands
 
+-- one more load, one more question, or the end of a round
 pub data Command : Type 0 where
   Load : (load : LoadText) → Command
   Ask : (worker : Worker) (query : QueryValue) → Command
@@ -64,18 +65,22 @@ pub record RoundValue : Type 0 where
   pub first : List QueryValue
   pub second : List QueryValue
 
+-- the load of a command, if it is one
 abbrev pub load_in : Command → Option LoadText
 load_in (Load load) = Some load
 load_in _ = None
 
+-- the question of a command, if it asks the first worker
 abbrev pub asked_first : Command → Option QueryValue
 asked_first (Ask First query) = Some query
 asked_first _ = None
 
+-- the question of a command, if it asks the second worker
 abbrev pub asked_second : Command → Option QueryValue
 asked_second (Ask Second query) = Some query
 asked_second _ = None
 
+-- the round of these commands
 abbrev pub round_of : List Command → RoundValue
 round_of commands = record {
   loads = filter_map load_in commands;
@@ -83,6 +88,7 @@ round_of commands = record {
   second = filter_map asked_second commands;
 }
 
+-- the end of a round
 abbrev pub is_go : Command → Bool
 is_go Go = true
 is_go _ = false
@@ -91,6 +97,7 @@ is_go _ = false
 abbrev pub rounds_of : List Command → List RoundValue
 rounds_of commands = map round_of (pieces is_go commands)
 
+-- the rounds of these commands, or the first bad line
 abbrev pub rounds_in : Result (List Command) ℕ → Result (List RoundValue) ℕ
 rounds_in (Ok commands) = Ok (rounds_of commands)
 rounds_in (Err bad) = Err bad
