@@ -15,7 +15,8 @@ o >>= f = option_and_then f o
 
 -- one digit or more, of a number below 2 ^ 64
 abbrev pub is_number : List ℕ → Bool
-is_number digits = list_all is_ascii_digit digits && (nat_lt 0 (length digits) && nat_lt (digits_value 10 digits) (2 ^ 64))
+is_number digits = list_all is_ascii_digit digits
+    && (nat_lt 0 (length digits) && nat_lt (digits_value 10 digits) (2 ^ 64))
 
 -- a decimal number
 abbrev pub number : List ℕ → Option ℕ
@@ -23,7 +24,10 @@ number digits = if is_number digits then Some (digits_value 10 digits) else None
 
 -- the letter behind a backslash: `n` for LF, `t` for a tab, or a backslash again
 abbrev pub escaped_byte : ℕ → Option ℕ
-escaped_byte letter = if letter == 110 then Some 10 else if letter == 116 then Some 9 else if letter == 92 then Some 92 else None
+escaped_byte letter =
+    if letter == 110 then Some 10 else
+    if letter == 116 then Some 9 else
+    if letter == 92 then Some 92 else None
 
 -- a text with its escapes, each a backslash and such a letter
 abbrev pub unescaped : List ℕ → Option (List ℕ)
@@ -46,4 +50,6 @@ options_of text =
 
 -- the worker that is asked
 abbrev pub worker_of : List ℕ → Option Worker
-worker_of text = if bytes_eq text (codes "0") then Some First else if bytes_eq text (codes "1") then Some Second else None
+worker_of text =
+    if bytes_eq text (codes "0") then Some First else
+    if bytes_eq text (codes "1") then Some Second else None

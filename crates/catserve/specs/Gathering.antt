@@ -11,9 +11,11 @@ pub record Gathered : Type 0 where
   pub current : RoundValue
   pub begun : Bool
 
+-- a round in which nothing stands
 abbrev pub empty_round : RoundValue
 empty_round = record { loads = []; first = []; second = [] }
 
+-- no rounds so far
 abbrev pub nothing : Gathered
 nothing = record { ended = []; current = empty_round; begun = false }
 
@@ -24,7 +26,8 @@ both a b = record { loads = a.loads ++ b.loads; first = a.first ++ b.first; seco
 -- one more command
 abbrev pub gathered : Gathered → Command → Gathered
 gathered g (Load load) = record { ended = g.ended; current = both g.current (round_of (Load load ∷ [])); begun = true }
-gathered g (Ask worker query) = record { ended = g.ended; current = both g.current (round_of (Ask worker query ∷ [])); begun = true }
+gathered g (Ask worker query) = record
+    { ended = g.ended; current = both g.current (round_of (Ask worker query ∷ [])); begun = true }
 gathered g Go = record { ended = g.ended ++ g.current ∷ []; current = empty_round; begun = false }
 
 -- the open round with what follows in it, and the rounds behind it
@@ -32,6 +35,7 @@ abbrev pub onto_open : Gathered → List RoundValue → List RoundValue
 onto_open g [] = if g.begun then g.current ∷ [] else []
 onto_open g (round ∷ rounds) = both g.current round ∷ rounds
 
+-- the rounds that have ended, and the open one if something stands in it
 abbrev pub all_rounds : Gathered → List RoundValue
 all_rounds g = g.ended ++ onto_open g []
 

@@ -19,6 +19,7 @@ lines text = pieces is_line_end text
 abbrev pub without_end : List ℕ → List ℕ
 without_end line = before_first is_line_end line
 
+-- a tab
 abbrev pub is_tab : ℕ → Bool
 is_tab b = b == 9
 

@@ -14,12 +14,14 @@ line parts = join_with_byte 9 parts ++ 10 ∷ []
 abbrev pub escape : ℕ → List ℕ
 escape b = if b == 10 then 92 ∷ 110 ∷ [] else if b == 9 then 92 ∷ 116 ∷ [] else if b == 92 then 92 ∷ 92 ∷ [] else b ∷ []
 
+-- a text with its escapes
 abbrev pub escaped : List ℕ → List ℕ
 escaped text = flat_map escape text
 
 -- a load that was accepted: how many entries are translated, fuzzy and untranslated
 abbrev pub accepted_line : Stats → List ℕ
-accepted_line stats = line (codes "accepted" ∷ decimal stats.translated ∷ decimal stats.fuzzy ∷ decimal stats.untranslated ∷ [])
+accepted_line stats = line
+    (codes "accepted" ∷ decimal stats.translated ∷ decimal stats.fuzzy ∷ decimal stats.untranslated ∷ [])
 
 -- a load whose text is refused: the number of the refusal, and its line
 abbrev pub refused_line : LoadKind → ℕ → List ℕ

@@ -20,22 +20,27 @@ pub data Outcome : Type 0 where
 
 -- it has the map that its text means; its text is refused; its domain or its locale is no name
 abbrev pub IsOutcome : LoadText → Outcome → Type 0
-IsOutcome l (Accepted load stats) = AreNames l.domain l.locale × ((c : Compiled) × Means l.text l.options c × (stats ≡ c.stats) × (load ≡ record { domain = l.domain; locale = l.locale; map = c.catalogue }))
+IsOutcome l (Accepted load stats) = AreNames l.domain l.locale
+    × ((c : Compiled) × Means l.text l.options c × (stats ≡ c.stats)
+    × (load ≡ record { domain = l.domain; locale = l.locale; map = c.catalogue }))
 IsOutcome l (Refused kind line) = AreNames l.domain l.locale × Refuses l.text l.options kind line
 IsOutcome l Unnamed = ¬ AreNames l.domain l.locale
 
+-- the line that is written of it
 abbrev pub outcome_line : Outcome → List ℕ
 outcome_line (Accepted load stats) = accepted_line stats
 outcome_line (Refused kind line) = refused_line kind line
 outcome_line Unnamed = unnamed_line
 
+-- the load, where it was accepted
 abbrev pub accepted_load : Outcome → Option LoadValue
 accepted_load (Accepted load stats) = Some load
 accepted_load _ = None
 
 -- a worker answers its questions over these loads, in order; the version is how many they are
 abbrev pub Answers : List LoadValue → ℕ → List QueryValue → List ℕ → Type 0
-Answers loads worker queries output = (texts : List (List ℕ)) × AllZip (IsAnswer loads) queries texts × (output ≡ flat_map (answer_line worker (length loads)) texts)
+Answers loads worker queries output = (texts : List (List ℕ)) × AllZip (IsAnswer loads) queries texts
+    × (output ≡ flat_map (answer_line worker (length loads)) texts)
 
 -- a round behind these loads: its own loads, its version, and the answers of the two workers over all loads up to it
 pub record Plays (before : List LoadValue) (round : RoundValue) (after : List LoadValue) (output : List ℕ) : Type 0 where
@@ -51,7 +56,8 @@ pub record Plays (before : List LoadValue) (round : RoundValue) (after : List Lo
 -- the rounds behind these loads
 abbrev pub PlaysAll : List LoadValue → List RoundValue → List ℕ → Type 0
 PlaysAll before [] output = output ≡ []
-PlaysAll before (round ∷ rounds) output = (after : List LoadValue) × (front : List ℕ) × (back : List ℕ) × Plays before round after front × PlaysAll after rounds back × (output ≡ front ++ back)
+PlaysAll before (round ∷ rounds) output = (after : List LoadValue) × (front : List ℕ) × (back : List ℕ)
+    × Plays before round after front × PlaysAll after rounds back × (output ≡ front ++ back)
 
 -- the output of a text that is a script
 abbrev pub HasOutput : List ℕ → List ℕ → Type 0

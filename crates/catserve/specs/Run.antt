@@ -19,10 +19,12 @@ pub record OutputSeen : Type 0 where
   pub bytes : Option (List ℕ)
   pub failures : ℕ
 
--- each as it stands, by what its type tells of it
+-- a reader as it stands, by what its type tells of it
 abbrev pub input_seen : {R : Type 0} → (R → Option (List ℕ)) → (R → ℕ) → (R → ℕ) → R → InputSeen
-input_seen remaining reads failures reader = record { left = remaining reader; reads = reads reader; failures = failures reader }
+input_seen remaining reads failures reader = record
+    { left = remaining reader; reads = reads reader; failures = failures reader }
 
+-- the same of a writer
 abbrev pub output_seen : {W : Type 0} → (W → Option (List ℕ)) → (W → ℕ) → W → OutputSeen
 output_seen contents failures writer = record { bytes = contents writer; failures = failures writer }
 

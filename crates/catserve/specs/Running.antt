@@ -59,7 +59,8 @@ pub record PlaysOne (round : RoundValue) (was now : StoreValue) (before after : 
 
 -- these rounds were played behind a store's loads: what comes behind them in a script goes on from here
 pub record HasPlayed (rounds : List RoundValue) (was now : StoreValue) (output : List ℕ) : Type 0 where
-  pub going : (rest : List RoundValue) (tail : List ℕ) → PlaysAll (joined now.seen.batches) rest tail → PlaysAll (joined was.seen.batches) (rounds ++ rest) (output ++ tail)
+  pub going : (rest : List RoundValue) (tail : List ℕ) → PlaysAll (joined now.seen.batches) rest tail
+      → PlaysAll (joined was.seen.batches) (rounds ++ rest) (output ++ tail)
   pub none_pending : now.pending ≡ []
   pub book : now.seen.book ≡ was.seen.book
 

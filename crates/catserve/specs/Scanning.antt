@@ -52,7 +52,8 @@ fields_left None = []
 -- a letter that may stand behind a backslash was cut off: the byte that it stands for, and the rest
 abbrev pub SplitsEscape : Option (ℕ × Bor (List ℕ)) → List ℕ → Type 0
 SplitsEscape None text = (letter : ℕ) (rest : List ℕ) → text ≡ letter ∷ rest → escaped_byte letter ≡ None
-SplitsEscape (Some (byte, rest)) text = (letter : ℕ) × (text ≡ letter ∷ rest.now) × (escaped_byte letter ≡ Some byte) × (letter < 128) × (byte < 128)
+SplitsEscape (Some (byte, rest)) text = (letter : ℕ) × (text ≡ letter ∷ rest.now) × (escaped_byte letter ≡ Some byte)
+    × (letter < 128) × (byte < 128)
 
 -- the fault of a line with this number
 abbrev pub IsLineFault : LineFault → ℕ → ScriptFault → Type 0

@@ -17,6 +17,7 @@ pub record LoadText : Type 0 where
 
 -- ---- commands
 
+-- one more load, one more question, or the end of a round
 pub data Command : Type 0 where
   Load : (load : LoadText) → Command
   Ask : (worker : Worker) (query : QueryValue) → Command
@@ -32,7 +33,12 @@ abbrev pub saying : Option Line → List (List ℕ) → Saying
 saying None behind = IsBad
 saying (Some Blank) behind = Says [] 0
 saying (Some (Loads domain locale options count)) behind =
-    if nat_le count (length behind) then Says (Load (record { domain = domain; locale = locale; options = options; text = concat (take count behind) }) ∷ []) count else IsBad
+    if nat_le count (length behind) then Says (Load (record {
+      domain = domain;
+      locale = locale;
+      options = options;
+      text = concat (take count behind);
+    }) ∷ []) count else IsBad
 saying (Some (Asks worker query)) behind = Says (Ask worker query ∷ []) 0
 saying (Some Goes) behind = Says (Go ∷ []) 0
 
@@ -48,7 +54,8 @@ and_then (Says commands text) number behind = in_front commands (behind text) wh
 abbrev pub commands_from : ℕ → ℕ → List (List ℕ) → Result (List Command) ℕ
 commands_from number text [] = Ok []
 commands_from number (suc text) (line ∷ rest) = commands_from (number + 1) text rest
-commands_from number zero (line ∷ rest) = and_then (saying (line_of (without_end line)) rest) number (λ text. commands_from (number + 1) text rest)
+commands_from number zero (line ∷ rest) = and_then (saying (line_of (without_end line)) rest) number
+    (λ text. commands_from (number + 1) text rest)
 
 -- ---- rounds
 
@@ -58,21 +65,30 @@ pub record RoundValue : Type 0 where
   pub first : List QueryValue
   pub second : List QueryValue
 
+-- the load of a command, if it is one
 abbrev pub load_in : Command → Option LoadText
 load_in (Load load) = Some load
 load_in _ = None
 
+-- the question of a command, if it asks the first worker
 abbrev pub asked_first : Command → Option QueryValue
 asked_first (Ask First query) = Some query
 asked_first _ = None
 
+-- the question of a command, if it asks the second worker
 abbrev pub asked_second : Command → Option QueryValue
 asked_second (Ask Second query) = Some query
 asked_second _ = None
 
+-- the round of these commands
 abbrev pub round_of : List Command → RoundValue
-round_of commands = record { loads = filter_map load_in commands; first = filter_map asked_first commands; second = filter_map asked_second commands }
+round_of commands = record {
+  loads = filter_map load_in commands;
+  first = filter_map asked_first commands;
+  second = filter_map asked_second commands;
+}
 
+-- the end of a round
 abbrev pub is_go : Command → Bool
 is_go Go = true
 is_go _ = false
@@ -81,6 +97,7 @@ is_go _ = false
 abbrev pub rounds_of : List Command → List RoundValue
 rounds_of commands = map round_of (pieces is_go commands)
 
+-- the rounds of these commands, or the first bad line
 abbrev pub rounds_in : Result (List Command) ℕ → Result (List RoundValue) ℕ
 rounds_in (Ok commands) = Ok (rounds_of commands)
 rounds_in (Err bad) = Err bad

@@ -44,7 +44,8 @@ impl<'a> Fields<'a> {
 
     /// The next field. `Bad` where there is none.
     pub(crate) fn next(&mut self) -> Result<&'a str, LineFault>
-        ensures { MatchResult result (λ field. self.old ≡ field.now ∷ self.new) (λ fault. (fault ≡ LineFault.Bad) × (self.old ≡ [])) }
+        ensures { MatchResult result (λ field. self.old ≡ field.now ∷ self.new)
+            (λ fault. (fault ≡ LineFault.Bad) × (self.old ≡ [])) }
     {
         let Some(text) = self.rest else {
             return Err(LineFault::Bad);

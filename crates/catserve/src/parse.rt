@@ -40,8 +40,10 @@ fn take_in<'a>(
     number: u32,
 ) -> Result<(&'a str, u32), LineFault>
     requires { number + length behind.now + 1 < 2 ^ 32 }
-    ensures ok { IfOk result (λ next. TakesIn rounds.old rounds.new (line_value line.entry) behind.now number next.0.now next.1) }
-    ensures bad { IfErr result (λ fault. fault ≡ LineFault.Bad → saying (Some (line_value line.entry)) (lines behind.now) ≡ IsBad) }
+    ensures ok { IfOk result (λ next.
+        TakesIn rounds.old rounds.new (line_value line.entry) behind.now number next.0.now next.1) }
+    ensures bad { IfErr result (λ fault.
+        fault ≡ LineFault.Bad → saying (Some (line_value line.entry)) (lines behind.now) ≡ IsBad) }
 {
     match line {
         Line::Blank => Ok((behind, number + 1)),

@@ -20,7 +20,8 @@ fn make_load(
     load: &LoadText<'_>,
     output: &mut Vec<u8>,
 ) -> Result<(), ScriptKind>
-    ensures ok { IfOk result (λ _. LoadsOne load.now publisher.old.pending publisher.new.pending output.old.items output.new.items) }
+    ensures ok { IfOk result (λ _.
+        LoadsOne load.now publisher.old.pending publisher.new.pending output.old.items output.new.items) }
     ensures fault { IsWorkerFault result }
     ensures seen { publisher.new.seen ≡ publisher.old.seen }
 {
@@ -40,7 +41,8 @@ fn make_loads(
     loads: &[LoadText<'_>],
     output: &mut Vec<u8>,
 ) -> Result<(), ScriptKind>
-    ensures ok { IfOk result (λ _. LoadsAll loads.now publisher.old.pending publisher.new.pending output.old.items output.new.items) }
+    ensures ok { IfOk result (λ _.
+        LoadsAll loads.now publisher.old.pending publisher.new.pending output.old.items output.new.items) }
     ensures fault { IsWorkerFault result }
     ensures seen { publisher.new.seen ≡ publisher.old.seen }
 {
@@ -88,7 +90,8 @@ pub(crate) fn play<R: Threads + Wait>(
     requires books { (first.old.book ≡ publisher.old.seen.book) × (second.old.book ≡ publisher.old.seen.book) }
     ensures ok { IfOk result (λ _. PlaysOne round.now publisher.old publisher.new output.old.items output.new.items) }
     ensures fault { IsWorkerFault result }
-    ensures same { (publisher.new.seen.book ≡ publisher.old.seen.book) × (first.new.book ≡ first.old.book) × (second.new.book ≡ second.old.book) }
+    ensures same { (publisher.new.seen.book ≡ publisher.old.seen.book) × (first.new.book ≡ first.old.book)
+        × (second.new.book ≡ second.old.book) }
 {
     make_loads(alloc, publisher, round.loads.as_slice(), output)?;
     let Ok(version) = publisher.publish(rt) else {

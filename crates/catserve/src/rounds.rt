@@ -24,7 +24,8 @@ impl<'a> Model for LoadText<'a> {
 
     ghost Value = { LoadValue };
 
-    ghost view = { λ l. record { domain = l.domain.now; locale = l.locale.now; options = l.options; text = l.text.now } };
+    ghost view = { λ l.
+        record { domain = l.domain.now; locale = l.locale.now; options = l.options; text = l.text.now } };
 }
 
 /// A round: its loads, and what the two workers are asked.

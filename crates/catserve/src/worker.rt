@@ -20,7 +20,8 @@ fn answer(
     output: &mut Vec<u8>,
 ) -> Result<(), ScriptKind>
     requires { StartsWith reader.old.batches notice.now.batches }
-    ensures ok { IfOk result (λ _. AnswersOne (joined notice.now.batches) worker query.now output.old.items output.new.items) }
+    ensures ok { IfOk result (λ _.
+        AnswersOne (joined notice.now.batches) worker query.now output.old.items output.new.items) }
     ensures fault { IsWorkerFault result }
     ensures seen { StartsWith reader.new.batches notice.now.batches }
     ensures book { reader.new.book ≡ reader.old.book }

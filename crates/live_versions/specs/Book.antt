@@ -16,7 +16,8 @@ abbrev pub head_of : Book → Named
 head_of b = record { tracked = true; key = 0; book = b }
 
 -- the batch was added to all that had been seen, or the book is further
-abbrev pub Adds : List LoadValue → Step (List LoadValue) → View (List LoadValue) ℕ → ℕ → View (List LoadValue) ℕ → Type 0
+abbrev pub Adds : List LoadValue → Step (List LoadValue) → View (List LoadValue) ℕ → ℕ → View (List LoadValue) ℕ
+    → Type 0
 Adds batch s v found w = found ≡ s.old → w.0 ≡ v.0 ++ batch ∷ []
 
 -- a batch behind what was seen, if there is one

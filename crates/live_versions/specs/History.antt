@@ -39,7 +39,8 @@ state_of history = fold after opened history
 
 -- the version is that of what is published after some first events
 abbrev pub WasPublished : List Event → ℕ → Type 0
-WasPublished history version = (first rest : List Event) × (history ≡ first ++ rest) × (version ≡ version_of (state_of first).batches)
+WasPublished history version = (first rest : List Event) × (history ≡ first ++ rest)
+    × (version ≡ version_of (state_of first).batches)
 
 -- an event may happen behind these ones, in a store that accepts so many loads at most
 abbrev pub MayFollow : ℕ → List Event → Event → Type 0
@@ -51,7 +52,8 @@ MayFollow most history (Learn reader version) = WasPublished history version
 
 -- each event may follow those before it
 abbrev pub IsLegal : ℕ → List Event → Type 0
-IsLegal most history = (first : List Event) (event : Event) (rest : List Event) → history ≡ first ++ event ∷ rest → MayFollow most first event
+IsLegal most history = (first : List Event) (event : Event) (rest : List Event) → history ≡ first ++ event ∷ rest
+    → MayFollow most first event
 
 -- the version is that of whole batches at the front of what is published
 abbrev pub IsWhole : State → ℕ → Type 0
@@ -61,15 +63,19 @@ IsWhole s version = (front : List (List LoadValue)) × StartsWith s.batches fron
 
 -- in every legal history the version that a reader has seen never falls
 abbrev pub NeverFalls : Type 0
-NeverFalls = (most : ℕ) (first rest : List Event) (reader : ℕ) → IsLegal most (first ++ rest) → (state_of first).seen reader ≤ (state_of (first ++ rest)).seen reader
+NeverFalls = (most : ℕ) (first rest : List Event) (reader : ℕ) → IsLegal most (first ++ rest)
+    → (state_of first).seen reader ≤ (state_of (first ++ rest)).seen reader
 
 -- a reader enters no version below one that it entered or learnt of before
 abbrev pub EntersNoLess : Type 0
-EntersNoLess = (most : ℕ) (first between : List Event) (reader version : ℕ) → IsLegal most ((first ++ between) ++ Enter reader version ∷ []) → (state_of first).seen reader ≤ version
+EntersNoLess = (most : ℕ) (first between : List Event) (reader version : ℕ)
+    → IsLegal most ((first ++ between) ++ Enter reader version ∷ []) → (state_of first).seen reader ≤ version
 
 -- each version that a reader enters or learns of, and each that it has seen, is that of whole batches at the front
 abbrev pub SeesWholeBatches : Type 0
-SeesWholeBatches = (most : ℕ) (history : List Event) (reader : ℕ) → IsLegal most history → IsWhole (state_of history) ((state_of history).seen reader)
+SeesWholeBatches = (most : ℕ) (history : List Event) (reader : ℕ) → IsLegal most history
+    → IsWhole (state_of history) ((state_of history).seen reader)
 
 abbrev pub EntersWholeBatches : Type 0
-EntersWholeBatches = (most : ℕ) (history : List Event) (reader version : ℕ) → IsLegal most (history ++ Enter reader version ∷ []) → IsWhole (state_of history) version
+EntersWholeBatches = (most : ℕ) (history : List Event) (reader version : ℕ)
+    → IsLegal most (history ++ Enter reader version ∷ []) → IsWhole (state_of history) version

@@ -11,7 +11,7 @@ use Rattle.live_versions.specs.Seen.{SeenValue}
 use Rattle.live_versions.specs.declared.fault.StoreFault.{StoreFault}
 use Rattle.live_versions.specs.declared.fault.StoreFault.TheVariants.{BadName, VersionsSpent, Refused, Memory}
 
--- what is seen of the store: all that is published; the loads that are pending, and how many loads may be accepted in all
+-- what is seen of the store, which is all that is published; the loads that are pending; how many loads it may accept
 pub record StoreValue : Type 0 where
   pub seen : SeenValue
   pub pending : List LoadValue
@@ -36,11 +36,13 @@ pub record Accepts (s : StoreValue) (domain locale text : List ℕ) (options : O
   pub room : HasRoom s
   pub means : Means text options compiled
   pub stats_are : stats ≡ compiled.stats
-  pub after_is : after ≡ record s { pending = s.pending ++ record { domain = domain; locale = locale; map = compiled.catalogue } ∷ [] }
+  pub after_is : after
+      ≡ record s { pending = s.pending ++ record { domain = domain; locale = locale; map = compiled.catalogue } ∷ [] }
 
 -- the load is refused for this reason, and for none before it; want of memory says nothing
 abbrev pub IsRefused : StoreValue → List ℕ → List ℕ → List ℕ → Options → StoreFault → Type 0
 IsRefused s domain locale text options BadName = ¬ AreNames domain locale
 IsRefused s domain locale text options VersionsSpent = AreNames domain locale × (accepted s ≡ s.most)
-IsRefused s domain locale text options (Refused fault) = AreNames domain locale × HasRoom s × Refuses text options fault.kind fault.line
+IsRefused s domain locale text options (Refused fault) = AreNames domain locale × HasRoom s
+    × Refuses text options fault.kind fault.line
 IsRefused s domain locale text options Memory = ⊤

@@ -34,19 +34,22 @@ impl Model for Entry {
 
     ghost view = { λ e. e.seen };
 
-    ghost invariant = { λ e. (e.reading.part.value.set ≡ fold (joined e.seen.batches)) × ((known e.reading.place).books ≡ e.seen.book ∷ []) × ((known e.reading.place).batches ≡ e.seen.batches) };
+    ghost invariant = { λ e. (e.reading.part.value.set ≡ fold (joined e.seen.batches))
+        × ((known e.reading.place).books ≡ e.seen.book ∷ []) × ((known e.reading.place).batches ≡ e.seen.batches) };
 }
 
 impl Entry {
     pub(crate) fn new(reading: StoreReading, seen: Seen) -> Entry
-        requires { (reading.part.value.set ≡ fold (joined seen.batches)) × ((view reading.place).books ≡ seen.book ∷ []) × ((view reading.place).batches ≡ seen.batches) }
+        requires { (reading.part.value.set ≡ fold (joined seen.batches))
+            × ((view reading.place).books ≡ seen.book ∷ []) × ((view reading.place).batches ≡ seen.batches) }
         ensures { result ≡ seen }
     {
         Entry { reading, seen }
     }
 
     fn leave(self) -> (StoreReader, Seen)
-        ensures { ((view result.0.place).books ≡ self.book ∷ []) × ((view result.0.place).batches ≡ self.batches) × (result.1 ≡ self) }
+        ensures { ((view result.0.place).books ≡ self.book ∷ []) × ((view result.0.place).batches ≡ self.batches)
+            × (result.1 ≡ self) }
     {
         let Entry { reading, seen } = self;
         (reading.leave(), seen)
@@ -79,14 +82,16 @@ impl Pinned<'_> {
     /// The translation of a msgid in a domain and a locale (`catalogue::Catalogue::gettext`), or the msgid where
     /// there is none.
     pub fn gettext<'a>(&'a self, domain: &str, locale: &str, id: &'a str) -> &'a str
-        ensures { HasValue (map_of (joined (entry_of self.now).batches) domain.now locale.now) (Plain id.now) result.now }
+        ensures { HasValue (map_of (joined (entry_of self.now).batches) domain.now locale.now)
+            (Plain id.now) result.now }
     {
         self.set().gettext(domain, locale, id)
     }
 
     /// The translation of a msgid in a context (`pgettext`).
     pub fn pgettext<'a>(&'a self, domain: &str, locale: &str, context: &str, id: &'a str) -> &'a str
-        ensures { HasValue (map_of (joined (entry_of self.now).batches) domain.now locale.now) (Context context.now id.now) result.now }
+        ensures { HasValue (map_of (joined (entry_of self.now).batches) domain.now locale.now)
+            (Context context.now id.now) result.now }
     {
         self.set().pgettext(domain, locale, context, id)
     }
@@ -100,7 +105,8 @@ impl Pinned<'_> {
         plural: &'a str,
         n: u64,
     ) -> &'a str
-        ensures { HasValue (map_of (joined (entry_of self.now).batches) domain.now locale.now) (Number id.now plural.now n) result.now }
+        ensures { HasValue (map_of (joined (entry_of self.now).batches) domain.now locale.now)
+            (Number id.now plural.now n) result.now }
     {
         self.set().ngettext(domain, locale, id, plural, n)
     }
@@ -115,7 +121,8 @@ impl Pinned<'_> {
         plural: &'a str,
         n: u64,
     ) -> &'a str
-        ensures { HasValue (map_of (joined (entry_of self.now).batches) domain.now locale.now) (ContextNumber context.now id.now plural.now n) result.now }
+        ensures { HasValue (map_of (joined (entry_of self.now).batches) domain.now locale.now)
+            (ContextNumber context.now id.now plural.now n) result.now }
     {
         self.set().npgettext(domain, locale, context, id, plural, n)
     }

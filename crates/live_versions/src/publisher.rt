@@ -42,9 +42,13 @@ impl Model for Publisher {
 
     ghost Value = { StoreValue };
 
-    ghost view = { λ p. record { seen = p.seen; pending = loads_of (drop p.writer.behind p.writer.log.items); most = p.most } };
+    ghost view = { λ p.
+        record { seen = p.seen; pending = loads_of (drop p.writer.behind p.writer.log.items); most = p.most } };
 
-    ghost invariant = { λ p. (p.writer.desk.shown.value.seen ≡ p.seen) × ((arc_value p.sealing).head.word.book ≡ p.seen.book) × (p.pending ≡ length (loads_of (drop p.writer.behind p.writer.log.items))) × (version_of p.seen.batches + p.pending ≤ p.most) × (p.most < 2 ^ 64) };
+    ghost invariant = { λ p. (p.writer.desk.shown.value.seen ≡ p.seen)
+        × ((arc_value p.sealing).head.word.book ≡ p.seen.book)
+        × (p.pending ≡ length (loads_of (drop p.writer.behind p.writer.log.items)))
+        × (version_of p.seen.batches + p.pending ≤ p.most) × (p.most < 2 ^ 64) };
 }
 
 /// The name with this text.
@@ -167,7 +171,11 @@ impl Publisher {
     /// them with those that were accepted meanwhile. It waits for readers that entered the copy that it
     /// writes next: a `Pinned` that is never left may keep it from returning.
     pub fn publish<R: Wait>(&mut self, rt: &R) -> Result<Version, PublishFault>
-        ensures ok { IfOk result (λ _. self.new.seen ≡ record { book = self.old.seen.book; batches = published self.old.seen.batches self.old.pending }) }
+        ensures ok { IfOk result (λ _.
+            self.new.seen ≡ record {
+              book = self.old.seen.book;
+              batches = published self.old.seen.batches self.old.pending;
+            }) }
         ensures version { IfOk result (λ version. version ≡ version_of self.new.seen.batches) }
         ensures empty { IfOk result (λ _. self.new.pending ≡ []) }
         ensures err { OnErr result (self.new ≡ self.old) }

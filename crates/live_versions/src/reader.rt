@@ -112,7 +112,9 @@ impl Lookups {
     /// `Closed` leaves the reader as it was. Where memory was refused for the text, the entry may have been
     /// made all the same.
     pub fn ask(&mut self, alloc: Global, query: &Query) -> Result<(Version, String), AskFault>
-        ensures ok { IfOk result (λ answer. (answer.0 ≡ version_of self.new.batches) × IsAnswer (joined self.new.batches) query.now (string_bytes answer.1)) }
+        ensures ok { IfOk result (λ answer.
+            (answer.0 ≡ version_of self.new.batches)
+            × IsAnswer (joined self.new.batches) query.now (string_bytes answer.1)) }
         ensures closed { IfErr result (λ fault. (fault ≡ AskFault.Closed) → (self.new ≡ self.old)) }
         ensures later { StartsWith self.new.batches self.old.batches }
         ensures book { self.new.book ≡ self.old.book }
@@ -146,8 +148,12 @@ impl Lookups {
     /// version. Where more was seen, nothing is changed. It takes no memory.
     pub fn settle(&mut self, notice: &Notice) -> Result<Version, Ahead>
         requires { notice.now.book ≡ self.old.book }
-        ensures ok { IfOk result (λ version. (version ≡ version_of notice.now.batches) × StartsWith notice.now.batches self.old.batches × (self.new ≡ notice.now)) }
-        ensures ahead { IfErr result (λ ahead. (ahead.seen ≡ version_of self.old.batches) × StartsWith self.old.batches notice.now.batches × (version_of notice.now.batches < version_of self.old.batches) × (self.new ≡ self.old)) }
+        ensures ok { IfOk result (λ version.
+            (version ≡ version_of notice.now.batches) × StartsWith notice.now.batches self.old.batches
+            × (self.new ≡ notice.now)) }
+        ensures ahead { IfErr result (λ ahead.
+            (ahead.seen ≡ version_of self.old.batches) × StartsWith self.old.batches notice.now.batches
+            × (version_of notice.now.batches < version_of self.old.batches) × (self.new ≡ self.old)) }
         ensures book { self.new.book ≡ self.old.book }
     {
         if !self.seen.begins(&notice.seen) {

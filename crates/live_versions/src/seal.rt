@@ -140,7 +140,8 @@ impl Model for Seal {
 
     ghost view = { λ s. record { book = s.base.book; batches = s.base.batches ++ s.bundle ∷ [] } };
 
-    ghost invariant = { λ s. ((arc_value s.sealing).head.word.book ≡ s.base.book) × (0 < s.loads) × (s.loads ≡ length s.bundle) × (version_of s.base.batches + s.loads < 2 ^ 64) };
+    ghost invariant = { λ s. ((arc_value s.sealing).head.word.book ≡ s.base.book) × (0 < s.loads)
+        × (s.loads ≡ length s.bundle) × (version_of s.base.batches + s.loads < 2 ^ 64) };
 }
 
 impl Seal {

@@ -133,7 +133,9 @@ impl Seen {
     /// Whether this one begins the other one; else the other one begins it, and is shorter.
     pub(crate) fn begins(&self, other: &Seen) -> bool
         requires { other.now.book ≡ self.now.book }
-        ensures { MatchBool result (StartsWith other.now.batches self.now.batches) (StartsWith self.now.batches other.now.batches × (version_of other.now.batches < version_of self.now.batches)) }
+        ensures { MatchBool result (StartsWith other.now.batches self.now.batches)
+            (StartsWith self.now.batches other.now.batches
+            × (version_of other.now.batches < version_of self.now.batches)) }
     {
         let mut both = self.beginning.again();
         both.learn(&other.beginning);

@@ -42,7 +42,8 @@ fn new_reader(writer: &mut StoreWriter, seen: &Seen) -> Result<Lookups, OpenFaul
     requires { (view writer.old.desk.place).books ≡ seen.now.book ∷ [] }
     ensures reader { IfOk result (λ l. l ≡ seen.now) }
     ensures fault { IfErr result (λ fault. fault ≢ BadCount) }
-    ensures kept { (writer.new.desk.shown ≡ writer.old.desk.shown) × (writer.new.log ≡ writer.old.log) × (writer.new.behind ≡ writer.old.behind) × (view writer.new.desk.place ≡ view writer.old.desk.place) }
+    ensures kept { (writer.new.desk.shown ≡ writer.old.desk.shown) × (writer.new.log ≡ writer.old.log)
+        × (writer.new.behind ≡ writer.old.behind) × (view writer.new.desk.place ≡ view writer.old.desk.place) }
 {
     let Ok(mut reader) = writer.factory().reader() else {
         return Err(OpenFault::NoPlace);
@@ -61,7 +62,8 @@ fn new_readers(
     requires { (view writer.old.desk.place).books ≡ seen.now.book ∷ [] }
     ensures readers { IfOk result (λ v. (vec_len v ≡ readers) × All (λ l. l ≡ seen.now) v.items) }
     ensures fault { IfErr result (λ fault. fault ≢ BadCount) }
-    ensures kept { (writer.new.desk.shown ≡ writer.old.desk.shown) × (writer.new.log ≡ writer.old.log) × (writer.new.behind ≡ writer.old.behind) }
+    ensures kept { (writer.new.desk.shown ≡ writer.old.desk.shown) × (writer.new.log ≡ writer.old.log)
+        × (writer.new.behind ≡ writer.old.behind) }
 {
     let mut lookups = Vec::new(alloc);
     for _ in 0..readers {

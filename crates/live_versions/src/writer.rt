@@ -43,12 +43,20 @@ fn publish_sealed<R: Wait>(
     seal: &Snapshot<Seal>,
 ) -> (StoreWriter, Result<(), AllocError>)
     requires sealed { EndsIn seal.now.value (drop writer.behind writer.log.items) }
-    requires bound { seal.now.value ≡ record { book = writer.desk.shown.value.seen.book; batches = writer.desk.shown.value.seen.batches ++ loads_of (drop writer.behind writer.log.items) ∷ [] } }
+    requires bound { seal.now.value ≡ record {
+      book = writer.desk.shown.value.seen.book;
+      batches = writer.desk.shown.value.seen.batches ++ loads_of (drop writer.behind writer.log.items) ∷ [];
+    } }
     requires some { 0 < length (loads_of (drop writer.behind writer.log.items)) }
-    requires room { version_of writer.desk.shown.value.seen.batches + length (loads_of (drop writer.behind writer.log.items)) < 2 ^ 64 }
-    ensures sum { version_of seal.now.value.batches ≡ version_of writer.desk.shown.value.seen.batches + length (loads_of (drop writer.behind writer.log.items)) }
-    ensures ok { OnOk result.1 ((result.0.desk.shown.value.seen ≡ seal.now.value) × (drop result.0.behind result.0.log.items ≡ [])) }
-    ensures err { OnErr result.1 ((result.0.desk.shown.value ≡ writer.desk.shown.value) × (drop result.0.behind result.0.log.items ≡ drop writer.behind writer.log.items)) }
+    requires room { version_of writer.desk.shown.value.seen.batches
+        + length (loads_of (drop writer.behind writer.log.items)) < 2 ^ 64 }
+    ensures sum { version_of seal.now.value.batches
+        ≡ version_of writer.desk.shown.value.seen.batches + length (loads_of (drop writer.behind writer.log.items)) }
+    ensures ok { OnOk result.1
+        ((result.0.desk.shown.value.seen ≡ seal.now.value) × (drop result.0.behind result.0.log.items ≡ [])) }
+    ensures err { OnErr result.1
+        ((result.0.desk.shown.value ≡ writer.desk.shown.value)
+        × (drop result.0.behind result.0.log.items ≡ drop writer.behind writer.log.items)) }
 {
     writer.publish_as::<Publishing, R>(rt)
 }
@@ -60,12 +68,23 @@ pub(crate) fn publish_at<R: Wait>(
     seal: &Snapshot<Seal>,
 ) -> Result<(), AllocError>
     requires sealed { EndsIn seal.now.value (drop writer.old.behind writer.old.log.items) }
-    requires bound { seal.now.value ≡ record { book = writer.old.desk.shown.value.seen.book; batches = writer.old.desk.shown.value.seen.batches ++ loads_of (drop writer.old.behind writer.old.log.items) ∷ [] } }
+    requires bound { seal.now.value
+        ≡ record {
+          book = writer.old.desk.shown.value.seen.book;
+          batches = writer.old.desk.shown.value.seen.batches
+              ++ loads_of (drop writer.old.behind writer.old.log.items) ∷ [];
+        } }
     requires some { 0 < length (loads_of (drop writer.old.behind writer.old.log.items)) }
-    requires room { version_of writer.old.desk.shown.value.seen.batches + length (loads_of (drop writer.old.behind writer.old.log.items)) < 2 ^ 64 }
-    ensures sum { version_of seal.now.value.batches ≡ version_of writer.old.desk.shown.value.seen.batches + length (loads_of (drop writer.old.behind writer.old.log.items)) }
-    ensures ok { OnOk result ((writer.new.desk.shown.value.seen ≡ seal.now.value) × (drop writer.new.behind writer.new.log.items ≡ [])) }
-    ensures err { OnErr result ((writer.new.desk.shown.value ≡ writer.old.desk.shown.value) × (drop writer.new.behind writer.new.log.items ≡ drop writer.old.behind writer.old.log.items)) }
+    requires room { version_of writer.old.desk.shown.value.seen.batches
+        + length (loads_of (drop writer.old.behind writer.old.log.items)) < 2 ^ 64 }
+    ensures sum { version_of seal.now.value.batches
+        ≡ version_of writer.old.desk.shown.value.seen.batches
+        + length (loads_of (drop writer.old.behind writer.old.log.items)) }
+    ensures ok { OnOk result
+        ((writer.new.desk.shown.value.seen ≡ seal.now.value) × (drop writer.new.behind writer.new.log.items ≡ [])) }
+    ensures err { OnErr result
+        ((writer.new.desk.shown.value ≡ writer.old.desk.shown.value)
+        × (drop writer.new.behind writer.new.log.items ≡ drop writer.old.behind writer.old.log.items)) }
 {
     replace_with(writer, rt, |writer, rt| publish_sealed(rt, writer, seal))
 }
@@ -73,8 +92,11 @@ pub(crate) fn publish_at<R: Wait>(
 /// One more load behind those that are pending.
 pub(crate) fn append_load(writer: &mut StoreWriter, load: Load) -> Result<(), AllocError>
     ensures desk { writer.new.desk ≡ writer.old.desk }
-    ensures ok { OnOk result (loads_of (drop writer.new.behind writer.new.log.items) ≡ loads_of (drop writer.old.behind writer.old.log.items) ++ load ∷ []) }
-    ensures err { OnErr result (drop writer.new.behind writer.new.log.items ≡ drop writer.old.behind writer.old.log.items) }
+    ensures ok { OnOk result
+        (loads_of (drop writer.new.behind writer.new.log.items)
+        ≡ loads_of (drop writer.old.behind writer.old.log.items) ++ load ∷ []) }
+    ensures err { OnErr result
+        (drop writer.new.behind writer.new.log.items ≡ drop writer.old.behind writer.old.log.items) }
 {
     match writer.append(Change::Load(load)) {
         Ok(()) => Ok(()),
@@ -85,7 +107,8 @@ pub(crate) fn append_load(writer: &mut StoreWriter, load: Load) -> Result<(), Al
 /// The seal behind the pending loads.
 pub(crate) fn append_seal(writer: &mut StoreWriter, seal: Seal) -> Result<(), AllocError>
     ensures desk { writer.new.desk ≡ writer.old.desk }
-    ensures loads { loads_of (drop writer.new.behind writer.new.log.items) ≡ loads_of (drop writer.old.behind writer.old.log.items) }
+    ensures loads { loads_of (drop writer.new.behind writer.new.log.items)
+        ≡ loads_of (drop writer.old.behind writer.old.log.items) }
     ensures ok { OnOk result (EndsIn seal (drop writer.new.behind writer.new.log.items)) }
 {
     match writer.append(Change::Seal(seal)) {

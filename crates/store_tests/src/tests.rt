@@ -114,11 +114,10 @@ fn loads_are_published_together(rt: HostRuntime) -> Result<(), Fail> {
     };
     let found = publish_two(&rt, rt.alloc(), &mut publisher, &mut reader);
     publisher.end(&rt);
-    assert_eq!(rt; found.loads, (Ok(ONE), Ok(ONE)));
-    assert_eq!(rt; (found.before, found.first), ((2, 0), Some(2)));
-    assert!(rt; found.shown);
-    assert_eq!(rt; (found.refused, found.pending), (Err(DUPLICATE), 0));
-    assert_eq!(rt; (found.second, found.still), (Some(2), true));
+    assert!(rt; found.loads == (Ok(ONE), Ok(ONE)));
+    assert!(rt; found.before == (2, 0) && found.first == Some(2) && found.shown);
+    assert!(rt; found.refused == Err(DUPLICATE) && found.pending == 0);
+    assert!(rt; found.second == Some(2) && found.still);
     Ok(())
 }
 
@@ -202,17 +201,10 @@ fn notices_are_learnt(rt: HostRuntime) -> Result<(), Fail> {
     };
     let found = tell_two(&rt, rt.alloc(), &mut publisher, &mut reader);
     publisher.end(&rt);
-    assert!(rt; found.empty);
-    assert_eq!(rt;
-        (found.published, found.notice, found.seen),
-        (Some(1), 1, 1)
-    );
-    assert_eq!(rt; (found.shown, found.again), (true, true));
-    assert_eq!(rt; (found.answered, found.settled), (Some((1, true)), Ok(1)));
-    assert_eq!(rt;
-        (found.second, found.ahead),
-        (Some(2), Err(Ahead { seen: 2 }))
-    );
+    assert!(rt; found.empty && found.shown && found.again);
+    assert!(rt; found.published == Some(1) && found.notice == 1 && found.seen == 1);
+    assert!(rt; found.answered == Some((1, true)) && found.settled == Ok(1));
+    assert!(rt; found.second == Some(2) && found.ahead == Err(Ahead { seen: 2 }));
     Ok(())
 }
 
@@ -260,12 +252,9 @@ fn loads_are_refused_in_order(rt: HostRuntime) -> Result<(), Fail> {
     let [name, first, second, empty] = load_four(rt.alloc(), &mut publisher);
     let pending = publisher.pending();
     publisher.end(&rt);
-    assert_eq!(rt; (name, first), (Err(StoreFault::BadName), Ok(ONE)));
-    assert_eq!(rt;
-        (second, empty),
-        (Err(StoreFault::VersionsSpent), Err(StoreFault::BadName))
-    );
-    assert_eq!(rt; pending, 1);
+    assert!(rt; name == Err(StoreFault::BadName) && first == Ok(ONE));
+    assert!(rt; second == Err(StoreFault::VersionsSpent) && empty == Err(StoreFault::BadName));
+    assert!(rt; pending == 1);
     Ok(())
 }
 
@@ -305,7 +294,7 @@ fn readers_enter_side_by_side(rt: HostRuntime) -> Result<(), Fail> {
     };
     let found = both_learn(&rt, rt.alloc(), &mut publisher, &mut first, &mut second);
     publisher.end(&rt);
-    assert_eq!(rt; found, Ok((true, true)));
+    assert!(rt; found == Ok((true, true)));
     Ok(())
 }
 
@@ -339,8 +328,8 @@ fn entries_answer_each_call(rt: HostRuntime) -> Result<(), Fail> {
     let found = look_all(rt.alloc(), &mut reader);
     publisher.end(&rt);
     let closed = !shows(&mut reader, 1, "hi", "hi", "hi");
-    assert_eq!(rt; (loaded, published), (Ok(ONE), Ok(1)));
-    assert_eq!(rt; found, Ok([true; 6]));
+    assert!(rt; loaded == Ok(ONE) && published == Ok(1));
+    assert!(rt; found == Ok([true; 6]));
     assert!(rt; closed);
     Ok(())
 }
@@ -421,7 +410,7 @@ fn readers_never_go_back(rt: HostRuntime) -> Result<(), Fail> {
     hand_over(&publisher, &first, &notice);
     let found = in_threads(&rt, rt.alloc(), &mut publisher, &mut first, &mut second);
     publisher.end(&rt);
-    assert_eq!(rt; found, (200, true));
+    assert!(rt; found == (200, true));
     Ok(())
 }
 
