@@ -102,6 +102,23 @@ COMPILED = [
     (b'msgctxt ""\n' + charset(b"koi8"), {b"\4": b"Content-Type: text/plain; charset=koi8\n"}),
     (b'msgid ""\nmsgid_plural ""\nmsgstr[0] ""\nmsgstr[1] "charset=koi8"\n', {}),
     (b'msgid ""\nmsgid_plural "p"\nmsgstr[0] "x"\nmsgstr[1] "charset=koi8"\n', {b"\0p": b"x\0charset=koi8"}),
+    # whole texts
+    (B + A + header(rb'"Language: fr\n"'), {b"": b"Language: fr\n", b"a": b"x", b"b": b"y"}),
+    (
+        b'msgctxt "menu"\nmsgid "a"\nmsgstr "1"\nmsgid "a"\nmsgstr "2"\nmsgctxt ""\nmsgid "a"\nmsgstr "3"\n',
+        {b"\4a": b"3", b"a": b"2", b"menu\4a": b"1"},
+    ),
+    (MANY + b'msgstr[0] "x"\nmsgstr[1] ""\nmsgstr[2] "z"\n', {b"a\0b": b"x\0\0z"}),
+    (b'msgid "f"\nmsgid_plural ""\nmsgstr[0] "x"\nmsgid "ff"\nmsgstr "y"\n', {b"f\0": b"x", b"ff": b"y"}),
+    (b"#, fuzzy\n" + header(b'"h"') + b"#, fuzzy\n" + A + b'msgid "c"\nmsgstr ""\n', {b"": b"h"}),
+    (
+        'msgid "a" "\\n\\t\\\\"\nmsgstr "\\001" "é"\n#~ msgid "old"\n#~ msgstr "gone"\n'.encode(),
+        {b"a\n\t\\": b"\1\xc3\xa9"},
+    ),
+    (
+        'msgid "é"\nmsgstr "1"\nmsgid "z"\nmsgstr "2"\nmsgid "ez"\nmsgstr "3"\nmsgid "e"\nmsgstr "4"\n'.encode(),
+        {b"e": b"4", b"ez": b"3", b"z": b"2", b"\xc3\xa9": b"1"},
+    ),
 ]
 
 # Each text, the line that is named, and why it is refused.
@@ -222,6 +239,10 @@ REFUSED = [
     (b"#, fuzzy\n" + charset(b"koi8"), 2, "unsupported charset"),
     (header(b'"Charset=UTF-8 xcharset=koi8 charset=UTF-8"'), 1, "unsupported charset"),
     (header(b'"charset" "=koi8"'), 1, "unsupported charset"),
+    (b'msgid ""\nmsgstr ""\n"Content-Type: text/plain; charset=KOI8-R\\n"\n', 1, "unsupported charset"),
+    (b'msgid "a"\nmsgstr ""\n' + B + A, 5, "duplicate message"),
+    (b'msgid "a\nmsgstr "b"\n', 1, "string not closed"),
+    (b'msgid "a"\nmsgstr[0] "b"\n', 2, "out of order"),
     (b'msgid ""\nmsgid_plural "p"\nmsgstr[0] "charset=koi8"', 1, "unsupported charset"),
 ]
 
