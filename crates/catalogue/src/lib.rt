@@ -22,4 +22,5 @@ pub use lookup::untranslated;
 pub use map::Catalogue;
 pub use mo_image::{EntryRef, EntryStrings, Forms};
 pub use po_checks::{LoadFault, LoadKind, Options};
+pub use po_text::MAX_TEXT;
 pub use sorted::Message;

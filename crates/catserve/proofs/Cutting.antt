@@ -10,7 +10,8 @@ use Rattle.std.specs.Str.{IsUtf8}
 use Rattle.std.proofs.lemmas.Str.{IsUtf8-drop, IsUtf8-nil, IsCharBoundary-after_ascii}
 use Rattle.catserve.specs.Lines.{pieces, is_line_end, is_tab, fields}
 use Rattle.bstr.specs.Find.{IsFirstByte, is_byte}
-use Rattle.catserve.specs.Scanning.{IsCut, IsFirstLine}
+use Rattle.text_cut.specs.Cut.{IsCut}
+use Rattle.catserve.specs.Scanning.{IsFirstLine}
 
 -- ---- pieces
 
@@ -67,16 +68,6 @@ utf8_behind c text front behind utf8 e small =
 
 pub cut_get : (n : ℕ) (xs : List ℕ) (k : ℕ) → k < length (take n xs) → get_or (take n xs) k 0 ≡ get_or xs k 0
 cut_get n xs k below = sym (get_or_append_left (take n xs) (drop n xs) 0 k below) ∙ ap (λ zs. get_or zs k 0) (take-append-drop n xs)
-
--- what a search for a byte says of the place where the text is cut
-pub cuts_at : (byte : ℕ) (text front behind : List ℕ) (k : ℕ) → IsFirstByte (is_byte byte) text (Some k) → front ≡ slice_range text 0 k → behind ≡ drop (k + 1) text → IsCut byte text front behind
-cuts_at byte text front behind k found e f =
-    let at : position_or_len (is_byte byte) text ≡ k = position_or_len_is (is_byte byte) text k 0 (omega (arith, found.0.high)) (λ i lt. false_from_ne_true _ (found.0.before i (omega arith) lt)) (λ lt. found.1) in
-    let all : k - 0 ≡ k = omega arith in
-    record { within = omega (arith, at, found.0.high); front_is = rw at (e ∙ ap (λ n. take n text) all); behind_is = rw at f }
-
-pub cuts_nowhere : (byte : ℕ) (text : List ℕ) → IsFirstByte (is_byte byte) text None → position_or_len (is_byte byte) text ≡ length text
-cuts_nowhere byte text none = position_or_len_is (is_byte byte) text (length text) 0 (omega arith) (λ i lt. false_from_ne_true _ (none i (omega arith) lt)) (λ lt. absurd (omega arith))
 
 -- the byte stands between the two parts
 pub cut_whole : (byte : ℕ) (text front behind : List ℕ) → IsCut byte text front behind → text ≡ front ++ byte ∷ behind

@@ -1,6 +1,6 @@
 -- Private: how a script is read, part by part.
 use Rattle.std.specs.Prelude.{◌≡◌, ⊤, ℕ, ◌+◌, ◌<◌, ◌≤◌, List, [], ◌∷◌, ◌++◌, length, take, drop, Option, Some, None, Result, Ok, Err}
-use Rattle.std.specs.List.{concat, position_or_len, before_first, after_first}
+use Rattle.std.specs.List.{concat}
 use Rattle.catserve.specs.declared.fault.LineFault.{LineFault}
 use Rattle.catserve.specs.declared.fault.LineFault.TheVariants.{Bad, Memory}
 use denote.Ref.{Bor}
@@ -11,7 +11,6 @@ use Rattle.catserve.specs.Script.{RoundValue}
 use Rattle.catserve.specs.Texts.{IsRefused}
 use Rattle.catserve.specs.Lines.{lines, without_end, fields}
 use Rattle.std.specs.Str.{IsUtf8}
-use Rattle.bstr.specs.Find.{is_byte}
 use Rattle.std.specs.Option.{option_map}
 use Rattle.catserve.specs.Fields.{escaped_byte, unescaped}
 
@@ -20,12 +19,6 @@ abbrev pub Reads : {T V : Type 0} → (T → V) → Result T LineFault → Optio
 Reads value (Ok x) meant = meant ≡ Some (value x)
 Reads value (Err Bad) meant = meant ≡ None
 Reads value (Err Memory) meant = ⊤
-
--- the text has such a byte, and these stand before and behind the first one
-pub record IsCut (byte : ℕ) (text front behind : List ℕ) : Type 0 where
-  pub within : position_or_len (is_byte byte) text < length text
-  pub front_is : front ≡ before_first (is_byte byte) text
-  pub behind_is : behind ≡ after_first (is_byte byte) text
 
 -- the text begins with this line, and the rest follows
 pub record IsFirstLine (text line rest : List ℕ) : Type 0 where

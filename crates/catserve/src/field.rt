@@ -5,10 +5,10 @@ ghost use Rattle.std.specs.Char.{is_ascii_digit};
 ghost use Rattle.catserve.specs.Fields.{number, unescaped, escaped_byte, options_of, worker_of};
 ghost use Rattle.catserve.specs.Scanning.{Reads, SplitsEscape};
 
-use crate::cut::split_at_byte;
 use crate::fault::LineFault;
 use catalogue::Options;
 use std::alloc::Global;
+use text_cut::split_at_byte;
 
 /// A worker, who answers questions.
 #[derive(Clone, Copy, Debug, PartialEq, Eq)]

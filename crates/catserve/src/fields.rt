@@ -4,9 +4,9 @@ ghost use Rattle.std.specs.Option.{option_copied};
 ghost use Rattle.catserve.specs.Lines.{fields};
 ghost use Rattle.catserve.specs.Scanning.{fields_left};
 
-use crate::cut::split_at_byte;
 use crate::fault::LineFault;
 use std::marker::Model;
+use text_cut::split_at_byte;
 
 /// The fields of a line that aren't read yet. Contracts see them as a list of texts.
 #[derive(Drop)]

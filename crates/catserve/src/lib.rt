@@ -5,7 +5,6 @@
 #![tactic(auto)]
 
 mod command;
-mod cut;
 mod fault;
 mod field;
 mod fields;

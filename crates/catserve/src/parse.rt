@@ -11,11 +11,12 @@ use crate::command::{Line, read_line};
 use crate::fault::{LineFault, ScriptFault, ScriptKind};
 use crate::line::{split_line, take_lines};
 use crate::rounds::{LoadText, Round, Rounds};
+use catalogue::MAX_TEXT;
 use simdutf8::compat::from_utf8;
 use std::alloc::Global;
 
-/// The most bytes that a script may have.
-pub const MOST_SCRIPT: usize = 67_108_864;
+/// The most bytes that a script may have: as many as a PO text.
+pub const MOST_SCRIPT: usize = MAX_TEXT;
 
 /// The fault of a line.
 fn fault_at(fault: LineFault, line: u32) -> ScriptFault

@@ -3,11 +3,10 @@ ghost use Rattle.std.specs.Prelude.{◌≡◌, MatchResult, IfOk, IfErr, OnOk, O
 ghost use Rattle.live_set.specs.Loads.{is_for};
 ghost use Rattle.live_set.specs.Sets.{no_loads, map_in, HasAbsorbed, absorbed};
 ghost use Rattle.live_set.specs.Asks.{HasValue, Plain, Context, Number, ContextNumber};
-ghost use Rattle.catalogue.specs.Value.{text_by};
 ghost use Rattle.live_set.specs.Slots.{slotted, IsAt, IsGapFor};
 
 use crate::{Ask, Load, Query};
-use catalogue::Catalogue;
+use catalogue::{Catalogue, untranslated};
 use std::alloc::{AllocError, Global};
 use std::marker::Model;
 use text_key::TextKey;
@@ -30,13 +29,6 @@ impl Model for CatalogueSet {
     ghost view = { λ set. record { version = set.version; held = set.held.items } };
 
     ghost invariant = { λ set. Rises set.held.items };
-}
-
-/// The msgid for 1, and the plural for other numbers.
-fn untranslated<'a>(id: &'a str, plural: &'a str, n: u64) -> &'a str
-    ensures { result.now ≡ text_by n id.now plural.now }
-{
-    if n == 1 { id } else { plural }
 }
 
 impl CatalogueSet {

@@ -6,8 +6,11 @@ ghost use Rattle.mo_file.specs.Behind.{IsInOrder, StandBehind};
 ghost use Rattle.mo_file.specs.Pairs.{named_in};
 ghost use Rattle.mo_file.specs.MoReading.{table_at, file_by, TableLies, PassesBelow};
 
-use crate::rows::{HEADER_LEN, ROW_LEN, word};
+use crate::rows::word;
 use byteorder::LittleEndian;
+use mo_image::{
+    COUNT_AT, HASH_SIZE_AT, HASH_TABLE_AT, HEADER_LEN, ORIGINALS_AT, ROW_LEN, TRANSLATIONS_AT,
+};
 
 /// Whether the tables of n rows stand behind the header, and there is no hash table.
 fn is_in_order(bytes: &[u8], n: usize) -> bool
@@ -15,10 +18,10 @@ fn is_in_order(bytes: &[u8], n: usize) -> bool
     requires count { n < 2 ^ 32 }
     ensures { IsTrue result → IsInOrder bytes.now n }
 {
-    word::<LittleEndian>(bytes, 12) == HEADER_LEN
-        && word::<LittleEndian>(bytes, 16) == HEADER_LEN + ROW_LEN * n
-        && word::<LittleEndian>(bytes, 20) == 0
-        && word::<LittleEndian>(bytes, 24) == HEADER_LEN + 2 * ROW_LEN * n
+    word::<LittleEndian>(bytes, ORIGINALS_AT) == HEADER_LEN
+        && word::<LittleEndian>(bytes, TRANSLATIONS_AT) == HEADER_LEN + ROW_LEN * n
+        && word::<LittleEndian>(bytes, HASH_SIZE_AT) == 0
+        && word::<LittleEndian>(bytes, HASH_TABLE_AT) == HEADER_LEN + 2 * ROW_LEN * n
 }
 
 /// Where the strings of a table's n rows end, if they stand one behind the other from `start` on.
@@ -46,7 +49,7 @@ pub(crate) fn is_own(bytes: &[u8]) -> bool
     requires { PassesBelow (file_by little_number bytes.now) 12 }
     ensures { IsTrue result → bytes.now ≡ spelling (named_in little_number bytes.now) }
 {
-    let n = word::<LittleEndian>(bytes, 8);
+    let n = word::<LittleEndian>(bytes, COUNT_AT);
     if !is_in_order(bytes, n) {
         return false;
     }

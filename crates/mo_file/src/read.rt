@@ -8,11 +8,13 @@ ghost use Rattle.mo_file.specs.Pairs.{plural_part, entry_of, named, named_in};
 use crate::fault::MoFault;
 use crate::own::is_own;
 use crate::refusals::{check_all, is_low_first};
-use crate::rows::{ROW_LEN, string, word};
+use crate::rows::{string, word};
 use crate::write::write_mo;
 use byteorder::{BigEndian, ByteOrder, LittleEndian};
 use catalogue::{Catalogue, EntryStrings};
+use mo_image::{COUNT_AT, ORIGINALS_AT, ROW_LEN, TRANSLATIONS_AT};
 use std::alloc::{AllocError, Global};
+use text_cut::split_at_byte;
 
 /// The string of a row, which was tested to be a text.
 fn text<T: ByteOrder>(bytes: &[u8], place: usize) -> &str
@@ -30,7 +32,7 @@ fn split_original(original: &str) -> (&str, Option<&str>)
     ensures key { result.0.now ≡ before_nul original.now }
     ensures plural { option_map (λ s. s.now) result.1 ≡ plural_part original.now }
 {
-    match original.split_once('\0') {
+    match split_at_byte(original, 0) {
         Some((key, plural)) => (key, Some(plural)),
         None => (original, None),
     }
@@ -72,8 +74,14 @@ fn read_file<T: ByteOrder>(alloc: Global, bytes: &[u8]) -> Result<Catalogue, All
     requires { PassesBelow (file_by T.number_of bytes.now) 12 }
     ensures { IfOk result (λ c. c ≡ named_in T.number_of bytes.now) }
 {
-    let n = word::<T>(bytes, 8);
-    let entries = entries::<T>(alloc, bytes, word::<T>(bytes, 12), word::<T>(bytes, 16), n)?;
+    let n = word::<T>(bytes, COUNT_AT);
+    let entries = entries::<T>(
+        alloc,
+        bytes,
+        word::<T>(bytes, ORIGINALS_AT),
+        word::<T>(bytes, TRANSLATIONS_AT),
+        n,
+    )?;
     Catalogue::from_strings(alloc, entries)
 }
 

@@ -5,24 +5,22 @@ ghost use Rattle.byteorder.specs.Endian.{little_number};
 ghost use Rattle.mo_file.specs.MoReading.{file_by, file_of, Passes, PassesBelow, RefusedBy, Refused, IsMoFile};
 
 use crate::fault::MoFault;
-use crate::rows::{HEADER_LEN, MAX_LEN, word};
+use crate::rows::word;
 use crate::tables::{
     all_closed, fits, have_lawful_forms, have_lawful_headers, keys_rise, originals_are_text,
     table_lies, translations_are_text,
 };
 use byteorder::{BigEndian, ByteOrder, LittleEndian};
-
-/// What an MO file begins with.
-const MAGIC: u32 = 0x9504_12de;
+use mo_image::{COUNT_AT, HEADER_LEN, MAGIC, MAX_LEN, ORIGINALS_AT, REVISION_AT, TRANSLATIONS_AT};
 
 /// Whether both tables and their strings lie in the file.
 fn passes_bounds<T: ByteOrder>(bytes: &[u8]) -> bool
     requires { 28 ≤ length bytes.now }
     ensures { IsTrue result ↔ Passes (file_by T.number_of bytes.now) MoFault.Bounds }
 {
-    let n = word::<T>(bytes, 8);
-    table_lies::<T>(bytes, word::<T>(bytes, 12), n)
-        && table_lies::<T>(bytes, word::<T>(bytes, 16), n)
+    let n = word::<T>(bytes, COUNT_AT);
+    table_lies::<T>(bytes, word::<T>(bytes, ORIGINALS_AT), n)
+        && table_lies::<T>(bytes, word::<T>(bytes, TRANSLATIONS_AT), n)
 }
 
 /// Whether a NUL stands behind each string.
@@ -31,9 +29,9 @@ fn passes_closing<T: ByteOrder>(bytes: &[u8]) -> bool
     requires lies { Passes (file_by T.number_of bytes.now) MoFault.Bounds }
     ensures { IsTrue result ↔ Passes (file_by T.number_of bytes.now) MoFault.NoNul }
 {
-    let n = word::<T>(bytes, 8);
-    all_closed::<T>(bytes, word::<T>(bytes, 12), n)
-        && all_closed::<T>(bytes, word::<T>(bytes, 16), n)
+    let n = word::<T>(bytes, COUNT_AT);
+    all_closed::<T>(bytes, word::<T>(bytes, ORIGINALS_AT), n)
+        && all_closed::<T>(bytes, word::<T>(bytes, TRANSLATIONS_AT), n)
 }
 
 /// Whether the strings are lawful texts.
@@ -42,9 +40,9 @@ fn passes_texts<T: ByteOrder>(bytes: &[u8]) -> bool
     requires lies { Passes (file_by T.number_of bytes.now) MoFault.Bounds }
     ensures { IsTrue result ↔ Passes (file_by T.number_of bytes.now) MoFault.BadText }
 {
-    let n = word::<T>(bytes, 8);
-    originals_are_text::<T>(bytes, word::<T>(bytes, 12), n)
-        && translations_are_text::<T>(bytes, word::<T>(bytes, 16), n)
+    let n = word::<T>(bytes, COUNT_AT);
+    originals_are_text::<T>(bytes, word::<T>(bytes, ORIGINALS_AT), n)
+        && translations_are_text::<T>(bytes, word::<T>(bytes, TRANSLATIONS_AT), n)
 }
 
 /// Whether each entry has lawful forms.
@@ -53,8 +51,13 @@ fn passes_forms<T: ByteOrder>(bytes: &[u8]) -> bool
     requires lies { Passes (file_by T.number_of bytes.now) MoFault.Bounds }
     ensures { IsTrue result ↔ Passes (file_by T.number_of bytes.now) MoFault.Forms }
 {
-    let n = word::<T>(bytes, 8);
-    have_lawful_forms::<T>(bytes, word::<T>(bytes, 12), word::<T>(bytes, 16), n)
+    let n = word::<T>(bytes, COUNT_AT);
+    have_lawful_forms::<T>(
+        bytes,
+        word::<T>(bytes, ORIGINALS_AT),
+        word::<T>(bytes, TRANSLATIONS_AT),
+        n,
+    )
 }
 
 /// Whether the keys rise.
@@ -63,7 +66,11 @@ fn passes_order<T: ByteOrder>(bytes: &[u8]) -> bool
     requires lies { Passes (file_by T.number_of bytes.now) MoFault.Bounds }
     ensures { IsTrue result ↔ Passes (file_by T.number_of bytes.now) MoFault.Order }
 {
-    keys_rise::<T>(bytes, word::<T>(bytes, 12), word::<T>(bytes, 8))
+    keys_rise::<T>(
+        bytes,
+        word::<T>(bytes, ORIGINALS_AT),
+        word::<T>(bytes, COUNT_AT),
+    )
 }
 
 /// Whether the header's charset is accepted.
@@ -73,8 +80,13 @@ fn passes_charset<T: ByteOrder>(bytes: &[u8]) -> bool
     requires texts { Passes (file_by T.number_of bytes.now) MoFault.BadText }
     ensures { IsTrue result ↔ Passes (file_by T.number_of bytes.now) MoFault.Charset }
 {
-    let n = word::<T>(bytes, 8);
-    have_lawful_headers::<T>(bytes, word::<T>(bytes, 12), word::<T>(bytes, 16), n)
+    let n = word::<T>(bytes, COUNT_AT);
+    have_lawful_headers::<T>(
+        bytes,
+        word::<T>(bytes, ORIGINALS_AT),
+        word::<T>(bytes, TRANSLATIONS_AT),
+        n,
+    )
 }
 
 /// Whether the file of the map isn't too large.
@@ -84,8 +96,13 @@ fn passes_size<T: ByteOrder>(bytes: &[u8]) -> bool
     requires lies { Passes (file_by T.number_of bytes.now) MoFault.Bounds }
     ensures { IsTrue result ↔ Passes (file_by T.number_of bytes.now) MoFault.Swollen }
 {
-    let n = word::<T>(bytes, 8);
-    fits::<T>(bytes, word::<T>(bytes, 12), word::<T>(bytes, 16), n)
+    let n = word::<T>(bytes, COUNT_AT);
+    fits::<T>(
+        bytes,
+        word::<T>(bytes, ORIGINALS_AT),
+        word::<T>(bytes, TRANSLATIONS_AT),
+        n,
+    )
 }
 
 /// The tests of a file in this byte order, in the order of the refusals.
@@ -97,7 +114,7 @@ fn check_file<T: ByteOrder>(bytes: &[u8]) -> Result<(), MoFault>
     ensures err { IfErr result (λ f. RefusedBy (file_by T.number_of bytes.now) f) }
     ensures tested { IfErr result (λ f. f ≢ MoFault.Memory) }
 {
-    if word::<T>(bytes, 4) != 0 {
+    if word::<T>(bytes, REVISION_AT) != 0 {
         return Err(MoFault::Revision);
     }
     if !passes_bounds::<T>(bytes) {

@@ -5,15 +5,6 @@ ghost use Rattle.mo_file.specs.MoReading.{StringLies, IsClosed};
 
 use byteorder::ByteOrder;
 
-/// How many bytes a file may have.
-pub(crate) const MAX_LEN: usize = 268_435_456;
-
-/// How many bytes the header has.
-pub(crate) const HEADER_LEN: usize = 28;
-
-/// How many bytes a row has: a string's length and its offset.
-pub(crate) const ROW_LEN: usize = 8;
-
 /// A word of 32 bits.
 pub(crate) fn word<T: ByteOrder>(bytes: &[u8], place: usize) -> usize
     requires { place + 4 ≤ length bytes.now }

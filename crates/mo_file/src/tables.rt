@@ -4,14 +4,13 @@ ghost use Rattle.catalogue.specs.MoFile.{pool};
 ghost use Rattle.mo_file.specs.Tables.{string_at, strings};
 ghost use Rattle.mo_file.specs.MoReading.{table_at, TableLies, AllClosed, AreOriginalTexts, AreTranslationTexts, HaveLawfulForms, KeysRise, HaveLawfulHeaders, Fits};
 
-use crate::rows::{
-    HEADER_LEN, MAX_LEN, ROW_LEN, is_closed, is_same_row, string, string_lies, word,
-};
+use crate::rows::{is_closed, is_same_row, string, string_lies, word};
 use crate::texts::{
     are_lawful_counts, count_to_two, has_lawful_header, is_below, is_original_text,
     is_translation_text,
 };
 use byteorder::ByteOrder;
+use mo_image::{HEADER_LEN, MAX_LEN, ROW_LEN};
 
 /// Whether a table and its strings lie in the file.
 pub(crate) fn table_lies<T: ByteOrder>(bytes: &[u8], table: usize, n: usize) -> bool

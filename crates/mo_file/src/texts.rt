@@ -4,11 +4,10 @@ ghost use Rattle.std.specs.Ordering.{nat_cmp};
 ghost use Rattle.std.specs.declared.cmp.Ordering.TheVariants.{Less};
 ghost use Rattle.std.specs.Cmp.Lexicographic.{slice_cmp};
 ghost use Rattle.std.specs.Str.{IsUtf8};
-ghost use Rattle.catalogue.specs.Map.{HasAcceptedCharset};
 ghost use Rattle.mo_file.specs.MoReading.{before_nul, IsOriginalText, IsTranslationText, HasLawfulHeader};
 
 use bstr::ByteSlice;
-use po_header::{charset_accepted, charset_of};
+use po_header::has_accepted_charset;
 use simdutf8::basic::from_utf8;
 use std::cmp::Ordering;
 
@@ -67,16 +66,6 @@ pub(crate) fn is_below(first: &[u8], second: &[u8]) -> bool
     ensures { IsTrue result ↔ (slice_cmp nat_cmp (before_nul first.now) (before_nul second.now) ≡ Less) }
 {
     before_nul(first).cmp(before_nul(second)) == Ordering::Less
-}
-
-/// Whether a header's text names no charset, or an accepted one.
-fn has_accepted_charset(text: &str) -> bool
-    ensures { IsTrue result ↔ HasAcceptedCharset text.now }
-{
-    match charset_of(text) {
-        Some(name) => charset_accepted(name),
-        None => true,
-    }
 }
 
 /// Whether the key of an original is empty.

@@ -10,4 +10,3 @@ pub mod Writing
 pub mod Extents
 pub mod ImageFacts
 pub mod Joining
-pub mod Cutting

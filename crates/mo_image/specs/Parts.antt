@@ -1,13 +1,9 @@
 -- An entry by its key, its plural and its translation.
-use Rattle.std.specs.Prelude.{ℕ, ◌==◌, nat_lt, if◌then◌else◌, List, [], length, Option, Some, None, option_map}
-use Rattle.std.specs.List.{position_or_len, before_first, after_first, slice_split}
+use Rattle.std.specs.Prelude.{ℕ, ◌==◌, List, [], Option, Some, None, option_map}
+use Rattle.std.specs.List.{slice_split}
 use denote.Ref.{Bor}
+pub use Rattle.text_cut.specs.Cut.{cut}
 use Rattle.mo_image.specs.Entry.{Entry}
-
--- what stands before the first such byte, and behind it
-abbrev pub cut : ℕ → List ℕ → Option (List ℕ × List ℕ)
-cut byte text =
-    if nat_lt (position_or_len (λ b. b == byte) text) (length text) then Some (before_first (λ b. b == byte) text, after_first (λ b. b == byte) text) else None
 
 -- the part behind, or the whole
 abbrev pub behind : List ℕ → Option (List ℕ × List ℕ) → List ℕ

@@ -2,11 +2,12 @@
 ghost use Rattle.std.specs.Prelude.{◌≡◌, ◌<◌, ◌==◌, ◌∷◌, length, slice_get, Some, option_map};
 ghost use Rattle.std.specs.List.{count_by, slice_split};
 ghost use Rattle.mo_image.specs.Entry.{IsLawfulEntry, key, translation};
-ghost use Rattle.mo_image.specs.Parts.{cut, forms_left};
+ghost use Rattle.text_cut.specs.Cut.{cut};
+ghost use Rattle.mo_image.specs.Parts.{forms_left};
 ghost use Rattle.mo_image.specs.Pairs.{key_part, plural_part};
 
-use crate::cut::split_at_byte;
 use std::marker::Model;
+use text_cut::split_at_byte;
 
 /// What parts a key from its plural, and forms from one another.
 const NUL: u8 = 0;

@@ -3,7 +3,6 @@
 //! of entries that are lent.
 #![tactic(auto)]
 
-mod cut;
 mod entry;
 mod extent;
 mod image;
@@ -12,7 +11,6 @@ mod layout;
 mod messages;
 mod writer;
 
-pub use cut::split_at_byte;
 pub use entry::{EntryRef, Forms, key_of, plural_of, split_context, split_form};
 pub use extent::{EntryExtents, Extent};
 pub use image::Image;

@@ -6,13 +6,13 @@ ghost use Rattle.msgfmt_tool.specs.Steps.{CompilesNamed, EndsCompiling, EndsRead
 
 use crate::outcome::Cause;
 use crate::texts::StatisticsText;
-use catalogue::{Compiled, Options, Stats, compile};
+use catalogue::{Compiled, MAX_TEXT, Options, Stats, compile};
 use devices::{FileFault, Files, Sink, Source, read_all};
 use po_header::FIELD_NAMES;
 use std::alloc::Global;
 
 /// How many bytes of an input are read: one more than a text may have.
-pub const MOST_INPUT: usize = 67_108_865;
+pub const MOST_INPUT: usize = MAX_TEXT + 1;
 
 /// The text of INPUT.
 fn read_input<F: Files, R: Source>(

@@ -22,6 +22,6 @@ mod units;
 pub use buffer::EntryBuffer;
 pub use entry::PoEntry;
 pub use fault::{PoFault, PoKind};
-pub use open::open_text;
+pub use open::{MAX_TEXT, open_text};
 pub use read::{one_outcome, read_po};
 pub use reader::EntryReader;

@@ -30,6 +30,9 @@ fn skip_mark(text: &[u8]) -> &[u8]
     }
 }
 
+/// How many bytes a PO text may have (our choice).
+pub const MAX_TEXT: usize = 67_108_864;
+
 /// A reader of the entries of a PO text, behind its byte order mark.
 ///
 /// Refuses a text of more than 67,108,864 bytes, on line 0, and one that isn't UTF-8, on the line of
@@ -40,7 +43,7 @@ pub fn open_text(alloc: Global, text: &[u8]) -> Result<EntryReader, PoFault>
     ensures unfailed { IfOk result (λ reader. fault_of reader ≡ None) }
     ensures err { IfErr result (λ fault. Refuses text.now fault.kind fault.line) }
 {
-    if 67_108_864 < text.len() {
+    if MAX_TEXT < text.len() {
         return Err(PoFault::new(PoKind::TooLarge, 0));
     }
     if let Err(error) = from_utf8(text) {

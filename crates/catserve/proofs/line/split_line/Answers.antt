@@ -4,7 +4,8 @@ use Rattle.std.specs.List.{position_or_len}
 use Rattle.std.specs.Str.{IsUtf8}
 use Rattle.std.proofs.lemmas.Bool.{eqb-false}
 use Rattle.bstr.specs.Find.{is_byte}
-use Rattle.catserve.specs.Scanning.{IsCut, IsFirstLine}
+use Rattle.text_cut.specs.Cut.{IsCut}
+use Rattle.catserve.specs.Scanning.{IsFirstLine}
 use Rattle.catserve.proofs.Cutting.{first_line, last_line}
 use Rattle.catserve.proofs.line.split_line.Goals as goal
 
@@ -15,4 +16,4 @@ line_of text (Some x) all some utf8 e f cut = first_line text x.0.now x.1.now ut
 pub returns : goal.returns
 returns c =
     let some : c.args.text.now ≢ [] = λ e. eqb-false (length c.args.text.now) 0 (sym c.if-is_empty.ensures) (ap length e) in
-    rw c.unwrap_or.ensures (line_of c.args.text.now c.split_at_byte.result _ some c.utf8.text refl refl c.split_at_byte.ensures)
+    rw c.unwrap_or.ensures (line_of c.args.text.now c.split_at_byte.result _ some c.utf8.text refl refl c.split_at_byte.ensures.cases)

@@ -5,7 +5,7 @@ use Rattle.std.proofs.lemmas.Bool.{false_from_ne_true, lt-ltb, le-ltb}
 use Rattle.std.proofs.lemmas.List.{take_all}
 use Rattle.std.proofs.lemmas.List.Sums.{position_or_len_is}
 use Rattle.bstr.specs.Find.{IsFirstByte, is_byte}
-use Rattle.mo_image.specs.Parts.{cut}
+use Rattle.text_cut.specs.Cut.{cut, IsCut}
 
 abbrev place : ℕ → List ℕ → ℕ
 place byte text = position_or_len (is_byte byte) text
@@ -22,12 +22,7 @@ pub place_none : (byte : ℕ) (text : List ℕ) → IsFirstByte (is_byte byte) t
 place_none byte text none = position_or_len_is (is_byte byte) text (length text) 0 (omega arith) (λ i lt. false_from_ne_true _ (none i (omega arith) lt)) (λ lt. absurd (omega arith))
 
 -- the parts at a place where the byte was found
-pub record IsCutAt (byte : ℕ) (text front behind : List ℕ) : Type 0 where
-  pub within : place byte text < length text
-  pub front_is : front ≡ before_first (is_byte byte) text
-  pub behind_is : behind ≡ after_first (is_byte byte) text
-
-pub cut_at : (byte : ℕ) (text front behind : List ℕ) (k : ℕ) → IsFirstByte (is_byte byte) text (Some k) → front ≡ slice_range text 0 k → behind ≡ drop (k + 1) text → IsCutAt byte text front behind
+pub cut_at : (byte : ℕ) (text front behind : List ℕ) (k : ℕ) → IsFirstByte (is_byte byte) text (Some k) → front ≡ slice_range text 0 k → behind ≡ drop (k + 1) text → IsCut byte text front behind
 cut_at byte text front behind k found e f =
     let at : place byte text ≡ k = place_found byte text k found in
     let all : k - 0 ≡ k = omega arith in
@@ -41,7 +36,7 @@ cut_there byte text lt = ap (λ b. cond b (Some (parts byte text)) None) (lt-ltb
 pub cut_nowhere : (byte : ℕ) (text : List ℕ) → place byte text ≡ length text → cut byte text ≡ None
 cut_nowhere byte text none = ap (λ b. cond b (Some (parts byte text)) None) (le-ltb _ _ (omega (arith, none)))
 
-pub cut_is : (byte : ℕ) (text front behind : List ℕ) → IsCutAt byte text front behind → Some (front, behind) ≡ cut byte text
+pub cut_is : (byte : ℕ) (text front behind : List ℕ) → IsCut byte text front behind → Some (front, behind) ≡ cut byte text
 cut_is byte text front behind at = ap (λ f. Some (f, behind)) at.front_is ∙ ap (λ b. Some (before_first (is_byte byte) text, b)) at.behind_is ∙ sym (cut_there byte text at.within)
 
 -- a text without the byte is all in front of it

@@ -1,8 +1,8 @@
 use Rattle.std.proofs.Common.{sym, arith}
 use Rattle.std.proofs.lemmas.Bool.{eqb-true}
 use Rattle.std.proofs.lemmas.Str.{IsCharBoundary-after_ascii}
-use Rattle.mo_image.proofs.Cutting.{place_none, cut_at, cut_is, cut_nowhere}
-use Rattle.mo_image.proofs.cut.split_at_byte.Goals as goal
+use Rattle.text_cut.proofs.Cutting.{place_none, cut_at, cut_is, cut_nowhere}
+use Rattle.text_cut.proofs.cut.split_at_byte.Goals as goal
 
 pub returns-in_err-at-clause-cut : goal.returns-in_err-at-clause-cut
 returns-in_err-at-clause-cut c = rw c.from_residual.ensures (sym (cut_nowhere c.args.byte c.args.text.now (place_none c.args.byte c.args.text.now (rw c.as_bytes.ensures.value at c.in_err-at.ensures))))
@@ -25,5 +25,4 @@ returns-clause-cut c =
 pub returns-clause-cases : goal.returns-clause-cases
 returns-clause-cases c =
     let found = rw c.as_bytes.ensures.value at c.in_ok-at.ensures in
-    let at = cut_at c.args.byte c.args.text.now c.range.result.now c.range_from.result.now c.in_ok-at.at found c.range.ensures.value c.range_from.ensures.value in
-    (at.within, at.front_is, at.behind_is)
+    cut_at c.args.byte c.args.text.now c.range.result.now c.range_from.result.now c.in_ok-at.at found c.range.ensures.value c.range_from.ensures.value
