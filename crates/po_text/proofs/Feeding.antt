@@ -9,7 +9,7 @@ use Rattle.po_text.specs.Spelling.{Token, Context, Id, Plural, Str, Number, Open
 use Rattle.po_text.specs.Entries.{Strings, Part, PlainPart, PluralPart, Derivation, texts, context_tokens, form_tokens, part_tokens, tokens_of, IsOneOrMore, IsKeyText, IsLawfulContext, IsLawfulPart, IsLawfulEntry, Entry, joined_option, plural_of, forms_of, entry_of, EntryAt, Derives, all_tokens}
 use Rattle.po_text.specs.Places.{Place, Start, ContextWord, ContextText, IdWord, IdText, FormWord, FormText, PluralWord, PluralText, IndexOpen, IndexNumber, IndexClose, IndexedWord, IndexedText, IsBoundary, step, has_four, key_text}
 use Rattle.po_text.specs.Building.{flags_over, no_flags, Draft, offsets, draft_of, begin, grown, add_context, add_id, add_plural, add_form, new_plural, new_form, put_text, State, at_state, drafts_at, opens, after, feed_at, feed, feeds, start}
-use Rattle.po_text.proofs.FlagLemmas.{flags_over-append}
+use Rattle.po_text.proofs.FlagLemmas.{flags_are, flags_over-append}
 use Rattle.po_text.proofs.Completes.{derived}
 use Rattle.po_text.proofs.Grammar.{run, no_four_here}
 use Rattle.std.proofs.lemmas.List.Elements.{Contains-append_left, Contains-append_right}
@@ -359,10 +359,10 @@ chain_feeds (entry ∷ entries) marks later found ((marks2, found2), at, more) p
     let dv = at.derivation in
     let (q, k2, b2, last, is) = entry_feed dv.context dv.id dv.part at.first at.others p done d (flags_over no_flags marks) k at.tokens at.lawful.context at.lawful.id at.lawful.part b in
     let draft_is : with_part (bare at.first.line (flags_over (flags_over no_flags marks) at.first.marks) (joined_option dv.context) (concat dv.id)) dv.part ≡ draft_of entry
-    = ap (λ (x : Flags). with_part (bare at.first.line x (joined_option dv.context) (concat dv.id)) dv.part) (sym (flags_over-append no_flags marks at.first.marks)) ∙ ap draft_of (sym at.entry) in
-    let flags_are : flags_through no_flags at.others ≡ flags_over no_flags marks2 = flags_through_marks no_flags at.others ∙ ap (λ (m : List Mark). flags_over no_flags m) (sym at.marks) in
+    = ap (λ (x : Flags). with_part (bare at.first.line x (joined_option dv.context) (concat dv.id)) dv.part) (sym (flags_over-append no_flags marks at.first.marks) ∙ flags_are (marks ++ at.first.marks)) ∙ ap draft_of (sym at.entry) in
+    let later_flags : flags_through no_flags at.others ≡ flags_over no_flags marks2 = flags_through_marks no_flags at.others ∙ ap (λ (m : List Mark). flags_over no_flags m) (sym at.marks) in
     let here : feeds (Some (at_state p done d (flags_over no_flags marks) k)) (at.first ∷ at.others) ≡ Some (at_state q (drafts_at p done d) (draft_of entry) (flags_over no_flags marks2) k2)
-    = is ∙ ap (λ (x : Draft). Some (at_state q (drafts_at p done d) x (flags_through no_flags at.others) k2)) draft_is ∙ ap (λ (x : Flags). Some (at_state q (drafts_at p done d) (draft_of entry) x k2)) flags_are in
+    = is ∙ ap (λ (x : Draft). Some (at_state q (drafts_at p done d) x (flags_through no_flags at.others) k2)) draft_is ∙ ap (λ (x : Flags). Some (at_state q (drafts_at p done d) (draft_of entry) x k2)) later_flags in
     let (r, done3, d3, f3, k3, b3, all, rest) = chain_feeds entries marks2 later found2 more q (drafts_at p done d) (draft_of entry) k2 b2 in (
       r,
       done3,

@@ -1,13 +1,19 @@
 -- Flags, mark by mark, and the words of a flag line.
-use Rattle.std.proofs.Common.{◌≡◌, ℕ, Bool, true, false, List, [], ◌∷◌, ◌++◌, take, drop, refl, sym, ap, ◌∙◌, inl, inr, one-add}
-use Rattle.std.specs.List.{filter_map, slice_split, prefix_len}
+use Rattle.std.proofs.Common.{◌≡◌, ℕ, Bool, true, false, not, List, [], ◌∷◌, ◌++◌, take, drop, reverse, refl, sym, ap, ◌∙◌, inl, inr, one-add}
+use Rattle.std.specs.List.{filter_map, list_any, slice_split, prefix_len, take_while}
+use Rattle.std.proofs.lemmas.List.{reverse-append, reverse-reverse}
 use Rattle.std.proofs.lemmas.List.Elements.{filter_map-append}
+use Rattle.std.proofs.lemmas.List.Sums.{take_while-cons}
 use Rattle.po_text.specs.declared.flags.Flags.{Flags}
 use Rattle.po_text.specs.Spelling.{Mark, Fuzzy, CFormat, Clear, flag_mark, is_separator}
-use Rattle.po_text.specs.Entries.{fuzzy_of, c_format_of}
-use Rattle.po_text.specs.Building.{flags_over}
+use Rattle.po_text.specs.Entries.{mark_eq, is_flagged}
+use Rattle.po_text.specs.Building.{fuzzy_of, c_format_of, flags_over, no_flags}
 use Rattle.po_text.specs.Lexing.{is_no_separator}
 use Rattle.std.proofs.lemmas.Bool.{cases_Bool}
+
+-- no mark that takes back flags
+abbrev is_no_clear : Mark → Bool
+is_no_clear mark = not (mark_eq Clear mark)
 
 fuzzy_of-append : (b : Bool) (xs ys : List Mark) → fuzzy_of b (xs ++ ys) ≡ fuzzy_of (fuzzy_of b xs) ys
 fuzzy_of-append b [] ys = refl
@@ -23,6 +29,49 @@ c_format_of-append b (Clear ∷ xs) ys = c_format_of-append false xs ys
 
 pub flags_over-append : (f : Flags) (xs ys : List Mark) → flags_over f (xs ++ ys) ≡ flags_over (flags_over f xs) ys
 flags_over-append f xs ys = rw (fuzzy_of-append f.fuzzy xs ys, c_format_of-append f.c_format xs ys) refl
+
+-- ---- a flag stands behind the last Clear
+
+fuzzy_next : (mark : Mark) (marks : List Mark) → fuzzy_of false (reverse marks) ≡ list_any (mark_eq Fuzzy) (take_while is_no_clear marks) → fuzzy_of false (reverse (mark ∷ marks)) ≡ list_any (mark_eq Fuzzy) (take_while is_no_clear (mark ∷ marks))
+fuzzy_next mark marks before =
+    ap (λ (m : List Mark). fuzzy_of false m) (reverse-append (mark ∷ []) marks) ∙ fuzzy_of-append false (reverse marks) (mark ∷ []) ∙ last mark
+  where
+    last : (m : Mark) → fuzzy_of (fuzzy_of false (reverse marks)) (m ∷ []) ≡ list_any (mark_eq Fuzzy) (take_while is_no_clear (m ∷ marks))
+    last Fuzzy = sym (ap (λ (m : List Mark). list_any (mark_eq Fuzzy) m) (take_while-cons is_no_clear Fuzzy marks))
+    last CFormat = before ∙ sym (ap (λ (m : List Mark). list_any (mark_eq Fuzzy) m) (take_while-cons is_no_clear CFormat marks))
+    last Clear = sym (ap (λ (m : List Mark). list_any (mark_eq Fuzzy) m) (take_while-cons is_no_clear Clear marks))
+
+fuzzy_from_last : (marks : List Mark) → fuzzy_of false (reverse marks) ≡ list_any (mark_eq Fuzzy) (take_while is_no_clear marks)
+fuzzy_from_last [] = refl
+fuzzy_from_last (Fuzzy ∷ marks) = fuzzy_next Fuzzy marks (fuzzy_from_last marks)
+fuzzy_from_last (CFormat ∷ marks) = fuzzy_next CFormat marks (fuzzy_from_last marks)
+fuzzy_from_last (Clear ∷ marks) = fuzzy_next Clear marks (fuzzy_from_last marks)
+
+c_format_next : (mark : Mark) (marks : List Mark) → c_format_of false (reverse marks) ≡ list_any (mark_eq CFormat) (take_while is_no_clear marks) → c_format_of false (reverse (mark ∷ marks)) ≡ list_any (mark_eq CFormat) (take_while is_no_clear (mark ∷ marks))
+c_format_next mark marks before =
+    ap (λ (m : List Mark). c_format_of false m) (reverse-append (mark ∷ []) marks) ∙ c_format_of-append false (reverse marks) (mark ∷ []) ∙ last mark
+  where
+    last : (m : Mark) → c_format_of (c_format_of false (reverse marks)) (m ∷ []) ≡ list_any (mark_eq CFormat) (take_while is_no_clear (m ∷ marks))
+    last CFormat = sym (ap (λ (m : List Mark). list_any (mark_eq CFormat) m) (take_while-cons is_no_clear CFormat marks))
+    last Fuzzy = before ∙ sym (ap (λ (m : List Mark). list_any (mark_eq CFormat) m) (take_while-cons is_no_clear Fuzzy marks))
+    last Clear = sym (ap (λ (m : List Mark). list_any (mark_eq CFormat) m) (take_while-cons is_no_clear Clear marks))
+
+c_format_from_last : (marks : List Mark) → c_format_of false (reverse marks) ≡ list_any (mark_eq CFormat) (take_while is_no_clear marks)
+c_format_from_last [] = refl
+c_format_from_last (Fuzzy ∷ marks) = c_format_next Fuzzy marks (c_format_from_last marks)
+c_format_from_last (CFormat ∷ marks) = c_format_next CFormat marks (c_format_from_last marks)
+c_format_from_last (Clear ∷ marks) = c_format_next Clear marks (c_format_from_last marks)
+
+fuzzy_is : (marks : List Mark) → fuzzy_of false marks ≡ is_flagged Fuzzy marks
+fuzzy_is marks = ap (λ (m : List Mark). fuzzy_of false m) (sym (reverse-reverse marks)) ∙ fuzzy_from_last (reverse marks)
+
+c_format_is : (marks : List Mark) → c_format_of false marks ≡ is_flagged CFormat marks
+c_format_is marks = ap (λ (m : List Mark). c_format_of false m) (sym (reverse-reverse marks)) ∙ c_format_from_last (reverse marks)
+
+pub flags_are : (marks : List Mark) → flags_over no_flags marks ≡ record { fuzzy = is_flagged Fuzzy marks; c_format = is_flagged CFormat marks }
+flags_are marks = rw (fuzzy_is marks, c_format_is marks) refl
+
+-- ---- the words of a flag line
 
 -- what follows the first word of a flag line
 abbrev more_words : List ℕ → List (List ℕ)

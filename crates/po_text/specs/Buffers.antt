@@ -1,4 +1,4 @@
--- An entry as it lies in its buffers. Private: what private functions promise.
+-- Private: an entry as it lies in its buffers.
 use Rattle.std.specs.Prelude.{◌≡◌, ◌≢◌, ℕ, ◌-◌, List, [], ◌∷◌, length, take, drop}
 use Rattle.std.specs.List.{Contains}
 use Rattle.po_text.specs.declared.buffer.EntryBuffer.TheInside.{Inside}

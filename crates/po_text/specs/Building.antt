@@ -1,11 +1,25 @@
--- Entries put together, one lexeme after another. Private: what private functions promise.
+-- Private: entries put together, one lexeme after another.
 use Rattle.std.specs.Prelude.{ℕ, ◌+◌, Bool, true, false, List, [], ◌∷◌, ◌++◌, length, Option, Some, None}
 use Rattle.std.specs.Option.{option_map}
 use Rattle.std.specs.List.{concat}
 use Rattle.po_text.specs.declared.flags.Flags.{Flags}
-use Rattle.po_text.specs.Spelling.{Token, Context, Id, Plural, Str, Text, Mark, Lexeme}
-use Rattle.po_text.specs.Entries.{Entry, fuzzy_of, c_format_of}
+use Rattle.po_text.specs.Spelling.{Token, Context, Id, Plural, Str, Text, Mark, Fuzzy, CFormat, Clear, Lexeme}
+use Rattle.po_text.specs.Entries.{Entry}
 use Rattle.po_text.specs.Places.{Place, Start, ContextWord, ContextText, IdWord, IdText, PluralWord, PluralText, step}
+
+-- whether the entry is fuzzy after these marks, mark by mark
+abbrev pub fuzzy_of : Bool → List Mark → Bool
+fuzzy_of flag [] = flag
+fuzzy_of flag (Fuzzy ∷ marks) = fuzzy_of true marks
+fuzzy_of flag (CFormat ∷ marks) = fuzzy_of flag marks
+fuzzy_of flag (Clear ∷ marks) = fuzzy_of false marks
+
+-- the same for `c-format`
+abbrev pub c_format_of : Bool → List Mark → Bool
+c_format_of flag [] = flag
+c_format_of flag (Fuzzy ∷ marks) = c_format_of flag marks
+c_format_of flag (CFormat ∷ marks) = c_format_of true marks
+c_format_of flag (Clear ∷ marks) = c_format_of false marks
 
 -- the flags after these marks
 abbrev pub flags_over : Flags → List Mark → Flags

@@ -1,6 +1,6 @@
 -- Which entries a list of lexemes derives, and which fault of grammar it has: the GNU gettext manual, "PO Files".
-use Rattle.std.specs.Prelude.{◌≡◌, ◌≢◌, ℕ, ◌+◌, Bool, true, false, List, [], ◌∷◌, ◌++◌, map, Option, None, Some, ◌⊎◌}
-use Rattle.std.specs.List.{concat, flat_map, Contains, AllByRecursion}
+use Rattle.std.specs.Prelude.{◌≡◌, ◌≢◌, ℕ, ◌+◌, Bool, true, false, not, List, [], ◌∷◌, ◌++◌, map, reverse, Option, None, Some, ◌⊎◌}
+use Rattle.std.specs.List.{concat, flat_map, list_any, take_while, Contains, AllByRecursion}
 use Rattle.po_text.specs.declared.fault.PoKind.{PoKind}
 use Rattle.po_text.specs.declared.fault.PoKind.TheVariants.{BadText, BadOrder, BadIndex}
 use Rattle.po_text.specs.Chain.{Chain}
@@ -82,19 +82,20 @@ pub record Entry : Type 0 where
 abbrev pub no_entry : Entry
 no_entry = record { line = 0; fuzzy = false; c_format = false; context = None; id = []; plural = None; forms = [] }
 
--- the flag behind these marks: whether `fuzzy` stands behind the last Clear, or was set before and no Clear came
-abbrev pub fuzzy_of : Bool → List Mark → Bool
-fuzzy_of flag [] = flag
-fuzzy_of flag (Fuzzy ∷ marks) = fuzzy_of true marks
-fuzzy_of flag (CFormat ∷ marks) = fuzzy_of flag marks
-fuzzy_of flag (Clear ∷ marks) = fuzzy_of false marks
+-- whether two marks are the same
+abbrev pub mark_eq : Mark → Mark → Bool
+mark_eq Fuzzy Fuzzy = true
+mark_eq CFormat CFormat = true
+mark_eq Clear Clear = true
+mark_eq _ _ = false
 
--- the same for `c-format`
-abbrev pub c_format_of : Bool → List Mark → Bool
-c_format_of flag [] = flag
-c_format_of flag (Fuzzy ∷ marks) = c_format_of flag marks
-c_format_of flag (CFormat ∷ marks) = c_format_of true marks
-c_format_of flag (Clear ∷ marks) = c_format_of false marks
+-- the marks behind the last Clear, or all where none is; the last mark first
+abbrev pub behind_clear : List Mark → List Mark
+behind_clear marks = take_while (λ mark. not (mark_eq Clear mark)) (reverse marks)
+
+-- whether the flag stands behind the last Clear
+abbrev pub is_flagged : Mark → List Mark → Bool
+is_flagged flag marks = list_any (mark_eq flag) (behind_clear marks)
 
 abbrev pub joined_option : Option Strings → Option (List ℕ)
 joined_option None = None
@@ -112,8 +113,8 @@ forms_of (PluralPart plural forms) = map concat forms
 abbrev pub entry_of : ℕ → List Mark → Derivation → Entry
 entry_of line marks d = record {
   line = line;
-  fuzzy = fuzzy_of false marks;
-  c_format = c_format_of false marks;
+  fuzzy = is_flagged Fuzzy marks;
+  c_format = is_flagged CFormat marks;
   context = joined_option d.context;
   id = concat d.id;
   plural = plural_of d.part;

@@ -1,4 +1,4 @@
--- What the lexer takes of a text. Private: what private functions promise.
+-- Private: what the lexer takes of a text.
 use Rattle.std.specs.Prelude.{◌≡◌, ◌≢◌, ℕ, ◌<◌, ◌≤◌, Bool, false, not, List, [], ◌∷◌, ◌++◌, length, Option, Some, ◌+◌}
 use Rattle.po_text.specs.declared.fault.PoKind.{PoKind}
 use Rattle.po_text.specs.declared.fault.PoKind.TheVariants.{BadEscape, OpenString, Memory}

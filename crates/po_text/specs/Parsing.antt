@@ -1,4 +1,4 @@
--- What the parser has taken of a text. Private: what private functions promise.
+-- Private: what the parser has taken of a text.
 use Rattle.std.specs.Prelude.{◌≡◌, ℕ, ◌+◌, ◌<◌, ◌^◌, Bool, true, false, List, [], ◌∷◌, ◌++◌, map, length, Option, Some, None, ◌⊎◌, IsTrue}
 use Rattle.po_text.specs.declared.parser.Parser.{Parser}
 use Rattle.po_text.specs.declared.places.Place as code

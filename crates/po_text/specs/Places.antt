@@ -1,4 +1,4 @@
--- Where a reader of lexemes stands in the grammar. Private: what private functions promise.
+-- Private: where a reader of lexemes stands in the grammar.
 use Rattle.std.specs.Prelude.{ℕ, ◌+◌, Bool, List, Option, Some, None, ◌==◌, nat_eq, if◌then◌else◌}
 use Rattle.std.specs.List.{list_any}
 use Rattle.po_text.specs.declared.places.Place as code
