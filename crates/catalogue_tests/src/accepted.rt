@@ -92,7 +92,7 @@ fn accepts(alloc: Global, list: &str) -> Result<bool, AllocError> {
 #[test]
 fn accepts_lawful_messages(rt: HostRuntime) -> Result<(), Fail> {
     for list in LAWFUL {
-        assert!(rt; accepts(rt.alloc(), list)?, "{list}");
+        assert!(rt; accepts(rt.alloc(), list)?);
     }
     Ok(())
 }
@@ -100,7 +100,7 @@ fn accepts_lawful_messages(rt: HostRuntime) -> Result<(), Fail> {
 #[test]
 fn refuses_unlawful_messages(rt: HostRuntime) -> Result<(), Fail> {
     for list in UNLAWFUL {
-        assert!(rt; !accepts(rt.alloc(), list)?, "{list}");
+        assert!(rt; !accepts(rt.alloc(), list)?);
     }
     Ok(())
 }
@@ -126,6 +126,14 @@ fn accepts_by_size(rt: HostRuntime) -> Result<(), Fail> {
     Ok(())
 }
 
+/// Whether `a` has the forms `x` and `y`.
+fn has_forms(catalogue: &Catalogue) -> bool {
+    catalogue.len() == 2
+        && catalogue.gettext("a") == "x"
+        && catalogue.ngettext("a", "b", 1) == "x"
+        && catalogue.ngettext("a", "b", 2) == "y"
+}
+
 #[test]
 fn makes_a_catalogue_of_what_is_accepted(rt: HostRuntime) -> Result<(), Fail> {
     let alloc = rt.alloc();
@@ -135,10 +143,7 @@ fn makes_a_catalogue_of_what_is_accepted(rt: HostRuntime) -> Result<(), Fail> {
     )?;
     if Catalogue::accepts(list.as_slice()) {
         let catalogue = Catalogue::from_sorted(alloc, list)?;
-        assert_eq!(rt; catalogue.len(), 2);
-        assert_eq!(rt; catalogue.gettext("a"), "x");
-        assert_eq!(rt; catalogue.ngettext("a", "b", 1), "x");
-        assert_eq!(rt; catalogue.ngettext("a", "b", 2), "y");
+        assert!(rt; has_forms(&catalogue));
     } else {
         assert!(rt; false);
     }

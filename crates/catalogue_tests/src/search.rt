@@ -21,6 +21,13 @@ fn push_digits(text: &mut String, n: u32, places: usize) -> Result<(), AllocErro
     Ok(())
 }
 
+/// Makes the text the key of a number: `k`, and its last digits.
+fn write_key(key: &mut String, n: u32, places: usize) -> Result<(), AllocError> {
+    key.clear();
+    key.push('k')?;
+    push_digits(key, n, places)
+}
+
 /// A PO text of so many messages: `k` and a number's digits, translated by the digits.
 fn numbered(alloc: Global, count: u32, places: usize) -> Result<String, AllocError> {
     let mut text = String::new(alloc);
@@ -73,14 +80,9 @@ fn finds_thousand<L: Ledger>(
         return Ok(false);
     }
     let mut key = String::new(alloc);
-    let mut digits = String::new(alloc);
     for n in 0..1000 {
-        key.clear();
-        key.push('k')?;
-        push_digits(&mut key, n, 3)?;
-        digits.clear();
-        push_digits(&mut digits, n, 3)?;
-        let wanted = Some(digits.as_str());
+        write_key(&mut key, n, 3)?;
+        let wanted = key.as_str().strip_prefix('k');
         if !is_found(catalogue, key.as_str(), wanted) {
             return Ok(false);
         }
@@ -103,7 +105,7 @@ fn finds_thousand<L: Ledger>(
 fn finds_among_a_thousand(rt: HostRuntime) -> Result<(), Fail> {
     let text = numbered(rt.alloc(), 1000, 3)?;
     let mut compiled = compile(rt.alloc(), text.as_bytes(), PLAIN)?;
-    assert_eq!(rt; compiled.catalogue.len(), 1000);
+    assert!(rt; compiled.catalogue.len() == 1000);
     let found = finds_thousand::<Brand>(rt.alloc(), &compiled.catalogue, Blank::new(1))?;
     assert!(rt; found);
     compiled.catalogue.index(rt.alloc())?;
@@ -112,7 +114,21 @@ fn finds_among_a_thousand(rt: HostRuntime) -> Result<(), Fail> {
     Ok(())
 }
 
-/// Keys are the same where their bytes are, with an index too.
+/// Whether keys are the same where their bytes are.
+fn tells_contexts_apart(catalogue: &Catalogue) -> bool {
+    catalogue.pgettext("c", "a") == "x"
+        && catalogue.pgettext("", "a") == "y"
+        && catalogue.gettext("a") == "z"
+        && catalogue.ngettext("a", "as", 2) == "w"
+        && catalogue.gettext("c\u{4}a") == "x"
+        && catalogue.gettext("\u{4}a") == "y"
+        && catalogue.pgettext("c\u{4}a", "a") == "a"
+        && catalogue.pgettext("", "\u{4}a") == "\u{4}a"
+        && catalogue.gettext("a\0as") == "a\0as"
+        && catalogue.gettext("as") == "as"
+        && catalogue.gettext("") == ""
+}
+
 #[test]
 fn finds_contexts_by_an_index(rt: HostRuntime) -> Result<(), Fail> {
     let text = "msgctxt \"c\"\nmsgid \"a\"\nmsgstr \"x\"\n\
@@ -120,33 +136,29 @@ fn finds_contexts_by_an_index(rt: HostRuntime) -> Result<(), Fail> {
         msgid \"a\"\nmsgid_plural \"as\"\nmsgstr[0] \"z\"\nmsgstr[1] \"w\"\n";
     let mut compiled = compile(rt.alloc(), text.as_bytes(), PLAIN)?;
     compiled.catalogue.index(rt.alloc())?;
-    let catalogue = &compiled.catalogue;
-    assert!(rt; catalogue.pgettext("c", "a") == "x");
-    assert!(rt; catalogue.pgettext("", "a") == "y");
-    assert!(rt; catalogue.gettext("a") == "z");
-    assert!(rt; catalogue.ngettext("a", "as", 2) == "w");
-    assert!(rt; catalogue.gettext("c\u{4}a") == "x");
-    assert!(rt; catalogue.gettext("\u{4}a") == "y");
-    assert!(rt; catalogue.pgettext("c\u{4}a", "a") == "a");
-    assert!(rt; catalogue.pgettext("", "\u{4}a") == "\u{4}a");
-    assert!(rt; catalogue.gettext("a\0as") == "a\0as");
-    assert!(rt; catalogue.gettext("as") == "as");
-    assert!(rt; catalogue.gettext("") == "");
+    assert!(rt; tells_contexts_apart(&compiled.catalogue));
     Ok(())
+}
+
+fn finds_nothing(catalogue: &Catalogue) -> bool {
+    catalogue.is_empty()
+        && catalogue.find(None, "").is_none()
+        && catalogue.pgettext("c", "a") == "a"
 }
 
 #[test]
 fn finds_nothing_by_an_empty_index(rt: HostRuntime) -> Result<(), Fail> {
     let mut compiled = compile(rt.alloc(), b"", PLAIN)?;
     compiled.catalogue.index(rt.alloc())?;
-    assert!(rt; compiled.catalogue.is_empty());
-    assert!(rt; compiled.catalogue.find(None, "").is_none());
-    assert!(rt; compiled.catalogue.pgettext("c", "a") == "a");
+    assert!(rt; finds_nothing(&compiled.catalogue));
     Ok(())
 }
 
-/// Whether `find` and the four look-ups are right of a key with this translation.
-fn looks_up(catalogue: &Catalogue, key: &str, digits: &str) -> bool {
+/// Whether `find` and the four look-ups are right of the key of a number.
+fn looks_up(catalogue: &Catalogue, key: &str) -> bool {
+    let Some(digits) = key.strip_prefix('k') else {
+        return false;
+    };
     is_found(catalogue, key, Some(digits))
         && catalogue.gettext(key) == digits
         && catalogue.ngettext(key, "plural", 1) == digits
@@ -157,14 +169,9 @@ fn looks_up(catalogue: &Catalogue, key: &str, digits: &str) -> bool {
 /// Whether all of these keys are looked up right.
 fn looks_up_each(alloc: Global, catalogue: &Catalogue, count: u32) -> Result<bool, AllocError> {
     let mut key = String::new(alloc);
-    let mut digits = String::new(alloc);
     for n in 0..count {
-        key.clear();
-        key.push('k')?;
-        push_digits(&mut key, n, 6)?;
-        digits.clear();
-        push_digits(&mut digits, n, 6)?;
-        if !looks_up(catalogue, key.as_str(), digits.as_str()) {
+        write_key(&mut key, n, 6)?;
+        if !looks_up(catalogue, key.as_str()) {
             return Ok(false);
         }
     }
@@ -176,7 +183,7 @@ fn looks_up_each(alloc: Global, catalogue: &Catalogue, count: u32) -> Result<boo
 fn looks_up_among_half_a_million(rt: HostRuntime) -> Result<(), Fail> {
     let text = numbered(rt.alloc(), 500_000, 6)?;
     let mut compiled = compile(rt.alloc(), text.as_bytes(), PLAIN)?;
-    assert_eq!(rt; compiled.catalogue.len(), 500_000);
+    assert!(rt; compiled.catalogue.len() == 500_000);
     assert!(rt; looks_up_each(rt.alloc(), &compiled.catalogue, 500_000)?);
     compiled.catalogue.index(rt.alloc())?;
     assert!(rt; looks_up_each(rt.alloc(), &compiled.catalogue, 500_000)?);

@@ -96,39 +96,31 @@ fn counts(compiled: &Compiled, numbers: (u32, u32, u32), header_line: u32) -> bo
     (translated, fuzzy, untranslated) == numbers && compiled.header_line == header_line
 }
 
-#[test]
-fn lists_entries_of_contexts(rt: HostRuntime) -> Result<(), Fail> {
-    let compiled = compile(rt.alloc(), CONTEXTS, PLAIN)?;
-    let lines = entries(rt.alloc(), &compiled.catalogue)?;
-    assert_eq!(rt;
-        lines.as_str(),
-        "\u{4}b||b|-|1|1\nb|-|b|-|2|2\nk\u{4}b|k|b|-|3|3\n"
-    );
-    assert!(rt; finds_each(&compiled.catalogue));
-    assert!(rt; counts(&compiled, (3, 0, 0), 0));
-    Ok(())
+/// Whether the text compiles to these entries, in these numbers, and with the header at this line.
+fn lists(
+    alloc: Global,
+    text: &[u8],
+    lines: &str,
+    numbers: (u32, u32, u32),
+    header_line: u32,
+) -> Result<bool, Fail> {
+    let compiled = compile(alloc, text, PLAIN)?;
+    let found = entries(alloc, &compiled.catalogue)?;
+    Ok(
+        found.as_str() == lines
+            && finds_each(&compiled.catalogue)
+            && counts(&compiled, numbers, header_line),
+    )
 }
 
 #[test]
-fn lists_a_header_and_a_plural(rt: HostRuntime) -> Result<(), Fail> {
-    let compiled = compile(rt.alloc(), EVERY, PLAIN)?;
-    let lines = entries(rt.alloc(), &compiled.catalogue)?;
-    assert_eq!(rt;
-        lines.as_str(),
-        "|-||-|Language: fr\n|Language: fr\n\nk\u{4}b|k|b|bs|2\u{0}3\u{0}4|2|3|4\n"
-    );
-    assert!(rt; finds_each(&compiled.catalogue));
-    assert!(rt; counts(&compiled, (1, 1, 1), 12));
-    Ok(())
-}
-
-#[test]
-fn lists_an_empty_form(rt: HostRuntime) -> Result<(), Fail> {
+fn lists_entries(rt: HostRuntime) -> Result<(), Fail> {
+    let contexts = "\u{4}b||b|-|1|1\nb|-|b|-|2|2\nk\u{4}b|k|b|-|3|3\n";
+    assert!(rt; lists(rt.alloc(), CONTEXTS, contexts, (3, 0, 0), 0)?);
+    let every = "|-||-|Language: fr\n|Language: fr\n\nk\u{4}b|k|b|bs|2\u{0}3\u{0}4|2|3|4\n";
+    assert!(rt; lists(rt.alloc(), EVERY, every, (1, 1, 1), 12)?);
     let text = b"msgid \"b\"\nmsgid_plural \"c\"\nmsgstr[0] \"x\"\nmsgstr[1] \"\"\n";
-    let compiled = compile(rt.alloc(), text, PLAIN)?;
-    let lines = entries(rt.alloc(), &compiled.catalogue)?;
-    assert_eq!(rt; lines.as_str(), "b|-|b|c|x\u{0}|x|\n");
-    assert!(rt; finds_each(&compiled.catalogue));
+    assert!(rt; lists(rt.alloc(), text, "b|-|b|c|x\u{0}|x|\n", (1, 0, 0), 0)?);
     Ok(())
 }
 
@@ -157,28 +149,38 @@ fn finds_none(catalogue: &Catalogue, context: Option<&str>, ids: &[&str]) -> boo
     true
 }
 
-#[test]
-fn finds_in_contexts(rt: HostRuntime) -> Result<(), Fail> {
-    let compiled = compile(rt.alloc(), CONTEXTS, PLAIN)?;
-    let catalogue = &compiled.catalogue;
-    assert!(rt; finds_none(catalogue, None, &["", "\u{4}", "a", "bb", "k", "z"]));
-    assert!(rt; finds_none(catalogue, Some(""), &[""]));
-    assert!(rt; finds_none(catalogue, Some("k"), &["bb"]));
-    assert!(rt; finds_none(catalogue, Some("k\u{4}"), &["b"]));
-    assert!(rt; catalogue.find(Some("k"), "b").is_some());
-    // A msgid that holds byte 4 is a key with a context.
-    assert!(rt; catalogue.find(None, "k\u{4}b").is_some());
-    Ok(())
+/// Whether just the keys of `CONTEXTS` are found. A msgid that holds byte 4 is a key with a context.
+fn finds_contexts(catalogue: &Catalogue) -> bool {
+    finds_none(catalogue, None, &["", "\u{4}", "a", "bb", "k", "z"])
+        && finds_none(catalogue, Some(""), &[""])
+        && finds_none(catalogue, Some("k"), &["bb"])
+        && finds_none(catalogue, Some("k\u{4}"), &["b"])
+        && catalogue.find(Some("k"), "b").is_some()
+        && catalogue.find(None, "k\u{4}b").is_some()
 }
 
 #[test]
-fn looks_up(rt: HostRuntime) -> Result<(), Fail> {
+fn finds_in_contexts(rt: HostRuntime) -> Result<(), Fail> {
+    let compiled = compile(rt.alloc(), CONTEXTS, PLAIN)?;
+    assert!(rt; finds_contexts(&compiled.catalogue));
+    Ok(())
+}
+
+/// The look-ups of `POLISH`.
+fn looks_up(catalogue: &Catalogue) -> bool {
+    catalogue.gettext("file") == "plik"
+        && catalogue.pgettext("k", "file") == "file"
+        && catalogue.ngettext("file", "files", 22) == "pliki"
+        && catalogue.npgettext("k", "file", "files", 22) == "files"
+}
+
+/// A file that was kept is the same catalogue once more.
+#[test]
+fn looks_up_in_a_copy(rt: HostRuntime) -> Result<(), Fail> {
     let compiled = compile(rt.alloc(), POLISH, CHECKED)?;
-    let catalogue = &compiled.catalogue;
-    assert_eq!(rt; catalogue.gettext("file"), "plik");
-    assert_eq!(rt; catalogue.pgettext("k", "file"), "file");
-    assert_eq!(rt; catalogue.ngettext("file", "files", 22), "pliki");
-    assert_eq!(rt; catalogue.npgettext("k", "file", "files", 22), "files");
+    assert!(rt; looks_up(&compiled.catalogue));
+    let copy = Catalogue::from_file(rt.alloc(), compiled.catalogue.file())?;
+    assert!(rt; looks_up(&copy) && copy.file() == compiled.catalogue.file());
     one_meaning();
     Ok(())
 }
@@ -211,22 +213,11 @@ fn names_missing_fields(rt: HostRuntime) {
 }
 
 #[test]
-fn copies_a_file(rt: HostRuntime) -> Result<(), Fail> {
-    let compiled = compile(rt.alloc(), POLISH, PLAIN)?;
-    let copy = Catalogue::from_file(rt.alloc(), compiled.catalogue.file())?;
-    assert_eq!(rt; copy.ngettext("file", "files", 22), "pliki");
-    assert!(rt; copy.file() == compiled.catalogue.file());
-    Ok(())
-}
-
-#[test]
 fn makes_an_empty_catalogue(rt: HostRuntime) -> Result<(), Fail> {
     let alloc = rt.alloc();
     let sorted = Catalogue::from_sorted(alloc, Vec::new(alloc))?;
-    assert!(rt; sorted.is_empty());
-    assert_eq!(rt; sorted.ngettext("file", "files", 1), "file");
+    assert!(rt; sorted.is_empty() && sorted.ngettext("file", "files", 1) == "file");
     let listed = Catalogue::from_strings(alloc, Vec::new(alloc))?;
-    assert!(rt; listed.is_empty());
-    assert_eq!(rt; listed.ngettext("file", "files", 2), "files");
+    assert!(rt; listed.is_empty() && listed.ngettext("file", "files", 2) == "files");
     Ok(())
 }
