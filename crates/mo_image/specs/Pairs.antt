@@ -1,4 +1,4 @@
--- Private: the entries that originals and translations are.
+-- The entries that originals and translations are: cut at their NULs.
 use Rattle.std.specs.Prelude.{◌≡◌, ℕ, ◌<◌, ◌==◌, List, [], ◌∷◌, length, slice_index, Option, option_map}
 use Rattle.std.specs.List.{before_first}
 use Rattle.mo_image.specs.Entry.{Entry}
