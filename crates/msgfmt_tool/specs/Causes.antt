@@ -8,13 +8,16 @@ use Rattle.catalogue.specs.declared.LoadKind.TheVariants as load
 use Rattle.msgfmt_tool.specs.declared.outcome.Cause.{Cause}
 use Rattle.msgfmt_tool.specs.declared.outcome.Cause.TheVariants.{CannotRead, Refused, Memory}
 
+-- of an INPUT that wasn't read
 abbrev pub cause_of_input : InputFault → Cause
 cause_of_input input.Unreadable = CannotRead
 cause_of_input input.Memory = Memory
 
+-- want of memory
 abbrev pub is_memory : LoadKind → Bool
 is_memory load.Memory = true
 is_memory _ = false
 
+-- of a text that wasn't compiled
 abbrev pub cause_of_load : LoadFault → Cause
 cause_of_load fault = if is_memory fault.kind then Memory else Refused fault

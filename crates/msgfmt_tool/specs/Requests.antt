@@ -7,6 +7,7 @@ use Rattle.msgfmt_tool.specs.declared.words.Request.{Request}
 use Rattle.msgfmt_tool.specs.declared.words.WordsFault.{WordsFault}
 use Rattle.msgfmt_tool.specs.declared.words.WordsFault.TheVariants.{Help, Faulty, Memory}
 
+-- what a request asks for
 abbrev pub asked_in : Request → Asked
 asked_in r = record {
   options = r.options;

@@ -46,15 +46,17 @@ pub record Run : Type 0 where
   pub output : Change OutputSeen
   pub error_failures : Change ℕ
 
--- each device as it stands, by what its type tells of it
+-- the files as they stand, by what their type tells of them
 abbrev pub files_seen : {F : Type 0} → (F → List ℕ → Option (List ℕ)) → (F → Log) → (F → ℕ) → F → FilesSeen
 files_seen content written failures files =
     record { content = content files; log = written files; failures = failures files }
 
+-- the same of standard input
 abbrev pub input_seen : {R : Type 0} → (R → Option (List ℕ)) → (R → ℕ) → (R → ℕ) → R → InputSeen
 input_seen remaining reads failures reader =
     record { left = remaining reader; reads = reads reader; failures = failures reader }
 
+-- the same of standard output
 abbrev pub output_seen : {W : Type 0} → (W → Option (List ℕ)) → (W → ℕ) → W → OutputSeen
 output_seen contents failures writer = record { bytes = contents writer; failures = failures writer }
 
@@ -75,6 +77,7 @@ pub record IsUnwritten (files : Change FilesSeen) (output : Change OutputSeen) :
 
 -- ---- INPUT and FILE: a file of this name, but `-` is standard input and standard output
 
+-- the name of standard input and standard output
 abbrev pub is_standard : List ℕ → Bool
 is_standard name = bytes_eq name (codes "-")
 

@@ -45,6 +45,7 @@ msgfmt = with_rule (with_rule (with_rule (with_rule msgfmt_flags
 
 -- ---- what is asked for
 
+-- the options, whether the statistics are to be printed, INPUT where it is named, and FILE
 pub record Asked : Type 0 where
   pub options : Options
   pub statistics : Bool
@@ -55,9 +56,11 @@ pub record Asked : Type 0 where
 abbrev pub is_true : Option (List ℕ) → Bool
 is_true value = option_map_or (λ text. bytes_eq text (codes "true")) value false
 
+-- the flag of this id stands among the words
 abbrev pub is_on : List ℕ → List Row → Bool
 is_on id rows = is_true (first_of id rows)
 
+-- what the values that clap finds ask for
 abbrev pub asked_by : List Row → Asked
 asked_by rows = record {
   options = record { checked = is_on (codes "check") rows; use_fuzzy = is_on (codes "use-fuzzy") rows };
@@ -66,6 +69,7 @@ asked_by rows = record {
   output = unwrap_or (first_of (codes "output-file") rows) (codes "messages.mo");
 }
 
+-- what the words ask for
 abbrev pub asked : List (List ℕ) → Asked
 asked words = asked_by (matches_of msgfmt words)
 
@@ -75,6 +79,7 @@ asked words = asked_by (matches_of msgfmt words)
 abbrev pub word_faults : List (List ℕ) → Kinds
 word_faults words = fault_of msgfmt words
 
+-- the words are those of a command line
 abbrev pub AreTaken : List (List ℕ) → Type 0
 AreTaken words = word_faults words ≡ []
 
