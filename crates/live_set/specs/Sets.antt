@@ -23,7 +23,8 @@ no_loads = record { version = 0; held = [] }
 -- and all others the map that they had
 pub record HasAbsorbed (load : LoadValue) (old new : SetValue) : Type 0 where
   pub version : new.version ≡ min (old.version + 1) 18446744073709551615
-  pub maps : (domain locale : List ℕ) → map_in new.held domain locale ≡ (if is_for domain locale load then load.map else map_in old.held domain locale)
+  pub maps : (domain locale : List ℕ)
+      → map_in new.held domain locale ≡ (if is_for domain locale load then load.map else map_in old.held domain locale)
 
 -- ---- for the crates above, which keep two copies of a set alike: the one value that a set has after its loads
 

@@ -36,4 +36,5 @@ pub record IsAt (held : List LoadValue) (domain locale : List ℕ) (i : ℕ) : T
 pub record IsGapFor (held : List LoadValue) (domain locale : List ℕ) (i : ℕ) : Type 0 where
   pub in_range : i ≤ length held
   pub below : (k : ℕ) (d : LoadValue) → k < i → compared (slice_index_or held k d) (asked domain locale) ≡ Less
-  pub above : (k : ℕ) (d : LoadValue) → i ≤ k → k < length held → compared (slice_index_or held k d) (asked domain locale) ≡ Greater
+  pub above : (k : ℕ) (d : LoadValue) → i ≤ k → k < length held
+      → compared (slice_index_or held k d) (asked domain locale) ≡ Greater

@@ -66,25 +66,12 @@ fn takes_names(rt: HostRuntime) -> Result<(), Fail> {
 }
 
 #[test]
-fn absorbs_one_load(rt: HostRuntime) -> Result<(), Fail> {
-    let alloc = rt.alloc();
-    let mut set = CatalogueSet::new(alloc);
-    let there = plain(alloc, "app", "fr", "hi")?;
-    let elsewhere = plain(alloc, "app", "sv", "hi")?;
-    assert_eq!(rt; set.version(), 0);
-    assert_eq!(rt; set.look(&there), "hi");
-    set.absorb(&load(alloc, "app", "fr", SALUT)?)?;
-    assert_eq!(rt; set.version(), 1);
-    assert_eq!(rt; set.look(&there), "salut");
-    assert_eq!(rt; set.look(&elsewhere), "hi");
-    Ok(())
-}
-
-#[test]
 fn keeps_the_last_load(rt: HostRuntime) -> Result<(), Fail> {
     let alloc = rt.alloc();
     let mut set = CatalogueSet::new(alloc);
-    // The domain decides before the locale, and a name before the one that it begins.
+    assert_eq!(rt; set.version(), 0);
+    assert_eq!(rt; set.gettext("app", "fr", "hi"), "hi");
+    // Pairs the other way round, and names that begin one another.
     for (domain, locale, text) in [
         ("b", "a", HALLO),
         ("app", "fr", SALUT),
