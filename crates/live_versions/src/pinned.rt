@@ -81,6 +81,7 @@ impl Pinned<'_> {
 
     /// The translation of a msgid in a domain and a locale (`catalogue::Catalogue::gettext`), or the msgid where
     /// there is none.
+    #[tactic(auto, using(crate::proofs::Looking::searched))]
     pub fn gettext<'a>(&'a self, domain: &str, locale: &str, id: &'a str) -> &'a str
         ensures { HasValue (map_of (joined (entry_of self.now).batches) domain.now locale.now)
             (Plain id.now) result.now }
