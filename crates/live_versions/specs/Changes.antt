@@ -5,6 +5,7 @@ use Rattle.live_versions.specs.declared.rule.Change.{Change}
 use Rattle.live_versions.specs.declared.rule.Change.TheVariants.{Load, Seal}
 use Rattle.live_versions.specs.Seen.{SeenValue}
 
+-- the loads among some changes
 abbrev pub loads_of : List Change → List LoadValue
 loads_of [] = []
 loads_of (Load load ∷ changes) = load ∷ loads_of changes

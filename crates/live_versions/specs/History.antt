@@ -18,6 +18,7 @@ pub record State : Type 0 where
   pub pending : List LoadValue
   pub seen : ℕ → ℕ
 
+-- a new store: nothing is published, pending or seen
 abbrev pub opened : State
 opened = record { batches = []; pending = []; seen = λ reader. 0 }
 
@@ -71,11 +72,12 @@ abbrev pub EntersNoLess : Type 0
 EntersNoLess = (most : ℕ) (first between : List Event) (reader version : ℕ)
     → IsLegal most ((first ++ between) ++ Enter reader version ∷ []) → (state_of first).seen reader ≤ version
 
--- each version that a reader enters or learns of, and each that it has seen, is that of whole batches at the front
+-- each version that a reader has seen is that of whole batches at the front
 abbrev pub SeesWholeBatches : Type 0
 SeesWholeBatches = (most : ℕ) (history : List Event) (reader : ℕ) → IsLegal most history
     → IsWhole (state_of history) ((state_of history).seen reader)
 
+-- so is each version that a reader enters
 abbrev pub EntersWholeBatches : Type 0
 EntersWholeBatches = (most : ℕ) (history : List Event) (reader version : ℕ)
     → IsLegal most (history ++ Enter reader version ∷ []) → IsWhole (state_of history) version

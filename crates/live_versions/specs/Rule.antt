@@ -11,6 +11,7 @@ use Rattle.live_versions.specs.Seen.{SeenValue}
 use Rattle.live_versions.specs.SeatViews.{ViewValue}
 use Rattle.live_versions.specs.Batches.{joined, version_of, StartsWith, NoneEmpty}
 
+-- what a change does to a copy
 abbrev pub applied_to : Common → Change → Common
 applied_to s (Load load) = record { set = absorbed s.set load; seen = s.seen }
 applied_to s (Seal seen) = record { set = s.set; seen = seen }

@@ -8,5 +8,6 @@ pub record ViewValue : Type 0 where
   pub books : List Book
   pub batches : List (List LoadValue)
 
+-- nothing is known or seen
 abbrev pub fresh : ViewValue
 fresh = record { books = []; batches = [] }

@@ -26,6 +26,7 @@ pub record AreNames (domain locale : List ℕ) : Type 0 where
   pub domain_is : IsName domain
   pub locale_is : IsName locale
 
+-- one more load may be accepted
 abbrev pub HasRoom : StoreValue → Type 0
 HasRoom s = accepted s < s.most
 

@@ -73,6 +73,7 @@ impl Pinned<'_> {
     }
 
     /// The text of a query.
+    #[tactic(auto, using(crate::proofs::Looking::searched))]
     pub fn look<'a>(&'a self, query: &'a Query) -> &'a str
         ensures { IsAnswer (joined (entry_of self.now).batches) query.now result.now }
     {
@@ -81,6 +82,7 @@ impl Pinned<'_> {
 
     /// The translation of a msgid in a domain and a locale (`catalogue::Catalogue::gettext`), or the msgid where
     /// there is none.
+    #[tactic(auto, using(crate::proofs::Looking::searched))]
     pub fn gettext<'a>(&'a self, domain: &str, locale: &str, id: &'a str) -> &'a str
         ensures { HasValue (map_of (joined (entry_of self.now).batches) domain.now locale.now)
             (Plain id.now) result.now }
@@ -89,6 +91,7 @@ impl Pinned<'_> {
     }
 
     /// The translation of a msgid in a context (`pgettext`).
+    #[tactic(auto, using(crate::proofs::Looking::searched))]
     pub fn pgettext<'a>(&'a self, domain: &str, locale: &str, context: &str, id: &'a str) -> &'a str
         ensures { HasValue (map_of (joined (entry_of self.now).batches) domain.now locale.now)
             (Context context.now id.now) result.now }
@@ -97,6 +100,7 @@ impl Pinned<'_> {
     }
 
     /// The form that a number takes of a message with a plural (`ngettext`).
+    #[tactic(auto, using(crate::proofs::Looking::searched))]
     pub fn ngettext<'a>(
         &'a self,
         domain: &str,
@@ -112,6 +116,7 @@ impl Pinned<'_> {
     }
 
     /// The same of a message in a context (`npgettext`).
+    #[tactic(auto, using(crate::proofs::Looking::searched))]
     pub fn npgettext<'a>(
         &'a self,
         domain: &str,
