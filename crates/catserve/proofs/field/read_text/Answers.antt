@@ -12,7 +12,7 @@ returns-in_default-split_escape c =
     let rest = c.escapes.rest.now in
     let plain = c.in-Some.plain.now in
     let behind = c.in-Some.behind.now in
-    let cut = c.in-Some.ensures in
+    let cut = c.in-Some.ensures.cases in
     reads_none c.args.field.now (string_bytes c.escapes.text) rest plain behind c.escapes.invariant.going (cut_whole 92 rest plain behind cut) (cut_lacks 92 rest plain behind cut) c.in_default-split_escape.ensures
 
 pub escapes-preserved : goal.escapes-preserved
@@ -21,7 +21,7 @@ escapes-preserved c =
     let plain = c.in-Some.plain.now in
     let behind = c.in-Some.behind.now in
     let after = c.in-Some-split_escape.after.now in
-    let cut = c.in-Some.ensures in
+    let cut = c.in-Some.ensures.cases in
     let whole = cut_whole 92 rest plain behind cut in
     let escape = c.in-Some-split_escape.ensures in
     let more = reads_more c.args.field.now (string_bytes c.escapes.text) rest plain behind after escape.0 c.in-Some-split_escape.byte c.escapes.invariant.going whole (cut_lacks 92 rest plain behind cut) escape.1 escape.2 in
@@ -32,5 +32,5 @@ escapes-preserved c =
 pub returns : goal.returns
 returns c =
     let rest = c.escapes.rest.now in
-    let none = uncut_lacks 92 rest c.in_default.ensures in
+    let none = uncut_lacks 92 rest c.in_default.ensures.cases in
     reads_all c.args.field.now (string_bytes c.escapes.text) rest c.escapes.invariant.going none ∙ ap (λ zs. Some zs) (sym c.in_ok-push_str-2.ensures.bytes)
