@@ -1,17 +1,21 @@
 -- Directives: that a text begins with one at most, and which can't be read.
-use Rattle.std.proofs.Common.{◌≡◌, ℕ, ◌<◌, true, List, [], ◌∷◌, ◌++◌, length, take, drop, get_or, Option, None, Some, refl, sym, ap, ◌∙◌, arith, inl, inr, append_assoc}
+use Rattle.std.proofs.Common.{◌≡◌, ℕ, ◌<◌, true, List, [], ◌∷◌, ◌++◌, length, take, drop, get_or}
+use Rattle.std.proofs.Common.{Option, None, Some, refl, sym, ap, ◌∙◌, arith, inl, inr, append_assoc}
 use Rattle.std.proofs.lemmas.List.{take-append-drop, append_cancel_left}
 use Rattle.std.specs.Prelude.{codes, is_some, MatchOption}
 use Rattle.std.specs.Str.{bytes_eq}
 use Rattle.std.proofs.lemmas.Slice.Eq.{bytes_eq-Decides}
 use Rattle.c_signature.specs.declared.Size.TheVariants.{Byte, Short, Plain, Long, LongLong, Max, SizeT, PtrDiff}
 use Rattle.c_signature.specs.declared.FormatFault.TheVariants.{Invalid, SystemDependent}
-use Rattle.c_signature.specs.Parts.{Modifier, Of, LongDouble, Longest, NumberForm, FlagsForm, WidthForm, PrecisionForm, ModifierForm, percent}
+use Rattle.c_signature.specs.Pieces.{Modifier, Of, LongDouble, Longest, NumberForm}
+use Rattle.c_signature.specs.Pieces.{FlagsForm, WidthForm, PrecisionForm, ModifierForm, percent}
 use Rattle.c_signature.specs.Conversions.{Undefined, argument_of}
-use Rattle.c_signature.specs.Directives.{Head, Directive, own_argument, HeadAt, TailAt, DirectiveAt, IsAllowed, BeginsMacro, is_name_byte, is_macro_conversion}
-use Rattle.c_signature.specs.Reading.{IsRun, Refuses}
+use Rattle.c_signature.specs.Directives.{Head, Directive, own_argument, HeadAt, TailAt}
+use Rattle.c_signature.specs.Directives.{DirectiveAt, IsAllowed, BeginsMacro, is_name_byte, is_macro_conversion}
+use Rattle.c_signature.specs.Scanning.{IsRun, Refuses}
 use Rattle.c_signature.proofs.Runs.{one_run}
-use Rattle.c_signature.proofs.PartLemmas.{longest_one, number_value, flags_value, width_value, precision_value, modifier_value, not_at}
+use Rattle.c_signature.proofs.PartLemmas.{longest_one, number_value, flags_value, width_value}
+use Rattle.c_signature.proofs.PartLemmas.{precision_value, modifier_value, not_at}
 
 -- two heads of one text
 pub head_one : (h k : Head) (text rest more : List ℕ) → HeadAt h text rest → HeadAt k text more → (h ≡ k) × (rest ≡ more)

@@ -1,7 +1,9 @@
 -- A text cut into plain pieces and directives, from the front.
-use Rattle.std.proofs.Common.{◌≡◌, ℕ, ◌+◌, ◌-◌, ◌<◌, ◌≤◌, true, List, [], ◌∷◌, ◌++◌, length, take, drop, get_or, None, Some, refl, sym, ap, subst, ◌∙◌, arith, inl, inr}
+use Rattle.std.proofs.Common.{◌≡◌, ℕ, ◌+◌, ◌-◌, ◌<◌, ◌≤◌, true, List, [], ◌∷◌, ◌++◌, length, take}
+use Rattle.std.proofs.Common.{drop, get_or, None, Some, refl, sym, ap, subst, ◌∙◌, arith, inl, inr}
 use Rattle.std.specs.List.{list_all, flat_map}
-use Rattle.std.proofs.lemmas.List.{append-nil, take-append-drop, take_rest, drop_more, length-append, flat_map_more, take_all, get_or_default, get_or-take, length-take-le}
+use Rattle.std.proofs.lemmas.List.{append-nil, take-append-drop, take_rest, drop_more, length-append}
+use Rattle.std.proofs.lemmas.List.{flat_map_more, take_all, get_or_default, get_or-take, length-take-le}
 use Rattle.std.proofs.lemmas.List.Sums.{list_all-from_AllPass}
 use Rattle.std.proofs.lemmas.Bool.{cases_Bool, eqb-true}
 use Rattle.memchr.specs.Find.{IsFirstByte, is_byte}
@@ -10,10 +12,11 @@ use Rattle.c_signature.specs.declared.FormatFault.{FormatFault}
 use Rattle.c_signature.specs.declared.FormatFault.TheVariants.{Invalid, SystemDependent, Memory}
 use Rattle.c_signature.specs.declared.directives.Directive as code_directive
 use Rattle.c_signature.specs.declared.requests.Requests.{Requests}
-use Rattle.c_signature.specs.Parts.{Longest, percent}
+use Rattle.c_signature.specs.Pieces.{Longest, percent}
 use Rattle.c_signature.specs.Directives.{Directive, DirectiveAt}
-use Rattle.c_signature.specs.Signature.{Request, requests, AsksFor, HasNoList, is_plain, SkipsPlain, Cuts, Lists, HasFormatFault}
-use Rattle.c_signature.specs.Reading.{Refuses, ReadsDirective, asked_by}
+use Rattle.c_signature.specs.Signature.{Request, requests, AsksFor, HasNoList, is_plain}
+use Rattle.c_signature.specs.Signature.{SkipsPlain, Cuts, Lists, HasFormatFault}
+use Rattle.c_signature.specs.Scanning.{Refuses, ReadsDirective, asked_by}
 use Rattle.c_signature.specs.Asked.{Adds, Holds, IsInvalidOnly}
 
 -- ---- the next `%`

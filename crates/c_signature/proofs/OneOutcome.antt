@@ -1,14 +1,16 @@
 -- A text has one cut, and so one outcome.
-use Rattle.std.proofs.Common.{◌≡◌, ℕ, zero, suc, ◌+◌, ◌<◌, length, List, [], ◌∷◌, ◌++◌, Some, refl, sym, ap, subst, ◌∙◌, arith, inl, inr}
+use Rattle.std.proofs.Common.{◌≡◌, ℕ, zero, suc, ◌+◌, ◌<◌, length, List, [], ◌∷◌}
+use Rattle.std.proofs.Common.{◌++◌, Some, refl, sym, ap, subst, ◌∙◌, arith, inl, inr}
 use Rattle.std.specs.Prelude.{slice_get, ◌⊎◌}
 use Rattle.std.specs.List.{flat_map}
 use Rattle.std.proofs.lemmas.Bool.{cases_eq, ne_eqb}
 use Rattle.std.proofs.lemmas.Option.{slice_get_within}
 use Rattle.c_signature.specs.declared.ArgKind.{ArgKind}
-use Rattle.c_signature.specs.Parts.{percent}
+use Rattle.c_signature.specs.Pieces.{percent}
 use Rattle.c_signature.specs.Directives.{Directive, DirectiveAt, IsUnreadable, NamesMacro}
-use Rattle.c_signature.specs.Signature.{Request, requests, InOrder, ByNumber, AsksFor, is_plain, SkipsPlain, Cuts, IsFormat, StopsAt, Lists, IsInvalid, IsSystemDependent}
-use Rattle.c_signature.specs.Reading.{Stops}
+use Rattle.c_signature.specs.Signature.{Request, requests, InOrder, ByNumber, AsksFor, is_plain, SkipsPlain}
+use Rattle.c_signature.specs.Signature.{Cuts, IsFormat, StopsAt, Lists, IsInvalid, IsSystemDependent}
+use Rattle.c_signature.specs.Scanning.{Stops}
 use Rattle.c_signature.proofs.Runs.{one_run}
 use Rattle.c_signature.proofs.DirectiveLemmas.{directive_one}
 use Rattle.c_signature.proofs.RequestLemmas.{contains_first}

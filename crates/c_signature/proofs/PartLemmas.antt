@@ -1,5 +1,6 @@
 -- What the parts of a directive are, one by one: that a value has one form, and which front is the longest.
-use Rattle.std.proofs.Common.{◌≡◌, ℕ, zero, suc, ◌<◌, ◌≤◌, ◌^◌, true, false, List, [], ◌∷◌, ◌++◌, length, take, drop, get_or, Option, None, Some, refl, sym, ap, ◌∙◌, arith, inl, inr}
+use Rattle.std.proofs.Common.{◌≡◌, ℕ, zero, suc, ◌<◌, ◌≤◌, ◌^◌, true, false, List, [], ◌∷◌, ◌++◌, length}
+use Rattle.std.proofs.Common.{take, drop, get_or, Option, None, Some, refl, sym, ap, ◌∙◌, arith, inl, inr}
 use Rattle.std.proofs.lemmas.List.{append_cancel_right, append_assoc, take_at, drop_at}
 use Rattle.std.proofs.lemmas.Bool.{and_parts, and_from, leb-true, le-leb}
 use Rattle.std.specs.List.{list_all}
@@ -8,8 +9,10 @@ use Rattle.std.specs.Str.{bytes_eq}
 use Rattle.std.specs.Prelude.{codes, nat_le, if◌then◌else◌}
 use Rattle.std.proofs.Math.Nat.{pow-le-pow_right}
 use Rattle.c_signature.specs.declared.Size.TheVariants.{Byte, Short, Plain, Long, LongLong, Max, SizeT, PtrDiff}
-use Rattle.c_signature.specs.Parts.{Amount, Fixed, Asked, Modifier, Of, LongDouble, decimal_value, Longest, NumberForm, FlagsForm, WidthForm, PrecisionForm, ModifierForm, is_flag, dollar, star, dot, IsNumeral, is_first_digit}
-use Rattle.c_signature.specs.Reading.{BeginsNumber, IsRun, IsNumberOf}
+use Rattle.c_signature.specs.Pieces.{Amount, Fixed, Asked, Modifier, Of, LongDouble, decimal_value}
+use Rattle.c_signature.specs.Pieces.{Longest, NumberForm, FlagsForm, WidthForm, PrecisionForm, ModifierForm, is_flag}
+use Rattle.c_signature.specs.Pieces.{dollar, star, dot, IsNumeral, is_first_digit}
+use Rattle.c_signature.specs.Scanning.{BeginsNumber, IsRun, IsNumberOf}
 use Rattle.c_signature.proofs.Runs.{run_longest, one_run}
 
 -- ---- one reading

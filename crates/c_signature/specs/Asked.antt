@@ -1,4 +1,4 @@
--- Private words: what is asked for, as the code keeps it.
+-- Private: what is asked for, as the code keeps it.
 use Rattle.std.specs.Prelude.{◌≡◌, ℕ, List, ◌++◌, Option, None, Some}
 use Rattle.std.specs.List.{filter_map}
 use Rattle.std.specs.List.Sorted.{IsNonDecreasingBy}

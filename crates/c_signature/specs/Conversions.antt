@@ -4,9 +4,10 @@ use Rattle.std.specs.List.{list_any}
 use Rattle.c_signature.specs.declared.Size.{Size}
 use Rattle.c_signature.specs.declared.Size.TheVariants.{Plain, Long, LongLong}
 use Rattle.c_signature.specs.declared.ArgKind.{ArgKind}
-use Rattle.c_signature.specs.declared.ArgKind.TheVariants.{Signed, Unsigned, Double, LongDouble, Char, WideChar, Text, WideText, Pointer, Count}
-use Rattle.c_signature.specs.Parts.{Modifier, Of}
-use Rattle.c_signature.specs.Parts as parts
+use Rattle.c_signature.specs.declared.ArgKind.TheVariants.{Signed, Unsigned, Double, LongDouble, Char}
+use Rattle.c_signature.specs.declared.ArgKind.TheVariants.{WideChar, Text, WideText, Pointer, Count}
+use Rattle.c_signature.specs.Pieces.{Modifier, Of}
+use Rattle.c_signature.specs.Pieces as parts
 
 -- what a pair of conversion and length modifier takes: it has no meaning; no argument; one
 pub data Argument : Type 0 where
@@ -59,7 +60,8 @@ table =
 -- the row of a conversion, at a length modifier
 abbrev pub find_in : List (List ℕ × (Modifier → Argument)) → ℕ → Modifier → Argument
 find_in [] conversion modifier = Undefined
-find_in (row ∷ rows) conversion modifier = if list_any (λ letter. conversion == letter) row.0 then row.1 modifier else find_in rows conversion modifier
+find_in (row ∷ rows) conversion modifier =
+    if list_any (λ letter. conversion == letter) row.0 then row.1 modifier else find_in rows conversion modifier
 
 abbrev pub argument_of : ℕ → Modifier → Argument
 argument_of conversion modifier = find_in table conversion modifier

@@ -2,7 +2,8 @@
 use Rattle.std.specs.Prelude.{◌≡◌, ℕ, ◌<◌, length, Bool, true, ◌||◌, ◌==◌, List, ◌∷◌, ◌++◌, Option, None, codes}
 use Rattle.std.specs.List.{list_all, list_any}
 use Rattle.std.specs.Char.{is_ascii_digit, is_ascii_uppercase}
-use Rattle.c_signature.specs.Parts.{Amount, Modifier, Longest, NumberForm, FlagsForm, WidthForm, PrecisionForm, ModifierForm, percent}
+use Rattle.c_signature.specs.Pieces.{Amount, Modifier, Longest, NumberForm, FlagsForm}
+use Rattle.c_signature.specs.Pieces.{WidthForm, PrecisionForm, ModifierForm, percent}
 use Rattle.c_signature.specs.Conversions.{Argument, Undefined, Nothing, One, argument_of}
 
 -- what stands before the length modifier

@@ -1,7 +1,7 @@
-pub mod Parts
+pub mod Pieces
 pub mod Conversions
 pub mod Directives
 pub mod Signature
 pub mod Agreement
-pub mod Reading
+pub mod Scanning
 pub mod Asked

@@ -1,5 +1,6 @@
 -- The parts of a directive (C standard 7.21.6.1, 4), with the numbers of arguments of POSIX.
-use Rattle.std.specs.Prelude.{◌≡◌, ℕ, ◌+◌, ◌-◌, ◌*◌, ◌≤◌, Bool, true, ◌&&◌, ◌==◌, nat_le, List, [], ◌∷◌, ◌++◌, length, Option, None, Some, ◌⊎◌, codes}
+use Rattle.std.specs.Prelude.{◌≡◌, ℕ, ◌+◌, ◌-◌, ◌*◌, ◌≤◌, Bool, true, ◌&&◌, ◌==◌, nat_le}
+use Rattle.std.specs.Prelude.{List, [], ◌∷◌, ◌++◌, length, Option, None, Some, ◌⊎◌, codes}
 use Rattle.std.specs.List.{fold, list_all, list_any}
 use Rattle.std.specs.Char.{is_ascii_digit}
 use Rattle.c_signature.specs.declared.Size.{Size}
@@ -21,7 +22,8 @@ dot = 46
 
 -- ---- a part of a text, as long as it can be
 
--- The front of text has this form, at this value, and no longer front has it, at any value; behind the front stands rest.
+-- The front of text has this form, at this value, and no longer front has it, at any value; behind the front stands
+-- rest.
 pub record Longest {V : Type 0} (Form : V → List ℕ → Type 0) (value : V) (text rest : List ℕ) : Type 0 where
   pub front : List ℕ
   pub text_is : text ≡ front ++ rest
@@ -45,7 +47,9 @@ IsNumeral (b ∷ more) = (is_first_digit b ≡ true) × (list_all is_ascii_digit
 -- POSIX, fprintf: `m$`, with at most 9 digits, or nothing
 abbrev pub NumberForm : Option ℕ → List ℕ → Type 0
 NumberForm None front = front ≡ []
-NumberForm (Some m) front = (digits : List ℕ) × (front ≡ digits ++ dollar ∷ []) × IsNumeral digits × (length digits ≤ 9) × (m ≡ decimal_value digits)
+NumberForm (Some m) front =
+    (digits : List ℕ) × (front ≡ digits ++ dollar ∷ []) × IsNumeral digits × (length digits ≤ 9)
+    × (m ≡ decimal_value digits)
 
 -- ---- the parts
 
@@ -69,7 +73,8 @@ WidthForm (Asked number) front = (after : List ℕ) × (front ≡ star ∷ after
 
 -- 7.21.6.1, 4: nothing, a dot and digits, none or more, or `.*` or `.*m$`
 abbrev pub PrecisionForm : Amount → List ℕ → Type 0
-PrecisionForm Fixed front = (front ≡ []) ⊎ ((digits : List ℕ) × (front ≡ dot ∷ digits) × (list_all is_ascii_digit digits ≡ true))
+PrecisionForm Fixed front =
+    (front ≡ []) ⊎ ((digits : List ℕ) × (front ≡ dot ∷ digits) × (list_all is_ascii_digit digits ≡ true))
 PrecisionForm (Asked number) front = (after : List ℕ) × (front ≡ dot ∷ star ∷ after) × NumberForm number after
 
 -- a length modifier: one of integers, or none; `L`

@@ -1,4 +1,4 @@
--- Private words: what the readers of parts and directives promise one another.
+-- Private: what the readers of the pieces of a directive, and of directives, promise one another.
 use Rattle.std.specs.Prelude.{◌≡◌, ℕ, ◌≤◌, Bool, true, false, List, [], ◌∷◌, ◌++◌, length, Option, None, Some}
 use Rattle.std.specs.List.{list_all}
 use Rattle.c_signature.specs.declared.FormatFault.{FormatFault}
@@ -13,7 +13,8 @@ use Rattle.c_signature.specs.declared.directives.Directive as code_directive
 use Rattle.c_signature.specs.Conversions.{Argument, Undefined, Nothing, One}
 use Rattle.c_signature.specs.Signature.{Request, amount_requests, argument_requests, requests}
 use Rattle.c_signature.specs.Directives.{Directive, DirectiveAt, IsUnreadable, NamesMacro}
-use Rattle.c_signature.specs.Parts.{Amount, Fixed, Asked, Modifier, Of, LongDouble, decimal_value, is_first_digit, IsNumeral}
+use Rattle.c_signature.specs.Pieces.{Amount, Fixed, Asked, Modifier, Of}
+use Rattle.c_signature.specs.Pieces.{LongDouble, decimal_value, is_first_digit, IsNumeral}
 
 -- ---- the enums of the code
 
@@ -32,7 +33,9 @@ argument_view (arguments.One kind) = One kind
 
 -- what a directive of the code asks for
 abbrev pub asked_by : code_directive.Directive → List Request
-asked_by d = amount_requests (amount_view d.width) ++ amount_requests (amount_view d.precision) ++ argument_requests d.number (argument_view d.argument)
+asked_by d =
+    amount_requests (amount_view d.width) ++ amount_requests (amount_view d.precision)
+    ++ argument_requests d.number (argument_view d.argument)
 
 -- text is a directive that asks for this, and then rest
 abbrev pub ReadsDirective : code_directive.Directive → List ℕ → List ℕ → Type 0

@@ -1,12 +1,13 @@
 -- The argument list of a C format, and the two other outcomes of a text.
-use Rattle.std.specs.Prelude.{◌≡◌, ℕ, ◌+◌, ◌<◌, Bool, true, not, ◌==◌, List, [], ◌∷◌, ◌++◌, length, map, Option, None, Some, ◌⊎◌, Contains, slice_get}
+use Rattle.std.specs.Prelude.{◌≡◌, ℕ, ◌+◌, ◌<◌, Bool, true, not, ◌==◌, List, []}
+use Rattle.std.specs.Prelude.{◌∷◌, ◌++◌, length, map, Option, None, Some, ◌⊎◌, Contains, slice_get}
 use Rattle.std.specs.List.{list_all, flat_map}
 use Rattle.c_signature.specs.declared.Size.TheVariants.{Plain}
 use Rattle.c_signature.specs.declared.ArgKind.{ArgKind}
 use Rattle.c_signature.specs.declared.ArgKind.TheVariants.{Signed}
 use Rattle.c_signature.specs.declared.FormatFault.{FormatFault}
 use Rattle.c_signature.specs.declared.FormatFault.TheVariants.{Invalid, SystemDependent, Memory}
-use Rattle.c_signature.specs.Parts.{Amount, Fixed, Asked, percent}
+use Rattle.c_signature.specs.Pieces.{Amount, Fixed, Asked, percent}
 use Rattle.c_signature.specs.Conversions.{Argument, One}
 use Rattle.c_signature.specs.Directives.{Directive, own_argument, DirectiveAt, IsUnreadable, NamesMacro}
 
@@ -32,7 +33,8 @@ argument_requests number _ = []
 
 -- C standard 7.21.6.1, 5: the width's argument comes first, then the precision's, then the directive's own
 abbrev pub requests : Directive → List Request
-requests d = amount_requests d.head.width ++ amount_requests d.head.precision ++ argument_requests d.head.number (own_argument d)
+requests d =
+    amount_requests d.head.width ++ amount_requests d.head.precision ++ argument_requests d.head.number (own_argument d)
 
 -- ---- the list of what is asked for
 
@@ -91,7 +93,8 @@ pub record StopsAt (text stop : List ℕ) : Type 0 where
 
 -- the text is a format with these arguments
 abbrev pub Lists : List ℕ → List ArgKind → Type 0
-Lists text kinds = (directives : List Directive) × IsFormat text directives × AsksFor (flat_map requests directives) kinds
+Lists text kinds =
+    (directives : List Directive) × IsFormat text directives × AsksFor (flat_map requests directives) kinds
 
 -- the first directive that can't be read names no macro, or what is asked for has no list
 abbrev pub IsInvalid : List ℕ → Type 0

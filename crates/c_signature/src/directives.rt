@@ -2,8 +2,8 @@
 ghost use Rattle.std.specs.Prelude.{◌≡◌, ◌↔◌, ◌++◌, ◌∷◌, ◌<◌, List, ℕ, IfOk, IfErr, IsTrue, length};
 ghost use Rattle.std.specs.List.{prefix_len};
 ghost use Rattle.c_signature.specs.Directives.{BeginsMacro, IsAllowed, is_macro_conversion, is_name_byte};
-ghost use Rattle.c_signature.specs.Reading.{IsRun, ReadsDirective, Refuses, argument_view};
-ghost use Rattle.c_signature.specs.Parts.{percent};
+ghost use Rattle.c_signature.specs.Scanning.{IsRun, ReadsDirective, Refuses, argument_view};
+ghost use Rattle.c_signature.specs.Pieces.{percent};
 
 use crate::FormatFault;
 use crate::conversions::{Argument, argument_of};

@@ -1,6 +1,6 @@
 // Whole texts: the cut into plain pieces and directives.
 ghost use Rattle.std.specs.Prelude.{◌≡◌, ℕ, List, [], ◌∷◌, IfOk, IfErr, MatchOption};
-ghost use Rattle.c_signature.specs.Parts.{percent};
+ghost use Rattle.c_signature.specs.Pieces.{percent};
 ghost use Rattle.c_signature.specs.Signature.{HasFormatFault, IsInvalid, IsSystemDependent, Lists, SkipsPlain};
 ghost use Rattle.c_signature.specs.declared.ArgKind.{ArgKind as Kind};
 

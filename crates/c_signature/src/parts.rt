@@ -3,8 +3,9 @@
 ghost use Rattle.std.specs.Prelude.{◌≡◌, ◌≢◌, ◌↔◌, IsTrue, ℕ, ◌∷◌, [], List, true, MatchOption};
 ghost use Rattle.std.specs.List.{list_all, prefix_len};
 ghost use Rattle.std.specs.Char.{is_ascii_digit};
-ghost use Rattle.c_signature.specs.Parts.{Longest, NumberForm, FlagsForm, WidthForm, PrecisionForm, ModifierForm, is_flag};
-ghost use Rattle.c_signature.specs.Reading.{BeginsNumber, IsNumberOf, IsRun, amount_view, modifier_view};
+ghost use Rattle.c_signature.specs.Pieces.{Longest, NumberForm, FlagsForm, WidthForm};
+ghost use Rattle.c_signature.specs.Pieces.{PrecisionForm, ModifierForm, is_flag};
+ghost use Rattle.c_signature.specs.Scanning.{BeginsNumber, IsNumberOf, IsRun, amount_view, modifier_view};
 
 use crate::Size;
 

@@ -4,7 +4,7 @@ use Rattle.std.specs.List.{AllByRecursion, Any}
 use Rattle.std.specs.Option.{option_map_or}
 use Rattle.po_text.specs.Entries as po
 use Rattle.po_header.specs.Grammar.{Tree}
-use Rattle.po_header.specs.Meaning.{value}
+use Rattle.po_header.specs.TreeValue.{value}
 use Rattle.c_signature.specs.Agreement.{Agrees}
 use Rattle.c_signature.specs.Signature.{Lists, IsInvalid, IsSystemDependent}
 use Rattle.c_signature.specs.declared.ArgKind.{ArgKind}

@@ -5,7 +5,8 @@ use Rattle.std.specs.Ordering.{nat_cmp}
 use Rattle.std.specs.declared.cmp.Ordering.TheVariants.{Less}
 use Rattle.std.specs.Cmp.Lexicographic.{slice_cmp}
 use Rattle.std.specs.Str.{bytes_eq}
-use Rattle.po_header.specs.Charset.{charset, IsAcceptedCharset}
+use Rattle.po_header.specs.Charset.{IsAcceptedCharset}
+use Rattle.po_header.specs.Searching.{charset}
 use Rattle.catalogue.specs.Entry.{Entry, key, IsLawfulEntry}
 use Rattle.catalogue.specs.MoFile.{spelling}
 

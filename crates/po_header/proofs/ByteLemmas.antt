@@ -1,5 +1,6 @@
 -- Searches for a byte against runs of bytes.
-use Rattle.std.proofs.Common.{◌≡◌, ℕ, ◌-◌, true, false, Bool, List, take, length, refl, sym, arith, ap, ◌∙◌, Some, None, Option}
+use Rattle.std.proofs.Common.{◌≡◌, ℕ, ◌-◌, true, false, Bool, List, take, length}
+use Rattle.std.proofs.Common.{refl, sym, arith, ap, ◌∙◌, Some, None, Option}
 use Rattle.std.specs.Option.{unwrap_or}
 use Rattle.std.specs.List.{prefix_len, take_while}
 use Rattle.std.specs.Prelude.{not, slice_range}

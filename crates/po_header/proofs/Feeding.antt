@@ -2,11 +2,15 @@
 use Rattle.std.proofs.Common.{◌≡◌, ℕ, ◌<◌, ◌≤◌, List, [], ◌∷◌, ◌++◌, Option, Some, refl, sym, ap, ◌∙◌, arith}
 use Rattle.std.proofs.lemmas.Bool.{le-leb, lt-leb}
 use Rattle.po_header.specs.declared.token.Operator.{Operator}
-use Rattle.po_header.specs.declared.token.Operator.TheVariants.{Or, And, Equal, NotEqual, Less, Greater, AtMost, AtLeast, Add, Subtract, Multiply, Divide, Remainder}
+use Rattle.po_header.specs.declared.token.Operator.TheVariants.{Or, And, Equal, NotEqual, Less, Greater, AtMost}
+use Rattle.po_header.specs.declared.token.Operator.TheVariants.{AtLeast, Add, Subtract, Multiply, Divide, Remainder}
 use Rattle.po_header.specs.declared.token.Token.{Token}
 use Rattle.po_header.specs.declared.token.Token.TheVariants.{Close, Question, Colon, Sign}
-use Rattle.po_header.specs.Grammar.{Tree, Derivation, Name, Numeral, Bracketed, Negated, Joined, Chosen, level, level_of, IsGrouped, tokens_of, derived_tree, Derives}
-use Rattle.po_header.specs.Stack.{Waiting, BracketWaits, BangWaits, LeftWaits, ConditionWaits, BranchWaits, State, wanting, having, joined, negated, colon, close, left_waits, condition_waits, step, steps, start, ended, finish}
+use Rattle.po_header.specs.Grammar.{Tree, Derivation, Name, Numeral, Bracketed, Negated, Joined}
+use Rattle.po_header.specs.Grammar.{Chosen, level, level_of, IsGrouped, tokens_of, derived_tree, Derives}
+use Rattle.po_header.specs.Stack.{Waiting, BracketWaits, BangWaits, LeftWaits, ConditionWaits, BranchWaits, State}
+use Rattle.po_header.specs.Stack.{wanting, having, joined, negated, colon, close, left_waits}
+use Rattle.po_header.specs.Stack.{condition_waits, step, steps, start, ended, finish}
 
 -- ---- levels
 

@@ -6,7 +6,8 @@ use Rattle.po_header.specs.declared.tree.Node.{Node}
 use Rattle.po_header.specs.Nodes.{node_tree}
 use Rattle.po_header.specs.Grammar.{Tree, Negation}
 use Rattle.po_header.specs.Frames.{frame_waits, stack_on, stack_of, state_of}
-use Rattle.po_header.specs.Stack.{Waiting, BranchWaits, wanting, having, colon, close, ended, joined, joins_on, join_tree, negated, is_bang_waits}
+use Rattle.po_header.specs.Stack.{Waiting, BranchWaits, wanting, having, colon, close}
+use Rattle.po_header.specs.Stack.{ended, joined, joins_on, join_tree, negated, is_bang_waits}
 
 stack_on-push : (frames : List Frame) (ws : List Waiting) (frame : Frame) → stack_on ws (frames ++ frame ∷ []) ≡ frame_waits frame ∷ stack_on ws frames
 stack_on-push [] ws frame = refl

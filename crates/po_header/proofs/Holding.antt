@@ -1,12 +1,17 @@
 -- What the parser's steps find is derived by the tokens.
-use Rattle.std.proofs.Common.{◌≡◌, ℕ, ◌<◌, ◌≤◌, List, [], ◌∷◌, ◌++◌, Option, Some, None, refl, ap, ◌∙◌, arith, append_assoc, inl, inr}
+use Rattle.std.proofs.Common.{◌≡◌, ℕ, ◌<◌, ◌≤◌, List, [], ◌∷◌, ◌++◌, Option}
+use Rattle.std.proofs.Common.{Some, None, refl, ap, ◌∙◌, arith, append_assoc, inl, inr}
 use Rattle.std.proofs.lemmas.List.{append-nil}
 use Rattle.std.proofs.lemmas.Bool.{cases_lt, le-leb, lt-leb}
 use Rattle.po_header.specs.declared.token.Operator.{Operator}
 use Rattle.po_header.specs.declared.token.Token.{Token}
 use Rattle.po_header.specs.declared.token.Token.TheVariants.{Count, Number, Open, Close, Question, Colon, Bang, Sign}
-use Rattle.po_header.specs.Grammar.{Tree, Variable, Constant, Negation, Binary, Choice, Derivation, Name, Numeral, Bracketed, Negated, Joined, Chosen, level, level_of, IsGrouped, tokens_of, derived_tree, Derives}
-use Rattle.po_header.specs.Stack.{Waiting, BracketWaits, BangWaits, LeftWaits, ConditionWaits, BranchWaits, State, joined, negated, colon, close, begin, go_on, step, step_at, steps, start, ended, finish_at, finish}
+use Rattle.po_header.specs.Grammar.{Tree, Variable, Constant, Negation, Binary, Choice, Derivation}
+use Rattle.po_header.specs.Grammar.{Name, Numeral, Bracketed, Negated, Joined, Chosen, level}
+use Rattle.po_header.specs.Grammar.{level_of, IsGrouped, tokens_of, derived_tree, Derives}
+use Rattle.po_header.specs.Stack.{Waiting, BracketWaits, BangWaits, LeftWaits, ConditionWaits, BranchWaits, State}
+use Rattle.po_header.specs.Stack.{joined, negated, colon, close, begin, go_on, step}
+use Rattle.po_header.specs.Stack.{step_at, steps, start, ended, finish_at, finish}
 use Rattle.po_header.proofs.Feeding.{Fits, Fits-le, level_low, level_high}
 
 -- a derivation of a tree, with what the place of its parts asks

@@ -1,5 +1,6 @@
 -- A text spells one list of tokens.
-use Rattle.std.proofs.Common.{◌≡◌, ◌≢◌, ℕ, true, false, List, [], ◌∷◌, ◌++◌, Option, Some, None, refl, sym, ap, ◌∙◌, subst, arith, inl, inr}
+use Rattle.std.proofs.Common.{◌≡◌, ◌≢◌, ℕ, true, false, List, [], ◌∷◌, ◌++◌, Option}
+use Rattle.std.proofs.Common.{Some, None, refl, sym, ap, ◌∙◌, subst, arith, inl, inr}
 use Rattle.std.specs.Prelude.{if◌then◌else◌}
 use Rattle.std.specs.List.{take_while}
 use Rattle.std.specs.Option.{is_some}
@@ -10,8 +11,9 @@ use Rattle.std.proofs.lemmas.List.Elements.{filter_map-append}
 use Rattle.std.proofs.lemmas.List.Sums.{take_while-cons}
 use Rattle.po_header.specs.declared.token.Token.{Token}
 use Rattle.po_header.specs.Chain.{Chain}
-use Rattle.po_header.specs.Tokens.{Piece, Blank, Digits, Short, Long, PieceAt, piece_token, tokens_of_pieces, Begins, Spells, is_blank, short_symbol, long_symbol, long_at}
-use Rattle.po_header.specs.Reading.{IsStray}
+use Rattle.po_header.specs.Tokens.{Piece, Blank, Digits, Short, Long, PieceAt, piece_token}
+use Rattle.po_header.specs.Tokens.{tokens_of_pieces, Begins, Spells, is_blank, short_symbol, long_symbol, long_at}
+use Rattle.po_header.specs.Parsing.{IsStray}
 use Rattle.po_header.proofs.TokenLemmas.{nothing_stray, blank_is, digit_no_blank, digit_no_symbol, digit_no_long}
 
 -- ---- which piece stands at the front
@@ -26,10 +28,10 @@ piece_kind (Digits digits) = 1
 piece_kind (Long a b token) = 2
 piece_kind (Short b token) = 3
 
-blank_no_symbol : (b : ℕ) → is_blank b ≡ true → short_symbol b ≡ None
+blank_no_symbol : (b : ℕ) → is_blank b ≡ true → short_symbol (b ∷ []) ≡ None
 blank_no_symbol b e = elim (blank_is b e) [ inl space ↦ rw space refl | inr tab ↦ rw tab refl ]
 
-blank_no_long : (a b : ℕ) → is_blank a ≡ true → long_symbol a b ≡ None
+blank_no_long : (a b : ℕ) → is_blank a ≡ true → long_symbol (a ∷ b ∷ []) ≡ None
 blank_no_long a b e = elim (blank_is a e) [ inl space ↦ rw space refl | inr tab ↦ rw tab refl ]
 
 -- what begins a symbol is neither a blank nor a digit
@@ -66,14 +68,14 @@ Piece-one (Digits digits) (Digits digits') s m n h g =
 Piece-one (Short b token) (Short b' token') s m n h g =
     let e = h.0 in let f = g.0 in
     let same : b ≡ b' = cc (e, f) in
-    let x = h.2 in let y = g.2 in let z = ap short_symbol same in
+    let x = h.2 in let y = g.2 in let z = ap (λ (x : ℕ). short_symbol (x ∷ [])) same in
     let tokens : token ≡ token' = cc (x, y, z) in
     (cc (same, tokens), cc (e, f))
 Piece-one (Long a b token) (Long a' b' token') s m n h g =
     let e = h.0 in let f = g.0 in
     let first : a ≡ a' = cc (e, f) in
     let second : b ≡ b' = cc (e, f) in
-    let x = h.1 in let y = g.1 in let z : long_symbol a b ≡ long_symbol a' b' = cc (first, second) in
+    let x = h.1 in let y = g.1 in let z : long_symbol (a ∷ b ∷ []) ≡ long_symbol (a' ∷ b' ∷ []) = cc (first, second) in
     let tokens : token ≡ token' = cc (x, y, z) in
     (cc (first, second, tokens), cc (e, f))
 Piece-one p q s m n h g = let k = sym (kind_is p s m h) ∙ kind_is q s n g in absurd (omega arith)

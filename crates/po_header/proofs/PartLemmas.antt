@@ -1,5 +1,6 @@
 -- Parts in a row, and the trees that they are.
-use Rattle.std.proofs.Common.{◌≡◌, ℕ, ◌+◌, ◌<◌, ◌≤◌, List, [], ◌∷◌, ◌++◌, take, drop, length, get_or, refl, sym, ap, ◌∙◌, arith, length-append, append_assoc, Result, Ok, Err}
+use Rattle.std.proofs.Common.{◌≡◌, ℕ, ◌+◌, ◌<◌, ◌≤◌, List, [], ◌∷◌, ◌++◌, take, drop, length}
+use Rattle.std.proofs.Common.{get_or, refl, sym, ap, ◌∙◌, arith, length-append, append_assoc, Result, Ok, Err}
 use Rattle.std.specs.Prelude.{IfOk}
 use Rattle.std.proofs.lemmas.List.{get_or_append_left, take-append-drop, drop_more, length-take, get_or_past}
 use Rattle.std.proofs.Math.Seq.{get_or-append_seam}
@@ -7,7 +8,7 @@ use Rattle.po_header.specs.declared.parts.Part.{Part}
 use Rattle.po_header.specs.declared.parts.Part.TheVariants.{Negate, Combine, Choose}
 use Rattle.po_header.specs.declared.token.Operator.{Operator}
 use Rattle.po_header.specs.Grammar.{Tree, Variable, Negation, Binary, Choice}
-use Rattle.po_header.specs.Parts.{Builds, built, part_tree, tree_at, trees_from, trees_of}
+use Rattle.po_header.specs.ExprParts.{Builds, built, part_tree, tree_at, trees_from, trees_of}
 
 -- ---- the trees of parts
 

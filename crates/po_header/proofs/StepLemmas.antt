@@ -1,5 +1,7 @@
 -- Steps, and what they reach.
-use Rattle.std.proofs.Common.{◌≡◌, ℕ, ◌+◌, ◌-◌, ◌<◌, ◌≤◌, Bool, true, false, cond, List, [], ◌∷◌, ◌++◌, take, drop, length, get_or, Option, Some, None, Result, Ok, Err, refl, sym, ap, ◌∙◌, arith, inl, inr, length-append, append_assoc}
+use Rattle.std.proofs.Common.{◌≡◌, ℕ, ◌+◌, ◌-◌, ◌<◌, ◌≤◌, Bool, true, false, cond, List}
+use Rattle.std.proofs.Common.{[], ◌∷◌, ◌++◌, take, drop, length, get_or, Option, Some, None, Result}
+use Rattle.std.proofs.Common.{Ok, Err, refl, sym, ap, ◌∙◌, arith, inl, inr, length-append, append_assoc}
 use Rattle.std.specs.Prelude.{not, nat_lt, nat_le, ◌==◌, IfOk, IfSome}
 use Rattle.std.specs.Option.{option_map}
 use Rattle.std.proofs.lemmas.Bool.{cases_eq, cases_lt, ne_eqb, eq-eqb, le-leb, lt-leb, lt-ltb, le-ltb, ltb-false}
@@ -9,8 +11,9 @@ use Rattle.po_header.specs.declared.steps.Step.{Step}
 use Rattle.po_header.specs.declared.steps.Step.TheVariants.{Test}
 use Rattle.po_header.specs.declared.token.Operator.TheVariants.{Equal, NotEqual, Less, Greater, AtMost, AtLeast}
 use Rattle.po_header.specs.declared.tree.Node.{Node}
-use Rattle.po_header.specs.Meaning.{truth, opposite, choice, either, conjoined}
-use Rattle.po_header.specs.Steps.{Adds, IsTest, chosen_step, node_value, measured, is_within, reached, step_value, step_values, values_from, value_at}
+use Rattle.po_header.specs.TreeValue.{truth, opposite, choice, either, conjoined}
+use Rattle.po_header.specs.Steps.{Adds, IsTest, chosen_step, node_value, measured, is_within}
+use Rattle.po_header.specs.Steps.{reached, step_value, step_values, values_from, value_at}
 
 -- ---- values of steps
 

@@ -1,5 +1,7 @@
 -- Tokens at the front of a text, and where none stands.
-use Rattle.std.proofs.Common.{◌≡◌, ◌≢◌, ℕ, ◌+◌, ◌-◌, ◌*◌, ◌<◌, ◌≤◌, ◌^◌, true, false, List, [], ◌∷◌, ◌++◌, take, drop, length, get_or, Option, Some, None, refl, sym, ap, ◌∙◌, subst, arith, inl, inr, one-add}
+use Rattle.std.proofs.Common.{◌≡◌, ◌≢◌, ℕ, ◌+◌, ◌-◌, ◌*◌, ◌<◌, ◌≤◌, ◌^◌, true, false}
+use Rattle.std.proofs.Common.{List, [], ◌∷◌, ◌++◌, take, drop, length, get_or, Option, Some, None}
+use Rattle.std.proofs.Common.{refl, sym, ap, ◌∙◌, subst, arith, inl, inr, one-add}
 use Rattle.std.specs.Prelude.{◌⊎◌, nat_lt}
 use Rattle.std.specs.List.{take_while, prefix_len, fold}
 use Rattle.std.specs.Char.{is_ascii_digit}
@@ -9,8 +11,9 @@ use Rattle.std.proofs.lemmas.List.{take-append-drop, length-take, take_more}
 use Rattle.std.proofs.lemmas.List.Sums.{take_while-cons, fold-append, prefix_len-le-length}
 use Rattle.po_header.specs.declared.token.Token.{Token}
 use Rattle.po_header.specs.declared.token.Token.TheVariants.{Number}
-use Rattle.po_header.specs.Tokens.{Piece, Blank, Digits, Short, Long, PieceAt, piece_token, Begins, is_blank, short_symbol, long_symbol, long_at, decimal_value, below_limit}
-use Rattle.po_header.specs.Reading.{IsStray, StopsBlanks}
+use Rattle.po_header.specs.Tokens.{Piece, Blank, Digits, Short, Long, PieceAt, piece_token}
+use Rattle.po_header.specs.Tokens.{Begins, is_blank, short_symbol, long_symbol, long_at, decimal_value, below_limit}
+use Rattle.po_header.specs.Parsing.{IsStray, StopsBlanks}
 
 -- ---- numbers
 
@@ -60,13 +63,13 @@ digit_low b e = grind (arith, nat_tests)
 pub digit_high : (b : ℕ) → is_ascii_digit b ≡ true → b ≤ 57
 digit_high b e = grind (arith, nat_tests)
 
-pub digit_no_symbol : (b : ℕ) → is_ascii_digit b ≡ true → short_symbol b ≡ None
+pub digit_no_symbol : (b : ℕ) → is_ascii_digit b ≡ true → short_symbol (b ∷ []) ≡ None
 digit_no_symbol b e =
     let low : 48 ≤ b = digit_low b e in
     let high : b ≤ 57 = digit_high b e in
     rw (ne_eqb b 110 (λ h. omega arith), ne_eqb b 40 (λ h. omega arith), ne_eqb b 41 (λ h. omega arith), ne_eqb b 63 (λ h. omega arith), ne_eqb b 58 (λ h. omega arith), ne_eqb b 33 (λ h. omega arith), ne_eqb b 60 (λ h. omega arith), ne_eqb b 62 (λ h. omega arith), ne_eqb b 43 (λ h. omega arith), ne_eqb b 45 (λ h. omega arith), ne_eqb b 42 (λ h. omega arith), ne_eqb b 47 (λ h. omega arith), ne_eqb b 37 (λ h. omega arith)) refl
 
-pub digit_no_long : (a b : ℕ) → is_ascii_digit a ≡ true → long_symbol a b ≡ None
+pub digit_no_long : (a b : ℕ) → is_ascii_digit a ≡ true → long_symbol (a ∷ b ∷ []) ≡ None
 digit_no_long a b e =
     let low : 48 ≤ a = digit_low a e in
     let high : a ≤ 57 = digit_high a e in
@@ -121,7 +124,7 @@ nothing_stray text e (Digits (d ∷ digits)) rest p = let f = p.0 in absurd (cc 
 nothing_stray text e (Short b token) rest p = let f = p.0 in absurd (cc (e, f))
 nothing_stray text e (Long a b token) rest p = let f = p.0 in absurd (cc (e, f))
 
-pub byte_stray : (text : List ℕ) (b : ℕ) (more : List ℕ) → text ≡ b ∷ more → StopsBlanks text → long_at text ≡ None → is_ascii_digit b ≡ false → None ≡ short_symbol b → IsStray text
+pub byte_stray : (text : List ℕ) (b : ℕ) (more : List ℕ) → text ≡ b ∷ more → StopsBlanks text → long_at text ≡ None → is_ascii_digit b ≡ false → None ≡ short_symbol (b ∷ []) → IsStray text
 byte_stray text b more e stops long digit short (Blank c) rest p =
     let f = p.0 in
     let same : b ≡ c = cc (e, f) in
@@ -134,7 +137,7 @@ byte_stray text b more e stops long digit short (Digits digits) rest p =
 byte_stray text b more e stops long digit short (Short c token) rest p =
     let f = p.0 in
     let same : b ≡ c = cc (e, f) in
-    no_symbol token _ (ap short_symbol (sym same) ∙ sym short) p.2
+    no_symbol token _ (ap (λ (x : ℕ). short_symbol (x ∷ [])) (sym same) ∙ sym short) p.2
 byte_stray text b more e stops long digit short (Long a c token) rest p =
     no_symbol token _ (sym (ap long_at p.0) ∙ long) p.1
 
@@ -177,8 +180,8 @@ StopsBlanks-blanks (b ∷ text) = elim (cases_Bool (is_blank b)) [
   | inr other ↦ rw other other
 ]
 
-pub Begins-short : (text rest : List ℕ) (b : ℕ) (token : Token) → text ≡ b ∷ rest → long_at text ≡ None → Some token ≡ short_symbol b → Begins (token ∷ []) text rest
+pub Begins-short : (text rest : List ℕ) (b : ℕ) (token : Token) → text ≡ b ∷ rest → long_at text ≡ None → Some token ≡ short_symbol (b ∷ []) → Begins (token ∷ []) text rest
 Begins-short text rest b token e long is = Begins-piece (Short b token) token text rest (e, long, sym is) refl
 
-pub Begins-long : (text rest later : List ℕ) (a b : ℕ) (token : Token) → text ≡ a ∷ rest → rest ≡ b ∷ later → Some token ≡ long_symbol a b → Begins (token ∷ []) text later
+pub Begins-long : (text rest later : List ℕ) (a b : ℕ) (token : Token) → text ≡ a ∷ rest → rest ≡ b ∷ later → Some token ≡ long_symbol (a ∷ b ∷ []) → Begins (token ∷ []) text later
 Begins-long text rest later a b token e f is = Begins-piece (Long a b token) token text later (e ∙ ap (λ (t : List ℕ). a ∷ t) f, sym is) refl

@@ -1,21 +1,30 @@
 -- The charset that a header names (GNU gettext manual, "Header Entry": Content-Type).
-use Rattle.std.specs.Prelude.{ℕ, Bool, not, ◌||◌, ◌==◌, nat_eq, if◌then◌else◌, List, [], ◌∷◌, length, drop, Option, None, Some, codes}
-use Rattle.std.specs.List.{take_while, starts_with, Contains}
-use Rattle.std.specs.Option.{option_map}
+use Rattle.std.specs.Prelude.{◌≡◌, ◌≢◌, ℕ, ◌≤◌, not, ◌||◌, ◌==◌, List, [], ◌∷◌, ◌++◌, length, Option, None, Some, codes}
+use Rattle.std.specs.List.{take_while, Contains}
 use Rattle.std.specs.Str.{str_to_ascii_lowercase}
 
+-- the word stands in the text, between before and after, and nowhere with a shorter before
+pub record StandsFirst (word text before after : List ℕ) : Type 0 where
+  pub split : text ≡ before ++ word ++ after
+  pub first : (b a : List ℕ) → text ≡ b ++ word ++ a → length before ≤ length b
+
 -- what follows the first place where the word stands
-abbrev pub behind_first : List ℕ → List ℕ → Option (List ℕ)
-behind_first word [] = None
-behind_first word (b ∷ text) = if starts_with nat_eq (b ∷ text) word then Some (drop (length word) (b ∷ text)) else behind_first word text
+abbrev pub Follows : List ℕ → List ℕ → List ℕ → Type 0
+Follows word text after = (before : List ℕ) × StandsFirst word text before after
 
--- neither space nor tab nor LF
-abbrev pub is_charset_byte : ℕ → Bool
-is_charset_byte b = not (b == 32 || b == 9 || b == 10)
+-- the word stands nowhere in the text
+abbrev pub Lacks : List ℕ → List ℕ → Type 0
+Lacks word text = (before after : List ℕ) → text ≢ before ++ word ++ after
 
--- the text after the first `charset=`, up to a space, a tab, LF or the end
-abbrev pub charset : List ℕ → Option (List ℕ)
-charset text = option_map (take_while is_charset_byte) (behind_first (codes "charset=") text)
+-- the text up to a space, a tab, LF or the end
+abbrev pub up_to_white : List ℕ → List ℕ
+up_to_white text = take_while (λ b. not (b == 32 || b == 9 || b == 10)) text
+
+-- the charset that the text names: what follows its first `charset=`, up to white space; none where it has no
+-- `charset=`
+abbrev pub NamesCharset : List ℕ → Option (List ℕ) → Type 0
+NamesCharset text (Some name) = (after : List ℕ) × Follows (codes "charset=") text after × (name ≡ up_to_white after)
+NamesCharset text None = Lacks (codes "charset=") text
 
 -- the charsets of UTF-8 and of its ASCII part, and the word that templates have in their place
 abbrev pub accepted_charsets : List (List ℕ)

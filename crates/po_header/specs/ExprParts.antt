@@ -1,7 +1,8 @@
--- The trees that parts in a row stand for, each part behind its operands; public clauses cite `built` alone, by `tree_of`.
+-- Private: the trees that parts in a row stand for, each part behind its operands; `tree_of` cites `built`.
 use Rattle.std.specs.Prelude.{◌≡◌, ℕ, ◌<◌, List, [], ◌∷◌, ◌++◌, length, slice_index_or}
 use Rattle.po_header.specs.declared.parts.Part.{Part}
-use Rattle.po_header.specs.declared.parts.Part.TheVariants.{Count, Number, OfCount, OfRemainder, Negate, Combine, Choose}
+use Rattle.po_header.specs.declared.parts.Part.TheVariants.{Count, Number, OfCount, OfRemainder}
+use Rattle.po_header.specs.declared.parts.Part.TheVariants.{Negate, Combine, Choose}
 use Rattle.po_header.specs.declared.token.Operator.TheVariants.{Remainder}
 use Rattle.po_header.specs.Grammar.{Tree, Variable, Constant, Negation, Binary, Choice}
 
@@ -13,10 +14,12 @@ abbrev pub part_tree : List Tree → Part → Tree
 part_tree trees Count = Variable
 part_tree trees (Number value) = Constant value
 part_tree trees (OfCount operator right) = Binary operator Variable (Constant right)
-part_tree trees (OfRemainder operator modulus right) = Binary operator (Binary Remainder Variable (Constant modulus)) (Constant right)
+part_tree trees (OfRemainder operator modulus right) =
+    Binary operator (Binary Remainder Variable (Constant modulus)) (Constant right)
 part_tree trees (Negate operand) = Negation (tree_at trees operand)
 part_tree trees (Combine operator left right) = Binary operator (tree_at trees left) (tree_at trees right)
-part_tree trees (Choose condition chosen other) = Choice (tree_at trees condition) (tree_at trees chosen) (tree_at trees other)
+part_tree trees (Choose condition chosen other) =
+    Choice (tree_at trees condition) (tree_at trees chosen) (tree_at trees other)
 
 abbrev pub trees_from : List Tree → List Part → List Tree
 trees_from trees [] = trees

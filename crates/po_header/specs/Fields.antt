@@ -1,5 +1,6 @@
 -- The fields of a header (GNU gettext manual, "Header Entry").
-use Rattle.std.specs.Prelude.{ℕ, ◌+◌, Bool, ◌==◌, nat_eq, if◌then◌else◌, List, [], ◌∷◌, ◌++◌, length, drop, Option, None, Some}
+use Rattle.std.specs.Prelude.{ℕ, ◌+◌, Bool, ◌==◌, nat_eq, if◌then◌else◌, List, []}
+use Rattle.std.specs.Prelude.{◌∷◌, ◌++◌, length, drop, Option, None, Some}
 use Rattle.std.specs.List.{find, slice_split, starts_with}
 use Rattle.std.specs.Option.{option_map}
 use Rattle.po_header.specs.Tokens.{behind_blanks}

@@ -1,4 +1,4 @@
--- What the parser's code keeps; public clauses cite none of these words.
+-- Private: what the code of the parser keeps.
 use Rattle.std.specs.Prelude.{◌≡◌, ◌⊎◌, List, [], ◌∷◌, Option}
 use Rattle.std.specs.Option.{option_map}
 use Rattle.po_header.specs.declared.parse.Frame.{Frame}

@@ -1,7 +1,8 @@
 -- Which tree a list of tokens derives (GNU gettext manual, "Plural forms": C syntax; C standard, 6.5.3 to 6.5.15).
 use Rattle.std.specs.Prelude.{◌≡◌, ℕ, ◌<◌, ◌≤◌, List, [], ◌∷◌, ◌++◌}
 use Rattle.po_header.specs.declared.token.Operator.{Operator}
-use Rattle.po_header.specs.declared.token.Operator.TheVariants.{Or, And, Equal, NotEqual, Less, Greater, AtMost, AtLeast, Add, Subtract, Multiply, Divide, Remainder}
+use Rattle.po_header.specs.declared.token.Operator.TheVariants.{Or, And, Equal, NotEqual, Less, Greater, AtMost}
+use Rattle.po_header.specs.declared.token.Operator.TheVariants.{AtLeast, Add, Subtract, Multiply, Divide, Remainder}
 use Rattle.po_header.specs.declared.token.Token.{Token}
 use Rattle.po_header.specs.declared.token.Token.TheVariants.{Count, Number, Open, Close, Question, Colon, Bang, Sign}
 
@@ -51,8 +52,10 @@ IsGrouped Name = Unit {0}
 IsGrouped (Numeral value) = Unit {0}
 IsGrouped (Bracketed inner) = IsGrouped inner
 IsGrouped (Negated operand) = IsGrouped operand × (8 ≤ level_of operand)
-IsGrouped (Joined operator left right) = IsGrouped left × IsGrouped right × (level operator ≤ level_of left) × (level operator < level_of right)
-IsGrouped (Chosen condition chosen other) = IsGrouped condition × IsGrouped chosen × IsGrouped other × (2 ≤ level_of condition)
+IsGrouped (Joined operator left right) =
+    IsGrouped left × IsGrouped right × (level operator ≤ level_of left) × (level operator < level_of right)
+IsGrouped (Chosen condition chosen other) =
+    IsGrouped condition × IsGrouped chosen × IsGrouped other × (2 ≤ level_of condition)
 
 abbrev pub tokens_of : Derivation → List Token
 tokens_of Name = Count ∷ []
@@ -60,7 +63,8 @@ tokens_of (Numeral value) = Number value ∷ []
 tokens_of (Bracketed inner) = Open ∷ tokens_of inner ++ (Close ∷ [])
 tokens_of (Negated operand) = Bang ∷ tokens_of operand
 tokens_of (Joined operator left right) = tokens_of left ++ (Sign operator ∷ tokens_of right)
-tokens_of (Chosen condition chosen other) = tokens_of condition ++ (Question ∷ tokens_of chosen ++ (Colon ∷ tokens_of other))
+tokens_of (Chosen condition chosen other) =
+    tokens_of condition ++ (Question ∷ tokens_of chosen ++ (Colon ∷ tokens_of other))
 
 -- its tree, which has no brackets
 abbrev pub derived_tree : Derivation → Tree
@@ -69,7 +73,8 @@ derived_tree (Numeral value) = Constant value
 derived_tree (Bracketed inner) = derived_tree inner
 derived_tree (Negated operand) = Negation (derived_tree operand)
 derived_tree (Joined operator left right) = Binary operator (derived_tree left) (derived_tree right)
-derived_tree (Chosen condition chosen other) = Choice (derived_tree condition) (derived_tree chosen) (derived_tree other)
+derived_tree (Chosen condition chosen other) =
+    Choice (derived_tree condition) (derived_tree chosen) (derived_tree other)
 
 -- the tokens derive the tree
 pub record Derives (tokens : List Token) (tree : Tree) : Type 0 where

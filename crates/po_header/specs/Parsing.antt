@@ -1,4 +1,4 @@
--- What private functions promise of tokens and blanks; public clauses cite none of these words.
+-- Private: what functions promise of tokens and blanks.
 use Rattle.std.specs.Prelude.{◌≡◌, ℕ, false, List, [], ◌∷◌}
 use Rattle.po_header.specs.Tokens.{PieceAt, Piece, is_blank}
 

@@ -4,9 +4,9 @@ use Rattle.std.specs.List.{take_while}
 use Rattle.std.specs.Char.{is_ascii_digit}
 use Rattle.po_header.specs.Tokens.{behind_blanks, decimal_value, below_limit}
 use Rattle.po_header.specs.Grammar.{Tree}
-use Rattle.po_header.specs.Meaning.{value}
+use Rattle.po_header.specs.TreeValue.{value}
 use Rattle.po_header.specs.Expression.{IsTooLong, IsReadAs, IsMalformed}
-use Rattle.po_header.specs.Charset.{behind_first}
+use Rattle.po_header.specs.Charset.{Follows, Lacks}
 
 -- how many forms there are, and which one n takes; or no rule, or one that can't be read
 pub data Rule : Type 0 where
@@ -25,8 +25,8 @@ leading_number text = number_of_digits (take_while is_ascii_digit (behind_blanks
 
 -- what follows the first `nplurals=`, and what follows the first `plural=`
 pub record HasBoth (text count expr : List ℕ) : Type 0 where
-  pub count_is : behind_first (codes "nplurals=") text ≡ Some count
-  pub expr_is : behind_first (codes "plural=") text ≡ Some expr
+  pub count_is : Follows (codes "nplurals=") text count
+  pub expr_is : Follows (codes "plural=") text expr
 
 pub record IsGiven (text : List ℕ) (nplurals : ℕ) (tree : Tree) : Type 0 where
   pub count : List ℕ
@@ -46,7 +46,7 @@ pub record IsBroken (text : List ℕ) : Type 0 where
 -- the rule of a header's text
 abbrev pub HasRule : List ℕ → Rule → Type 0
 HasRule text (Given nplurals tree) = IsGiven text nplurals tree
-HasRule text Absent = (behind_first (codes "nplurals=") text ≡ None) ⊎ (behind_first (codes "plural=") text ≡ None)
+HasRule text Absent = Lacks (codes "nplurals=") text ⊎ Lacks (codes "plural=") text
 HasRule text Broken = IsBroken text
 
 -- a form's number, where it is one of them; else the first form (our choice)

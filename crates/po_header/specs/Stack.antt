@@ -1,4 +1,4 @@
--- The parser's steps, token by token; public clauses cite none of these words.
+-- Private: the steps of the parser, token by token.
 use Rattle.std.specs.Prelude.{ℕ, Bool, true, false, List, [], ◌∷◌, nat_le, if◌then◌else◌, Option, None, Some}
 use Rattle.po_header.specs.declared.token.Operator.{Operator}
 use Rattle.po_header.specs.declared.token.Token.{Token}

@@ -1,11 +1,12 @@
--- The steps by which the code decides for a form; public clauses cite none of these words.
-use Rattle.std.specs.Prelude.{◌≡◌, ℕ, ◌<◌, ◌%◌, Bool, ◌&&◌, ◌==◌, nat_le, if◌then◌else◌, List, [], ◌∷◌, ◌++◌, length, slice_index_or, Option, None, Some}
+-- Private: the steps by which the code decides for a form.
+use Rattle.std.specs.Prelude.{◌≡◌, ℕ, ◌<◌, ◌%◌, Bool, ◌&&◌, ◌==◌, nat_le, if◌then◌else◌}
+use Rattle.std.specs.Prelude.{List, [], ◌∷◌, ◌++◌, length, slice_index_or, Option, None, Some}
 use Rattle.po_header.specs.declared.steps.Step.{Step}
 use Rattle.po_header.specs.declared.steps.Step.TheVariants.{Value, Test}
 use Rattle.po_header.specs.declared.token.Operator.{Operator}
 use Rattle.po_header.specs.declared.tree.Node.{Node}
 use Rattle.po_header.specs.Nodes.{node_tree}
-use Rattle.po_header.specs.Meaning.{value, choice, combined}
+use Rattle.po_header.specs.TreeValue.{value, choice, combined}
 
 -- n, or its remainder
 abbrev pub measured : ℕ → ℕ → ℕ
@@ -20,7 +21,8 @@ value_at found i = slice_index_or found i None
 -- the value of a step, behind steps of these values
 abbrev pub step_value : List (Option ℕ) → ℕ → Step → Option ℕ
 step_value found n (Value v) = Some v
-step_value found n (Test modulus low high inside outside) = if is_within low high (measured modulus n) then value_at found inside else value_at found outside
+step_value found n (Test modulus low high inside outside) =
+    if is_within low high (measured modulus n) then value_at found inside else value_at found outside
 
 abbrev pub values_from : List (Option ℕ) → ℕ → List Step → List (Option ℕ)
 values_from found n [] = found
@@ -51,4 +53,6 @@ chosen_step steps node here there n = choice (node_value node n) (reached steps 
 
 -- the step tests how n, or its remainder, compares with the bound, and goes on here where it does, else there
 abbrev pub IsTest : Step → Operator → ℕ → ℕ → ℕ → ℕ → Type 0
-IsTest step operator modulus bound here there = (found : List (Option ℕ)) (n : ℕ) → step_value found n step ≡ choice (combined operator (Some (measured modulus n)) (Some bound)) (value_at found here) (value_at found there)
+IsTest step operator modulus bound here there =
+    (found : List (Option ℕ)) (n : ℕ) → step_value found n step
+    ≡ choice (combined operator (Some (measured modulus n)) (Some bound)) (value_at found here) (value_at found there)

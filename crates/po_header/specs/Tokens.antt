@@ -1,8 +1,11 @@
 -- Which tokens an expression spells (C standard, 6.4 "Lexical elements": each token is as long as it can be).
-use Rattle.std.specs.Prelude.{◌≡◌, ◌≢◌, ℕ, ◌+◌, ◌-◌, ◌*◌, ◌<◌, ◌^◌, Bool, true, ◌&&◌, ◌||◌, ◌==◌, nat_lt, if◌then◌else◌, List, [], ◌∷◌, ◌++◌, drop, Option, None, Some}
+use Rattle.std.specs.Prelude.{◌≡◌, ◌≢◌, ℕ, ◌+◌, ◌-◌, ◌*◌, ◌<◌, ◌^◌, Bool, true, ◌&&◌, ◌||◌}
+use Rattle.std.specs.Prelude.{◌==◌, nat_lt, if◌then◌else◌, List, [], ◌∷◌, ◌++◌, drop, Option, None, Some, codes}
 use Rattle.std.specs.List.{take_while, filter_map, fold, prefix_len}
 use Rattle.std.specs.Char.{is_ascii_digit}
-use Rattle.po_header.specs.declared.token.Operator.TheVariants.{Or, And, Equal, NotEqual, Less, Greater, AtMost, AtLeast, Add, Subtract, Multiply, Divide, Remainder}
+use Rattle.std.specs.Str.{bytes_eq}
+use Rattle.po_header.specs.declared.token.Operator.TheVariants.{Or, And, Equal, NotEqual, Less, Greater, AtMost}
+use Rattle.po_header.specs.declared.token.Operator.TheVariants.{AtLeast, Add, Subtract, Multiply, Divide, Remainder}
 use Rattle.po_header.specs.declared.token.Token.{Token}
 use Rattle.po_header.specs.declared.token.Token.TheVariants.{Count, Number, Open, Close, Question, Colon, Bang, Sign}
 use Rattle.po_header.specs.Chain.{Chain}
@@ -15,38 +18,38 @@ is_blank b = b == 32 || b == 9
 abbrev pub behind_blanks : List ℕ → List ℕ
 behind_blanks text = drop (prefix_len is_blank text) text
 
--- a token of two bytes: `||`, `&&`, `==`, `!=`, `<=`, `>=` (C standard, 6.4.6 "Punctuators")
-abbrev pub long_symbol : ℕ → ℕ → Option Token
-long_symbol a b =
-    if a == 124 && b == 124 then Some (Sign Or) else
-    if a == 38 && b == 38 then Some (Sign And) else
-    if a == 61 && b == 61 then Some (Sign Equal) else
-    if a == 33 && b == 61 then Some (Sign NotEqual) else
-    if a == 60 && b == 61 then Some (Sign AtMost) else
-    if a == 62 && b == 61 then Some (Sign AtLeast) else None
+-- the symbols of two bytes, one row each (C standard, 6.4.6 "Punctuators")
+abbrev pub long_symbol : List ℕ → Option Token
+long_symbol symbol =
+    if bytes_eq symbol (codes "||") then Some (Sign Or) else
+    if bytes_eq symbol (codes "&&") then Some (Sign And) else
+    if bytes_eq symbol (codes "==") then Some (Sign Equal) else
+    if bytes_eq symbol (codes "!=") then Some (Sign NotEqual) else
+    if bytes_eq symbol (codes "<=") then Some (Sign AtMost) else
+    if bytes_eq symbol (codes ">=") then Some (Sign AtLeast) else None
 
--- a token of one byte: `n`, `(`, `)`, `?`, `:`, `!`, `<`, `>`, `+`, `-`, `*`, `/`, `%`
-abbrev pub short_symbol : ℕ → Option Token
-short_symbol b =
-    if b == 110 then Some Count else
-    if b == 40 then Some Open else
-    if b == 41 then Some Close else
-    if b == 63 then Some Question else
-    if b == 58 then Some Colon else
-    if b == 33 then Some Bang else
-    if b == 60 then Some (Sign Less) else
-    if b == 62 then Some (Sign Greater) else
-    if b == 43 then Some (Sign Add) else
-    if b == 45 then Some (Sign Subtract) else
-    if b == 42 then Some (Sign Multiply) else
-    if b == 47 then Some (Sign Divide) else
-    if b == 37 then Some (Sign Remainder) else None
+-- the symbols of one byte; `n` is the variable
+abbrev pub short_symbol : List ℕ → Option Token
+short_symbol symbol =
+    if bytes_eq symbol (codes "n") then Some Count else
+    if bytes_eq symbol (codes "(") then Some Open else
+    if bytes_eq symbol (codes ")") then Some Close else
+    if bytes_eq symbol (codes "?") then Some Question else
+    if bytes_eq symbol (codes ":") then Some Colon else
+    if bytes_eq symbol (codes "!") then Some Bang else
+    if bytes_eq symbol (codes "<") then Some (Sign Less) else
+    if bytes_eq symbol (codes ">") then Some (Sign Greater) else
+    if bytes_eq symbol (codes "+") then Some (Sign Add) else
+    if bytes_eq symbol (codes "-") then Some (Sign Subtract) else
+    if bytes_eq symbol (codes "*") then Some (Sign Multiply) else
+    if bytes_eq symbol (codes "/") then Some (Sign Divide) else
+    if bytes_eq symbol (codes "%") then Some (Sign Remainder) else None
 
--- the token of two bytes at the front
+-- the symbol of two bytes at the front
 abbrev pub long_at : List ℕ → Option Token
 long_at [] = None
 long_at (a ∷ []) = None
-long_at (a ∷ b ∷ more) = long_symbol a b
+long_at (a ∷ b ∷ more) = long_symbol (a ∷ b ∷ [])
 
 -- decimal digits as a number
 abbrev pub decimal_value : List ℕ → ℕ
@@ -63,12 +66,15 @@ pub data Piece : Type 0 where
   Short : (byte : ℕ) (token : Token) → Piece
   Long : (first second : ℕ) (token : Token) → Piece
 
--- text is the piece, as long as it can be, and then rest; a numeral is below 2 ^ 64
+-- text is the piece, as long as it can be, and then rest: a numeral is all digits at the front, and is below 2 ^ 64; a
+-- symbol of one byte stands only where none of two bytes does
 abbrev pub PieceAt : Piece → List ℕ → List ℕ → Type 0
 PieceAt (Blank b) text rest = (text ≡ b ∷ rest) × (is_blank b ≡ true)
-PieceAt (Digits digits) text rest = (text ≡ digits ++ rest) × (take_while is_ascii_digit text ≡ digits) × (digits ≢ []) × (decimal_value digits < 2 ^ 64)
-PieceAt (Short b token) text rest = (text ≡ b ∷ rest) × (long_at text ≡ None) × (short_symbol b ≡ Some token)
-PieceAt (Long a b token) text rest = (text ≡ a ∷ b ∷ rest) × (long_symbol a b ≡ Some token)
+PieceAt (Digits digits) text rest =
+    (text ≡ digits ++ rest) × (take_while is_ascii_digit text ≡ digits) × (digits ≢ [])
+    × (decimal_value digits < 2 ^ 64)
+PieceAt (Short b token) text rest = (text ≡ b ∷ rest) × (long_at text ≡ None) × (short_symbol (b ∷ []) ≡ Some token)
+PieceAt (Long a b token) text rest = (text ≡ a ∷ b ∷ rest) × (long_symbol (a ∷ b ∷ []) ≡ Some token)
 
 -- the token that a piece is, if it is one
 abbrev pub piece_token : Piece → Option Token

@@ -1,8 +1,10 @@
 -- The value of an expression at n: without signs, modulo 2 ^ 64 (an unsigned long of 64 bits).
-use Rattle.std.specs.Prelude.{ℕ, ◌+◌, ◌-◌, ◌*◌, ◌/◌, ◌%◌, ◌^◌, Bool, not, ◌==◌, nat_lt, nat_le, if◌then◌else◌, Option, None, Some}
+use Rattle.std.specs.Prelude.{ℕ, ◌+◌, ◌-◌, ◌*◌, ◌/◌, ◌%◌, ◌^◌, Bool}
+use Rattle.std.specs.Prelude.{not, ◌==◌, nat_lt, nat_le, if◌then◌else◌, Option, None, Some}
 use Rattle.std.specs.Option.{option_map}
 use Rattle.po_header.specs.declared.token.Operator.{Operator}
-use Rattle.po_header.specs.declared.token.Operator.TheVariants.{Or, And, Equal, NotEqual, Less, Greater, AtMost, AtLeast, Add, Subtract, Multiply, Divide, Remainder}
+use Rattle.po_header.specs.declared.token.Operator.TheVariants.{Or, And, Equal, NotEqual, Less, Greater, AtMost}
+use Rattle.po_header.specs.declared.token.Operator.TheVariants.{AtLeast, Add, Subtract, Multiply, Divide, Remainder}
 use Rattle.po_header.specs.Grammar.{Tree, Variable, Constant, Negation, Binary, Choice}
 
 -- comparisons and logic give 0 or 1 (C standard, 6.5.8, 6.5.9)

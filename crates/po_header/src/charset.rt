@@ -2,7 +2,8 @@
 ghost use Rattle.std.specs.Prelude.{◌≡◌, ℕ, ◌↔◌, IsTrue, List, Option};
 ghost use Rattle.std.specs.List.{take_while};
 ghost use Rattle.std.specs.Option.{option_copied};
-ghost use Rattle.po_header.specs.Charset.{charset, is_charset_byte, IsAcceptedCharset};
+ghost use Rattle.po_header.specs.Charset.{NamesCharset, IsAcceptedCharset};
+ghost use Rattle.po_header.specs.Searching.{charset, is_charset_byte};
 
 use crate::search::behind;
 use memchr::memchr3;
@@ -20,7 +21,10 @@ fn before_white(text: &str) -> &str
 /// The charset that a header's text names: what follows its first `charset=`, up to a space, a tab, LF or
 /// the end (GNU gettext manual, "Header Entry").
 pub fn charset_of(text: &str) -> Option<&str>
-    ensures { option_copied result ≡ charset text.now }
+    ensures names { NamesCharset text.now (option_copied result) }
+
+    // The same as a function.
+    ensures is { option_copied result ≡ charset text.now }
 {
     let after = behind(text, "charset=")?;
     Some(before_white(after))

@@ -1,8 +1,8 @@
 // Plural expressions.
 ghost use Rattle.std.specs.Prelude.{◌≡◌, ℕ, ◌<◌, IfOk, length};
 ghost use Rattle.std.proofs.Props.{props};
-ghost use Rattle.po_header.specs.Meaning.{value};
-ghost use Rattle.po_header.specs.Parts.{built};
+ghost use Rattle.po_header.specs.TreeValue.{value};
+ghost use Rattle.po_header.specs.ExprParts.{built};
 ghost use Rattle.po_header.specs.Steps.{reached};
 
 use crate::parts::{Part, value_at};
@@ -19,7 +19,8 @@ pub struct PluralExpr {
     // The same as steps, for the many rules that are choices between numbers; else none.
     steps: Vec<Step>,
     start: usize,
-    ghost agrees: { (n : ℕ) → 0 < length steps.items → reached steps.items start n ≡ value (built parts.items root) n } by { Prim.hlevel props },
+    ghost agrees: { (n : ℕ) → 0 < length steps.items →
+        reached steps.items start n ≡ value (built parts.items root) n } by { Prim.hlevel props },
 }
 
 impl PluralExpr {

@@ -1,11 +1,13 @@
 // Reading plural expressions: operands and operators one after another, with a stack of what waits for an operand.
-ghost use Rattle.std.specs.Prelude.{◌≡◌, ◌≢◌, ℕ, ◌<◌, ◌⊎◌, List, [], ◌∷◌, ◌++◌, Option, None, Some, MatchOption, IfOk, IfErr, IsErrOf, ◌↔◌, length};
+ghost use Rattle.std.specs.Prelude.{◌≡◌, ◌≢◌, ℕ, ◌<◌, ◌⊎◌, List, [], ◌∷◌, ◌++◌};
+ghost use Rattle.std.specs.Prelude.{Option, None, Some, MatchOption, IfOk, IfErr, IsErrOf, ◌↔◌, length};
 ghost use Rattle.po_header.specs.Grammar.{Tree, Derives, level};
 ghost use Rattle.po_header.specs.Expression.{expression, SpellsTree, IsReadAs, IsMalformed, IsTooLong};
 ghost use Rattle.po_header.specs.Nodes.{node_tree};
 ghost use Rattle.po_header.specs.Expr.{tree_of};
 ghost use Rattle.po_header.specs.Frames.{frame_waits, stack_of, state_of, IsFault};
-ghost use Rattle.po_header.specs.Stack.{joined, joins_on, join_tree, is_bang_waits, negated, begin, close, colon, go_on, step, finish};
+ghost use Rattle.po_header.specs.Stack.{joined, joins_on, join_tree, is_bang_waits, negated, begin};
+ghost use Rattle.po_header.specs.Stack.{close, colon, go_on, step, finish};
 ghost use Rattle.po_header.specs.declared.ExprFault.TheVariants.{TooLong, Malformed, Memory};
 ghost use Rattle.po_header.specs.declared.token.Token.{Token};
 
@@ -82,7 +84,8 @@ fn join_above(
     operand: Node,
     level: u8,
 ) -> Result<Node, AllocError>
-    ensures { IfOk result (λ node. joined level (stack_of waiting.old.items) (node_tree operand) ≡ (stack_of waiting.new.items, node_tree node)) }
+    ensures { IfOk result (λ node.
+        joined level (stack_of waiting.old.items) (node_tree operand) ≡ (stack_of waiting.new.items, node_tree node)) }
 {
     let mut operand = operand;
     'frames: while let Some(frame) = waiting.pop() {
@@ -97,7 +100,8 @@ fn join_above(
 
 /// Negates the operand for each `!` in front of it.
 fn negate(alloc: Global, waiting: &mut Vec<Frame>, operand: Node) -> Result<Node, AllocError>
-    ensures { IfOk result (λ node. negated (stack_of waiting.old.items) (node_tree operand) ≡ (stack_of waiting.new.items, node_tree node)) }
+    ensures { IfOk result (λ node.
+        negated (stack_of waiting.old.items) (node_tree operand) ≡ (stack_of waiting.new.items, node_tree node)) }
 {
     let mut operand = operand;
     'frames: while let Some(frame) = waiting.pop() {
@@ -116,7 +120,8 @@ fn begin_operand(
     waiting: &mut Vec<Frame>,
     token: Token,
 ) -> Result<Option<Node>, ExprFault>
-    ensures ok { IfOk result (λ operand. begin (stack_of waiting.old.items) token ≡ Some (state_of waiting.new.items operand)) }
+    ensures ok { IfOk result (λ operand.
+        begin (stack_of waiting.old.items) token ≡ Some (state_of waiting.new.items operand)) }
     ensures err { IfErr result (λ fault. IsFault fault (begin (stack_of waiting.old.items) token ≡ None)) }
 {
     match token {
@@ -146,7 +151,8 @@ fn close_bracket(
     waiting: &mut Vec<Frame>,
     inner: Node,
 ) -> Result<Option<Node>, ExprFault>
-    ensures ok { IfOk result (λ operand. close (stack_of waiting.old.items, node_tree inner) ≡ Some (state_of waiting.new.items operand)) }
+    ensures ok { IfOk result (λ operand.
+        close (stack_of waiting.old.items, node_tree inner) ≡ Some (state_of waiting.new.items operand)) }
     ensures err { IfErr result (λ fault. IsFault fault (close (stack_of waiting.old.items, node_tree inner) ≡ None)) }
 {
     let Some(frame) = waiting.pop() else {
@@ -163,7 +169,8 @@ fn close_bracket(
 
 /// Takes the colon of a choice behind an operand.
 fn begin_other(waiting: &mut Vec<Frame>, chosen: Node) -> Result<Option<Node>, ExprFault>
-    ensures ok { IfOk result (λ operand. colon (stack_of waiting.old.items, node_tree chosen) ≡ Some (state_of waiting.new.items operand)) }
+    ensures ok { IfOk result (λ operand.
+        colon (stack_of waiting.old.items, node_tree chosen) ≡ Some (state_of waiting.new.items operand)) }
     ensures err { IfErr result (λ fault. IsFault fault (colon (stack_of waiting.old.items, node_tree chosen) ≡ None)) }
 {
     let Some(frame) = waiting.pop() else {
@@ -185,8 +192,10 @@ fn go_on_from(
     operand: Node,
     token: Token,
 ) -> Result<Option<Node>, ExprFault>
-    ensures ok { IfOk result (λ next. go_on (stack_of waiting.old.items) (node_tree operand) token ≡ Some (state_of waiting.new.items next)) }
-    ensures err { IfErr result (λ fault. IsFault fault (go_on (stack_of waiting.old.items) (node_tree operand) token ≡ None)) }
+    ensures ok { IfOk result (λ next.
+        go_on (stack_of waiting.old.items) (node_tree operand) token ≡ Some (state_of waiting.new.items next)) }
+    ensures err { IfErr result (λ fault.
+        IsFault fault (go_on (stack_of waiting.old.items) (node_tree operand) token ≡ None)) }
 {
     match token {
         Token::Sign(operator) => {
@@ -218,8 +227,10 @@ fn take_token(
     operand: Option<Node>,
     token: Token,
 ) -> Result<Option<Node>, ExprFault>
-    ensures ok { IfOk result (λ next. step (Some (state_of waiting.old.items operand)) token ≡ Some (state_of waiting.new.items next)) }
-    ensures err { IfErr result (λ fault. IsFault fault (step (Some (state_of waiting.old.items operand)) token ≡ None)) }
+    ensures ok { IfOk result (λ next.
+        step (Some (state_of waiting.old.items operand)) token ≡ Some (state_of waiting.new.items next)) }
+    ensures err { IfErr result (λ fault.
+        IsFault fault (step (Some (state_of waiting.old.items operand)) token ≡ None)) }
 {
     match operand {
         None => begin_operand(alloc, waiting, token),

@@ -1,9 +1,9 @@
 // Plural expressions as parts in a row, each behind its operands, and their values. No part holds another:
 // so the prover finds at once that a rule may go to another thread.
 ghost use Rattle.std.specs.Prelude.{◌≡◌, ℕ, Option, None, Some, IfOk, IfSome, IfNone};
-ghost use Rattle.po_header.specs.Meaning.{combined, truth, value};
+ghost use Rattle.po_header.specs.TreeValue.{combined, truth, value};
 ghost use Rattle.po_header.specs.Nodes.{node_tree};
-ghost use Rattle.po_header.specs.Parts.{Builds, built, part_tree, trees_of};
+ghost use Rattle.po_header.specs.ExprParts.{Builds, built, part_tree, trees_of};
 
 use crate::token::Operator;
 use crate::tree::Node;

@@ -1,7 +1,7 @@
 // Words in texts.
 ghost use Rattle.std.specs.Prelude.{◌≡◌, ◌<◌, List, Option, length};
 ghost use Rattle.std.specs.Option.{option_copied};
-ghost use Rattle.po_header.specs.Charset.{behind_first};
+ghost use Rattle.po_header.specs.Searching.{behind_first};
 
 /// What follows the first place where a word stands in a text.
 pub(crate) fn behind<'a>(text: &'a str, word: &str) -> Option<&'a str>

@@ -1,8 +1,9 @@
 // Expressions as steps, one after another, each of which is a value or a test of `n` that says at which
 // earlier step to go on. Most rules are choices between numbers by such tests.
 ghost use Rattle.std.specs.Prelude.{◌≡◌, ℕ, ◌<◌, ◌++◌, ◌∷◌, [], List, Option, Some, IfOk, IfSome, IfNone, length};
-ghost use Rattle.po_header.specs.Meaning.{choice, combined};
-ghost use Rattle.po_header.specs.Steps.{Adds, IsTest, chosen_step, is_within, measured, node_value, reached, step_value, step_values, value_at};
+ghost use Rattle.po_header.specs.TreeValue.{choice, combined};
+ghost use Rattle.po_header.specs.Steps.{Adds, IsTest, chosen_step, is_within, measured};
+ghost use Rattle.po_header.specs.Steps.{node_value, reached, step_value, step_values, value_at};
 
 use crate::token::Operator;
 use crate::tree::Node;
@@ -39,7 +40,8 @@ impl Step {
 
 /// Adds a step, and gives its index.
 fn add(steps: &mut Vec<Step>, step: Step) -> Result<usize, AllocError>
-    ensures { IfOk result (λ i. Adds steps.old.items steps.new.items i (λ n. step_value (step_values n steps.old.items) n step)) }
+    ensures { IfOk result (λ i. Adds steps.old.items steps.new.items i (λ n.
+        step_value (step_values n steps.old.items) n step)) }
 {
     let i = steps.len();
     steps.push(step)?;
@@ -70,7 +72,9 @@ fn add_test(
     here: usize,
     there: usize,
 ) -> Result<Option<usize>, AllocError>
-    ensures { IfOk result (λ found. IfSome found (λ i. Adds steps.old.items steps.new.items i (λ n. choice (combined operator (Some (measured modulus n)) (Some bound)) (reached steps.old.items here n) (reached steps.old.items there n)))) }
+    ensures { IfOk result (λ found. IfSome found (λ i. Adds steps.old.items steps.new.items i (λ n.
+        choice (combined operator (Some (measured modulus n)) (Some bound))
+        (reached steps.old.items here n) (reached steps.old.items there n)))) }
 {
     let Some(step) = test_of(operator, modulus, bound, here, there) else {
         return Ok(None)
@@ -90,7 +94,8 @@ impl Node {
     ) -> Result<Option<usize>, AllocError>
         requires here_stands { here < length steps.old.items }
         requires there_stands { there < length steps.old.items }
-        ensures { IfOk result (λ found. IfSome found (λ i. Adds steps.old.items steps.new.items i (chosen_step steps.old.items self.now here there))) }
+        ensures { IfOk result (λ found. IfSome found (λ i.
+            Adds steps.old.items steps.new.items i (chosen_step steps.old.items self.now here there))) }
     {
         match self {
             Node::OfCount(operator, bound) => add_test(steps, *operator, 0, *bound, here, there),
@@ -119,7 +124,8 @@ impl Node {
 
     /// Adds steps to the node's value. None where the node is more than choices between numbers by tests.
     pub(crate) fn add_value(&self, steps: &mut Vec<Step>) -> Result<Option<usize>, AllocError>
-        ensures { IfOk result (λ found. IfSome found (λ i. Adds steps.old.items steps.new.items i (node_value self.now))) }
+        ensures { IfOk result (λ found. IfSome found (λ i.
+            Adds steps.old.items steps.new.items i (node_value self.now))) }
     {
         match self {
             Node::Number(number) => {
@@ -150,7 +156,8 @@ fn lies_within(n: u64, modulus: u64, low: u64, high: u64) -> bool
 
 /// Where a test goes on.
 fn next_step(n: u64, modulus: u64, low: u64, high: u64, inside: usize, outside: usize) -> usize
-    ensures { (found : List (Option ℕ)) → step_value found n (Step.Test modulus low high inside outside) ≡ value_at found result }
+    ensures { (found : List (Option ℕ)) →
+        step_value found n (Step.Test modulus low high inside outside) ≡ value_at found result }
 {
     if lies_within(n, modulus, low, high) {
         inside

@@ -1,9 +1,11 @@
 // The tokens of a plural expression.
-ghost use Rattle.std.specs.Prelude.{◌≡◌, ℕ, ◌+◌, ◌-◌, ◌*◌, ◌<◌, ◌≤◌, ◌^◌, ◌++◌, ◌∷◌, [], List, Bool, length, MatchOption, IfSome, IfNone, Some, None, if◌then◌else◌, nat_lt};
+ghost use Rattle.std.specs.Prelude.{◌≡◌, ℕ, ◌+◌, ◌-◌, ◌*◌, ◌<◌, ◌≤◌, ◌^◌, ◌++◌, ◌∷◌, []};
+ghost use Rattle.std.specs.Prelude.{List, Bool, length, MatchOption, IfSome, IfNone, Some, None, if◌then◌else◌, nat_lt};
 ghost use Rattle.std.specs.List.{prefix_len, take_while};
 ghost use Rattle.std.specs.Char.{is_ascii_digit};
-ghost use Rattle.po_header.specs.Reading.{IsStray, StopsBlanks};
-ghost use Rattle.po_header.specs.Tokens.{is_blank, behind_blanks, long_symbol, short_symbol, decimal_value, below_limit, long_at, Begins};
+ghost use Rattle.po_header.specs.Parsing.{IsStray, StopsBlanks};
+ghost use Rattle.po_header.specs.Tokens.{is_blank, behind_blanks, long_symbol, short_symbol};
+ghost use Rattle.po_header.specs.Tokens.{decimal_value, below_limit, long_at, Begins};
 
 /// An operator between two operands.
 #[derive(Clone, Copy, Debug, PartialEq, Eq)]
@@ -48,7 +50,7 @@ pub(crate) fn split_byte(text: &[u8]) -> Option<(u8, &[u8])>
 
 /// A token of two bytes.
 fn long_token(first: u8, second: u8) -> Option<Token>
-    ensures { result ≡ long_symbol first second }
+    ensures { result ≡ long_symbol (first ∷ second ∷ []) }
 {
     if first == b'|' && second == b'|' {
         Some(Token::Sign(Operator::Or))
@@ -69,7 +71,7 @@ fn long_token(first: u8, second: u8) -> Option<Token>
 
 /// A token of one byte.
 fn short_token(byte: u8) -> Option<Token>
-    ensures { result ≡ short_symbol byte }
+    ensures { result ≡ short_symbol (byte ∷ []) }
 {
     match byte {
         b'n' => Some(Token::Count),

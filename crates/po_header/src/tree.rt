@@ -55,7 +55,8 @@ impl Node {
         chosen: Node,
         other: Node,
     ) -> Result<Node, AllocError>
-        ensures { IfOk result (λ node. node_tree node ≡ Choice (node_tree condition) (node_tree chosen) (node_tree other)) }
+        ensures { IfOk result (λ node.
+            node_tree node ≡ Choice (node_tree condition) (node_tree chosen) (node_tree other)) }
     {
         Ok(Node::Choose(
             Box::new(alloc, condition)?,

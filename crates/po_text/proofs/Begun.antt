@@ -1,5 +1,6 @@
 -- Where a form was begun, and which tokens may be added.
-use Rattle.std.proofs.Common.{◌≡◌, ◌≢◌, ℕ, ◌+◌, Bool, true, false, List, [], ◌∷◌, ◌++◌, length, Option, Some, None, refl, subst, inl, inr}
+use Rattle.std.proofs.Common.{◌≡◌, ◌≢◌, ℕ, ◌+◌, Bool, true, false, List, [], ◌∷◌}
+use Rattle.std.proofs.Common.{◌++◌, length, Option, Some, None, refl, subst, inl, inr}
 use Rattle.std.specs.Prelude.{if◌then◌else◌, ◌==◌, ◌⊎◌}
 use Rattle.std.specs.List.{Contains}
 use Rattle.po_text.specs.declared.places.Place as code
@@ -8,7 +9,9 @@ use Rattle.po_text.specs.declared.lexer.Token as code_token
 use Rattle.po_text.specs.declared.lexer.Token.TheVariants as kinds
 use Rattle.po_text.specs.Spelling.{Token, Context, Id, Plural, Str, Number, Open, Close, Text}
 use Rattle.po_text.specs.Lexing.{token_view, IsLawfulToken}
-use Rattle.po_text.specs.Places.{Place, ContextWord, ContextText, IdWord, IdText, FormWord, FormText, PluralWord, PluralText, IndexOpen, IndexNumber, IndexClose, IndexedWord, IndexedText, step, key_text, place_view}
+use Rattle.po_text.specs.Places.{Place, ContextWord, ContextText, IdWord, IdText, FormWord}
+use Rattle.po_text.specs.Places.{FormText, PluralWord, PluralText, IndexOpen, IndexNumber, IndexClose}
+use Rattle.po_text.specs.Places.{IndexedWord, IndexedText, step, key_text, place_view}
 use Rattle.po_text.specs.Building.{Draft, put, put_text, opens, opens_id}
 use Rattle.po_text.specs.Buffers.{HasForm, CanAddText, CanAdd}
 use Rattle.po_text.specs.Parsing.{is_opening}

@@ -1,12 +1,16 @@
 -- What the reader of the grammar takes to the end is derived.
-use Rattle.std.proofs.Common.{◌≡◌, ◌≢◌, ℕ, zero, suc, ◌+◌, true, false, List, [], ◌∷◌, ◌++◌, Some, None, refl, sym, ap, ◌∙◌, subst, inl, inr, append_assoc, arith}
+use Rattle.std.proofs.Common.{◌≡◌, ◌≢◌, ℕ, zero, suc, ◌+◌, true, false, List, [], ◌∷◌, ◌++◌}
+use Rattle.std.proofs.Common.{Some, None, refl, sym, ap, ◌∙◌, subst, inl, inr, append_assoc, arith}
 use Rattle.std.specs.Prelude.{nat_eq}
 use Rattle.std.specs.List.{concat, flat_map, Contains, AllByRecursion}
 use Rattle.std.proofs.lemmas.List.Elements.{Contains-append_cases}
 use Rattle.std.proofs.lemmas.Bool.{cases_Bool, cases_eq, ne_eqb, eq-eqb}
 use Rattle.po_text.specs.Spelling.{Token, Context, Id, Plural, Str, Number, Open, Close, Text}
-use Rattle.po_text.specs.Entries.{Strings, Part, PlainPart, PluralPart, Derivation, texts, form_tokens, part_tokens, tokens_of, IsOneOrMore, IsKeyText, IsLawfulPart, IsLawfulEntry}
-use Rattle.po_text.specs.Places.{Place, Start, ContextWord, ContextText, IdWord, IdText, FormWord, FormText, PluralWord, PluralText, IndexOpen, IndexNumber, IndexClose, IndexedWord, IndexedText, IsBoundary, step, has_four, key_text}
+use Rattle.po_text.specs.Entries.{Strings, Part, PlainPart, PluralPart, Derivation, texts, form_tokens}
+use Rattle.po_text.specs.Entries.{part_tokens, tokens_of, IsOneOrMore, IsKeyText, IsLawfulPart, IsLawfulEntry}
+use Rattle.po_text.specs.Places.{Place, Start, ContextWord, ContextText, IdWord, IdText, FormWord}
+use Rattle.po_text.specs.Places.{FormText, PluralWord, PluralText, IndexOpen, IndexNumber, IndexClose, IndexedWord}
+use Rattle.po_text.specs.Places.{IndexedText, IsBoundary, step, has_four, key_text}
 use Rattle.po_text.proofs.Grammar.{run, run-none}
 
 abbrev pub NoFour : Strings → Type 0

@@ -1,5 +1,6 @@
 -- The faults of grammar, from what was put together.
-use Rattle.std.proofs.Common.{◌≡◌, ℕ, ◌+◌, List, [], ◌∷◌, ◌++◌, Option, Some, None, refl, sym, ap, ◌∙◌, subst, inl, inr, append_assoc}
+use Rattle.std.proofs.Common.{◌≡◌, ℕ, ◌+◌, List, [], ◌∷◌, ◌++◌, Option, Some}
+use Rattle.std.proofs.Common.{None, refl, sym, ap, ◌∙◌, subst, inl, inr, append_assoc}
 use Rattle.std.specs.Prelude.{◌⊎◌, nat_eq}
 use Rattle.std.specs.Option.{option_map}
 use Rattle.std.specs.List.{Contains}
@@ -8,8 +9,11 @@ use Rattle.std.proofs.lemmas.Bool.{cases_Bool, eqb-true}
 use Rattle.std.proofs.lemmas.Map.Views.{Contains-from_any}
 use Rattle.po_text.specs.declared.fault.PoKind.TheVariants.{BadOrder}
 use Rattle.po_text.specs.Spelling.{Token, Context, Id, Plural, Str, Number, Open, Close, Text, Mark, Lexeme}
-use Rattle.po_text.specs.Entries.{Strings, texts, all_tokens, IsOpenList, IsKeyword, PutsFour, IsIndexPlace, ClosesBy, ClosesAt, EndsEarly}
-use Rattle.po_text.specs.Places.{Place, Start, ContextWord, ContextText, IdWord, IdText, FormWord, FormText, PluralWord, PluralText, IndexOpen, IndexNumber, IndexClose, IndexedWord, IndexedText, IsBoundary, step, has_four, key_text}
+use Rattle.po_text.specs.Entries.{Strings, texts, all_tokens, IsOpenList, IsKeyword}
+use Rattle.po_text.specs.Entries.{PutsFour, IsIndexPlace, ClosesBy, ClosesAt, EndsEarly}
+use Rattle.po_text.specs.Places.{Place, Start, ContextWord, ContextText, IdWord, IdText, FormWord}
+use Rattle.po_text.specs.Places.{FormText, PluralWord, PluralText, IndexOpen, IndexNumber, IndexClose, IndexedWord}
+use Rattle.po_text.specs.Places.{IndexedText, IsBoundary, step, has_four, key_text}
 use Rattle.po_text.specs.Building.{begin, no_flags, State, at_state, opens, opens_id, after, feed, feeds, start}
 use Rattle.po_text.specs.Parsing.{EndsOn, refusal, key_refusal, number_refusal}
 use Rattle.po_text.proofs.Grammar.{run, run-none, run-append, live_front, closes}

@@ -1,14 +1,22 @@
 -- What is put together from the lexemes of derived entries is those entries.
-use Rattle.std.proofs.Common.{◌≡◌, ℕ, ◌+◌, false, List, [], ◌∷◌, ◌++◌, map, length, Option, Some, None, refl, sym, ap, ◌∙◌, subst, append_assoc, length-append, zero-add}
+use Rattle.std.proofs.Common.{◌≡◌, ℕ, ◌+◌, false, List, [], ◌∷◌, ◌++◌, map, length, Option}
+use Rattle.std.proofs.Common.{Some, None, refl, sym, ap, ◌∙◌, subst, append_assoc, length-append, zero-add}
 use Rattle.std.specs.Option.{option_map}
 use Rattle.std.specs.List.{concat, flat_map, Contains, AllByRecursion}
 use Rattle.std.proofs.lemmas.List.{append-nil}
 use Rattle.po_text.specs.declared.flags.Flags.{Flags}
 use Rattle.po_text.specs.Chain.{Chain}
 use Rattle.po_text.specs.Spelling.{Token, Context, Id, Plural, Str, Number, Open, Close, Text, Mark, Lexeme}
-use Rattle.po_text.specs.Entries.{Strings, Part, PlainPart, PluralPart, Derivation, texts, context_tokens, form_tokens, part_tokens, tokens_of, IsOneOrMore, IsKeyText, IsLawfulContext, IsLawfulPart, IsLawfulEntry, Entry, joined_option, plural_of, forms_of, entry_of, EntryAt, Derives, all_tokens}
-use Rattle.po_text.specs.Places.{Place, Start, ContextWord, ContextText, IdWord, IdText, FormWord, FormText, PluralWord, PluralText, IndexOpen, IndexNumber, IndexClose, IndexedWord, IndexedText, IsBoundary, step, has_four, key_text}
-use Rattle.po_text.specs.Building.{flags_over, no_flags, Draft, offsets, draft_of, begin, grown, add_context, add_id, add_plural, add_form, new_plural, new_form, put_text, State, at_state, drafts_at, opens, after, feed_at, feed, feeds, start}
+use Rattle.po_text.specs.Entries.{Strings, Part, PlainPart, PluralPart, Derivation, texts}
+use Rattle.po_text.specs.Entries.{context_tokens, form_tokens, part_tokens, tokens_of, IsOneOrMore, IsKeyText}
+use Rattle.po_text.specs.Entries.{IsLawfulContext, IsLawfulPart, IsLawfulEntry, Entry, joined_option, plural_of}
+use Rattle.po_text.specs.Entries.{forms_of, entry_of, EntryAt, Derives, all_tokens}
+use Rattle.po_text.specs.Places.{Place, Start, ContextWord, ContextText, IdWord, IdText, FormWord}
+use Rattle.po_text.specs.Places.{FormText, PluralWord, PluralText, IndexOpen, IndexNumber, IndexClose, IndexedWord}
+use Rattle.po_text.specs.Places.{IndexedText, IsBoundary, step, has_four, key_text}
+use Rattle.po_text.specs.Building.{flags_over, no_flags, Draft, offsets, draft_of, begin, grown, add_context}
+use Rattle.po_text.specs.Building.{add_id, add_plural, add_form, new_plural, new_form, put_text, State, at_state}
+use Rattle.po_text.specs.Building.{drafts_at, opens, after, feed_at, feed, feeds, start}
 use Rattle.po_text.proofs.FlagLemmas.{flags_are, flags_over-append}
 use Rattle.po_text.proofs.Completes.{derived}
 use Rattle.po_text.proofs.Grammar.{run, no_four_here}

@@ -1,8 +1,10 @@
 -- Gaps, a piece at a time.
-use Rattle.std.proofs.Common.{◌≡◌, ◌≢◌, ℕ, ◌+◌, true, List, [], ◌∷◌, ◌++◌, length, refl, sym, ap, ◌∙◌, arith, append_assoc, length-append}
+use Rattle.std.proofs.Common.{◌≡◌, ◌≢◌, ℕ, ◌+◌, true, List, [], ◌∷◌, ◌++◌}
+use Rattle.std.proofs.Common.{length, refl, sym, ap, ◌∙◌, arith, append_assoc, length-append}
 use Rattle.std.specs.List.{AllByRecursion, take_while}
 use Rattle.std.proofs.lemmas.Bool.{ne_eqb}
-use Rattle.po_text.specs.Spelling.{Piece, White, Comment, Word, OpenBracket, CloseBracket, Quoted, PieceAt, is_white, is_not_line_end, line_of, comment_marks, Mark}
+use Rattle.po_text.specs.Spelling.{Piece, White, Comment, Word, OpenBracket, CloseBracket, Quoted}
+use Rattle.po_text.specs.Spelling.{PieceAt, is_white, is_not_line_end, line_of, comment_marks, Mark}
 use Rattle.std.proofs.lemmas.List.{append-nil}
 use Rattle.po_text.specs.declared.flags.Flags.{Flags}
 use Rattle.po_text.specs.Building.{flags_over}

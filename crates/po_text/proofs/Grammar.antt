@@ -5,8 +5,12 @@ use Rattle.std.proofs.lemmas.List.Elements.{Contains-append_left, Contains-appen
 use Rattle.std.proofs.lemmas.Map.Views.{Contains-from_any}
 use Rattle.std.proofs.lemmas.Bool.{cases_Bool, eqb-true, eq-eqb}
 use Rattle.po_text.specs.Spelling.{Token, Context, Id, Number, Open, Close, Text}
-use Rattle.po_text.specs.Places.{Place, Start, ContextWord, ContextText, IdWord, IdText, FormWord, FormText, PluralWord, PluralText, IndexOpen, IndexNumber, IndexClose, IndexedWord, IndexedText, step, has_four, key_text, IsBoundary}
-use Rattle.po_text.specs.Entries.{Strings, Part, PlainPart, PluralPart, Derivation, texts, context_tokens, form_tokens, part_tokens, tokens_of, IsOneOrMore, IsKeyText, IsLawfulContext, IsLawfulPart, IsLawfulEntry, IsOpenList}
+use Rattle.po_text.specs.Places.{Place, Start, ContextWord, ContextText, IdWord, IdText, FormWord}
+use Rattle.po_text.specs.Places.{FormText, PluralWord, PluralText, IndexOpen, IndexNumber, IndexClose, IndexedWord}
+use Rattle.po_text.specs.Places.{IndexedText, step, has_four, key_text, IsBoundary}
+use Rattle.po_text.specs.Entries.{Strings, Part, PlainPart, PluralPart, Derivation, texts}
+use Rattle.po_text.specs.Entries.{context_tokens, form_tokens, part_tokens, tokens_of, IsOneOrMore, IsKeyText}
+use Rattle.po_text.specs.Entries.{IsLawfulContext, IsLawfulPart, IsLawfulEntry, IsOpenList}
 
 abbrev pub go : Option Place → Token → Option Place
 go None t = None

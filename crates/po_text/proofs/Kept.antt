@@ -1,5 +1,8 @@
 -- What stays true of the buffers of an entry.
-use Rattle.std.proofs.Common.{◌≡◌, ◌≢◌, ℕ, zero, suc, ◌+◌, ◌-◌, ◌<◌, ◌≤◌, Bool, add-one, get_or, true, false, List, [], ◌∷◌, ◌++◌, length, take, drop, Option, None, Some, refl, sym, ap, ◌∙◌, subst, inl, inr, arith, append_assoc, length-append, zero-add, add-zero}
+use Rattle.std.proofs.Common.{◌≡◌, ◌≢◌, ℕ, zero, suc, ◌+◌, ◌-◌, ◌<◌, ◌≤◌}
+use Rattle.std.proofs.Common.{Bool, add-one, get_or, true, false, List, [], ◌∷◌, ◌++◌}
+use Rattle.std.proofs.Common.{length, take, drop, Option, None, Some, refl, sym, ap}
+use Rattle.std.proofs.Common.{◌∙◌, subst, inl, inr, arith, append_assoc, length-append, zero-add, add-zero}
 use Rattle.std.specs.Prelude.{◌⊎◌, Result, Ok, Err, OnOk, is_ok, if◌then◌else◌, slice_get, slice_index}
 use Rattle.std.specs.List.{concat, Contains, AllByRecursion}
 use Rattle.std.specs.declared.alloc.AllocError.{AllocError}

@@ -5,7 +5,8 @@ use Rattle.std.proofs.lemmas.List.Elements.{Contains-append_cases}
 use Rattle.std.proofs.lemmas.Str.{IsUtf8-append, IsUtf8-nil}
 use Rattle.po_text.specs.Chain.{Chain}
 use Rattle.po_text.specs.Spelling.{IsLawful}
-use Rattle.po_text.specs.Entries.{Part, PlainPart, PluralPart, Remaining, plural_of, forms_of, IsLawfulPart, IsOneOrMore, Entry, EntryAt}
+use Rattle.po_text.specs.Entries.{Part, PlainPart, PluralPart, Remaining, plural_of}
+use Rattle.po_text.specs.Entries.{forms_of, IsLawfulPart, IsOneOrMore, Entry, EntryAt}
 use Rattle.po_text.specs.Lawful.{HasItsForms}
 
 pub lawful_nil : IsLawful []

@@ -2,7 +2,9 @@
 use Rattle.std.proofs.Common.{◌≡◌, ℕ, ◌+◌, List, [], ◌∷◌, ◌++◌, Some, refl, sym, ap, ◌∙◌, arith, append_assoc}
 use Rattle.std.specs.List.{AllByRecursion}
 use Rattle.std.proofs.lemmas.List.{append-nil}
-use Rattle.po_text.specs.Spelling.{Token, Text, Open, Close, Mark, Piece, White, Comment, Word, OpenBracket, CloseBracket, Quoted, PieceAt, piece_token, Lexeme, lexemes, comment_marks, newlines, line_of, Spells, HasFault}
+use Rattle.po_text.specs.Spelling.{Token, Text, Open, Close, Mark, Piece, White}
+use Rattle.po_text.specs.Spelling.{Comment, Word, OpenBracket, CloseBracket, Quoted, PieceAt, piece_token}
+use Rattle.po_text.specs.Spelling.{Lexeme, lexemes, comment_marks, newlines, line_of, Spells, HasFault}
 use Rattle.po_text.specs.Lexing.{TakesLexemes, HasNext, HasEnd, HasFaultFrom, IsGapPiece, token_view, gap_marks}
 use Rattle.po_text.specs.declared.flags.Flags.{Flags}
 use Rattle.po_text.specs.declared.lexer.Token as code

@@ -1,13 +1,20 @@
 -- A text has one lexical fault, and none where it spells lexemes.
-use Rattle.std.proofs.Common.{◌≡◌, ◌≢◌, ℕ, ◌<◌, ◌≤◌, Bool, true, false, List, [], ◌∷◌, ◌++◌, Some, None, refl, sym, ap, ◌∙◌, subst, arith, inl, inr}
+use Rattle.std.proofs.Common.{◌≡◌, ◌≢◌, ℕ, ◌<◌, ◌≤◌, Bool, true, false, List, [], ◌∷◌}
+use Rattle.std.proofs.Common.{◌++◌, Some, None, refl, sym, ap, ◌∙◌, subst, arith, inl, inr}
 use Rattle.std.specs.Prelude.{◌==◌, ◌||◌}
 use Rattle.std.specs.List.{take_while}
 use Rattle.std.proofs.lemmas.Bool.{cases_Bool}
 use Rattle.po_text.specs.declared.fault.PoKind.{PoKind}
 use Rattle.po_text.specs.declared.fault.PoKind.TheVariants.{BadEscape, OpenString, BadWord, BadText}
-use Rattle.po_text.specs.Spelling.{Piece, White, Comment, Word, OpenBracket, CloseBracket, Quoted, PieceAt, is_white, is_word_byte, word_token, is_plain, is_octal, octal_run, octal_value, escaped, Plain, Escape, Octal, UnitAt, UnitsAt, IsBadEscape, IsOpenEnd, IsLawful, FaultAt, HasFault, Spells, Lexeme, line_of}
-use Rattle.po_text.proofs.OneReading.{byte_kind, piece_kind, StartsAs, starts, same_kind, word_no_white, nothing_stops, Piece-one}
-use Rattle.po_text.proofs.Unique.{Chain-one, UnitsAt-one, Stops, plain_no_slash, head_is, octal_no_escape, octal_run-none, quote_stops}
+use Rattle.po_text.specs.Spelling.{Piece, White, Comment, Word, OpenBracket, CloseBracket}
+use Rattle.po_text.specs.Spelling.{Quoted, PieceAt, is_white, is_word_byte, word_token, is_plain}
+use Rattle.po_text.specs.Spelling.{is_octal, octal_run, octal_value, escaped, Plain, Escape}
+use Rattle.po_text.specs.Spelling.{Octal, UnitAt, UnitsAt, IsBadEscape, IsOpenEnd, IsLawful}
+use Rattle.po_text.specs.Spelling.{FaultAt, HasFault, Spells, Lexeme, line_of}
+use Rattle.po_text.proofs.OneReading.{byte_kind, piece_kind, StartsAs, starts}
+use Rattle.po_text.proofs.OneReading.{same_kind, word_no_white, nothing_stops, Piece-one}
+use Rattle.po_text.proofs.Unique.{Chain-one, UnitsAt-one, Stops, plain_no_slash}
+use Rattle.po_text.proofs.Unique.{head_is, octal_no_escape, octal_run-none, quote_stops}
 
 -- a backslash before what is neither a letter of an escape nor octal digits up to 255
 slash_stops : (s m : List ℕ) → s ≡ 92 ∷ m → ((c v : ℕ) (n : List ℕ) → m ≡ c ∷ n → escaped c ≡ Some v → ⊥)

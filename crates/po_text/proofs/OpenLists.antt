@@ -1,11 +1,14 @@
 -- A list that the reader takes is open: from each place an entry can be completed.
-use Rattle.std.proofs.Common.{◌≡◌, ℕ, List, [], ◌∷◌, ◌++◌, Option, Some, None, refl, sym, ap, ◌∙◌, inl, inr, append_assoc, arith}
+use Rattle.std.proofs.Common.{◌≡◌, ℕ, List, [], ◌∷◌, ◌++◌, Option, Some, None}
+use Rattle.std.proofs.Common.{refl, sym, ap, ◌∙◌, inl, inr, append_assoc, arith}
 use Rattle.std.specs.Prelude.{◌⊎◌}
 use Rattle.std.specs.List.{flat_map, AllByRecursion, concat, Contains}
 use Rattle.std.proofs.lemmas.Bool.{eq-eqb}
 use Rattle.po_text.specs.Spelling.{Token, Id, Str, Number, Open, Close, Text}
 use Rattle.po_text.specs.Entries.{Derivation, PlainPart, tokens_of, IsLawfulEntry, IsOpenList}
-use Rattle.po_text.specs.Places.{Place, Start, ContextWord, ContextText, IdWord, IdText, FormWord, FormText, PluralWord, PluralText, IndexOpen, IndexNumber, IndexClose, IndexedWord, IndexedText, IsBoundary, step}
+use Rattle.po_text.specs.Places.{Place, Start, ContextWord, ContextText, IdWord, IdText}
+use Rattle.po_text.specs.Places.{FormWord, FormText, PluralWord, PluralText, IndexOpen, IndexNumber}
+use Rattle.po_text.specs.Places.{IndexClose, IndexedWord, IndexedText, IsBoundary, step}
 use Rattle.po_text.proofs.Grammar.{run, run-over, run-from}
 use Rattle.po_text.proofs.Completes.{derived}
 

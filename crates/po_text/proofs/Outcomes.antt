@@ -1,11 +1,14 @@
 -- A text has one outcome.
-use Rattle.std.proofs.Common.{◌≡◌, ℕ, ◌<◌, ◌≤◌, List, [], ◌∷◌, ◌++◌, length, Some, None, refl, sym, ap, ◌∙◌, subst, inl, inr, arith, append_assoc}
+use Rattle.std.proofs.Common.{◌≡◌, ℕ, ◌<◌, ◌≤◌, List, [], ◌∷◌, ◌++◌, length, Some}
+use Rattle.std.proofs.Common.{None, refl, sym, ap, ◌∙◌, subst, inl, inr, arith, append_assoc}
 use Rattle.std.specs.Prelude.{◌⊎◌}
 use Rattle.std.proofs.lemmas.List.{map-append, append-nil}
 use Rattle.po_text.specs.declared.fault.PoKind.{PoKind}
-use Rattle.po_text.specs.declared.fault.PoKind.TheVariants.{TooLarge, NotUtf8, BadEscape, OpenString, BadWord, BadText, BadOrder, BadIndex, Memory}
+use Rattle.po_text.specs.declared.fault.PoKind.TheVariants.{TooLarge, NotUtf8, BadEscape, OpenString, BadWord}
+use Rattle.po_text.specs.declared.fault.PoKind.TheVariants.{BadText, BadOrder, BadIndex, Memory}
 use Rattle.po_text.specs.Spelling.{Token, Text, Lexeme}
-use Rattle.po_text.specs.Entries.{Entry, Derives, all_tokens, texts, IsOpenList, IsKeyword, ClosesAt, ClosesBy, PutsFour, IsIndexPlace}
+use Rattle.po_text.specs.Entries.{Entry, Derives, all_tokens, texts, IsOpenList}
+use Rattle.po_text.specs.Entries.{IsKeyword, ClosesAt, ClosesBy, PutsFour, IsIndexPlace}
 use Rattle.po_text.specs.Places.{Start}
 use Rattle.po_text.specs.Building.{begin, no_flags, State, at_state, drafts_at, start}
 use Rattle.po_text.specs.Outcome.{HasGrammarFault, Reads, IsFaulty, body, IsReadable, IsUndecodable, Gives, Refuses}

@@ -1,5 +1,6 @@
 -- What the entries of a text take in an MO file is at most twice the text.
-use Rattle.std.proofs.Common.{◌≡◌, ℕ, ◌+◌, ◌*◌, ◌≤◌, Bool, true, false, cond, List, [], ◌∷◌, ◌++◌, map, drop, take, length, Option, Some, None, refl, ap, arith, length-append}
+use Rattle.std.proofs.Common.{◌≡◌, ℕ, ◌+◌, ◌*◌, ◌≤◌, Bool, true, false, cond, List, [], ◌∷◌}
+use Rattle.std.proofs.Common.{◌++◌, map, drop, take, length, Option, Some, None, refl, ap, arith, length-append}
 use Rattle.std.specs.Prelude.{◌&&◌, codes}
 use Rattle.std.specs.List.{concat}
 use Rattle.std.specs.Str.{bytes_eq}
@@ -8,8 +9,13 @@ use Rattle.std.proofs.lemmas.List.{length-map, length-drop, map-append}
 use Rattle.std.proofs.lemmas.Option.{cond_some}
 use Rattle.std.proofs.lemmas.Slice.Eq.{bytes_eq-Decides}
 use Rattle.po_text.specs.Chain.{Chain}
-use Rattle.po_text.specs.Spelling.{Token, Context, Id, Plural, Str, Number, Open, Close, Text, Mark, Lexeme, lexemes, StringUnit, Plain, Escape, Octal, UnitAt, UnitsAt, unit_value, Piece, White, Comment, Word, OpenBracket, CloseBracket, Quoted, PieceAt, word_token, number_of, newlines, comment_marks}
-use Rattle.po_text.specs.Entries.{Strings, Part, PlainPart, PluralPart, Derivation, texts, context_tokens, form_tokens, part_tokens, tokens_of, Entry, joined_option, plural_of, forms_of, entry_of, Remaining, EntryAt, all_tokens}
+use Rattle.po_text.specs.Spelling.{Token, Context, Id, Plural, Str, Number, Open, Close}
+use Rattle.po_text.specs.Spelling.{Text, Mark, Lexeme, lexemes, StringUnit, Plain, Escape, Octal}
+use Rattle.po_text.specs.Spelling.{UnitAt, UnitsAt, unit_value, Piece, White, Comment, Word, OpenBracket}
+use Rattle.po_text.specs.Spelling.{CloseBracket, Quoted, PieceAt, word_token, number_of, newlines, comment_marks}
+use Rattle.po_text.specs.Entries.{Strings, Part, PlainPart, PluralPart, Derivation, texts}
+use Rattle.po_text.specs.Entries.{context_tokens, form_tokens, part_tokens, tokens_of, Entry, joined_option}
+use Rattle.po_text.specs.Entries.{plural_of, forms_of, entry_of, Remaining, EntryAt, all_tokens}
 use Rattle.po_text.specs.Outcome.{Reads, Gives, body, byte_order_mark}
 
 -- ---- sizes in an MO file (GNU gettext manual, The Format of GNU MO Files)

@@ -1,13 +1,19 @@
 -- A text has an outcome: it leads to ⊥ that it has none. On the way to ⊥ any case may be split, whether or not there is a test for it.
-use Rattle.std.proofs.Common.{◌≡◌, ℕ, zero, suc, ◌+◌, ◌<◌, ◌≤◌, true, List, [], ◌∷◌, ◌++◌, length, take, drop, Option, Some, None, refl, sym, ap, ◌∙◌, subst, arith, inl, inr, append_assoc}
+use Rattle.std.proofs.Common.{◌≡◌, ℕ, zero, suc, ◌+◌, ◌<◌, ◌≤◌, true, List, [], ◌∷◌, ◌++◌, length, take}
+use Rattle.std.proofs.Common.{drop, Option, Some, None, refl, sym, ap, ◌∙◌, subst, arith, inl, inr, append_assoc}
 use Rattle.std.specs.Prelude.{◌⊎◌}
 use Rattle.std.specs.List.{take_while, prefix_len}
 use Rattle.std.proofs.lemmas.Bool.{cases_eq, ne_eqb, cases_Bool, cases_lt}
 use Rattle.std.proofs.lemmas.List.{append-nil, take-append-drop, length-drop}
 use Rattle.po_text.specs.declared.fault.PoKind.{PoKind}
-use Rattle.po_text.specs.declared.fault.PoKind.TheVariants.{TooLarge, NotUtf8, BadEscape, OpenString, BadWord, BadText, BadOrder, BadIndex}
+use Rattle.po_text.specs.declared.fault.PoKind.TheVariants.{TooLarge, NotUtf8, BadEscape, OpenString}
+use Rattle.po_text.specs.declared.fault.PoKind.TheVariants.{BadWord, BadText, BadOrder, BadIndex}
 use Rattle.po_text.specs.Chain.{Chain}
-use Rattle.po_text.specs.Spelling.{StringUnit, Plain, Escape, Octal, UnitAt, UnitsAt, unit_value, is_octal, octal_run, octal_value, escaped, IsBadEscape, IsOpenEnd, Piece, White, Comment, Word, OpenBracket, CloseBracket, Quoted, PieceAt, is_white, is_word_byte, is_not_line_end, word_token, FaultAt, HasFault, Spells, Lexeme, lexemes, line_of}
+use Rattle.po_text.specs.Spelling.{StringUnit, Plain, Escape, Octal, UnitAt, UnitsAt, unit_value}
+use Rattle.po_text.specs.Spelling.{is_octal, octal_run, octal_value, escaped, IsBadEscape, IsOpenEnd, Piece}
+use Rattle.po_text.specs.Spelling.{White, Comment, Word, OpenBracket, CloseBracket, Quoted, PieceAt}
+use Rattle.po_text.specs.Spelling.{is_white, is_word_byte, is_not_line_end, word_token, FaultAt, HasFault, Spells}
+use Rattle.po_text.specs.Spelling.{Lexeme, lexemes, line_of}
 use Rattle.po_text.specs.Entries.{Entry, Derives, all_tokens, IsOpenList, ClosesBy}
 use Rattle.po_text.specs.Places.{Start}
 use Rattle.po_text.specs.Outcome.{HasGrammarFault, Reads, IsFaulty, body, IsReadable, Gives, Refuses}

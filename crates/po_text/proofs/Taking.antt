@@ -1,5 +1,6 @@
 -- Tokens taken by the entry reader, one after another.
-use Rattle.std.proofs.Common.{◌≡◌, ℕ, Bool, true, false, List, [], ◌∷◌, ◌++◌, map, Option, Some, None, refl, sym, ap, ◌∙◌, subst, inl, inr, append_assoc}
+use Rattle.std.proofs.Common.{◌≡◌, ℕ, Bool, true, false, List, [], ◌∷◌, ◌++◌, map, Option}
+use Rattle.std.proofs.Common.{Some, None, refl, sym, ap, ◌∙◌, subst, inl, inr, append_assoc}
 use Rattle.std.specs.Prelude.{◌⊎◌}
 use Rattle.std.specs.Option.{option_map}
 use Rattle.po_text.specs.declared.flags.Flags.{Flags}
@@ -9,10 +10,13 @@ use Rattle.po_text.specs.declared.places.Place.TheVariants as places
 use Rattle.po_text.specs.declared.fault.PoKind.{PoKind}
 use Rattle.po_text.specs.Spelling.{Token, Context, Id, Mark, Lexeme, Spells}
 use Rattle.po_text.specs.Entries.{Entry, Derives, ClosesAt, EndsEarly}
-use Rattle.po_text.specs.Places.{Place, Start, ContextWord, ContextText, IdWord, FormText, IndexedText, step, place_view, IsBoundary}
-use Rattle.po_text.specs.Building.{flags_over, no_flags, Draft, draft_of, begin, State, at_state, drafts_at, opens, opens_id, after, feed_at, start, some_if}
+use Rattle.po_text.specs.Places.{Place, Start, ContextWord, ContextText, IdWord}
+use Rattle.po_text.specs.Places.{FormText, IndexedText, step, place_view, IsBoundary}
+use Rattle.po_text.specs.Building.{flags_over, no_flags, Draft, draft_of, begin, State, at_state}
+use Rattle.po_text.specs.Building.{drafts_at, opens, opens_id, after, feed_at, start, some_if}
 use Rattle.po_text.specs.Lexing.{HasNext, HasEnd, token_view, gap_marks}
-use Rattle.po_text.specs.Parsing.{HasTaken, is_context_word, ParsesOn, HasParsed, HasTakenTo, pending, EndsRight, Refused, refusal}
+use Rattle.po_text.specs.Parsing.{HasTaken, is_context_word, ParsesOn, HasParsed, HasTakenTo}
+use Rattle.po_text.specs.Parsing.{pending, EndsRight, Refused, refusal}
 use Rattle.po_text.specs.Outcome.{Reads, IsFaulty}
 use Rattle.po_text.specs.declared.fault.PoFault.{PoFault}
 use Rattle.po_text.specs.declared.fault.PoKind.TheVariants.{BadOrder}

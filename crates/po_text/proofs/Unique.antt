@@ -1,10 +1,12 @@
 -- A text has one reading: the units of a string, and the pieces of a text, up to where none can stand.
-use Rattle.std.proofs.Common.{◌≡◌, ◌≢◌, ℕ, ◌≤◌, true, false, List, [], ◌∷◌, ◌++◌, map, Some, None, refl, sym, ap, ◌∙◌, subst, arith, inl, inr}
+use Rattle.std.proofs.Common.{◌≡◌, ◌≢◌, ℕ, ◌≤◌, true, false, List, [], ◌∷◌, ◌++◌, map}
+use Rattle.std.proofs.Common.{Some, None, refl, sym, ap, ◌∙◌, subst, arith, inl, inr}
 use Rattle.std.proofs.lemmas.Bool.{ne_eqb, cases_Bool}
 use Rattle.std.proofs.lemmas.List.{append_cancel_left}
 use Rattle.std.proofs.lemmas.Bool.Decides.{nat_tests}
 use Rattle.po_text.specs.Chain.{Chain}
-use Rattle.po_text.specs.Spelling.{StringUnit, Plain, Escape, Octal, UnitAt, UnitsAt, unit_value, is_plain, is_octal, octal_run, escaped}
+use Rattle.po_text.specs.Spelling.{StringUnit, Plain, Escape, Octal, UnitAt, UnitsAt}
+use Rattle.po_text.specs.Spelling.{unit_value, is_plain, is_octal, octal_run, escaped}
 
 -- no step can be made from s
 abbrev pub Stops : {A S : Type 0} → (A → S → S → Type 0) → S → Type 0

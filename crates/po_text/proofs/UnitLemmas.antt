@@ -1,7 +1,9 @@
 -- Units of a string, one after another.
-use Rattle.std.proofs.Common.{◌≡◌, ℕ, zero, suc, ◌<◌, ◌≤◌, true, false, List, [], ◌∷◌, ◌++◌, length, get_or, take, drop, refl, sym, ap, ◌∙◌, arith, append_assoc, one-add, min, inl, inr}
+use Rattle.std.proofs.Common.{◌≡◌, ℕ, zero, suc, ◌<◌, ◌≤◌, true, false, List, [], ◌∷◌, ◌++◌, length}
+use Rattle.std.proofs.Common.{get_or, take, drop, refl, sym, ap, ◌∙◌, arith, append_assoc, one-add, min, inl, inr}
 use Rattle.std.proofs.lemmas.Bool.{cases_eq, ne_eqb}
-use Rattle.po_text.specs.Spelling.{StringUnit, Plain, UnitAt, UnitsAt, unit_value, is_plain, Octal, is_octal, octal_run, octal_value, IsOpenEnd}
+use Rattle.po_text.specs.Spelling.{StringUnit, Plain, UnitAt, UnitsAt, unit_value, is_plain}
+use Rattle.po_text.specs.Spelling.{Octal, is_octal, octal_run, octal_value, IsOpenEnd}
 use Rattle.po_text.specs.Lexing.{TakesUnits, ReadsUnit, StopsBadly, UnitsFail}
 use Rattle.po_text.specs.declared.fault.PoKind.{PoKind}
 use Rattle.std.specs.List.{prefix_len}

@@ -5,7 +5,8 @@ use Rattle.po_text.specs.declared.buffer.EntryBuffer.TheInside.{Inside}
 use Rattle.po_text.specs.Spelling.{Token, Text, IsLawful}
 use Rattle.po_text.specs.Entries.{Entry}
 use Rattle.po_text.specs.Lawful.{IsLawfulTexts}
-use Rattle.po_text.specs.Places.{Place, ContextWord, ContextText, IdWord, IdText, FormWord, FormText, PluralWord, PluralText, IndexOpen, IndexNumber, IndexClose, IndexedWord, IndexedText}
+use Rattle.po_text.specs.Places.{Place, ContextWord, ContextText, IdWord, IdText, FormWord, FormText}
+use Rattle.po_text.specs.Places.{PluralWord, PluralText, IndexOpen, IndexNumber, IndexClose, IndexedWord, IndexedText}
 use Rattle.po_text.specs.Building.{Draft, draft_of, some_if, first_or}
 
 -- the forms that start at these places, each up to the next one or the end

@@ -65,29 +65,78 @@ draft_of e = record {
 
 -- an entry of which only the opening keyword was read
 abbrev pub begin : ℕ → Flags → Option (List ℕ) → Draft
-begin line flags context = record { line = line; flags = flags; context = context; id = []; plural = None; flat = []; starts = [] }
+begin line flags context =
+    record { line = line; flags = flags; context = context; id = []; plural = None; flat = []; starts = [] }
 
 abbrev pub grown : Option (List ℕ) → List ℕ → Option (List ℕ)
 grown None bytes = None
 grown (Some old) bytes = Some (old ++ bytes)
 
 abbrev pub add_context : Draft → List ℕ → Draft
-add_context d bytes = record { line = d.line; flags = d.flags; context = grown d.context bytes; id = d.id; plural = d.plural; flat = d.flat; starts = d.starts }
+add_context d bytes = record {
+  line = d.line;
+  flags = d.flags;
+  context = grown d.context bytes;
+  id = d.id;
+  plural = d.plural;
+  flat = d.flat;
+  starts = d.starts;
+}
 
 abbrev pub add_id : Draft → List ℕ → Draft
-add_id d bytes = record { line = d.line; flags = d.flags; context = d.context; id = d.id ++ bytes; plural = d.plural; flat = d.flat; starts = d.starts }
+add_id d bytes = record {
+  line = d.line;
+  flags = d.flags;
+  context = d.context;
+  id = d.id ++ bytes;
+  plural = d.plural;
+  flat = d.flat;
+  starts = d.starts;
+}
 
 abbrev pub add_plural : Draft → List ℕ → Draft
-add_plural d bytes = record { line = d.line; flags = d.flags; context = d.context; id = d.id; plural = grown d.plural bytes; flat = d.flat; starts = d.starts }
+add_plural d bytes = record {
+  line = d.line;
+  flags = d.flags;
+  context = d.context;
+  id = d.id;
+  plural = grown d.plural bytes;
+  flat = d.flat;
+  starts = d.starts;
+}
 
 abbrev pub add_form : Draft → List ℕ → Draft
-add_form d bytes = record { line = d.line; flags = d.flags; context = d.context; id = d.id; plural = d.plural; flat = d.flat ++ bytes; starts = d.starts }
+add_form d bytes = record {
+  line = d.line;
+  flags = d.flags;
+  context = d.context;
+  id = d.id;
+  plural = d.plural;
+  flat = d.flat ++ bytes;
+  starts = d.starts;
+}
 
 abbrev pub new_plural : Draft → Draft
-new_plural d = record { line = d.line; flags = d.flags; context = d.context; id = d.id; plural = Some []; flat = d.flat; starts = d.starts }
+new_plural d = record {
+  line = d.line;
+  flags = d.flags;
+  context = d.context;
+  id = d.id;
+  plural = Some [];
+  flat = d.flat;
+  starts = d.starts;
+}
 
 abbrev pub new_form : Draft → Draft
-new_form d = record { line = d.line; flags = d.flags; context = d.context; id = d.id; plural = d.plural; flat = d.flat; starts = d.starts ++ (length d.flat ∷ []) }
+new_form d = record {
+  line = d.line;
+  flags = d.flags;
+  context = d.context;
+  id = d.id;
+  plural = d.plural;
+  flat = d.flat;
+  starts = d.starts ++ (length d.flat ∷ []);
+}
 
 -- a string, by the place behind which it stands
 abbrev pub put_text : Place → List ℕ → Draft → Draft
@@ -138,8 +187,10 @@ keyword_line Id line k = line
 keyword_line _ line k = k
 
 abbrev pub after : Option (Option (List ℕ)) → State → List Mark → ℕ → Token → Place → State
-after (Some context) s marks line t p = at_state p (drafts_at s.place s.done s.draft) (begin line (flags_over s.flags marks) context) no_flags line
-after None s marks line t p = at_state p s.done (put t s.place s.draft) (flags_over s.flags marks) (keyword_line t line s.keyword)
+after (Some context) s marks line t p =
+    at_state p (drafts_at s.place s.done s.draft) (begin line (flags_over s.flags marks) context) no_flags line
+after None s marks line t p =
+    at_state p s.done (put t s.place s.draft) (flags_over s.flags marks) (keyword_line t line s.keyword)
 
 abbrev pub feed_at : State → List Mark → ℕ → Token → Option State
 feed_at s marks line t = option_map (λ p. after (opens t s.place) s marks line t p) (step s.place t)

@@ -1,10 +1,12 @@
 -- Which entries a list of lexemes derives, and which fault of grammar it has: the GNU gettext manual, "PO Files".
-use Rattle.std.specs.Prelude.{◌≡◌, ◌≢◌, ℕ, ◌+◌, Bool, true, false, not, List, [], ◌∷◌, ◌++◌, map, reverse, Option, None, Some, ◌⊎◌}
+use Rattle.std.specs.Prelude.{◌≡◌, ◌≢◌, ℕ, ◌+◌, Bool, true, false, not, List}
+use Rattle.std.specs.Prelude.{[], ◌∷◌, ◌++◌, map, reverse, Option, None, Some, ◌⊎◌}
 use Rattle.std.specs.List.{concat, flat_map, list_any, take_while, Contains, AllByRecursion}
 use Rattle.po_text.specs.declared.fault.PoKind.{PoKind}
 use Rattle.po_text.specs.declared.fault.PoKind.TheVariants.{BadText, BadOrder, BadIndex}
 use Rattle.po_text.specs.Chain.{Chain}
-use Rattle.po_text.specs.Spelling.{Token, Context, Id, Plural, Str, Number, Open, Close, Text, Mark, Fuzzy, CFormat, Clear, Lexeme}
+use Rattle.po_text.specs.Spelling.{Token, Context, Id, Plural, Str, Number, Open}
+use Rattle.po_text.specs.Spelling.{Close, Text, Mark, Fuzzy, CFormat, Clear, Lexeme}
 
 -- ---- the table
 
@@ -48,8 +50,8 @@ tokens_of d = context_tokens d.context ++ (Id ∷ texts d.id ++ part_tokens d.pa
 abbrev pub IsOneOrMore : {A : Type 0} → List A → Type 0
 IsOneOrMore xs = xs ≢ []
 
--- a context or a msgid: one or more strings, and no byte 4 when they are joined, since MO files join the two by it (that only these two
--- are looked at is ours)
+-- a context or a msgid: one or more strings, and no byte 4 when they are joined, since MO files join the two by it
+-- (that only these two are looked at is ours)
 abbrev pub IsKeyText : Strings → Type 0
 IsKeyText parts = IsOneOrMore parts × ¬ Contains (concat parts) 4
 

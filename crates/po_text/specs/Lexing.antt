@@ -9,7 +9,10 @@ use Rattle.po_text.specs.declared.lexer.Token as code
 use Rattle.po_text.specs.declared.lexer.Token.TheVariants as kinds
 use Rattle.po_text.specs.Chain.{Chain}
 use Rattle.po_text.specs.Building.{flags_over}
-use Rattle.po_text.specs.Spelling.{Token, Context, Id, Plural, Str, Number, Open, Close, Text, Piece, White, Comment, PieceAt, piece_token, FaultAt, Lexeme, lexemes, is_white, line_of, comment_marks, is_separator, Mark, StringUnit, UnitAt, UnitsAt, unit_value, IsBadEscape, IsOpenEnd, is_plain, IsLawful}
+use Rattle.po_text.specs.Spelling.{Token, Context, Id, Plural, Str, Number, Open, Close}
+use Rattle.po_text.specs.Spelling.{Text, Piece, White, Comment, PieceAt, piece_token, FaultAt, Lexeme}
+use Rattle.po_text.specs.Spelling.{lexemes, is_white, line_of, comment_marks, is_separator, Mark, StringUnit, UnitAt}
+use Rattle.po_text.specs.Spelling.{UnitsAt, unit_value, IsBadEscape, IsOpenEnd, is_plain, IsLawful}
 
 abbrev pub is_no_separator : ℕ → Bool
 is_no_separator b = not (is_separator b)

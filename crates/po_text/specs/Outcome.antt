@@ -1,5 +1,5 @@
--- What a text gives: its entries, or its first fault. The order of the faults is this project's: size, UTF-8, the first lexical fault, the
--- first fault of grammar.
+-- What a text gives: its entries, or its first fault. The order of the faults is this project's: size, UTF-8, the first
+-- lexical fault, the first fault of grammar.
 use Rattle.std.specs.Prelude.{◌≡◌, ℕ, ◌+◌, ◌<◌, ◌≤◌, List, [], ◌∷◌, take, drop, length, ◌⊎◌, if◌then◌else◌}
 use Rattle.std.specs.Str.{IsUtf8, bytes_eq}
 use Rattle.std.specs.Str.Lossy.{utf8_valid_len}
@@ -18,7 +18,8 @@ Reads text entries = (found : List Lexeme) × Spells text found × Derives found
 
 -- or its fault; only a text without a lexical fault has one of grammar
 abbrev pub IsFaulty : List ℕ → PoKind → ℕ → Type 0
-IsFaulty text kind line = HasFault text kind line ⊎ ((found : List Lexeme) × Spells text found × HasGrammarFault found kind line)
+IsFaulty text kind line =
+    HasFault text kind line ⊎ ((found : List Lexeme) × Spells text found × HasGrammarFault found kind line)
 
 -- U+FEFF in UTF-8 (the Unicode Standard, 2.6)
 abbrev pub byte_order_mark : List ℕ

@@ -1,5 +1,6 @@
 -- Private: what the parser has taken of a text.
-use Rattle.std.specs.Prelude.{◌≡◌, ℕ, ◌+◌, ◌<◌, ◌^◌, Bool, true, false, List, [], ◌∷◌, ◌++◌, map, length, Option, Some, None, ◌⊎◌, IsTrue}
+use Rattle.std.specs.Prelude.{◌≡◌, ℕ, ◌+◌, ◌<◌, ◌^◌, Bool, true, false, List, []}
+use Rattle.std.specs.Prelude.{◌∷◌, ◌++◌, map, length, Option, Some, None, ◌⊎◌, IsTrue}
 use Rattle.po_text.specs.declared.parser.Parser.{Parser}
 use Rattle.po_text.specs.declared.places.Place as code
 use Rattle.po_text.specs.declared.places.Place.TheVariants as places
@@ -9,7 +10,8 @@ use Rattle.po_text.specs.declared.fault.PoKind.TheVariants.{BadText, BadIndex, B
 use Rattle.po_text.specs.declared.fault.PoFault.{PoFault}
 use Rattle.po_text.specs.Spelling.{Lexeme, Token, Text, Number}
 use Rattle.po_text.specs.Entries.{Entry}
-use Rattle.po_text.specs.Places.{place_view, Place, Start, ContextWord, ContextText, IdWord, IdText, IndexNumber, IsBoundary, step}
+use Rattle.po_text.specs.Places.{place_view, Place, Start, ContextWord, ContextText}
+use Rattle.po_text.specs.Places.{IdWord, IdText, IndexNumber, IsBoundary, step}
 use Rattle.po_text.specs.Building.{Draft, draft_of, begin, State, at_state, drafts_at, feed_at, feeds, start, some_if}
 use Rattle.po_text.specs.Lexing.{TakesLexemes}
 use Rattle.po_text.specs.Outcome.{Reads}
@@ -43,7 +45,8 @@ StartTest false p = (done : List Draft) (d : Draft) → drafts_at p done d ≡ d
 
 -- no lexeme, or the last one on this line
 abbrev pub EndsOn : List Lexeme → ℕ → Type 0
-EndsOn found line = (found ≡ []) ⊎ ((before : List Lexeme) × (x : Lexeme) × (found ≡ before ++ (x ∷ [])) × (x.line ≡ line))
+EndsOn found line =
+    (found ≡ []) ⊎ ((before : List Lexeme) × (x : Lexeme) × (found ≡ before ++ (x ∷ [])) × (x.line ≡ line))
 
 -- the lexemes of the text up to this place were taken, with this outcome
 pub record HasTaken (text : List ℕ) (line : ℕ) (rest : List ℕ) (s : State) : Type 0 where
@@ -92,7 +95,8 @@ TakesToken true done t line old old_entry new entry =
     IsBoundary (place_view old.place old.count) × (drafts_at (place_view old.place old.count) done (draft_of old_entry) ≡ done ++ (draft_of old_entry ∷ []))
     × (entry ≡ old_entry)
     × (feed_at (state_with old (draft_of old_entry) done) [] line t ≡ Some (state_with new (pending new) (done ++ (draft_of old_entry ∷ []))))
-TakesToken false done t line old old_entry new entry = feed_at (state_with old (draft_of old_entry) done) [] line t ≡ Some (state_with new (draft_of entry) done)
+TakesToken false done t line old old_entry new entry =
+    feed_at (state_with old (draft_of old_entry) done) [] line t ≡ Some (state_with new (draft_of entry) done)
 
 -- a form was begun where the place behind the token is in one, unless the token opened an entry
 abbrev pub KeepsForm : Bool → Parser → Entry → Type 0
@@ -101,7 +105,9 @@ KeepsForm false new entry = HasForm (place_view new.place new.count) (draft_of e
 
 -- the text ends here, as it may where true and false
 abbrev pub EndsRight : Bool → Parser → Type 0
-EndsRight true r = IsBoundary (place_view r.place r.count) × ((done : List Draft) (d : Draft) → drafts_at (place_view r.place r.count) done d ≡ done ++ (d ∷ []))
+EndsRight true r =
+    IsBoundary (place_view r.place r.count)
+    × ((done : List Draft) (d : Draft) → drafts_at (place_view r.place r.count) done d ≡ done ++ (d ∷ []))
 EndsRight false r = place_view r.place r.count ≡ Start
 
 -- the kind and the line of the fault at a token that can't stand at the place

@@ -1,6 +1,8 @@
--- Which tokens a text spells, and which lexical fault it has: the GNU gettext manual, "PO Files"; escapes as the C standard has them in
--- string literals (6.4.4.4, 6.4.5). What neither says is marked (ours).
-use Rattle.std.specs.Prelude.{◌≡◌, ◌≢◌, ℕ, ◌+◌, ◌-◌, ◌*◌, ◌<◌, ◌≤◌, Bool, true, false, not, ◌&&◌, ◌||◌, ◌==◌, nat_le, if◌then◌else◌, List, [], ◌∷◌, ◌++◌, map, length, take, Option, None, Some, ◌⊎◌, codes}
+-- Which tokens a text spells, and which lexical fault it has: the GNU gettext manual, "PO Files"; escapes as the C
+-- standard has them in string literals (6.4.4.4, 6.4.5). What neither says is marked (ours).
+use Rattle.std.specs.Prelude.{◌≡◌, ◌≢◌, ℕ, ◌+◌, ◌-◌, ◌*◌, ◌<◌, ◌≤◌, Bool, true}
+use Rattle.std.specs.Prelude.{false, not, ◌&&◌, ◌||◌, ◌==◌, nat_le, if◌then◌else◌, List, [], ◌∷◌}
+use Rattle.std.specs.Prelude.{◌++◌, map, length, take, Option, None, Some, ◌⊎◌, codes}
 use Rattle.std.specs.List.{take_while, filter_map, slice_split, fold, count_by, Contains, list_all}
 use Rattle.std.specs.Str.{IsUtf8, bytes_eq}
 use Rattle.std.specs.Char.{is_ascii_alphanumeric, is_ascii_digit}
@@ -65,7 +67,8 @@ is_not_line_end b = not (b == line_feed)
 
 -- ---- strings
 
--- the byte that a backslash and this letter stand for: n t b r f v a, a backslash and a quote (C 6.4.4.4, without `\'`, `\?` and `\x`)
+-- the byte that a backslash and this letter stand for: n t b r f v a, a backslash and a quote (C 6.4.4.4, without `\'`,
+-- `\?` and `\x`)
 abbrev pub escaped : ℕ → Option ℕ
 escaped c =
     if c == 110 then Some 10 else
@@ -100,7 +103,9 @@ unit_value (Octal digits) = octal_value digits
 abbrev pub UnitAt : StringUnit → List ℕ → List ℕ → Type 0
 UnitAt (Plain b) text rest = (text ≡ b ∷ rest) × (is_plain b ≡ true)
 UnitAt (Escape c v) text rest = (text ≡ backslash ∷ c ∷ rest) × (escaped c ≡ Some v)
-UnitAt (Octal digits) text rest = (text ≡ backslash ∷ digits ++ rest) × (octal_run (digits ++ rest) ≡ digits) × (digits ≢ []) × (octal_value digits ≤ 255)
+UnitAt (Octal digits) text rest =
+    (text ≡ backslash ∷ digits ++ rest) × (octal_run (digits ++ rest) ≡ digits) × (digits ≢ [])
+    × (octal_value digits ≤ 255)
 
 -- the text is units of these values and then the rest
 pub record UnitsAt (values text rest : List ℕ) : Type 0 where
@@ -110,7 +115,9 @@ pub record UnitsAt (values text rest : List ℕ) : Type 0 where
 
 -- a backslash with which no escape begins, before another byte of the line; or octal digits above 255
 abbrev pub IsBadEscape : List ℕ → Type 0
-IsBadEscape text = ((c : ℕ) × (more : List ℕ) × (text ≡ backslash ∷ c ∷ more) × (c ≢ line_feed) × (is_octal c ≡ false) × (escaped c ≡ None))
+IsBadEscape text =
+    ((c : ℕ) × (more : List ℕ) × (text ≡ backslash ∷ c ∷ more) × (c ≢ line_feed) × (is_octal c ≡ false)
+    × (escaped c ≡ None))
     ⊎ ((more : List ℕ) × (text ≡ backslash ∷ more) × (255 < octal_value (octal_run more)))
 
 -- the line or the text ends here, perhaps behind a backslash (C 6.4.5: a string stands on one line)
@@ -142,7 +149,9 @@ decimal_value digits = fold (λ n d. 10 * n + (d - 48)) 0 digits
 
 -- a number has one to nine digits, and may begin with zeros (ours)
 abbrev pub number_of : List ℕ → Option Token
-number_of word = if list_all is_ascii_digit word && (nat_le 1 (length word) && nat_le (length word) 9) then Some (Number (decimal_value word)) else None
+number_of word =
+    if list_all is_ascii_digit word && (nat_le 1 (length word) && nat_le (length word) 9)
+    then Some (Number (decimal_value word)) else None
 
 -- the token that a word is, if it is one
 abbrev pub word_token : List ℕ → Option Token
@@ -166,7 +175,9 @@ is_separator b = b == comma || is_white b
 
 -- the flags `fuzzy` and `c-format`; other words say nothing here
 abbrev pub flag_mark : List ℕ → Option Mark
-flag_mark word = if bytes_eq word (codes "fuzzy") then Some Fuzzy else if bytes_eq word (codes "c-format") then Some CFormat else None
+flag_mark word =
+    if bytes_eq word (codes "fuzzy") then Some Fuzzy else if bytes_eq word (codes "c-format") then Some CFormat
+    else None
 
 -- the marks of a comment, by what stands behind its `#`: flags behind `#,`, Clear for `#~`, none for the others
 abbrev pub comment_marks : List ℕ → List Mark
@@ -186,14 +197,18 @@ pub data Piece : Type 0 where
   CloseBracket : Piece
   Quoted : (bytes : List ℕ) → Piece
 
--- the text is the piece and then the rest; a comment goes up to the next LF or the end, and a word is as long as it can be
+-- the text is the piece and then the rest; a comment goes up to the next LF or the end, and a word is as long as it can
+-- be
 abbrev pub PieceAt : Piece → List ℕ → List ℕ → Type 0
 PieceAt (White b) text rest = (text ≡ b ∷ rest) × (is_white b ≡ true)
-PieceAt (Comment after) text rest = (text ≡ number_sign ∷ after ++ rest) × (take_while is_not_line_end (after ++ rest) ≡ after)
-PieceAt (Word bytes token) text rest = (text ≡ bytes ++ rest) × (take_while is_word_byte text ≡ bytes) × (word_token bytes ≡ Some token)
+PieceAt (Comment after) text rest =
+    (text ≡ number_sign ∷ after ++ rest) × (take_while is_not_line_end (after ++ rest) ≡ after)
+PieceAt (Word bytes token) text rest =
+    (text ≡ bytes ++ rest) × (take_while is_word_byte text ≡ bytes) × (word_token bytes ≡ Some token)
 PieceAt OpenBracket text rest = text ≡ open_bracket ∷ rest
 PieceAt CloseBracket text rest = text ≡ close_bracket ∷ rest
-PieceAt (Quoted bytes) text rest = (inner : List ℕ) × (text ≡ quote ∷ inner) × UnitsAt bytes inner (quote ∷ rest) × IsLawful bytes
+PieceAt (Quoted bytes) text rest =
+    (inner : List ℕ) × (text ≡ quote ∷ inner) × UnitsAt bytes inner (quote ∷ rest) × IsLawful bytes
 
 -- the token that a piece is, if it is one
 abbrev pub piece_token : Piece → Option Token
@@ -219,10 +234,12 @@ abbrev pub lexemes : ℕ → List Mark → List Piece → List Lexeme
 lexemes line marks [] = []
 lexemes line marks (White b ∷ more) = lexemes (line + newlines (b ∷ [])) marks more
 lexemes line marks (Comment after ∷ more) = lexemes line (marks ++ comment_marks after) more
-lexemes line marks (Word bytes token ∷ more) = record { marks = marks; line = line; token = token } ∷ lexemes line [] more
+lexemes line marks (Word bytes token ∷ more) =
+    record { marks = marks; line = line; token = token } ∷ lexemes line [] more
 lexemes line marks (OpenBracket ∷ more) = record { marks = marks; line = line; token = Open } ∷ lexemes line [] more
 lexemes line marks (CloseBracket ∷ more) = record { marks = marks; line = line; token = Close } ∷ lexemes line [] more
-lexemes line marks (Quoted bytes ∷ more) = record { marks = marks; line = line; token = Text bytes } ∷ lexemes line [] more
+lexemes line marks (Quoted bytes ∷ more) =
+    record { marks = marks; line = line; token = Text bytes } ∷ lexemes line [] more
 
 -- the line behind the pieces: 1 and the LF bytes before it
 abbrev pub line_of : List Piece → ℕ
@@ -240,17 +257,22 @@ pub record Spells (text : List ℕ) (found : List Lexeme) : Type 0 where
 
 -- the bytes with which something begins: white space, a word, a string, a comment, a bracket
 abbrev pub is_start_byte : ℕ → Bool
-is_start_byte b = (is_white b || is_word_byte b) || ((b == quote || b == number_sign) || (b == open_bracket || b == close_bracket))
+is_start_byte b =
+    (is_white b || is_word_byte b) || ((b == quote || b == number_sign) || (b == open_bracket || b == close_bracket))
 
--- the rest begins with this fault: a word that is no token, or a byte with which nothing begins; a string with a bad escape; a string
--- that isn't closed on its line; a closed string that isn't lawful
+-- the rest begins with this fault: a word that is no token, or a byte with which nothing begins; a string with a bad
+-- escape; a string that isn't closed on its line; a closed string that isn't lawful
 abbrev pub FaultAt : PoKind → List ℕ → Type 0
 FaultAt BadWord rest =
-    ((b : ℕ) × (more : List ℕ) × (rest ≡ b ∷ more) × (is_word_byte b ≡ true) × (word_token (take_while is_word_byte rest) ≡ None))
+    ((b : ℕ) × (more : List ℕ) × (rest ≡ b ∷ more) × (is_word_byte b ≡ true)
+    × (word_token (take_while is_word_byte rest) ≡ None))
     ⊎ ((b : ℕ) × (more : List ℕ) × (rest ≡ b ∷ more) × (is_start_byte b ≡ false))
-FaultAt BadEscape rest = (values inner stop : List ℕ) × (rest ≡ quote ∷ inner) × UnitsAt values inner stop × IsBadEscape stop
-FaultAt OpenString rest = (values inner stop : List ℕ) × (rest ≡ quote ∷ inner) × UnitsAt values inner stop × IsOpenEnd stop
-FaultAt BadText rest = (values inner stop : List ℕ) × (rest ≡ quote ∷ inner) × UnitsAt values inner (quote ∷ stop) × ¬ IsLawful values
+FaultAt BadEscape rest =
+    (values inner stop : List ℕ) × (rest ≡ quote ∷ inner) × UnitsAt values inner stop × IsBadEscape stop
+FaultAt OpenString rest =
+    (values inner stop : List ℕ) × (rest ≡ quote ∷ inner) × UnitsAt values inner stop × IsOpenEnd stop
+FaultAt BadText rest =
+    (values inner stop : List ℕ) × (rest ≡ quote ∷ inner) × UnitsAt values inner (quote ∷ stop) × ¬ IsLawful values
 FaultAt _ rest = ⊥
 
 -- behind pieces the text has this lexical fault, at this line

@@ -1,5 +1,6 @@
 // An entry in buffers that are used again.
-ghost use Rattle.std.specs.Prelude.{◌≡◌, ℕ, ◌+◌, ◌-◌, ◌<◌, ◌≤◌, [], drop, length, take, OnOk, IfOk, Some, map, slice_get, slice_index, string_bytes};
+ghost use Rattle.std.specs.Prelude.{◌≡◌, ℕ, ◌+◌, ◌-◌, ◌<◌, ◌≤◌, [], drop, length};
+ghost use Rattle.std.specs.Prelude.{take, OnOk, IfOk, Some, map, slice_get, slice_index, string_bytes};
 ghost use Rattle.std.specs.Option.{option_map};
 ghost use Rattle.std.specs.Str.{IsUtf8};
 ghost use Rattle.po_text.specs.Building.{begin, draft_of, first_or, put, put_text, some_if};

@@ -1,11 +1,15 @@
 // Tokens, one after another, and the gaps before them.
-ghost use Rattle.std.specs.Prelude.{◌≡◌, ℕ, ◌+◌, ◌-◌, ◌*◌, ◌<◌, ◌≤◌, ◌^◌, ◌↔◌, ◌⊎◌, ◌++◌, ◌∷◌, [], List, Bool, length, IfOk, IfErr, IfSome, IsTrue, MatchOption};
+ghost use Rattle.std.specs.Prelude.{◌≡◌, ℕ, ◌+◌, ◌-◌, ◌*◌, ◌<◌, ◌≤◌, ◌^◌, ◌↔◌, ◌⊎◌, ◌++◌};
+ghost use Rattle.std.specs.Prelude.{◌∷◌, [], List, Bool, length, IfOk, IfErr, IfSome, IsTrue, MatchOption};
 ghost use Rattle.std.specs.List.{filter_map, prefix_len, slice_split, take_while};
 ghost use Rattle.po_text.specs.Building.{flags_over};
 ghost use Rattle.po_text.specs.Lexing.{is_no_separator};
-ghost use Rattle.po_text.specs.Spelling.{comment_marks, flag_mark, is_separator, is_white, is_word_byte, is_not_line_end, word_token, number_of, IsLawful, PieceAt, Word, Quoted, FaultAt};
+ghost use Rattle.po_text.specs.Spelling.{comment_marks, flag_mark, is_separator, is_white, is_word_byte};
+ghost use Rattle.po_text.specs.Spelling.{is_not_line_end, word_token, number_of, IsLawful, PieceAt};
+ghost use Rattle.po_text.specs.Spelling.{Word, Quoted, FaultAt};
 ghost use Rattle.po_text.specs.Spelling as spec;
-ghost use Rattle.po_text.specs.Lexing.{word_view, token_view, IsLawfulToken, StopsGap, TakesToken, HasNext, HasEnd, HasFaultFrom};
+ghost use Rattle.po_text.specs.Lexing.{word_view, token_view, IsLawfulToken, StopsGap};
+ghost use Rattle.po_text.specs.Lexing.{TakesToken, HasNext, HasEnd, HasFaultFrom};
 ghost use Rattle.po_text.specs.Faults.{out_of_memory};
 ghost use Rattle.po_text.specs.declared.fault.PoKind.TheVariants.{BadWord, Memory};
 
@@ -174,7 +178,8 @@ impl<'a> Lexer<'a> {
     /// Skips white space and comments.
     fn skip_gap(&mut self)
         requires { self.old.line + length self.old.rest.now < 2 ^ 32 }
-        ensures gap { TakesGap self.old.flags self.old.line self.old.rest.now self.new.flags self.new.line self.new.rest.now }
+        ensures gap { TakesGap self.old.flags self.old.line self.old.rest.now
+            self.new.flags self.new.line self.new.rest.now }
         ensures stops { StopsGap self.new.rest.now }
     {
         'gap: while let Some((byte, later)) = split_byte(self.rest) {
@@ -202,7 +207,8 @@ impl<'a> Lexer<'a> {
             self.new.flags self.new.line self.new.rest.now)) }
         ensures lawful { IfOk result (λ found.
             IfSome found (λ token. IsLawfulToken (token_view token bytes.new.items))) }
-        ensures room { IfOk result (λ _. self.new.line + length self.new.rest.now ≤ self.old.line + length self.old.rest.now) }
+        ensures room { IfOk result (λ _.
+            self.new.line + length self.new.rest.now ≤ self.old.line + length self.old.rest.now) }
         ensures falls { IfOk result (λ _. length self.new.rest.now ≤ length self.old.rest.now) }
         ensures err { IfErr result (λ fault. (fault ≡ out_of_memory)
             ⊎ HasFaultFrom self.old.flags self.old.line self.old.rest.now fault.kind fault.line) }

@@ -75,7 +75,8 @@ fn refusal_of(place: Place, token: Token, line: u32, keyword_line: u32) -> PoFau
 }
 
 impl<'a> Parser<'a> {
-    ghost use Rattle.po_text.specs.Parsing.{HasParsed, IsReady, TakesToken, KeepsForm, EndsRight, ParsesOn, Refused, left_in};
+    ghost use Rattle.po_text.specs.Parsing.{HasParsed, IsReady, TakesToken, KeepsForm};
+    ghost use Rattle.po_text.specs.Parsing.{EndsRight, ParsesOn, Refused, left_in};
 
     /// A parser at the front of a text.
     pub(crate) fn new(alloc: Global, text: &'a [u8]) -> Parser<'a>

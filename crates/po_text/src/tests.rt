@@ -3,8 +3,8 @@ use crate::{EntryBuffer, PoFault, PoKind, one_outcome, open_text, read_po};
 use std::test::Fail;
 
 /// An entry with everything, its flags on line 1, and a plain one.
-const TEXT: &[u8] =
-    b"#, fuzzy, c-format\nmsgctxt \"k\"\nmsgid \"a\"\nmsgid_plural \"b\"\nmsgstr[0] \"x\"\nmsgstr[1] \"y\"\n\nmsgid \"c\"\nmsgstr \"d\"\n";
+const TEXT: &[u8] = b"#, fuzzy, c-format\nmsgctxt \"k\"\nmsgid \"a\"\nmsgid_plural \"b\"\n\
+msgstr[0] \"x\"\nmsgstr[1] \"y\"\n\nmsgid \"c\"\nmsgstr \"d\"\n";
 
 #[test]
 fn reads_all(rt: HostRuntime) -> Result<(), Fail> {

@@ -1,5 +1,6 @@
 // The units of a string: plain bytes, escapes and octal digits.
-ghost use Rattle.std.specs.Prelude.{◌≢◌, ◌≡◌, ℕ, ◌+◌, ◌-◌, ◌*◌, ◌<◌, ◌≤◌, ◌↔◌, ◌++◌, ◌∷◌, List, Bool, length, IfOk, IfErr, IsTrue, MatchOption, []};
+ghost use Rattle.std.specs.Prelude.{◌≢◌, ◌≡◌, ℕ, ◌+◌, ◌-◌, ◌*◌, ◌<◌, ◌≤◌, ◌↔◌, ◌++◌};
+ghost use Rattle.std.specs.Prelude.{◌∷◌, List, Bool, length, IfOk, IfErr, IsTrue, MatchOption, []};
 ghost use Rattle.std.specs.List.{prefix_len};
 ghost use Rattle.po_text.specs.declared.fault.PoKind.TheVariants.{Memory};
 ghost use Rattle.po_text.specs.Spelling.{escaped, is_octal, octal_run, octal_value, is_plain, UnitsAt};

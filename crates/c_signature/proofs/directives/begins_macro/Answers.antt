@@ -4,7 +4,8 @@ use Rattle.std.proofs.lemmas.Bool.{eqb-true, eqb-false, some_since}
 use Rattle.c_signature.specs.Directives.{BeginsMacro}
 use Rattle.c_signature.proofs.DirectiveLemmas.{macro_prefix, macro_parts, macro_from, some_there}
 use Rattle.c_signature.proofs.directives.begins_macro.Goals as goal
-use Rattle.c_signature.proofs.directives.begins_macro.Goals.{then-not-has_macros-via-then-not-has_macros, then-not-has_macros-via-else-not-has_macros+then-is_empty}
+use Rattle.c_signature.proofs.directives.begins_macro.Goals.{then-not-has_macros-via-then-not-has_macros}
+use Rattle.c_signature.proofs.directives.begins_macro.Goals.{then-not-has_macros-via-else-not-has_macros+then-is_empty}
 
 pub returns-then-not-has_macros : goal.returns-then-not-has_macros
 returns-then-not-has_macros c =

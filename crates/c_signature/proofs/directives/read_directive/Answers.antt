@@ -2,10 +2,11 @@ use Rattle.std.proofs.Common.{◌≡◌, ◌∷◌, ◌++◌, refl, sym, ap, sub
 use Rattle.std.proofs.lemmas.Bool.{false≢true}
 use Rattle.c_signature.specs.Directives.{Head, Directive, HeadAt, IsAllowed, own_argument}
 use Rattle.c_signature.specs.Conversions.{Argument}
-use Rattle.c_signature.specs.Parts.{percent}
+use Rattle.c_signature.specs.Pieces.{percent}
 use Rattle.c_signature.specs.Signature.{amount_requests, argument_requests}
-use Rattle.c_signature.specs.Reading.{amount_view, modifier_view, argument_view}
-use Rattle.c_signature.proofs.DirectiveLemmas.{head_from, directive_from, refuses_macro, refuses_invalid, tail_needs, tail_allows}
+use Rattle.c_signature.specs.Scanning.{amount_view, modifier_view, argument_view}
+use Rattle.c_signature.proofs.DirectiveLemmas.{head_from, directive_from, refuses_macro}
+use Rattle.c_signature.proofs.DirectiveLemmas.{refuses_invalid, tail_needs, tail_allows}
 use Rattle.c_signature.proofs.directives.read_directive.Goals as goal
 
 pub returns-then-begins_macro-clause-err : goal.returns-then-begins_macro-clause-err

@@ -1,6 +1,6 @@
 use Rattle.std.proofs.Common.{arith}
 use Rattle.std.proofs.lemmas.List.Sums.{prefix_len-le-length}
-use Rattle.c_signature.specs.Parts.{is_flag}
+use Rattle.c_signature.specs.Pieces.{is_flag}
 use Rattle.c_signature.proofs.Runs.{run_is}
 use Rattle.c_signature.proofs.PartLemmas.{longest_flags}
 use Rattle.c_signature.proofs.parts.skip_flags.Goals as goal

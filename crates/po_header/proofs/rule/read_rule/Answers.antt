@@ -1,12 +1,37 @@
-use Rattle.std.proofs.Common.{sym, inr, ap, Err}
+use Rattle.std.proofs.Common.{sym, inl, inr, ap, lit<, Err}
+use Rattle.po_header.proofs.TextLemmas.{follows_is, lacks_is}
 use Rattle.po_header.proofs.rule.read_rule.Goals as goal
+
+pub returns-in_default : goal.returns-in_default
+returns-in_default c = inl (lacks_is _ c.args.text.now (lit< tt) (sym c.in_default.ensures))
+
+pub returns-in_default-behind : goal.returns-in_default-behind
+returns-in_default-behind c = inr (lacks_is _ c.args.text.now (lit< tt) (sym c.in_default-behind.ensures))
+
+pub returns-in_default-number_at : goal.returns-in_default-number_at
+returns-in_default-number_at c =
+    record {
+      count = c.in-Some.count.now;
+      expr = c.in-Some-behind.expr.now;
+      both = record { count_is = follows_is _ _ _ (sym c.in-Some.ensures); expr_is = follows_is _ _ _ (sym c.in-Some-behind.ensures) };
+      fails = inl (rw c.as_bytes.ensures.value at (sym c.in_default-number_at.ensures));
+    }
+
+pub returns-in-Err-TooLong : goal.returns-in-Err-TooLong
+returns-in-Err-TooLong c =
+    record {
+      count = c.in-Some.count.now;
+      expr = c.in-Some-behind.expr.now;
+      both = record { count_is = follows_is _ _ _ (sym c.in-Some.ensures); expr_is = follows_is _ _ _ (sym c.in-Some-behind.ensures) };
+      fails = inr (inl (c.in-Err-TooLong.ensures.too_long.0 (ap Err c.in-Err-TooLong.field-0-is)));
+    }
 
 pub returns-in-Ok : goal.returns-in-Ok
 returns-in-Ok c =
     record {
       count = c.in-Some.count.now;
       expr = c.in-Some-behind.expr.now;
-      both = record { count_is = sym c.in-Some.ensures; expr_is = sym c.in-Some-behind.ensures };
+      both = record { count_is = follows_is _ _ _ (sym c.in-Some.ensures); expr_is = follows_is _ _ _ (sym c.in-Some-behind.ensures) };
       number = rw c.as_bytes.ensures.value at (sym c.in-Some-number_at.ensures);
       short = λ long. let e = c.in-Ok.ensures.too_long.1 long in absurd (cc e);
       read = c.in-Ok.ensures.ok;
@@ -17,6 +42,6 @@ returns-in-Err-Malformed c =
     record {
       count = c.in-Some.count.now;
       expr = c.in-Some-behind.expr.now;
-      both = record { count_is = sym c.in-Some.ensures; expr_is = sym c.in-Some-behind.ensures };
+      both = record { count_is = follows_is _ _ _ (sym c.in-Some.ensures); expr_is = follows_is _ _ _ (sym c.in-Some-behind.ensures) };
       fails = inr (inr (c.in-Err-Malformed.ensures.malformed (ap Err c.in-Err-Malformed.field-0-is)));
     }

@@ -1,4 +1,5 @@
-use Rattle.std.proofs.Common.{◌≡◌, ℕ, zero, suc, drop, ◌<◌, true, false, Bool, List, get_or, length, refl, arith, Some, None, Option}
+use Rattle.std.proofs.Common.{◌≡◌, ℕ, zero, suc, drop, ◌<◌, true, false, Bool}
+use Rattle.std.proofs.Common.{List, get_or, length, refl, arith, Some, None, Option}
 use Rattle.std.specs.Option.{unwrap_or}
 use Rattle.bstr.specs.Find.{IsFirstByte}
 use Rattle.bstr.specs.Bytes.{is_in}

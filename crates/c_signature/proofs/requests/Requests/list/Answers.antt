@@ -3,7 +3,8 @@ use Rattle.std.proofs.lemmas.Result.{IfOk-weaker, IfErr-weaker}
 use Rattle.std.proofs.lemmas.List.Sorted.{IsNonDecreasingBy-from_sort_by_key}
 use Rattle.c_signature.specs.declared.requests.Row.{Row}
 use Rattle.c_signature.specs.Asked.{IsRising}
-use Rattle.c_signature.proofs.RequestLemmas.{none_from, some_from, kept_in_order, kept_mixed, kept_by_number, kept_has_none, invalid_weaker}
+use Rattle.c_signature.proofs.RequestLemmas.{none_from, some_from, kept_in_order, kept_mixed}
+use Rattle.c_signature.proofs.RequestLemmas.{kept_by_number, kept_has_none, invalid_weaker}
 use Rattle.c_signature.proofs.requests.Requests.list.Goals as goal
 
 pub returns-then-is_empty-clause-ok : goal.returns-then-is_empty-clause-ok
