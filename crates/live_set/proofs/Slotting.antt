@@ -1,5 +1,5 @@
 -- A load that is put in its slot among rising loads, and a search for that slot by halves.
-use Rattle.std.proofs.Common.{◌≡◌, ℕ, zero, suc, ◌+◌, ◌<◌, ◌≤◌, min, Bool, true, false, cond, List, [], ◌∷◌, ◌++◌, length, get_or, take, drop, set, insert, filter, find, Some, None, Ordering, Less, Equal, Greater, Result, Ok, Err, IfOk, IfErr, refl, sym, ap, ap₂, ◌∙◌, subst, arith, inl, inr}
+use Rattle.std.proofs.Common.{◌≡◌, ℕ, zero, suc, ◌+◌, ◌<◌, ◌≤◌, Bool, true, false, cond, List, [], ◌∷◌, ◌++◌, length, get_or, take, drop, set, insert, filter, find, Some, None, Ordering, Less, Equal, Greater, Result, Ok, Err, IfOk, IfErr, refl, sym, ap, ap₂, ◌∙◌, subst, arith, inl, inr}
 use Rattle.std.specs.List.{AllByRecursion}
 use Rattle.std.specs.List.Sorted.{IsStrictlySortedBy, IsNonDecreasingBy, IsSearchInRange, IsBinarySearchResult}
 use Rattle.std.specs.Ordering.{is_lt, ordering_index}
@@ -8,7 +8,7 @@ use Rattle.std.proofs.lemmas.Cmp.{alike_right, tied_back}
 use Rattle.std.proofs.lemmas.List.Kept.{IsStrictlySortedBy-filter}
 use Rattle.std.proofs.lemmas.Map.Keys.{sorted_head, sorted_tail, Less-from_sorted}
 use Rattle.live_set.specs.Loads.{LoadValue, is_for}
-use Rattle.live_set.specs.Sets.{SetValue, absorbed}
+use Rattle.live_set.specs.Sets.{SetValue}
 use Rattle.live_set.specs.Slots.{compared, is_before, slotted, Rises, asked, IsAt, IsGapFor}
 use Rattle.live_set.proofs.Order.{total, flipped, rises_with, tied_for, not_for, beside, less_ne, greater_ne}
 
@@ -212,10 +212,3 @@ set_value version held = record { version = version; held = held }
 -- a set of these loads, after the load was put there
 pub put_value : (x : LoadValue) (version : ℕ) (items new : List LoadValue) (s : SetValue) → set_value version items ≡ s → slotted items x ≡ new → set_value version new ≡ set_value s.version (slotted s.held x)
 put_value x version items new s view is = ap (set_value version) (sym is) ∙ ap (λ (t : SetValue). set_value t.version (slotted t.held x)) view
-
--- and with one version more
-pub absorb_value : (x y : LoadValue) (version risen : ℕ) (items : List LoadValue) (s t : SetValue) → set_value version items ≡ t → t ≡ set_value s.version (slotted s.held y) → y ≡ x → risen ≡ min (version + 1) 18446744073709551615 → set_value risen items ≡ absorbed s x
-absorb_value x y version risen items s t view put same rises =
-    ap (λ v. set_value v items) rises
-    ∙ ap (λ (u : SetValue). set_value (min (u.version + 1) 18446744073709551615) u.held) (view ∙ put)
-    ∙ ap (absorbed s) same

@@ -130,7 +130,8 @@ pub record HaveLawfulForms (originals translations : Table) : Type 0 where
 
 -- each key is below the next one, byte by byte
 pub record KeysRise (originals : Table) : Type 0 where
-  pub each : (i : ℕ) → i + 1 < originals.count → slice_cmp nat_cmp (before_nul (string_in originals i)) (before_nul (string_in originals (i + 1))) ≡ Less
+  pub each : (i : ℕ) → i + 1 < originals.count
+      → slice_cmp nat_cmp (before_nul (string_in originals i)) (before_nul (string_in originals (i + 1))) ≡ Less
 
 -- the header, if there is one, is lawful
 pub record HaveLawfulHeaders (originals translations : Table) : Type 0 where

@@ -2,7 +2,7 @@
 ghost use Rattle.std.specs.Prelude.{◌-◌, ◌+◌, ◌≡◌, ◌↔◌, ◌^◌, ◌<◌, ◌≤◌, ◌==◌, ◌*◌, length, min, IsTrue, MatchOption, count_by};
 ghost use Rattle.catalogue.specs.MoFile.{pool};
 ghost use Rattle.mo_file.specs.Tables.{string_at, strings};
-ghost use Rattle.mo_file.specs.MoReading.{table_at, TableLies, AllClosed, AreOriginalTexts, AreTranslationTexts, HaveLawfulForms, KeysRise, HaveLawfulHeaders, Fits};
+ghost use Rattle.mo_file.specs.MoReading.{table_at, string_in, TableLies, AllClosed, AreOriginalTexts, AreTranslationTexts, HaveLawfulForms, KeysRise, HaveLawfulHeaders, Fits};
 
 use crate::rows::{is_closed, is_same_row, string, string_lies, word};
 use crate::texts::{
@@ -50,7 +50,8 @@ pub(crate) fn all_closed<T: ByteOrder>(bytes: &[u8], table: usize, n: usize) -> 
 fn new_string<T: ByteOrder>(bytes: &[u8], table: usize, n: usize, i: usize) -> Option<&[u8]>
     requires lies { TableLies (table_at T.number_of bytes.now table n) }
     requires within { i < n }
-    ensures { MatchOption result ((0 < i) × (string_at T.number_of bytes.now (table + 8 * (i - 1)) ≡ string_at T.number_of bytes.now (table + 8 * i))) (λ string. string.now ≡ string_at T.number_of bytes.now (table + 8 * i)) }
+    ensures { let rows = table_at T.number_of bytes.now table n in
+        MatchOption result ((0 < i) × (string_in rows (i - 1) ≡ string_in rows i)) (λ string. string.now ≡ string_in rows i) }
 {
     let row = table + ROW_LEN * i;
     if i > 0 {

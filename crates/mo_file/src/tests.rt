@@ -60,39 +60,10 @@ const GNU_BIG: [u8; 181] = [
     0x66, 0x6e, 0x65, 0x6e, 0x00,
 ];
 
-/// The same, low byte first and without a hash table.
-const GNU_LITTLE_PLAIN: [u8; 161] = [
-    0xde, 0x12, 0x04, 0x95, 0x00, 0x00, 0x00, 0x00, 0x03, 0x00, 0x00, 0x00, 0x1c, 0x00, 0x00, 0x00,
-    0x34, 0x00, 0x00, 0x00, 0x00, 0x00, 0x00, 0x00, 0x4c, 0x00, 0x00, 0x00, 0x00, 0x00, 0x00, 0x00,
-    0x4c, 0x00, 0x00, 0x00, 0x0a, 0x00, 0x00, 0x00, 0x4d, 0x00, 0x00, 0x00, 0x09, 0x00, 0x00, 0x00,
-    0x58, 0x00, 0x00, 0x00, 0x28, 0x00, 0x00, 0x00, 0x62, 0x00, 0x00, 0x00, 0x0d, 0x00, 0x00, 0x00,
-    0x8b, 0x00, 0x00, 0x00, 0x07, 0x00, 0x00, 0x00, 0x99, 0x00, 0x00, 0x00, 0x00, 0x66, 0x69, 0x6c,
-    0x65, 0x00, 0x66, 0x69, 0x6c, 0x65, 0x73, 0x00, 0x6d, 0x65, 0x6e, 0x75, 0x04, 0x4f, 0x70, 0x65,
-    0x6e, 0x00, 0x43, 0x6f, 0x6e, 0x74, 0x65, 0x6e, 0x74, 0x2d, 0x54, 0x79, 0x70, 0x65, 0x3a, 0x20,
-    0x74, 0x65, 0x78, 0x74, 0x2f, 0x70, 0x6c, 0x61, 0x69, 0x6e, 0x3b, 0x20, 0x63, 0x68, 0x61, 0x72,
-    0x73, 0x65, 0x74, 0x3d, 0x55, 0x54, 0x46, 0x2d, 0x38, 0x0a, 0x00, 0x44, 0x61, 0x74, 0x65, 0x69,
-    0x00, 0x44, 0x61, 0x74, 0x65, 0x69, 0x65, 0x6e, 0x00, 0xc3, 0x96, 0x66, 0x66, 0x6e, 0x65, 0x6e,
-    0x00,
-];
-
-/// The same, high byte first and without a hash table.
-const GNU_BIG_PLAIN: [u8; 161] = [
-    0x95, 0x04, 0x12, 0xde, 0x00, 0x00, 0x00, 0x00, 0x00, 0x00, 0x00, 0x03, 0x00, 0x00, 0x00, 0x1c,
-    0x00, 0x00, 0x00, 0x34, 0x00, 0x00, 0x00, 0x00, 0x00, 0x00, 0x00, 0x4c, 0x00, 0x00, 0x00, 0x00,
-    0x00, 0x00, 0x00, 0x4c, 0x00, 0x00, 0x00, 0x0a, 0x00, 0x00, 0x00, 0x4d, 0x00, 0x00, 0x00, 0x09,
-    0x00, 0x00, 0x00, 0x58, 0x00, 0x00, 0x00, 0x28, 0x00, 0x00, 0x00, 0x62, 0x00, 0x00, 0x00, 0x0d,
-    0x00, 0x00, 0x00, 0x8b, 0x00, 0x00, 0x00, 0x07, 0x00, 0x00, 0x00, 0x99, 0x00, 0x66, 0x69, 0x6c,
-    0x65, 0x00, 0x66, 0x69, 0x6c, 0x65, 0x73, 0x00, 0x6d, 0x65, 0x6e, 0x75, 0x04, 0x4f, 0x70, 0x65,
-    0x6e, 0x00, 0x43, 0x6f, 0x6e, 0x74, 0x65, 0x6e, 0x74, 0x2d, 0x54, 0x79, 0x70, 0x65, 0x3a, 0x20,
-    0x74, 0x65, 0x78, 0x74, 0x2f, 0x70, 0x6c, 0x61, 0x69, 0x6e, 0x3b, 0x20, 0x63, 0x68, 0x61, 0x72,
-    0x73, 0x65, 0x74, 0x3d, 0x55, 0x54, 0x46, 0x2d, 0x38, 0x0a, 0x00, 0x44, 0x61, 0x74, 0x65, 0x69,
-    0x00, 0x44, 0x61, 0x74, 0x65, 0x69, 0x65, 0x6e, 0x00, 0xc3, 0x96, 0x66, 0x66, 0x6e, 0x65, 0x6e,
-    0x00,
-];
-
-/// The PO text that those four files were made of.
-const GNU_TEXT: &str =
-    "msgid \"\"\nmsgstr \"Content-Type: text/plain; charset=UTF-8\\n\"\n\nmsgctxt \"menu\"\nmsgid \"Open\"\nmsgstr \"Öffnen\"\n\nmsgid \"file\"\nmsgid_plural \"files\"\nmsgstr[0] \"Datei\"\nmsgstr[1] \"Dateien\"\n";
+/// The PO text that both files were made of.
+const GNU_TEXT: &str = "msgid \"\"\nmsgstr \"Content-Type: text/plain; charset=UTF-8\\n\"\n\n\
+    msgctxt \"menu\"\nmsgid \"Open\"\nmsgstr \"Öffnen\"\n\nmsgid \"file\"\n\
+    msgid_plural \"files\"\nmsgstr[0] \"Datei\"\nmsgstr[1] \"Dateien\"\n";
 
 /// Why bytes are refused; `None` where they are read.
 fn refusal(alloc: Global, bytes: &[u8]) -> Option<MoFault> {
@@ -164,30 +135,20 @@ fn front_parts(rt: HostRuntime) {
 fn changed_bytes(rt: HostRuntime) {
     let alloc = rt.alloc();
     let rows = [
-        (0, 0xff, Some(MoFault::Magic)),
         (3, 0xdd, Some(MoFault::Magic)),
         (7, 1, Some(MoFault::Revision)),
-        (8, 0xff, Some(MoFault::Bounds)),
         // The third row of the translations is then two words of the hash table.
         (11, 3, Some(MoFault::NoNul)),
-        (12, 0xff, Some(MoFault::Bounds)),
         (19, 0x2d, Some(MoFault::Bounds)),
+        // The hash table isn't looked at.
         (23, 9, None),
-        (27, 9, None),
-        (31, 5, Some(MoFault::Bounds)),
         // The original is then `a` with the plural `xx`.
         (31, 4, None),
-        (31, 3, Some(MoFault::NoNul)),
-        (39, 0, Some(MoFault::NoNul)),
-        (63, 7, None),
-        (74, 0x63, Some(MoFault::NoNul)),
         (77, 1, Some(MoFault::NoNul)),
-        (73, 0xff, Some(MoFault::BadText)),
         (76, 0x80, Some(MoFault::BadText)),
         // An empty msgid in the empty context and in the context `b`.
         (73, 4, None),
-        // `aa` is above `a`, and `Aa` is below.
-        (72, 0x61, None),
+        // `Aa` is below `a`.
         (72, 0x41, Some(MoFault::Order)),
     ];
     for (place, byte, wanted) in rows {
@@ -200,13 +161,6 @@ fn changed_bytes(rt: HostRuntime) {
 #[test]
 fn changed_rows(rt: HostRuntime) {
     let alloc = rt.alloc();
-    // The rows of the originals exchanged.
-    let mut exchanged = BIG;
-    exchanged[31] = 2;
-    exchanged[35] = 0x48;
-    exchanged[39] = 1;
-    exchanged[43] = 0x49;
-    assert_eq!(rt; refusal(alloc, &exchanged), Some(MoFault::Order));
     // Both keys on one string.
     let mut equal = BIG;
     equal[31] = 2;
@@ -223,12 +177,6 @@ fn changed_rows(rt: HostRuntime) {
         wraps[place] = 0xff;
     }
     assert_eq!(rt; refusal(alloc, &wraps), Some(MoFault::Bounds));
-    let mut table = BIG;
-    table[12] = 0xff;
-    table[13] = 0xff;
-    table[14] = 0xff;
-    table[15] = 0xf8;
-    assert_eq!(rt; refusal(alloc, &table), Some(MoFault::Bounds));
     // A fault of the last string comes before an earlier one of a later kind.
     let mut both = BIG;
     both[72] = 0xff;
@@ -345,45 +293,8 @@ fn files_of_gnu(rt: HostRuntime) -> Result<(), Fail> {
         wanted.as_slice()
     );
     assert_eq!(rt; rewritten(alloc, &GNU_BIG)?.as_slice(), wanted.as_slice());
-    assert_eq!(rt;
-        rewritten(alloc, &GNU_LITTLE_PLAIN)?.as_slice(),
-        wanted.as_slice()
-    );
-    assert_eq!(rt;
-        rewritten(alloc, &GNU_BIG_PLAIN)?.as_slice(),
-        wanted.as_slice()
-    );
     let catalogue = read_mo(alloc, &GNU_BIG)?;
     assert_eq!(rt; catalogue.pgettext("menu", "Open"), "\u{d6}ffnen");
     assert_eq!(rt; catalogue.ngettext("file", "files", 1), "Datei");
-    Ok(())
-}
-
-const POLISH: &str = "msgid \"\"\nmsgstr \"Plural-Forms: nplurals=3; plural=n==1 ? 0 : \
-    n%10>=2 && n%10<=4 && (n%100<10 || n%100>=20) ? 1 : 2;\\n\"\n\nmsgid \"file\"\nmsgid_plural \"files\"\n\
-    msgstr[0] \"plik\"\nmsgstr[1] \"pliki\"\nmsgstr[2] \"plikow\"\n";
-
-const CONTEXTS: &str = "msgctxt \"\"\nmsgid \"b\"\nmsgstr \"1\"\nmsgid \"b\"\nmsgstr \"2\"\n\
-    msgctxt \"k\"\nmsgid \"b\"\nmsgstr \"3\"\n";
-
-#[test]
-fn look_ups_in_what_was_read(rt: HostRuntime) -> Result<(), Fail> {
-    let alloc = rt.alloc();
-    let options = Options {
-        checked: false,
-        use_fuzzy: false,
-    };
-    let compiled = compile(alloc, POLISH.as_bytes(), options)?;
-    let polish = reread(alloc, &compiled.catalogue)?;
-    assert_eq!(rt; polish.gettext("file"), "plik");
-    for (n, wanted) in [(0, "plikow"), (1, "plik"), (5, "plikow"), (22, "pliki")] {
-        assert_eq!(rt; polish.ngettext("file", "files", n), wanted, "{n}");
-    }
-    let compiled = compile(alloc, CONTEXTS.as_bytes(), options)?;
-    let contexts = reread(alloc, &compiled.catalogue)?;
-    assert_eq!(rt; contexts.gettext("b"), "2");
-    assert_eq!(rt; contexts.pgettext("", "b"), "1");
-    assert_eq!(rt; contexts.pgettext("k", "b"), "3");
-    assert_eq!(rt; contexts.pgettext("z", "b"), "b");
     Ok(())
 }
