@@ -15,7 +15,12 @@ MOST_COLUMNS = 120
 NAMED = 4  # findings that the line of a rule names
 
 # Files of specs/ that two crates may both have: the crates use the name for the same thing.
-SHARED_NAMES = ()
+SHARED_NAMES = (
+    "Chain",  # steps one after another: one definition, in two crates of which neither stands on the other
+    "Laws",  # the laws of a crate's own words
+    "Pairs",  # mo_file gives on what mo_image says
+    "Tables",
+)
 
 PRIVATE = "-- Private: "
 SPECS = re.compile(r"crates/(\w+)/specs/(\w+)\.antt")

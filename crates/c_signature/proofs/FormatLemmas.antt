@@ -16,7 +16,7 @@ use Rattle.c_signature.specs.Pieces.{Longest, percent}
 use Rattle.c_signature.specs.Directives.{Directive, DirectiveAt}
 use Rattle.c_signature.specs.Signature.{Request, requests, AsksFor, HasNoList, is_plain}
 use Rattle.c_signature.specs.Signature.{SkipsPlain, Cuts, Lists, HasFormatFault}
-use Rattle.c_signature.specs.Scanning.{Refuses, ReadsDirective, asked_by}
+use Rattle.c_signature.specs.FormatScanning.{Refuses, ReadsDirective, asked_by}
 use Rattle.c_signature.specs.Asked.{Adds, Holds, IsInvalidOnly}
 
 -- ---- the next `%`

@@ -12,7 +12,7 @@ use Rattle.c_signature.specs.declared.Size.TheVariants.{Byte, Short, Plain, Long
 use Rattle.c_signature.specs.Pieces.{Amount, Fixed, Asked, Modifier, Of, LongDouble, decimal_value}
 use Rattle.c_signature.specs.Pieces.{Longest, NumberForm, FlagsForm, WidthForm, PrecisionForm, ModifierForm, is_flag}
 use Rattle.c_signature.specs.Pieces.{dollar, star, dot, IsNumeral, is_first_digit}
-use Rattle.c_signature.specs.Scanning.{BeginsNumber, IsRun, IsNumberOf}
+use Rattle.c_signature.specs.FormatScanning.{BeginsNumber, IsRun, IsNumberOf}
 use Rattle.c_signature.proofs.Runs.{run_longest, one_run}
 
 -- ---- one reading

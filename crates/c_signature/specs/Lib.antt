@@ -3,5 +3,5 @@ pub mod Conversions
 pub mod Directives
 pub mod Signature
 pub mod Agreement
-pub mod Scanning
+pub mod FormatScanning
 pub mod Asked

@@ -1,7 +1,7 @@
 // Conversions, and the arguments that they take.
 ghost use Rattle.std.specs.Prelude.{◌≡◌};
 ghost use Rattle.c_signature.specs.Conversions as table;
-ghost use Rattle.c_signature.specs.Scanning.{argument_view, modifier_view};
+ghost use Rattle.c_signature.specs.FormatScanning.{argument_view, modifier_view};
 
 use crate::parts::Modifier;
 use crate::{ArgKind, Size};

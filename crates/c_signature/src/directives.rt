@@ -2,7 +2,7 @@
 ghost use Rattle.std.specs.Prelude.{◌≡◌, ◌↔◌, ◌++◌, ◌∷◌, ◌<◌, List, ℕ, IfOk, IfErr, IsTrue, length};
 ghost use Rattle.std.specs.List.{prefix_len};
 ghost use Rattle.c_signature.specs.Directives.{BeginsMacro, IsAllowed, is_macro_conversion, is_name_byte};
-ghost use Rattle.c_signature.specs.Scanning.{IsRun, ReadsDirective, Refuses, argument_view};
+ghost use Rattle.c_signature.specs.FormatScanning.{IsRun, ReadsDirective, Refuses, argument_view};
 ghost use Rattle.c_signature.specs.Pieces.{percent};
 
 use crate::FormatFault;

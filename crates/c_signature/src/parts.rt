@@ -5,7 +5,7 @@ ghost use Rattle.std.specs.List.{list_all, prefix_len};
 ghost use Rattle.std.specs.Char.{is_ascii_digit};
 ghost use Rattle.c_signature.specs.Pieces.{Longest, NumberForm, FlagsForm, WidthForm};
 ghost use Rattle.c_signature.specs.Pieces.{PrecisionForm, ModifierForm, is_flag};
-ghost use Rattle.c_signature.specs.Scanning.{BeginsNumber, IsNumberOf, IsRun, amount_view, modifier_view};
+ghost use Rattle.c_signature.specs.FormatScanning.{BeginsNumber, IsNumberOf, IsRun, amount_view, modifier_view};
 
 use crate::Size;
 

@@ -2,7 +2,7 @@
 ghost use Rattle.std.specs.Prelude.{◌≡◌, ◌↔◌, IsTrue, slice_get, [], ◌∷◌, List, map, OnOk, IfOk, IfErr};
 ghost use Rattle.c_signature.specs.Signature.{amount_requests, AsksFor, ByNumber, HasNoList, Request, request};
 ghost use Rattle.c_signature.specs.declared.ArgKind.{ArgKind as Kind};
-ghost use Rattle.c_signature.specs.Scanning.{amount_view, asked_by};
+ghost use Rattle.c_signature.specs.FormatScanning.{amount_view, asked_by};
 ghost use Rattle.c_signature.specs.Asked.{Adds, Holds, IsInvalidOnly, IsRising, request_of};
 
 use crate::conversions::Argument;

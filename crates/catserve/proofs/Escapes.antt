@@ -7,7 +7,7 @@ use Rattle.std.proofs.lemmas.List.{append-nil, take_rest, take-append-drop}
 use Rattle.std.proofs.lemmas.List.Concat.{flat_map-append}
 use Rattle.bstr.specs.Bytes.{is_in}
 use Rattle.bstr.specs.Find.{IsFirstByte}
-use Rattle.catserve.specs.Fields.{unescaped, escaped_byte}
+use Rattle.catserve.specs.ScriptFields.{unescaped, escaped_byte}
 use Rattle.catserve.specs.Scanning.{SplitsEscape}
 use Rattle.catserve.specs.Output.{escape, escaped}
 use Rattle.catserve.proofs.Cutting.{cut_get}

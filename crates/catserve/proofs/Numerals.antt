@@ -6,7 +6,7 @@ use Rattle.std.specs.Result.{OkIff}
 use Rattle.std.specs.Str.Parse.{digits_value, digits_value_after, ParsesUnsigned}
 use Rattle.std.proofs.lemmas.Bool.{cases_Bool, lt-ltb, ltb-true}
 use Rattle.std.proofs.lemmas.Str.Parse.{IsNumeralModel, numerals_by_fold, parse_digits}
-use Rattle.catserve.specs.Fields.{number}
+use Rattle.catserve.specs.ScriptFields.{number}
 
 own : IsNumeralModel (λ ds. list_all is_ascii_digit ds ≡ true) (digits_value 10)
 own = numerals_by_fold (λ ds. list_all is_ascii_digit ds ≡ true) (search rules) (digits_value_after 10) (search rules)

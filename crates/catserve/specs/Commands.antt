@@ -5,7 +5,7 @@ use Rattle.catalogue.specs.declared.Options.{Options}
 use Rattle.live_set.specs.Asks.{AskValue, QueryValue, Plain, Context, Number, ContextNumber}
 use Rattle.catserve.specs.declared.field.Worker.{Worker}
 use Rattle.catserve.specs.Lines.{fields}
-use Rattle.catserve.specs.Fields.{number, unescaped, options_of, worker_of, ◌>>=◌}
+use Rattle.catserve.specs.ScriptFields.{number, unescaped, options_of, worker_of, ◌>>=◌}
 
 -- an empty line or a comment; a load of the next lines, of which it counts so many; a question; the end of a round
 pub data Line : Type 0 where

@@ -1,5 +1,5 @@
 pub mod Lines
-pub mod Fields
+pub mod ScriptFields
 pub mod Commands
 pub mod Script
 pub mod Texts

@@ -12,7 +12,7 @@ use Rattle.catserve.specs.Texts.{IsRefused}
 use Rattle.catserve.specs.Lines.{lines, without_end, fields}
 use Rattle.std.specs.Str.{IsUtf8}
 use Rattle.std.specs.Option.{option_map}
-use Rattle.catserve.specs.Fields.{escaped_byte, unescaped}
+use Rattle.catserve.specs.ScriptFields.{escaped_byte, unescaped}
 
 -- what was read is what there is to read: there is nothing where it is bad, and want of memory says nothing
 abbrev pub Reads : {T V : Type 0} → (T → V) → Result T LineFault → Option V → Type 0

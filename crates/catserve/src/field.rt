@@ -2,7 +2,7 @@
 ghost use Rattle.std.specs.Prelude.{◌≡◌, MatchOption, IfSome, option_map, string_bytes};
 ghost use Rattle.std.specs.List.{list_all};
 ghost use Rattle.std.specs.Char.{is_ascii_digit};
-ghost use Rattle.catserve.specs.Fields.{number, unescaped, escaped_byte, options_of, worker_of};
+ghost use Rattle.catserve.specs.ScriptFields.{number, unescaped, escaped_byte, options_of, worker_of};
 ghost use Rattle.catserve.specs.Scanning.{Reads, SplitsEscape};
 
 use crate::fault::LineFault;

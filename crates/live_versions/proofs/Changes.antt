@@ -8,7 +8,7 @@ use Rattle.live_versions.specs.declared.rule.Change.TheVariants.{Load, Seal}
 use Rattle.live_set.specs.Loads.{LoadValue}
 use Rattle.live_set.specs.Sets.{SetValue, absorbed}
 use Rattle.live_versions.specs.Seen.{SeenValue}
-use Rattle.live_versions.specs.Rule.{applied_to}
+use Rattle.live_versions.specs.StoreRule.{applied_to}
 use Rattle.live_versions.specs.Changes.{loads_of, EndsIn}
 
 pub loads_of-append : (a b : List Change) → loads_of (a ++ b) ≡ loads_of a ++ loads_of b

@@ -13,7 +13,7 @@ use Rattle.live_set.specs.Sets.{fold as fold_of}
 use Rattle.live_versions.specs.Seen.{SeenValue}
 use Rattle.live_versions.specs.SeatViews.{ViewValue, fresh}
 use Rattle.live_versions.specs.Batches.{joined, version_of, StartsWith, NoneEmpty}
-use Rattle.live_versions.specs.Rule.{Keeps, Sees, Only}
+use Rattle.live_versions.specs.StoreRule.{Keeps, Sees, Only}
 use Rattle.live_versions.proofs.Joining.{full_add, joined-append, begins_refl, begins_trans, begins_nil, fold-append_of}
 
 abbrev holds : Shown → List ViewValue → Type 0

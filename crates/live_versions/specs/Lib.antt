@@ -2,10 +2,10 @@ pub mod Batches
 pub mod History
 pub mod Seen
 pub mod Store
-pub mod Entries
+pub mod Entering
 pub mod Loading
 pub mod Book
 pub mod Changes
-pub mod Rule
+pub mod StoreRule
 pub mod SeatViews
 pub mod Known

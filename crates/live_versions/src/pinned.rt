@@ -5,7 +5,7 @@ ghost use Rattle.live_set.specs.Asks.{HasValue, IsAnswer, Plain, Context, Number
 ghost use Rattle.live_set.specs.Loads.{map_of};
 ghost use Rattle.live_set.specs.Sets.{fold};
 ghost use Rattle.live_versions.specs.Batches.{joined, version_of};
-ghost use Rattle.live_versions.specs.Entries.{entry_of};
+ghost use Rattle.live_versions.specs.Entering.{entry_of};
 
 use crate::Version;
 use crate::reader::{Lookups, StoreReader};

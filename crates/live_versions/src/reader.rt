@@ -4,7 +4,7 @@ ghost use Rattle.std.specs.Borrow.{sem, RestsIfErr};
 ghost use Rattle.left_right.specs.Sides.{view};
 ghost use Rattle.live_set.specs.Asks.{IsAnswer};
 ghost use Rattle.live_versions.specs.Batches.{joined, version_of, StartsWith};
-ghost use Rattle.live_versions.specs.Entries.{entry_of, home_name};
+ghost use Rattle.live_versions.specs.Entering.{entry_of, home_name};
 ghost use Rattle.live_versions.specs.contracts.reader.Lookups.{the_row};
 
 use crate::Version;

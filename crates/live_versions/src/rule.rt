@@ -1,6 +1,6 @@
 //! The rule between the publisher and the readers, over the two copies of `left_right`.
 ghost use Rattle.std.specs.Prelude.{◌≡◌, MatchResult};
-ghost use Rattle.live_versions.specs.Rule.{Keeps, Sees, applied_to};
+ghost use Rattle.live_versions.specs.StoreRule.{Keeps, Sees, applied_to};
 ghost use Rattle.live_versions.specs.SeatViews.{fresh};
 
 use crate::seal::{Cover, Seal};

@@ -6,7 +6,7 @@ use Rattle.catalogue.specs.MoFile.{spelling}
 use Rattle.catalogue.specs.declared.Compiled.{Compiled}
 use Rattle.msgfmt_tool.specs.Words.{AreTaken, Asked, asked}
 use Rattle.msgfmt_tool.specs.Runs.{Change, Compiles, Fails, FailsToWarn, FailsToWrite, FilesSeen, InputSeen, IsUnwritable, IsUnwritten, MakesFile, MakesFileFirst, OutputSeen, Run, Runs, Writes, is_standard}
-use Rattle.msgfmt_tool.specs.Steps.{CompilesNamed, Delivers, EndsCompiling, EndsTelling, Tells, Works, WritesCompiled}
+use Rattle.msgfmt_tool.specs.RunSteps.{CompilesNamed, Delivers, EndsCompiling, EndsTelling, Tells, Works, WritesCompiled}
 use Rattle.msgfmt_tool.specs.declared.outcome.Cause.{Cause}
 use Rattle.msgfmt_tool.specs.declared.outcome.Cause.TheVariants.{Words, NoInput, CannotRead, Refused, CannotWrite, ErrorOutput, Memory}
 use Rattle.msgfmt_tool.specs.declared.outcome.Status.{Status}

@@ -2,4 +2,4 @@ pub mod Words
 pub mod Runs
 pub mod Requests
 pub mod Causes
-pub mod Steps
+pub mod RunSteps

@@ -2,7 +2,7 @@
 ghost use Rattle.std.specs.Prelude.{◌≡◌, ◌≤◌, map, string_bytes};
 ghost use Rattle.msgfmt_tool.specs.Requests.{asked_in};
 ghost use Rattle.msgfmt_tool.specs.Runs.{Runs, change, files_seen, input_seen, output_seen};
-ghost use Rattle.msgfmt_tool.specs.Steps.{AnswersWords, Delivers, Tells, Works};
+ghost use Rattle.msgfmt_tool.specs.RunSteps.{AnswersWords, Delivers, Tells, Works};
 
 use crate::outcome::{Cause, Status};
 use crate::steps::{compile_input, report, warn, write_output};

@@ -2,7 +2,7 @@
 ghost use Rattle.std.specs.Prelude.{◌≤◌, IfErr, IfOk, OnOk};
 ghost use Rattle.devices.specs.Files.{KeepsLog};
 ghost use Rattle.msgfmt_tool.specs.Runs.{Reads, Writes, change, files_seen, input_seen, is_standard, output_seen};
-ghost use Rattle.msgfmt_tool.specs.Steps.{CompilesNamed, EndsCompiling, EndsReading, EndsTelling, EndsWriting};
+ghost use Rattle.msgfmt_tool.specs.RunSteps.{CompilesNamed, EndsCompiling, EndsReading, EndsTelling, EndsWriting};
 
 use crate::outcome::Cause;
 use crate::texts::StatisticsText;

@@ -13,7 +13,7 @@ use Rattle.po_header.specs.declared.token.Token.{Token}
 use Rattle.po_header.specs.Chain.{Chain}
 use Rattle.po_header.specs.Tokens.{Piece, Blank, Digits, Short, Long, PieceAt, piece_token}
 use Rattle.po_header.specs.Tokens.{tokens_of_pieces, Begins, Spells, is_blank, short_symbol, long_symbol, long_at}
-use Rattle.po_header.specs.Parsing.{IsStray}
+use Rattle.po_header.specs.ExprParsing.{IsStray}
 use Rattle.po_header.proofs.TokenLemmas.{nothing_stray, blank_is, digit_no_blank, digit_no_symbol, digit_no_long}
 
 -- ---- which piece stands at the front

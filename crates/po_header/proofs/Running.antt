@@ -7,7 +7,7 @@ use Rattle.std.specs.Prelude.{ℕ}
 use Rattle.po_header.specs.Tokens.{Begins}
 use Rattle.po_header.specs.Grammar.{Tree}
 use Rattle.po_header.specs.Expression.{SpellsTree}
-use Rattle.po_header.specs.Parsing.{IsStray, StopsBlanks}
+use Rattle.po_header.specs.ExprParsing.{IsStray, StopsBlanks}
 use Rattle.po_header.specs.Frames.{state_of}
 use Rattle.po_header.specs.Stack.{State, start, step, steps, finish}
 use Rattle.po_header.proofs.Feeding.{steps-append, finds_tree}

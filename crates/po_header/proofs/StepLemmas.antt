@@ -12,8 +12,8 @@ use Rattle.po_header.specs.declared.steps.Step.TheVariants.{Test}
 use Rattle.po_header.specs.declared.token.Operator.TheVariants.{Equal, NotEqual, Less, Greater, AtMost, AtLeast}
 use Rattle.po_header.specs.declared.tree.Node.{Node}
 use Rattle.po_header.specs.TreeValue.{truth, opposite, choice, either, conjoined}
-use Rattle.po_header.specs.Steps.{Adds, IsTest, chosen_step, node_value, measured, is_within}
-use Rattle.po_header.specs.Steps.{reached, step_value, step_values, values_from, value_at}
+use Rattle.po_header.specs.ChoiceSteps.{Adds, IsTest, chosen_step, node_value, measured, is_within}
+use Rattle.po_header.specs.ChoiceSteps.{reached, step_value, step_values, values_from, value_at}
 
 -- ---- values of steps
 

@@ -6,7 +6,7 @@ pub mod Expression
 pub mod Nodes
 pub mod ExprParts
 pub mod Expr
-pub mod Parsing
+pub mod ExprParsing
 pub mod Stack
 pub mod Charset
 pub mod Searching
@@ -14,4 +14,4 @@ pub mod Fields
 pub mod Frames
 pub mod Rule
 pub mod Rules
-pub mod Steps
+pub mod ChoiceSteps

@@ -3,7 +3,7 @@ ghost use Rattle.std.specs.Prelude.{◌≡◌, ℕ, ◌<◌, IfOk, length};
 ghost use Rattle.std.proofs.Props.{props};
 ghost use Rattle.po_header.specs.TreeValue.{value};
 ghost use Rattle.po_header.specs.ExprParts.{built};
-ghost use Rattle.po_header.specs.Steps.{reached};
+ghost use Rattle.po_header.specs.ChoiceSteps.{reached};
 
 use crate::parts::{Part, value_at};
 use crate::steps::{Step, run};

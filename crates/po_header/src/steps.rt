@@ -2,8 +2,8 @@
 // earlier step to go on. Most rules are choices between numbers by such tests.
 ghost use Rattle.std.specs.Prelude.{◌≡◌, ℕ, ◌<◌, ◌++◌, ◌∷◌, [], List, Option, Some, IfOk, IfSome, IfNone, length};
 ghost use Rattle.po_header.specs.TreeValue.{choice, combined};
-ghost use Rattle.po_header.specs.Steps.{Adds, IsTest, chosen_step, is_within, measured};
-ghost use Rattle.po_header.specs.Steps.{node_value, reached, step_value, step_values, value_at};
+ghost use Rattle.po_header.specs.ChoiceSteps.{Adds, IsTest, chosen_step, is_within, measured};
+ghost use Rattle.po_header.specs.ChoiceSteps.{node_value, reached, step_value, step_values, value_at};
 
 use crate::token::Operator;
 use crate::tree::Node;

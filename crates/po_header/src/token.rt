@@ -3,7 +3,7 @@ ghost use Rattle.std.specs.Prelude.{◌≡◌, ℕ, ◌+◌, ◌-◌, ◌*◌, �
 ghost use Rattle.std.specs.Prelude.{List, Bool, length, MatchOption, IfSome, IfNone, Some, None, if◌then◌else◌, nat_lt};
 ghost use Rattle.std.specs.List.{prefix_len, take_while};
 ghost use Rattle.std.specs.Char.{is_ascii_digit};
-ghost use Rattle.po_header.specs.Parsing.{IsStray, StopsBlanks};
+ghost use Rattle.po_header.specs.ExprParsing.{IsStray, StopsBlanks};
 ghost use Rattle.po_header.specs.Tokens.{is_blank, behind_blanks, long_symbol, short_symbol};
 ghost use Rattle.po_header.specs.Tokens.{decimal_value, below_limit, long_at, Begins};
 

@@ -4,7 +4,7 @@ use Rattle.c_signature.specs.Directives.{Head, Directive, HeadAt, IsAllowed, own
 use Rattle.c_signature.specs.Conversions.{Argument}
 use Rattle.c_signature.specs.Pieces.{percent}
 use Rattle.c_signature.specs.Signature.{amount_requests, argument_requests}
-use Rattle.c_signature.specs.Scanning.{amount_view, modifier_view, argument_view}
+use Rattle.c_signature.specs.FormatScanning.{amount_view, modifier_view, argument_view}
 use Rattle.c_signature.proofs.DirectiveLemmas.{head_from, directive_from, refuses_macro}
 use Rattle.c_signature.proofs.DirectiveLemmas.{refuses_invalid, tail_needs, tail_allows}
 use Rattle.c_signature.proofs.directives.read_directive.Goals as goal

@@ -1,5 +1,5 @@
 use Rattle.std.proofs.Common.{◌≡◌, ap, ◌∙◌, fold}
-use Rattle.live_versions.specs.Rule.{applied_to}
+use Rattle.live_versions.specs.StoreRule.{applied_to}
 use Rattle.live_versions.proofs.Steps.{names_book}
 use Rattle.live_versions.proofs.writer.name_book.Goals as goal
 

@@ -1,5 +1,5 @@
 use Rattle.std.proofs.Common.{◌≡◌}
-use Rattle.po_header.specs.Steps.{reached}
+use Rattle.po_header.specs.ChoiceSteps.{reached}
 use Rattle.po_header.proofs.steps.run.Given as goal
 
 abbrev pub invariant-steps : goal.invariant-steps

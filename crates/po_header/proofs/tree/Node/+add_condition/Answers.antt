@@ -2,7 +2,7 @@ use Rattle.std.proofs.Common.{ap, ◌∙◌}
 use Rattle.po_header.specs.declared.token.Operator.{Operator}
 use Rattle.po_header.specs.declared.tree.Node.{Node}
 use Rattle.po_header.specs.TreeValue.{combined, either, conjoined}
-use Rattle.po_header.specs.Steps.{node_value}
+use Rattle.po_header.specs.ChoiceSteps.{node_value}
 use Rattle.po_header.proofs.StepLemmas.{IfFound-map, adds_either, adds_both_sides, sides_are}
 use Rattle.po_header.proofs.tree.Node.+add_condition.Goals as goal
 
