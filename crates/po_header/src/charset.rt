@@ -3,7 +3,7 @@ ghost use Rattle.std.specs.Prelude.{◌≡◌, ℕ, ◌↔◌, IsTrue, List, Opt
 ghost use Rattle.std.specs.List.{take_while};
 ghost use Rattle.std.specs.Option.{option_copied};
 ghost use Rattle.po_header.specs.Charset.{NamesCharset, IsAcceptedCharset, HasAcceptedCharset};
-ghost use Rattle.po_header.specs.Searching.{charset, is_charset_byte};
+ghost use Rattle.po_header.specs.Searching.{is_charset_byte};
 
 use crate::search::behind;
 use memchr::memchr3;
@@ -21,10 +21,7 @@ fn before_white(text: &str) -> &str
 /// The charset that a header's text names: what follows its first `charset=`, up to a space, a tab, LF or
 /// the end (GNU gettext manual, "Header Entry").
 pub fn charset_of(text: &str) -> Option<&str>
-    ensures names { NamesCharset text.now (option_copied result) }
-
-    // The same as a function.
-    ensures is { option_copied result ≡ charset text.now }
+    ensures { NamesCharset text.now (option_copied result) }
 {
     let after = behind(text, "charset=")?;
     Some(before_white(after))
