@@ -21,10 +21,12 @@ use Rattle.c_signature.specs.Asked.{Adds, Holds, IsInvalidOnly}
 
 -- ---- the next `%`
 
-plain_before : (text : List ℕ) (n : ℕ) → n ≤ length text → ((k : ℕ) → k < n → is_byte percent (get_or text k 0) ≡ true → ⊥) → list_all is_plain (take n text) ≡ true
+plain_before : (text : List ℕ) (n : ℕ) → n ≤ length text → ((k : ℕ) → k < n → is_byte percent (get_or text k 0) ≡ true
+    → ⊥) → list_all is_plain (take n text) ≡ true
 plain_before text n le none = list_all-from_AllPass is_plain (take n text) (λ k d lt.
     let within : k < n = omega (arith, length-take-le n text le) in
-    let here : get_or (take n text) k d ≡ get_or text k 0 = get_or-take n text k d within ∙ get_or_default text k d 0 (omega arith) in
+    let here : get_or (take n text) k d ≡ get_or text k 0 = get_or-take n text k d within
+    ∙ get_or_default text k d 0 (omega arith) in
     rw here (plain_byte (get_or text k 0) (none k within)))
   where
     plain_byte : (b : ℕ) → (is_byte percent b ≡ true → ⊥) → is_plain b ≡ true
@@ -43,10 +45,12 @@ no_percent text none = record {
     take_all_of : take (length text) text ≡ text
     take_all_of = take_all (length text) text (omega arith)
 
-pub to_percent : (text : List ℕ) (place : ℕ) → IsFirstByte (is_byte percent) text (Some place) → SkipsPlain text (percent ∷ take (length text - (place + 1)) (drop (place + 1) text))
+pub to_percent : (text : List ℕ) (place : ℕ) → IsFirstByte (is_byte percent) text (Some place)
+    → SkipsPlain text (percent ∷ take (length text - (place + 1)) (drop (place + 1) text))
 to_percent text place (first, at) =
     let here : get_or text place 0 ≡ percent = eqb-true _ _ at in
-    let rest : drop place text ≡ percent ∷ drop (place + 1) text = drop_more text place 0 first.high ∙ ap (λ (b : ℕ). b ∷ drop (place + 1) text) here in
+    let rest : drop place text ≡ percent ∷ drop (place + 1) text = drop_more text place 0 first.high
+    ∙ ap (λ (b : ℕ). b ∷ drop (place + 1) text) here in
     record {
       plain = take place text;
       text_is = rw (take_rest text (place + 1), ← rest) (sym (take-append-drop place text));
@@ -61,35 +65,84 @@ pub record HasRead (text rest : List ℕ) (kept : Requests) : Type 0 where
   pub cut : Cuts directives text rest
   pub holds : Holds (flat_map requests directives) kept
 
-pub cuts_push : (ds : List Directive) (d : Directive) (text rest at after : List ℕ) → Cuts ds text rest → SkipsPlain rest at → DirectiveAt d at after → Cuts (ds ++ d ∷ []) text after
-cuts_push [] d text rest at after e plain directive = (at, after, subst (λ (t : List ℕ). SkipsPlain t at) (sym e) plain, directive, refl)
-cuts_push (c ∷ ds) d text rest at after (here, behind, skips, first, more) plain directive = (here, behind, skips, first, cuts_push ds d behind rest at after more plain directive)
+pub cuts_push : (ds : List Directive) (d : Directive) (text rest at after : List ℕ) → Cuts ds text rest
+    → SkipsPlain rest at → DirectiveAt d at after → Cuts (ds ++ d ∷ []) text after
+cuts_push [] d text rest at after e plain directive = (
+  at,
+  after,
+  subst (λ (t : List ℕ). SkipsPlain t at) (sym e) plain,
+  directive,
+  refl,
+)
+cuts_push (c ∷ ds) d text rest at after (here, behind, skips, first, more) plain directive =
+    (here, behind, skips, first, cuts_push ds d behind rest at after more plain directive)
 
-pub reads_on : (text rest at after : List ℕ) (directive : code_directive.Directive) (kept new : Requests) → HasRead text rest kept → SkipsPlain rest at → ReadsDirective directive at after → Adds kept new (asked_by directive) → HasRead text after new
+pub reads_on : (text rest at after : List ℕ) (directive : code_directive.Directive) (kept new : Requests)
+    → HasRead text rest kept → SkipsPlain rest at → ReadsDirective directive at after
+    → Adds kept new (asked_by directive) → HasRead text after new
 reads_on text rest at after directive kept new so_far plain (d, here, same) adds = record {
   directives = so_far.directives ++ d ∷ [];
   cut = cuts_push so_far.directives d text rest at after so_far.cut plain here;
-  holds = subst (λ (asked : List Request). Holds asked new) (flat_map_more requests [] so_far.directives d) (subst (λ (more : List Request). Holds (flat_map requests so_far.directives ++ more) new) (sym same) (adds (flat_map requests so_far.directives) so_far.holds));
+  holds = subst (λ (asked : List Request). Holds asked new) (flat_map_more requests [] so_far.directives d)
+      (subst (λ (more : List Request). Holds (flat_map requests so_far.directives ++ more) new) (sym same)
+      (adds (flat_map requests so_far.directives) so_far.holds));
 }
 
 -- ---- the end
 
-pub lists_all : (text rest : List ℕ) (kept : Requests) (kinds : List ArgKind) → HasRead text rest kept → SkipsPlain rest [] → ((asked : List Request) → Holds asked kept → AsksFor asked kinds) → Lists text kinds
-lists_all text rest kept kinds so_far end list = (so_far.directives, record { last = rest; cut = so_far.cut; end = end }, list (flat_map requests so_far.directives) so_far.holds)
+pub lists_all : (text rest : List ℕ) (kept : Requests) (kinds : List ArgKind) → HasRead text rest kept
+    → SkipsPlain rest [] → ((asked : List Request) → Holds asked kept → AsksFor asked kinds) → Lists text kinds
+lists_all text rest kept kinds so_far end list = (
+  so_far.directives,
+  record
+      { last = rest; cut = so_far.cut; end = end },
+  list (flat_map requests so_far.directives) so_far.holds,
+)
 
-pub none_listed : (text rest : List ℕ) (kept : Requests) (fault : FormatFault) → HasRead text rest kept → SkipsPlain rest [] → IsInvalidOnly fault ((asked : List Request) → Holds asked kept → HasNoList asked) → HasFormatFault text fault
-none_listed text rest kept Invalid so_far end none = inr (so_far.directives, record { last = rest; cut = so_far.cut; end = end }, none (flat_map requests so_far.directives) so_far.holds)
+pub none_listed : (text rest : List ℕ) (kept : Requests) (fault : FormatFault) → HasRead text rest kept
+    → SkipsPlain rest [] → IsInvalidOnly fault ((asked : List Request) → Holds asked kept → HasNoList asked)
+    → HasFormatFault text fault
+none_listed text rest kept Invalid so_far end none = inr (
+  so_far.directives,
+  record
+      { last = rest; cut = so_far.cut; end = end },
+  none (flat_map requests so_far.directives) so_far.holds,
+)
 none_listed text rest kept SystemDependent so_far end none = absurd none
 none_listed text rest kept Memory so_far end none = tt
 
-pub stopped : (text rest behind : List ℕ) (kept : Requests) (fault : FormatFault) → HasRead text rest kept → SkipsPlain rest (percent ∷ behind) → Refuses fault (percent ∷ behind) → HasFormatFault text fault
-stopped text rest behind kept Invalid so_far plain (unreadable, no_macro) = inl (percent ∷ behind, record { directives = so_far.directives; last = rest; cut = so_far.cut; plain = plain; unreadable = unreadable }, no_macro)
-stopped text rest behind kept SystemDependent so_far plain (unreadable, names) = (percent ∷ behind, record { directives = so_far.directives; last = rest; cut = so_far.cut; plain = plain; unreadable = unreadable }, names)
+pub stopped : (text rest behind : List ℕ) (kept : Requests) (fault : FormatFault) → HasRead text rest kept
+    → SkipsPlain rest (percent ∷ behind) → Refuses fault (percent ∷ behind) → HasFormatFault text fault
+stopped text rest behind kept Invalid so_far plain (unreadable, no_macro) = inl (
+  percent ∷ behind,
+  record {
+    directives = so_far.directives;
+    last = rest;
+    cut = so_far.cut;
+    plain = plain;
+    unreadable
+        = unreadable;
+  },
+  no_macro,
+)
+stopped text rest behind kept SystemDependent so_far plain (unreadable, names) = (
+  percent ∷ behind,
+  record {
+    directives = so_far.directives;
+    last = rest;
+    cut = so_far.cut;
+    plain = plain;
+    unreadable
+        = unreadable;
+  },
+  names,
+)
 stopped text rest behind kept Memory so_far plain refused = absurd refused
 
 -- ---- lengths
 
-longest_within : {V : Type 0} (Form : V → List ℕ → Type 0) (v : V) (text rest : List ℕ) → Longest Form v text rest → length rest ≤ length text
+longest_within : {V : Type 0} (Form : V → List ℕ → Type 0) (v : V) (text rest : List ℕ) → Longest Form v text rest
+    → length rest ≤ length text
 longest_within Form v text rest p = omega (arith, length-append p.front rest, ap length p.text_is)
 
 pub directive_shorter : (d : Directive) (text rest : List ℕ) → DirectiveAt d text rest → length rest < length text
@@ -103,8 +156,15 @@ directive_shorter d text rest x =
     let conversion = ap length x.tail.conversion_at in
     omega (arith, begins, number, flags, width, precision, modifier, conversion)
 
-pub step_shorter : (text at rest : List ℕ) (d : Directive) → SkipsPlain text at → DirectiveAt d at rest → length rest < length text
-step_shorter text at rest d plain x = omega (arith, directive_shorter d at rest x, ap length plain.text_is, length-append plain.plain at)
+pub step_shorter : (text at rest : List ℕ) (d : Directive) → SkipsPlain text at → DirectiveAt d at rest
+    → length rest < length text
+step_shorter text at rest d plain x = omega (
+  arith,
+  directive_shorter d at rest x,
+  ap length plain.text_is,
+  length-append plain.plain at,
+)
 
-pub reads_shorter : (text at rest : List ℕ) (directive : code_directive.Directive) → SkipsPlain text at → ReadsDirective directive at rest → length rest < length text
+pub reads_shorter : (text at rest : List ℕ) (directive : code_directive.Directive) → SkipsPlain text at
+    → ReadsDirective directive at rest → length rest < length text
 reads_shorter text at rest directive plain (d, here, same) = step_shorter text at rest d plain here

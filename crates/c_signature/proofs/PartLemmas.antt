@@ -18,14 +18,18 @@ use Rattle.c_signature.proofs.Runs.{run_longest, one_run}
 -- ---- one reading
 
 -- two longest fronts are one, and their values, where a front has one value
-pub longest_one : {V : Type 0} (Form : V → List ℕ → Type 0) → ((v w : V) (front : List ℕ) → Form v front → Form w front → v ≡ w) → (v w : V) (text rest more : List ℕ) → Longest Form v text rest → Longest Form w text more → (v ≡ w) × (rest ≡ more)
+pub longest_one : {V : Type 0} (Form : V → List ℕ → Type 0) →
+    ((v w : V) (front : List ℕ) → Form v front → Form w front → v ≡ w) → (v w : V) (text rest more : List ℕ)
+    → Longest Form v text rest → Longest Form w text more → (v ≡ w) × (rest ≡ more)
 longest_one Form one v w text rest more p q =
     let up = p.longest w q.front more q.text_is q.form in
     let down = q.longest v p.front rest p.text_is p.form in
     let long : length p.front ≡ length q.front = omega arith in
     let whole : p.front ++ rest ≡ q.front ++ more = sym p.text_is ∙ q.text_is in
-    let fronts : p.front ≡ q.front = sym (take_at p.front rest (length q.front) long) ∙ ap (λ (t : List ℕ). take (length q.front) t) whole ∙ take_at q.front more (length q.front) refl in
-    let rests : rest ≡ more = sym (drop_at p.front rest (length q.front) long) ∙ ap (λ (t : List ℕ). drop (length q.front) t) whole ∙ drop_at q.front more (length q.front) refl in
+    let fronts : p.front ≡ q.front = sym (take_at p.front rest (length q.front) long)
+    ∙ ap (λ (t : List ℕ). take (length q.front) t) whole ∙ take_at q.front more (length q.front) refl in
+    let rests : rest ≡ more = sym (drop_at p.front rest (length q.front) long)
+    ∙ ap (λ (t : List ℕ). drop (length q.front) t) whole ∙ drop_at q.front more (length q.front) refl in
     (one v w q.front (rw fronts at p.form) q.form, rests)
 
 -- ---- flags
@@ -47,7 +51,8 @@ digit_bounds : (b : ℕ) → is_ascii_digit b ≡ true → (48 ≤ b) × (b ≤ 
 digit_bounds b e = let both = and_parts (nat_le 48 b) (nat_le b 57) e in (leb-true 48 b both.0, leb-true b 57 both.1)
 
 -- digits that don't begin with 0 are a numeral
-pub numeral_from : (digits : List ℕ) → list_all is_ascii_digit digits ≡ true → 0 < length digits → (get_or digits 0 0 ≡ 48 → ⊥) → IsNumeral digits
+pub numeral_from : (digits : List ℕ) → list_all is_ascii_digit digits ≡ true → 0 < length digits
+    → (get_or digits 0 0 ≡ 48 → ⊥) → IsNumeral digits
 numeral_from [] pass some first = absurd (omega arith)
 numeral_from (b ∷ more) pass some first =
     let both = and_parts (is_ascii_digit b) (list_all is_ascii_digit more) pass in
@@ -59,13 +64,16 @@ numeral_digits [] bad = absurd bad
 numeral_digits (b ∷ more) (first, others) =
     let both = and_parts (nat_le 49 b) (nat_le b 57) first in
     let low : 49 ≤ b = leb-true 49 b both.0 in
-    and_from (is_ascii_digit b) (list_all is_ascii_digit more) (and_from (nat_le 48 b) (nat_le b 57) (le-leb 48 b (omega arith)) both.1) others
+    and_from (is_ascii_digit b) (list_all is_ascii_digit more)
+    (and_from (nat_le 48 b) (nat_le b 57) (le-leb 48 b (omega arith)) both.1) others
 
 -- a digit at a place
-pub digit_at : (digits : List ℕ) (i : ℕ) → list_all is_ascii_digit digits ≡ true → i < length digits → (48 ≤ get_or digits i 0) × (get_or digits i 0 ≤ 57)
+pub digit_at : (digits : List ℕ) (i : ℕ) → list_all is_ascii_digit digits ≡ true → i < length digits
+    → (48 ≤ get_or digits i 0) × (get_or digits i 0 ≤ 57)
 digit_at [] i pass lt = absurd (omega arith)
 digit_at (b ∷ more) zero pass lt = digit_bounds b (and_parts (is_ascii_digit b) (list_all is_ascii_digit more) pass).0
-digit_at (b ∷ more) (suc i) pass lt = digit_at more i (and_parts (is_ascii_digit b) (list_all is_ascii_digit more) pass).1 (omega arith)
+digit_at (b ∷ more) (suc i) pass lt = digit_at more i (and_parts (is_ascii_digit b) (list_all is_ascii_digit more)
+    pass).1 (omega arith)
 
 -- what a number of so few digits is below
 pub number_room : (v i n : ℕ) → v < 10 ^ i → i < n → n ≤ 9 → v < 100000000
@@ -86,12 +94,15 @@ number_value (Some m) (Some n) front (ds, e, num, few, is) (es, f, num2, few2, i
     let same : ds ≡ es = append_cancel_right ds es (dollar ∷ []) (sym e ∙ f) in
     ap Some (is ∙ ap decimal_value same ∙ sym is2)
 
-number_run : (text digits after ds more : List ℕ) → IsRun is_ascii_digit text digits after → text ≡ (ds ++ dollar ∷ []) ++ more → IsNumeral ds → (digits ≡ ds) × (after ≡ dollar ∷ more)
+number_run : (text digits after ds more : List ℕ) → IsRun is_ascii_digit text digits after → text ≡ (ds ++ dollar ∷ [])
+    ++ more → IsNumeral ds → (digits ≡ ds) × (after ≡ dollar ∷ more)
 number_run text digits after ds more is e num =
-    one_run is_ascii_digit digits after ds (dollar ∷ more) is.passes is.stops (numeral_digits ds num) refl (sym is.text_is ∙ e ∙ append_assoc ds (dollar ∷ []) more)
+    one_run is_ascii_digit digits after ds (dollar ∷ more) is.passes is.stops (numeral_digits ds num) refl
+    (sym is.text_is ∙ e ∙ append_assoc ds (dollar ∷ []) more)
 
 -- digits and a dollar sign
-pub longest_number : (m : ℕ) (text digits rest : List ℕ) → IsRun is_ascii_digit text digits (dollar ∷ rest) → IsNumberOf digits (Some m) → Longest NumberForm (Some m) text rest
+pub longest_number : (m : ℕ) (text digits rest : List ℕ) → IsRun is_ascii_digit text digits (dollar ∷ rest)
+    → IsNumberOf digits (Some m) → Longest NumberForm (Some m) text rest
 longest_number m text digits rest is (number, value) = record {
   front = digits ++ dollar ∷ [];
   text_is = is.text_is ∙ sym (append_assoc digits (dollar ∷ []) rest);
@@ -99,26 +110,32 @@ longest_number m text digits rest is (number, value) = record {
   longest = longest_there;
 }
   where
-    longest_there : (other : Option ℕ) (longer more : List ℕ) → text ≡ longer ++ more → NumberForm other longer → length longer ≤ length (digits ++ dollar ∷ [])
+    longest_there : (other : Option ℕ) (longer more : List ℕ) → text ≡ longer ++ more → NumberForm other longer
+        → length longer ≤ length (digits ++ dollar ∷ [])
     longest_there None longer more e form = rw form (omega arith)
     longest_there (Some k) longer more e (ds, f, num, few, also) =
         let same = number_run text digits (dollar ∷ rest) ds more is (rw f at e) num in
         rw (f, same.0) (omega arith)
 
 -- no front is a number
-longest_none : (text : List ℕ) → ((ds more : List ℕ) → text ≡ (ds ++ dollar ∷ []) ++ more → IsNumeral ds → length ds ≤ 9 → ⊥) → Longest NumberForm None text text
+longest_none : (text : List ℕ) → ((ds more : List ℕ) → text ≡ (ds ++ dollar ∷ []) ++ more → IsNumeral ds → length ds ≤ 9
+    → ⊥) → Longest NumberForm None text text
 longest_none text none = record { front = []; text_is = refl; form = refl; longest = longest_there }
   where
-    longest_there : (other : Option ℕ) (longer more : List ℕ) → text ≡ longer ++ more → NumberForm other longer → length longer ≤ 0
+    longest_there : (other : Option ℕ) (longer more : List ℕ) → text ≡ longer ++ more → NumberForm other longer
+        → length longer ≤ 0
     longest_there None longer more e form = rw form (omega arith)
     longest_there (Some k) longer more e (ds, f, num, few, also) = absurd (none ds more (rw f at e) num few)
 
 -- digits and no dollar sign
-pub no_dollar : (text digits after : List ℕ) → IsRun is_ascii_digit text digits after → ((rest : List ℕ) → after ≡ dollar ∷ rest → ⊥) → Longest NumberForm None text text
-no_dollar text digits after is none = longest_none text (λ ds more e num few. none more (number_run text digits after ds more is e num).1)
+pub no_dollar : (text digits after : List ℕ) → IsRun is_ascii_digit text digits after
+    → ((rest : List ℕ) → after ≡ dollar ∷ rest → ⊥) → Longest NumberForm None text text
+no_dollar text digits after is none = longest_none text (λ ds more e num few. none more
+    (number_run text digits after ds more is e num).1)
 
 -- digits that are no number of an argument
-pub no_number : (text digits after : List ℕ) → IsRun is_ascii_digit text digits after → IsNumberOf digits None → Longest NumberForm None text text
+pub no_number : (text digits after : List ℕ) → IsRun is_ascii_digit text digits after → IsNumberOf digits None
+    → Longest NumberForm None text text
 no_number text digits after is none = longest_none text (λ ds more e num few.
     let same = number_run text digits after ds more is e num in
     none (rw same.0 (record { numeral = num; short = few })))
@@ -146,15 +163,18 @@ star_no_digits digits after pass e =
 pub precision_value : (v w : Amount) (front : List ℕ) → PrecisionForm v front → PrecisionForm w front → v ≡ w
 precision_value Fixed Fixed front p q = refl
 precision_value Fixed (Asked n) front (inl e) (after, f, form) = absurd (cc (e, f))
-precision_value Fixed (Asked n) front (inr (digits, e, pass)) (after, f, form) = absurd (star_no_digits digits after pass (cc (e, f)))
+precision_value Fixed (Asked n) front (inr (digits, e, pass)) (after, f, form) = absurd
+    (star_no_digits digits after pass (cc (e, f)))
 precision_value (Asked m) Fixed front (after, f, form) (inl e) = absurd (cc (e, f))
-precision_value (Asked m) Fixed front (after, f, form) (inr (digits, e, pass)) = absurd (star_no_digits digits after pass (cc (e, f)))
+precision_value (Asked m) Fixed front (after, f, form) (inr (digits, e, pass)) = absurd
+    (star_no_digits digits after pass (cc (e, f)))
 precision_value (Asked m) (Asked n) front (after, f, form) (later, g, other) =
     let same : after ≡ later = cc (f, g) in
     ap Asked (number_value m n later (rw same at form) other)
 
 -- `*` and the number behind it
-pub width_star : (n : Option ℕ) (after rest : List ℕ) → Longest NumberForm n after rest → Longest WidthForm (Asked n) (star ∷ after) rest
+pub width_star : (n : Option ℕ) (after rest : List ℕ) → Longest NumberForm n after rest
+    → Longest WidthForm (Asked n) (star ∷ after) rest
 width_star n after rest p = record {
   front = star ∷ p.front;
   text_is = ap (λ (t : List ℕ). star ∷ t) p.text_is;
@@ -162,16 +182,19 @@ width_star n after rest p = record {
   longest = longest_there;
 }
   where
-    longest_there : (other : Amount) (longer more : List ℕ) → star ∷ after ≡ longer ++ more → WidthForm other longer → length longer ≤ suc (length p.front)
+    longest_there : (other : Amount) (longer more : List ℕ) → star ∷ after ≡ longer ++ more → WidthForm other longer
+        → length longer ≤ suc (length p.front)
     longest_there Fixed longer more e (inl none) = rw none (omega arith)
     longest_there Fixed [] more e (inr num) = omega arith
-    longest_there Fixed (b ∷ longer) more e (inr num) = let same : star ≡ b = cc e in absurd (star_no_numeral longer (rw (← same) at num))
+    longest_there Fixed (b ∷ longer) more e (inr num) = let same : star
+        ≡ b = cc e in absurd (star_no_numeral longer (rw (← same) at num))
     longest_there (Asked k) longer more e (later, f, form) =
         let tails : after ≡ later ++ more = cc (e, f) in
         let fits = p.longest k later more tails form in
         rw f (omega (arith, fits))
 
-numeral_run : (b : ℕ) (more digits rest : List ℕ) → IsRun is_ascii_digit (b ∷ more) digits rest → is_first_digit b ≡ true → IsNumeral digits
+numeral_run : (b : ℕ) (more digits rest : List ℕ) → IsRun is_ascii_digit (b ∷ more) digits rest → is_first_digit b
+    ≡ true → IsNumeral digits
 numeral_run b more [] rest is first =
     let both = and_parts (nat_le 49 b) (nat_le b 57) first in
     let low : 49 ≤ b = leb-true 49 b both.0 in
@@ -183,7 +206,8 @@ numeral_run b more (d ∷ digits) rest is first =
     (rw (← same) first, (and_parts (is_ascii_digit d) (list_all is_ascii_digit digits) is.passes).1)
 
 -- digits that don't begin with 0
-pub width_digits : (text digits rest : List ℕ) → BeginsNumber text → IsRun is_ascii_digit text digits rest → Longest WidthForm Fixed text rest
+pub width_digits : (text digits rest : List ℕ) → BeginsNumber text → IsRun is_ascii_digit text digits rest
+    → Longest WidthForm Fixed text rest
 width_digits [] digits rest begins is = absurd begins
 width_digits (b ∷ text) digits rest first is = record {
   front = digits;
@@ -192,26 +216,32 @@ width_digits (b ∷ text) digits rest first is = record {
   longest = longest_there;
 }
   where
-    longest_there : (other : Amount) (longer over : List ℕ) → b ∷ text ≡ longer ++ over → WidthForm other longer → length longer ≤ length digits
+    longest_there : (other : Amount) (longer over : List ℕ) → b ∷ text ≡ longer ++ over → WidthForm other longer
+        → length longer ≤ length digits
     longest_there Fixed longer over f (inl none) = rw none (omega arith)
-    longest_there Fixed longer over f (inr num) = run_longest is_ascii_digit (b ∷ text) digits rest longer over is f (numeral_digits longer num)
+    longest_there Fixed longer over f (inr num) = run_longest is_ascii_digit (b ∷ text) digits rest longer over is f
+        (numeral_digits longer num)
     longest_there (Asked k) longer over f (later, g, form) =
         let same : b ≡ star = cc (f, g) in
         let here : is_first_digit star ≡ true = rw same at first in
         absurd (cc here)
 
 -- neither
-pub width_none : (text : List ℕ) → ((rest : List ℕ) → text ≡ star ∷ rest → ⊥) → (BeginsNumber text → ⊥) → Longest WidthForm Fixed text text
+pub width_none : (text : List ℕ) → ((rest : List ℕ) → text ≡ star ∷ rest → ⊥) → (BeginsNumber text → ⊥)
+    → Longest WidthForm Fixed text text
 width_none text no_star no_digit = record { front = []; text_is = refl; form = inl refl; longest = longest_there }
   where
-    longest_there : (other : Amount) (longer more : List ℕ) → text ≡ longer ++ more → WidthForm other longer → length longer ≤ 0
+    longest_there : (other : Amount) (longer more : List ℕ) → text ≡ longer ++ more → WidthForm other longer
+        → length longer ≤ 0
     longest_there Fixed longer more e (inl empty) = rw empty (omega arith)
     longest_there Fixed [] more e (inr num) = omega arith
     longest_there Fixed (b ∷ longer) more e (inr num) = absurd (no_digit (rw e num.0))
-    longest_there (Asked k) longer more e (later, f, form) = absurd (no_star (later ++ more) (e ∙ ap (λ (t : List ℕ). t ++ more) f))
+    longest_there (Asked k) longer more e (later, f, form) = absurd
+        (no_star (later ++ more) (e ∙ ap (λ (t : List ℕ). t ++ more) f))
 
 -- `.*` and the number behind it
-pub precision_star : (n : Option ℕ) (after rest : List ℕ) → Longest NumberForm n after rest → Longest PrecisionForm (Asked n) (dot ∷ star ∷ after) rest
+pub precision_star : (n : Option ℕ) (after rest : List ℕ) → Longest NumberForm n after rest
+    → Longest PrecisionForm (Asked n) (dot ∷ star ∷ after) rest
 precision_star n after rest p = record {
   front = dot ∷ star ∷ p.front;
   text_is = ap (λ (t : List ℕ). dot ∷ star ∷ t) p.text_is;
@@ -219,7 +249,8 @@ precision_star n after rest p = record {
   longest = longest_there;
 }
   where
-    longest_there : (other : Amount) (longer more : List ℕ) → dot ∷ star ∷ after ≡ longer ++ more → PrecisionForm other longer → length longer ≤ suc (suc (length p.front))
+    longest_there : (other : Amount) (longer more : List ℕ) → dot ∷ star ∷ after ≡ longer ++ more
+        → PrecisionForm other longer → length longer ≤ suc (suc (length p.front))
     longest_there Fixed longer more e (inl none) = rw none (omega arith)
     longest_there Fixed longer more e (inr ([], f, pass)) = rw f (omega arith)
     longest_there Fixed longer more e (inr (b ∷ digits, f, pass)) =
@@ -231,7 +262,8 @@ precision_star n after rest p = record {
         rw f (omega (arith, fits))
 
 -- a dot and digits
-pub precision_digits : (after digits rest : List ℕ) → ((more : List ℕ) → after ≡ star ∷ more → ⊥) → IsRun is_ascii_digit after digits rest → Longest PrecisionForm Fixed (dot ∷ after) rest
+pub precision_digits : (after digits rest : List ℕ) → ((more : List ℕ) → after ≡ star ∷ more → ⊥)
+    → IsRun is_ascii_digit after digits rest → Longest PrecisionForm Fixed (dot ∷ after) rest
 precision_digits after digits rest no_star is = record {
   front = dot ∷ digits;
   text_is = ap (λ (t : List ℕ). dot ∷ t) is.text_is;
@@ -239,22 +271,27 @@ precision_digits after digits rest no_star is = record {
   longest = longest_there;
 }
   where
-    longest_there : (other : Amount) (longer more : List ℕ) → dot ∷ after ≡ longer ++ more → PrecisionForm other longer → length longer ≤ suc (length digits)
+    longest_there : (other : Amount) (longer more : List ℕ) → dot ∷ after ≡ longer ++ more → PrecisionForm other longer
+        → length longer ≤ suc (length digits)
     longest_there Fixed longer more e (inl none) = rw none (omega arith)
     longest_there Fixed longer more e (inr (others, f, pass)) =
         let tails : after ≡ others ++ more = cc (e, f) in
         let fits = run_longest is_ascii_digit after digits rest others more is tails pass in
         rw f (omega (arith, fits))
-    longest_there (Asked k) longer more e (later, f, form) = let tails : after ≡ star ∷ (later ++ more) = cc (e, f) in absurd (no_star (later ++ more) tails)
+    longest_there (Asked k) longer more e (later, f, form) = let tails : after ≡ star
+        ∷ (later ++ more) = cc (e, f) in absurd (no_star (later ++ more) tails)
 
 -- no dot
 pub precision_none : (text : List ℕ) → ((more : List ℕ) → text ≡ dot ∷ more → ⊥) → Longest PrecisionForm Fixed text text
 precision_none text none = record { front = []; text_is = refl; form = inl refl; longest = longest_there }
   where
-    longest_there : (other : Amount) (longer more : List ℕ) → text ≡ longer ++ more → PrecisionForm other longer → length longer ≤ 0
+    longest_there : (other : Amount) (longer more : List ℕ) → text ≡ longer ++ more → PrecisionForm other longer
+        → length longer ≤ 0
     longest_there Fixed longer more e (inl empty) = rw empty (omega arith)
-    longest_there Fixed longer more e (inr (digits, f, pass)) = absurd (none (digits ++ more) (e ∙ ap (λ (t : List ℕ). t ++ more) f))
-    longest_there (Asked k) longer more e (later, f, form) = absurd (none (star ∷ (later ++ more)) (e ∙ ap (λ (t : List ℕ). t ++ more) f))
+    longest_there Fixed longer more e (inr (digits, f, pass)) = absurd
+        (none (digits ++ more) (e ∙ ap (λ (t : List ℕ). t ++ more) f))
+    longest_there (Asked k) longer more e (later, f, form) = absurd
+        (none (star ∷ (later ++ more)) (e ∙ ap (λ (t : List ℕ). t ++ more) f))
 
 -- ---- length modifiers
 
@@ -301,17 +338,27 @@ short_modifier (Of PtrDiff) front e = rw e (omega arith)
 short_modifier LongDouble front e = rw e (omega arith)
 
 pub modifier_ll : (rest : List ℕ) → Longest ModifierForm (Of LongLong) (108 ∷ 108 ∷ rest) rest
-modifier_ll rest = record { front = codes "ll"; text_is = refl; form = inl refl; longest = λ other longer more e form. short_modifier other longer form }
+modifier_ll rest = record {
+  front = codes "ll";
+  text_is = refl;
+  form = inl refl;
+  longest = λ other longer more e form.
+      short_modifier other longer form;
+}
 
-pub not_at : (b : ℕ) (rest front more word : List ℕ) → b ∷ rest ≡ front ++ more → front ≡ word → (b ≡ get_or (word ++ more) 0 0 → ⊥) → ⊥
-not_at b rest front more word f e apart = apart (ap (λ (t : List ℕ). get_or t 0 0) (f ∙ ap (λ (t : List ℕ). t ++ more) e))
+pub not_at : (b : ℕ) (rest front more word : List ℕ) → b ∷ rest ≡ front ++ more → front ≡ word
+    → (b ≡ get_or (word ++ more) 0 0 → ⊥) → ⊥
+not_at b rest front more word f e apart = apart (ap (λ (t : List ℕ). get_or t 0 0)
+    (f ∙ ap (λ (t : List ℕ). t ++ more) e))
 
-q_alone : (m : Modifier) (longer more rest : List ℕ) → 113 ∷ rest ≡ longer ++ more → ModifierForm m longer → length longer ≤ 1
+q_alone : (m : Modifier) (longer more rest : List ℕ) → 113 ∷ rest ≡ longer ++ more → ModifierForm m longer
+    → length longer ≤ 1
 q_alone (Of Plain) longer more rest f e = rw e (omega arith)
 q_alone (Of Byte) longer more rest f e = absurd (not_at 113 rest longer more (codes "hh") f e (λ g. omega arith))
 q_alone (Of Short) longer more rest f e = rw e (omega arith)
 q_alone (Of Long) longer more rest f e = rw e (omega arith)
-q_alone (Of LongLong) longer more rest f (inl e) = absurd (not_at 113 rest longer more (codes "ll") f e (λ g. omega arith))
+q_alone (Of LongLong) longer more rest f (inl e) = absurd (not_at 113 rest longer more (codes "ll") f e
+    (λ g. omega arith))
 q_alone (Of LongLong) longer more rest f (inr e) = rw e (omega arith)
 q_alone (Of Max) longer more rest f e = rw e (omega arith)
 q_alone (Of SizeT) longer more rest f e = rw e (omega arith)
@@ -319,4 +366,10 @@ q_alone (Of PtrDiff) longer more rest f e = rw e (omega arith)
 q_alone LongDouble longer more rest f e = rw e (omega arith)
 
 pub modifier_q : (rest : List ℕ) → Longest ModifierForm (Of LongLong) (113 ∷ rest) rest
-modifier_q rest = record { front = codes "q"; text_is = refl; form = inr refl; longest = λ other longer more e form. q_alone other longer more rest e form }
+modifier_q rest = record {
+  front = codes "q";
+  text_is = refl;
+  form = inr refl;
+  longest = λ other longer more e form.
+      q_alone other longer more rest e form;
+}

@@ -28,7 +28,8 @@ pub record Longest {V : Type 0} (Form : V → List ℕ → Type 0) (value : V) (
   pub front : List ℕ
   pub text_is : text ≡ front ++ rest
   pub form : Form value front
-  pub longest : (other : V) (longer more : List ℕ) → text ≡ longer ++ more → Form other longer → length longer ≤ length front
+  pub longest : (other : V) (longer more : List ℕ) → text ≡ longer ++ more → Form other longer
+      → length longer ≤ length front
 
 -- ---- numbers
 

@@ -1,5 +1,6 @@
 -- The texts so far are those of the entries that were read.
-use Rattle.std.proofs.Common.{◌≡◌, ℕ, ◌+◌, true, false, List, [], ◌∷◌, ◌++◌, length, map, refl, sym, ap, ◌∙◌, inl, inr, arith}
+use Rattle.std.proofs.Common.{◌≡◌, ℕ, ◌+◌, true, false, List, [], ◌∷◌, ◌++◌, length, map, refl, sym, ap, ◌∙◌, inl, inr}
+use Rattle.std.proofs.Common.{arith}
 use Rattle.std.specs.Prelude.{◌⊎◌}
 use Rattle.std.specs.List.{AllByRecursion, flat_map}
 use Rattle.std.proofs.lemmas.Grind.{flat_map-append}
@@ -26,60 +27,91 @@ use Rattle.po_checks.specs.declared.fault.LoadKind.TheVariants.{Memory}
 use Rattle.catalogue.proofs.PoEntries.{message_lawful}
 use Rattle.catalogue.proofs.InOrder.{length-outlines_from}
 
-pub rows_push : (o : Options) (k : ℕ) (es : List po.Entry) (e : po.Entry) → outlines_from o k (es ++ e ∷ []) ≡ outlines_from o k es ++ outline_of o (k + length es) e ∷ []
+pub rows_push : (o : Options) (k : ℕ) (es : List po.Entry) (e : po.Entry) → outlines_from o k (es ++ e ∷ [])
+    ≡ outlines_from o k es ++ outline_of o (k + length es) e ∷ []
 rows_push o k [] e = ap (λ n. outline_of o n e ∷ []) (omega arith)
-rows_push o k (x ∷ es) e = ap (λ (rs : List Outline). outline_of o k x ∷ rs) (rows_push o (k + 1) es e ∙ ap (λ n. outlines_from o (k + 1) es ++ outline_of o n e ∷ []) (omega arith))
+rows_push o k (x ∷ es) e = ap (λ (rs : List Outline). outline_of o k x ∷ rs)
+    (rows_push o (k + 1) es e ∙ ap (λ n. outlines_from o (k + 1) es ++ outline_of o n e ∷ []) (omega arith))
 
-lawful_push : (es : List po.Entry) (e : po.Entry) → AllByRecursion IsLawfulMessage es → IsLawfulMessage e → AllByRecursion IsLawfulMessage (es ++ e ∷ [])
+lawful_push : (es : List po.Entry) (e : po.Entry) → AllByRecursion IsLawfulMessage es → IsLawfulMessage e
+    → AllByRecursion IsLawfulMessage (es ++ e ∷ [])
 lawful_push [] e all one = (one, tt)
 lawful_push (x ∷ es) e all one = (all.0, lawful_push es e all.1 one)
 
 -- how many drafts there are
-pub drafts_are : (o : Options) (drafts : List Draft) (entries : List po.Entry) → outlines drafts ≡ outlines_from o 0 entries → length drafts ≡ length entries
+pub drafts_are : (o : Options) (drafts : List Draft) (entries : List po.Entry) → outlines drafts
+    ≡ outlines_from o 0 entries → length drafts ≡ length entries
 drafts_are o drafts entries e = sym (length-map drafts outline) ∙ ap length e ∙ length-outlines_from o 0 entries
 
 -- ---- the texts grow
 
-texts_none : (o : Options) (texts : List ℕ) (spans : List Span) → texts ≡ [] → spans ≡ [] → AreTextsOf texts spans (outlines_from o 0 [])
+texts_none : (o : Options) (texts : List ℕ) (spans : List Span) → texts ≡ [] → spans ≡ []
+    → AreTextsOf texts spans (outlines_from o 0 [])
 texts_none o texts spans none no_spans = record { texts_are = none; spans_are = no_spans }
 
-texts_more : (o : Options) (texts more : List ℕ) (spans longer : List Span) (span : Span) (es : List po.Entry) (e : po.Entry) → AreTextsOf texts spans (outlines_from o 0 es) → more ≡ texts ++ stored (outline_of o 0 e) → span ≡ span_of (outline_of o 0 e) → longer ≡ spans ++ span ∷ [] → AreTextsOf more longer (outlines_from o 0 (es ++ e ∷ []))
+texts_more : (o : Options) (texts more : List ℕ) (spans longer : List Span) (span : Span) (es : List po.Entry)
+    (e : po.Entry) → AreTextsOf texts spans (outlines_from o 0 es) → more ≡ texts ++ stored (outline_of o 0 e) → span
+    ≡ span_of (outline_of o 0 e) → longer ≡ spans ++ span ∷ []
+    → AreTextsOf more longer (outlines_from o 0 (es ++ e ∷ []))
 texts_more o texts more spans longer span es e pool added span_is pushed =
     let rs = outlines_from o 0 es in
     let r = outline_of o (0 + length es) e in
     let all : outlines_from o 0 (es ++ e ∷ []) ≡ rs ++ r ∷ [] = rows_push o 0 es e in
     let one : flat_map stored (r ∷ []) ≡ stored r = flat_map-cons stored r [] ∙ append-nil (stored r) in
     record {
-      texts_are = added ∙ ap (λ (t : List ℕ). t ++ stored r) pool.texts_are ∙ sym (ap (λ (t : List ℕ). flat_map stored rs ++ t) one) ∙ sym (flat_map-append stored rs (r ∷ [])) ∙ sym (ap (flat_map stored) all);
-      spans_are = pushed ∙ ap (λ (ss : List Span). ss ++ span ∷ []) pool.spans_are ∙ ap (λ (s : Span). map span_of rs ++ s ∷ []) span_is ∙ sym (map-append span_of rs (r ∷ [])) ∙ sym (ap (map span_of) all);
+      texts_are = added ∙ ap (λ (t : List ℕ). t ++ stored r) pool.texts_are
+          ∙ sym (ap (λ (t : List ℕ). flat_map stored rs ++ t) one) ∙ sym (flat_map-append stored rs (r ∷ []))
+          ∙ sym (ap (flat_map stored) all);
+      spans_are = pushed ∙ ap (λ (ss : List Span). ss ++ span ∷ []) pool.spans_are
+          ∙ ap (λ (s : Span). map span_of rs ++ s ∷ []) span_is ∙ sym (map-append span_of rs (r ∷ []))
+          ∙ sym (ap (map span_of) all);
     }
 
 -- ---- one entry after another
 
-pub record Collects (text : List ℕ) (o : Options) (reader : EntryReader) (texts : List ℕ) (spans : List Span) (findings : Findings) : Type 0 where
+pub record Collects (text : List ℕ) (o : Options) (reader : EntryReader) (texts : List ℕ) (spans : List Span)
+    (findings : Findings) : Type 0 where
   pub entries : List po.Entry
   pub read : HasRead (body text) entries reader
   pub pool : AreTextsOf texts spans (outlines_from o 0 entries)
   pub lawful : AllByRecursion IsLawfulMessage entries
   pub found : HasFound o entries findings
 
-pub collects_none : (text : List ℕ) (o : Options) (reader : EntryReader) (texts : List ℕ) (spans : List Span) (findings : Findings) → HasRead (body text) [] reader → texts ≡ [] → spans ≡ [] → HasFound o [] findings → Collects text o reader texts spans findings
-collects_none text o reader texts spans findings read none no_spans found = record { entries = []; read = read; pool = texts_none o texts spans none no_spans; lawful = tt; found = found }
+pub collects_none : (text : List ℕ) (o : Options) (reader : EntryReader) (texts : List ℕ) (spans : List Span)
+    (findings : Findings) → HasRead (body text) [] reader → texts ≡ [] → spans ≡ [] → HasFound o [] findings
+    → Collects text o reader texts spans findings
+collects_none text o reader texts spans findings read none no_spans found = record
+    { entries = []; read = read; pool = texts_none o texts spans none no_spans; lawful = tt; found = found }
 
-pub collects_more : (text : List ℕ) (o : Options) (reader next : EntryReader) (texts more : List ℕ) (spans longer : List Span) (findings grown : Findings) (span : Span) (e : po.Entry) → (c : Collects text o reader texts spans findings) → GoesOn true (body text) c.entries e next → IsLawfulTexts e → more ≡ texts ++ stored (outline_of o 0 e) → span ≡ span_of (outline_of o 0 e) → longer ≡ spans ++ span ∷ [] → LooksAt o e findings grown → Collects text o next more longer grown
-collects_more text o reader next texts more spans longer findings grown span e c goes lawful added span_is pushed looks = record {
-  entries = c.entries ++ e ∷ [];
-  read = goes.1;
-  pool = texts_more o texts more spans longer span c.entries e c.pool added span_is pushed;
-  lawful = lawful_push c.entries e c.lawful (message_lawful e lawful goes.0);
-  found = looks c.entries c.found;
+pub collects_more : (text : List ℕ) (o : Options) (reader next : EntryReader) (texts more : List ℕ)
+    (spans longer : List Span) (findings grown : Findings) (span : Span) (e : po.Entry)
+    → (c : Collects text o reader texts spans findings) → GoesOn true (body text) c.entries e next → IsLawfulTexts e
+    → more ≡ texts ++ stored (outline_of o 0 e) → span ≡ span_of (outline_of o 0 e) → longer ≡ spans ++ span ∷ []
+    → LooksAt o e findings grown → Collects text o next more longer grown
+collects_more text o reader next texts more spans longer findings grown span e c goes lawful added span_is pushed looks
+    = record {
+      entries = c.entries ++ e ∷ [];
+      read = goes.1;
+      pool = texts_more o texts more spans longer span c.entries e c.pool added span_is pushed;
+      lawful = lawful_push c.entries e c.lawful (message_lawful e lawful goes.0);
+      found = looks c.entries c.found;
+    }
+
+pub collects_all : (text : List ℕ) (o : Options) (reader next : EntryReader) (texts : List ℕ) (spans : List Span)
+    (findings : Findings) (e : po.Entry) → IsReadable text → (c : Collects text o reader texts spans findings)
+    → GoesOn false (body text) c.entries e next → HasGathered text o texts spans findings
+collects_all text o reader next texts spans findings e readable c ends = record {
+  entries = c.entries;
+  gives = record { readable = readable; reads = ends.0 };
+  texts_are = c.pool;
+  lawful =
+      c.lawful;
+  found = c.found;
 }
 
-pub collects_all : (text : List ℕ) (o : Options) (reader next : EntryReader) (texts : List ℕ) (spans : List Span) (findings : Findings) (e : po.Entry) → IsReadable text → (c : Collects text o reader texts spans findings) → GoesOn false (body text) c.entries e next → HasGathered text o texts spans findings
-collects_all text o reader next texts spans findings e readable c ends = record { entries = c.entries; gives = record { readable = readable; reads = ends.0 }; texts_are = c.pool; lawful = c.lawful; found = c.found }
-
 -- a refusal of the PO text is the compiler's
-pub refused_as : (text : List ℕ) (o : Options) (kind : PoKind) (line : ℕ) → outcome.Refuses text kind line → (kind_of kind ≡ Memory) ⊎ Refuses text o (kind_of kind) line
+pub refused_as : (text : List ℕ) (o : Options) (kind : PoKind) (line : ℕ) → outcome.Refuses text kind line
+    → (kind_of kind ≡ Memory) ⊎ Refuses text o (kind_of kind) line
 refused_as text o kinds.TooLarge line r = inr r
 refused_as text o kinds.NotUtf8 line r = inr r
 refused_as text o kinds.BadEscape line r = inr r

@@ -1,5 +1,6 @@
 -- What the compiler's steps come to.
-use Rattle.std.proofs.Common.{◌≡◌, ℕ, ◌+◌, ◌^◌, ◌<◌, Bool, List, [], ◌∷◌, length, get_or, Option, None, Some, sym, ap, ◌∙◌, subst, arith}
+use Rattle.std.proofs.Common.{◌≡◌, ℕ, ◌+◌, ◌^◌, ◌<◌, Bool, List, [], ◌∷◌, length, get_or, Option, None, Some, sym, ap}
+use Rattle.std.proofs.Common.{◌∙◌, subst, arith}
 use Rattle.std.specs.Prelude.{IfSome, option_map, if◌then◌else◌}
 use Rattle.std.specs.List.{filter_map, count_by, find}
 use Rattle.std.specs.List.Sorted.{IsPermutation, IsSortedBy}
@@ -16,7 +17,8 @@ use Rattle.catalogue.specs.Meaning.{Means, IsMapOf, Refuses, lacking, none_missi
 use Rattle.po_checks.specs.Kept.{kept, kept_header, header_line_of, header_text_of, NamesCharset}
 use Rattle.po_checks.specs.Fails.{Fails, HasDistinctKeys, IsDuplicateAt, IsFirst, IsForeignAt}
 use Rattle.mo_image.specs.Entry.{Entry}
-use Rattle.catalogue.specs.Drafts.{Outline, outline, outlines, kept_entry, comes_before, counts_as, header_text_in, is_kept_header, IsRepeat, FirstRepeat, IsFirstRepeat, HasCollected}
+use Rattle.catalogue.specs.Drafts.{Outline, outline, outlines, kept_entry, comes_before, counts_as, header_text_in}
+use Rattle.catalogue.specs.Drafts.{is_kept_header, IsRepeat, FirstRepeat, IsFirstRepeat, HasCollected}
 use Rattle.po_checks.specs.declared.findings.Findings.{Findings}
 use Rattle.po_checks.specs.declared.options.Options.{Options}
 use Rattle.catalogue.specs.declared.compiler.Stats.{Stats}
@@ -25,7 +27,8 @@ use Rattle.catalogue.specs.declared.drafts.Draft.{Draft}
 use Rattle.catalogue.specs.declared.drafts.Standing.TheVariants.{Untranslated, Fuzzy, Translated}
 use Rattle.po_checks.specs.declared.fault.LoadFault.{LoadFault}
 use Rattle.po_checks.specs.declared.fault.LoadKind.{LoadKind}
-use Rattle.po_checks.specs.declared.fault.LoadKind.TheVariants.{TooLarge, NotUtf8, BadEscape, OpenString, BadWord, BadText, BadOrder, BadIndex, Duplicate, Charset}
+use Rattle.po_checks.specs.declared.fault.LoadKind.TheVariants.{TooLarge, NotUtf8, BadEscape, OpenString, BadWord}
+use Rattle.po_checks.specs.declared.fault.LoadKind.TheVariants.{BadText, BadOrder, BadIndex, Duplicate, Charset}
 use Rattle.catalogue.proofs.Collecting.{drafts_are}
 use Rattle.catalogue.proofs.Counting.{untranslated_count, fuzzy_count, translated_count, header_line_is}
 use Rattle.catalogue.proofs.Fitting.{fits}
@@ -35,7 +38,8 @@ use Rattle.catalogue.proofs.Listing.{map_of, is_map, each_lawful}
 use Rattle.po_checks.proofs.Refusals.{all_pass, first_is_check, first_is_duplicate, first_is_foreign}
 
 -- a refusal of the entries is one of the text
-pub as_refusal : (text : List ℕ) (o : Options) (es : List po.Entry) (kind : LoadKind) (line : ℕ) → Gives text es → IsFirst (Fails o es) kind line → Refuses text o kind line
+pub as_refusal : (text : List ℕ) (o : Options) (es : List po.Entry) (kind : LoadKind) (line : ℕ) → Gives text es
+    → IsFirst (Fails o es) kind line → Refuses text o kind line
 as_refusal text o es TooLarge line gives f = absurd f.holds
 as_refusal text o es NotUtf8 line gives f = absurd f.holds
 as_refusal text o es BadEscape line gives f = absurd f.holds
@@ -47,8 +51,14 @@ as_refusal text o es BadIndex line gives f = absurd f.holds
 as_refusal text o es _ line gives f = (es, gives, f)
 
 -- there are few drafts
-pub few : (text : List ℕ) (o : Options) (drafts : List Draft) (found : Findings) → HasCollected text o drafts found → length drafts < 2 ^ 32
-few text o drafts found c = omega (arith, drafts_are o drafts c.entries c.rows_are, gives_count text c.entries c.gives, c.gives.readable.size)
+pub few : (text : List ℕ) (o : Options) (drafts : List Draft) (found : Findings) → HasCollected text o drafts found
+    → length drafts < 2 ^ 32
+few text o drafts found c = omega (
+  arith,
+  drafts_are o drafts c.entries c.rows_are,
+  gives_count text c.entries c.gives,
+  c.gives.readable.size,
+)
 
 -- what the sort gave
 pub record Sorts (before after : List Draft) : Type 0 where
@@ -59,83 +69,121 @@ sorted_rows : (ds : List Draft) → IsSortedBy comes_before ds → IsSortedBy ou
 sorted_rows [] sorted k d le lt = absurd (omega arith)
 sorted_rows (x ∷ ds) sorted k d le lt =
     let short : k + 1 < length (x ∷ ds) = omega (arith, lt, length-map (x ∷ ds) outline) in
-    let here : get_or (outlines (x ∷ ds)) k d ≡ outline (get_or (x ∷ ds) k x) = get_or-map outline (x ∷ ds) k x d (omega arith) in
-    let next : get_or (outlines (x ∷ ds)) (k + 1) d ≡ outline (get_or (x ∷ ds) (k + 1) x) = get_or-map outline (x ∷ ds) (k + 1) x d short in
-    ap (λ r. outline_lt r (get_or (outlines (x ∷ ds)) k d)) next ∙ ap (outline_lt (outline (get_or (x ∷ ds) (k + 1) x))) here ∙ sorted k x (omega arith) short
+    let here : get_or (outlines (x ∷ ds)) k d ≡ outline (get_or (x ∷ ds) k x) = get_or-map outline (x ∷ ds) k x d
+    (omega arith) in
+    let next : get_or (outlines (x ∷ ds)) (k + 1) d ≡ outline (get_or (x ∷ ds) (k + 1) x) = get_or-map outline (x ∷ ds)
+    (k + 1) x d short in
+    ap (λ r. outline_lt r (get_or (outlines (x ∷ ds)) k d)) next
+    ∙ ap (outline_lt (outline (get_or (x ∷ ds) (k + 1) x))) here ∙ sorted k x (omega arith) short
 
-ordered : (text : List ℕ) (o : Options) (before after : List Draft) (found : Findings) → (c : HasCollected text o before found) → Sorts before after → AreOrdered o c.entries (outlines after)
+ordered : (text : List ℕ) (o : Options) (before after : List Draft) (found : Findings)
+    → (c : HasCollected text o before found) → Sorts before after → AreOrdered o c.entries (outlines after)
 ordered text o before after found c s = record {
-  same = subst (λ (rs : List Outline). IsPermutation rs (outlines after)) c.rows_are (IsPermutation-map outline before after s.same);
+  same = subst (λ (rs : List Outline). IsPermutation rs (outlines after)) c.rows_are
+      (IsPermutation-map outline before after s.same);
   sorted = sorted_rows after s.sorted;
 }
 
 -- ---- a repeat
 
-pub refused : (text : List ℕ) (o : Options) (before after : List Draft) (found : Findings) (d : Draft) → HasCollected text o before found → Sorts before after → IsFirstRepeat (outlines after) (length after) (outline d) → Refuses text o Duplicate d.line
+pub refused : (text : List ℕ) (o : Options) (before after : List Draft) (found : Findings) (d : Draft)
+    → HasCollected text o before found → Sorts before after → IsFirstRepeat (outlines after) (length after) (outline d)
+    → Refuses text o Duplicate d.line
 refused text o before after found d c s first =
     let n : length (outlines after) ≡ length after = length-map after outline in
-    let is : IsDuplicateAt c.entries d.line = first_duplicate o c.entries (outlines after) (ordered text o before after found c s) (outline d) (subst (λ k. IsFirstRepeat (outlines after) k (outline d)) (sym n) first) in
+    let is : IsDuplicateAt c.entries d.line = first_duplicate o c.entries (outlines after)
+    (ordered text o before after found c s) (outline d) (subst (λ k. IsFirstRepeat (outlines after) k (outline d))
+    (sym n) first) in
     (c.entries, c.gives, first_is_duplicate o c.entries d.line is)
 
 -- ---- none
 
-no_repeat : (after : List Draft) → FirstRepeat (outlines after) (length after) None → (j : ℕ) → ¬ IsRepeat (outlines after) j
+no_repeat : (after : List Draft) → FirstRepeat (outlines after) (length after) None → (j : ℕ)
+    → ¬ IsRepeat (outlines after) j
 no_repeat after none j repeats = none j (omega (arith, repeats.within, length-map after outline)) repeats
 
 -- the keys are distinct, then
-distinct_keys : (text : List ℕ) (o : Options) (before after : List Draft) (found : Findings) → (c : HasCollected text o before found) → Sorts before after → FirstRepeat (outlines after) (length after) None → HasDistinctKeys c.entries
-distinct_keys text o before after found c s none = all_distinct o c.entries (outlines after) (ordered text o before after found c s) (no_repeat after none)
+distinct_keys : (text : List ℕ) (o : Options) (before after : List Draft) (found : Findings)
+    → (c : HasCollected text o before found) → Sorts before after → FirstRepeat (outlines after) (length after) None
+    → HasDistinctKeys c.entries
+distinct_keys text o before after found c s none = all_distinct o c.entries (outlines after)
+    (ordered text o before after found c s) (no_repeat after none)
 
 -- what was read of the header: its line, and its text where there is one
 pub record IsHeader (drafts : List Draft) (header : Option (Bor (List ℕ))) (line : ℕ) : Type 0 where
   pub line_is : line ≡ option_map_or (λ d. d.line) (find (λ d. is_kept_header (outline d)) drafts) 0
   pub text_is : option_map (λ text. text.now) header ≡ header_text_in drafts
 
-pub header_text : (text : List ℕ) (o : Options) (before : List Draft) (found : Findings) (header : Option (Bor (List ℕ))) (line : ℕ) → (c : HasCollected text o before found) → IsHeader before header line → option_map (λ text. text.now) header ≡ header_text_of o c.entries
+pub header_text : (text : List ℕ) (o : Options) (before : List Draft) (found : Findings)
+    (header : Option (Bor (List ℕ))) (line : ℕ) → (c : HasCollected text o before found) → IsHeader before header line
+    → option_map (λ text. text.now) header ≡ header_text_of o c.entries
 header_text text o before found header line c h = h.text_is ∙ header_text_is o c.entries before c.rows_are c.lawful
 
-lines_are : (text : List ℕ) (o : Options) (before : List Draft) (found : Findings) (header : Option (Bor (List ℕ))) (line : ℕ) → (c : HasCollected text o before found) → IsHeader before header line → line ≡ header_line_of o c.entries
+lines_are : (text : List ℕ) (o : Options) (before : List Draft) (found : Findings) (header : Option (Bor (List ℕ)))
+    (line : ℕ) → (c : HasCollected text o before found) → IsHeader before header line → line
+    ≡ header_line_of o c.entries
 lines_are text o before found header line c h = h.line_is ∙ header_line_is o c.entries before c.rows_are
 
-text_accepted : (header : Option (Bor (List ℕ))) (t : Option (List ℕ)) → option_map (λ text. text.now) header ≡ t → IfSome header (λ text. HasAcceptedCharset text.now) → IfSome t HasAcceptedCharset
+text_accepted : (header : Option (Bor (List ℕ))) (t : Option (List ℕ)) → option_map (λ text. text.now) header ≡ t
+    → IfSome header (λ text. HasAcceptedCharset text.now) → IfSome t HasAcceptedCharset
 text_accepted None t is named = subst (λ (x : Option (List ℕ)). IfSome x HasAcceptedCharset) is tt
 text_accepted (Some text) t is named = subst (λ (x : Option (List ℕ)). IfSome x HasAcceptedCharset) is named
 
-accepted_text : (header : Option (Bor (List ℕ))) (t : Option (List ℕ)) → option_map (λ text. text.now) header ≡ t → IfSome t HasAcceptedCharset → IfSome header (λ text. HasAcceptedCharset text.now)
+accepted_text : (header : Option (Bor (List ℕ))) (t : Option (List ℕ)) → option_map (λ text. text.now) header ≡ t
+    → IfSome t HasAcceptedCharset → IfSome header (λ text. HasAcceptedCharset text.now)
 accepted_text None t is named = tt
 accepted_text (Some text) t is named = subst (λ (x : Option (List ℕ)). IfSome x HasAcceptedCharset) (sym is) named
 
 abbrev pub NamesCharsets : Option (Bor (List ℕ)) → Type 0
 NamesCharsets header = IfSome header (λ text. HasAcceptedCharset text.now)
 
-header_accepted : (text : List ℕ) (o : Options) (before : List Draft) (found : Findings) (header : Option (Bor (List ℕ))) (line : ℕ) → (c : HasCollected text o before found) → IsHeader before header line → NamesCharsets header → IfSome (kept_header o c.entries) NamesCharset
-header_accepted text o before found header line c h named = accepted o c.entries (text_accepted header (header_text_of o c.entries) (header_text text o before found header line c h) named)
+header_accepted : (text : List ℕ) (o : Options) (before : List Draft) (found : Findings)
+    (header : Option (Bor (List ℕ))) (line : ℕ) → (c : HasCollected text o before found) → IsHeader before header line
+    → NamesCharsets header → IfSome (kept_header o c.entries) NamesCharset
+header_accepted text o before found header line c h named = accepted o c.entries
+    (text_accepted header (header_text_of o c.entries) (header_text text o before found header line c h) named)
 
 -- the header names another charset
-pub foreign : (text : List ℕ) (o : Options) (before after : List Draft) (found : Findings) (header : Option (Bor (List ℕ))) (line : ℕ) → HasCollected text o before found → Sorts before after → FirstRepeat (outlines after) (length after) None → IsHeader before header line → (NamesCharsets header → ⊥) → Refuses text o Charset line
+pub foreign : (text : List ℕ) (o : Options) (before after : List Draft) (found : Findings)
+    (header : Option (Bor (List ℕ))) (line : ℕ) → HasCollected text o before found → Sorts before after
+    → FirstRepeat (outlines after) (length after) None → IsHeader before header line → (NamesCharsets header → ⊥)
+    → Refuses text o Charset line
 foreign text o before after found header line c s none h unnamed =
-    let a = another o c.entries (λ named. unnamed (accepted_text header (header_text_of o c.entries) (header_text text o before found header line c h) named)) in
+    let a = another o c.entries (λ named. unnamed (accepted_text header (header_text_of o c.entries)
+    (header_text text o before found header line c h) named)) in
     let is : IsForeignAt o c.entries line = record {
       header = a.header;
       is = a.is;
       foreign = a.foreign;
-      line_is = lines_are text o before found header line c h ∙ ap (λ (x : Option po.Entry). option_map_or (λ (e : po.Entry). e.line) x 0) a.is;
+      line_is = lines_are text o before found header line c h
+          ∙ ap (λ (x : Option po.Entry). option_map_or (λ (e : po.Entry). e.line) x 0) a.is;
     } in
     (c.entries, c.gives, first_is_foreign o c.entries line (distinct_keys text o before after found c s none) is)
 
-pub failed : (text : List ℕ) (o : Options) (before after : List Draft) (found : Findings) (header : Option (Bor (List ℕ))) (line : ℕ) (fault : LoadFault) → HasCollected text o before found → Sorts before after → FirstRepeat (outlines after) (length after) None → IsHeader before header line → NamesCharsets header → IsFault found o (option_map (λ text. text.now) header) line (Some fault) → Refuses text o fault.kind fault.line
+pub failed : (text : List ℕ) (o : Options) (before after : List Draft) (found : Findings)
+    (header : Option (Bor (List ℕ))) (line : ℕ) (fault : LoadFault) → HasCollected text o before found
+    → Sorts before after → FirstRepeat (outlines after) (length after) None → IsHeader before header line
+    → NamesCharsets header → IsFault found o (option_map (λ text. text.now) header) line (Some fault)
+    → Refuses text o fault.kind fault.line
 failed text o before after found header line fault c s none h named checks =
-    as_refusal text o c.entries fault.kind fault.line c.gives (first_is_check o c.entries fault.kind fault.line (distinct_keys text o before after found c s none) (header_accepted text o before found header line c h named)
-    (checks c.entries c.found (header_text text o before found header line c h) (lines_are text o before found header line c h)))
+    as_refusal text o c.entries fault.kind fault.line c.gives
+    (first_is_check o c.entries fault.kind fault.line (distinct_keys text o before after found c s none)
+    (header_accepted text o before found header line c h named)
+    (checks c.entries c.found (header_text text o before found header line c h)
+    (lines_are text o before found header line c h)))
 
-pub lawful_map : (text : List ℕ) (o : Options) (before after : List Draft) (found : Findings) (header : Option (Bor (List ℕ))) (line : ℕ) (m : List Entry) → HasCollected text o before found → Sorts before after → FirstRepeat (outlines after) (length after) None → IsHeader before header line → NamesCharsets header → m ≡ filter_map kept_entry (outlines after) → IsLawful (m)
+pub lawful_map : (text : List ℕ) (o : Options) (before after : List Draft) (found : Findings)
+    (header : Option (Bor (List ℕ))) (line : ℕ) (m : List Entry) → HasCollected text o before found → Sorts before after
+    → FirstRepeat (outlines after) (length after) None → IsHeader before header line → NamesCharsets header → m
+    ≡ filter_map kept_entry (outlines after) → IsLawful (m)
 lawful_map text o before after found header line m c s none h named kept_are =
     let sorted = ordered text o before after found c s in
     let is = is_map o c.entries (outlines after) sorted c.lawful (no_repeat after none) in
     subst IsLawful (sym kept_are) (record {
       rises = is.rises;
       each = each_lawful o c.entries (outlines after) sorted c.lawful;
-      charset = map_accepted o c.entries (map_of (outlines after)) is (distinct_keys text o before after found c s none) (header_accepted text o before found header line c h named);
+      charset = map_accepted o c.entries (map_of (outlines after)) is (distinct_keys text o before after found c s none)
+          (header_accepted text o before found header line c h named);
       fits = fits o text c.entries (outlines after) c.gives sorted c.lawful;
     })
 
@@ -148,23 +196,37 @@ pub record Counts (drafts : List Draft) (stats : Stats) : Type 0 where
 stats_eq : (s t : Stats) → s.translated ≡ t.translated → s.fuzzy ≡ t.fuzzy → s.untranslated ≡ t.untranslated → s ≡ t
 stats_eq s t a b c =
     let of : ℕ → ℕ → ℕ → Stats = λ x y z. record { translated = x; fuzzy = y; untranslated = z } in
-    ap (λ n. of n s.fuzzy s.untranslated) a ∙ ap (λ n. of t.translated n s.untranslated) b ∙ ap (λ n. of t.translated t.fuzzy n) c
+    ap (λ n. of n s.fuzzy s.untranslated) a ∙ ap (λ n. of t.translated n s.untranslated) b
+    ∙ ap (λ n. of t.translated t.fuzzy n) c
 
 -- which fields were looked for
 abbrev pub Lacks : Options → Option (Bor (List ℕ)) → List Bool → Type 0
 Lacks o header missing = missing ≡ (if o.checked then lacking (option_map (λ text. text.now) header) else none_missing)
 
-pub compiles : (text : List ℕ) (o : Options) (before after : List Draft) (found : Findings) (header : Option (Bor (List ℕ))) (m : List Entry) (compiled : Compiled) → HasCollected text o before found → Sorts before after → FirstRepeat (outlines after) (length after) None → IsHeader before header compiled.header_line → NamesCharsets header → IsFault found o (option_map (λ text. text.now) header) compiled.header_line None → m ≡ filter_map kept_entry (outlines after) → Counts before compiled.stats → compiled.catalogue ≡ m → Lacks o header compiled.missing → Means text o compiled
+pub compiles : (text : List ℕ) (o : Options) (before after : List Draft) (found : Findings)
+    (header : Option (Bor (List ℕ))) (m : List Entry) (compiled : Compiled) → HasCollected text o before found
+    → Sorts before after → FirstRepeat (outlines after) (length after) None
+    → IsHeader before header compiled.header_line → NamesCharsets header
+    → IsFault found o (option_map (λ text. text.now) header) compiled.header_line None → m
+    ≡ filter_map kept_entry (outlines after) → Counts before compiled.stats → compiled.catalogue ≡ m
+    → Lacks o header compiled.missing → Means text o compiled
 compiles text o before after found header m compiled c s none h named checks kept_are counts catalogue_is missing_are =
     let sorted = ordered text o before after found c s in
-    let line_is : compiled.header_line ≡ header_line_of o c.entries = lines_are text o before found header compiled.header_line c h in
-    let text_is : option_map (λ text. text.now) header ≡ header_text_of o c.entries = header_text text o before found header compiled.header_line c h in
+    let line_is : compiled.header_line ≡ header_line_of o c.entries = lines_are text o before found header
+    compiled.header_line c h in
+    let text_is : option_map (λ text. text.now) header ≡ header_text_of o c.entries = header_text text o before found
+    header compiled.header_line c h in
     record {
       entries = c.entries;
       gives = c.gives;
-      passes = all_pass o c.entries (distinct_keys text o before after found c s none) (header_accepted text o before found header compiled.header_line c h named) (checks c.entries c.found text_is line_is);
-      map_is = subst (IsMapOf (kept o c.entries)) (sym (catalogue_is ∙ kept_are)) (is_map o c.entries (outlines after) sorted c.lawful (no_repeat after none));
-      stats_are = stats_eq compiled.stats _ (counts.translated ∙ translated_count o c.entries before c.rows_are) (counts.fuzzy ∙ fuzzy_count o c.entries before c.rows_are) (counts.untranslated ∙ untranslated_count o c.entries before c.rows_are);
+      passes = all_pass o c.entries (distinct_keys text o before after found c s none)
+          (header_accepted text o before found header compiled.header_line c h named)
+          (checks c.entries c.found text_is line_is);
+      map_is = subst (IsMapOf (kept o c.entries)) (sym (catalogue_is ∙ kept_are))
+          (is_map o c.entries (outlines after) sorted c.lawful (no_repeat after none));
+      stats_are = stats_eq compiled.stats _ (counts.translated ∙ translated_count o c.entries before c.rows_are)
+          (counts.fuzzy ∙ fuzzy_count o c.entries before c.rows_are)
+          (counts.untranslated ∙ untranslated_count o c.entries before c.rows_are);
       header_line_is = line_is;
       missing_is = missing_are ∙ ap (λ (t : Option (List ℕ)). if o.checked then lacking t else none_missing) text_is;
     }

@@ -1,5 +1,6 @@
 -- The statistics and the header's line, counted over outlines and over entries.
-use Rattle.std.proofs.Common.{◌≡◌, ℕ, ◌+◌, ◌≤◌, Bool, true, false, cond, not, List, [], ◌∷◌, length, Option, Some, None, refl, sym, ap, ◌∙◌, arith}
+use Rattle.std.proofs.Common.{◌≡◌, ℕ, ◌+◌, ◌≤◌, Bool, true, false, cond, not, List, [], ◌∷◌, length, Option, Some, None}
+use Rattle.std.proofs.Common.{refl, sym, ap, ◌∙◌, arith}
 use Rattle.std.specs.Prelude.{◌&&◌, is_some, if◌then◌else◌}
 use Rattle.std.specs.List.{find, count_by}
 use Rattle.std.specs.Option.{option_map_or}
@@ -7,7 +8,8 @@ use Rattle.std.proofs.lemmas.List.Sums.{sum_by-cons}
 use Rattle.po_text.specs.Entries as po
 use Rattle.po_checks.specs.Kept.{is_header, is_untranslated, is_kept, kept, header_line_of}
 use Rattle.catalogue.specs.Meaning.{is_fuzzy, is_translated, counted}
-use Rattle.catalogue.specs.Drafts.{Outline, Kept, outline, outlines, outline_of, outlines_from, standing_of, texts_of, same_standing, counts_as, is_kept_header}
+use Rattle.catalogue.specs.Drafts.{Outline, Kept, outline, outlines, outline_of, outlines_from, standing_of, texts_of}
+use Rattle.catalogue.specs.Drafts.{same_standing, counts_as, is_kept_header}
 use Rattle.po_checks.specs.declared.options.Options.{Options}
 use Rattle.catalogue.specs.declared.drafts.Draft.{Draft}
 use Rattle.catalogue.specs.declared.drafts.Standing.{Standing}
@@ -18,17 +20,25 @@ one_if p x = cond (p x) 1 0
 
 -- ---- counts
 
-over_outlines : (s : Standing) (ds : List Draft) → count_by (λ d. counts_as s (outline d)) ds ≡ count_by (counts_as s) (outlines ds)
+over_outlines : (s : Standing) (ds : List Draft) → count_by (λ d. counts_as s (outline d)) ds
+    ≡ count_by (counts_as s) (outlines ds)
 over_outlines s [] = refl
-over_outlines s (d ∷ ds) = sum_by-cons (λ x. one_if (counts_as s) (outline x)) d ds ∙ ap (λ n. one_if (counts_as s) (outline d) + n) (over_outlines s ds) ∙ sym (sum_by-cons (one_if (counts_as s)) (outline d) (outlines ds))
+over_outlines s (d ∷ ds) = sum_by-cons (λ x. one_if (counts_as s) (outline x)) d ds
+    ∙ ap (λ n. one_if (counts_as s) (outline d) + n) (over_outlines s ds)
+    ∙ sym (sum_by-cons (one_if (counts_as s)) (outline d) (outlines ds))
 
-over_entries : (o : Options) (s : Standing) (q : po.Entry → Bool) → ((e : po.Entry) → same_standing (standing_of e) s ≡ (not (is_header e) && q e)) → (k : ℕ) (es : List po.Entry) → count_by (counts_as s) (outlines_from o k es) ≡ count_by q (counted es)
+over_entries : (o : Options) (s : Standing) (q : po.Entry → Bool)
+    → ((e : po.Entry) → same_standing (standing_of e) s ≡ (not (is_header e) && q e)) → (k : ℕ) (es : List po.Entry)
+    → count_by (counts_as s) (outlines_from o k es) ≡ count_by q (counted es)
 over_entries o s q says k [] = refl
 over_entries o s q says k (e ∷ es) =
     let rest = over_entries o s q says (k + 1) es in
-    sum_by-cons (one_if (counts_as s)) (outline_of o k e) (outlines_from o (k + 1) es) ∙ ap (λ n. one_if (counts_as s) (outline_of o k e) + n) rest ∙ ap (λ b. cond b 1 0 + count_by q (counted es)) (says e) ∙ of (is_header e) refl
+    sum_by-cons (one_if (counts_as s)) (outline_of o k e) (outlines_from o (k + 1) es)
+    ∙ ap (λ n. one_if (counts_as s) (outline_of o k e) + n) rest
+    ∙ ap (λ b. cond b 1 0 + count_by q (counted es)) (says e) ∙ of (is_header e) refl
   where
-    of : (h : Bool) → is_header e ≡ h → cond (not (is_header e) && q e) 1 0 + count_by q (counted es) ≡ count_by q (cond (not (is_header e)) (e ∷ counted es) (counted es))
+    of : (h : Bool) → is_header e ≡ h → cond (not (is_header e) && q e) 1 0 + count_by q (counted es)
+        ≡ count_by q (cond (not (is_header e)) (e ∷ counted es) (counted es))
     of true is = rw is (omega arith)
     of false is = rw is (sym (sum_by-cons (one_if q) e (counted es)))
 
@@ -62,17 +72,24 @@ header_so false false false = refl
 abbrev pub AreOutlines : Options → List po.Entry → List Draft → Type 0
 AreOutlines o es ds = outlines ds ≡ outlines_from o 0 es
 
-count_of : (o : Options) (es : List po.Entry) (ds : List Draft) (s : Standing) (q : po.Entry → Bool) → AreOutlines o es ds → ((e : po.Entry) → same_standing (standing_of e) s ≡ (not (is_header e) && q e)) → count_by (λ d. counts_as s (outline d)) ds ≡ count_by q (counted es)
+count_of : (o : Options) (es : List po.Entry) (ds : List Draft) (s : Standing) (q : po.Entry → Bool)
+    → AreOutlines o es ds → ((e : po.Entry) → same_standing (standing_of e) s ≡ (not (is_header e) && q e))
+    → count_by (λ d. counts_as s (outline d)) ds ≡ count_by q (counted es)
 count_of o es ds s q are says = over_outlines s ds ∙ ap (count_by (counts_as s)) are ∙ over_entries o s q says 0 es
 
-pub untranslated_count : (o : Options) (es : List po.Entry) (ds : List Draft) → AreOutlines o es ds → count_by (λ d. counts_as Untranslated (outline d)) ds ≡ count_by is_untranslated (counted es)
-untranslated_count o es ds are = count_of o es ds Untranslated is_untranslated are (λ e. untranslated_so (is_header e) (is_untranslated e) e.fuzzy)
+pub untranslated_count : (o : Options) (es : List po.Entry) (ds : List Draft) → AreOutlines o es ds
+    → count_by (λ d. counts_as Untranslated (outline d)) ds ≡ count_by is_untranslated (counted es)
+untranslated_count o es ds are = count_of o es ds Untranslated is_untranslated are
+    (λ e. untranslated_so (is_header e) (is_untranslated e) e.fuzzy)
 
-pub fuzzy_count : (o : Options) (es : List po.Entry) (ds : List Draft) → AreOutlines o es ds → count_by (λ d. counts_as Fuzzy (outline d)) ds ≡ count_by is_fuzzy (counted es)
+pub fuzzy_count : (o : Options) (es : List po.Entry) (ds : List Draft) → AreOutlines o es ds
+    → count_by (λ d. counts_as Fuzzy (outline d)) ds ≡ count_by is_fuzzy (counted es)
 fuzzy_count o es ds are = count_of o es ds Fuzzy is_fuzzy are (λ e. fuzzy_so (is_header e) (is_untranslated e) e.fuzzy)
 
-pub translated_count : (o : Options) (es : List po.Entry) (ds : List Draft) → AreOutlines o es ds → count_by (λ d. counts_as Translated (outline d)) ds ≡ count_by is_translated (counted es)
-translated_count o es ds are = count_of o es ds Translated is_translated are (λ e. translated_so (is_header e) (is_untranslated e) e.fuzzy)
+pub translated_count : (o : Options) (es : List po.Entry) (ds : List Draft) → AreOutlines o es ds
+    → count_by (λ d. counts_as Translated (outline d)) ds ≡ count_by is_translated (counted es)
+translated_count o es ds are = count_of o es ds Translated is_translated are
+    (λ e. translated_so (is_header e) (is_untranslated e) e.fuzzy)
 
 pub count_within : {X : Type 0} (p : X → Bool) (xs : List X) → count_by p xs ≤ length xs
 count_within p [] = omega arith
@@ -84,11 +101,15 @@ count_within p (x ∷ xs) = omega (arith, sum_by-cons (one_if p) x xs, one (p x)
 
 -- ---- the header
 
-line_over_outlines : (ds : List Draft) → option_map_or (λ d. d.line) (find (λ d. is_kept_header (outline d)) ds) 0 ≡ option_map_or (λ (r : Outline). r.line) (find is_kept_header (outlines ds)) 0
+line_over_outlines : (ds : List Draft) → option_map_or (λ d. d.line) (find (λ d. is_kept_header (outline d)) ds) 0
+    ≡ option_map_or (λ (r : Outline). r.line) (find is_kept_header (outlines ds)) 0
 line_over_outlines [] = refl
 line_over_outlines (d ∷ ds) = of (is_kept_header (outline d)) (line_over_outlines ds)
   where
-    of : (b : Bool) → option_map_or (λ d. d.line) (find (λ d. is_kept_header (outline d)) ds) 0 ≡ option_map_or (λ (r : Outline). r.line) (find is_kept_header (outlines ds)) 0 → option_map_or (λ d. d.line) (cond b (Some d) (find (λ d. is_kept_header (outline d)) ds)) 0 ≡ option_map_or (λ (r : Outline). r.line) (cond b (Some (outline d)) (find is_kept_header (outlines ds))) 0
+    of : (b : Bool) → option_map_or (λ d. d.line) (find (λ d. is_kept_header (outline d)) ds) 0
+        ≡ option_map_or (λ (r : Outline). r.line) (find is_kept_header (outlines ds)) 0
+        → option_map_or (λ d. d.line) (cond b (Some d) (find (λ d. is_kept_header (outline d)) ds)) 0
+        ≡ option_map_or (λ (r : Outline). r.line) (cond b (Some (outline d)) (find is_kept_header (outlines ds))) 0
     of true rest = refl
     of false rest = rest
 
@@ -96,25 +117,40 @@ kept_texts_are : (b : Bool) (t : Kept) → is_some (if b then Some t else None) 
 kept_texts_are true t = refl
 kept_texts_are false t = refl
 
-pub header_outline : (o : Options) (k : ℕ) (e : po.Entry) → is_kept_header (outline_of o k e) ≡ (is_header e && is_kept o e)
-header_outline o k e = rw (header_so (is_header e) (is_untranslated e) e.fuzzy, kept_texts_are (is_kept o e) (texts_of e)) refl
+pub header_outline : (o : Options) (k : ℕ) (e : po.Entry) → is_kept_header (outline_of o k e)
+    ≡ (is_header e && is_kept o e)
+header_outline o k e = rw (
+  header_so (is_header e) (is_untranslated e) e.fuzzy,
+  kept_texts_are (is_kept o e)
+      (texts_of e),
+) refl
 
-pub split_find : (t : Bool) (e : po.Entry) (ks : List po.Entry) → find is_header (cond t (e ∷ ks) ks) ≡ cond t (cond (is_header e) (Some e) (find is_header ks)) (find is_header ks)
+pub split_find : (t : Bool) (e : po.Entry) (ks : List po.Entry) → find is_header (cond t (e ∷ ks) ks)
+    ≡ cond t (cond (is_header e) (Some e) (find is_header ks)) (find is_header ks)
 split_find true e ks = refl
 split_find false e ks = refl
 
-line_or : (h t : Bool) (r : Outline) (e : po.Entry) (x : Option Outline) (y : Option po.Entry) → r.line ≡ e.line → option_map_or (λ (r : Outline). r.line) x 0 ≡ option_map_or (λ (e : po.Entry). e.line) y 0 → option_map_or (λ (r : Outline). r.line) (cond (h && t) (Some r) x) 0 ≡ option_map_or (λ (e : po.Entry). e.line) (cond t (cond h (Some e) y) y) 0
+line_or : (h t : Bool) (r : Outline) (e : po.Entry) (x : Option Outline) (y : Option po.Entry) → r.line ≡ e.line
+    → option_map_or (λ (r : Outline). r.line) x 0 ≡ option_map_or (λ (e : po.Entry). e.line) y 0
+    → option_map_or (λ (r : Outline). r.line) (cond (h && t) (Some r) x) 0
+    ≡ option_map_or (λ (e : po.Entry). e.line) (cond t (cond h (Some e) y) y) 0
 line_or true true r e x y same rest = same
 line_or true false r e x y same rest = rest
 line_or false true r e x y same rest = rest
 line_or false false r e x y same rest = rest
 
-line_over_entries : (o : Options) (k : ℕ) (es : List po.Entry) → option_map_or (λ (r : Outline). r.line) (find is_kept_header (outlines_from o k es)) 0 ≡ header_line_of o es
+line_over_entries : (o : Options) (k : ℕ) (es : List po.Entry)
+    → option_map_or (λ (r : Outline). r.line) (find is_kept_header (outlines_from o k es)) 0 ≡ header_line_of o es
 line_over_entries o k [] = refl
 line_over_entries o k (e ∷ es) =
-    ap (λ b. option_map_or (λ (r : Outline). r.line) (cond b (Some (outline_of o k e)) (find is_kept_header (outlines_from o (k + 1) es))) 0) (header_outline o k e)
-    ∙ line_or (is_header e) (is_kept o e) (outline_of o k e) e (find is_kept_header (outlines_from o (k + 1) es)) (find is_header (kept o es)) refl (line_over_entries o (k + 1) es)
-    ∙ sym (ap (λ (x : Option po.Entry). option_map_or (λ (e : po.Entry). e.line) x 0) (split_find (is_kept o e) e (kept o es)))
+    ap (λ b. option_map_or (λ (r : Outline). r.line) (cond b (Some (outline_of o k e))
+    (find is_kept_header (outlines_from o (k + 1) es))) 0) (header_outline o k e)
+    ∙ line_or (is_header e) (is_kept o e) (outline_of o k e) e (find is_kept_header (outlines_from o (k + 1) es))
+    (find is_header (kept o es)) refl (line_over_entries o (k + 1) es)
+    ∙ sym (ap (λ (x : Option po.Entry). option_map_or (λ (e : po.Entry). e.line) x 0)
+    (split_find (is_kept o e) e (kept o es)))
 
-pub header_line_is : (o : Options) (es : List po.Entry) (ds : List Draft) → AreOutlines o es ds → option_map_or (λ d. d.line) (find (λ d. is_kept_header (outline d)) ds) 0 ≡ header_line_of o es
-header_line_is o es ds are = line_over_outlines ds ∙ ap (λ (rs : List Outline). option_map_or (λ (r : Outline). r.line) (find is_kept_header rs) 0) are ∙ line_over_entries o 0 es
+pub header_line_is : (o : Options) (es : List po.Entry) (ds : List Draft) → AreOutlines o es ds
+    → option_map_or (λ d. d.line) (find (λ d. is_kept_header (outline d)) ds) 0 ≡ header_line_of o es
+header_line_is o es ds are = line_over_outlines ds ∙ ap (λ (rs : List Outline). option_map_or (λ (r : Outline). r.line)
+    (find is_kept_header rs) 0) are ∙ line_over_entries o 0 es

@@ -1,5 +1,6 @@
 -- The catalogue of a text within its limit has an MO file within its limit.
-use Rattle.std.proofs.Common.{◌≡◌, ℕ, ◌+◌, ◌*◌, ◌≤◌, Bool, true, false, List, [], ◌∷◌, length, map, Option, Some, None, refl, ap, ◌∙◌, arith, length-append}
+use Rattle.std.proofs.Common.{◌≡◌, ℕ, ◌+◌, ◌*◌, ◌≤◌, Bool, true, false, List, [], ◌∷◌, length, map, Option, Some, None}
+use Rattle.std.proofs.Common.{refl, ap, ◌∙◌, arith, length-append}
 use Rattle.std.specs.List.{AllByRecursion, cons_option, sum_by}
 use Rattle.std.proofs.lemmas.List.Concat.{flat_map-cons}
 use Rattle.std.proofs.lemmas.List.Sums.{sum_by-cons}
@@ -37,7 +38,15 @@ pool_size (form ∷ forms) =
 message_size : (e : po.Entry) → Lawful e → size (message_of e) ≡ entry_size e
 message_size e lawful =
     let t = ap length (closed_joined e.forms (some_form e.plural e.forms lawful.counted)) in
-    omega (arith, length-closed (original (message_of e)), original_size (key_bytes e.context e.id) e.plural, key_size e.context e.id, t, pool_size e.forms)
+    omega (
+      arith,
+      length-closed (original (message_of e)),
+      original_size (key_bytes e.context e.id) e.plural,
+      key_size
+          e.context e.id,
+      t,
+      pool_size e.forms,
+    )
 
 -- ---- the outlines
 
@@ -63,11 +72,28 @@ outline_fits o k e lawful = of (is_kept o e) refl
     of true is = let same = ap option_entry_size (kept_is o k e lawful is) in omega (arith, same, message_size e lawful)
     of false is = let same = ap option_entry_size (left_out o k e is) in omega (arith, same)
 
-outlines_fit : (o : Options) (k : ℕ) (es : List po.Entry) → AllByRecursion Lawful es → sum_by outline_size (outlines_from o k es) ≤ entries_size es
+outlines_fit : (o : Options) (k : ℕ) (es : List po.Entry) → AllByRecursion Lawful es
+    → sum_by outline_size (outlines_from o k es) ≤ entries_size es
 outlines_fit o k [] lawful = omega arith
-outlines_fit o k (e ∷ es) lawful = omega (arith, sum_by-cons outline_size (outline_of o k e) (outlines_from o (k + 1) es), outline_fits o k e lawful.0, outlines_fit o (k + 1) es lawful.1)
+outlines_fit o k (e ∷ es) lawful = omega (
+  arith,
+  sum_by-cons outline_size (outline_of o k e)
+      (outlines_from o (k + 1) es),
+  outline_fits o k e lawful.0,
+  outlines_fit o (k + 1) es lawful.1,
+)
 
-pub fits : (o : Options) (text : List ℕ) (entries : List po.Entry) (rs : List Outline) → Gives text entries → AreOrdered o entries rs → AllByRecursion Lawful entries → length (spelling (map_of rs)) ≤ 268435456
+pub fits : (o : Options) (text : List ℕ) (entries : List po.Entry) (rs : List Outline) → Gives text entries
+    → AreOrdered o entries rs → AllByRecursion Lawful entries → length (spelling (map_of rs)) ≤ 268435456
 fits o text entries rs gives ordered lawful =
     let all = sum_by-IsPermutation outline_size (outlines_from o 0 entries) rs ordered.same in
-    omega (arith, file_size (map_of rs), of_outlines rs, all, outlines_fit o 0 entries lawful, gives_size text entries gives, gives.readable.size)
+    omega (
+      arith,
+      file_size (map_of rs),
+      of_outlines rs,
+      all,
+      outlines_fit o 0 entries lawful,
+      gives_size text entries
+          gives,
+      gives.readable.size,
+    )

@@ -1,5 +1,6 @@
 -- The header among the drafts is that of the text, and the catalogue's.
-use Rattle.std.proofs.Common.{◌≡◌, ℕ, ◌+◌, ◌<◌, Bool, true, false, cond, List, [], ◌∷◌, length, map, get_or, Option, Some, None, refl, sym, ap, ◌∙◌, subst, arith, inl, inr}
+use Rattle.std.proofs.Common.{◌≡◌, ℕ, ◌+◌, ◌<◌, Bool, true, false, cond, List, [], ◌∷◌, length, map, get_or, Option}
+use Rattle.std.proofs.Common.{Some, None, refl, sym, ap, ◌∙◌, subst, arith, inl, inr}
 use Rattle.std.specs.Prelude.{◌&&◌, ◌⊎◌, ◌==◌, Contains, IfSome, is_none, option_map}
 use Rattle.std.specs.List.{AllByRecursion, find, slice_split}
 use Rattle.std.specs.Str.{bytes_eq}
@@ -10,10 +11,12 @@ use Rattle.std.proofs.lemmas.Slice.Eq.{bytes_eq-Decides}
 use Rattle.po_text.specs.Entries as po
 use Rattle.mo_image.specs.Entry.{Entry, key, key_bytes, translation}
 use Rattle.mo_image.specs.Map.{entry_at, first_form, header_text, HasAcceptedCharset}
-use Rattle.po_checks.specs.Kept.{message_of, key_of, is_empty, is_header, is_kept, kept, kept_header, header_text_of, NamesCharset}
+use Rattle.po_checks.specs.Kept.{message_of, key_of, is_empty, is_header, is_kept, kept, kept_header, header_text_of}
+use Rattle.po_checks.specs.Kept.{NamesCharset}
 use Rattle.po_checks.specs.Fails.{HasDistinctKeys}
 use Rattle.catalogue.specs.Meaning.{IsMapOf}
-use Rattle.catalogue.specs.Drafts.{Outline, Kept, outline, outlines, outline_of, outlines_from, texts_of, outline_text, text_found, header_text_in, is_kept_header, IsLawfulMessage}
+use Rattle.catalogue.specs.Drafts.{Outline, Kept, outline, outlines, outline_of, outlines_from, texts_of, outline_text}
+use Rattle.catalogue.specs.Drafts.{text_found, header_text_in, is_kept_header, IsLawfulMessage}
 use Rattle.po_checks.specs.declared.options.Options.{Options}
 use Rattle.catalogue.specs.declared.drafts.Draft.{Draft}
 use Rattle.catalogue.proofs.Counting.{AreOutlines, header_outline, split_find}
@@ -35,24 +38,42 @@ Found o es None (Some e) = ⊥
 Found o es (Some r) None = ⊥
 Found o es (Some r) (Some e) = IsRowOf o es r e
 
-longer : (o : Options) (x : po.Entry) (es : List po.Entry) (r : Option Outline) (e : Option po.Entry) → Found o es r e → Found o (x ∷ es) r e
+longer : (o : Options) (x : po.Entry) (es : List po.Entry) (r : Option Outline) (e : Option po.Entry) → Found o es r e
+    → Found o (x ∷ es) r e
 longer o x es None None f = tt
 longer o x es None (Some e) f = f
 longer o x es (Some r) None f = f
-longer o x es (Some r) (Some e) f = record { number = f.number; is = f.is; has = has_tail e x es f.has; is_kept = f.is_kept; lawful = f.lawful }
+longer o x es (Some r) (Some e) f = record {
+  number = f.number;
+  is = f.is;
+  has = has_tail e x es f.has;
+  is_kept =
+      f.is_kept;
+  lawful = f.lawful;
+}
 
-step : (o : Options) (k : ℕ) (e : po.Entry) (es : List po.Entry) (h t : Bool) (r : Option Outline) (x : Option po.Entry) → is_kept o e ≡ t → IsLawfulMessage e → Found o es r x → Found o (e ∷ es) (cond (h && t) (Some (outline_of o k e)) r) (cond t (cond h (Some e) x) x)
-step o k e es true true r x is lawful f = record { number = k; is = refl; has = has_head e e es refl; is_kept = is; lawful = lawful }
+step : (o : Options) (k : ℕ) (e : po.Entry) (es : List po.Entry) (h t : Bool) (r : Option Outline) (x : Option po.Entry)
+    → is_kept o e ≡ t → IsLawfulMessage e → Found o es r x → Found o (e ∷ es)
+    (cond (h && t) (Some (outline_of o k e)) r) (cond t (cond h (Some e) x) x)
+step o k e es true true r x is lawful f = record {
+  number = k;
+  is = refl;
+  has = has_head e e es refl;
+  is_kept = is;
+  lawful = lawful;
+}
 step o k e es true false r x is lawful f = longer o e es r x f
 step o k e es false true r x is lawful f = longer o e es r x f
 step o k e es false false r x is lawful f = longer o e es r x f
 
-found : (o : Options) (k : ℕ) (es : List po.Entry) → AllByRecursion IsLawfulMessage es → Found o es (find is_kept_header (outlines_from o k es)) (kept_header o es)
+found : (o : Options) (k : ℕ) (es : List po.Entry) → AllByRecursion IsLawfulMessage es
+    → Found o es (find is_kept_header (outlines_from o k es)) (kept_header o es)
 found o k [] lawful = tt
 found o k (e ∷ es) lawful =
     let rest = find is_kept_header (outlines_from o (k + 1) es) in
     let R : Bool → Type 0 = λ b. Found o (e ∷ es) (cond b (Some (outline_of o k e)) rest) (kept_header o (e ∷ es)) in
-    let X : Option po.Entry → Type 0 = λ x. Found o (e ∷ es) (cond (is_header e && is_kept o e) (Some (outline_of o k e)) rest) x in
+    let X : Option po.Entry → Type 0 = λ x. Found o (e ∷ es)
+    (cond (is_header e && is_kept o e) (Some (outline_of o k e)) rest) x in
     subst R (sym (header_outline o k e)) (subst X (sym (split_find (is_kept o e) e (kept o es)))
     (step o k e es (is_header e) (is_kept o e) rest (kept_header o es) refl lawful.0 (found o (k + 1) es lawful.1)))
 
@@ -61,35 +82,46 @@ found o k (e ∷ es) lawful =
 forms_again : (e : po.Entry) → IsLawfulMessage e → slice_split (λ b. b == 0) (translation (message_of e)) ≡ e.forms
 forms_again e lawful = split_joined e.forms (some_form e.plural e.forms lawful.counted) (lack_nul e.forms lawful.forms)
 
-row_texts : (o : Options) (es : List po.Entry) (r : Outline) (e : po.Entry) → IsRowOf o es r e → r.texts ≡ Some (texts_of e)
+row_texts : (o : Options) (es : List po.Entry) (r : Outline) (e : po.Entry) → IsRowOf o es r e → r.texts
+    ≡ Some (texts_of e)
 row_texts o es r e f = ap (λ (x : Outline). x.texts) f.is ∙ rw f.is_kept refl
 
-row_text_is : (o : Options) (es : List po.Entry) (r : Outline) (e : po.Entry) → IsRowOf o es r e → outline_text r ≡ Some (first_form e.forms)
-row_text_is o es r e f = ap (option_map (λ (t : Kept). first_form (slice_split (λ b. b == 0) t.1))) (row_texts o es r e f) ∙ ap (λ (forms : List (List ℕ)). Some (first_form forms)) (forms_again e f.lawful)
+row_text_is : (o : Options) (es : List po.Entry) (r : Outline) (e : po.Entry) → IsRowOf o es r e → outline_text r
+    ≡ Some (first_form e.forms)
+row_text_is o es r e f = ap (option_map (λ (t : Kept). first_form (slice_split (λ b. b == 0) t.1)))
+    (row_texts o es r e f) ∙ ap (λ (forms : List (List ℕ)). Some (first_form forms)) (forms_again e f.lawful)
 
-text_is : (o : Options) (es : List po.Entry) (r : Option Outline) (e : Option po.Entry) → Found o es r e → text_found r ≡ option_map (λ e. first_form e.forms) e
+text_is : (o : Options) (es : List po.Entry) (r : Option Outline) (e : Option po.Entry) → Found o es r e → text_found r
+    ≡ option_map (λ e. first_form e.forms) e
 text_is o es None None f = refl
 text_is o es None (Some e) f = absurd f
 text_is o es (Some r) None f = absurd f
 text_is o es (Some r) (Some e) f = row_text_is o es r e f
 
-find_outlines : (ds : List Draft) → option_map outline (find (λ d. is_kept_header (outline d)) ds) ≡ find is_kept_header (outlines ds)
+find_outlines : (ds : List Draft) → option_map outline (find (λ d. is_kept_header (outline d)) ds)
+    ≡ find is_kept_header (outlines ds)
 find_outlines [] = refl
 find_outlines (d ∷ ds) = of (is_kept_header (outline d)) (find_outlines ds)
   where
-    of : (b : Bool) → option_map outline (find (λ d. is_kept_header (outline d)) ds) ≡ find is_kept_header (outlines ds) → option_map outline (cond b (Some d) (find (λ d. is_kept_header (outline d)) ds)) ≡ cond b (Some (outline d)) (find is_kept_header (outlines ds))
+    of : (b : Bool) → option_map outline (find (λ d. is_kept_header (outline d)) ds) ≡ find is_kept_header (outlines ds)
+        → option_map outline (cond b (Some d) (find (λ d. is_kept_header (outline d)) ds))
+        ≡ cond b (Some (outline d)) (find is_kept_header (outlines ds))
     of true rest = refl
     of false rest = rest
 
 -- the text of the kept header
-pub header_text_is : (o : Options) (es : List po.Entry) (ds : List Draft) → AreOutlines o es ds → AllByRecursion IsLawfulMessage es → header_text_in ds ≡ header_text_of o es
-header_text_is o es ds are lawful = ap text_found (find_outlines ds ∙ ap (find is_kept_header) are) ∙ text_is o es (find is_kept_header (outlines_from o 0 es)) (kept_header o es) (found o 0 es lawful)
+pub header_text_is : (o : Options) (es : List po.Entry) (ds : List Draft) → AreOutlines o es ds
+    → AllByRecursion IsLawfulMessage es → header_text_in ds ≡ header_text_of o es
+header_text_is o es ds are lawful = ap text_found (find_outlines ds ∙ ap (find is_kept_header) are)
+    ∙ text_is o es (find is_kept_header (outlines_from o 0 es)) (kept_header o es) (found o 0 es lawful)
 
-accepted_by : (e : Option po.Entry) → IfSome (option_map (λ e. first_form e.forms) e) HasAcceptedCharset → IfSome e NamesCharset
+accepted_by : (e : Option po.Entry) → IfSome (option_map (λ e. first_form e.forms) e) HasAcceptedCharset
+    → IfSome e NamesCharset
 accepted_by None named = tt
 accepted_by (Some e) named = named
 
-pub accepted : (o : Options) (es : List po.Entry) → IfSome (header_text_of o es) HasAcceptedCharset → IfSome (kept_header o es) NamesCharset
+pub accepted : (o : Options) (es : List po.Entry) → IfSome (header_text_of o es) HasAcceptedCharset
+    → IfSome (kept_header o es) NamesCharset
 accepted o es named = accepted_by (kept_header o es) named
 
 -- the header names another charset
@@ -98,23 +130,29 @@ pub record NamesAnother (o : Options) (es : List po.Entry) : Type 0 where
   pub is : kept_header o es ≡ Some header
   pub foreign : ¬ NamesCharset header
 
-another_by : (o : Options) (es : List po.Entry) (e : Option po.Entry) → kept_header o es ≡ e → (IfSome (option_map (λ e. first_form e.forms) e) HasAcceptedCharset → ⊥) → NamesAnother o es
+another_by : (o : Options) (es : List po.Entry) (e : Option po.Entry) → kept_header o es ≡ e
+    → (IfSome (option_map (λ e. first_form e.forms) e) HasAcceptedCharset → ⊥) → NamesAnother o es
 another_by o es None is no_name = absurd (no_name tt)
 another_by o es (Some e) is no_name = record { header = e; is = is; foreign = no_name }
 
-pub another : (o : Options) (es : List po.Entry) → (IfSome (header_text_of o es) HasAcceptedCharset → ⊥) → NamesAnother o es
+pub another : (o : Options) (es : List po.Entry) → (IfSome (header_text_of o es) HasAcceptedCharset → ⊥)
+    → NamesAnother o es
 another o es no_name = another_by o es (kept_header o es) refl no_name
 
 -- ---- the header of the catalogue
 
 -- entries with one key are one, where keys are distinct
-one_of : (es : List po.Entry) (x y : po.Entry) → HasDistinctKeys es → Contains es x → Contains es y → key_of x ≡ key_of y → x ≡ y
+one_of : (es : List po.Entry) (x y : po.Entry) → HasDistinctKeys es → Contains es x → Contains es y → key_of x
+    ≡ key_of y → x ≡ y
 one_of es x y distinct (i, li, ix) (j, lj, jy) same =
     elim (cases_lt i j) [
-      | inl lt ↦ absurd (distinct i j [] lt (omega (arith, lj, length-map es key_of)) (at i x li ix ∙ same ∙ sym (at j y lj jy)))
+      | inl lt ↦ absurd (distinct i j [] lt (omega (arith, lj, length-map es key_of))
+          (at i x li ix ∙ same ∙ sym (at j y lj jy)))
       | inr le ↦ elim (cases_lt j i) [
-        | inl lt ↦ absurd (distinct j i [] lt (omega (arith, li, length-map es key_of)) (at j y lj jy ∙ sym same ∙ sym (at i x li ix)))
-        | inr ge ↦ let k : i ≡ j = omega (arith, le, ge) in sym ix ∙ get_or_default es i x y li ∙ ap (λ n. get_or es n y) k ∙ jy
+        | inl lt ↦ absurd (distinct j i [] lt (omega (arith, li, length-map es key_of))
+            (at j y lj jy ∙ sym same ∙ sym (at i x li ix)))
+        | inr ge ↦ let k : i ≡ j = omega (arith, le, ge) in sym ix ∙ get_or_default es i x y li
+            ∙ ap (λ n. get_or es n y) k ∙ jy
       ]
     ]
   where
@@ -128,7 +166,8 @@ no_key None (b ∷ id) e = absurd cc
 no_key (Some []) id e = absurd cc
 no_key (Some (b ∷ context)) id e = absurd cc
 
-header_key : (context : Option (List ℕ)) (id : List ℕ) → (is_none context && is_empty id) ≡ true → key_bytes context id ≡ []
+header_key : (context : Option (List ℕ)) (id : List ℕ) → (is_none context && is_empty id) ≡ true → key_bytes context id
+    ≡ []
 header_key None [] e = refl
 header_key None (b ∷ id) e = absurd (false≢true e)
 header_key (Some context) id e = absurd (false≢true e)
@@ -147,18 +186,28 @@ finds p (x ∷ es) e has passes = of (p x) refl (has_cases e x es has) (λ h. fi
     of : (b : Bool) → p x ≡ b → (x ≡ e) ⊎ Contains es e → (Contains es e → Finds p es e) → Finds p (x ∷ es) e
     of true is h rest = record { found = x; is = rw is refl; passes = is; has = has_head x x es refl }
     of false is (inl same) rest = absurd (false≢true (sym is ∙ ap p same ∙ passes))
-    of false is (inr t) rest = let f = rest t in record { found = f.found; is = rw is f.is; passes = f.passes; has = has_tail f.found x es f.has }
+    of false is (inr t) rest = let f = rest t in record {
+      found = f.found;
+      is = rw is f.is;
+      passes = f.passes;
+      has =
+          has_tail f.found x es f.has;
+    }
 
 -- an entry of the catalogue with the empty key is the kept header's message
-catalogued : (o : Options) (es : List po.Entry) (m : List Entry) → IsMapOf (kept o es) m → HasDistinctKeys es → IfSome (kept_header o es) NamesCharset → (x : Entry) → entry_at m [] ≡ Some x → HasAcceptedCharset (first_form x.forms)
+catalogued : (o : Options) (es : List po.Entry) (m : List Entry) → IsMapOf (kept o es) m → HasDistinctKeys es
+    → IfSome (kept_header o es) NamesCharset → (x : Entry) → entry_at m [] ≡ Some x
+    → HasAcceptedCharset (first_form x.forms)
 catalogued o es m is distinct names x at =
     let here = from_find (λ (e : Entry). bytes_eq (key e) []) m x at in
     let no_key_of : key x ≡ [] = (bytes_eq-Decides (key x) []).0 here.1 in
-    let (e, has, same) = from_map message_of (kept o es) x (All-contains (Contains (map message_of (kept o es))) m x is.nothing_else here.0) in
+    let (e, has, same) = from_map message_of (kept o es) x (All-contains (Contains (map message_of (kept o es))) m x
+    is.nothing_else here.0) in
     let e_key : key_of e ≡ [] = ap key same ∙ no_key_of in
     let h = finds is_header (kept o es) e has (no_key e.context e.id e_key) in
     let h_key : key_of h.found ≡ [] = header_key h.found.context h.found.id h.passes in
-    let one : e ≡ h.found = one_of es e h.found distinct (from_filter (is_kept o) es e has) (from_filter (is_kept o) es h.found h.has) (e_key ∙ sym h_key) in
+    let one : e ≡ h.found = one_of es e h.found distinct (from_filter (is_kept o) es e has)
+    (from_filter (is_kept o) es h.found h.has) (e_key ∙ sym h_key) in
     let named : NamesCharset h.found = subst (λ (x : Option po.Entry). IfSome x NamesCharset) h.is names in
     subst (λ (y : Entry). HasAcceptedCharset (first_form y.forms)) same (subst NamesCharset (sym one) named)
 
@@ -166,9 +215,12 @@ if_some : {X : Type 0} (o : Option X) (P : X → Type 0) → ((x : X) → o ≡ 
 if_some None P h = tt
 if_some (Some x) P h = h x refl
 
-if_mapped : {X Y : Type 0} (o : Option X) (f : X → Y) (P : Y → Type 0) → IfSome o (λ x. P (f x)) → IfSome (option_map f o) P
+if_mapped : {X Y : Type 0} (o : Option X) (f : X → Y) (P : Y → Type 0) → IfSome o (λ x. P (f x))
+    → IfSome (option_map f o) P
 if_mapped None f P h = tt
 if_mapped (Some x) f P h = h
 
-pub map_accepted : (o : Options) (es : List po.Entry) (m : List Entry) → IsMapOf (kept o es) m → HasDistinctKeys es → IfSome (kept_header o es) NamesCharset → IfSome (header_text m) HasAcceptedCharset
-map_accepted o es m is distinct names = if_mapped (entry_at m []) (λ (e : Entry). first_form e.forms) HasAcceptedCharset (if_some (entry_at m []) (λ e. HasAcceptedCharset (first_form e.forms)) (catalogued o es m is distinct names))
+pub map_accepted : (o : Options) (es : List po.Entry) (m : List Entry) → IsMapOf (kept o es) m → HasDistinctKeys es
+    → IfSome (kept_header o es) NamesCharset → IfSome (header_text m) HasAcceptedCharset
+map_accepted o es m is distinct names = if_mapped (entry_at m []) (λ (e : Entry). first_form e.forms) HasAcceptedCharset
+    (if_some (entry_at m []) (λ e. HasAcceptedCharset (first_form e.forms)) (catalogued o es m is distinct names))

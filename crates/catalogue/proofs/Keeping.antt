@@ -10,7 +10,9 @@ use Rattle.catalogue.specs.declared.drafts.Texts.{Texts}
 abbrev pub has_texts : Draft → Bool
 has_texts d = is_some d.texts
 
-kept_step : (d : Draft) (ds : List Draft) (t : Option Texts) → d.texts ≡ t → drafts_entries (filter has_texts ds) ≡ filter_map kept_entry (outlines ds) → drafts_entries (filter has_texts (d ∷ ds)) ≡ filter_map kept_entry (outlines (d ∷ ds))
+kept_step : (d : Draft) (ds : List Draft) (t : Option Texts) → d.texts ≡ t → drafts_entries (filter has_texts ds)
+    ≡ filter_map kept_entry (outlines ds) → drafts_entries (filter has_texts (d ∷ ds))
+    ≡ filter_map kept_entry (outlines (d ∷ ds))
 kept_step d ds None is rest = rw is rest
 kept_step d ds (Some t) is rest = rw is (ap (λ (es : List Entry). entry_with d.key (Some (kept_texts t)) ∷ es) rest)
 

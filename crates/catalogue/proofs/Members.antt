@@ -1,5 +1,6 @@
 -- What std lacks on the members of a list.
-use Rattle.std.proofs.Common.{◌≡◌, zero, suc, Bool, true, false, cond, List, [], ◌∷◌, map, Option, Some, None, refl, sym, ap, ◌∙◌, arith, inl, inr}
+use Rattle.std.proofs.Common.{◌≡◌, zero, suc, Bool, true, false, cond, List, [], ◌∷◌, map, Option, Some, None, refl}
+use Rattle.std.proofs.Common.{sym, ap, ◌∙◌, arith, inl, inr}
 use Rattle.std.specs.Prelude.{◌⊎◌, Contains}
 use Rattle.std.specs.List.{filter, filter_map, find}
 
@@ -21,7 +22,8 @@ has_map f (y ∷ xs) x h = elim (has_cases x y xs h) [
 ]
 
 -- a member that passes stays
-pub has_filter : {X : Type 0} (p : X → Bool) (xs : List X) (x : X) → Contains xs x → p x ≡ true → Contains (filter p xs) x
+pub has_filter : {X : Type 0} (p : X → Bool) (xs : List X) (x : X) → Contains xs x → p x ≡ true
+    → Contains (filter p xs) x
 has_filter p [] x h pass = absurd (omega (arith, h.1))
 has_filter p (y ∷ xs) x h pass = elim (has_cases x y xs h) [
   | inl e ↦ rw (ap p e ∙ pass) (has_head x y (filter p xs) e)
@@ -33,18 +35,21 @@ has_filter p (y ∷ xs) x h pass = elim (has_cases x y xs h) [
     step false h = h
 
 -- what is given of a member is a member of what is given
-pub has_filter_map : {X Y : Type 0} (f : X → Option Y) (xs : List X) (x : X) (y : Y) → Contains xs x → f x ≡ Some y → Contains (filter_map f xs) y
+pub has_filter_map : {X Y : Type 0} (f : X → Option Y) (xs : List X) (x : X) (y : Y) → Contains xs x → f x ≡ Some y
+    → Contains (filter_map f xs) y
 has_filter_map f [] x y h e = absurd (omega (arith, h.1))
 has_filter_map f (z ∷ xs) x y h e = elim (has_cases x z xs h) [
   | inl same ↦ rw (ap f same ∙ e) (has_head y y (filter_map f xs) refl)
   | inr t ↦ step (f z) (has_filter_map f xs x y t e)
 ]
   where
-    step : (o : Option _) → Contains (filter_map f xs) y → Contains (Rattle.std.specs.List.cons_option o (filter_map f xs)) y
+    step : (o : Option _) → Contains (filter_map f xs) y → Contains
+        (Rattle.std.specs.List.cons_option o (filter_map f xs)) y
     step None h = h
     step (Some w) h = has_tail y w (filter_map f xs) h
 
-pub from_map : {X Y : Type 0} (f : X → Y) (xs : List X) (y : Y) → Contains (map f xs) y → (x : X) × Contains xs x × (f x ≡ y)
+pub from_map : {X Y : Type 0} (f : X → Y) (xs : List X) (y : Y) → Contains (map f xs) y → (x : X) × Contains xs x
+    × (f x ≡ y)
 from_map f [] y h = absurd (omega (arith, h.1))
 from_map f (x ∷ xs) y h = elim (has_cases y (f x) (map f xs) h) [
   | inl e ↦ (x, has_head x x xs refl, e)
@@ -56,8 +61,13 @@ pub from_filter : {X : Type 0} (p : X → Bool) (xs : List X) (x : X) → Contai
 from_filter p [] x h = h
 from_filter p (y ∷ xs) x h = step (p y) h (λ t. from_filter p xs x t)
   where
-    step : (b : Bool) → Contains (cond b (y ∷ filter p xs) (filter p xs)) x → (Contains (filter p xs) x → Contains xs x) → Contains (y ∷ xs) x
-    step true h rest = elim (has_cases x y (filter p xs) h) [ inl e ↦ has_head x y xs e | inr t ↦ has_tail x y xs (rest t) ]
+    step : (b : Bool) → Contains (cond b (y ∷ filter p xs) (filter p xs)) x → (Contains (filter p xs) x → Contains xs x)
+        → Contains (y ∷ xs) x
+    step true h rest = elim (has_cases x y (filter p xs) h) [
+      | inl e ↦ has_head x y xs e
+      | inr t ↦ has_tail x y xs
+          (rest t)
+    ]
     step false h rest = has_tail x y xs (rest h)
 
 -- what a search finds is there, and passes
@@ -65,6 +75,7 @@ pub from_find : {X : Type 0} (p : X → Bool) (xs : List X) (x : X) → find p x
 from_find p [] x e = absurd cc
 from_find p (y ∷ xs) x e = step (p y) refl e (λ t. from_find p xs x t)
   where
-    step : (b : Bool) → p y ≡ b → cond b (Some y) (find p xs) ≡ Some x → (find p xs ≡ Some x → Contains xs x × (p x ≡ true)) → Contains (y ∷ xs) x × (p x ≡ true)
+    step : (b : Bool) → p y ≡ b → cond b (Some y) (find p xs) ≡ Some x
+        → (find p xs ≡ Some x → Contains xs x × (p x ≡ true)) → Contains (y ∷ xs) x × (p x ≡ true)
     step true is e rest = let same : y ≡ x = cc in (has_head x y xs same, sym (ap p same) ∙ is)
     step false is e rest = let t = rest e in (has_tail x y xs t.0, t.1)

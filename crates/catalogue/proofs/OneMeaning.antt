@@ -22,7 +22,8 @@ use Rattle.po_checks.specs.declared.options.Options.{Options}
 use Rattle.catalogue.specs.declared.compiler.Stats.{Stats}
 use Rattle.catalogue.specs.declared.compiler.Compiled.{Compiled}
 use Rattle.po_checks.specs.declared.fault.LoadKind.{LoadKind}
-use Rattle.po_checks.specs.declared.fault.LoadKind.TheVariants.{TooLarge, NotUtf8, BadEscape, OpenString, BadWord, BadText, BadOrder, BadIndex}
+use Rattle.po_checks.specs.declared.fault.LoadKind.TheVariants.{TooLarge, NotUtf8, BadEscape, OpenString, BadWord}
+use Rattle.po_checks.specs.declared.fault.LoadKind.TheVariants.{BadText, BadOrder, BadIndex}
 use Rattle.catalogue.proofs.Members.{has_head, has_tail, has_cases}
 use Rattle.po_checks.proofs.Refusals.{first_refusal_one}
 
@@ -36,7 +37,8 @@ rises_behind k [] rises = tt
 rises_behind k (l ∷ ks) rises = rises.1
 
 -- a key is below those of the members behind it
-pub below_members : (k : List ℕ) (m : List Entry) (e : Entry) → Rises (k ∷ map key m) → Contains m e → slice_cmp nat_cmp k (key e) ≡ Less
+pub below_members : (k : List ℕ) (m : List Entry) (e : Entry) → Rises (k ∷ map key m) → Contains m e
+    → slice_cmp nat_cmp k (key e) ≡ Less
 below_members k [] e rises has = absurd (omega (arith, has.1))
 below_members k (d ∷ m) e rises has = elim (has_cases e d m has) [
   | inl same ↦ subst (λ (x : Entry). slice_cmp nat_cmp k (key x) ≡ Less) same rises.0
@@ -53,17 +55,20 @@ not_behind_itself e m rises has = not_below_itself (key e) (below_members (key e
 abbrev AreMembers : List Entry → List Entry → Type 0
 AreMembers m n = (e : Entry) → Contains m e → Contains n e
 
-same_head : (d e : Entry) (m n : List Entry) → Rises (key d ∷ map key m) → Rises (key e ∷ map key n) → AreMembers (d ∷ m) (e ∷ n) → AreMembers (e ∷ n) (d ∷ m) → d ≡ e
+same_head : (d e : Entry) (m n : List Entry) → Rises (key d ∷ map key m) → Rises (key e ∷ map key n)
+    → AreMembers (d ∷ m) (e ∷ n) → AreMembers (e ∷ n) (d ∷ m) → d ≡ e
 same_head d e m n rises rises' within within' = elim (has_cases d e n (within d (has_head d d m refl))) [
   | inl same ↦ sym same
   | inr behind ↦ elim (has_cases e d m (within' e (has_head e e n refl))) [
     | inl same ↦ same
-    | inr behind' ↦ absurd (not_below_itself (key d) (total.trans (key d) (key e) (key d) (below_members (key d) m e rises behind') (below_members (key e) n d rises' behind)))
+    | inr behind' ↦ absurd (not_below_itself (key d) (total.trans (key d) (key e) (key d)
+        (below_members (key d) m e rises behind') (below_members (key e) n d rises' behind)))
   ]
 ]
 
 -- without the head the members are the same still
-rest_within : (d e : Entry) (m n : List Entry) → Rises (key d ∷ map key m) → d ≡ e → AreMembers (d ∷ m) (e ∷ n) → AreMembers m n
+rest_within : (d e : Entry) (m n : List Entry) → Rises (key d ∷ map key m) → d ≡ e → AreMembers (d ∷ m) (e ∷ n)
+    → AreMembers m n
 rest_within d e m n rises same within x has = elim (has_cases x e n (within x (has_tail x d m has))) [
   | inl is ↦ absurd (not_behind_itself d m rises (subst (λ (y : Entry). Contains m y) (sym (same ∙ is)) has))
   | inr behind ↦ behind
@@ -75,14 +80,17 @@ same_entries [] (e ∷ n) rises rises' within within' = absurd (omega (arith, (w
 same_entries (d ∷ m) [] rises rises' within within' = absurd (omega (arith, (within d (has_head d d m refl)).1))
 same_entries (d ∷ m) (e ∷ n) rises rises' within within' =
     let same : d ≡ e = same_head d e m n rises rises' within within' in
-    let rest : m ≡ n = same_entries m n (rises_behind (key d) (map key m) rises) (rises_behind (key e) (map key n) rises') (rest_within d e m n rises same within) (rest_within e d n m rises' (sym same) within') in
+    let rest : m ≡ n = same_entries m n (rises_behind (key d) (map key m) rises)
+    (rises_behind (key e) (map key n) rises') (rest_within d e m n rises same within)
+    (rest_within e d n m rises' (sym same) within') in
     cc (same, rest)
 
 map_one : (entries : List po.Entry) (m n : List Entry) → IsMapOf entries m → IsMapOf entries n → m ≡ n
 map_one entries m n p q = same_entries m n p.rises q.rises (members m n p q) (members n m q p)
   where
     members : (a b : List Entry) → IsMapOf entries a → IsMapOf entries b → AreMembers a b
-    members a b s t e has = All-contains (Contains b) (map message_of entries) e t.listed (All-contains (Contains (map message_of entries)) a e s.nothing_else has)
+    members a b s t e has = All-contains (Contains b) (map message_of entries) e t.listed
+        (All-contains (Contains (map message_of entries)) a e s.nothing_else has)
 
 -- ---- one refusal
 
@@ -91,9 +99,11 @@ abbrev OfText : List ℕ → LoadKind → ℕ → Type 0
 OfText text kind line = (fault : PoKind) × (kind ≡ kind_of fault) × outcome.Refuses text fault line
 
 abbrev OfEntries : List ℕ → Options → LoadKind → ℕ → Type 0
-OfEntries text o kind line = (entries : List po.Entry) × outcome.Gives text entries × IsFirst (Fails o entries) kind line
+OfEntries text o kind line = (entries : List po.Entry) × outcome.Gives text entries
+    × IsFirst (Fails o entries) kind line
 
-refusal_is : (text : List ℕ) (o : Options) (kind : LoadKind) (line : ℕ) → Refuses text o kind line → OfText text kind line ⊎ OfEntries text o kind line
+refusal_is : (text : List ℕ) (o : Options) (kind : LoadKind) (line : ℕ) → Refuses text o kind line
+    → OfText text kind line ⊎ OfEntries text o kind line
 refusal_is text o TooLarge line r = inl (kinds.TooLarge, refl, r)
 refusal_is text o NotUtf8 line r = inl (kinds.NotUtf8, refl, r)
 refusal_is text o BadEscape line r = inl (kinds.BadEscape, refl, r)
@@ -104,38 +114,53 @@ refusal_is text o BadOrder line r = inl (kinds.BadOrder, refl, r)
 refusal_is text o BadIndex line r = inl (kinds.BadIndex, refl, r)
 refusal_is text o _ line r = inr r
 
-either_one : (text : List ℕ) (o : Options) (kind other : LoadKind) (line m : ℕ) → OfText text kind line ⊎ OfEntries text o kind line → OfText text other m ⊎ OfEntries text o other m → (kind ≡ other) × (line ≡ m)
+either_one : (text : List ℕ) (o : Options) (kind other : LoadKind) (line m : ℕ) → OfText text kind line
+    ⊎ OfEntries text o kind line → OfText text other m ⊎ OfEntries text o other m → (kind ≡ other) × (line ≡ m)
 either_one text o kind other line m (inl (f, is, r)) (inl (g, is', r')) =
     let one = refuses_one text f g line m r r' in
     (is ∙ ap kind_of one.0 ∙ sym is', one.1)
-either_one text o kind other line m (inl (f, is, r)) (inr (entries, gives, d)) = absurd (gives_or_refuses text entries f line gives r)
-either_one text o kind other line m (inr (entries, gives, d)) (inl (g, is', r')) = absurd (gives_or_refuses text entries g m gives r')
+either_one text o kind other line m (inl (f, is, r)) (inr (entries, gives, d)) = absurd
+    (gives_or_refuses text entries f line gives r)
+either_one text o kind other line m (inr (entries, gives, d)) (inl (g, is', r')) = absurd
+    (gives_or_refuses text entries g m gives r')
 either_one text o kind other line m (inr (entries, gives, d)) (inr (others, gives', d')) =
-    first_refusal_one o others kind other line m (subst (λ (es : List po.Entry). IsFirst (Fails o es) kind line) (gives_one text entries others gives gives') d) d'
+    first_refusal_one o others kind other line m (subst (λ (es : List po.Entry). IsFirst (Fails o es) kind line)
+    (gives_one text entries others gives gives') d) d'
 
-pub refusal_one : (text : List ℕ) (o : Options) (kind other : LoadKind) (line m : ℕ) → Refuses text o kind line → Refuses text o other m → (kind ≡ other) × (line ≡ m)
-refusal_one text o kind other line m r r' = either_one text o kind other line m (refusal_is text o kind line r) (refusal_is text o other m r')
+pub refusal_one : (text : List ℕ) (o : Options) (kind other : LoadKind) (line m : ℕ) → Refuses text o kind line
+    → Refuses text o other m → (kind ≡ other) × (line ≡ m)
+refusal_one text o kind other line m r r' = either_one text o kind other line m (refusal_is text o kind line r)
+    (refusal_is text o other m r')
 
 -- ---- one meaning
 
-means_or : (text : List ℕ) (o : Options) (compiled : Compiled) (kind : LoadKind) (line : ℕ) → Means text o compiled → OfText text kind line ⊎ OfEntries text o kind line → ⊥
+means_or : (text : List ℕ) (o : Options) (compiled : Compiled) (kind : LoadKind) (line : ℕ) → Means text o compiled
+    → OfText text kind line ⊎ OfEntries text o kind line → ⊥
 means_or text o compiled kind line means (inl (f, is, r)) = gives_or_refuses text means.entries f line means.gives r
 means_or text o compiled kind line means (inr (others, gives, f)) =
-    means.passes kind line (subst (λ (es : List po.Entry). Fails o es kind line) (gives_one text others means.entries gives means.gives) f.holds)
+    means.passes kind line (subst (λ (es : List po.Entry). Fails o es kind line)
+    (gives_one text others means.entries gives means.gives) f.holds)
 
-pub means_or_refuses : (text : List ℕ) (o : Options) (compiled : Compiled) (kind : LoadKind) (line : ℕ) → Means text o compiled → Refuses text o kind line → ⊥
-means_or_refuses text o compiled kind line means r = means_or text o compiled kind line means (refusal_is text o kind line r)
+pub means_or_refuses : (text : List ℕ) (o : Options) (compiled : Compiled) (kind : LoadKind) (line : ℕ)
+    → Means text o compiled → Refuses text o kind line → ⊥
+means_or_refuses text o compiled kind line means r = means_or text o compiled kind line means
+    (refusal_is text o kind line r)
 
-same_compiled : (c d : Compiled) → c.catalogue ≡ d.catalogue → c.stats ≡ d.stats → c.missing ≡ d.missing → c.header_line ≡ d.header_line → c ≡ d
+same_compiled : (c d : Compiled) → c.catalogue ≡ d.catalogue → c.stats ≡ d.stats → c.missing ≡ d.missing → c.header_line
+    ≡ d.header_line → c ≡ d
 same_compiled c d catalogue stats missing line =
-    let of : List Entry → Stats → List Bool → ℕ → Compiled = λ a b f n. record { catalogue = a; stats = b; missing = f; header_line = n } in
-    ap (λ a. of a c.stats c.missing c.header_line) catalogue ∙ ap (λ b. of d.catalogue b c.missing c.header_line) stats ∙ ap (λ f. of d.catalogue d.stats f c.header_line) missing ∙ ap (of d.catalogue d.stats d.missing) line
+    let of : List Entry → Stats → List Bool → ℕ → Compiled = λ a b f n. record
+    { catalogue = a; stats = b; missing = f; header_line = n } in
+    ap (λ a. of a c.stats c.missing c.header_line) catalogue ∙ ap (λ b. of d.catalogue b c.missing c.header_line) stats
+    ∙ ap (λ f. of d.catalogue d.stats f c.header_line) missing ∙ ap (of d.catalogue d.stats d.missing) line
 
-pub meaning_one : (text : List ℕ) (o : Options) (compiled other : Compiled) → Means text o compiled → Means text o other → compiled ≡ other
+pub meaning_one : (text : List ℕ) (o : Options) (compiled other : Compiled) → Means text o compiled → Means text o other
+    → compiled ≡ other
 meaning_one text o compiled other p q =
     let same : p.entries ≡ q.entries = gives_one text p.entries q.entries p.gives q.gives in
     same_compiled compiled other
-    (map_one (kept o q.entries) compiled.catalogue other.catalogue (subst (λ (es : List po.Entry). IsMapOf (kept o es) compiled.catalogue) same p.map_is) q.map_is)
+    (map_one (kept o q.entries) compiled.catalogue other.catalogue
+    (subst (λ (es : List po.Entry). IsMapOf (kept o es) compiled.catalogue) same p.map_is) q.map_is)
     (p.stats_are ∙ ap stats_of same ∙ sym q.stats_are)
     (p.missing_is ∙ ap (missing_of o) same ∙ sym q.missing_is)
     (p.header_line_is ∙ ap (header_line_of o) same ∙ sym q.header_line_is)

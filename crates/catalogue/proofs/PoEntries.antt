@@ -11,13 +11,22 @@ use Rattle.catalogue.proofs.Members.{has_head, has_tail}
 
 lacks_from : (byte : ℕ) (text : List ℕ) → ¬ Contains text byte → Lacks byte text
 lacks_from byte [] none = tt
-lacks_from byte (b ∷ text) none = ((λ e. none (has_head byte b text e)), lacks_from byte text (λ h. none (has_tail byte b text h)))
+lacks_from byte (b ∷ text) none = (
+  (λ e. none (has_head byte b text e)),
+  lacks_from byte text
+      (λ h. none (has_tail byte b text h)),
+)
 
 is_text : (text : List ℕ) → spelling.IsLawful text → IsText text
 is_text text lawful = record { utf8 = lawful.utf8; no_nul = lacks_from 0 text lawful.no_nul }
 
 is_key_text : (text : List ℕ) → spelling.IsLawful text → ¬ Contains text 4 → IsKeyText text
-is_key_text text lawful none = record { utf8 = lawful.utf8; no_nul = lacks_from 0 text lawful.no_nul; no_separator = lacks_from 4 text none }
+is_key_text text lawful none = record {
+  utf8 = lawful.utf8;
+  no_nul = lacks_from 0 text lawful.no_nul;
+  no_separator =
+      lacks_from 4 text none;
+}
 
 context_text : (context : Option (List ℕ)) → IsLawfulIf context → HasNoFourIf context → IfSome context IsKeyText
 context_text None lawful none = tt
@@ -31,7 +40,8 @@ form_texts : (forms : List (List ℕ)) → AllByRecursion spelling.IsLawful form
 form_texts [] lawful = tt
 form_texts (form ∷ forms) lawful = (is_text form lawful.0, form_texts forms lawful.1)
 
-forms_counted : (plural : Option (List ℕ)) (forms : List (List ℕ)) → forms ≢ [] → (plural ≡ None → length forms ≡ 1) → HasForms plural forms
+forms_counted : (plural : Option (List ℕ)) (forms : List (List ℕ)) → forms ≢ [] → (plural ≡ None → length forms ≡ 1)
+    → HasForms plural forms
 forms_counted None forms some one = one refl
 forms_counted (Some plural) [] some one = absurd (some refl)
 forms_counted (Some plural) (form ∷ forms) some one = omega arith

@@ -1,5 +1,6 @@
 -- Private: what the compiler's own functions promise of the entries until they are in order.
-use Rattle.std.specs.Prelude.{◌≡◌, ℕ, ◌+◌, ◌<◌, ◌≤◌, Bool, List, [], ◌∷◌, length, map, Option, Some, None, option_map, if◌then◌else◌, ◌&&◌, nat_lt, true, false, is_some, ◌==◌}
+use Rattle.std.specs.Prelude.{◌≡◌, ℕ, ◌+◌, ◌<◌, ◌≤◌, Bool, List, [], ◌∷◌, length, map, Option, Some, None, option_map}
+use Rattle.std.specs.Prelude.{if◌then◌else◌, ◌&&◌, nat_lt, true, false, is_some, ◌==◌}
 use denote.Ref.{Bor}
 use Rattle.std.specs.Str.{bytes_eq}
 use Rattle.std.specs.List.{slice_index_or, slice_split, find, AllByRecursion}
@@ -36,7 +37,14 @@ abbrev pub kept_texts : Texts → Kept
 kept_texts t = (option_map (λ s. s.now) t.plural, t.translation.now)
 
 abbrev pub outline : Draft → Outline
-outline d = record { number = d.number; line = d.line; key = d.key; standing = d.standing; texts = option_map kept_texts d.texts }
+outline d = record {
+  number = d.number;
+  line = d.line;
+  key = d.key;
+  standing = d.standing;
+  texts = option_map kept_texts
+      d.texts;
+}
 
 abbrev pub outlines : List Draft → List Outline
 outlines drafts = map outline drafts

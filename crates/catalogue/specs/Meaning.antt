@@ -1,5 +1,6 @@
 -- What a PO text means to the compiler: a catalogue with its counts, or a refusal (manual, "msgfmt Invocation").
-use Rattle.std.specs.Prelude.{◌≡◌, ℕ, ◌&&◌, not, is_none, Bool, if◌then◌else◌, false, List, [], ◌∷◌, map, All, Contains, Option, Some, None}
+use Rattle.std.specs.Prelude.{◌≡◌, ℕ, ◌&&◌, not, is_none, Bool, if◌then◌else◌, false, List, [], ◌∷◌, map, All, Contains}
+use Rattle.std.specs.Prelude.{Option, Some, None}
 use Rattle.std.specs.List.{filter, count_by}
 use Rattle.po_text.specs.Entries as po
 use Rattle.po_text.specs.Outcome as po_outcome
@@ -8,11 +9,13 @@ use Rattle.po_header.specs.Fields.{field_value}
 use Rattle.po_header.specs.declared.fields.TheConstants.{FIELD_NAMES}
 use Rattle.mo_image.specs.Entry.{Entry, key}
 use Rattle.mo_image.specs.Map.{Rises}
-pub use Rattle.po_checks.specs.Kept.{message_of, key_of, is_header, is_untranslated, is_kept, kept, kept_header, header_line_of, header_text_of, HasHeaderRule, NamesCharset}
+pub use Rattle.po_checks.specs.Kept.{message_of, key_of, is_header, is_untranslated, is_kept, kept, kept_header}
+pub use Rattle.po_checks.specs.Kept.{header_line_of, header_text_of, HasHeaderRule, NamesCharset}
 pub use Rattle.po_checks.specs.Fails.{Fails, IsFirst, rank}
 use Rattle.po_checks.specs.declared.options.Options.{Options}
 use Rattle.po_checks.specs.declared.fault.LoadKind.{LoadKind}
-use Rattle.po_checks.specs.declared.fault.LoadKind.TheVariants.{TooLarge, NotUtf8, BadEscape, OpenString, BadWord, BadText, BadOrder, BadIndex}
+use Rattle.po_checks.specs.declared.fault.LoadKind.TheVariants.{TooLarge, NotUtf8, BadEscape, OpenString, BadWord}
+use Rattle.po_checks.specs.declared.fault.LoadKind.TheVariants.{BadText, BadOrder, BadIndex}
 use Rattle.catalogue.specs.declared.compiler.Stats.{Stats}
 use Rattle.catalogue.specs.declared.compiler.Compiled.{Compiled}
 
@@ -22,7 +25,8 @@ pub record IsMapOf (entries : List po.Entry) (m : List Entry) : Type 0 where
   pub listed : All (Contains m) (map message_of entries)
   pub nothing_else : All (Contains (map message_of entries)) m
 
--- what the statistics count: entries other than the header, and what of them is untranslated, else fuzzy, else translated
+-- what the statistics count: entries other than the header, and what of them is untranslated, else fuzzy, else
+-- translated
 abbrev pub counted : List po.Entry → List po.Entry
 counted entries = filter (λ e. not (is_header e)) entries
 
@@ -74,4 +78,5 @@ Refuses text options BadWord line = po_outcome.Refuses text po_kind.BadWord line
 Refuses text options BadText line = po_outcome.Refuses text po_kind.BadText line
 Refuses text options BadOrder line = po_outcome.Refuses text po_kind.BadOrder line
 Refuses text options BadIndex line = po_outcome.Refuses text po_kind.BadIndex line
-Refuses text options kind line = (entries : List po.Entry) × po_outcome.Gives text entries × IsFirst (Fails options entries) kind line
+Refuses text options kind line = (entries : List po.Entry) × po_outcome.Gives text entries
+    × IsFirst (Fails options entries) kind line

@@ -1,5 +1,6 @@
 -- Private: the texts of the entries that were read, in one text: those of one entry behind those of another.
-use Rattle.std.specs.Prelude.{◌≡◌, ℕ, ◌+◌, ◌≤◌, List, [], ◌∷◌, ◌++◌, length, map, take, drop, ⊤, Option, Some, None, option_map, IfSome}
+use Rattle.std.specs.Prelude.{◌≡◌, ℕ, ◌+◌, ◌≤◌, List, [], ◌∷◌, ◌++◌, length, map, take, drop, ⊤, Option, Some, None}
+use Rattle.std.specs.Prelude.{option_map, IfSome}
 use Rattle.std.specs.List.{AllByRecursion, flat_map}
 use Rattle.std.specs.Str.{IsUtf8}
 use Rattle.po_text.specs.Entries as po
@@ -98,7 +99,8 @@ pub record AreTextsOf (texts : List ℕ) (spans : List Span) (rs : List Outline)
   pub spans_are : spans ≡ map span_of rs
 
 -- the texts, their spans and the findings are those of the entries that the text gives
-pub record HasGathered (text : List ℕ) (options : Options) (texts : List ℕ) (spans : List Span) (findings : Findings) : Type 0 where
+pub record HasGathered (text : List ℕ) (options : Options) (texts : List ℕ) (spans : List Span) (findings : Findings) :
+    Type 0 where
   pub entries : List po.Entry
   pub gives : Gives text entries
   pub texts_are : AreTextsOf texts spans (outlines_from options 0 entries)

@@ -7,7 +7,8 @@ ghost use Rattle.po_checks.specs.Kept.{message_of};
 ghost use Rattle.catalogue.specs.Meaning.{Refuses};
 ghost use Rattle.catalogue.specs.Drafts as Drafts;
 ghost use Rattle.catalogue.specs.Drafts.{outline_of, texts_if_kept};
-ghost use Rattle.catalogue.specs.Spans.{bytes_if_kept, kept_bytes, kept_span, plural_bytes, span_of, stored, HasGathered};
+ghost use Rattle.catalogue.specs.Spans.{bytes_if_kept, kept_bytes, kept_span, plural_bytes, span_of, stored};
+ghost use Rattle.catalogue.specs.Spans.{HasGathered};
 ghost use Rattle.po_checks.specs.declared.fault.LoadKind.TheVariants.{Memory};
 
 use crate::drafts::Standing;
@@ -58,7 +59,8 @@ fn add_plural(texts: &mut String, entry: &EntryBuffer) -> Result<Option<usize>, 
 
 /// Adds the forms, with NUL between them, and says how many bytes they are.
 fn add_forms(texts: &mut String, entry: &EntryBuffer) -> Result<usize, AllocError>
-    ensures added { OnOk result (string_bytes texts.new ≡ string_bytes texts.old ++ translation (message_of entry.now)) }
+    ensures added { OnOk result (string_bytes texts.new ≡ string_bytes texts.old
+        ++ translation (message_of entry.now)) }
     ensures len { IfOk result (λ len. len ≡ length (translation (message_of entry.now))) }
 {
     let start = texts.len();
@@ -70,7 +72,8 @@ fn add_forms(texts: &mut String, entry: &EntryBuffer) -> Result<usize, AllocErro
 
 /// Adds what a catalogue keeps of an entry beside its key, and says how long it is.
 fn add_kept(texts: &mut String, entry: &EntryBuffer) -> Result<KeptSpan, AllocError>
-    ensures added { OnOk result (string_bytes texts.new ≡ string_bytes texts.old ++ kept_bytes (Drafts.texts_of entry.now)) }
+    ensures added { OnOk result (string_bytes texts.new ≡ string_bytes texts.old
+        ++ kept_bytes (Drafts.texts_of entry.now)) }
     ensures span { IfOk result (λ span. span ≡ kept_span (Drafts.texts_of entry.now)) }
 {
     Ok(KeptSpan {
@@ -86,7 +89,8 @@ fn add_if_kept(
     options: Options,
 ) -> Result<Option<KeptSpan>, AllocError>
     ensures lawful { IsLawfulTexts entry.now }
-    ensures added { OnOk result (string_bytes texts.new ≡ string_bytes texts.old ++ bytes_if_kept (texts_if_kept options entry.now)) }
+    ensures added { OnOk result (string_bytes texts.new ≡ string_bytes texts.old
+        ++ bytes_if_kept (texts_if_kept options entry.now)) }
     ensures span { IfOk result (λ span. span ≡ option_map kept_span (texts_if_kept options entry.now)) }
 {
     if !is_kept(entry, options) {
@@ -99,7 +103,8 @@ fn add_if_kept(
 /// Adds the texts of an entry to those before, and gives their span.
 fn add_entry(texts: &mut String, entry: &EntryBuffer, options: Options) -> Result<Span, AllocError>
     ensures lawful { OnOk result (IsLawfulTexts entry.now) }
-    ensures added { OnOk result (string_bytes texts.new ≡ string_bytes texts.old ++ stored (outline_of options 0 entry.now)) }
+    ensures added { OnOk result (string_bytes texts.new ≡ string_bytes texts.old
+        ++ stored (outline_of options 0 entry.now)) }
     ensures span { IfOk result (λ span. span ≡ span_of (outline_of options 0 entry.now)) }
 {
     Ok(Span {
@@ -123,7 +128,8 @@ pub(crate) struct Collected {
 
 /// Reads the entries of a text.
 pub(crate) fn collect(alloc: Global, text: &[u8], options: Options) -> Result<Collected, LoadFault>
-    ensures ok { IfOk result (λ collected. HasGathered text.now options (string_bytes collected.texts) collected.spans.items collected.findings) }
+    ensures ok { IfOk result (λ collected. HasGathered text.now options (string_bytes collected.texts)
+        collected.spans.items collected.findings) }
     ensures err { IfErr result (λ fault. (fault.kind ≡ Memory) ⊎ Refuses text.now options fault.kind fault.line) }
 {
     let mut reader = open_text(alloc, text)?;

@@ -1,5 +1,6 @@
 //! From a PO text to a catalogue.
-ghost use Rattle.std.specs.Prelude.{◌≡◌, ◌<◌, ◌^◌, ◌⊎◌, ◌↔◌, IfOk, IfErr, IfSome, IsTrue, if◌then◌else◌, length, option_map};
+ghost use Rattle.std.specs.Prelude.{◌≡◌, ◌<◌, ◌^◌, ◌⊎◌, ◌↔◌, IfOk, IfErr, IfSome, IsTrue, if◌then◌else◌, length};
+ghost use Rattle.std.specs.Prelude.{option_map};
 ghost use Rattle.std.specs.List.{count_by};
 ghost use Rattle.catalogue.specs.Drafts.{counts_as, outline};
 ghost use Rattle.mo_image.specs.Map.{HasAcceptedCharset};
@@ -43,7 +44,8 @@ fn stats_of(drafts: &[Draft<'_>]) -> Stats
     requires { length drafts.now < 2 ^ 32 }
     ensures translated { result.translated ≡ count_by (λ d. counts_as Standing.Translated (outline d)) drafts.now }
     ensures fuzzy { result.fuzzy ≡ count_by (λ d. counts_as Standing.Fuzzy (outline d)) drafts.now }
-    ensures untranslated { result.untranslated ≡ count_by (λ d. counts_as Standing.Untranslated (outline d)) drafts.now }
+    ensures untranslated { result.untranslated
+        ≡ count_by (λ d. counts_as Standing.Untranslated (outline d)) drafts.now }
 {
     Stats {
         translated: count(drafts, Standing::Translated) as u32,
@@ -64,7 +66,8 @@ fn is_accepted(header: Option<&str>) -> bool
 
 /// Which of the eight header fields the header's text lacks, if there is one; none at the unchecked level.
 fn missing_in(header: Option<&str>, options: Options) -> [bool; 8]
-    ensures { result ≡ (if options.checked then lacking (option_map (λ text. text.now) header.entry) else none_missing) }
+    ensures { result
+        ≡ (if options.checked then lacking (option_map (λ text. text.now) header.entry) else none_missing) }
 {
     match header {
         Some(text) if options.checked => missing_fields(text),

@@ -3,7 +3,8 @@ ghost use Rattle.std.specs.Prelude.{◌≡◌, ◌<◌, ◌+◌, ◌^◌, ℕ, l
 ghost use Rattle.std.specs.List.{count_by, filter_map, find};
 ghost use Rattle.std.specs.Option.{option_map_or};
 ghost use Rattle.std.specs.List.Sorted.{IsPermutation, IsSortedBy};
-ghost use Rattle.catalogue.specs.Drafts.{comes_before, drafts_entries, header_text_in, kept_entry, outline, outline_cmp, outline_if, outline_text, outlines, FirstRepeat};
+ghost use Rattle.catalogue.specs.Drafts.{comes_before, drafts_entries, header_text_in, kept_entry, outline};
+ghost use Rattle.catalogue.specs.Drafts.{outline_cmp, outline_if, outline_text, outlines, FirstRepeat};
 ghost use Rattle.catalogue.specs.Drafts as Drafts;
 
 use mo_image::{EntryList, EntryStrings, split_form};

@@ -74,14 +74,16 @@ impl Catalogue {
     /// in the catalogue's header; the first form, where the entry has no such form. Where there is no
     /// entry, the msgid for 1, and the plural for other numbers.
     pub fn ngettext<'a>(&'a self, id: &'a str, plural: &'a str, n: u64) -> &'a str
-        ensures { IsCounted self.now (entry_at self.now (key_bytes None id.now)) n (text_by n id.now plural.now) result.now }
+        ensures { IsCounted self.now (entry_at self.now (key_bytes None id.now)) n (text_by n id.now plural.now)
+            result.now }
     {
         self.counted(self.find(None, id), id, plural, n)
     }
 
     /// The same of a message in a context.
     pub fn npgettext<'a>(&'a self, context: &str, id: &'a str, plural: &'a str, n: u64) -> &'a str
-        ensures { IsCounted self.now (entry_at self.now (key_bytes (Some context.now) id.now)) n (text_by n id.now plural.now) result.now }
+        ensures { IsCounted self.now (entry_at self.now (key_bytes (Some context.now) id.now)) n
+            (text_by n id.now plural.now) result.now }
     {
         self.counted(self.find(Some(context), id), id, plural, n)
     }

@@ -45,7 +45,8 @@ impl Message {
 
     /// The strings of the message, as an MO file has them.
     fn into_strings(self, alloc: Global) -> Result<OwnedStrings, AllocError>
-        ensures { let e = message_entry self in IfOk result (λ strings. stored_entry strings ≡ entry_from (key e) e.plural (translation e)) }
+        ensures { let e = message_entry self in IfOk result (λ strings. stored_entry strings
+            ≡ entry_from (key e) e.plural (translation e)) }
     {
         let key = joined_key(alloc, self.context(), self.id.as_str())?;
         let translation = translation_of(alloc, self.forms.as_slice())?;

@@ -1,7 +1,8 @@
 //! The texts of the entries that were read, in one text: those of one entry behind those of another.
 ghost use Rattle.std.specs.Prelude.{◌≡◌, IfOk, drop, option_map};
 ghost use Rattle.catalogue.specs.Drafts.{kept_texts, outline, outlines};
-ghost use Rattle.catalogue.specs.Spans.{kept_at, kept_size, plural_at, plural_size, outline_at, outlines_at, size, Holds, HoldsAll, HoldsKept, HoldsPlural};
+ghost use Rattle.catalogue.specs.Spans.{kept_at, kept_size, plural_at, plural_size, outline_at, outlines_at, size};
+ghost use Rattle.catalogue.specs.Spans.{Holds, HoldsAll, HoldsKept, HoldsPlural};
 
 use crate::drafts::{Draft, Standing, Texts};
 use std::alloc::{AllocError, Global};

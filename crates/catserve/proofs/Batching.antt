@@ -1,5 +1,6 @@
 -- Batches behind one another, and answers one after another.
-use Rattle.std.proofs.Common.{◌≡◌, ◌∙◌, refl, sym, ap, subst, ℕ, List, [], ◌∷◌, ◌++◌, length, arith, append_assoc, length-append}
+use Rattle.std.proofs.Common.{◌≡◌, ◌∙◌, refl, sym, ap, subst, ℕ, List, [], ◌∷◌, ◌++◌, length, arith, append_assoc}
+use Rattle.std.proofs.Common.{length-append}
 use Rattle.std.proofs.lemmas.List.{append-nil}
 use Rattle.std.specs.List.{AllZip, flat_map}
 use Rattle.live_set.specs.Loads.{LoadValue}
@@ -26,24 +27,36 @@ same_loads a b (r, e) same =
     let f : joined a ≡ joined b ++ joined r = ap joined e ∙ joined-append b r in
     f ∙ no_more (joined b) (joined r) (sym (ap length f) ∙ same)
 
-pub AllZip-snoc : {A B : Type 0} (R : A → B → Type 0) (xs : List A) (ys : List B) (x : A) (y : B) → AllZip R xs ys → R x y → AllZip R (xs ++ x ∷ []) (ys ++ y ∷ [])
+pub AllZip-snoc : {A B : Type 0} (R : A → B → Type 0) (xs : List A) (ys : List B) (x : A) (y : B) → AllZip R xs ys
+    → R x y → AllZip R (xs ++ x ∷ []) (ys ++ y ∷ [])
 AllZip-snoc R [] [] x y h r = (r, tt)
 AllZip-snoc R [] (v ∷ ys) x y h r = absurd h
 AllZip-snoc R (u ∷ xs) [] x y h r = absurd h
 AllZip-snoc R (u ∷ xs) (v ∷ ys) x y h r = (h.0, AllZip-snoc R xs ys x y h.1 r)
 
-pub flat_map-snoc : {A B : Type 0} (f : A → List B) (xs : List A) (x : A) → flat_map f (xs ++ x ∷ []) ≡ flat_map f xs ++ f x
+pub flat_map-snoc : {A B : Type 0} (f : A → List B) (xs : List A) (x : A) → flat_map f (xs ++ x ∷ []) ≡ flat_map f xs
+    ++ f x
 flat_map-snoc f [] x = append-nil (f x)
-flat_map-snoc f (y ∷ ys) x = ap (λ zs. f y ++ zs) (flat_map-snoc f ys x) ∙ sym (append_assoc (f y) (flat_map f ys) (f x))
+flat_map-snoc f (y ∷ ys) x = ap (λ zs. f y ++ zs) (flat_map-snoc f ys x)
+    ∙ sym (append_assoc (f y) (flat_map f ys) (f x))
 
 pub no_answers : (loads : List LoadValue) (worker : ℕ) → Answers loads worker [] []
 no_answers loads worker = ([], tt, refl)
 
-pub one_answer_more : (loads : List LoadValue) (worker : ℕ) (queries : List QueryValue) (query : QueryValue) (before after : List ℕ) → Answers loads worker queries before → AnswersOne loads worker query before after → Answers loads worker (queries ++ query ∷ []) after
-one_answer_more loads worker queries query before after (texts, each, is) one =
-    (texts ++ one.text ∷ [], AllZip-snoc (IsAnswer loads) queries texts query one.text each one.is, one.written ∙ ap (λ zs. zs ++ answer_line worker (length loads) one.text) is ∙ sym (flat_map-snoc (answer_line worker (length loads)) texts one.text))
+pub one_answer_more : (loads : List LoadValue) (worker : ℕ) (queries : List QueryValue) (query : QueryValue)
+    (before after : List ℕ) → Answers loads worker queries before → AnswersOne loads worker query before after
+    → Answers loads worker (queries ++ query ∷ []) after
+one_answer_more loads worker queries query before after (texts, each, is) one = (
+  texts ++ one.text ∷ [],
+  AllZip-snoc (IsAnswer loads) queries texts query one.text each one.is,
+  one.written
+      ∙ ap (λ zs. zs ++ answer_line worker (length loads) one.text) is
+      ∙ sym (flat_map-snoc (answer_line worker (length loads)) texts one.text),
+)
 
-pub answers_one : (a b : List (List LoadValue)) (worker version : ℕ) (query : QueryValue) (text before after : List ℕ) → StartsWith a b → version ≡ version_of a → version ≡ version_of b → IsAnswer (joined a) query text → after ≡ before ++ answer_line worker version text → AnswersOne (joined b) worker query before after
+pub answers_one : (a b : List (List LoadValue)) (worker version : ℕ) (query : QueryValue) (text before after : List ℕ)
+    → StartsWith a b → version ≡ version_of a → version ≡ version_of b → IsAnswer (joined a) query text → after ≡ before
+    ++ answer_line worker version text → AnswersOne (joined b) worker query before after
 answers_one a b worker version query text before after starts of_a of_b is written =
     let same = same_loads a b starts (sym of_a ∙ of_b) in
     let P : List LoadValue → Type 0 = λ loads. IsAnswer loads query text in

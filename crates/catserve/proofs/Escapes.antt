@@ -1,5 +1,7 @@
 -- Texts with escapes.
-use Rattle.std.proofs.Common.{◌≡◌, ◌≢◌, ◌∙◌, refl, sym, ap, ℕ, suc, ◌+◌, ◌<◌, ◌||◌, if◌then◌else◌, Bool, true, false, eqb, List, [], ◌∷◌, ◌++◌, length, get_or, take, drop, ◌-◌, add-one, drop-cons, length-take, Option, Some, None, Result, Ok, Err, OnOk, arith, append_assoc}
+use Rattle.std.proofs.Common.{◌≡◌, ◌≢◌, ◌∙◌, refl, sym, ap, ℕ, suc, ◌+◌, ◌<◌, ◌||◌, if◌then◌else◌, Bool, true, false}
+use Rattle.std.proofs.Common.{eqb, List, [], ◌∷◌, ◌++◌, length, get_or, take, drop, ◌-◌, add-one, drop-cons}
+use Rattle.std.proofs.Common.{length-take, Option, Some, None, Result, Ok, Err, OnOk, arith, append_assoc}
 use Rattle.std.specs.Option.{option_map, option_and_then}
 use Rattle.std.specs.Result.{is_ok}
 use Rattle.std.proofs.lemmas.Bool.{ne_eqb}
@@ -13,7 +15,8 @@ use Rattle.catserve.specs.Output.{escape, escaped}
 use Rattle.catserve.proofs.Cutting.{cut_get}
 
 -- a text that begins with none of the letters
-pub no_escape : (text : List ℕ) → ((rest : List ℕ) → text ≢ 110 ∷ rest) → ((rest : List ℕ) → text ≢ 116 ∷ rest) → ((rest : List ℕ) → text ≢ 92 ∷ rest) → SplitsEscape None text
+pub no_escape : (text : List ℕ) → ((rest : List ℕ) → text ≢ 110 ∷ rest) → ((rest : List ℕ) → text ≢ 116 ∷ rest)
+    → ((rest : List ℕ) → text ≢ 92 ∷ rest) → SplitsEscape None text
 no_escape text n t b letter rest e =
     let no_n : letter ≢ 110 = λ is. n rest (e ∙ ap (λ l. l ∷ rest) is) in
     let no_t : letter ≢ 116 = λ is. t rest (e ∙ ap (λ l. l ∷ rest) is) in
@@ -21,16 +24,19 @@ no_escape text n t b letter rest e =
     rw (ne_eqb letter 110 no_n, ne_eqb letter 116 no_t, ne_eqb letter 92 no_b) refl
 
 -- bytes without a backslash stand for themselves
-pub unescaped-plain : (plain rest : List ℕ) → ((k : ℕ) → k < length plain → get_or plain k 0 ≢ 92) → unescaped (plain ++ rest) ≡ option_map (λ more. plain ++ more) (unescaped rest)
+pub unescaped-plain : (plain rest : List ℕ) → ((k : ℕ) → k < length plain → get_or plain k 0 ≢ 92)
+    → unescaped (plain ++ rest) ≡ option_map (λ more. plain ++ more) (unescaped rest)
 unescaped-plain [] rest none = map-same (unescaped rest) where
   map-same : (o : Option (List ℕ)) → o ≡ option_map (λ more. [] ++ more) o
   map-same None = refl
   map-same (Some x) = refl
 unescaped-plain (b ∷ plain) rest none =
     let other : eqb b 92 ≡ false = ne_eqb b 92 (none 0 (omega arith)) in
-    unescaped-cons b (plain ++ rest) other ∙ ap (λ o. option_map (λ more. b ∷ more) o) (unescaped-plain plain rest (λ k lt. none (suc k) (omega arith))) ∙ map-map (unescaped rest)
+    unescaped-cons b (plain ++ rest) other ∙ ap (λ o. option_map (λ more. b ∷ more) o)
+    (unescaped-plain plain rest (λ k lt. none (suc k) (omega arith))) ∙ map-map (unescaped rest)
   where
-    unescaped-cons : (b : ℕ) (text : List ℕ) → eqb b 92 ≡ false → unescaped (b ∷ text) ≡ option_map (λ more. b ∷ more) (unescaped text)
+    unescaped-cons : (b : ℕ) (text : List ℕ) → eqb b 92 ≡ false → unescaped (b ∷ text)
+        ≡ option_map (λ more. b ∷ more) (unescaped text)
     unescaped-cons b [] other = rw other refl
     unescaped-cons b (c ∷ text) other = rw other (bind-map (unescaped (c ∷ text)))
       where
@@ -38,7 +44,8 @@ unescaped-plain (b ∷ plain) rest none =
         bind-map None = refl
         bind-map (Some x) = refl
 
-    map-map : (o : Option (List ℕ)) → option_map (λ more. b ∷ more) (option_map (λ more. plain ++ more) o) ≡ option_map (λ more. (b ∷ plain) ++ more) o
+    map-map : (o : Option (List ℕ)) → option_map (λ more. b ∷ more) (option_map (λ more. plain ++ more) o)
+        ≡ option_map (λ more. (b ∷ plain) ++ more) o
     map-map None = refl
     map-map (Some x) = refl
 
@@ -48,35 +55,47 @@ bind-map : (b : ℕ) (o : Option (List ℕ)) → option_and_then (λ rest. Some 
 bind-map b None = refl
 bind-map b (Some x) = refl
 
-map-map : (xs ys : List ℕ) (o : Option (List ℕ)) → option_map (λ more. xs ++ more) (option_map (λ more. ys ++ more) o) ≡ option_map (λ more. (xs ++ ys) ++ more) o
+map-map : (xs ys : List ℕ) (o : Option (List ℕ)) → option_map (λ more. xs ++ more) (option_map (λ more. ys ++ more) o)
+    ≡ option_map (λ more. (xs ++ ys) ++ more) o
 map-map xs ys None = refl
 map-map xs ys (Some x) = ap (λ zs. Some zs) (sym (append_assoc xs ys x))
 
 -- a backslash, a letter, and what follows
-unescaped-escape : (letter byte : ℕ) (after : List ℕ) → escaped_byte letter ≡ Some byte → unescaped (92 ∷ letter ∷ after) ≡ option_map (λ more. (byte ∷ []) ++ more) (unescaped after)
+unescaped-escape : (letter byte : ℕ) (after : List ℕ) → escaped_byte letter ≡ Some byte
+    → unescaped (92 ∷ letter ∷ after) ≡ option_map (λ more. (byte ∷ []) ++ more) (unescaped after)
 unescaped-escape letter byte after e = rw e (bind-map byte (unescaped after))
 
 -- one more part without a backslash, and an escape behind it
-pub reads_more : (field bytes rest plain behind after : List ℕ) (letter byte : ℕ) → unescaped field ≡ option_map (λ more. bytes ++ more) (unescaped rest) → rest ≡ plain ++ 92 ∷ behind → ((k : ℕ) → k < length plain → get_or plain k 0 ≢ 92) → behind ≡ letter ∷ after → escaped_byte letter ≡ Some byte → unescaped field ≡ option_map (λ more. ((bytes ++ plain) ++ (byte ∷ [])) ++ more) (unescaped after)
+pub reads_more : (field bytes rest plain behind after : List ℕ) (letter byte : ℕ) → unescaped field
+    ≡ option_map (λ more. bytes ++ more) (unescaped rest) → rest ≡ plain ++ 92 ∷ behind
+    → ((k : ℕ) → k < length plain → get_or plain k 0 ≢ 92) → behind ≡ letter ∷ after → escaped_byte letter ≡ Some byte
+    → unescaped field ≡ option_map (λ more. ((bytes ++ plain) ++ (byte ∷ [])) ++ more) (unescaped after)
 reads_more field bytes rest plain behind after letter byte h cut none e is =
-    let one : unescaped rest ≡ option_map (λ more. plain ++ more) (unescaped (92 ∷ letter ∷ after)) = rw (cut, e) (unescaped-plain plain (92 ∷ letter ∷ after) none) in
-    h ∙ ap (λ o. option_map (λ more. bytes ++ more) o) (one ∙ ap (λ o. option_map (λ more. plain ++ more) o) (unescaped-escape letter byte after is))
+    let one : unescaped rest ≡ option_map (λ more. plain ++ more) (unescaped (92 ∷ letter ∷ after)) = rw (cut, e)
+    (unescaped-plain plain (92 ∷ letter ∷ after) none) in
+    h ∙ ap (λ o. option_map (λ more. bytes ++ more) o) (one ∙ ap (λ o. option_map (λ more. plain ++ more) o)
+    (unescaped-escape letter byte after is))
     ∙ ap (λ o. option_map (λ more. bytes ++ more) o) (map-map plain (byte ∷ []) (unescaped after))
     ∙ map-map bytes (plain ++ byte ∷ []) (unescaped after)
     ∙ ap (λ front. option_map (λ more. front ++ more) (unescaped after)) (sym (append_assoc bytes plain (byte ∷ [])))
 
 -- a backslash behind which no letter stands
-pub reads_none : (field bytes rest plain behind : List ℕ) → unescaped field ≡ option_map (λ more. bytes ++ more) (unescaped rest) → rest ≡ plain ++ 92 ∷ behind → ((k : ℕ) → k < length plain → get_or plain k 0 ≢ 92) → SplitsEscape None behind → unescaped field ≡ None
+pub reads_none : (field bytes rest plain behind : List ℕ) → unescaped field
+    ≡ option_map (λ more. bytes ++ more) (unescaped rest) → rest ≡ plain ++ 92 ∷ behind
+    → ((k : ℕ) → k < length plain → get_or plain k 0 ≢ 92) → SplitsEscape None behind → unescaped field ≡ None
 reads_none field bytes rest plain behind h cut none bad =
-    let one : unescaped rest ≡ option_map (λ more. plain ++ more) (unescaped (92 ∷ behind)) = rw cut (unescaped-plain plain (92 ∷ behind) none) in
-    h ∙ ap (λ o. option_map (λ more. bytes ++ more) o) (one ∙ ap (λ o. option_map (λ more. plain ++ more) o) (is_none behind bad))
+    let one : unescaped rest ≡ option_map (λ more. plain ++ more) (unescaped (92 ∷ behind)) = rw cut
+    (unescaped-plain plain (92 ∷ behind) none) in
+    h ∙ ap (λ o. option_map (λ more. bytes ++ more) o) (one ∙ ap (λ o. option_map (λ more. plain ++ more) o)
+    (is_none behind bad))
   where
     is_none : (behind : List ℕ) → SplitsEscape None behind → unescaped (92 ∷ behind) ≡ None
     is_none [] bad = refl
     is_none (letter ∷ after) bad = rw (bad letter after refl) refl
 
 -- the last part has no backslash
-pub reads_all : (field bytes rest : List ℕ) → unescaped field ≡ option_map (λ more. bytes ++ more) (unescaped rest) → ((k : ℕ) → k < length rest → get_or rest k 0 ≢ 92) → unescaped field ≡ Some (bytes ++ rest)
+pub reads_all : (field bytes rest : List ℕ) → unescaped field ≡ option_map (λ more. bytes ++ more) (unescaped rest)
+    → ((k : ℕ) → k < length rest → get_or rest k 0 ≢ 92) → unescaped field ≡ Some (bytes ++ rest)
 reads_all field bytes rest h none =
     let last : unescaped rest ≡ Some rest = rw (← append-nil rest) (unescaped-plain rest [] none) in
     h ∙ ap (λ o. option_map (λ more. bytes ++ more) o) last
@@ -94,33 +113,48 @@ escape-plain : (b : ℕ) → (is_in (10 ∷ 9 ∷ 92 ∷ []) b ≡ true → ⊥)
 unfolding is_in
 escape-plain b none = of_tests (eqb b 10) (eqb b 9) (eqb b 92) none
   where
-    of_tests : (x y z : Bool) → ((x || (y || (z || false))) ≡ true → ⊥) → if x then 92 ∷ 110 ∷ [] else if y then 92 ∷ 116 ∷ [] else if z then 92 ∷ 92 ∷ [] else b ∷ [] ≡ b ∷ []
+    of_tests : (x y z : Bool) → ((x || (y || (z || false))) ≡ true → ⊥) → if x then 92 ∷ 110 ∷ [] else if y then 92
+        ∷ 116 ∷ [] else if z then 92 ∷ 92 ∷ [] else b ∷ [] ≡ b ∷ []
     of_tests true y z none = absurd (none refl)
     of_tests false true z none = absurd (none refl)
     of_tests false false true none = absurd (none refl)
     of_tests false false false none = refl
 
 -- bytes that need none are written as they are
-escaped-plain : (run : List ℕ) → ((k : ℕ) → k < length run → is_in (10 ∷ 9 ∷ 92 ∷ []) (get_or run k 0) ≡ true → ⊥) → escaped run ≡ run
+escaped-plain : (run : List ℕ) → ((k : ℕ) → k < length run → is_in (10 ∷ 9 ∷ 92 ∷ []) (get_or run k 0) ≡ true → ⊥)
+    → escaped run ≡ run
 escaped-plain [] none = refl
-escaped-plain (b ∷ run) none = rw (escape-plain b (none 0 (omega arith)), escaped-plain run (λ k lt. none (suc k) (omega arith))) refl
+escaped-plain (b ∷ run) none = rw (
+  escape-plain b (none 0 (omega arith)),
+  escaped-plain run
+      (λ k lt. none (suc k) (omega arith)),
+) refl
 
 -- the bytes before the first that needs an escape, that byte, and what follows
-escaped-at : (rest : List ℕ) (at : ℕ) → IsFirstByte (is_in (10 ∷ 9 ∷ 92 ∷ [])) rest (Some at) → escaped rest ≡ take at rest ++ (escape (get_or rest at 0) ++ escaped (drop (at + 1) rest))
+escaped-at : (rest : List ℕ) (at : ℕ) → IsFirstByte (is_in (10 ∷ 9 ∷ 92 ∷ [])) rest (Some at) → escaped rest
+    ≡ take at rest ++ (escape (get_or rest at 0) ++ escaped (drop (at + 1) rest))
 escaped-at rest at found =
     let lt : at < length rest = found.0.high in
     let run = take at rest in
-    let plain : escaped run ≡ run = escaped-plain run (λ k below. rw (cut_get at rest k below) (found.0.before k (omega arith) (omega (arith, length-take at rest, below)))) in
+    let plain : escaped run ≡ run = escaped-plain run (λ k below. rw (cut_get at rest k below)
+    (found.0.before k (omega arith) (omega (arith, length-take at rest, below)))) in
     let next : drop at rest ≡ get_or rest at 0 ∷ drop (at + 1) rest = rw add-one (drop-cons rest at 0 lt) in
-    ap escaped (sym (take-append-drop at rest)) ∙ flat_map-append escape run (drop at rest) ∙ ap (λ front. front ++ escaped (drop at rest)) plain ∙ ap (λ behind. run ++ escaped behind) next
+    ap escaped (sym (take-append-drop at rest)) ∙ flat_map-append escape run (drop at rest)
+    ∙ ap (λ front. front ++ escaped (drop at rest)) plain ∙ ap (λ behind. run ++ escaped behind) next
 
 -- a run and the escape behind it were written
-pub writes_more : (whole out with_run with_escape rest : List ℕ) (at : ℕ) → out ++ escaped rest ≡ whole → IsFirstByte (is_in (10 ∷ 9 ∷ 92 ∷ [])) rest (Some at) → with_run ≡ out ++ take at rest → with_escape ≡ with_run ++ escape (get_or rest at 0) → with_escape ++ escaped (take (length rest - (at + 1)) (drop (at + 1) rest)) ≡ whole
+pub writes_more : (whole out with_run with_escape rest : List ℕ) (at : ℕ) → out ++ escaped rest ≡ whole
+    → IsFirstByte (is_in (10 ∷ 9 ∷ 92 ∷ [])) rest (Some at) → with_run ≡ out ++ take at rest → with_escape ≡ with_run
+    ++ escape (get_or rest at 0) → with_escape ++ escaped (take (length rest - (at + 1)) (drop (at + 1) rest)) ≡ whole
 writes_more whole out with_run with_escape rest at h found e f =
     rw (take_rest rest (at + 1), f, e)
-    (append_assoc (out ++ take at rest) (escape (get_or rest at 0)) (escaped (drop (at + 1) rest)) ∙ append_assoc out (take at rest) _ ∙ ap (λ zs. out ++ zs) (sym (escaped-at rest at found)) ∙ h)
+    (append_assoc (out ++ take at rest) (escape (get_or rest at 0)) (escaped (drop (at + 1) rest))
+    ∙ append_assoc out (take at rest) _ ∙ ap (λ zs. out ++ zs) (sym (escaped-at rest at found)) ∙ h)
 
 -- the last run was written
-pub writes_all : {E : Type 0} (whole out with_run rest : List ℕ) (r : Result (Unit {0}) E) → out ++ escaped rest ≡ whole → IsFirstByte (is_in (10 ∷ 9 ∷ 92 ∷ [])) rest None → with_run ≡ if is_ok r then out ++ rest else out → OnOk r (with_run ≡ whole)
-writes_all whole out with_run rest (Ok x) h none e = e ∙ ap (λ zs. out ++ zs) (sym (escaped-plain rest (λ k lt. none k (omega arith) lt))) ∙ h
+pub writes_all : {E : Type 0} (whole out with_run rest : List ℕ) (r : Result (Unit {0}) E) → out ++ escaped rest ≡ whole
+    → IsFirstByte (is_in (10 ∷ 9 ∷ 92 ∷ [])) rest None → with_run ≡ if is_ok r then out ++ rest else out
+    → OnOk r (with_run ≡ whole)
+writes_all whole out with_run rest (Ok x) h none e = e ∙ ap (λ zs. out ++ zs)
+    (sym (escaped-plain rest (λ k lt. none k (omega arith) lt))) ∙ h
 writes_all whole out with_run rest (Err x) h none e = tt

@@ -1,5 +1,6 @@
 -- What `parse` reads of a text of digits.
-use Rattle.std.proofs.Common.{◌≡◌, refl, sym, ap, ℕ, ◌<◌, ◌^◌, true, false, ltb, List, length, Some, None, Result, Ok, Err, subst, rules, inl, inr}
+use Rattle.std.proofs.Common.{◌≡◌, refl, sym, ap, ℕ, ◌<◌, ◌^◌, true, false, ltb, List, length, Some, None, Result, Ok}
+use Rattle.std.proofs.Common.{Err, subst, rules, inl, inr}
 use Rattle.std.specs.List.{list_all}
 use Rattle.std.specs.Char.{is_ascii_digit}
 use Rattle.std.specs.Result.{OkIff}
@@ -16,17 +17,23 @@ pub no_digits : (text : List ℕ) → list_all is_ascii_digit text ≡ false →
 no_digits text other = rw other refl
 
 -- digits of which `parse` makes a number are that number
-pub some_number : {E : Type 0} (text : List ℕ) (r : Result ℕ E) (n : ℕ) → list_all is_ascii_digit text ≡ true → ParsesUnsigned 64 10 text r → r ≡ Ok n → number text ≡ Some n
+pub some_number : {E : Type 0} (text : List ℕ) (r : Result ℕ E) (n : ℕ) → list_all is_ascii_digit text ≡ true
+    → ParsesUnsigned 64 10 text r → r ≡ Ok n → number text ≡ Some n
 some_number {E} text r n digits parsed e =
-    let P : Result ℕ E → Type 0 = λ r. OkIff r ((0 < length text) × (digits_value 10 text < 2 ^ 64)) (digits_value 10 text) in
-    let h : ((0 < length text) × (digits_value 10 text < 2 ^ 64)) × (n ≡ digits_value 10 text) = subst P e (parse_digits own 64 text r parsed digits) in
+    let P : Result ℕ E → Type 0 = λ r. OkIff r ((0 < length text) × (digits_value 10 text < 2 ^ 64))
+    (digits_value 10 text) in
+    let h : ((0 < length text) × (digits_value 10 text < 2 ^ 64))
+    × (n ≡ digits_value 10 text) = subst P e (parse_digits own 64 text r parsed digits) in
     rw (digits, lt-ltb 0 (length text) h.0.0, lt-ltb (digits_value 10 text) (2 ^ 64) h.0.1) (ap (λ m. Some m) (sym h.1))
 
 -- and digits of which it makes none are no number
-pub no_number : {E : Type 0} (text : List ℕ) (r : Result ℕ E) (fault : E) → list_all is_ascii_digit text ≡ true → ParsesUnsigned 64 10 text r → r ≡ Err fault → number text ≡ None
+pub no_number : {E : Type 0} (text : List ℕ) (r : Result ℕ E) (fault : E) → list_all is_ascii_digit text ≡ true
+    → ParsesUnsigned 64 10 text r → r ≡ Err fault → number text ≡ None
 no_number {E} text r fault digits parsed e =
-    let P : Result ℕ E → Type 0 = λ r. OkIff r ((0 < length text) × (digits_value 10 text < 2 ^ 64)) (digits_value 10 text) in
-    let h : ¬ ((0 < length text) × (digits_value 10 text < 2 ^ 64)) = subst P e (parse_digits own 64 text r parsed digits) in
+    let P : Result ℕ E → Type 0 = λ r. OkIff r ((0 < length text) × (digits_value 10 text < 2 ^ 64))
+    (digits_value 10 text) in
+    let h : ¬ ((0 < length text) × (digits_value 10 text < 2 ^ 64)) = subst P e
+    (parse_digits own 64 text r parsed digits) in
     elim (cases_Bool (ltb 0 (length text))) [
       | inr none ↦ rw (digits, none) refl
       | inl some ↦ elim (cases_Bool (ltb (digits_value 10 text) (2 ^ 64))) [

@@ -1,5 +1,6 @@
 -- A text has one output.
-use Rattle.std.proofs.Common.{◌≡◌, ◌∙◌, refl, sym, ap, subst, ℕ, List, [], ◌∷◌, ◌++◌, length, Option, Some, None, Result, Ok, Err}
+use Rattle.std.proofs.Common.{◌≡◌, ◌∙◌, refl, sym, ap, subst, ℕ, List, [], ◌∷◌, ◌++◌, length, Option, Some, None}
+use Rattle.std.proofs.Common.{Result, Ok, Err}
 use Rattle.std.specs.List.{AllZip, filter_map, flat_map}
 use Rattle.po_header.specs.Rule.{Rule, place}
 use Rattle.po_header.proofs.RuleLemmas.{HasRule-one}
@@ -12,16 +13,19 @@ use Rattle.live_set.specs.Loads.{LoadValue, map_of}
 use Rattle.live_set.specs.Asks.{AskValue, Plain, Context, Number, ContextNumber, QueryValue, HasValue, IsAnswer}
 use Rattle.catserve.specs.Script.{LoadText, RoundValue, script}
 use Rattle.catserve.specs.Output.{answer_line, version_line}
-use Rattle.catserve.specs.Rounds.{Outcome, Accepted, Refused, Unnamed, IsOutcome, outcome_line, accepted_load, Answers, Plays, PlaysAll}
+use Rattle.catserve.specs.Rounds.{Outcome, Accepted, Refused, Unnamed, IsOutcome, outcome_line, accepted_load, Answers}
+use Rattle.catserve.specs.Rounds.{Plays, PlaysAll}
 use Rattle.catserve.specs.Laws.{HasOneOutput}
 
-zip_one : {A B : Type 0} (R : A → B → Type 0) → ((x : A) (y z : B) → R x y → R x z → y ≡ z) → (xs : List A) (ys zs : List B) → AllZip R xs ys → AllZip R xs zs → ys ≡ zs
+zip_one : {A B : Type 0} (R : A → B → Type 0) → ((x : A) (y z : B) → R x y → R x z → y ≡ z)
+    → (xs : List A) (ys zs : List B) → AllZip R xs ys → AllZip R xs zs → ys ≡ zs
 zip_one R one [] [] [] h k = refl
 zip_one R one [] [] (z ∷ zs) h k = absurd k
 zip_one R one [] (y ∷ ys) zs h k = absurd h
 zip_one R one (x ∷ xs) [] zs h k = absurd h
 zip_one R one (x ∷ xs) (y ∷ ys) [] h k = absurd k
-zip_one R one (x ∷ xs) (y ∷ ys) (z ∷ zs) h k = ap (λ v. v ∷ ys) (one x y z h.0 k.0) ∙ ap (λ vs. z ∷ vs) (zip_one R one xs ys zs h.1 k.1)
+zip_one R one (x ∷ xs) (y ∷ ys) (z ∷ zs) h k = ap (λ v. v ∷ ys) (one x y z h.0 k.0)
+    ∙ ap (λ vs. z ∷ vs) (zip_one R one xs ys zs h.1 k.1)
 
 -- ---- answers
 
@@ -40,7 +44,8 @@ rule_in_one : (o : Option (List ℕ)) (r s : Rule) → HasRuleIn o r → HasRule
 rule_in_one None r s h k = h ∙ sym k
 rule_in_one (Some text) r s h k = HasRule-one text r s h k
 
-counted_one : (m : List Entry) (e : Option Entry) (n : ℕ) (other t u : List ℕ) → IsCounted m e n other t → IsCounted m e n other u → t ≡ u
+counted_one : (m : List Entry) (e : Option Entry) (n : ℕ) (other t u : List ℕ) → IsCounted m e n other t
+    → IsCounted m e n other u → t ≡ u
 counted_one m None n other t u h k = h ∙ sym k
 counted_one m (Some e) n other t u (r, has, form) (s, has', form') =
     let same : r ≡ s = rule_in_one (header_text m) r s has has' in
@@ -49,26 +54,34 @@ counted_one m (Some e) n other t u (r, has, form) (s, has', form') =
 value_one : (m : List Entry) (a : AskValue) (t u : List ℕ) → HasValue m a t → HasValue m a u → t ≡ u
 value_one m (Plain id) t u h k = first_one (entry_at m (key_bytes None id)) id t u h k
 value_one m (Context context id) t u h k = first_one (entry_at m (key_bytes (Some context) id)) id t u h k
-value_one m (Number id plural n) t u h k = counted_one m (entry_at m (key_bytes None id)) n (text_by n id plural) t u h k
-value_one m (ContextNumber context id plural n) t u h k = counted_one m (entry_at m (key_bytes (Some context) id)) n (text_by n id plural) t u h k
+value_one m (Number id plural n) t u h k = counted_one m (entry_at m (key_bytes None id)) n (text_by n id plural) t u h
+    k
+value_one m (ContextNumber context id plural n) t u h k = counted_one m (entry_at m (key_bytes (Some context) id)) n
+    (text_by n id plural) t u h k
 
 answer_one : (loads : List LoadValue) (q : QueryValue) (t u : List ℕ) → IsAnswer loads q t → IsAnswer loads q u → t ≡ u
 answer_one loads q t u h k = value_one (map_of loads q.domain q.locale) q.ask t u h k
 
-answers_one : (loads : List LoadValue) (worker : ℕ) (queries : List QueryValue) (output other : List ℕ) → Answers loads worker queries output → Answers loads worker queries other → output ≡ other
+answers_one : (loads : List LoadValue) (worker : ℕ) (queries : List QueryValue) (output other : List ℕ)
+    → Answers loads worker queries output → Answers loads worker queries other → output ≡ other
 answers_one loads worker queries output other (texts, each, is) (texts', each', is') =
-    is ∙ ap (λ ts. flat_map (answer_line worker (length loads)) ts) (zip_one (IsAnswer loads) (answer_one loads) queries texts texts' each each') ∙ sym is'
+    is ∙ ap (λ ts. flat_map (answer_line worker (length loads)) ts)
+    (zip_one (IsAnswer loads) (answer_one loads) queries texts texts' each each') ∙ sym is'
 
 -- ---- loads
 
 outcome_one : (l : LoadText) (o p : Outcome) → IsOutcome l o → IsOutcome l p → o ≡ p
-outcome_one l (Accepted load stats) (Accepted load' stats') (names, (c, means, st, ld)) (names', (c', means', st', ld')) =
+outcome_one l (Accepted load stats) (Accepted load' stats') (names, (c, means, st, ld)) (names', (c', means', st', ld'))
+    =
     let same : c ≡ c' = meaning_one l.text l.options c c' means means' in
-    ap (λ x. Accepted x stats) (ld ∙ ap (λ (k : Compiled). record { domain = l.domain; locale = l.locale; map = k.catalogue }) same ∙ sym ld')
+    ap (λ x. Accepted x stats) (ld ∙ ap (λ (k : Compiled). record
+    { domain = l.domain; locale = l.locale; map = k.catalogue }) same ∙ sym ld')
     ∙ ap (λ x. Accepted load' x) (st ∙ ap (λ (k : Compiled). k.stats) same ∙ sym st')
-outcome_one l (Accepted load stats) (Refused kind line) (names, (c, means, st, ld)) k = absurd (means_or_refuses l.text l.options c kind line means k.1)
+outcome_one l (Accepted load stats) (Refused kind line) (names, (c, means, st, ld)) k = absurd
+    (means_or_refuses l.text l.options c kind line means k.1)
 outcome_one l (Accepted load stats) Unnamed h k = absurd (k h.0)
-outcome_one l (Refused kind line) (Accepted load stats) h (names, (c, means, st, ld)) = absurd (means_or_refuses l.text l.options c kind line means h.1)
+outcome_one l (Refused kind line) (Accepted load stats) h (names, (c, means, st, ld)) = absurd
+    (means_or_refuses l.text l.options c kind line means h.1)
 outcome_one l (Refused kind line) (Refused kind' line') h k =
     let same = refusal_one l.text l.options kind kind' line line' h.1 k.1 in
     ap (λ x. Refused x line) same.0 ∙ ap (λ x. Refused kind' x) same.1
@@ -79,11 +92,14 @@ outcome_one l Unnamed Unnamed h k = refl
 
 -- ---- rounds
 
-after_one : (before : List LoadValue) (round : RoundValue) (after after' : List LoadValue) (output other : List ℕ) → Plays before round after output → Plays before round after' other → after ≡ after'
+after_one : (before : List LoadValue) (round : RoundValue) (after after' : List LoadValue) (output other : List ℕ)
+    → Plays before round after output → Plays before round after' other → after ≡ after'
 after_one before round after after' output other p q =
-    p.after_is ∙ ap (λ os. before ++ filter_map accepted_load os) (zip_one IsOutcome outcome_one round.loads p.outcomes q.outcomes p.loaded q.loaded) ∙ sym q.after_is
+    p.after_is ∙ ap (λ os. before ++ filter_map accepted_load os)
+    (zip_one IsOutcome outcome_one round.loads p.outcomes q.outcomes p.loaded q.loaded) ∙ sym q.after_is
 
-round_one : (before : List LoadValue) (round : RoundValue) (after : List LoadValue) (output other : List ℕ) → Plays before round after output → Plays before round after other → output ≡ other
+round_one : (before : List LoadValue) (round : RoundValue) (after : List LoadValue) (output other : List ℕ)
+    → Plays before round after output → Plays before round after other → output ≡ other
 round_one before round after output other p q =
     let loads = zip_one IsOutcome outcome_one round.loads p.outcomes q.outcomes p.loaded q.loaded in
     let first = answers_one after 0 round.first p.first q.first p.first_answers q.first_answers in
@@ -93,7 +109,8 @@ round_one before round after output other p q =
     ∙ ap (λ xs. flat_map outcome_line q.outcomes ++ version_line (length after) ++ q.first ++ xs) second
     ∙ sym q.output_is
 
-rounds_one : (before : List LoadValue) (rounds : List RoundValue) (output other : List ℕ) → PlaysAll before rounds output → PlaysAll before rounds other → output ≡ other
+rounds_one : (before : List LoadValue) (rounds : List RoundValue) (output other : List ℕ)
+    → PlaysAll before rounds output → PlaysAll before rounds other → output ≡ other
 rounds_one before [] output other h k = h ∙ sym k
 rounds_one before (round ∷ rounds) output other (after, front, back, p, all, is) (after', front', back', q, all', is') =
     let same : after ≡ after' = after_one before round after after' front front' p q in

@@ -1,5 +1,6 @@
 -- A text has an output or a fault: it leads to ⊥ that it has neither.
-use Rattle.std.proofs.Common.{◌≡◌, ℕ, ◌<◌, Bool, true, false, cond, List, [], ◌∷◌, ◌++◌, length, Option, Some, None, Result, Ok, Err, refl, sym, subst, arith, inl, inr}
+use Rattle.std.proofs.Common.{◌≡◌, ℕ, ◌<◌, Bool, true, false, cond, List, [], ◌∷◌, ◌++◌, length, Option, Some, None}
+use Rattle.std.proofs.Common.{Result, Ok, Err, refl, sym, subst, arith, inl, inr}
 use Rattle.std.specs.Prelude.{nat_lt}
 use Rattle.std.specs.List.{AllByRecursion, AllZip, filter, filter_map, flat_map, last_or}
 use Rattle.std.proofs.lemmas.Bool.{cases_Bool, cases_lt, ltb-true}
@@ -16,11 +17,13 @@ use Rattle.live_set.specs.Asks.{AskValue, Plain, Context, Number, ContextNumber,
 use Rattle.catserve.specs.Script.{LoadText, RoundValue, script}
 use Rattle.catserve.specs.Output.{answer_line, version_line}
 use Rattle.catserve.specs.Texts.{IsReadable}
-use Rattle.catserve.specs.Rounds.{Outcome, Accepted, Refused, Unnamed, IsOutcome, outcome_line, accepted_load, Answers, Plays, PlaysAll}
+use Rattle.catserve.specs.Rounds.{Outcome, Accepted, Refused, Unnamed, IsOutcome, outcome_line, accepted_load, Answers}
+use Rattle.catserve.specs.Rounds.{Plays, PlaysAll}
 use Rattle.catserve.specs.Laws.{HasSomeOutput}
 
 -- where each item has a match, all of them have matches
-zip_some : {A B : Type 0} (R : A → B → Type 0) → ((x : A) → ((y : B) → R x y → ⊥) → ⊥) → (xs : List A) → ((ys : List B) → AllZip R xs ys → ⊥) → ⊥
+zip_some : {A B : Type 0} (R : A → B → Type 0) → ((x : A) → ((y : B) → R x y → ⊥) → ⊥) → (xs : List A)
+    → ((ys : List B) → AllZip R xs ys → ⊥) → ⊥
 zip_some R one [] none = none [] tt
 zip_some R one (x ∷ xs) none = one x (λ y r. zip_some R one xs (λ ys all. none (y ∷ ys) (r, all)))
 
@@ -33,16 +36,21 @@ formed_append : (xs ys : List LoadValue) → AreFormed xs → AreFormed ys → A
 formed_append [] ys h k = k
 formed_append (x ∷ xs) ys h k = (h.0, formed_append xs ys h.1 k)
 
-last_formed : (o : Option LoadValue) (p : LoadValue → Bool) (loads : List LoadValue) → IsFormed (map_or_empty o) → AreFormed loads → IsFormed (map_or_empty (last_or o (filter p loads)))
+last_formed : (o : Option LoadValue) (p : LoadValue → Bool) (loads : List LoadValue) → IsFormed (map_or_empty o)
+    → AreFormed loads → IsFormed (map_or_empty (last_or o (filter p loads)))
 last_formed o p [] h all = h
-last_formed o p (l ∷ loads) h all = step (p l) (last_formed o p loads h all.1) (last_formed (Some l) p loads all.0 all.1)
+last_formed o p (l ∷ loads) h all = step (p l) (last_formed o p loads h all.1)
+    (last_formed (Some l) p loads all.0 all.1)
   where
-    step : (b : Bool) → IsFormed (map_or_empty (last_or o (filter p loads))) → IsFormed (map_or_empty (last_or (Some l) (filter p loads))) → IsFormed (map_or_empty (last_or o (cond b (l ∷ filter p loads) (filter p loads))))
+    step : (b : Bool) → IsFormed (map_or_empty (last_or o (filter p loads)))
+        → IsFormed (map_or_empty (last_or (Some l) (filter p loads)))
+        → IsFormed (map_or_empty (last_or o (cond b (l ∷ filter p loads) (filter p loads))))
     step true without with = with
     step false without with = without
 
 map_formed : (loads : List LoadValue) (domain locale : List ℕ) → AreFormed loads → IsFormed (map_of loads domain locale)
-map_formed loads domain locale all = last_formed None (is_for domain locale) loads (λ e has. absurd (omega (arith, has.1))) all
+map_formed loads domain locale all = last_formed None (is_for domain locale) loads
+    (λ e has. absurd (omega (arith, has.1))) all
 
 -- ---- answers
 
@@ -56,29 +64,35 @@ rule_some : (o : Option (List ℕ)) → ((rule : Rule) × HasRuleIn o rule → �
 rule_some None none = none (Absent, refl)
 rule_some (Some text) none = HasRule-some text none
 
-first_some : (m : List Entry) (k id : List ℕ) → IsFormed m → ((text : List ℕ) → IsFirstForm (entry_at m k) id text → ⊥) → ⊥
+first_some : (m : List Entry) (k id : List ℕ) → IsFormed m → ((text : List ℕ) → IsFirstForm (entry_at m k) id text → ⊥)
+    → ⊥
 first_some m k id formed none = go (entry_at m k) refl none
   where
     go : (o : Option Entry) → entry_at m k ≡ o → ((text : List ℕ) → IsFirstForm o id text → ⊥) → ⊥
     go None e none = none id refl
     go (Some x) e none = let (text, is) = some_at x.forms 0 (formed x (from_find _ m x e).0) in none text is
 
-counted_some : (m : List Entry) (k : List ℕ) (n : ℕ) (other : List ℕ) → IsFormed m → ((text : List ℕ) → IsCounted m (entry_at m k) n other text → ⊥) → ⊥
+counted_some : (m : List Entry) (k : List ℕ) (n : ℕ) (other : List ℕ) → IsFormed m
+    → ((text : List ℕ) → IsCounted m (entry_at m k) n other text → ⊥) → ⊥
 counted_some m k n other formed none = go (entry_at m k) refl none
   where
     go : (o : Option Entry) → entry_at m k ≡ o → ((text : List ℕ) → IsCounted m o n other text → ⊥) → ⊥
     go None e none = none other refl
-    go (Some x) e none = rule_some (header_text m) (λ (rule, has). let (text, is) = form_some x.forms (place rule n) (formed x (from_find _ m x e).0) in none text (rule, has, is))
+    go (Some x) e none = rule_some (header_text m) (λ (rule, has). let (text, is) = form_some x.forms (place rule n)
+        (formed x (from_find _ m x e).0) in none text (rule, has, is))
 
 value_some : (m : List Entry) (a : AskValue) → IsFormed m → ((text : List ℕ) → HasValue m a text → ⊥) → ⊥
 value_some m (Plain id) formed none = first_some m (key_bytes None id) id formed none
 value_some m (Context context id) formed none = first_some m (key_bytes (Some context) id) id formed none
 value_some m (Number id plural n) formed none = counted_some m (key_bytes None id) n (text_by n id plural) formed none
-value_some m (ContextNumber context id plural n) formed none = counted_some m (key_bytes (Some context) id) n (text_by n id plural) formed none
+value_some m (ContextNumber context id plural n) formed none = counted_some m (key_bytes (Some context) id) n
+    (text_by n id plural) formed none
 
-answers_some : (loads : List LoadValue) (worker : ℕ) (queries : List QueryValue) → AreFormed loads → ((output : List ℕ) → Answers loads worker queries output → ⊥) → ⊥
+answers_some : (loads : List LoadValue) (worker : ℕ) (queries : List QueryValue) → AreFormed loads
+    → ((output : List ℕ) → Answers loads worker queries output → ⊥) → ⊥
 answers_some loads worker queries formed none =
-    zip_some (IsAnswer loads) (λ q. value_some (map_of loads q.domain q.locale) q.ask (map_formed loads q.domain q.locale formed)) queries
+    zip_some (IsAnswer loads) (λ q. value_some (map_of loads q.domain q.locale) q.ask
+    (map_formed loads q.domain q.locale formed)) queries
     (λ texts each. none (flat_map (answer_line worker (length loads)) texts) (texts, each, refl))
 
 -- ---- loads
@@ -87,27 +101,34 @@ outcome_some : (l : LoadText) → ((o : Outcome) → IsOutcome l o → ⊥) → 
 outcome_some l none =
     none Unnamed (λ names.
     some_meaning l.text l.options
-    (λ c means. none (Accepted (record { domain = l.domain; locale = l.locale; map = c.catalogue }) c.stats) (names, (c, means, refl, refl)))
+    (λ c means. none (Accepted (record { domain = l.domain; locale = l.locale; map = c.catalogue }) c.stats)
+    (names, (c, means, refl, refl)))
     (λ (kind, line, refused). none (Refused kind line) (names, refused)))
 
 -- what was accepted is formed
-accepted_formed : (ls : List LoadText) (os : List Outcome) → AllZip IsOutcome ls os → AreFormed (filter_map accepted_load os)
+accepted_formed : (ls : List LoadText) (os : List Outcome) → AllZip IsOutcome ls os
+    → AreFormed (filter_map accepted_load os)
 accepted_formed [] [] all = tt
 accepted_formed [] (o ∷ os) all = absurd all
 accepted_formed (l ∷ ls) [] all = absurd all
-accepted_formed (l ∷ ls) (Accepted load stats ∷ os) ((names, (c, means, st, ld)), all) =
-    (subst (λ (x : LoadValue). IsFormed x.map) (sym ld) (means_formed l.text l.options c means), accepted_formed ls os all)
+accepted_formed (l ∷ ls) (Accepted load stats ∷ os) ((names, (c, means, st, ld)), all) = (
+  subst (λ (x : LoadValue). IsFormed x.map) (sym ld) (means_formed l.text l.options c means),
+  accepted_formed ls os
+      all,
+)
 accepted_formed (l ∷ ls) (Refused kind line ∷ os) all = accepted_formed ls os all.1
 accepted_formed (l ∷ ls) (Unnamed ∷ os) all = accepted_formed ls os all.1
 
 -- ---- rounds
 
-plays_some : (before : List LoadValue) (round : RoundValue) → AreFormed before → ((after : List LoadValue) (output : List ℕ) → AreFormed after → Plays before round after output → ⊥) → ⊥
+plays_some : (before : List LoadValue) (round : RoundValue) → AreFormed before
+    → ((after : List LoadValue) (output : List ℕ) → AreFormed after → Plays before round after output → ⊥) → ⊥
 plays_some before round formed none =
     zip_some IsOutcome outcome_some round.loads
     (λ outcomes loaded.
     let after = before ++ filter_map accepted_load outcomes in
-    let well = formed_append before (filter_map accepted_load outcomes) formed (accepted_formed round.loads outcomes loaded) in
+    let well = formed_append before (filter_map accepted_load outcomes) formed
+    (accepted_formed round.loads outcomes loaded) in
     answers_some after 0 round.first well
     (λ first first_answers.
     answers_some after 1 round.second well
@@ -123,11 +144,13 @@ plays_some before round formed none =
       output_is = refl;
     }))))
 
-rounds_some : (before : List LoadValue) (rounds : List RoundValue) → AreFormed before → ((output : List ℕ) → PlaysAll before rounds output → ⊥) → ⊥
+rounds_some : (before : List LoadValue) (rounds : List RoundValue) → AreFormed before
+    → ((output : List ℕ) → PlaysAll before rounds output → ⊥) → ⊥
 rounds_some before [] formed none = none [] refl
 rounds_some before (round ∷ rounds) formed none =
     plays_some before round formed
-    (λ after front well plays. rounds_some after rounds well (λ back all. none (front ++ back) (after, front, back, plays, all, refl)))
+    (λ after front well plays. rounds_some after rounds well
+    (λ back all. none (front ++ back) (after, front, back, plays, all, refl)))
 
 -- ---- scripts
 
@@ -141,5 +164,6 @@ output_some text no_output no_fault = elim (cases_lt 67108864 (length text)) [
 ]
   where
     go : IsReadable text → (r : Result (List RoundValue) ℕ) → script text ≡ r → ⊥
-    go readable (Ok rounds) says = rounds_some [] rounds tt (λ output all. no_output output (rounds, record { readable = readable; says = says }, all))
+    go readable (Ok rounds) says = rounds_some [] rounds tt (λ output all. no_output output
+        (rounds, record { readable = readable; says = says }, all))
     go readable (Err line) says = no_fault (inr (inr (line, record { readable = readable; bad = says })))

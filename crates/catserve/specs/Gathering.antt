@@ -1,9 +1,11 @@
 -- Private: how rounds are gathered from commands, one after another.
-use Rattle.std.specs.Prelude.{◌≡◌, ℕ, ◌+◌, ◌≤◌, Bool, true, false, if◌then◌else◌, List, [], ◌∷◌, ◌++◌, length, drop, fold, Some, Result, Ok, Err}
+use Rattle.std.specs.Prelude.{◌≡◌, ℕ, ◌+◌, ◌≤◌, Bool, true, false, if◌then◌else◌, List, [], ◌∷◌, ◌++◌, length, drop}
+use Rattle.std.specs.Prelude.{fold, Some, Result, Ok, Err}
 use Rattle.std.specs.Str.{IsUtf8}
 use Rattle.catserve.specs.Lines.{lines}
 use Rattle.catserve.specs.Commands.{Line}
-use Rattle.catserve.specs.Script.{Command, Load, Ask, Go, RoundValue, round_of, rounds_of, Says, saying, commands_from, script}
+use Rattle.catserve.specs.Script.{Command, Load, Ask, Go, RoundValue, round_of, rounds_of, Says, saying, commands_from}
+use Rattle.catserve.specs.Script.{script}
 
 -- the rounds that have ended, the open one, and whether something stands in it
 pub record Gathered : Type 0 where
@@ -45,16 +47,17 @@ going_on g (Ok commands) = Ok (g.ended ++ onto_open g (rounds_of commands))
 going_on g (Err bad) = Err bad
 
 -- a line with this number was taken in, with its text: what follows it, and the number of the next line
-pub record TakesIn (old new : Gathered) (line : Line) (behind : List ℕ) (number : ℕ) (rest : List ℕ) (next : ℕ) : Type 0 where
-  pub commands : List Command
-  pub text : ℕ
-  pub says : saying (Some line) (lines behind) ≡ Says commands text
-  pub gathered_are : new ≡ fold gathered old commands
-  pub behind_text : lines rest ≡ drop text (lines behind)
-  pub enough : text ≤ length (lines behind)
-  pub next_is : next ≡ number + 1 + text
-  pub shorter : text + length rest ≤ length behind
-  pub utf8 : IsUtf8 rest
+pub record TakesIn (old new : Gathered) (line : Line) (behind : List ℕ) (number : ℕ) (rest : List ℕ) (next : ℕ) : Type 0
+  where
+    pub commands : List Command
+    pub text : ℕ
+    pub says : saying (Some line) (lines behind) ≡ Says commands text
+    pub gathered_are : new ≡ fold gathered old commands
+    pub behind_text : lines rest ≡ drop text (lines behind)
+    pub enough : text ≤ length (lines behind)
+    pub next_is : next ≡ number + 1 + text
+    pub shorter : text + length rest ≤ length behind
+    pub utf8 : IsUtf8 rest
 
 -- the text was read up to the line with this number, from which on the rest is left
 pub record HasParsed (text : List ℕ) (rounds : Gathered) (rest : List ℕ) (number : ℕ) : Type 0 where

@@ -43,15 +43,16 @@ Answers loads worker queries output = (texts : List (List ℕ)) × AllZip (IsAns
     × (output ≡ flat_map (answer_line worker (length loads)) texts)
 
 -- a round behind these loads: its own loads, its version, and the answers of the two workers over all loads up to it
-pub record Plays (before : List LoadValue) (round : RoundValue) (after : List LoadValue) (output : List ℕ) : Type 0 where
-  pub outcomes : List Outcome
-  pub loaded : AllZip IsOutcome round.loads outcomes
-  pub after_is : after ≡ before ++ filter_map accepted_load outcomes
-  pub first : List ℕ
-  pub first_answers : Answers after 0 round.first first
-  pub second : List ℕ
-  pub second_answers : Answers after 1 round.second second
-  pub output_is : output ≡ flat_map outcome_line outcomes ++ version_line (length after) ++ first ++ second
+pub record Plays (before : List LoadValue) (round : RoundValue) (after : List LoadValue) (output : List ℕ) : Type 0
+  where
+    pub outcomes : List Outcome
+    pub loaded : AllZip IsOutcome round.loads outcomes
+    pub after_is : after ≡ before ++ filter_map accepted_load outcomes
+    pub first : List ℕ
+    pub first_answers : Answers after 0 round.first first
+    pub second : List ℕ
+    pub second_answers : Answers after 1 round.second second
+    pub output_is : output ≡ flat_map outcome_line outcomes ++ version_line (length after) ++ first ++ second
 
 -- the rounds behind these loads
 abbrev pub PlaysAll : List LoadValue → List RoundValue → List ℕ → Type 0

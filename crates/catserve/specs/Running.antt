@@ -26,10 +26,11 @@ IsWorkerFault (Ok x) = ⊤
 IsWorkerFault (Err fault) = (fault ≡ Closed) ⊎ (fault ≡ Memory)
 
 -- a worker has answered these queries, by a reader that has seen the notice
-pub record HasAnswered (notice was now : SeenValue) (worker : ℕ) (queries : List QueryValue) (output : List ℕ) : Type 0 where
-  pub answered : Answers (joined notice.batches) worker queries output
-  pub seen : StartsWith now.batches notice.batches
-  pub same_book : now.book ≡ was.book
+pub record HasAnswered (notice was now : SeenValue) (worker : ℕ) (queries : List QueryValue) (output : List ℕ) : Type 0
+  where
+    pub answered : Answers (joined notice.batches) worker queries output
+    pub seen : StartsWith now.batches notice.batches
+    pub same_book : now.book ≡ was.book
 
 -- a load was made: its outcome, the pending loads, and its line
 pub record LoadsOne (load : LoadText) (pending pending' : List LoadValue) (before after : List ℕ) : Type 0 where

@@ -1,5 +1,6 @@
 -- What a script says: its rounds, or the first line that is no line of a script.
-use Rattle.std.specs.Prelude.{ℕ, zero, suc, ◌+◌, Bool, true, false, if◌then◌else◌, nat_le, List, [], ◌∷◌, ◌++◌, length, map, take, Option, Some, None, Result, Ok, Err}
+use Rattle.std.specs.Prelude.{ℕ, zero, suc, ◌+◌, Bool, true, false, if◌then◌else◌, nat_le, List, [], ◌∷◌, ◌++◌, length}
+use Rattle.std.specs.Prelude.{map, take, Option, Some, None, Result, Ok, Err}
 use Rattle.std.specs.List.{concat, filter_map}
 use Rattle.catalogue.specs.declared.Options.{Options}
 use Rattle.live_set.specs.Asks.{QueryValue}

@@ -1,6 +1,7 @@
 //! What a line of a script says.
 ghost use Rattle.std.specs.Prelude.{◌≡◌};
-ghost use Rattle.catserve.specs.Commands.{plain_call, context_call, number_call, context_number_call, call_of, load_line, ask_line, go_line, command_line, is_blank, line_of};
+ghost use Rattle.catserve.specs.Commands.{plain_call, context_call, number_call, context_number_call, call_of};
+ghost use Rattle.catserve.specs.Commands.{load_line, ask_line, go_line, command_line, is_blank, line_of};
 ghost use Rattle.catserve.specs.Scanning.{Reads};
 ghost use Rattle.catserve.specs.LineValues.{line_value};
 ghost use Rattle.live_set.specs.Asks.{ask_value};

@@ -2,7 +2,8 @@
 ghost use Rattle.std.specs.Prelude.{◌≡◌, ◌++◌, OnOk, string_bytes, codes};
 ghost use Rattle.std.specs.Fmt.{decimal};
 ghost use Rattle.catalogue.specs.Meaning.{rank};
-ghost use Rattle.catserve.specs.Output.{escape, escaped, accepted_line, refused_line, unnamed_line, version_line, answer_line};
+ghost use Rattle.catserve.specs.Output.{escape, escaped, accepted_line, refused_line, unnamed_line, version_line};
+ghost use Rattle.catserve.specs.Output.{answer_line};
 
 use bstr::ByteSlice;
 use catalogue::{LoadFault, LoadKind, Stats};

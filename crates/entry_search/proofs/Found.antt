@@ -1,5 +1,6 @@
 -- A key's entry, found by its slot.
-use Rattle.std.proofs.Common.{◌≡◌, ℕ, length, ◌+◌, ◌<◌, true, false, List, ◌∷◌, ◌++◌, ◌-◌, Some, None, slice_get, refl, sym, ap, ◌∙◌, subst, arith}
+use Rattle.std.proofs.Common.{◌≡◌, ℕ, length, ◌+◌, ◌<◌, true, false, List, ◌∷◌, ◌++◌, ◌-◌, Some, None, slice_get, refl}
+use Rattle.std.proofs.Common.{sym, ap, ◌∙◌, subst, arith}
 use Rattle.std.specs.Prelude.{Contains}
 use Rattle.std.specs.Ordering.{nat_cmp, is_eq}
 use Rattle.std.specs.declared.cmp.Ordering.TheVariants.{Less, Equal, Greater}
@@ -27,13 +28,16 @@ differs_unless k asked never = elim (bytes_eq k asked) as (λ r. bytes_eq k aske
 ] refl
 
 -- an entry with this key has a slot of its hash
-slot_of_key : (m : List Entry) (slots : List Slot) (asked : List ℕ) (j : ℕ) (d : Entry) → IsIndex m slots → slice_get m j ≡ Some d → bytes_eq (key d) asked ≡ true
-    → (slot : Slot) × Contains slots slot × AreExtentsOf (spelling m) (length m) j slot.extents × (slot.hash ≡ hash asked)
+slot_of_key : (m : List Entry) (slots : List Slot) (asked : List ℕ) (j : ℕ) (d : Entry) → IsIndex m slots
+    → slice_get m j ≡ Some d → bytes_eq (key d) asked ≡ true
+    → (slot : Slot) × Contains slots slot × AreExtentsOf (spelling m) (length m) j slot.extents
+    × (slot.hash ≡ hash asked)
 slot_of_key m slots asked j d index here same =
     let there = index.names.each j d here in
     (there.0, there.1, there.2, there.3 ∙ ap hash ((bytes_eq-Decides (key d) asked).0 same))
 
-pub absent_without_slot : (m : List Entry) (slots : List Slot) (asked : List ℕ) → IsIndex m slots → HasNoSlot slots (hash asked) → entry_at m asked ≡ None
+pub absent_without_slot : (m : List Entry) (slots : List Slot) (asked : List ℕ) → IsIndex m slots
+    → HasNoSlot slots (hash asked) → entry_at m asked ≡ None
 absent_without_slot m slots asked index none = find_none m asked (λ j d here. differs_unless (key d) asked (λ same.
     let slot = slot_of_key m slots asked j d index here same in
     none slot.0 slot.1 slot.3))
@@ -42,18 +46,23 @@ abbrev pub LeadsTo : List Entry → Slot → Entry → Type 0
 LeadsTo m slot e = (i : ℕ) → AreExtentsOf (spelling m) (length m) i slot.extents → slice_get m i ≡ Some e
 
 -- the only slot of this hash is that of another key
-pub absent_by_slot : (m : List Entry) (slots : List Slot) (asked : List ℕ) (slot : Slot) (e : Entry) → IsIndex m slots → Contains slots slot → slot.hash ≡ hash asked
+pub absent_by_slot : (m : List Entry) (slots : List Slot) (asked : List ℕ) (slot : Slot) (e : Entry) → IsIndex m slots
+    → Contains slots slot → slot.hash ≡ hash asked
     → LeadsTo m slot e → bytes_eq (key e) asked ≡ false → entry_at m asked ≡ None
-absent_by_slot m slots asked slot e index has hashed leads other = find_none m asked (λ j d there. differs_unless (key d) asked (λ same.
+absent_by_slot m slots asked slot e index has hashed leads other = find_none m asked
+    (λ j d there. differs_unless (key d) asked (λ same.
     let mine = slot_of_key m slots asked j d index there same in
     let one : mine.0 ≡ slot = index.one mine.0 slot mine.1 has (mine.3 ∙ sym hashed) in
-    let here : slice_get m j ≡ Some e = leads j (subst (λ (r : Slot). AreExtentsOf (spelling m) (length m) j r.extents) one mine.2) in
+    let here : slice_get m j ≡ Some e = leads j (subst (λ (r : Slot). AreExtentsOf (spelling m) (length m) j r.extents)
+    one mine.2) in
     let is : e ≡ d = some_is e d (sym here ∙ there) in
     false≢true (sym (subst (λ (x : Entry). bytes_eq (key x) asked ≡ false) is other) ∙ same)))
 
 -- the entry of a slot has the key
-pub found_by_slot : (m : List Entry) (i : ℕ) (e : Entry) (asked : List ℕ) → IsLawful m → slice_get m i ≡ Some e → bytes_eq (key e) asked ≡ true → entry_at m asked ≡ Some e
-found_by_slot m i e asked lawful here same = find_some m i e asked lawful.rises here ((bytes_eq-Decides (key e) asked).0 same)
+pub found_by_slot : (m : List Entry) (i : ℕ) (e : Entry) (asked : List ℕ) → IsLawful m → slice_get m i ≡ Some e
+    → bytes_eq (key e) asked ≡ true → entry_at m asked ≡ Some e
+found_by_slot m i e asked lawful here same = find_some m i e asked lawful.rises here
+    ((bytes_eq-Decides (key e) asked).0 same)
 
 -- keys are the same where they tie
 pub tied_same : (x y : List ℕ) → is_eq (slice_cmp nat_cmp x y) ≡ bytes_eq x y

@@ -1,5 +1,6 @@
 -- The slots of an index: listed, put in order, and spread out.
-use Rattle.std.proofs.Common.{◌≡◌, ℕ, ◌+◌, ◌<◌, ◌≤◌, List, [], ◌∷◌, ◌++◌, length, length-append, ◌-◌, get_or, Some, slice_get, sym, ap, ◌∙◌, subst, arith, inl, inr}
+use Rattle.std.proofs.Common.{◌≡◌, ℕ, ◌+◌, ◌<◌, ◌≤◌, List, [], ◌∷◌, ◌++◌, length, length-append, ◌-◌, get_or, Some}
+use Rattle.std.proofs.Common.{slice_get, sym, ap, ◌∙◌, subst, arith, inl, inr}
 use Rattle.std.specs.Prelude.{Contains, IfSome, Option}
 use Rattle.std.specs.List.Sorted.{IsPermutation}
 use Rattle.std.proofs.Math.Seq.{get_or-append_seam}
@@ -17,22 +18,26 @@ use Rattle.entry_search.proofs.Searching.{some_at}
 -- ---- a slot for each entry
 
 abbrev IsMadeFor : List Entry → ℕ → Slot → Type 0
-IsMadeFor m i slot = AreExtentsOf (spelling m) (length m) i slot.extents × IfSome (slice_get m i) (λ e. slot.hash ≡ hash (key e))
+IsMadeFor m i slot = AreExtentsOf (spelling m) (length m) i slot.extents
+    × IfSome (slice_get m i) (λ e. slot.hash ≡ hash (key e))
 
 pub record Listed (m : List Entry) (slots : List Slot) (n : ℕ) : Type 0 where
   pub long : length slots ≡ n
   pub at : (j : ℕ) (d : Slot) → j < n → IsMadeFor m j (get_or slots j d)
 
-pub listed_more : (m : List Entry) (slots more : List Slot) (n : ℕ) (slot : Slot) → Listed m slots n → more ≡ slots ++ (slot ∷ []) → IsMadeFor m n slot → Listed m more (n + 1)
+pub listed_more : (m : List Entry) (slots more : List Slot) (n : ℕ) (slot : Slot) → Listed m slots n → more ≡ slots
+    ++ (slot ∷ []) → IsMadeFor m n slot → Listed m more (n + 1)
 listed_more m slots more n slot l is here = record {
   long = omega (arith, ap length is, length-append slots (slot ∷ []), l.long);
   at = λ j d lt. elim (cases_lt j n) [
     | inl before ↦
-        let same : get_or more j d ≡ get_or slots j d = ap (λ (xs : List Slot). get_or xs j d) is ∙ get_or_append_left slots (slot ∷ []) d j (omega (arith, before, l.long)) in
+        let same : get_or more j d ≡ get_or slots j d = ap (λ (xs : List Slot). get_or xs j d) is
+        ∙ get_or_append_left slots (slot ∷ []) d j (omega (arith, before, l.long)) in
         subst (IsMadeFor m j) (sym same) (l.at j d before)
     | inr from ↦
         let at : j ≡ n = omega (arith, from, lt) in
-        let end : get_or more n d ≡ slot = ap (λ (xs : List Slot). get_or xs n d) is ∙ ap (λ (k : ℕ). get_or (slots ++ (slot ∷ [])) k d) (sym l.long) ∙ get_or-append_seam slots slot [] d in
+        let end : get_or more n d ≡ slot = ap (λ (xs : List Slot). get_or xs n d) is
+        ∙ ap (λ (k : ℕ). get_or (slots ++ (slot ∷ [])) k d) (sym l.long) ∙ get_or-append_seam slots slot [] d in
         rw at (subst (IsMadeFor m n) (sym end) here)
   ];
 }
@@ -45,14 +50,28 @@ named m slots l = record {
   each = λ i e h.
       let lt = slice_get_within m i e h in
       let here = some_at slots i (omega (arith, lt, l.long)) in
-      let slot = get_or slots i here.0 in
-      (slot, (i, omega (arith, lt, l.long), get_or_default slots i slot here.0 (omega (arith, lt, l.long))), (l.at i here.0 lt).0, of_some (slice_get m i) e (λ x. slot.hash ≡ hash (key x)) h (l.at i here.0 lt).1);
-  only = λ slot h. (h.0, subst (λ (x : Slot). AreExtentsOf (spelling m) (length m) h.0 x.extents) h.2 (l.at h.0 slot (omega (arith, h.1, l.long))).0);
+      let slot = get_or slots i here.0 in (
+        slot,
+        (i, omega (arith, lt, l.long), get_or_default slots i slot here.0 (omega (arith, lt, l.long))),
+        (l.at i here.0 lt).0,
+        of_some (slice_get m i) e (λ x. slot.hash ≡ hash (key x)) h (l.at i here.0 lt).1,
+      );
+  only = λ slot h. (
+    h.0,
+    subst (λ (x : Slot). AreExtentsOf (spelling m) (length m) h.0 x.extents) h.2
+        (l.at h.0 slot (omega (arith, h.1, l.long))).0,
+  );
 }
 
-pub named_in_order : (m : List Entry) (slots sorted : List Slot) → IsPermutation slots sorted → NamesEntries m slots → NamesEntries m sorted
+pub named_in_order : (m : List Entry) (slots sorted : List Slot) → IsPermutation slots sorted → NamesEntries m slots
+    → NamesEntries m sorted
 named_in_order m slots sorted moves n = record {
-  each = λ i e h. let there = n.each i e h in (there.0, Contains-permutation slots sorted there.0 moves there.1, there.2, there.3);
+  each = λ i e h. let there = n.each i e h in (
+    there.0,
+    Contains-permutation slots sorted there.0 moves there.1,
+    there.2,
+    there.3,
+  );
   only = λ x h. n.only x (Contains-permutation sorted slots x (IsPermutation-sym slots sorted moves) h);
 }
 
@@ -61,20 +80,23 @@ named_in_order m slots sorted moves n = record {
 abbrev pub HashesRise : List Slot → ℕ → Type 0
 HashesRise slots n = (p q : ℕ) (d : Slot) → p < q → q < n → (get_or slots p d).hash < (get_or slots q d).hash
 
-pub rise_more : (slots : List Slot) (n : ℕ) (first : Slot) → Climbs slots → HashesRise slots n → 1 ≤ n → n < length slots
+pub rise_more : (slots : List Slot) (n : ℕ) (first : Slot) → Climbs slots → HashesRise slots n → 1 ≤ n
+    → n < length slots
     → ((get_or slots (n - 1) first).hash ≡ (get_or slots n first).hash → ⊥) → HashesRise slots (n + 1)
 rise_more slots n first climbs rise some lt other p q d pq q_lt = elim (cases_lt q n) [
   | inl before ↦ rise p q d pq before
   | inr from ↦
       let same : q ≡ n = omega (arith, from, q_lt) in
-      let a : (get_or slots p d).hash ≤ (get_or slots (n - 1) d).hash = climbs p (n - 1) d (omega (arith, pq, same)) (omega (arith, lt)) in
+      let a : (get_or slots p d).hash ≤ (get_or slots (n - 1) d).hash = climbs p (n - 1) d (omega (arith, pq, same))
+      (omega (arith, lt)) in
       let b : (get_or slots (n - 1) d).hash ≤ (get_or slots n d).hash = climbs (n - 1) n d (omega arith) lt in
       let before_last = ap (λ (r : Slot). r.hash) (get_or_default slots (n - 1) first d (omega (arith, lt))) in
       let last = ap (λ (r : Slot). r.hash) (get_or_default slots n first d lt) in
       rw same (omega (arith, a, b, before_last, last, other))
 ]
 
-below_apart : (slots : List Slot) (n : ℕ) → length slots ≤ n → HashesRise slots n → (x y : Slot) (h : Contains slots x) (k : Contains slots y) → h.0 < k.0 → x.hash < y.hash
+below_apart : (slots : List Slot) (n : ℕ) → length slots ≤ n → HashesRise slots n
+    → (x y : Slot) (h : Contains slots x) (k : Contains slots y) → h.0 < k.0 → x.hash < y.hash
 below_apart slots n all rise x y h k lt =
     let up = rise h.0 k.0 x lt (omega (arith, k.1, all)) in
     let first : get_or slots h.0 x ≡ x = h.2 in
@@ -99,25 +121,36 @@ pub record Spread (slots : List Slot) (n : ℕ) (placed : List Slot) : Type 0 wh
   pub each : (j : ℕ) (d : Slot) → j < n → (p : ℕ) × (p < length placed) × (get_or placed p d ≡ get_or slots j d)
   pub only : (p : ℕ) (d : Slot) → p < length placed → (j : ℕ) × (j < n) × (get_or placed p d ≡ get_or slots j d)
 
-pub spread_more : (slots placed more : List Slot) (k n : ℕ) (slot : Slot) → Climbs slots → k < length slots → ((d : Slot) → slot ≡ get_or slots k d)
+pub spread_more : (slots placed more : List Slot) (k n : ℕ) (slot : Slot) → Climbs slots → k < length slots
+    → ((d : Slot) → slot ≡ get_or slots k d)
     → Spread slots k placed → length placed < n → length more ≡ n
     → ((j : ℕ) (d : Slot) → j < n → j < length placed → get_or more j d ≡ get_or placed j d)
     → ((j : ℕ) (d : Slot) → length placed ≤ j → j < n → get_or more j d ≡ slot)
     → Spread slots (k + 1) more
 spread_more slots placed more k n slot climb lt is s longer long kept filled = record {
   climbs = λ i j d le j_lt. elim (cases_lt j (length placed)) [
-    | inl old ↦ rw (kept i d (omega (arith, le, old, longer)) (omega (arith, le, old)), kept j d (omega (arith, old, longer)) old) (s.climbs i j d le old)
+    | inl old ↦ rw (
+      kept i d (omega (arith, le, old, longer)) (omega (arith, le, old)),
+      kept j d
+          (omega (arith, old, longer)) old,
+    ) (s.climbs i j d le old)
     | inr new ↦ elim (cases_lt i (length placed)) [
       | inl old ↦
           let there = s.only i d old in
-          rw (kept i d (omega (arith, old, longer)) old, there.2, filled j d new (omega (arith, j_lt, long)), is d) (climb there.0 k d (omega (arith, there.1)) lt)
-      | inr newer ↦ rw (filled i d newer (omega (arith, le, j_lt, long)), filled j d new (omega (arith, j_lt, long))) (omega arith)
+          rw (kept i d (omega (arith, old, longer)) old, there.2, filled j d new (omega (arith, j_lt, long)), is d)
+          (climb there.0 k d (omega (arith, there.1)) lt)
+      | inr newer ↦ rw (filled i d newer (omega (arith, le, j_lt, long)), filled j d new (omega (arith, j_lt, long)))
+          (omega arith)
     ]
   ];
   each = λ j d j_lt. elim (cases_lt j k) [
     | inl before ↦
-        let there = s.each j d before in
-        (there.0, omega (arith, there.1, longer, long), kept there.0 d (omega (arith, there.1, longer)) there.1 ∙ there.2)
+        let there = s.each j d before in (
+          there.0,
+          omega (arith, there.1, longer, long),
+          kept there.0 d (omega (arith, there.1, longer)) there.1
+              ∙ there.2,
+        )
     | inr from ↦
         let same : j ≡ k = omega (arith, from, j_lt) in
         (length placed, omega (arith, longer, long), rw same (filled (length placed) d (omega arith) longer ∙ is d))
@@ -140,7 +173,10 @@ spread_same slots placed n s all x = (
 pub indexed : (m : List Entry) (slots placed : List Slot) → NamesEntries m slots → OneForEachHash slots → Climbs placed
     → ((x : Slot) → (Contains slots x → Contains placed x) × (Contains placed x → Contains slots x)) → IsIndex m placed
 indexed m slots placed n one climbs same = record {
-  names = record { each = λ i e h. let there = n.each i e h in (there.0, (same there.0).0 there.1, there.2, there.3); only = λ x h. n.only x ((same x).1 h) };
+  names = record {
+    each = λ i e h. let there = n.each i e h in (there.0, (same there.0).0 there.1, there.2, there.3);
+    only = λ x h. n.only x ((same x).1 h);
+  };
   climbs = climbs;
   one = λ x y h k. one x y ((same x).1 h) ((same y).1 k);
 }

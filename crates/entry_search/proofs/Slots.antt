@@ -6,17 +6,28 @@ use Rattle.std.proofs.lemmas.List.{get_or_default}
 use Rattle.entry_search.specs.declared.index.Slot.{Slot}
 use Rattle.entry_search.specs.Index.{Climbs, HasNoSlot, IsCut}
 
-pub below_is : (slots : List Slot) (bound cut : ℕ) (slot : Slot) → Climbs slots → slot ≡ get_or slots (cut - 1) slot → 0 < cut → cut ≤ length slots → slot.hash < bound → AllWithin (λ r. r.hash < bound) slots 0 cut
+pub below_is : (slots : List Slot) (bound cut : ℕ) (slot : Slot) → Climbs slots → slot ≡ get_or slots (cut - 1) slot
+    → 0 < cut → cut ≤ length slots → slot.hash < bound → AllWithin (λ r. r.hash < bound) slots 0 cut
 below_is slots bound cut slot climbs is some within below k d low h =
     let last = ap (λ (r : Slot). r.hash) (is ∙ get_or_default slots (cut - 1) slot d (omega (arith, some, within))) in
     omega (arith, climbs k (cut - 1) d (omega (arith, h)) (omega (arith, some, within)), last, below)
 
-pub above_is : (slots : List Slot) (bound cut : ℕ) (slot : Slot) → Climbs slots → slot ≡ get_or slots cut slot → cut < length slots → bound ≤ slot.hash → AllWithin (λ r. bound ≤ r.hash) slots cut (length slots)
+pub above_is : (slots : List Slot) (bound cut : ℕ) (slot : Slot) → Climbs slots → slot ≡ get_or slots cut slot
+    → cut < length slots → bound ≤ slot.hash → AllWithin (λ r. bound ≤ r.hash) slots cut (length slots)
 above_is slots bound cut slot climbs is within above k d from h =
     omega (arith, climbs cut k d from h, ap (λ (r : Slot). r.hash) (is ∙ get_or_default slots cut slot d within), above)
 
-pub no_slot : (slots : List Slot) (t cut : ℕ) → Climbs slots → IsCut slots t cut → cut < length slots → ((d : Slot) → (get_or slots cut d).hash ≡ t → ⊥) → HasNoSlot slots t
+pub no_slot : (slots : List Slot) (t cut : ℕ) → Climbs slots → IsCut slots t cut → cut < length slots
+    → ((d : Slot) → (get_or slots cut d).hash ≡ t → ⊥) → HasNoSlot slots t
 no_slot slots t cut climbs is lt other slot has same = elim (cases_lt has.0 cut) [
   | inl before ↦ omega (arith, is.0 has.0 slot (omega arith) before, ap (λ (r : Slot). r.hash) has.2, same)
-  | inr from ↦ omega (arith, is.1 cut slot (omega arith) lt, climbs cut has.0 slot from has.1, ap (λ (r : Slot). r.hash) has.2, same, other slot)
+  | inr from ↦ omega (
+    arith,
+    is.1 cut slot (omega arith) lt,
+    climbs cut has.0 slot from has.1,
+    ap (λ (r : Slot). r.hash)
+        has.2,
+    same,
+    other slot,
+  )
 ]

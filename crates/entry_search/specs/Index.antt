@@ -1,5 +1,6 @@
 -- Private: the slots by which an entry is found by the hash of its key.
-use Rattle.std.specs.Prelude.{◌≡◌, ℕ, ◌+◌, ◌*◌, ◌<◌, ◌≤◌, List, Option, Some, None, Contains, length, slice_get, take, drop}
+use Rattle.std.specs.Prelude.{◌≡◌, ℕ, ◌+◌, ◌*◌, ◌<◌, ◌≤◌, List, Option, Some, None, Contains, length, slice_get, take}
+use Rattle.std.specs.Prelude.{drop}
 use Rattle.std.specs.List.Sorted.{IsNonDecreasingBy, IsPartitionPoint}
 use Rattle.std.specs.Hash.FoldHasher as folding
 use Rattle.entry_search.specs.declared.index.Slot.{Slot}
@@ -33,7 +34,8 @@ OneForEachHash slots = (x y : Slot) → Contains slots x → Contains slots y �
 
 -- the slot of the i-th entry is there, with the hash of its key
 abbrev pub HasSlotOf : List Entry → List Slot → ℕ → Entry → Type 0
-HasSlotOf m slots i e = (slot : Slot) × Contains slots slot × AreExtentsOf (spelling m) (length m) i slot.extents × (slot.hash ≡ hash (key e))
+HasSlotOf m slots i e = (slot : Slot) × Contains slots slot × AreExtentsOf (spelling m) (length m) i slot.extents
+    × (slot.hash ≡ hash (key e))
 
 -- a slot for each entry, and no other; some may stand there more than once
 pub record NamesEntries (m : List Entry) (slots : List Slot) : Type 0 where

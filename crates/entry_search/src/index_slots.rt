@@ -60,7 +60,8 @@ fn have_own_hashes(slots: &[Slot]) -> bool
 fn spread_out(alloc: Global, slots: &[Slot], spread: usize) -> Result<Vec<Slot>, AllocError>
     requires { Climbs slots.now }
     ensures climbs { IfOk result (λ spread. Climbs spread.items) }
-    ensures same { IfOk result (λ spread. (x : Slot) → (Contains slots.now x → Contains spread.items x) × (Contains spread.items x → Contains slots.now x)) }
+    ensures same { IfOk result (λ spread. (x : Slot) → (Contains slots.now x → Contains spread.items x)
+        × (Contains spread.items x → Contains slots.now x)) }
 {
     let mut placed = Vec::with_capacity(alloc, spread)?;
     'slots: for slot in slots {

@@ -23,7 +23,8 @@ pub(crate) fn cmp_in_context(text: &[u8], context: &[u8], id: &[u8]) -> Ordering
 /// Two keys with contexts, of which the second context isn't the shorter one.
 fn cmp_longer(context: &[u8], id: &[u8], other_context: &[u8], other_id: &[u8]) -> Ordering
     requires { length context.now ≤ length other_context.now }
-    ensures { result ≡ slice_cmp nat_cmp (key_bytes (Some context.now) id.now) (key_bytes (Some other_context.now) other_id.now) }
+    ensures { result ≡ slice_cmp nat_cmp (key_bytes (Some context.now) id.now)
+        (key_bytes (Some other_context.now) other_id.now) }
 {
     let (front, rest) = other_context.split_at(context.len());
     let order = context.cmp(front);
@@ -37,7 +38,8 @@ fn cmp_longer(context: &[u8], id: &[u8], other_context: &[u8], other_id: &[u8]) 
 
 /// Two keys with contexts.
 fn cmp_contexts(context: &[u8], id: &[u8], other_context: &[u8], other_id: &[u8]) -> Ordering
-    ensures { result ≡ slice_cmp nat_cmp (key_bytes (Some context.now) id.now) (key_bytes (Some other_context.now) other_id.now) }
+    ensures { result ≡ slice_cmp nat_cmp (key_bytes (Some context.now) id.now)
+        (key_bytes (Some other_context.now) other_id.now) }
 {
     if context.len() <= other_context.len() {
         cmp_longer(context, id, other_context, other_id)
@@ -53,7 +55,8 @@ pub fn cmp_keys(
     other_context: Option<&str>,
     other_id: &str,
 ) -> Ordering
-    ensures { result ≡ slice_cmp nat_cmp (key_bytes (option_map (λ s. s.now) context.entry) id.now) (key_bytes (option_map (λ s. s.now) other_context.entry) other_id.now) }
+    ensures { result ≡ slice_cmp nat_cmp (key_bytes (option_map (λ s. s.now) context.entry) id.now)
+        (key_bytes (option_map (λ s. s.now) other_context.entry) other_id.now) }
 {
     let id = id.as_bytes();
     let other = other_id.as_bytes();

@@ -1,5 +1,6 @@
 -- The load that a set finds for a domain and a locale, after one was put in its slot.
-use Rattle.std.proofs.Common.{◌≡◌, ℕ, Bool, true, false, cond, List, [], ◌∷◌, ◌++◌, Option, Some, None, Ordering, Less, Equal, Greater, filter, find, refl, sym, ap, subst, ◌∙◌}
+use Rattle.std.proofs.Common.{◌≡◌, ℕ, Bool, true, false, cond, List, [], ◌∷◌, ◌++◌, Option, Some, None, Ordering, Less}
+use Rattle.std.proofs.Common.{Equal, Greater, filter, find, refl, sym, ap, subst, ◌∙◌}
 use Rattle.std.specs.Ordering.{is_lt}
 use Rattle.live_set.specs.Loads.{LoadValue, is_for, map_or_empty}
 use Rattle.live_set.specs.Sets.{SetValue, HasAbsorbed, absorbed}
@@ -28,7 +29,8 @@ module _ {X : Type 0} (p q : X → Bool) where
   find_past out (z ∷ zs) ys =
       let rest = find_past out zs ys in
       elim (q z) as (λ b. q z ≡ b → find p (cond b (z ∷ filter q zs) (filter q zs) ++ ys) ≡ find p ys) [
-        | true ↦ λ e. ap (λ c. cond c (Some z) (find p (filter q zs ++ ys))) (lacks z false true (out z) e false_true) ∙ rest
+        | true ↦ λ e. ap (λ c. cond c (Some z) (find p (filter q zs ++ ys))) (lacks z false true (out z) e false_true)
+            ∙ rest
         | false ↦ λ e. rest
       ] refl
 
@@ -75,28 +77,39 @@ module _ (domain locale : List ℕ) (held : List LoadValue) (x : LoadValue) wher
   found_here : compared x (asked domain locale) ≡ Equal → find p (slotted held x) ≡ cond (p x) (Some x) (find p held)
   found_here h =
       let yes : p x ≡ true = tied_for domain locale x h in
-      let past : find p (slotted held x) ≡ find p (x ∷ filter after held) = find_past p before (λ z pz. ap is_lt (flipped x z Equal (is_beside Equal h z pz))) held (x ∷ filter after held) in
-      past ∙ ap (λ c. cond c (Some x) (find p (filter after held))) yes ∙ sym (ap (λ c. cond c (Some x) (find p held)) yes)
+      let past : find p (slotted held x) ≡ find p (x ∷ filter after held) = find_past p before
+      (λ z pz. ap is_lt (flipped x z Equal (is_beside Equal h z pz))) held (x ∷ filter after held) in
+      past ∙ ap (λ c. cond c (Some x) (find p (filter after held))) yes
+      ∙ sym (ap (λ c. cond c (Some x) (find p held)) yes)
 
   found_behind : compared x (asked domain locale) ≡ Less → find p (slotted held x) ≡ cond (p x) (Some x) (find p held)
   found_behind h =
       let no : p x ≡ false = not_for domain locale x Less h less_ne in
-      let past : find p (slotted held x) ≡ find p (x ∷ filter after held) = find_past p before (λ z pz. ap is_lt (flipped x z Less (is_beside Less h z pz))) held (x ∷ filter after held) in
-      let kept : find p (filter after held) ≡ find p held = find_kept p after (λ z pz. ap is_lt (is_beside Less h z pz)) held in
-      past ∙ ap (λ c. cond c (Some x) (find p (filter after held))) no ∙ kept ∙ sym (ap (λ c. cond c (Some x) (find p held)) no)
+      let past : find p (slotted held x) ≡ find p (x ∷ filter after held) = find_past p before
+      (λ z pz. ap is_lt (flipped x z Less (is_beside Less h z pz))) held (x ∷ filter after held) in
+      let kept : find p (filter after held) ≡ find p held = find_kept p after (λ z pz. ap is_lt (is_beside Less h z pz))
+      held in
+      past ∙ ap (λ c. cond c (Some x) (find p (filter after held))) no ∙ kept
+      ∙ sym (ap (λ c. cond c (Some x) (find p held)) no)
 
-  found_before : compared x (asked domain locale) ≡ Greater → find p (slotted held x) ≡ cond (p x) (Some x) (find p held)
+  found_before : compared x (asked domain locale) ≡ Greater → find p (slotted held x)
+      ≡ cond (p x) (Some x) (find p held)
   found_before h =
       let no : p x ≡ false = not_for domain locale x Greater h greater_ne in
-      let none : find p (filter after held) ≡ None = find_none p after (λ z pz. ap is_lt (is_beside Greater h z pz)) held in
-      let behind : find p (x ∷ filter after held) ≡ None = ap (λ c. cond c (Some x) (find p (filter after held))) no ∙ none in
-      let front : find p (slotted held x) ≡ find p (filter before held) = find_front p before (filter before held) (x ∷ filter after held) behind in
-      let kept : find p (filter before held) ≡ find p held = find_kept p before (λ z pz. ap is_lt (flipped x z Greater (is_beside Greater h z pz))) held in
+      let none : find p (filter after held) ≡ None = find_none p after (λ z pz. ap is_lt (is_beside Greater h z pz))
+      held in
+      let behind : find p (x ∷ filter after held) ≡ None = ap (λ c. cond c (Some x) (find p (filter after held))) no
+      ∙ none in
+      let front : find p (slotted held x) ≡ find p (filter before held) = find_front p before (filter before held)
+      (x ∷ filter after held) behind in
+      let kept : find p (filter before held) ≡ find p held = find_kept p before
+      (λ z pz. ap is_lt (flipped x z Greater (is_beside Greater h z pz))) held in
       front ∙ kept ∙ sym (ap (λ c. cond c (Some x) (find p held)) no)
 
   pub find-slotted : find p (slotted held x) ≡ cond (p x) (Some x) (find p held)
   find-slotted =
-      elim (compared x (asked domain locale)) as (λ o. compared x (asked domain locale) ≡ o → find p (slotted held x) ≡ cond (p x) (Some x) (find p held)) [
+      elim (compared x (asked domain locale)) as (λ o. compared x (asked domain locale) ≡ o → find p (slotted held x)
+      ≡ cond (p x) (Some x) (find p held)) [
         | Less ↦ λ e. found_behind e
         | Equal ↦ λ e. found_here e
         | Greater ↦ λ e. found_before e
@@ -104,14 +117,16 @@ module _ (domain locale : List ℕ) (held : List LoadValue) (x : LoadValue) wher
 
 -- ---- what each domain and locale has after one load
 
-map_by : (b : Bool) (o : Option LoadValue) (x : LoadValue) → map_or_empty (cond b (Some x) o) ≡ cond b x.map (map_or_empty o)
+map_by : (b : Bool) (o : Option LoadValue) (x : LoadValue) → map_or_empty (cond b (Some x) o)
+    ≡ cond b x.map (map_or_empty o)
 map_by true o x = refl
 map_by false o x = refl
 
 has_absorbed : (x : LoadValue) (s : SetValue) → HasAbsorbed x s (absorbed s x)
 has_absorbed x s = record {
   version = refl;
-  maps = λ domain locale. ap map_or_empty (find-slotted domain locale s.held x) ∙ map_by (is_for domain locale x) (find (is_for domain locale) s.held) x;
+  maps = λ domain locale. ap map_or_empty (find-slotted domain locale s.held x)
+      ∙ map_by (is_for domain locale x) (find (is_for domain locale) s.held) x;
 }
 
 pub absorbs : (x : LoadValue) (s t : SetValue) → t ≡ absorbed s x → HasAbsorbed x s t

@@ -1,5 +1,6 @@
 -- The order of loads by domain and locale, and which loads are for a domain and a locale.
-use Rattle.std.proofs.Common.{◌≡◌, ℕ, ◌≤◌, ◌&&◌, true, false, List, Ordering, Less, Equal, Greater, refl, sym, ap, ◌∙◌, subst, arith}
+use Rattle.std.proofs.Common.{◌≡◌, ℕ, ◌≤◌, ◌&&◌, true, false, List, Ordering, Less, Equal, Greater, refl, sym, ap, ◌∙◌}
+use Rattle.std.proofs.Common.{subst, arith}
 use Rattle.std.specs.Ordering.{nat_cmp, ordering_then, ordering_reverse, ordering_index}
 use Rattle.std.specs.Cmp.Lexicographic.{slice_cmp}
 use Rattle.std.specs.Cmp.{IsTotalOrder, first_so, second_so}
@@ -12,7 +13,8 @@ use Rattle.live_set.specs.Slots.{compared, asked}
 
 pub total : IsTotalOrder compared
 total =
-    let both = then_total (on_total (λ (l : LoadValue). l.locale) nat_list_cmp_total) (on_total (λ (l : LoadValue). l.domain) nat_list_cmp_total) in
+    let both = then_total (on_total (λ (l : LoadValue). l.locale) nat_list_cmp_total)
+    (on_total (λ (l : LoadValue). l.domain) nat_list_cmp_total) in
     record { antisymm = λ x y. both.antisymm x y; trans = λ x y z. both.trans x y z; congr = λ x y z. both.congr x y z }
 
 -- the other way round
@@ -31,21 +33,29 @@ equal_parts Equal b h = (refl, h)
 equal_parts Greater b h = absurd (greater_ne h)
 
 -- a load that ties with the pair is for it, and no other is
-pub tied_for : (domain locale : List ℕ) (l : LoadValue) → compared l (asked domain locale) ≡ Equal → is_for domain locale l ≡ true
+pub tied_for : (domain locale : List ℕ) (l : LoadValue) → compared l (asked domain locale) ≡ Equal
+    → is_for domain locale l ≡ true
 tied_for domain locale l h =
     let parts = equal_parts (slice_cmp nat_cmp l.locale locale) (slice_cmp nat_cmp l.domain domain) h in
-    let d : bytes_eq l.domain domain ≡ true = (bytes_eq-Decides l.domain domain).1 (slice_cmp-IsAntisymmetric nat_cmp-IsAntisymmetric l.domain domain parts.1) in
-    let e : bytes_eq l.locale locale ≡ true = (bytes_eq-Decides l.locale locale).1 (slice_cmp-IsAntisymmetric nat_cmp-IsAntisymmetric l.locale locale parts.0) in
+    let d : bytes_eq l.domain domain ≡ true = (bytes_eq-Decides l.domain domain).1
+    (slice_cmp-IsAntisymmetric nat_cmp-IsAntisymmetric l.domain domain parts.1) in
+    let e : bytes_eq l.locale locale ≡ true = (bytes_eq-Decides l.locale locale).1
+    (slice_cmp-IsAntisymmetric nat_cmp-IsAntisymmetric l.locale locale parts.0) in
     λ i. d i && e i
 
-pub for_tied : (domain locale : List ℕ) (l : LoadValue) → is_for domain locale l ≡ true → compared l (asked domain locale) ≡ Equal
+pub for_tied : (domain locale : List ℕ) (l : LoadValue) → is_for domain locale l ≡ true
+    → compared l (asked domain locale) ≡ Equal
 for_tied domain locale l h =
-    let d : l.domain ≡ domain = (bytes_eq-Decides l.domain domain).0 (first_so (bytes_eq l.domain domain) (bytes_eq l.locale locale) h) in
-    let e : l.locale ≡ locale = (bytes_eq-Decides l.locale locale).0 (second_so (bytes_eq l.domain domain) (bytes_eq l.locale locale) h) in
-    let same : compared l (asked domain locale) ≡ compared (asked domain locale) (asked domain locale) = λ i. ordering_then (slice_cmp nat_cmp (e i) locale) (slice_cmp nat_cmp (d i) domain) in
+    let d : l.domain ≡ domain = (bytes_eq-Decides l.domain domain).0
+    (first_so (bytes_eq l.domain domain) (bytes_eq l.locale locale) h) in
+    let e : l.locale ≡ locale = (bytes_eq-Decides l.locale locale).0
+    (second_so (bytes_eq l.domain domain) (bytes_eq l.locale locale) h) in
+    let same : compared l (asked domain locale) ≡ compared (asked domain locale) (asked domain locale) = λ i.
+    ordering_then (slice_cmp nat_cmp (e i) locale) (slice_cmp nat_cmp (d i) domain) in
     same ∙ tied_itself total (asked domain locale)
 
-pub not_for : (domain locale : List ℕ) (l : LoadValue) (o : Ordering) → compared l (asked domain locale) ≡ o → (o ≡ Equal → ⊥) → is_for domain locale l ≡ false
+pub not_for : (domain locale : List ℕ) (l : LoadValue) (o : Ordering) → compared l (asked domain locale) ≡ o
+    → (o ≡ Equal → ⊥) → is_for domain locale l ≡ false
 not_for domain locale l o h ne =
     elim (is_for domain locale l) as (λ r. is_for domain locale l ≡ r → r ≡ false) [
       | true ↦ λ e. absurd (ne (sym h ∙ for_tied domain locale l e))
@@ -53,7 +63,8 @@ not_for domain locale l o h ne =
     ] refl
 
 -- beside a load for the pair stands what stands beside the pair
-pub beside : (domain locale : List ℕ) (x z : LoadValue) → is_for domain locale z ≡ true → compared x z ≡ compared x (asked domain locale)
+pub beside : (domain locale : List ℕ) (x z : LoadValue) → is_for domain locale z ≡ true → compared x z
+    ≡ compared x (asked domain locale)
 beside domain locale x z h = alike_right total z (asked domain locale) x (for_tied domain locale z h)
 
 -- ---- comparisons with one load rise along rising loads
@@ -63,10 +74,13 @@ index_max Less = omega arith
 index_max Equal = omega arith
 index_max Greater = omega arith
 
-pub rises_with : (u v a : LoadValue) → compared u v ≡ Less → ordering_index (compared u a) ≤ ordering_index (compared v a)
+pub rises_with : (u v a : LoadValue) → compared u v ≡ Less → ordering_index (compared u a) ≤ ordering_index
+    (compared v a)
 rises_with u v a lt =
     elim (compared v a) as (λ o. compared v a ≡ o → ordering_index (compared u a) ≤ ordering_index o) [
-      | Less ↦ λ e. let least : compared u a ≡ Less = total.trans u v a lt e in subst (λ o. ordering_index o ≤ 0) (sym least) (omega arith)
-      | Equal ↦ λ e. let least : compared u a ≡ Less = sym (alike_right total v a u e) ∙ lt in subst (λ o. ordering_index o ≤ 1) (sym least) (omega arith)
+      | Less ↦ λ e. let least : compared u a ≡ Less = total.trans u v a lt e in subst (λ o. ordering_index o ≤ 0)
+          (sym least) (omega arith)
+      | Equal ↦ λ e. let least : compared u a ≡ Less = sym (alike_right total v a u e)
+          ∙ lt in subst (λ o. ordering_index o ≤ 1) (sym least) (omega arith)
       | Greater ↦ λ e. index_max (compared u a)
     ] refl

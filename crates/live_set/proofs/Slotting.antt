@@ -1,5 +1,7 @@
 -- A load that is put in its slot among rising loads, and a search for that slot by halves.
-use Rattle.std.proofs.Common.{◌≡◌, ℕ, zero, suc, ◌+◌, ◌<◌, ◌≤◌, Bool, true, false, cond, List, [], ◌∷◌, ◌++◌, length, get_or, take, drop, set, insert, filter, find, Some, None, Ordering, Less, Equal, Greater, Result, Ok, Err, IfOk, IfErr, refl, sym, ap, ap₂, ◌∙◌, subst, arith, inl, inr}
+use Rattle.std.proofs.Common.{◌≡◌, ℕ, zero, suc, ◌+◌, ◌<◌, ◌≤◌, Bool, true, false, cond, List, [], ◌∷◌, ◌++◌, length}
+use Rattle.std.proofs.Common.{get_or, take, drop, set, insert, filter, find, Some, None, Ordering, Less, Equal, Greater}
+use Rattle.std.proofs.Common.{Result, Ok, Err, IfOk, IfErr, refl, sym, ap, ap₂, ◌∙◌, subst, arith, inl, inr}
 use Rattle.std.specs.List.{AllByRecursion}
 use Rattle.std.specs.List.Sorted.{IsStrictlySortedBy, IsNonDecreasingBy, IsSearchInRange, IsBinarySearchResult}
 use Rattle.std.specs.Ordering.{is_lt, ordering_index}
@@ -14,18 +16,23 @@ use Rattle.live_set.proofs.Order.{total, flipped, rises_with, tied_for, not_for,
 
 -- ---- the search
 
-comparisons_rise : (held : List LoadValue) (a : LoadValue) → Rises held → IsNonDecreasingBy (λ y. ordering_index (compared y a)) held
+comparisons_rise : (held : List LoadValue) (a : LoadValue) → Rises held
+    → IsNonDecreasingBy (λ y. ordering_index (compared y a)) held
 comparisons_rise held a rises i j d le inside =
     elim (cases_lt i j) [
       | inl lt ↦ rises_with (get_or held i d) (get_or held j d) a (Less-from_sorted compared held i j d rises lt inside)
       | inr ge ↦
           let same : i ≡ j = omega (arith, le, ge) in
-          subst (λ k. ordering_index (compared (get_or held i d) a) ≤ ordering_index (compared (get_or held k d) a)) same (omega arith)
+          subst (λ k. ordering_index (compared (get_or held i d) a) ≤ ordering_index (compared (get_or held k d) a))
+          same (omega arith)
     ]
 
 -- a search by halves ends at the load for the pair, or at the gap for it
-pub searched : (held : List LoadValue) (domain locale : List ℕ) (r : Result ℕ ℕ) → Rises held → IsSearchInRange r (length held) → IsBinarySearchResult (λ y. compared y (asked domain locale)) held r → record { found : IfOk r (IsAt held domain locale); absent : IfErr r (IsGapFor held domain locale) }
-searched held domain locale (Ok at) rises in_range equal = record { found = record { in_range = in_range; tied = λ d. equal d }; absent = tt }
+pub searched : (held : List LoadValue) (domain locale : List ℕ) (r : Result ℕ ℕ) → Rises held
+    → IsSearchInRange r (length held) → IsBinarySearchResult (λ y. compared y (asked domain locale)) held r
+    → record { found : IfOk r (IsAt held domain locale); absent : IfErr r (IsGapFor held domain locale) }
+searched held domain locale (Ok at) rises in_range equal = record
+    { found = record { in_range = in_range; tied = λ d. equal d }; absent = tt }
 searched held domain locale (Err at) rises in_range parted =
     let parts = parted (comparisons_rise held (asked domain locale) rises) in
     record {
@@ -38,29 +45,38 @@ searched held domain locale (Err at) rises in_range parted =
     }
 
 -- the load after a lesser one, in a slot
-all_at : (y : LoadValue) (ys : List LoadValue) (i : ℕ) (d : LoadValue) → AllByRecursion (λ z. compared y z ≡ Less) ys → i < length ys → compared y (get_or ys i d) ≡ Less
+all_at : (y : LoadValue) (ys : List LoadValue) (i : ℕ) (d : LoadValue) → AllByRecursion (λ z. compared y z ≡ Less) ys
+    → i < length ys → compared y (get_or ys i d) ≡ Less
 all_at y [] i d all lt = absurd (omega arith)
 all_at y (z ∷ zs) zero d all lt = all.0
 all_at y (z ∷ zs) (suc i) d all lt = all_at y zs i d all.1 (omega arith)
 
 -- the load that ties with the pair is the one that is found
-found_at : (domain locale : List ℕ) (held : List LoadValue) (i : ℕ) (d : LoadValue) → Rises held → i < length held → is_for domain locale (get_or held i d) ≡ true → find (is_for domain locale) held ≡ Some (get_or held i d)
+found_at : (domain locale : List ℕ) (held : List LoadValue) (i : ℕ) (d : LoadValue) → Rises held → i < length held
+    → is_for domain locale (get_or held i d) ≡ true → find (is_for domain locale) held ≡ Some (get_or held i d)
 found_at domain locale [] i d rises lt here = absurd (omega arith)
 found_at domain locale (y ∷ ys) zero d rises lt here = ap (λ c. cond c (Some y) (find (is_for domain locale) ys)) here
 found_at domain locale (y ∷ ys) (suc i) d rises lt here =
     let inside : i < length ys = omega (arith, lt) in
-    let less : compared y (asked domain locale) ≡ Less = sym (beside domain locale y (get_or ys i d) here) ∙ all_at y ys i d (sorted_head compared y ys rises) inside in
-    ap (λ c. cond c (Some y) (find (is_for domain locale) ys)) (not_for domain locale y Less less less_ne) ∙ found_at domain locale ys i d (sorted_tail compared y ys rises) inside here
+    let less : compared y (asked domain locale) ≡ Less = sym (beside domain locale y (get_or ys i d) here)
+    ∙ all_at y ys i d (sorted_head compared y ys rises) inside in
+    ap (λ c. cond c (Some y) (find (is_for domain locale) ys)) (not_for domain locale y Less less less_ne)
+    ∙ found_at domain locale ys i d (sorted_tail compared y ys rises) inside here
 
-pub find_at : (held : List LoadValue) (domain locale : List ℕ) (i : ℕ) (x : LoadValue) → Rises held → IsAt held domain locale i → x ≡ get_or held i x → find (is_for domain locale) held ≡ Some x
-find_at held domain locale i x rises at read = found_at domain locale held i x rises at.in_range (tied_for domain locale (get_or held i x) (at.tied x)) ∙ ap (λ l. Some l) (sym read)
+pub find_at : (held : List LoadValue) (domain locale : List ℕ) (i : ℕ) (x : LoadValue) → Rises held
+    → IsAt held domain locale i → x ≡ get_or held i x → find (is_for domain locale) held ≡ Some x
+find_at held domain locale i x rises at read = found_at domain locale held i x rises at.in_range
+    (tied_for domain locale (get_or held i x) (at.tied x)) ∙ ap (λ l. Some l) (sym read)
 
-none_for : (p : LoadValue → Bool) (held : List LoadValue) → ((k : ℕ) (d : LoadValue) → k < length held → p (get_or held k d) ≡ false) → find p held ≡ None
+none_for : (p : LoadValue → Bool) (held : List LoadValue) → ((k : ℕ) (d : LoadValue) → k < length held
+    → p (get_or held k d) ≡ false) → find p held ≡ None
 none_for p [] none = refl
-none_for p (y ∷ ys) none = ap (λ c. cond c (Some y) (find p ys)) (none 0 y (omega arith)) ∙ none_for p ys (λ k d lt. none (suc k) d (omega arith))
+none_for p (y ∷ ys) none = ap (λ c. cond c (Some y) (find p ys)) (none 0 y (omega arith))
+    ∙ none_for p ys (λ k d lt. none (suc k) d (omega arith))
 
 -- where there is a gap none is found
-pub find_gap : (held : List LoadValue) (domain locale : List ℕ) (i : ℕ) → IsGapFor held domain locale i → find (is_for domain locale) held ≡ None
+pub find_gap : (held : List LoadValue) (domain locale : List ℕ) (i : ℕ) → IsGapFor held domain locale i
+    → find (is_for domain locale) held ≡ None
 find_gap held domain locale i gap = none_for (is_for domain locale) held (λ k d lt. elim (cases_lt k i) [
   | inl before ↦ not_for domain locale (get_or held k d) Less (gap.below k d before) less_ne
   | inr from ↦ not_for domain locale (get_or held k d) Greater (gap.above k d from lt) greater_ne
@@ -87,10 +103,12 @@ module _ (x : LoadValue) where
   IsAbove held i = (k : ℕ) (d : LoadValue) → i ≤ k → k < length held → compared (get_or held k d) x ≡ Greater
 
   -- what a filter does with the first load
-  first_before : (y : LoadValue) (ys : List LoadValue) (o : Ordering) → compared y x ≡ o → filter before (y ∷ ys) ≡ cond (is_lt o) (y ∷ filter before ys) (filter before ys)
+  first_before : (y : LoadValue) (ys : List LoadValue) (o : Ordering) → compared y x ≡ o → filter before (y ∷ ys)
+      ≡ cond (is_lt o) (y ∷ filter before ys) (filter before ys)
   first_before y ys o h = ap (λ r. cond (is_lt r) (y ∷ filter before ys) (filter before ys)) h
 
-  first_after : (y : LoadValue) (ys : List LoadValue) (o : Ordering) → compared x y ≡ o → filter after (y ∷ ys) ≡ cond (is_lt o) (y ∷ filter after ys) (filter after ys)
+  first_after : (y : LoadValue) (ys : List LoadValue) (o : Ordering) → compared x y ≡ o → filter after (y ∷ ys)
+      ≡ cond (is_lt o) (y ∷ filter after ys) (filter after ys)
   first_after y ys o h = ap (λ r. cond (is_lt r) (y ∷ filter after ys) (filter after ys)) h
 
   rest_below : (y : LoadValue) (ys : List LoadValue) (i : ℕ) → IsBelow (y ∷ ys) (suc i) → IsBelow ys i
@@ -109,21 +127,26 @@ module _ (x : LoadValue) where
   gap_before [] zero below above = refl
   gap_before [] (suc i) below above = refl
   gap_before (y ∷ ys) zero below above =
-      first_before y ys Greater (above 0 y (omega arith) (omega arith)) ∙ gap_before ys zero (none_below ys) (all_above y ys above)
+      first_before y ys Greater (above 0 y (omega arith) (omega arith))
+      ∙ gap_before ys zero (none_below ys) (all_above y ys above)
   gap_before (y ∷ ys) (suc i) below above =
-      first_before y ys Less (below 0 y (omega arith)) ∙ ap (λ t. y ∷ t) (gap_before ys i (rest_below y ys i below) (rest_above y ys i above))
+      first_before y ys Less (below 0 y (omega arith)) ∙ ap (λ t. y ∷ t)
+      (gap_before ys i (rest_below y ys i below) (rest_above y ys i above))
 
   gap_after : (held : List LoadValue) (i : ℕ) → IsBelow held i → IsAbove held i → filter after held ≡ drop i held
   gap_after [] zero below above = refl
   gap_after [] (suc i) below above = refl
   gap_after (y ∷ ys) zero below above =
-      first_after y ys Less (flipped y x Greater (above 0 y (omega arith) (omega arith))) ∙ ap (λ t. y ∷ t) (gap_after ys zero (none_below ys) (all_above y ys above))
+      first_after y ys Less (flipped y x Greater (above 0 y (omega arith) (omega arith)))
+      ∙ ap (λ t. y ∷ t) (gap_after ys zero (none_below ys) (all_above y ys above))
   gap_after (y ∷ ys) (suc i) below above =
-      first_after y ys Greater (flipped y x Less (below 0 y (omega arith))) ∙ gap_after ys i (rest_below y ys i below) (rest_above y ys i above)
+      first_after y ys Greater (flipped y x Less (below 0 y (omega arith)))
+      ∙ gap_after ys i (rest_below y ys i below) (rest_above y ys i above)
 
   -- among loads that leave a gap it is inserted there
   pub slotted_gap : (held : List LoadValue) (i : ℕ) → IsBelow held i → IsAbove held i → slotted held x ≡ insert held i x
-  slotted_gap held i below above = ap₂ (λ s t. s ++ x ∷ t) (gap_before held i below above) (gap_after held i below above)
+  slotted_gap held i below above = ap₂ (λ s t. s ++ x ∷ t) (gap_before held i below above)
+      (gap_after held i below above)
 
   -- ---- the slot of a load that it ties with
 
@@ -135,31 +158,37 @@ module _ (x : LoadValue) where
   all_after [] all = refl
   all_after (z ∷ zs) all = first_after z zs Less all.0 ∙ ap (λ t. z ∷ t) (all_after zs all.1)
 
-  same_beside : (y : LoadValue) (ys : List LoadValue) → compared y x ≡ Equal → AllByRecursion (λ z. compared y z ≡ Less) ys → AllByRecursion (λ z. compared x z ≡ Less) ys
+  same_beside : (y : LoadValue) (ys : List LoadValue) → compared y x ≡ Equal
+      → AllByRecursion (λ z. compared y z ≡ Less) ys → AllByRecursion (λ z. compared x z ≡ Less) ys
   same_beside y [] tied all = tt
   same_beside y (z ∷ zs) tied all = (sym (total.congr y x z tied) ∙ all.0, same_beside y zs tied all.1)
 
   -- it takes the place of that load
-  pub slotted_at : (held : List LoadValue) (i : ℕ) → Rises held → i < length held → compared (get_or held i x) x ≡ Equal → slotted held x ≡ set held i x
+  pub slotted_at : (held : List LoadValue) (i : ℕ) → Rises held → i < length held → compared (get_or held i x) x ≡ Equal
+      → slotted held x ≡ set held i x
   slotted_at [] i rises lt tied = absurd (omega arith)
   slotted_at (y ∷ ys) zero rises lt tied =
       let greater = same_beside y ys tied (sorted_head compared y ys rises) in
       let front : filter before (y ∷ ys) ≡ [] = first_before y ys Equal tied ∙ none_before ys greater in
-      let back : filter after (y ∷ ys) ≡ ys = first_after y ys Equal (tied_back total y x tied) ∙ all_after ys greater in
+      let back : filter after (y ∷ ys) ≡ ys = first_after y ys Equal (tied_back total y x tied)
+      ∙ all_after ys greater in
       ap₂ (λ s t. s ++ x ∷ t) front back
   slotted_at (y ∷ ys) (suc i) rises lt tied =
       let inside : i < length ys = omega (arith, lt) in
-      let less : compared y x ≡ Less = sym (alike_right total (get_or ys i x) x y tied) ∙ all_at y ys i x (sorted_head compared y ys rises) inside in
+      let less : compared y x ≡ Less = sym (alike_right total (get_or ys i x) x y tied)
+      ∙ all_at y ys i x (sorted_head compared y ys rises) inside in
       let front : filter before (y ∷ ys) ≡ y ∷ filter before ys = first_before y ys Less less in
       let back : filter after (y ∷ ys) ≡ filter after ys = first_after y ys Greater (flipped y x Less less) in
-      ap₂ (λ s t. s ++ x ∷ t) front back ∙ ap (λ t. y ∷ t) (slotted_at ys i (sorted_tail compared y ys rises) inside tied)
+      ap₂ (λ s t. s ++ x ∷ t) front back ∙ ap (λ t. y ∷ t) (slotted_at ys i (sorted_tail compared y ys rises) inside
+      tied)
 
   -- ---- the loads rise afterwards
 
   passes_before : (ys : List LoadValue) → AllByRecursion (λ z. compared z x ≡ Less) (filter before ys)
   passes_before [] = tt
   passes_before (z ∷ zs) =
-      elim (compared z x) as (λ o. compared z x ≡ o → AllByRecursion (λ w. compared w x ≡ Less) (cond (is_lt o) (z ∷ filter before zs) (filter before zs))) [
+      elim (compared z x) as (λ o. compared z x ≡ o → AllByRecursion (λ w. compared w x ≡ Less)
+      (cond (is_lt o) (z ∷ filter before zs) (filter before zs))) [
         | Less ↦ λ e. (e, passes_before zs)
         | Equal ↦ λ e. passes_before zs
         | Greater ↦ λ e. passes_before zs
@@ -168,47 +197,60 @@ module _ (x : LoadValue) where
   passes_after : (ys : List LoadValue) → AllByRecursion (λ z. compared x z ≡ Less) (filter after ys)
   passes_after [] = tt
   passes_after (z ∷ zs) =
-      elim (compared x z) as (λ o. compared x z ≡ o → AllByRecursion (λ w. compared x w ≡ Less) (cond (is_lt o) (z ∷ filter after zs) (filter after zs))) [
+      elim (compared x z) as (λ o. compared x z ≡ o → AllByRecursion (λ w. compared x w ≡ Less)
+      (cond (is_lt o) (z ∷ filter after zs) (filter after zs))) [
         | Less ↦ λ e. (e, passes_after zs)
         | Equal ↦ λ e. passes_after zs
         | Greater ↦ λ e. passes_after zs
       ] refl
 
-  farther : (z : LoadValue) (ys : List LoadValue) → compared z x ≡ Less → AllByRecursion (λ w. compared x w ≡ Less) ys → AllByRecursion (λ w. compared z w ≡ Less) ys
+  farther : (z : LoadValue) (ys : List LoadValue) → compared z x ≡ Less → AllByRecursion (λ w. compared x w ≡ Less) ys
+      → AllByRecursion (λ w. compared z w ≡ Less) ys
   farther z [] lt all = tt
   farther z (w ∷ ws) lt all = (total.trans z x w lt all.0, farther z ws lt all.1)
 
-  joined : (z : LoadValue) (xs ys : List LoadValue) → AllByRecursion (λ w. compared z w ≡ Less) xs → AllByRecursion (λ w. compared z w ≡ Less) ys → AllByRecursion (λ w. compared z w ≡ Less) (xs ++ ys)
+  joined : (z : LoadValue) (xs ys : List LoadValue) → AllByRecursion (λ w. compared z w ≡ Less) xs
+      → AllByRecursion (λ w. compared z w ≡ Less) ys → AllByRecursion (λ w. compared z w ≡ Less) (xs ++ ys)
   joined z [] ys front back = back
   joined z (w ∷ ws) ys front back = (front.0, joined z ws ys front.1 back)
 
-  cons_rises : (y : LoadValue) (ys : List LoadValue) → AllByRecursion (λ z. compared y z ≡ Less) ys → Rises ys → Rises (y ∷ ys)
+  cons_rises : (y : LoadValue) (ys : List LoadValue) → AllByRecursion (λ z. compared y z ≡ Less) ys → Rises ys
+      → Rises (y ∷ ys)
   unfolding IsStrictlySortedBy
   cons_rises y ys all rises = (all, rises)
 
-  joined_rises : (xs ys : List LoadValue) → Rises xs → AllByRecursion (λ z. compared z x ≡ Less) xs → AllByRecursion (λ z. compared x z ≡ Less) ys → Rises ys → Rises (xs ++ x ∷ ys)
+  joined_rises : (xs ys : List LoadValue) → Rises xs → AllByRecursion (λ z. compared z x ≡ Less) xs
+      → AllByRecursion (λ z. compared x z ≡ Less) ys → Rises ys → Rises (xs ++ x ∷ ys)
   joined_rises [] ys front lower upper back = cons_rises x ys upper back
   joined_rises (z ∷ zs) ys front lower upper back =
-      cons_rises z (zs ++ x ∷ ys) (joined z zs (x ∷ ys) (sorted_head compared z zs front) (lower.0, farther z ys lower.0 upper)) (joined_rises zs ys (sorted_tail compared z zs front) lower.1 upper back)
+      cons_rises z (zs ++ x ∷ ys) (joined z zs (x ∷ ys) (sorted_head compared z zs front)
+      (lower.0, farther z ys lower.0 upper)) (joined_rises zs ys (sorted_tail compared z zs front) lower.1 upper
+      back)
 
   pub slotted_rises : (held : List LoadValue) → Rises held → Rises (slotted held x)
   slotted_rises held rises =
-      joined_rises (filter before held) (filter after held) (IsStrictlySortedBy-filter compared before held rises) (passes_before held) (passes_after held) (IsStrictlySortedBy-filter compared after held rises)
+      joined_rises (filter before held) (filter after held) (IsStrictlySortedBy-filter compared before held rises)
+      (passes_before held) (passes_after held) (IsStrictlySortedBy-filter compared after held rises)
 
   -- ---- by a search for its own domain and locale
 
   own : (d l : List ℕ) → d ≡ x.domain → l ≡ x.locale → (y : LoadValue) → compared y x ≡ compared y (asked d l)
   own d l de le y = λ i. compared y (asked (sym de i) (sym le i))
 
-  pub put_at : (held : List LoadValue) (d l : List ℕ) (i : ℕ) → Rises held → d ≡ x.domain → l ≡ x.locale → IsAt held d l i → slotted held x ≡ set held i x
+  pub put_at : (held : List LoadValue) (d l : List ℕ) (i : ℕ) → Rises held → d ≡ x.domain → l ≡ x.locale
+      → IsAt held d l i → slotted held x ≡ set held i x
   put_at held d l i rises de le at = slotted_at held i rises at.in_range (own d l de le (get_or held i x) ∙ at.tied x)
 
-  pub put_gap : (held : List LoadValue) (d l : List ℕ) (i : ℕ) → d ≡ x.domain → l ≡ x.locale → IsGapFor held d l i → slotted held x ≡ insert held i x
-  put_gap held d l i de le gap = slotted_gap held i (λ k z lt. own d l de le (get_or held k z) ∙ gap.below k z lt) (λ k z from lt. own d l de le (get_or held k z) ∙ gap.above k z from lt)
+  pub put_gap : (held : List LoadValue) (d l : List ℕ) (i : ℕ) → d ≡ x.domain → l ≡ x.locale → IsGapFor held d l i
+      → slotted held x ≡ insert held i x
+  put_gap held d l i de le gap = slotted_gap held i (λ k z lt. own d l de le (get_or held k z) ∙ gap.below k z lt)
+      (λ k z from lt. own d l de le (get_or held k z) ∙ gap.above k z from lt)
 
 abbrev set_value : ℕ → List LoadValue → SetValue
 set_value version held = record { version = version; held = held }
 
 -- a set of these loads, after the load was put there
-pub put_value : (x : LoadValue) (version : ℕ) (items new : List LoadValue) (s : SetValue) → set_value version items ≡ s → slotted items x ≡ new → set_value version new ≡ set_value s.version (slotted s.held x)
-put_value x version items new s view is = ap (set_value version) (sym is) ∙ ap (λ (t : SetValue). set_value t.version (slotted t.held x)) view
+pub put_value : (x : LoadValue) (version : ℕ) (items new : List LoadValue) (s : SetValue) → set_value version items ≡ s
+    → slotted items x ≡ new → set_value version new ≡ set_value s.version (slotted s.held x)
+put_value x version items new s view is = ap (set_value version) (sym is)
+    ∙ ap (λ (t : SetValue). set_value t.version (slotted t.held x)) view

@@ -27,7 +27,8 @@ abbrev pub HasValue : List Entry → AskValue → List ℕ → Type 0
 HasValue m (Plain id) text = IsFirstForm (entry_at m (key_bytes None id)) id text
 HasValue m (Context context id) text = IsFirstForm (entry_at m (key_bytes (Some context) id)) id text
 HasValue m (Number id plural n) text = IsCounted m (entry_at m (key_bytes None id)) n (text_by n id plural) text
-HasValue m (ContextNumber context id plural n) text = IsCounted m (entry_at m (key_bytes (Some context) id)) n (text_by n id plural) text
+HasValue m (ContextNumber context id plural n) text = IsCounted m (entry_at m (key_bytes (Some context) id)) n
+    (text_by n id plural) text
 
 -- what the query is answered after these loads: the value over the map of its domain and locale
 abbrev pub IsAnswer : List LoadValue → QueryValue → List ℕ → Type 0
@@ -38,4 +39,5 @@ abbrev pub ask_value : Ask → AskValue
 ask_value (ask.Plain id) = Plain (string_bytes id)
 ask_value (ask.Context context id) = Context (string_bytes context) (string_bytes id)
 ask_value (ask.Number id plural n) = Number (string_bytes id) (string_bytes plural) n
-ask_value (ask.ContextNumber context id plural n) = ContextNumber (string_bytes context) (string_bytes id) (string_bytes plural) n
+ask_value (ask.ContextNumber context id plural n) = ContextNumber (string_bytes context) (string_bytes id)
+    (string_bytes plural) n

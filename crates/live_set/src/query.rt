@@ -44,5 +44,10 @@ impl Model for Query {
     ghost use Rattle.std.specs.Prelude.{string_bytes};
     ghost use Rattle.live_set.specs.Asks.{ask_value};
 
-    ghost view = { λ query. record { domain = string_bytes query.domain; locale = string_bytes query.locale; ask = ask_value query.ask } };
+    ghost view = { λ query. record {
+      domain = string_bytes query.domain;
+      locale = string_bytes query.locale;
+      ask =
+          ask_value query.ask;
+    } };
 }

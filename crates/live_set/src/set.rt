@@ -60,7 +60,8 @@ impl CatalogueSet {
 
     /// The catalogue for this domain and locale, if there is one.
     fn catalogue(&self, domain: &str, locale: &str) -> Option<&Catalogue>
-        ensures { option_map (λ c. c.now) result ≡ option_map (λ l. l.map) (find (is_for domain.now locale.now) self.now.held) }
+        ensures { option_map (λ c. c.now) result ≡ option_map (λ l. l.map)
+            (find (is_for domain.now locale.now) self.now.held) }
     {
         match self.slot(&TextKey::new(domain), &TextKey::new(locale)) {
             Ok(at) => Some(self.held[at].catalogue()),
@@ -70,7 +71,8 @@ impl CatalogueSet {
 
     /// Puts a load in its slot, over the one for its domain and locale if there is one.
     fn put(&mut self, load: Load) -> Result<(), AllocError>
-        ensures { MatchResult result (λ _. self.new ≡ record { version = self.old.version; held = slotted self.old.held load }) (λ _. self.new ≡ self.old) }
+        ensures { MatchResult result (λ _. self.new ≡ record
+            { version = self.old.version; held = slotted self.old.held load }) (λ _. self.new ≡ self.old) }
     {
         match self.slot(&load.domain(), &load.locale()) {
             Ok(at) => {
@@ -144,7 +146,8 @@ impl CatalogueSet {
         plural: &'a str,
         n: u64,
     ) -> &'a str
-        ensures { HasValue (map_in self.now.held domain.now locale.now) (ContextNumber context.now id.now plural.now n) result.now }
+        ensures { HasValue (map_in self.now.held domain.now locale.now) (ContextNumber context.now id.now plural.now n)
+            result.now }
     {
         match self.catalogue(domain, locale) {
             Some(catalogue) => catalogue.npgettext(context, id, plural, n),

@@ -16,7 +16,8 @@ loads_of-append [] b = refl
 loads_of-append (Load x ∷ cs) b = ap (λ l. x ∷ l) (loads_of-append cs b)
 loads_of-append (Seal f ∷ cs) b = loads_of-append cs b
 
-pub load_added : (old new : List Change) (x : LoadValue) → new ≡ old ++ Load x ∷ [] → loads_of new ≡ loads_of old ++ x ∷ []
+pub load_added : (old new : List Change) (x : LoadValue) → new ≡ old ++ Load x ∷ [] → loads_of new ≡ loads_of old ++ x
+    ∷ []
 load_added old new x is = ap loads_of is ∙ loads_of-append old (Load x ∷ [])
 
 pub seal_added : (old new : List Change) (f : SeenValue) → new ≡ old ++ Seal f ∷ [] → loads_of new ≡ loads_of old
@@ -29,8 +30,11 @@ fold-set s (Load x ∷ cs) = fold-set (applied_to s (Load x)) cs
 fold-set s (Seal f ∷ cs) = fold-set (applied_to s (Seal f)) cs
 
 -- the last seal is what counts
-pub fold-sealed : (s : Common) (cs : List Change) (f : SeenValue) → EndsIn f cs → fold applied_to s cs ≡ record { set = fold absorbed s.set (loads_of cs); seen = f }
+pub fold-sealed : (s : Common) (cs : List Change) (f : SeenValue) → EndsIn f cs → fold applied_to s cs
+    ≡ record { set = fold absorbed s.set (loads_of cs); seen = f }
 fold-sealed s cs f ends =
-    let last : fold applied_to s cs ≡ applied_to (fold applied_to s ends.0) (Seal f) = ap (λ l. fold applied_to s l) ends.1 ∙ fold-append applied_to s ends.0 (Seal f ∷ []) in
+    let last : fold applied_to s cs ≡ applied_to (fold applied_to s ends.0) (Seal f) = ap (λ l. fold applied_to s l)
+    ends.1 ∙ fold-append applied_to s ends.0 (Seal f ∷ []) in
     let all : loads_of cs ≡ loads_of ends.0 = seal_added ends.0 cs f ends.1 in
-    last ∙ ap (λ (z : SetValue). record { set = z; seen = f }) (fold-set s ends.0 ∙ ap (λ l. fold absorbed s.set l) (sym all))
+    last ∙ ap (λ (z : SetValue). record { set = z; seen = f })
+    (fold-set s ends.0 ∙ ap (λ l. fold absorbed s.set l) (sym all))

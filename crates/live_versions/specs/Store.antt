@@ -31,7 +31,8 @@ abbrev pub HasRoom : StoreValue → Type 0
 HasRoom s = accepted s < s.most
 
 -- the load is accepted: what the text means is the last of the pending loads
-pub record Accepts (s : StoreValue) (domain locale text : List ℕ) (options : Options) (stats : Stats) (after : StoreValue) : Type 0 where
+pub record Accepts (s : StoreValue) (domain locale text : List ℕ) (options : Options) (stats : Stats)
+    (after : StoreValue) : Type 0 where
   pub compiled : Compiled
   pub names : AreNames domain locale
   pub room : HasRoom s

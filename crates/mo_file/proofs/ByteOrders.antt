@@ -6,9 +6,11 @@ use Rattle.byteorder.specs.Endian.{little_number, big_number}
 use Rattle.mo_file.specs.MoReading.{order}
 
 pub eqb-ne : (a b : ℕ) → a ≢ b → eqb a b ≡ false
-eqb-ne a b ne = elim (eqb a b) as (λ r. eqb a b ≡ r → r ≡ false) [ true ↦ λ e. absurd (ne (eqb-true a b e)) | false ↦ λ e. refl ] refl
+eqb-ne a b ne = elim (eqb a b) as (λ r. eqb a b ≡ r → r ≡ false)
+    [ true ↦ λ e. absurd (ne (eqb-true a b e)) | false ↦ λ e. refl ] refl
 
-order_by : (bytes : List ℕ) (b : Bool) → eqb (little_number 4 bytes) 0x950412de ≡ b → order bytes ≡ cond b little_number big_number
+order_by : (bytes : List ℕ) (b : Bool) → eqb (little_number 4 bytes) 0x950412de ≡ b → order bytes
+    ≡ cond b little_number big_number
 order_by bytes b e = ap (λ t. cond t little_number big_number) e
 
 pub order_little : (bytes : List ℕ) → little_number 4 bytes ≡ 0x950412de → order bytes ≡ little_number

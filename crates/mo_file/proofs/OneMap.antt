@@ -5,7 +5,8 @@ use Rattle.catalogue.specs.Entry.{Entry, translation}
 use Rattle.mo_file.specs.Tables.{strings}
 use Rattle.mo_file.specs.MoReading.{Mo, Refused, rank, order, count, originals_start, translations_start}
 use Rattle.mo_file.specs.declared.fault.MoFault.{MoFault}
-use Rattle.mo_file.specs.declared.fault.MoFault.TheVariants.{TooLarge, Short, Magic, Revision, Bounds, NoNul, BadText, Forms, Order, Charset, Swollen, Memory}
+use Rattle.mo_file.specs.declared.fault.MoFault.TheVariants.{TooLarge, Short, Magic, Revision, Bounds, NoNul, BadText}
+use Rattle.mo_file.specs.declared.fault.MoFault.TheVariants.{Forms, Order, Charset, Swollen, Memory}
 use Rattle.catalogue.specs.Map.{IsLawful}
 use Rattle.catalogue.specs.MoFile.{spelling}
 use Rattle.mo_file.specs.Pairs.{entries_of}
@@ -13,19 +14,23 @@ use Rattle.mo_file.proofs.ReadBack.{reads_back}
 use Rattle.mo_file.proofs.Entries.{entries_again}
 
 read_from : (bytes : List ℕ) (m : List Entry) → Mo bytes m
-    → m ≡ entries_of (strings (order bytes) bytes (originals_start (order bytes) bytes) (count (order bytes) bytes)) (strings (order bytes) bytes (translations_start (order bytes) bytes) (count (order bytes) bytes))
+    → m ≡ entries_of (strings (order bytes) bytes (originals_start (order bytes) bytes) (count (order bytes) bytes))
+    (strings (order bytes) bytes (translations_start (order bytes) bytes) (count (order bytes) bytes))
 read_from bytes m mo =
     sym (entries_again m mo.lawful.each) ∙ ap (λ (os : List (List ℕ)). entries_of os (map translation m)) mo.originals
-    ∙ ap (entries_of (strings (order bytes) bytes (originals_start (order bytes) bytes) (count (order bytes) bytes))) mo.translations
+    ∙ ap (entries_of (strings (order bytes) bytes (originals_start (order bytes) bytes) (count (order bytes) bytes)))
+    mo.translations
 
 pub unique_map : (bytes : List ℕ) (m n : List Entry) → Mo bytes m → Mo bytes n → m ≡ n
 unique_map bytes m n p q = read_from bytes m p ∙ sym (read_from bytes n q)
 
-pub refused_map : (bytes : List ℕ) (m : List Entry) (fault : MoFault) → rank fault < 12 → Refused bytes fault → Mo bytes m → ⊥
+pub refused_map : (bytes : List ℕ) (m : List Entry) (fault : MoFault) → rank fault < 12 → Refused bytes fault
+    → Mo bytes m → ⊥
 refused_map bytes m fault test refused mo = (refused test).0 (mo.passed fault test)
 
 -- the file of a map is read back
-pub reread_map : (m : List Entry) (bytes : List ℕ) (r : Result (List Entry) MoFault) → IsLawful m → bytes ≡ spelling m → IfOk r (λ c. Mo bytes c) → IfOk r (λ c. c ≡ m)
+pub reread_map : (m : List Entry) (bytes : List ℕ) (r : Result (List Entry) MoFault) → IsLawful m → bytes ≡ spelling m
+    → IfOk r (λ c. Mo bytes c) → IfOk r (λ c. c ≡ m)
 reread_map m bytes (Ok c) lawful is mo = unique_map bytes c m mo (subst (λ b. Mo b m) (sym is) (reads_back m lawful))
 reread_map m bytes (Err f) lawful is mo = tt
 
@@ -43,6 +48,8 @@ only_memory m bytes Charset mo refused = absurd (refused_map bytes m Charset (om
 only_memory m bytes Swollen mo refused = absurd (refused_map bytes m Swollen (omega arith) refused mo)
 only_memory m bytes Memory mo refused = refl
 
-pub reread_fault : (m : List Entry) (bytes : List ℕ) (r : Result (List Entry) MoFault) → IsLawful m → bytes ≡ spelling m → IfErr r (λ f. Refused bytes f) → IfErr r (λ f. f ≡ Memory)
+pub reread_fault : (m : List Entry) (bytes : List ℕ) (r : Result (List Entry) MoFault) → IsLawful m → bytes ≡ spelling m
+    → IfErr r (λ f. Refused bytes f) → IfErr r (λ f. f ≡ Memory)
 reread_fault m bytes (Ok c) lawful is refused = tt
-reread_fault m bytes (Err f) lawful is refused = only_memory m bytes f (subst (λ b. Mo b m) (sym is) (reads_back m lawful)) refused
+reread_fault m bytes (Err f) lawful is refused = only_memory m bytes f
+    (subst (λ b. Mo b m) (sym is) (reads_back m lawful)) refused

@@ -1,6 +1,7 @@
 -- Which bytes are an MO file, and of which map (manual, "The Format of GNU MO Files"); and why other bytes
 -- are refused.
-use Rattle.std.specs.Prelude.{◌≡◌, ℕ, ◌+◌, ◌*◌, ◌<◌, ◌≤◌, ⊤, ◌==◌, if◌then◌else◌, List, [], length, map, slice_index, count_by}
+use Rattle.std.specs.Prelude.{◌≡◌, ℕ, ◌+◌, ◌*◌, ◌<◌, ◌≤◌, ⊤, ◌==◌, if◌then◌else◌, List, [], length, map, slice_index}
+use Rattle.std.specs.Prelude.{count_by}
 use Rattle.std.specs.List.{before_first}
 use Rattle.std.specs.Ordering.{nat_cmp}
 use Rattle.std.specs.declared.cmp.Ordering.TheVariants.{Less}
@@ -12,7 +13,8 @@ use Rattle.catalogue.specs.MoFile.{file}
 use Rattle.catalogue.specs.Map.{IsLawful, HasAcceptedCharset}
 use Rattle.mo_file.specs.Tables.{word_at, string_at, strings}
 use Rattle.mo_file.specs.declared.fault.MoFault.{MoFault}
-use Rattle.mo_file.specs.declared.fault.MoFault.TheVariants.{TooLarge, Short, Magic, Revision, Bounds, NoNul, BadText, Forms, Order, Charset, Swollen, Memory}
+use Rattle.mo_file.specs.declared.fault.MoFault.TheVariants.{TooLarge, Short, Magic, Revision, Bounds, NoNul, BadText}
+use Rattle.mo_file.specs.declared.fault.MoFault.TheVariants.{Forms, Order, Charset, Swollen, Memory}
 
 -- ---- a file and its two tables of strings
 

@@ -11,4 +11,5 @@ named number bytes o t n = entries_of (strings number bytes o n) (strings number
 
 -- those of a file
 abbrev pub named_in : (ℕ → List ℕ → ℕ) → List ℕ → List Entry
-named_in number bytes = named number bytes (originals_start number bytes) (translations_start number bytes) (count number bytes)
+named_in number bytes = named number bytes (originals_start number bytes) (translations_start number bytes)
+    (count number bytes)

@@ -9,8 +9,10 @@ ghost use Rattle.mo_file.specs.declared.fault.MoFault.{MoFault};
 /// Bytes are an MO file of one map, or a refusal holds, and never both nor neither.
 pub fn one_map()
     ensures unique { (bytes : List ℕ) (m n : List Entry) → Mo bytes m → Mo bytes n → m ≡ n }
-    ensures refused { (bytes : List ℕ) (m : List Entry) (fault : MoFault) → rank fault < 12 → Refused bytes fault → ¬ Mo bytes m }
-    ensures some { (bytes : List ℕ) → ((m : List Entry) → ¬ Mo bytes m) → ¬ ¬ ((fault : MoFault) × (rank fault < 12) × Refused bytes fault) }
+    ensures refused { (bytes : List ℕ) (m : List Entry) (fault : MoFault) → rank fault < 12 → Refused bytes fault
+        → ¬ Mo bytes m }
+    ensures some { (bytes : List ℕ) → ((m : List Entry) → ¬ Mo bytes m)
+        → ¬ ¬ ((fault : MoFault) × (rank fault < 12) × Refused bytes fault) }
 {}
 
 /// The file that is written of a map is an MO file of that map, for each map of a catalogue.

@@ -2,7 +2,8 @@
 ghost use Rattle.std.specs.Prelude.{◌≡◌, ◌+◌, ◌^◌, ◌<◌, ◌≤◌, length, IfOk, IfErr, Some, option_map};
 ghost use Rattle.std.specs.Str.{IsUtf8};
 ghost use Rattle.mo_file.specs.Tables.{string_at};
-ghost use Rattle.mo_file.specs.MoReading.{table_at, file_by, StringLies, before_nul, TableLies, AreOriginalTexts, AreTranslationTexts, PassesBelow, Refused, Mo};
+ghost use Rattle.mo_file.specs.MoReading.{table_at, file_by, StringLies, before_nul, TableLies, AreOriginalTexts};
+ghost use Rattle.mo_file.specs.MoReading.{AreTranslationTexts, PassesBelow, Refused, Mo};
 ghost use Rattle.mo_file.specs.Pairs.{plural_part, entry_of, named, named_in};
 
 use crate::fault::MoFault;

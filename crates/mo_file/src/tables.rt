@@ -1,8 +1,10 @@
 //! The tests of a table of strings, or of two. Each goes over the whole table.
-ghost use Rattle.std.specs.Prelude.{◌-◌, ◌+◌, ◌≡◌, ◌↔◌, ◌^◌, ◌<◌, ◌≤◌, ◌==◌, ◌*◌, length, min, IsTrue, MatchOption, count_by};
+ghost use Rattle.std.specs.Prelude.{◌-◌, ◌+◌, ◌≡◌, ◌↔◌, ◌^◌, ◌<◌, ◌≤◌, ◌==◌, ◌*◌, length, min, IsTrue, MatchOption};
+ghost use Rattle.std.specs.Prelude.{count_by};
 ghost use Rattle.catalogue.specs.MoFile.{pool};
 ghost use Rattle.mo_file.specs.Tables.{string_at, strings};
-ghost use Rattle.mo_file.specs.MoReading.{table_at, string_in, TableLies, AllClosed, AreOriginalTexts, AreTranslationTexts, HaveLawfulForms, KeysRise, HaveLawfulHeaders, Fits};
+ghost use Rattle.mo_file.specs.MoReading.{table_at, string_in, TableLies, AllClosed, AreOriginalTexts};
+ghost use Rattle.mo_file.specs.MoReading.{AreTranslationTexts, HaveLawfulForms, KeysRise, HaveLawfulHeaders, Fits};
 
 use crate::rows::{is_closed, is_same_row, string, string_lies, word};
 use crate::texts::{
@@ -51,7 +53,8 @@ fn new_string<T: ByteOrder>(bytes: &[u8], table: usize, n: usize, i: usize) -> O
     requires lies { TableLies (table_at T.number_of bytes.now table n) }
     requires within { i < n }
     ensures { let rows = table_at T.number_of bytes.now table n in
-        MatchOption result ((0 < i) × (string_in rows (i - 1) ≡ string_in rows i)) (λ string. string.now ≡ string_in rows i) }
+        MatchOption result ((0 < i) × (string_in rows (i - 1) ≡ string_in rows i))
+        (λ string. string.now ≡ string_in rows i) }
 {
     let row = table + ROW_LEN * i;
     if i > 0 {
@@ -98,7 +101,8 @@ pub(crate) fn translations_are_text<T: ByteOrder>(bytes: &[u8], table: usize, n:
 fn nuls_at<T: ByteOrder>(bytes: &[u8], table: usize, n: usize, i: usize, before: usize) -> usize
     requires lies { TableLies (table_at T.number_of bytes.now table n) }
     requires within { i < n }
-    requires before { 0 < i → before ≡ min (count_by (λ b. b == 0) (string_at T.number_of bytes.now (table + 8 * (i - 1)))) 2 }
+    requires before { 0 < i → before ≡ min (count_by (λ b. b == 0)
+        (string_at T.number_of bytes.now (table + 8 * (i - 1)))) 2 }
     ensures { result ≡ min (count_by (λ b. b == 0) (string_at T.number_of bytes.now (table + 8 * i))) 2 }
 {
     match new_string::<T>(bytes, table, n, i) {
@@ -116,7 +120,8 @@ pub(crate) fn have_lawful_forms<T: ByteOrder>(
 ) -> bool
     requires originals { TableLies (table_at T.number_of bytes.now originals n) }
     requires translations { TableLies (table_at T.number_of bytes.now translations n) }
-    ensures { IsTrue result ↔ HaveLawfulForms (table_at T.number_of bytes.now originals n) (table_at T.number_of bytes.now translations n) }
+    ensures { IsTrue result ↔ HaveLawfulForms (table_at T.number_of bytes.now originals n)
+        (table_at T.number_of bytes.now translations n) }
 {
     let mut plurals = 0;
     let mut forms = 0;
@@ -158,7 +163,8 @@ pub(crate) fn have_lawful_headers<T: ByteOrder>(
     requires originals { TableLies (table_at T.number_of bytes.now originals n) }
     requires translations { TableLies (table_at T.number_of bytes.now translations n) }
     requires texts { AreTranslationTexts (table_at T.number_of bytes.now translations n) }
-    ensures { IsTrue result ↔ HaveLawfulHeaders (table_at T.number_of bytes.now originals n) (table_at T.number_of bytes.now translations n) }
+    ensures { IsTrue result ↔ HaveLawfulHeaders (table_at T.number_of bytes.now originals n)
+        (table_at T.number_of bytes.now translations n) }
 {
     for i in 0..n {
         let original = string::<T>(bytes, originals + ROW_LEN * i);
@@ -196,7 +202,8 @@ pub(crate) fn fits<T: ByteOrder>(
     requires originals { TableLies (table_at T.number_of bytes.now originals n) }
     requires translations { TableLies (table_at T.number_of bytes.now translations n) }
     requires count { n < 2 ^ 32 }
-    ensures { IsTrue result ↔ Fits (table_at T.number_of bytes.now originals n) (table_at T.number_of bytes.now translations n) }
+    ensures { IsTrue result ↔ Fits (table_at T.number_of bytes.now originals n)
+        (table_at T.number_of bytes.now translations n) }
 {
     HEADER_LEN
         + 2 * ROW_LEN * n

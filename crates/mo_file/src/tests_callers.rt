@@ -37,7 +37,8 @@ fn labels<'a>(
     n: u64,
 ) -> (&'a str, &'a str)
     ensures title { IsFirstForm (entry_at catalogue.now title.now) title.now result.0.now }
-    ensures label { IsCounted catalogue.now (entry_at catalogue.now one.now) n (text_by n one.now many.now) result.1.now }
+    ensures label { IsCounted catalogue.now (entry_at catalogue.now one.now) n
+        (text_by n one.now many.now) result.1.now }
 {
     (catalogue.gettext(title), catalogue.ngettext(one, many, n))
 }

@@ -7,10 +7,12 @@ use Rattle.mo_image.specs.Tables.{string_at}
 use Rattle.mo_image.specs.Image.{NamesText}
 use Rattle.mo_image.specs.Extents.{piece, HoldsPiece, IsNamedAt}
 
-pub piece_named : (bytes : List ℕ) (place : ℕ) (extent : Extent) → IsNamedAt bytes place extent → piece bytes extent ≡ string_at little_number bytes place
+pub piece_named : (bytes : List ℕ) (place : ℕ) (extent : Extent) → IsNamedAt bytes place extent → piece bytes extent
+    ≡ string_at little_number bytes place
 piece_named bytes place extent h = rw (h.len, h.start) refl
 
-pub piece_held : (bytes : List ℕ) (place : ℕ) (extent : Extent) → IsNamedAt bytes place extent → NamesText bytes place → HoldsPiece bytes extent
+pub piece_held : (bytes : List ℕ) (place : ℕ) (extent : Extent) → IsNamedAt bytes place extent → NamesText bytes place
+    → HoldsPiece bytes extent
 piece_held bytes place extent h text = record {
   room = omega (arith, h.len, h.start, text.room);
   utf8 = subst IsUtf8 (sym (piece_named bytes place extent h)) text.utf8;

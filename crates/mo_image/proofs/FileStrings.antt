@@ -1,5 +1,7 @@
 -- What the tables of a map's file name.
-use Rattle.std.proofs.Common.{◌≡◌, ℕ, zero, suc, ◌+◌, ◌*◌, ◌^◌, lit<, ◌<◌, ◌≤◌, List, [], ◌∷◌, ◌++◌, length, map, take, drop, get_or, Some, slice_get, refl, sym, ap, ◌∙◌, subst, arith, append_assoc, length-append}
+use Rattle.std.proofs.Common.{◌≡◌, ℕ, zero, suc, ◌+◌, ◌*◌, ◌^◌, lit<, ◌<◌, ◌≤◌, List, [], ◌∷◌, ◌++◌, length, map, take}
+use Rattle.std.proofs.Common.{drop, get_or, Some, slice_get, refl, sym, ap, ◌∙◌, subst, arith, append_assoc}
+use Rattle.std.proofs.Common.{length-append}
 use Rattle.std.specs.Prelude.{slice_index}
 use Rattle.std.proofs.lemmas.List.{drop_at, take_at, get_or_at, length-map, append-nil}
 use Rattle.byteorder.specs.Endian.{little_number}
@@ -14,15 +16,18 @@ unfolding word
 word_read n rest small = little_number-reads_back 4 n rest small
 
 -- the word behind pre
-word_behind : (bytes pre rest : List ℕ) (n place : ℕ) → bytes ≡ pre ++ (word n ++ rest) → length pre ≡ place → n < 2 ^ 32 → word_at little_number bytes place ≡ n
+word_behind : (bytes pre rest : List ℕ) (n place : ℕ) → bytes ≡ pre ++ (word n ++ rest) → length pre ≡ place
+    → n < 2 ^ 32 → word_at little_number bytes place ≡ n
 word_behind bytes pre rest n place split len small =
     ap (word_at little_number bytes) (sym len) ∙ ap (λ (b : List ℕ). little_number 4 (drop (length pre) b)) split
     ∙ ap (little_number 4) (drop_at pre (word n ++ rest) (length pre) refl) ∙ word_read n rest small
 
 -- the bytes behind pre
-part_behind : (bytes pre s rest : List ℕ) (place : ℕ) → bytes ≡ pre ++ (s ++ rest) → length pre ≡ place → take (length s) (drop place bytes) ≡ s
+part_behind : (bytes pre s rest : List ℕ) (place : ℕ) → bytes ≡ pre ++ (s ++ rest) → length pre ≡ place
+    → take (length s) (drop place bytes) ≡ s
 part_behind bytes pre s rest place split len =
-    ap (λ (b : List ℕ). take (length s) (drop place b)) split ∙ ap (take (length s)) (drop_at pre (s ++ rest) place len) ∙ take_at s rest (length s) refl
+    ap (λ (b : List ℕ). take (length s) (drop place b)) split ∙ ap (take (length s)) (drop_at pre (s ++ rest) place len)
+    ∙ take_at s rest (length s) refl
 
 -- the row at this place names s, which lies in the file with a NUL behind it
 pub record Names (bytes : List ℕ) (place : ℕ) (s : List ℕ) : Type 0 where
@@ -36,18 +41,24 @@ abbrev pub AllNamed : List ℕ → ℕ → List (List ℕ) → Type 0
 AllNamed bytes place [] = Unit {0}
 AllNamed bytes place (s ∷ ss) = Names bytes place s × AllNamed bytes (place + 8) ss
 
-pub strings_named : (bytes : List ℕ) (place : ℕ) (ss : List (List ℕ)) → AllNamed bytes place ss → strings little_number bytes place (length ss) ≡ ss
+pub strings_named : (bytes : List ℕ) (place : ℕ) (ss : List (List ℕ)) → AllNamed bytes place ss
+    → strings little_number bytes place (length ss) ≡ ss
 strings_named bytes place [] named = refl
 strings_named bytes place (s ∷ ss) named =
-    ap (λ (t : List ℕ). t ∷ strings little_number bytes (place + 8) (length ss)) named.0.string ∙ ap (λ (ts : List (List ℕ)). s ∷ ts) (strings_named bytes (place + 8) ss named.1)
+    ap (λ (t : List ℕ). t ∷ strings little_number bytes (place + 8) (length ss)) named.0.string
+    ∙ ap (λ (ts : List (List ℕ)). s ∷ ts) (strings_named bytes (place + 8) ss named.1)
 
-pub named_at : (bytes : List ℕ) (place : ℕ) (ss : List (List ℕ)) (i : ℕ) (s : List ℕ) → AllNamed bytes place ss → slice_get ss i ≡ Some s → Names bytes (place + 8 * i) s
+pub named_at : (bytes : List ℕ) (place : ℕ) (ss : List (List ℕ)) (i : ℕ) (s : List ℕ) → AllNamed bytes place ss
+    → slice_get ss i ≡ Some s → Names bytes (place + 8 * i) s
 named_at bytes place [] i s named e = absurd cc
-named_at bytes place (t ∷ ss) zero s named e = let same : t ≡ s = cc in subst (λ (n : ℕ). Names bytes n s) (omega arith) (subst (Names bytes place) same named.0)
-named_at bytes place (t ∷ ss) (suc i) s named e = subst (λ (n : ℕ). Names bytes n s) (omega arith) (named_at bytes (place + 8) ss i s named.1 e)
+named_at bytes place (t ∷ ss) zero s named e = let same : t ≡ s = cc in subst (λ (n : ℕ). Names bytes n s) (omega arith)
+    (subst (Names bytes place) same named.0)
+named_at bytes place (t ∷ ss) (suc i) s named e = subst (λ (n : ℕ). Names bytes n s) (omega arith)
+    (named_at bytes (place + 8) ss i s named.1 e)
 
 -- rows, and the strings that they name, with anything before, between and behind
-laid_out : (bytes : List ℕ) (ss : List (List ℕ)) (pre mid post : List ℕ) (at place : ℕ) → bytes ≡ pre ++ (pairs at ss ++ (mid ++ (pool ss ++ post))) → length pre ≡ place
+laid_out : (bytes : List ℕ) (ss : List (List ℕ)) (pre mid post : List ℕ) (at place : ℕ) → bytes ≡ pre
+    ++ (pairs at ss ++ (mid ++ (pool ss ++ post))) → length pre ≡ place
     → at ≡ place + length (pairs at ss) + length mid → length bytes < 2 ^ 32 → AllNamed bytes place ss
 laid_out bytes [] pre mid post at place split len start small = tt
 laid_out bytes (s ∷ ss) pre mid post at place split len start small =
@@ -60,24 +71,39 @@ laid_out bytes (s ∷ ss) pre mid post at place split len start small =
     let s2 : bytes ≡ pre ++ (word (length s) ++ (word at ++ (tail ++ rest))) = s0 ∙ simp append_assoc in
     let s3 : bytes ≡ (pre ++ word (length s)) ++ (word at ++ (tail ++ rest)) = s0 ∙ simp append_assoc in
     let s4 : bytes ≡ front ++ (s ++ ((0 ∷ []) ++ (pool ss ++ post))) = s0 ∙ simp append_assoc in
-    let s5 : bytes ≡ (front ++ s) ++ (0 ∷ (pool ss ++ post)) = s4 ∙ sym (append_assoc front s (0 ∷ (pool ss ++ post))) in
+    let s5 : bytes ≡ (front ++ s) ++ (0 ∷ (pool ss ++ post)) = s4
+    ∙ sym (append_assoc front s (0 ∷ (pool ss ++ post))) in
     let w1 = length-word (length s) in
     let w2 = length-word at in
     let lp : length pair ≡ 8 = omega (arith, length-append (word (length s)) (word at)) in
     let l4 : length front ≡ at = simp length-append (omega (arith, length-append pair tail)) in
     let l0 : length bytes ≡ at + (length s + (1 + length (pool ss ++ post))) =
-    ap length s4 ∙ length-append front (s ++ ((0 ∷ []) ++ (pool ss ++ post))) ∙ omega (arith, l4, length-append s ((0 ∷ []) ++ (pool ss ++ post))) in
-    let word_start : word_at little_number bytes (place + 4) ≡ at = word_behind bytes (pre ++ word (length s)) (tail ++ rest) at (place + 4) s3 (omega (arith, length-append pre (word (length s)))) (omega (arith, l0, small)) in
-    let word_len : word_at little_number bytes place ≡ length s = word_behind bytes pre (word at ++ (tail ++ rest)) (length s) place s2 len (omega (arith, l0, small)) in
-    let end : word_at little_number bytes (place + 4) + word_at little_number bytes place ≡ length (front ++ s) = omega (arith, word_start, word_len, length-append front s, l4) in
-    let nul : get_or bytes (length (front ++ s)) 0 ≡ 0 = ap (λ (b : List ℕ). get_or b (length (front ++ s)) 0) s5 ∙ get_or_at (front ++ s) 0 (pool ss ++ post) 0 (length (front ++ s)) refl in
+    ap length s4 ∙ length-append front (s ++ ((0 ∷ []) ++ (pool ss ++ post)))
+    ∙ omega (arith, l4, length-append s ((0 ∷ []) ++ (pool ss ++ post))) in
+    let word_start : word_at little_number bytes (place + 4)
+    ≡ at = word_behind bytes (pre ++ word (length s)) (tail ++ rest) at (place + 4) s3
+    (omega (arith, length-append pre (word (length s)))) (omega (arith, l0, small)) in
+    let word_len : word_at little_number bytes place ≡ length s = word_behind bytes pre (word at ++ (tail ++ rest))
+    (length s) place s2 len (omega (arith, l0, small)) in
+    let end : word_at little_number bytes (place + 4) + word_at little_number bytes place
+    ≡ length (front ++ s) = omega (arith, word_start, word_len, length-append front s, l4) in
+    let nul : get_or bytes (length (front ++ s)) 0 ≡ 0 = ap (λ (b : List ℕ). get_or b (length (front ++ s)) 0) s5
+    ∙ get_or_at (front ++ s) 0 (pool ss ++ post) 0 (length (front ++ s)) refl in
     let here : Names bytes place s = record {
       row = omega (arith, l0, length-append pair tail);
       lies = omega (arith, l0, word_start, word_len);
       closed = ap (λ (n : ℕ). get_or bytes n 0) end ∙ nul;
       string = rw (word_len, word_start) (part_behind bytes front s ((0 ∷ []) ++ (pool ss ++ post)) at s4 l4);
-    } in
-    (here, laid_out bytes ss (pre ++ pair) (mid ++ closed s) post (at + length s + 1) (place + 8) s1 (omega (arith, length-append pre pair)) (omega (arith, length-append pair tail, length-append mid (closed s), length-append s (0 ∷ []))) small)
+    } in (
+      here,
+      laid_out bytes ss (pre ++ pair) (mid ++ closed s) post (at + length s + 1) (place + 8) s1
+          (omega (arith, length-append pre pair)) (omega (
+            arith,
+            length-append pair tail,
+            length-append mid (closed s),
+            length-append s (0 ∷ []),
+          )) small,
+    )
 
 -- what the header's words say, and that the tables name the strings
 pub record Describes (bytes : List ℕ) (n : ℕ) (os ts : List (List ℕ)) : Type 0 where
@@ -90,7 +116,8 @@ pub record Describes (bytes : List ℕ) (n : ℕ) (os ts : List (List ℕ)) : Ty
   pub originals : AllNamed bytes 28 os
   pub translations : AllNamed bytes (28 + 8 * n) ts
 
-file_describes : (n : ℕ) (os ts : List (List ℕ)) → length os ≡ n → length ts ≡ n → length (file n os ts) < 2 ^ 32 → Describes (file n os ts) n os ts
+file_describes : (n : ℕ) (os ts : List (List ℕ)) → length os ≡ n → length ts ≡ n → length (file n os ts) < 2 ^ 32
+    → Describes (file n os ts) n os ts
 file_describes n os ts lo lt small =
     let a : ℕ = 28 + 16 * n in
     let b : ℕ = 28 + 16 * n + length (pool os) in
@@ -103,26 +130,39 @@ file_describes n os ts lo lt small =
     let w5 = word 0 in
     let w6 = word (28 + 16 * n) in
     let s0 : file n os ts ≡ header n ++ rest = simp append_assoc in
-    let h0 : file n os ts ≡ [] ++ (w0 ++ (w1 ++ (w2 ++ (w3 ++ (w4 ++ (w5 ++ (w6 ++ rest))))))) = s0 ∙ simp append_assoc in
+    let h0 : file n os ts ≡ [] ++ (w0 ++ (w1 ++ (w2 ++ (w3 ++ (w4 ++ (w5 ++ (w6 ++ rest))))))) = s0
+    ∙ simp append_assoc in
     let h1 : file n os ts ≡ w0 ++ (w1 ++ (w2 ++ (w3 ++ (w4 ++ (w5 ++ (w6 ++ rest)))))) = s0 ∙ simp append_assoc in
     let h2 : file n os ts ≡ (w0 ++ w1) ++ (w2 ++ (w3 ++ (w4 ++ (w5 ++ (w6 ++ rest))))) = s0 ∙ simp append_assoc in
     let h3 : file n os ts ≡ (w0 ++ (w1 ++ w2)) ++ (w3 ++ (w4 ++ (w5 ++ (w6 ++ rest)))) = s0 ∙ simp append_assoc in
     let h4 : file n os ts ≡ (w0 ++ (w1 ++ (w2 ++ w3))) ++ (w4 ++ (w5 ++ (w6 ++ rest))) = s0 ∙ simp append_assoc in
-    let s1 : file n os ts ≡ (header n ++ pairs a os) ++ (pairs b ts ++ (pool os ++ (pool ts ++ []))) = s0 ∙ simp (append_assoc, append-nil) in
-    let total : length (file n os ts) ≡ 28 + (length (pairs a os) + (length (pairs b ts) + (length (pool os) + length (pool ts)))) = ap length s0 ∙ simp (length-append, length-word) in
+    let s1 : file n os ts ≡ (header n ++ pairs a os) ++ (pairs b ts ++ (pool os ++ (pool ts ++ []))) = s0
+    ∙ simp (append_assoc, append-nil) in
+    let total : length (file n os ts) ≡ 28 + (length (pairs a os) +
+    (length (pairs b ts) + (length (pool os) + length (pool ts)))) = ap length s0
+    ∙ simp (length-append, length-word) in
     let pa = length-pairs a os in
     let pb = length-pairs b ts in
     record {
       long = omega (arith, total, pa, pb, lo, lt);
-      magic = word_behind (file n os ts) [] (w1 ++ (w2 ++ (w3 ++ (w4 ++ (w5 ++ (w6 ++ rest)))))) 0x950412de 0 h0 refl (lit< tt);
-      revision = word_behind (file n os ts) w0 (w2 ++ (w3 ++ (w4 ++ (w5 ++ (w6 ++ rest))))) 0 4 h1 (length-word 0x950412de) (lit< tt);
-      count = word_behind (file n os ts) (w0 ++ w1) (w3 ++ (w4 ++ (w5 ++ (w6 ++ rest)))) n 8 h2 (simp (length-append, length-word)) (omega (arith, total, pa, lo, small));
-      originals_table = word_behind (file n os ts) (w0 ++ (w1 ++ w2)) (w4 ++ (w5 ++ (w6 ++ rest))) 28 12 h3 (simp (length-append, length-word)) (lit< tt);
-      translations_table = word_behind (file n os ts) (w0 ++ (w1 ++ (w2 ++ w3))) (w5 ++ (w6 ++ rest)) (28 + 8 * n) 16 h4 (simp (length-append, length-word)) (omega (arith, total, pa, lo, small));
-      originals = laid_out (file n os ts) os (header n) (pairs b ts) (pool ts) a 28 s0 (length-header n) (omega (arith, pa, pb, lo, lt)) small;
-      translations = laid_out (file n os ts) ts (header n ++ pairs a os) (pool os) [] b (28 + 8 * n) s1 (omega (arith, length-append (header n) (pairs a os), length-header n, pa, lo)) (omega (arith, pb, lt)) small;
+      magic = word_behind (file n os ts) [] (w1 ++ (w2 ++ (w3 ++ (w4 ++ (w5 ++ (w6 ++ rest)))))) 0x950412de 0 h0 refl
+          (lit< tt);
+      revision = word_behind (file n os ts) w0 (w2 ++ (w3 ++ (w4 ++ (w5 ++ (w6 ++ rest))))) 0 4 h1
+          (length-word 0x950412de) (lit< tt);
+      count = word_behind (file n os ts) (w0 ++ w1) (w3 ++ (w4 ++ (w5 ++ (w6 ++ rest)))) n 8 h2
+          (simp (length-append, length-word)) (omega (arith, total, pa, lo, small));
+      originals_table = word_behind (file n os ts) (w0 ++ (w1 ++ w2)) (w4 ++ (w5 ++ (w6 ++ rest))) 28 12 h3
+          (simp (length-append, length-word)) (lit< tt);
+      translations_table = word_behind (file n os ts) (w0 ++ (w1 ++ (w2 ++ w3))) (w5 ++ (w6 ++ rest)) (28 + 8 * n) 16 h4
+          (simp (length-append, length-word)) (omega (arith, total, pa, lo, small));
+      originals = laid_out (file n os ts) os (header n) (pairs b ts) (pool ts) a 28 s0 (length-header n)
+          (omega (arith, pa, pb, lo, lt)) small;
+      translations = laid_out (file n os ts) ts (header n ++ pairs a os) (pool os) [] b (28 + 8 * n) s1
+          (omega (arith, length-append (header n) (pairs a os), length-header n, pa, lo)) (omega (arith, pb, lt)) small;
     }
 
-pub spelling_describes : (m : List Entry) → length (spelling m) < 2 ^ 32 → Describes (spelling m) (length m) (map original m) (map translation m)
+pub spelling_describes : (m : List Entry) → length (spelling m) < 2 ^ 32
+    → Describes (spelling m) (length m) (map original m) (map translation m)
 unfolding spelling
-spelling_describes m small = file_describes (length m) (map original m) (map translation m) (length-map m original) (length-map m translation) small
+spelling_describes m small = file_describes (length m) (map original m) (map translation m) (length-map m original)
+    (length-map m translation) small

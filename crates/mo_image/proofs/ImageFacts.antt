@@ -1,5 +1,6 @@
 -- What stands in the MO file of a lawful map.
-use Rattle.std.proofs.Common.{◌≡◌, ℕ, zero, suc, ◌+◌, ◌*◌, ◌<◌, ◌≤◌, List, [], ◌∷◌, length, map, Some, slice_get, refl, sym, ap, ◌∙◌, subst, arith}
+use Rattle.std.proofs.Common.{◌≡◌, ℕ, zero, suc, ◌+◌, ◌*◌, ◌<◌, ◌≤◌, List, [], ◌∷◌, length, map, Some, slice_get, refl}
+use Rattle.std.proofs.Common.{sym, ap, ◌∙◌, subst, arith}
 use Rattle.std.specs.Prelude.{IfSome, Option}
 use Rattle.std.specs.Str.{IsUtf8}
 use Rattle.std.proofs.lemmas.List.{length-map}
@@ -14,34 +15,46 @@ use Rattle.mo_image.proofs.Lists.{slice_get-map, at_place}
 use Rattle.mo_image.proofs.FileStrings.{strings_named, Describes, spelling_describes, Names, named_at}
 use Rattle.mo_image.proofs.Originals.{entry_again_of, entries_again, key_is, original_utf8, translation_utf8}
 
-pub image_describes : (bytes : List ℕ) → IsImage bytes → Describes bytes (length (listing bytes)) (map original (listing bytes)) (map translation (listing bytes))
+pub image_describes : (bytes : List ℕ) → IsImage bytes → Describes bytes (length (listing bytes))
+    (map original (listing bytes)) (map translation (listing bytes))
 image_describes bytes image =
-    let P : List ℕ → Type 0 = λ b. Describes b (length (listing bytes)) (map original (listing bytes)) (map translation (listing bytes)) in
+    let P : List ℕ → Type 0 = λ b. Describes b (length (listing bytes)) (map original (listing bytes))
+    (map translation (listing bytes)) in
     subst P (sym image.spelt) (spelling_describes (listing bytes) (omega (arith, image.lawful.fits)))
 
 pub image_small : (bytes : List ℕ) → IsImage bytes → length bytes ≤ 268435456
 image_small bytes image = omega (arith, image.lawful.fits, ap length image.spelt)
 
 text_named : (bytes : List ℕ) (place : ℕ) (s : List ℕ) → Names bytes place s → IsUtf8 s → NamesText bytes place
-text_named bytes place s named utf8 = record { row = named.row; room = named.lies; utf8 = subst IsUtf8 (sym named.string) utf8 }
+text_named bytes place s named utf8 = record {
+  row = named.row;
+  room = named.lies;
+  utf8 = subst IsUtf8
+      (sym named.string) utf8;
+}
 
 -- the i-th entry of n
 pub record EntryFacts (bytes : List ℕ) (n i : ℕ) : Type 0 where
   pub small : 28 + 8 * n + 8 * i + 8 ≤ length bytes
   pub original : NamesText bytes (28 + 8 * i)
   pub translation : NamesText bytes (28 + 8 * n + 8 * i)
-  pub found : slice_get (listing bytes) i ≡ Some (entry_of (string_at little_number bytes (28 + 8 * i)) (string_at little_number bytes (28 + 8 * n + 8 * i)))
-  pub lawful : IsLawfulEntry (entry_of (string_at little_number bytes (28 + 8 * i)) (string_at little_number bytes (28 + 8 * n + 8 * i)))
+  pub found : slice_get (listing bytes) i ≡ Some (entry_of (string_at little_number bytes (28 + 8 * i))
+      (string_at little_number bytes (28 + 8 * n + 8 * i)))
+  pub lawful : IsLawfulEntry (entry_of (string_at little_number bytes (28 + 8 * i))
+      (string_at little_number bytes (28 + 8 * n + 8 * i)))
 
-facts_of : (bytes : List ℕ) (i : ℕ) (e : Entry) → IsImage bytes → slice_get (listing bytes) i ≡ Some e → EntryFacts bytes (length (listing bytes)) i
+facts_of : (bytes : List ℕ) (i : ℕ) (e : Entry) → IsImage bytes → slice_get (listing bytes) i ≡ Some e
+    → EntryFacts bytes (length (listing bytes)) i
 facts_of bytes i e image here =
     let m = listing bytes in
     let n = length m in
     let d = image_describes bytes image in
     let lawful : IsLawfulEntry e = at_place IsLawfulEntry m i e image.lawful.each here in
     let o = named_at bytes 28 (map original m) i (original e) d.originals (slice_get-map original m i e here) in
-    let t = named_at bytes (28 + 8 * n) (map translation m) i (translation e) d.translations (slice_get-map translation m i e here) in
-    let same : entry_of (string_at little_number bytes (28 + 8 * i)) (string_at little_number bytes (28 + 8 * n + 8 * i)) ≡ e = rw (o.string, t.string) (entry_again_of e lawful) in
+    let t = named_at bytes (28 + 8 * n) (map translation m) i (translation e) d.translations
+    (slice_get-map translation m i e here) in
+    let same : entry_of (string_at little_number bytes (28 + 8 * i))
+    (string_at little_number bytes (28 + 8 * n + 8 * i)) ≡ e = rw (o.string, t.string) (entry_again_of e lawful) in
     record {
       small = t.row;
       original = text_named bytes (28 + 8 * i) (original e) o (original_utf8 e lawful);
@@ -55,21 +68,25 @@ some_at [] i lt = absurd (omega arith)
 some_at (x ∷ xs) zero lt = (x, refl)
 some_at (x ∷ xs) (suc i) lt = some_at xs i (omega arith)
 
-pub entry_facts : (bytes : List ℕ) (i : ℕ) → IsImage bytes → i < length (listing bytes) → EntryFacts bytes (length (listing bytes)) i
+pub entry_facts : (bytes : List ℕ) (i : ℕ) → IsImage bytes → i < length (listing bytes)
+    → EntryFacts bytes (length (listing bytes)) i
 entry_facts bytes i image lt = let here = some_at (listing bytes) i lt in facts_of bytes i here.0 image here.1
 
-pub entry_room : (bytes : List ℕ) (i : ℕ) → IsImage bytes → i < length (listing bytes) → 28 + 8 * length (listing bytes) + 8 * i + 8 ≤ 268435456
+pub entry_room : (bytes : List ℕ) (i : ℕ) → IsImage bytes → i < length (listing bytes)
+    → 28 + 8 * length (listing bytes) + 8 * i + 8 ≤ 268435456
 entry_room bytes i image lt = omega (arith, (entry_facts bytes i image lt).small, image_small bytes image)
 
 pub header_long : (bytes : List ℕ) → IsImage bytes → 12 ≤ length bytes
 header_long bytes image = omega (arith, (image_describes bytes image).long)
 
 -- the key in front of an original's NUL is that of the entry
-pub key_found : (bytes : List ℕ) (i : ℕ) (k : List ℕ) → IsImage bytes → i < length (listing bytes) → k ≡ key_part (string_at little_number bytes (28 + 8 * i)) → IfSome (slice_get (listing bytes) i) (λ e. k ≡ key e)
+pub key_found : (bytes : List ℕ) (i : ℕ) (k : List ℕ) → IsImage bytes → i < length (listing bytes) → k
+    ≡ key_part (string_at little_number bytes (28 + 8 * i)) → IfSome (slice_get (listing bytes) i) (λ e. k ≡ key e)
 key_found bytes i k image lt is =
     let facts = entry_facts bytes i image lt in
     let P : Option Entry → Type 0 = λ found. IfSome found (λ e. k ≡ key e) in
-    subst P (sym facts.found) (is ∙ sym (key_is (string_at little_number bytes (28 + 8 * i)) (string_at little_number bytes (28 + 8 * length (listing bytes) + 8 * i))))
+    subst P (sym facts.found) (is ∙ sym (key_is (string_at little_number bytes (28 + 8 * i))
+    (string_at little_number bytes (28 + 8 * length (listing bytes) + 8 * i))))
 
 pub listing_again : (m : List Entry) → IsLawful m → listing (spelling m) ≡ m
 unfolding listing
@@ -77,8 +94,10 @@ listing_again m lawful =
     let d = spelling_describes m (omega (arith, lawful.fits)) in
     let f = spelling m in
     let n = length m in
-    let os : strings little_number f 28 n ≡ map original m = ap (strings little_number f 28) (sym (length-map m original)) ∙ strings_named f 28 (map original m) d.originals in
-    let ts : strings little_number f (28 + 8 * n) n ≡ map translation m = ap (strings little_number f (28 + 8 * n)) (sym (length-map m translation)) ∙ strings_named f (28 + 8 * n) (map translation m) d.translations in
+    let os : strings little_number f 28 n ≡ map original m = ap (strings little_number f 28)
+    (sym (length-map m original)) ∙ strings_named f 28 (map original m) d.originals in
+    let ts : strings little_number f (28 + 8 * n) n ≡ map translation m = ap (strings little_number f (28 + 8 * n))
+    (sym (length-map m translation)) ∙ strings_named f (28 + 8 * n) (map translation m) d.translations in
     rw (d.count, os, ts) (entries_again m lawful.each)
 
 -- the file of a lawful map is an image

@@ -1,5 +1,6 @@
 -- How long the parts of an MO file are.
-use Rattle.std.proofs.Common.{◌≡◌, ℕ, ◌+◌, ◌*◌, ◌<◌, List, [], ◌∷◌, ◌++◌, length, map, refl, sym, ap, ◌∙◌, arith, append_assoc, length-append}
+use Rattle.std.proofs.Common.{◌≡◌, ℕ, ◌+◌, ◌*◌, ◌<◌, List, [], ◌∷◌, ◌++◌, length, map, refl, sym, ap, ◌∙◌, arith}
+use Rattle.std.proofs.Common.{append_assoc, length-append}
 use Rattle.std.specs.List.{join_with_byte}
 use Rattle.std.proofs.lemmas.List.{length-map, append-nil}
 use Rattle.mo_image.specs.Entry.{Entry, original, translation}
@@ -14,7 +15,8 @@ closed_joined [] some = absurd (omega arith)
 closed_joined (f ∷ []) some = sym (append-nil (closed f))
 closed_joined (f ∷ g ∷ fs) some =
     let rest : closed (join_with_byte 0 (g ∷ fs)) ≡ pool (g ∷ fs) = closed_joined (g ∷ fs) (omega arith) in
-    append_assoc f (0 ∷ join_with_byte 0 (g ∷ fs)) (0 ∷ []) ∙ ap (λ (t : List ℕ). f ++ (0 ∷ t)) rest ∙ sym (append_assoc f (0 ∷ []) (pool (g ∷ fs)))
+    append_assoc f (0 ∷ join_with_byte 0 (g ∷ fs)) (0 ∷ []) ∙ ap (λ (t : List ℕ). f ++ (0 ∷ t)) rest
+    ∙ sym (append_assoc f (0 ∷ []) (pool (g ∷ fs)))
 
 pub length-word : (n : ℕ) → length (word n) ≡ 4
 unfolding word
@@ -29,12 +31,15 @@ length-pairs at (s ∷ ss) =
     let more = length-pairs (at + length s + 1) ss in
     simp (length-append, length-word) (omega (arith, more))
 
-length-file : (n : ℕ) (os ts : List (List ℕ)) → length os ≡ n → length ts ≡ n → length (file n os ts) ≡ 28 + 16 * n + length (pool os) + length (pool ts)
+length-file : (n : ℕ) (os ts : List (List ℕ)) → length os ≡ n → length ts ≡ n → length (file n os ts)
+    ≡ 28 + 16 * n + length (pool os) + length (pool ts)
 length-file n os ts o t =
     let a = length-pairs (28 + 16 * n) os in
     let b = length-pairs (28 + 16 * n + length (pool os)) ts in
     simp (length-append, length-word) (omega (arith, a, b, o, t))
 
-pub length-spelling : (m : List Entry) → length (spelling m) ≡ 28 + 16 * length m + length (pool (map original m)) + length (pool (map translation m))
+pub length-spelling : (m : List Entry) → length (spelling m)
+    ≡ 28 + 16 * length m + length (pool (map original m)) + length (pool (map translation m))
 unfolding spelling
-length-spelling m = length-file (length m) (map original m) (map translation m) (length-map m original) (length-map m translation)
+length-spelling m = length-file (length m) (map original m) (map translation m) (length-map m original)
+    (length-map m translation)

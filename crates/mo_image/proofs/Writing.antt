@@ -1,5 +1,6 @@
 -- The parts of an MO file, string by string, and the file of its parts.
-use Rattle.std.proofs.Common.{◌≡◌, ℕ, ◌+◌, ◌*◌, ◌≤◌, List, [], ◌∷◌, ◌++◌, length, drop, Some, slice_get, refl, sym, ap, ◌∙◌, arith, append_assoc, length-append}
+use Rattle.std.proofs.Common.{◌≡◌, ℕ, ◌+◌, ◌*◌, ◌≤◌, List, [], ◌∷◌, ◌++◌, length, drop, Some, slice_get, refl, sym, ap}
+use Rattle.std.proofs.Common.{◌∙◌, arith, append_assoc, length-append}
 use Rattle.std.proofs.lemmas.List.{drop_more}
 use Rattle.std.proofs.lemmas.List.Concat.{flat_map-cons}
 use Rattle.std.proofs.lemmas.Option.{get_or_from_slice_get, slice_get_within}
@@ -13,7 +14,8 @@ use Rattle.mo_image.specs.declared.writer.Side.TheVariants.{Original, Translatio
 use Rattle.mo_image.specs.Strings.{string_of, strings_of}
 
 drop_found : {X : Type 0} (xs : List X) (i : ℕ) (x : X) → slice_get xs i ≡ Some x → drop i xs ≡ x ∷ drop (i + 1) xs
-drop_found xs i x found = drop_more xs i x (slice_get_within xs i x found) ∙ ap (λ y. y ∷ drop (i + 1) xs) (get_or_from_slice_get xs i x x found)
+drop_found xs i x found = drop_more xs i x (slice_get_within xs i x found)
+    ∙ ap (λ y. y ∷ drop (i + 1) xs) (get_or_from_slice_get xs i x x found)
 
 module _ (side : Side) (m : List Entry) (i : ℕ) (e : Entry) (found : slice_get m i ≡ Some e) where
   abbrev left : ℕ → List (List ℕ)
@@ -35,7 +37,8 @@ module _ (side : Side) (m : List Entry) (i : ℕ) (e : Entry) (found : slice_get
   pairs_split at = ap (pairs at) strings_split
 
 -- one more piece was written
-pub piece_written : (out rest all more a b : List ℕ) → out ++ rest ≡ all → rest ≡ a ++ b → more ≡ out ++ a → more ++ b ≡ all
+pub piece_written : (out rest all more a b : List ℕ) → out ++ rest ≡ all → rest ≡ a ++ b → more ≡ out ++ a → more ++ b
+    ≡ all
 piece_written out rest all more a b so_far split grown =
     ap (λ (x : List ℕ). x ++ b) grown ∙ append_assoc out a b ∙ ap (λ (x : List ℕ). out ++ x) (sym split) ∙ so_far
 
@@ -45,8 +48,10 @@ pub part_lengths : (m : List Entry) → IsLawful m
 part_lengths m lawful = omega (arith, lawful.fits, length-spelling m)
 
 -- the file, written part by part
-pub file_written : (m : List Entry) (n o : ℕ) (v0 v1 v2 v3 v4 v5 : List ℕ) → n ≡ length m → o ≡ length (pool (strings_of Original m)) → v0 ≡ []
-    → v1 ≡ v0 ++ header n → v2 ≡ v1 ++ pairs (28 + 16 * n) (strings_of Original m) → v3 ≡ v2 ++ pairs (28 + 16 * n + o) (strings_of Translation m)
+pub file_written : (m : List Entry) (n o : ℕ) (v0 v1 v2 v3 v4 v5 : List ℕ) → n ≡ length m → o
+    ≡ length (pool (strings_of Original m)) → v0 ≡ []
+    → v1 ≡ v0 ++ header n → v2 ≡ v1 ++ pairs (28 + 16 * n) (strings_of Original m) → v3 ≡ v2
+    ++ pairs (28 + 16 * n + o) (strings_of Translation m)
     → v4 ≡ v3 ++ pool (strings_of Original m) → v5 ≡ v4 ++ pool (strings_of Translation m) → v5 ≡ spelling m
 unfolding spelling
 file_written m n o v0 v1 v2 v3 v4 v5 en eo e0 e1 e2 e3 e4 e5 = rw (e5, e4, e3, e2, e1, e0, en, eo) refl

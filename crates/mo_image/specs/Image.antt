@@ -10,7 +10,8 @@ use Rattle.mo_image.specs.Pairs.{entries_of}
 
 -- the entries that the tables name
 unfoldable pub listing : List ℕ → List Entry
-listing bytes = entries_of (strings little_number bytes 28 (word_at little_number bytes 8)) (strings little_number bytes (28 + 8 * word_at little_number bytes 8) (word_at little_number bytes 8))
+listing bytes = entries_of (strings little_number bytes 28 (word_at little_number bytes 8))
+    (strings little_number bytes (28 + 8 * word_at little_number bytes 8) (word_at little_number bytes 8))
 
 pub record IsImage (bytes : List ℕ) : Type 0 where
   pub lawful : IsLawful (listing bytes)

@@ -9,7 +9,8 @@ use Rattle.mo_image.specs.Entry.{Entry, original, translation}
 unfoldable pub word : ℕ → List ℕ
 word n = little_bytes 4 n
 
--- a table: length and offset of each string, where the strings stand one behind the other from `at` on, a NUL behind each
+-- a table: length and offset of each string, where the strings stand one behind the other from `at` on, a NUL behind
+-- each
 abbrev pub pairs : ℕ → List (List ℕ) → List ℕ
 pairs at [] = []
 pairs at (s ∷ ss) = word (length s) ++ word at ++ pairs (at + length s + 1) ss
@@ -28,7 +29,8 @@ header n = word 0x950412de ++ word 0 ++ word n ++ word 28 ++ word (28 + 8 * n) +
 -- the file of n originals and n translations
 abbrev pub file : ℕ → List (List ℕ) → List (List ℕ) → List ℕ
 file n originals translations =
-    header n ++ pairs (28 + 16 * n) originals ++ pairs (28 + 16 * n + length (pool originals)) translations ++ pool originals ++ pool translations
+    header n ++ pairs (28 + 16 * n) originals ++ pairs (28 + 16 * n + length (pool originals)) translations
+    ++ pool originals ++ pool translations
 
 -- the one file of a map, whose entries stand in rising order of their keys
 unfoldable pub spelling : List Entry → List ℕ

@@ -6,7 +6,8 @@ use Rattle.mo_image.specs.Parts.{entry_from}
 use Rattle.mo_image.specs.declared.messages.OwnedStrings.{OwnedStrings}
 
 abbrev pub stored_entry : OwnedStrings → Entry
-stored_entry m = entry_from (string_bytes m.key) (option_map (λ s. string_bytes s) m.plural) (string_bytes m.translation)
+stored_entry m = entry_from (string_bytes m.key) (option_map (λ s. string_bytes s) m.plural)
+    (string_bytes m.translation)
 
 abbrev pub entries_of : List OwnedStrings → List Entry
 entries_of messages = map stored_entry messages

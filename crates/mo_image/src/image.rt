@@ -1,5 +1,6 @@
 //! The entries of a catalogue, kept as the bytes of their MO file.
-ghost use Rattle.std.specs.Prelude.{◌≡◌, ℕ, ◌+◌, ◌*◌, ◌<◌, ◌≤◌, ◌↔◌, List, length, slice_get, Some, IfOk, IfSome, IsTrue};
+ghost use Rattle.std.specs.Prelude.{◌≡◌, ℕ, ◌+◌, ◌*◌, ◌<◌, ◌≤◌, ◌↔◌, List, length, slice_get, Some, IfOk, IfSome};
+ghost use Rattle.std.specs.Prelude.{IsTrue};
 ghost use Rattle.byteorder.specs.Endian.{little_number};
 ghost use Rattle.mo_image.specs.Entry.{Entry, key};
 ghost use Rattle.mo_image.specs.Map.{IsFileOf, IsLawful};
@@ -109,7 +110,8 @@ fn extents_of(bytes: &[u8], i: usize) -> EntryExtents
 fn entry_in<'a>(bytes: &'a [u8], extents: &EntryExtents) -> EntryRef<'a>
     requires image { IsImage bytes.now }
     requires extents { AreExtents bytes.now (length (listing bytes.now)) extents.now }
-    ensures { (i : ℕ) → AreExtentsOf bytes.now (length (listing bytes.now)) i extents.now → slice_get (listing bytes.now) i ≡ Some result }
+    ensures { (i : ℕ) → AreExtentsOf bytes.now (length (listing bytes.now)) i extents.now
+        → slice_get (listing bytes.now) i ≡ Some result }
 {
     EntryRef::new(
         text_in(bytes, extents.original),
@@ -179,7 +181,8 @@ impl Image {
     /// The entry whose strings lie there. It is found without a look at the tables.
     pub fn entry_in(&self, extents: &EntryExtents) -> EntryRef<'_>
         requires { AreExtents (spelling self.now) (length self.now) extents.now }
-        ensures entry { (i : ℕ) → AreExtentsOf (spelling self.now) (length self.now) i extents.now → slice_get self.now i ≡ Some result }
+        ensures entry { (i : ℕ) → AreExtentsOf (spelling self.now) (length self.now) i extents.now
+            → slice_get self.now i ≡ Some result }
         ensures lawful { IsLawful self.now }
     {
         entry_in(&self.bytes, extents)

@@ -6,7 +6,8 @@ use std::alloc::{AllocError, Global};
 
 /// Adds the bytes of a key: the msgid, behind its context and byte 4 where it has one.
 pub fn push_key(text: &mut String, context: Option<&str>, id: &str) -> Result<(), AllocError>
-    ensures { OnOk result (string_bytes text.new ≡ string_bytes text.old ++ key_bytes (option_map (λ c. c.now) context.entry) id.now) }
+    ensures { OnOk result (string_bytes text.new ≡ string_bytes text.old
+        ++ key_bytes (option_map (λ c. c.now) context.entry) id.now) }
 {
     if let Some(context) = context {
         text.push_str(context)?;
@@ -26,7 +27,8 @@ pub fn joined_key(alloc: Global, context: Option<&str>, id: &str) -> Result<Stri
 
 /// Adds a form, behind NUL unless it is the first one.
 pub fn push_form(text: &mut String, form: &str, is_first: bool) -> Result<(), AllocError>
-    ensures { OnOk result (string_bytes text.new ≡ (if is_first then string_bytes text.old ++ form.now else string_bytes text.old ++ 0 ∷ form.now)) }
+    ensures { OnOk result (string_bytes text.new ≡ (if is_first then string_bytes text.old
+        ++ form.now else string_bytes text.old ++ 0 ∷ form.now)) }
 {
     if !is_first {
         text.push('\0')?;

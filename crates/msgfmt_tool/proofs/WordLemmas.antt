@@ -1,5 +1,6 @@
 -- From the answers of `clap` to what the words ask for.
-use Rattle.std.proofs.Common.{◌≡◌, ◌∙◌, ◌⊎◌, ap, sym, subst, inl, inr, true≢false, Bool, true, false, ℕ, List, [], ◌∷◌, Option, Some, None, codes, option_map, refl, unwrap_or}
+use Rattle.std.proofs.Common.{◌≡◌, ◌∙◌, ◌⊎◌, ap, sym, subst, inl, inr, true≢false, Bool, true, false, ℕ, List, [], ◌∷◌}
+use Rattle.std.proofs.Common.{Option, Some, None, codes, option_map, refl, unwrap_or}
 use Rattle.std.specs.Borrow.{Bor}
 use Rattle.clap.proofs.WalkLemmas.{first_value-rows}
 use Rattle.clap.specs.Words.{first_value, rows_of}
@@ -20,7 +21,12 @@ pub asked_built : (f : Found) (checked use_fuzzy statistics : Bool) (input : Opt
     → checked ≡ is_true (first_value f (codes "check")) → use_fuzzy ≡ is_true (first_value f (codes "use-fuzzy"))
     → statistics ≡ is_true (first_value f (codes "statistics")) → input ≡ first_value f (codes "INPUT")
     → output ≡ unwrap_or (first_value f (codes "output-file")) (codes "messages.mo")
-    → ◌≡◌ {A = Asked} (record { options = record { checked = checked; use_fuzzy = use_fuzzy }; statistics = statistics; input = input; output = output })
+    → ◌≡◌ {A = Asked} (record {
+      options = record { checked = checked; use_fuzzy = use_fuzzy };
+      statistics = statistics;
+      input = input;
+      output = output;
+    })
     (asked_by (rows_of f))
 asked_built f checked use_fuzzy statistics input output checked_is fuzzy_is statistics_is input_is output_is =
     let check = checked_is ∙ ap is_true (first_value-rows f (codes "check")) in
@@ -28,10 +34,16 @@ asked_built f checked use_fuzzy statistics input output checked_is fuzzy_is stat
     let counts = statistics_is ∙ ap is_true (first_value-rows f (codes "statistics")) in
     let i = input_is ∙ first_value-rows f (codes "INPUT") in
     let o = output_is ∙ ap (λ t. unwrap_or t (codes "messages.mo")) (first_value-rows f (codes "output-file")) in
-    λ k. record { options = record { checked = check k; use_fuzzy = fuzzy k }; statistics = counts k; input = i k; output = o k }
+    λ k. record {
+      options = record { checked = check k; use_fuzzy = fuzzy k };
+      statistics = counts k;
+      input = i k;
+      output = o k;
+    }
 
 -- the text that stands in place of none
-pub unwrapped : (found : Option (Bor (List ℕ))) (other : Bor (List ℕ)) → (unwrap_or found other).now ≡ unwrap_or (option_map (λ s. s.now) found) other.now
+pub unwrapped : (found : Option (Bor (List ℕ))) (other : Bor (List ℕ)) → (unwrap_or found other).now
+    ≡ unwrap_or (option_map (λ s. s.now) found) other.now
 unwrapped None other = refl
 unwrapped (Some text) other = refl
 
@@ -44,10 +56,12 @@ one_fault : (words : List (List ℕ)) → One (word_faults words)
 one_fault words = built_one (built msgfmt).top refl nothing_held (argument_words msgfmt words)
 
 -- an answer to an error of `clap` explains the words
-pub explained : (words : List (List ℕ)) (k : ErrorKind) (r : WordsFault) → (k ≡ kind.OutOfMemory) ⊎ IsAmong k (word_faults words)
+pub explained : (words : List (List ℕ)) (k : ErrorKind) (r : WordsFault) → (k ≡ kind.OutOfMemory)
+    ⊎ IsAmong k (word_faults words)
     → AnswersKind k r → Explains words r
 explained words k (fault.Help text) (inl memory) is = absurd (true≢false (ap is_help (sym is ∙ memory)))
-explained words k (fault.Help text) (inr among) is = subst (λ x. word_faults words ≡ x ∷ []) is (among_one k (word_faults words) (one_fault words) among)
+explained words k (fault.Help text) (inr among) is = subst (λ x. word_faults words ≡ x ∷ []) is
+    (among_one k (word_faults words) (one_fault words) among)
 explained words k fault.Faulty (inl memory) is = absurd (is.1 memory)
 explained words k fault.Faulty (inr among) is = (k, among_one k (word_faults words) (one_fault words) among, is.0)
 explained words k fault.Memory why is = tt

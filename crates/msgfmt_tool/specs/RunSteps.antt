@@ -8,9 +8,11 @@ use Rattle.catalogue.specs.declared.Options.{Options}
 use Rattle.catalogue.specs.declared.Compiled.{Compiled}
 use Rattle.catalogue.specs.declared.LoadFault.{LoadFault}
 use Rattle.msgfmt_tool.specs.Words.{Asked}
-use Rattle.msgfmt_tool.specs.Runs.{Change, Fails, FailsToRead, FailsToWrite, FilesSeen, InputSeen, IsUnwritten, MakesFile, OutputSeen, Reads, Run, Writes, is_standard}
+use Rattle.msgfmt_tool.specs.Runs.{Change, Fails, FailsToRead, FailsToWrite, FilesSeen, InputSeen, IsUnwritten}
+use Rattle.msgfmt_tool.specs.Runs.{MakesFile, OutputSeen, Reads, Run, Writes, is_standard}
 use Rattle.msgfmt_tool.specs.declared.outcome.Cause.{Cause}
-use Rattle.msgfmt_tool.specs.declared.outcome.Cause.TheVariants.{Words, CannotRead, CannotWrite, ErrorOutput, Memory, Refused}
+use Rattle.msgfmt_tool.specs.declared.outcome.Cause.TheVariants.{Words, CannotRead, CannotWrite, ErrorOutput, Memory}
+use Rattle.msgfmt_tool.specs.declared.outcome.Cause.TheVariants.{Refused}
 use Rattle.msgfmt_tool.specs.declared.outcome.Status.{Status}
 use Rattle.msgfmt_tool.specs.declared.outcome.Status.TheVariants.{Done, Failed}
 use Rattle.msgfmt_tool.specs.declared.words.WordsFault.{WordsFault}

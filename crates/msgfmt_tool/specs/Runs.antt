@@ -10,7 +10,8 @@ use Rattle.catalogue.specs.declared.Compiled.{Compiled}
 use Rattle.catalogue.specs.declared.LoadFault.{LoadFault}
 use Rattle.msgfmt_tool.specs.Words.{Asked, AreFaulty, AreTaken, AskForHelp, asked}
 use Rattle.msgfmt_tool.specs.declared.outcome.Cause.{Cause}
-use Rattle.msgfmt_tool.specs.declared.outcome.Cause.TheVariants.{Words, NoInput, CannotRead, Refused, CannotWrite, ErrorOutput, Memory}
+use Rattle.msgfmt_tool.specs.declared.outcome.Cause.TheVariants.{Words, NoInput, CannotRead, Refused, CannotWrite}
+use Rattle.msgfmt_tool.specs.declared.outcome.Cause.TheVariants.{ErrorOutput, Memory}
 use Rattle.msgfmt_tool.specs.declared.outcome.Status.{Status}
 use Rattle.msgfmt_tool.specs.declared.outcome.Status.TheVariants.{Done, Failed}
 

@@ -1,5 +1,6 @@
 -- The first entry of which something holds.
-use Rattle.std.proofs.Common.{◌≡◌, ℕ, zero, suc, Bool, true, false, List, [], ◌∷◌, ◌++◌, Option, Some, None, refl, sym, ap, ◌∙◌, subst, append_assoc, inl, inr, arith}
+use Rattle.std.proofs.Common.{◌≡◌, ℕ, zero, suc, Bool, true, false, List, [], ◌∷◌, ◌++◌, Option, Some, None, refl, sym}
+use Rattle.std.proofs.Common.{ap, ◌∙◌, subst, append_assoc, inl, inr, arith}
 use Rattle.std.specs.Prelude.{◌⊎◌, ◌↔◌, IsTrue}
 use Rattle.std.specs.List.{Any}
 use Rattle.std.proofs.lemmas.Bool.{false≢true}
@@ -10,7 +11,8 @@ use Rattle.po_checks.specs.Findings.{first_or}
 
 -- ---- lists of which it holds nowhere
 
-pub none_in : (P : po.Entry → Type 0) (a : List po.Entry) (x : po.Entry) (b : List po.Entry) → NoneOf P (a ++ x ∷ b) → P x → ⊥
+pub none_in : (P : po.Entry → Type 0) (a : List po.Entry) (x : po.Entry) (b : List po.Entry) → NoneOf P (a ++ x ∷ b)
+    → P x → ⊥
 none_in P [] x b none p = none.0 p
 none_in P (y ∷ a) x b none p = none_in P a x b none.1 p
 
@@ -22,7 +24,8 @@ pub first_not_none : (P : po.Entry → Type 0) (es : List po.Entry) (line : ℕ)
 first_not_none P es line f none = none_in P f.before f.e f.after (subst (NoneOf P) f.split none) f.holds
 
 -- what holds of none holds of none of which more is asked
-pub none_weaker : (P Q : po.Entry → Type 0) → ((e : po.Entry) → Q e → P e) → (es : List po.Entry) → NoneOf P es → NoneOf Q es
+pub none_weaker : (P Q : po.Entry → Type 0) → ((e : po.Entry) → Q e → P e) → (es : List po.Entry) → NoneOf P es
+    → NoneOf Q es
 none_weaker P Q w [] none = tt
 none_weaker P Q w (e ∷ es) none = ((λ q. none.0 (w e q)), none_weaker P Q w es none.1)
 
@@ -44,7 +47,8 @@ cuts (z ∷ a) (w ∷ b) x y c d e =
       | inr (inr (mid, is)) ↦ inr (inr (mid, cc (head, is)))
     ]
 
-pub first_one : (P : po.Entry → Type 0) (es : List po.Entry) (line m : ℕ) → FirstAt P es line → FirstAt P es m → line ≡ m
+pub first_one : (P : po.Entry → Type 0) (es : List po.Entry) (line m : ℕ) → FirstAt P es line → FirstAt P es m → line
+    ≡ m
 first_one P es line m p q = elim (cuts p.before q.before p.e q.e p.after q.after (sym p.split ∙ q.split)) [
   | inl same ↦ p.line_is ∙ ap (λ (e : po.Entry). e.line) same ∙ sym q.line_is
   | inr (inl (mid, is)) ↦ absurd (none_in P p.before p.e mid (subst (NoneOf P) is q.none_before) p.holds)
@@ -53,7 +57,8 @@ first_one P es line m p q = elim (cuts p.before q.before p.e q.e p.after q.after
 
 -- ---- one more entry
 
-first_behind : (P : po.Entry → Type 0) (es : List po.Entry) (e : po.Entry) (line : ℕ) → FirstAt P es line → FirstAt P (es ++ e ∷ []) line
+first_behind : (P : po.Entry → Type 0) (es : List po.Entry) (e : po.Entry) (line : ℕ) → FirstAt P es line
+    → FirstAt P (es ++ e ∷ []) line
 first_behind P es e line f = record {
   before = f.before;
   e = f.e;
@@ -64,12 +69,24 @@ first_behind P es e line f = record {
   line_is = f.line_is;
 }
 
-pub first_more : (P : po.Entry → Type 0) (e : po.Entry) (fails : Bool) → (IsTrue fails ↔ P e) → (found : Option ℕ) (es : List po.Entry) → FirstLine P es found → FirstLine P (es ++ e ∷ []) (first_or found fails e.line)
+pub first_more : (P : po.Entry → Type 0) (e : po.Entry) (fails : Bool) → (IsTrue fails ↔ P e)
+    → (found : Option ℕ) (es : List po.Entry) → FirstLine P es found
+    → FirstLine P (es ++ e ∷ []) (first_or found fails e.line)
 first_more P e fails is (Some line) es f = first_behind P es e line f
-first_more P e true is None es none = record { before = es; e = e; after = []; split = refl; none_before = none; holds = is.0 refl; line_is = refl }
+first_more P e true is None es none = record {
+  before = es;
+  e = e;
+  after = [];
+  split = refl;
+  none_before = none;
+  holds =
+      is.0 refl;
+  line_is = refl;
+}
 first_more P e false is None es none = none_push P es e none (λ p. false≢true (is.1 p))
 
-pub first_skip : (P : po.Entry → Type 0) (e : po.Entry) → ¬ P e → (found : Option ℕ) (es : List po.Entry) → FirstLine P es found → FirstLine P (es ++ e ∷ []) found
+pub first_skip : (P : po.Entry → Type 0) (e : po.Entry) → ¬ P e → (found : Option ℕ) (es : List po.Entry)
+    → FirstLine P es found → FirstLine P (es ++ e ∷ []) found
 first_skip P e not_e (Some line) es f = first_behind P es e line f
 first_skip P e not_e None es none = none_push P es e none not_e
 
@@ -90,7 +107,11 @@ any_none P (k, y, lt, is, p) = omega (arith, lt)
 
 pub any_left : {X : Type 0} (P : X → Type 0) (xs ys : List X) → Any P xs → Any P (xs ++ ys)
 any_left P [] ys a = absurd (any_none P a)
-any_left P (x ∷ xs) ys a = elim (any_cases P x xs a) [ inl p ↦ any_head P x (xs ++ ys) p | inr b ↦ any_tail P x (xs ++ ys) (any_left P xs ys b) ]
+any_left P (x ∷ xs) ys a = elim (any_cases P x xs a) [
+  | inl p ↦ any_head P x (xs ++ ys) p
+  | inr b ↦ any_tail P x
+      (xs ++ ys) (any_left P xs ys b)
+]
 
 pub any_right : {X : Type 0} (P : X → Type 0) (xs ys : List X) → Any P ys → Any P (xs ++ ys)
 any_right P [] ys a = a
@@ -107,7 +128,8 @@ pub any_weaker : {X : Type 0} (P Q : X → Type 0) → ((x : X) → P x → Q x)
 any_weaker P Q w xs (k, y, lt, is, p) = (k, y, lt, is, w y p)
 
 pub any_from_first : (P : po.Entry → Type 0) (es : List po.Entry) (line : ℕ) → FirstAt P es line → Any P es
-any_from_first P es line f = subst (Any P) (sym f.split) (any_right P f.before (f.e ∷ f.after) (any_head P f.e f.after f.holds))
+any_from_first P es line f = subst (Any P) (sym f.split) (any_right P f.before (f.e ∷ f.after)
+    (any_head P f.e f.after f.holds))
 
 pub any_not_none : (P : po.Entry → Type 0) (es : List po.Entry) → NoneOf P es → Any P es → ⊥
 any_not_none P [] none a = any_none P a

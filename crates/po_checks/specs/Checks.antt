@@ -1,5 +1,6 @@
 -- What is looked for in the kept entries of a text (manual, "msgfmt Invocation": `--check`).
-use Rattle.std.specs.Prelude.{◌≡◌, ◌≢◌, ◌⊎◌, ℕ, ◌-◌, ◌<◌, ◌≤◌, ◌==◌, nat_lt, Bool, true, false, is_some, IsTrue, List, [], ◌∷◌, ◌++◌, length, Option, Some, None, slice_get}
+use Rattle.std.specs.Prelude.{◌≡◌, ◌≢◌, ◌⊎◌, ℕ, ◌-◌, ◌<◌, ◌≤◌, ◌==◌, nat_lt, Bool, true, false, is_some, IsTrue, List}
+use Rattle.std.specs.Prelude.{[], ◌∷◌, ◌++◌, length, Option, Some, None, slice_get}
 use Rattle.std.specs.List.{AllByRecursion, Any}
 use Rattle.std.specs.Option.{option_map_or}
 use Rattle.po_text.specs.Entries as po
@@ -109,7 +110,8 @@ pub record IsMixed (test : List ℕ → Bool) (ts : List (List ℕ)) : Type 0 wh
   pub some : Any (λ text. test text ≡ true) ts
   pub others : Any (λ text. test text ≡ false) ts
 
--- of its texts some begin with a newline and some don't, or some end with one and some don't; the empty msgid isn't looked at
+-- of its texts some begin with a newline and some don't, or some end with one and some don't; the empty msgid isn't
+-- looked at
 pub record HasOtherNewlines (e : po.Entry) : Type 0 where
   pub named : e.id ≢ []
   pub mixed : IsMixed begins_with_newline (texts e) ⊎ IsMixed ends_with_newline (texts e)

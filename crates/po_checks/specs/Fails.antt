@@ -3,11 +3,15 @@ use Rattle.std.specs.Prelude.{◌≡◌, ◌≢◌, ℕ, ◌<◌, AllPairs, IsTr
 use Rattle.std.specs.List.{Any}
 use Rattle.po_text.specs.Entries as po
 use Rattle.po_header.specs.Rule.{Rule, Given, Absent, Broken}
-use Rattle.po_checks.specs.Checks.{FirstAt, HasSystemDependentText, HasOtherArguments, IsPlural, HasOtherCount, IsFirstWithoutForm, HasOtherNewlines}
+use Rattle.po_checks.specs.Checks.{FirstAt, HasSystemDependentText, HasOtherArguments, IsPlural, HasOtherCount}
+use Rattle.po_checks.specs.Checks.{IsFirstWithoutForm, HasOtherNewlines}
 use Rattle.po_checks.specs.Kept.{key_of, kept, kept_header, header_line_of, HasHeaderRule, NamesCharset}
 use Rattle.po_checks.specs.declared.options.Options.{Options}
 use Rattle.po_checks.specs.declared.fault.LoadKind.{LoadKind}
-use Rattle.po_checks.specs.declared.fault.LoadKind.TheVariants.{TooLarge, NotUtf8, BadEscape, OpenString, BadWord, BadText, BadOrder, BadIndex, Duplicate, Charset, SystemDependent, NoRule, BadRule, FormCount, PluralRange, FormatMismatch, NewlineMismatch, Memory}
+use Rattle.po_checks.specs.declared.fault.LoadKind.TheVariants.{TooLarge, NotUtf8, BadEscape, OpenString, BadWord}
+use Rattle.po_checks.specs.declared.fault.LoadKind.TheVariants.{BadText, BadOrder, BadIndex, Duplicate, Charset}
+use Rattle.po_checks.specs.declared.fault.LoadKind.TheVariants.{SystemDependent, NoRule, BadRule, FormCount}
+use Rattle.po_checks.specs.declared.fault.LoadKind.TheVariants.{PluralRange, FormatMismatch, NewlineMismatch, Memory}
 
 -- all keys are different
 abbrev pub HasDistinctKeys : List po.Entry → Type 0
@@ -40,7 +44,8 @@ RuleRefuses _ entries at _ line = ⊥
 
 -- the rule in the kept header refuses them
 abbrev pub HeaderRefuses : Options → List po.Entry → LoadKind → ℕ → Type 0
-HeaderRefuses options entries kind line = (rule : Rule) × HasHeaderRule options entries rule × RuleRefuses rule (kept options entries) (header_line_of options entries) kind line
+HeaderRefuses options entries kind line = (rule : Rule) × HasHeaderRule options entries rule
+    × RuleRefuses rule (kept options entries) (header_line_of options entries) kind line
 
 -- the entries are refused for this at this line: from `NoRule` on at the checked level alone
 abbrev pub Fails : Options → List po.Entry → LoadKind → ℕ → Type 0
@@ -51,8 +56,10 @@ Fails options entries NoRule line = IsTrue options.checked × HeaderRefuses opti
 Fails options entries BadRule line = IsTrue options.checked × HeaderRefuses options entries BadRule line
 Fails options entries FormCount line = IsTrue options.checked × HeaderRefuses options entries FormCount line
 Fails options entries (PluralRange n) line = IsTrue options.checked × HeaderRefuses options entries (PluralRange n) line
-Fails options entries FormatMismatch line = IsTrue options.checked × FirstAt HasOtherArguments (kept options entries) line
-Fails options entries NewlineMismatch line = IsTrue options.checked × FirstAt HasOtherNewlines (kept options entries) line
+Fails options entries FormatMismatch line = IsTrue options.checked
+    × FirstAt HasOtherArguments (kept options entries) line
+Fails options entries NewlineMismatch line = IsTrue options.checked
+    × FirstAt HasOtherNewlines (kept options entries) line
 Fails options entries _ line = ⊥
 
 -- the order of the refusals

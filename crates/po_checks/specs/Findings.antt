@@ -1,12 +1,15 @@
 -- Private: what the steps of the checks promise one another.
-use Rattle.std.specs.Prelude.{◌≡◌, ◌≢◌, ◌⊎◌, ℕ, ◌≤◌, ◌==◌, Bool, not, true, false, IsTrue, if◌then◌else◌, List, [], ◌∷◌, ◌++◌, Option, Some, None}
+use Rattle.std.specs.Prelude.{◌≡◌, ◌≢◌, ◌⊎◌, ℕ, ◌≤◌, ◌==◌, Bool, not, true, false, IsTrue, if◌then◌else◌, List, [], ◌∷◌}
+use Rattle.std.specs.Prelude.{◌++◌, Option, Some, None}
 use Rattle.po_text.specs.Entries as po
 use Rattle.po_header.specs.Grammar.{Tree}
 use Rattle.po_header.specs.Rule.{Rule}
 use Rattle.c_signature.specs.Agreement.{Agrees}
 use Rattle.c_signature.specs.Signature as signature
 use Rattle.c_signature.specs.declared.Strictness.{Strictness}
-use Rattle.po_checks.specs.Checks.{NoneOf, FirstAt, HasSystemDependentText, HasOtherArguments, IsPlural, HasOtherCount, HasOtherNewlines, has_form, IsFirstWithoutForm, Differs, begins_with_newline, ends_with_newline}
+use Rattle.po_checks.specs.Checks.{NoneOf, FirstAt, HasSystemDependentText, HasOtherArguments, IsPlural, HasOtherCount}
+use Rattle.po_checks.specs.Checks.{HasOtherNewlines, has_form, IsFirstWithoutForm, Differs, begins_with_newline}
+use Rattle.po_checks.specs.Checks.{ends_with_newline}
 use Rattle.po_checks.specs.Kept.{kept, header_line_of, header_text_of, HasHeaderRule}
 use Rattle.po_checks.specs.Fails.{rank, Fails, IsFirst}
 use Rattle.po_checks.specs.declared.findings.Findings.{Findings}
@@ -17,7 +20,8 @@ use Rattle.po_checks.specs.declared.plurals.Plurals.{Plurals}
 use Rattle.po_checks.specs.declared.options.Options.{Options}
 use Rattle.po_checks.specs.declared.fault.LoadFault.{LoadFault}
 use Rattle.po_checks.specs.declared.fault.LoadKind.{LoadKind}
-use Rattle.po_checks.specs.Found.{AreFound, FailsFrom, FirstFault, FirstLine, HasFound, HasPlurals, IsFault, LooksAt, line_for, line_of}
+use Rattle.po_checks.specs.Found.{AreFound, FailsFrom, FirstFault, FirstLine, HasFound, HasPlurals, IsFault, LooksAt}
+use Rattle.po_checks.specs.Found.{line_for, line_of}
 
 -- the line that was found before, or this one
 abbrev pub first_or : Option ℕ → Bool → ℕ → Option ℕ
@@ -48,7 +52,8 @@ DiffersFrom _ rule form = ⊥
 -- one more plural entry, of so many forms, stands at this line
 pub record AddsPlural (old new : Plurals) (forms line : ℕ) : Type 0 where
   pub first : line_of new.first ≡ first_or (line_of old.first) true line
-  pub other : (nplurals : ℕ) → line_for new.first nplurals ≡ first_or (line_for old.first nplurals) (not (forms == nplurals)) line
+  pub other : (nplurals : ℕ) → line_for new.first nplurals ≡ first_or (line_for old.first nplurals)
+      (not (forms == nplurals)) line
 
 -- the least of 0 to 1000 that takes none, or none of them
 abbrev pub FirstWithoutForm : ℕ → Tree → Option ℕ → Type 0
@@ -61,18 +66,23 @@ pub record NewlinesDiffer (id text : List ℕ) : Type 0 where
 
 -- what was found of one more kept entry: of its formats
 pub record AddsFormats (old new : Findings) (e : po.Entry) : Type 0 where
-  pub dependent : (entries : List po.Entry) → FirstLine HasSystemDependentText entries old.system_dependent → FirstLine HasSystemDependentText (entries ++ e ∷ []) new.system_dependent
-  pub mismatch : (entries : List po.Entry) → FirstLine HasOtherArguments entries old.mismatch → FirstLine HasOtherArguments (entries ++ e ∷ []) new.mismatch
+  pub dependent : (entries : List po.Entry) → FirstLine HasSystemDependentText entries old.system_dependent
+      → FirstLine HasSystemDependentText (entries ++ e ∷ []) new.system_dependent
+  pub mismatch : (entries : List po.Entry) → FirstLine HasOtherArguments entries old.mismatch
+      → FirstLine HasOtherArguments (entries ++ e ∷ []) new.mismatch
   pub newlines : new.newlines ≡ old.newlines
   pub plurals : new.plurals ≡ old.plurals
 
 -- and of its newlines and plural forms
 pub record AddsTexts (old new : Findings) (e : po.Entry) : Type 0 where
-  pub newlines : (entries : List po.Entry) → FirstLine HasOtherNewlines entries old.newlines → FirstLine HasOtherNewlines (entries ++ e ∷ []) new.newlines
+  pub newlines : (entries : List po.Entry) → FirstLine HasOtherNewlines entries old.newlines
+      → FirstLine HasOtherNewlines (entries ++ e ∷ []) new.newlines
   pub plurals : (entries : List po.Entry) → HasPlurals entries old.plurals → HasPlurals (entries ++ e ∷ []) new.plurals
   pub dependent : new.system_dependent ≡ old.system_dependent
   pub mismatch : new.mismatch ≡ old.mismatch
 
 -- the first fault that the findings come to, by the rule of a header on this line: from the twelfth refusal on
 abbrev pub IsCheckedFault : Findings → Rule → ℕ → Option LoadFault → Type 0
-IsCheckedFault findings rule at fault = (options : Options) (entries : List po.Entry) → HasFound options entries findings → IsTrue options.checked → HasHeaderRule options entries rule → at ≡ header_line_of options entries → FirstFault (FailsFrom 12 options entries) fault
+IsCheckedFault findings rule at fault = (options : Options) (entries : List po.Entry)
+    → HasFound options entries findings → IsTrue options.checked → HasHeaderRule options entries rule → at
+    ≡ header_line_of options entries → FirstFault (FailsFrom 12 options entries) fault

@@ -1,12 +1,15 @@
 -- What the checks found among the kept entries that were read so far, and the first fault that it comes to.
-use Rattle.std.specs.Prelude.{◌≡◌, ◌≢◌, ◌⊎◌, ℕ, ◌≤◌, ◌==◌, Bool, not, true, false, IsTrue, if◌then◌else◌, List, [], ◌∷◌, ◌++◌, Option, Some, None}
+use Rattle.std.specs.Prelude.{◌≡◌, ◌≢◌, ◌⊎◌, ℕ, ◌≤◌, ◌==◌, Bool, not, true, false, IsTrue, if◌then◌else◌, List, [], ◌∷◌}
+use Rattle.std.specs.Prelude.{◌++◌, Option, Some, None}
 use Rattle.po_text.specs.Entries as po
 use Rattle.po_header.specs.Grammar.{Tree}
 use Rattle.po_header.specs.Rule.{Rule}
 use Rattle.c_signature.specs.Agreement.{Agrees}
 use Rattle.c_signature.specs.Signature as signature
 use Rattle.c_signature.specs.declared.Strictness.{Strictness}
-use Rattle.po_checks.specs.Checks.{NoneOf, FirstAt, HasSystemDependentText, HasOtherArguments, IsPlural, HasOtherCount, HasOtherNewlines, has_form, IsFirstWithoutForm, Differs, begins_with_newline, ends_with_newline}
+use Rattle.po_checks.specs.Checks.{NoneOf, FirstAt, HasSystemDependentText, HasOtherArguments, IsPlural, HasOtherCount}
+use Rattle.po_checks.specs.Checks.{HasOtherNewlines, has_form, IsFirstWithoutForm, Differs, begins_with_newline}
+use Rattle.po_checks.specs.Checks.{ends_with_newline}
 use Rattle.po_checks.specs.Kept.{kept, header_line_of, header_text_of, HasHeaderRule}
 use Rattle.po_checks.specs.Fails.{rank, Fails, IsFirst}
 use Rattle.po_checks.specs.declared.findings.Findings.{Findings}
@@ -59,8 +62,11 @@ FailsFrom n options entries kind line = (n ≤ rank kind) × Fails options entri
 
 -- one more entry was looked at
 abbrev pub LooksAt : Options → po.Entry → Findings → Findings → Type 0
-LooksAt options e old new = (entries : List po.Entry) → HasFound options entries old → HasFound options (entries ++ e ∷ []) new
+LooksAt options e old new = (entries : List po.Entry) → HasFound options entries old
+    → HasFound options (entries ++ e ∷ []) new
 
 -- and by the text of the header: from the eleventh on
 abbrev pub IsFault : Findings → Options → Option (List ℕ) → ℕ → Option LoadFault → Type 0
-IsFault findings options header at fault = (entries : List po.Entry) → HasFound options entries findings → header ≡ header_text_of options entries → at ≡ header_line_of options entries → FirstFault (FailsFrom 11 options entries) fault
+IsFault findings options header at fault = (entries : List po.Entry) → HasFound options entries findings → header
+    ≡ header_text_of options entries → at ≡ header_line_of options entries
+    → FirstFault (FailsFrom 11 options entries) fault

@@ -2,7 +2,8 @@
 use Rattle.po_text.specs.declared.PoKind.{PoKind}
 use Rattle.po_text.specs.declared.PoKind.TheVariants as po
 use Rattle.po_checks.specs.declared.fault.LoadKind.{LoadKind}
-use Rattle.po_checks.specs.declared.fault.LoadKind.TheVariants.{TooLarge, NotUtf8, BadEscape, OpenString, BadWord, BadText, BadOrder, BadIndex, Memory}
+use Rattle.po_checks.specs.declared.fault.LoadKind.TheVariants.{TooLarge, NotUtf8, BadEscape, OpenString, BadWord}
+use Rattle.po_checks.specs.declared.fault.LoadKind.TheVariants.{BadText, BadOrder, BadIndex, Memory}
 
 abbrev pub kind_of : PoKind → LoadKind
 kind_of po.TooLarge = TooLarge

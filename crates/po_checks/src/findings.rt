@@ -121,7 +121,8 @@ impl Findings {
         header: Option<&str>,
         header_line: u32,
     ) -> Result<Option<LoadFault>, AllocError>
-        ensures { IfOk result (λ fault. IsFault self.now options (option_map (λ text. text.now) header.entry) header_line fault) }
+        ensures { IfOk result (λ fault. IsFault self.now options (option_map (λ text. text.now) header.entry)
+            header_line fault) }
     {
         if let Some(line) = self.system_dependent {
             let kind = LoadKind::SystemDependent;

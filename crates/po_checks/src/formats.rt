@@ -99,7 +99,8 @@ fn form_faults(
     rule: Strictness,
 ) -> Result<FormatFaults, AllocError>
     ensures dependent { IfOk result (λ faults. IsTrue faults.system_dependent ↔ Any IsSystemDependent entry.now.forms) }
-    ensures mismatch { IfOk result (λ faults. IsTrue faults.mismatch ↔ Any (DiffersFrom original.now rule) entry.now.forms) }
+    ensures mismatch { IfOk result (λ faults. IsTrue faults.mismatch
+        ↔ Any (DiffersFrom original.now rule) entry.now.forms) }
 {
     let mut faults = FormatFaults::none();
     'forms: for k in 0..entry.form_count() {
@@ -111,7 +112,8 @@ fn form_faults(
 
 /// The faults of an entry that is flagged `c-format`.
 fn flagged_faults(alloc: Global, entry: &EntryBuffer) -> Result<FormatFaults, AllocError>
-    ensures dependent { IfOk result (λ faults. IsTrue faults.system_dependent ↔ Any IsSystemDependent (texts entry.now)) }
+    ensures dependent { IfOk result
+        (λ faults. IsTrue faults.system_dependent ↔ Any IsSystemDependent (texts entry.now)) }
     ensures mismatch { IfOk result (λ faults. IsTrue faults.mismatch ↔ FormsDiffer entry.now) }
 {
     let id = read_format(alloc, entry.id())?;

@@ -23,7 +23,8 @@ pub fn is_untranslated(entry: &EntryBuffer) -> bool
     entry.form_count() == 0 || entry.form(0).is_empty()
 }
 
-/// Whether an entry goes into the catalogue: it is translated, and not fuzzy unless fuzzy entries are asked for or it is
+/// Whether an entry goes into the catalogue: it is translated, and not fuzzy unless fuzzy entries are asked for or it
+/// is
 /// the header.
 pub fn is_kept(entry: &EntryBuffer, options: Options) -> bool
     ensures is { result ≡ Kept.is_kept options entry.now }

@@ -80,7 +80,8 @@ impl Plurals {
 
     /// One more entry.
     pub(crate) fn look_at(&mut self, entry: &EntryBuffer)
-        ensures { (entries : List PoEntry) → HasPlurals entries self.old → HasPlurals (entries ++ entry.now ∷ []) self.new }
+        ensures { (entries : List PoEntry) → HasPlurals entries self.old
+            → HasPlurals (entries ++ entry.now ∷ []) self.new }
     {
         if entry.plural().is_some() {
             self.add(entry.form_count() as u64, entry.line());
@@ -113,7 +114,8 @@ impl Plurals {
 
     /// The first fault by this rule, in a header that stands at this line.
     fn fault_by(&self, nplurals: u64, expr: &PluralExpr, header_line: u32) -> Option<LoadFault>
-        ensures { (entries : List PoEntry) → HasPlurals entries self.now → FirstFault (RuleRefuses (Given nplurals (tree_of expr.now)) entries header_line) result }
+        ensures { (entries : List PoEntry) → HasPlurals entries self.now
+            → FirstFault (RuleRefuses (Given nplurals (tree_of expr.now)) entries header_line) result }
     {
         if let Some(line) = self.line_for(nplurals) {
             return Some(LoadFault {
@@ -132,7 +134,8 @@ impl Plurals {
 
     /// The first fault by the rule in a header that stands at this line.
     pub(crate) fn fault(&self, rule: &RuleRead, header_line: u32) -> Option<LoadFault>
-        ensures { (entries : List PoEntry) → HasPlurals entries self.now → FirstFault (RuleRefuses (rule_of rule.now) entries header_line) result }
+        ensures { (entries : List PoEntry) → HasPlurals entries self.now
+            → FirstFault (RuleRefuses (rule_of rule.now) entries header_line) result }
     {
         match rule {
             RuleRead::Given { nplurals, expr } => self.fault_by(*nplurals, expr, header_line),

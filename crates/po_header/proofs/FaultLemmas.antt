@@ -10,7 +10,8 @@ pub IsFault-map : {P Q : Type 0} (fault : ExprFault) → (P → Q) → IsFault f
 IsFault-map fault f (inl memory) = inl memory
 IsFault-map fault f (inr (malformed, p)) = inr (malformed, f p)
 
-pub IfErr-map : {T : Type 0} {P Q : Type 0} (r : Result T ExprFault) → (P → Q) → IfErr r (λ fault. IsFault fault P) → IfErr r (λ fault. IsFault fault Q)
+pub IfErr-map : {T : Type 0} {P Q : Type 0} (r : Result T ExprFault) → (P → Q) → IfErr r (λ fault. IsFault fault P)
+    → IfErr r (λ fault. IsFault fault Q)
 IfErr-map (Ok x) f h = tt
 IfErr-map (Err fault) f h = IsFault-map fault f h
 

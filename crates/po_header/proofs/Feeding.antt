@@ -102,10 +102,12 @@ pub record Reads (d : Derivation) (ws : List Waiting) : Type 0 where
   pub joins : (k : ℕ) → k ≤ level_of d → joined k waiting operand ≡ joined k ws (derived_tree d)
 
 pub record Feeds (d : Derivation) : Type 0 where
-  pub tight : 8 ≤ level_of d → (ws : List Waiting) → steps (wanting ws) (tokens_of d) ≡ having (negated ws (derived_tree d))
+  pub tight : 8 ≤ level_of d → (ws : List Waiting) → steps (wanting ws) (tokens_of d)
+      ≡ having (negated ws (derived_tree d))
   pub all : (ws : List Waiting) → Fits ws (level_of d) → Reads d ws
 
-tight_feeds : (d : Derivation) → ((ws : List Waiting) → steps (wanting ws) (tokens_of d) ≡ having (negated ws (derived_tree d))) → Feeds d
+tight_feeds : (d : Derivation) → ((ws : List Waiting) → steps (wanting ws) (tokens_of d)
+    ≡ having (negated ws (derived_tree d))) → Feeds d
 tight_feeds d h = record {
   tight = λ high. h;
   all = λ ws fits. record {
@@ -117,7 +119,8 @@ tight_feeds d h = record {
 }
 
 -- behind the tokens of a, and then more
-after_first : (d : Derivation) (ws : List Waiting) (more : List Token) → (r : Reads d ws) → steps (wanting ws) (tokens_of d ++ more) ≡ steps (having (r.waiting, r.operand)) more
+after_first : (d : Derivation) (ws : List Waiting) (more : List Token) → (r : Reads d ws)
+    → steps (wanting ws) (tokens_of d ++ more) ≡ steps (having (r.waiting, r.operand)) more
 after_first d ws more r = steps-append (tokens_of d) more (wanting ws) ∙ ap (λ (s : Option State). steps s more) r.after
 
 bracketed_feeds : (d : Derivation) → Feeds d → Feeds (Bracketed d)
@@ -125,7 +128,8 @@ bracketed_feeds d h = tight_feeds (Bracketed d) (λ ws.
     let r = h.all (BracketWaits ∷ ws) tt in
     after_first d (BracketWaits ∷ ws) (Close ∷ []) r ∙ ap close (r.joins 1 (level_some d)))
 
-joined_feeds : (op : Operator) (a b : Derivation) → Feeds a → Feeds b → level op ≤ level_of a → level op < level_of b → Feeds (Joined op a b)
+joined_feeds : (op : Operator) (a b : Derivation) → Feeds a → Feeds b → level op ≤ level_of a → level op < level_of b
+    → Feeds (Joined op a b)
 joined_feeds op a b h g le lt = record {
   tight = λ high. absurd (omega (arith, level_high op));
   all = λ ws fits.
@@ -136,7 +140,8 @@ joined_feeds op a b h g le lt = record {
         operand = r.operand;
         after =
             after_first a ws (Sign op ∷ tokens_of b) q
-            ∙ ap (λ (p : List Waiting × Tree). steps (left_waits op p) (tokens_of b)) (q.joins (level op) le ∙ joined-Fits (level op) ws (derived_tree a) (level_low op) fits)
+            ∙ ap (λ (p : List Waiting × Tree). steps (left_waits op p) (tokens_of b))
+            (q.joins (level op) le ∙ joined-Fits (level op) ws (derived_tree a) (level_low op) fits)
             ∙ r.after;
         joins = λ k small. r.joins k (omega arith) ∙ rw (le-leb k (level op) small) refl;
       };
@@ -155,7 +160,8 @@ chosen_feeds c a b h g f le = record {
         operand = r.operand;
         after =
             after_first c ws (Question ∷ tokens_of a ++ (Colon ∷ tokens_of b)) p
-            ∙ ap (λ (w : List Waiting × Tree). steps (condition_waits w) (tokens_of a ++ (Colon ∷ tokens_of b))) (p.joins 2 le ∙ joined-Fits 2 ws (derived_tree c) two (Fits-le ws 1 2 (omega arith) fits))
+            ∙ ap (λ (w : List Waiting × Tree). steps (condition_waits w) (tokens_of a ++ (Colon ∷ tokens_of b)))
+            (p.joins 2 le ∙ joined-Fits 2 ws (derived_tree c) two (Fits-le ws 1 2 (omega arith) fits))
             ∙ after_first a (ConditionWaits (derived_tree c) ∷ ws) (Colon ∷ tokens_of b) q
             ∙ ap (λ (w : List Waiting × Tree). steps (colon w) (tokens_of b)) (q.joins 1 (level_some a))
             ∙ r.after;
@@ -175,7 +181,8 @@ feeds (Chosen c a b) g = chosen_feeds c a b (feeds c g.0) (feeds a g.1) (feeds b
 pub finds_tree : (tokens : List Token) (tree : Tree) → Derives tokens tree → finish (steps start tokens) ≡ Some tree
 finds_tree tokens tree h =
     let r = (feeds h.derivation h.grouped).all [] tt in
-    ap (λ (ts : List Token). finish (steps start ts)) h.tokens_are ∙ ap finish r.after ∙ ap ended (r.joins 1 (level_some h.derivation)) ∙ ap Some (sym h.tree_is)
+    ap (λ (ts : List Token). finish (steps start ts)) h.tokens_are ∙ ap finish r.after
+    ∙ ap ended (r.joins 1 (level_some h.derivation)) ∙ ap Some (sym h.tree_is)
 
 -- tokens derive at most one tree
 pub Derives-one : (tokens : List Token) (tree other : Tree) → Derives tokens tree → Derives tokens other → tree ≡ other

@@ -24,7 +24,8 @@ boundary_at (suc n) text utf8 e =
     let lt : n < prefix_len is_blank text = omega arith in
     let le = prefix_len-le-length is_blank text in
     let m : n + 1 ≡ suc n = omega arith in
-    rw m at (IsCharBoundary-after_ascii text n utf8 (omega arith) (blank_ascii _ (prefix_len_passes is_blank text n 0 lt)))
+    rw m at (IsCharBoundary-after_ascii text n utf8 (omega arith)
+    (blank_ascii _ (prefix_len_passes is_blank text n 0 lt)))
 
 -- a text may be cut behind its blanks
 pub blanks_boundary : (text : List ℕ) → IsUtf8 text → IsCharBoundary text (prefix_len is_blank text)
@@ -36,26 +37,33 @@ pub line_value-other : (name line : List ℕ) → ((rest : List ℕ) → line �
 line_value-other name line other =
     rw (begins_not (name ++ (58 ∷ [])) line (λ rest e. other (58 ∷ rest) (e ∙ append_assoc name (58 ∷ []) rest))) refl
 
-pub line_value-no_colon : (name line after : List ℕ) → line ≡ name ++ after → ((rest : List ℕ) → after ≢ 58 ∷ rest) → line_value name line ≡ None
+pub line_value-no_colon : (name line after : List ℕ) → line ≡ name ++ after → ((rest : List ℕ) → after ≢ 58 ∷ rest)
+    → line_value name line ≡ None
 line_value-no_colon name line after e other =
-    rw (begins_not (name ++ (58 ∷ [])) line (λ rest f. other rest (append_cancel_left name after (58 ∷ rest) (sym e ∙ f ∙ append_assoc name (58 ∷ []) rest)))) refl
+    rw (begins_not (name ++ (58 ∷ [])) line (λ rest f. other rest
+    (append_cancel_left name after (58 ∷ rest) (sym e ∙ f ∙ append_assoc name (58 ∷ []) rest)))) refl
 
-pub line_value-some : (name line after value : List ℕ) → line ≡ name ++ after → after ≡ 58 ∷ value → line_value name line ≡ Some (behind_blanks value)
+pub line_value-some : (name line after value : List ℕ) → line ≡ name ++ after → after ≡ 58 ∷ value
+    → line_value name line ≡ Some (behind_blanks value)
 line_value-some name line after value e f =
-    let whole : line ≡ (name ++ (58 ∷ [])) ++ value = e ∙ ap (λ (t : List ℕ). name ++ t) f ∙ sym (append_assoc name (58 ∷ []) value) in
+    let whole : line ≡ (name ++ (58 ∷ [])) ++ value = e ∙ ap (λ (t : List ℕ). name ++ t) f
+    ∙ sym (append_assoc name (58 ∷ []) value) in
     let len : length (name ++ (58 ∷ [])) ≡ length name + 1 = length-append name (58 ∷ []) in
-    let rest : drop (length name + 1) line ≡ value = ap (λ (n : ℕ). drop n line) (sym len) ∙ front_rest line (name ++ (58 ∷ [])) value whole in
+    let rest : drop (length name + 1) line ≡ value = ap (λ (n : ℕ). drop n line) (sym len)
+    ∙ front_rest line (name ++ (58 ∷ [])) value whole in
     rw (begins_with (name ++ (58 ∷ [])) line value whole, rest) refl
 
 -- ---- lines
 
-pub field_value-first : (text name line later v : List ℕ) → lines text ≡ line ∷ lines later → Some v ≡ line_value name line → Some v ≡ field_value text name
+pub field_value-first : (text name line later v : List ℕ) → lines text ≡ line ∷ lines later → Some v
+    ≡ line_value name line → Some v ≡ field_value text name
 field_value-first text name line later v e found = elim (cases_Bool (has_name name line)) [
   | inl has ↦ rw (e, has) (rw has at found)
   | inr other ↦ let none : Some v ≡ None = rw other at found in absurd (cc none)
 ]
 
-pub field_value-next : (text name line later : List ℕ) → lines text ≡ line ∷ lines later → None ≡ line_value name line → field_value text name ≡ field_value later name
+pub field_value-next : (text name line later : List ℕ) → lines text ≡ line ∷ lines later → None ≡ line_value name line
+    → field_value text name ≡ field_value later name
 field_value-next text name line later e none = elim (cases_Bool (has_name name line)) [
   | inl has ↦ let found = rw has at none in absurd (cc found)
   | inr other ↦ rw (e, other) refl

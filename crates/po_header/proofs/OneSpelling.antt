@@ -20,7 +20,8 @@ use Rattle.po_header.proofs.TokenLemmas.{nothing_stray, blank_is, digit_no_blank
 
 abbrev pub kind_at : List ℕ → ℕ
 kind_at [] = 4
-kind_at (b ∷ more) = if is_blank b then 0 else if is_ascii_digit b then 1 else if is_some (long_at (b ∷ more)) then 2 else 3
+kind_at (b ∷ more) = if is_blank b then 0 else if is_ascii_digit b then 1 else if is_some (long_at (b ∷ more)) then 2
+    else 3
 
 abbrev pub piece_kind : Piece → ℕ
 piece_kind (Blank b) = 0
@@ -35,16 +36,25 @@ blank_no_long : (a b : ℕ) → is_blank a ≡ true → long_symbol (a ∷ b ∷
 blank_no_long a b e = elim (blank_is a e) [ inl space ↦ rw space refl | inr tab ↦ rw tab refl ]
 
 -- what begins a symbol is neither a blank nor a digit
-no_blank : (b : ℕ) (token : Token) (o : Option Token) → (is_blank b ≡ true → o ≡ None) → o ≡ Some token → is_blank b ≡ false
-no_blank b token o h e = elim (cases_Bool (is_blank b)) [ inl blank ↦ let f = h blank in absurd (cc (e, f)) | inr other ↦ other ]
+no_blank : (b : ℕ) (token : Token) (o : Option Token) → (is_blank b ≡ true → o ≡ None) → o ≡ Some token → is_blank b
+    ≡ false
+no_blank b token o h e = elim (cases_Bool (is_blank b)) [
+  | inl blank ↦ let f = h blank in absurd (cc (e, f))
+  | inr other
+      ↦ other
+]
 
-no_digit : (b : ℕ) (token : Token) (o : Option Token) → (is_ascii_digit b ≡ true → o ≡ None) → o ≡ Some token → is_ascii_digit b ≡ false
-no_digit b token o h e = elim (cases_Bool (is_ascii_digit b)) [ inl digit ↦ let f = h digit in absurd (cc (e, f)) | inr other ↦ other ]
+no_digit : (b : ℕ) (token : Token) (o : Option Token) → (is_ascii_digit b ≡ true → o ≡ None) → o ≡ Some token
+    → is_ascii_digit b ≡ false
+no_digit b token o h e = elim (cases_Bool (is_ascii_digit b))
+    [ inl digit ↦ let f = h digit in absurd (cc (e, f)) | inr other ↦ other ]
 
-digits_first : (d : ℕ) (more : List ℕ) (digits : List ℕ) → take_while is_ascii_digit (d ∷ more) ≡ digits → digits ≢ [] → is_ascii_digit d ≡ true
+digits_first : (d : ℕ) (more : List ℕ) (digits : List ℕ) → take_while is_ascii_digit (d ∷ more) ≡ digits → digits ≢ []
+    → is_ascii_digit d ≡ true
 digits_first d more digits run some = elim (cases_Bool (is_ascii_digit d)) [
   | inl digit ↦ digit
-  | inr other ↦ let none : take_while is_ascii_digit (d ∷ more) ≡ [] = rw (take_while-cons is_ascii_digit d more, other) refl in absurd (some (sym run ∙ none))
+  | inr other ↦ let none : take_while is_ascii_digit (d ∷ more)
+      ≡ [] = rw (take_while-cons is_ascii_digit d more, other) refl in absurd (some (sym run ∙ none))
 ]
 
 pub kind_is : (p : Piece) (s m : List ℕ) → PieceAt p s m → kind_at s ≡ piece_kind p
@@ -83,7 +93,8 @@ Piece-one p q s m n h g = let k = sym (kind_is p s m h) ∙ kind_is q s n g in a
 -- ---- whole texts
 
 -- pieces at the front of a text are the first of all its pieces
-chain_after : (ps qs : List Piece) (s t : List ℕ) → Chain PieceAt ps s t → Chain PieceAt qs s [] → (more : List Piece) × (qs ≡ ps ++ more) × Chain PieceAt more t []
+chain_after : (ps qs : List Piece) (s t : List ℕ) → Chain PieceAt ps s t → Chain PieceAt qs s [] → (more : List Piece)
+    × (qs ≡ ps ++ more) × Chain PieceAt more t []
 chain_after [] qs s t e all = (qs, refl, subst (λ (u : List ℕ). Chain PieceAt qs u []) e all)
 chain_after (p ∷ ps) [] s t (m, at, rest) none = absurd (nothing_stray s none p m at)
 chain_after (p ∷ ps) (q ∷ qs) s t (m, at, rest) (n, at', rest') =
@@ -98,15 +109,18 @@ no_pieces [] s e all = refl
 no_pieces (p ∷ ps) s e (m, at, rest) = absurd (nothing_stray s e p m at)
 
 -- tokens at the front of a text are the first of all its tokens
-pub spelled_after : (tokens all : List Token) (text rest : List ℕ) → Begins tokens text rest → Spells text all → (more : List Token) × (all ≡ tokens ++ more) × Spells rest more
+pub spelled_after : (tokens all : List Token) (text rest : List ℕ) → Begins tokens text rest → Spells text all
+    → (more : List Token) × (all ≡ tokens ++ more) × Spells rest more
 spelled_after tokens all text rest b s =
     let r = chain_after b.pieces s.pieces text rest b.each s.each in (
       tokens_of_pieces r.0,
-      s.tokens_are ∙ ap tokens_of_pieces r.1 ∙ filter_map-append piece_token b.pieces r.0 ∙ ap (λ (ts : List Token). ts ++ tokens_of_pieces r.0) (sym b.tokens_are),
+      s.tokens_are ∙ ap tokens_of_pieces r.1 ∙ filter_map-append piece_token b.pieces r.0
+          ∙ ap (λ (ts : List Token). ts ++ tokens_of_pieces r.0) (sym b.tokens_are),
       record { pieces = r.0; each = r.2; tokens_are = refl },
     )
 
-chain_append : (ps qs : List Piece) (s m t : List ℕ) → Chain PieceAt ps s m → Chain PieceAt qs m t → Chain PieceAt (ps ++ qs) s t
+chain_append : (ps qs : List Piece) (s m t : List ℕ) → Chain PieceAt ps s m → Chain PieceAt qs m t
+    → Chain PieceAt (ps ++ qs) s t
 chain_append [] qs s m t e more = subst (λ (x : List ℕ). Chain PieceAt qs x t) (sym e) more
 chain_append (p ∷ ps) qs s m t (n, at, rest) more = (n, at, chain_append ps qs n m t rest more)
 
@@ -122,13 +136,15 @@ stray_spells rest [] stray e = e
 stray_spells rest (p ∷ ps) stray (m, at, more) = absurd (stray p m at)
 
 -- behind tokens stands what is none: the text spells no tokens
-pub stray_behind : (tokens all : List Token) (text rest : List ℕ) → Begins tokens text rest → IsStray rest → rest ≢ [] → ¬ Spells text all
+pub stray_behind : (tokens all : List Token) (text rest : List ℕ) → Begins tokens text rest → IsStray rest → rest ≢ []
+    → ¬ Spells text all
 stray_behind tokens all text rest b stray some s =
     let r = spelled_after tokens all text rest b s in
     some (stray_spells rest r.2.pieces stray r.2.each)
 
 -- a text spells one list of tokens
-pub Spells-one : (text : List ℕ) (tokens others : List Token) → Spells text tokens → Spells text others → tokens ≡ others
+pub Spells-one : (text : List ℕ) (tokens others : List Token) → Spells text tokens → Spells text others → tokens
+    ≡ others
 Spells-one text tokens others p q =
     let r = spelled_after tokens others text [] p q in
     let e : r.2.pieces ≡ [] = no_pieces r.2.pieces [] refl r.2.each in

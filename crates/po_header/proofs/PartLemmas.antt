@@ -12,18 +12,26 @@ use Rattle.po_header.specs.ExprParts.{Builds, built, part_tree, tree_at, trees_f
 
 -- ---- the trees of parts
 
-trees_from-append : (a b : List Part) (trees : List Tree) → trees_from trees (a ++ b) ≡ trees_from (trees_from trees a) b
+trees_from-append : (a b : List Part) (trees : List Tree) → trees_from trees (a ++ b)
+    ≡ trees_from (trees_from trees a) b
 trees_from-append [] b trees = refl
 trees_from-append (p ∷ a) b trees = trees_from-append a b (trees ++ (part_tree trees p ∷ []))
 
-length-trees_from : (parts : List Part) (trees : List Tree) → length (trees_from trees parts) ≡ length trees + length parts
+length-trees_from : (parts : List Part) (trees : List Tree) → length (trees_from trees parts)
+    ≡ length trees + length parts
 length-trees_from [] trees = omega arith
-length-trees_from (p ∷ parts) trees = omega (arith, length-trees_from parts (trees ++ (part_tree trees p ∷ [])), length-append trees (part_tree trees p ∷ []))
+length-trees_from (p ∷ parts) trees = omega (
+  arith,
+  length-trees_from parts (trees ++ (part_tree trees p ∷ [])),
+  length-append trees (part_tree trees p ∷ []),
+)
 
-trees_from-keeps : (parts : List Part) (trees : List Tree) (k : ℕ) → k < length trees → tree_at (trees_from trees parts) k ≡ tree_at trees k
+trees_from-keeps : (parts : List Part) (trees : List Tree) (k : ℕ) → k < length trees
+    → tree_at (trees_from trees parts) k ≡ tree_at trees k
 trees_from-keeps [] trees k lt = refl
 trees_from-keeps (p ∷ parts) trees k lt =
-    trees_from-keeps parts (trees ++ (part_tree trees p ∷ [])) k (omega (arith, length-append trees (part_tree trees p ∷ [])))
+    trees_from-keeps parts (trees ++ (part_tree trees p ∷ [])) k
+    (omega (arith, length-append trees (part_tree trees p ∷ [])))
     ∙ get_or_append_left trees (part_tree trees p ∷ []) Variable k lt
 
 length-trees_of : (parts : List Part) → length (trees_of parts) ≡ length parts
@@ -43,16 +51,20 @@ built-last old p =
     ∙ get_or-append_seam (trees_of old) (part_tree (trees_of old) p) [] Variable
 
 -- a part stands behind the parts before it
-cut_part : (parts : List Part) (at : ℕ) (p : Part) → at < length parts → get_or parts at p ≡ p → parts ≡ (take at parts ++ (p ∷ [])) ++ drop (at + 1) parts
+cut_part : (parts : List Part) (at : ℕ) (p : Part) → at < length parts → get_or parts at p ≡ p → parts
+    ≡ (take at parts ++ (p ∷ [])) ++ drop (at + 1) parts
 cut_part parts at p lt e =
-    sym (take-append-drop at parts) ∙ ap (λ (t : List Part). take at parts ++ t) (drop_more parts at p lt ∙ ap (λ (x : Part). x ∷ drop (at + 1) parts) e)
+    sym (take-append-drop at parts) ∙ ap (λ (t : List Part). take at parts ++ t)
+    (drop_more parts at p lt ∙ ap (λ (x : Part). x ∷ drop (at + 1) parts) e)
     ∙ sym (append_assoc (take at parts) (p ∷ []) (drop (at + 1) parts))
 
-pub built-part : (parts : List Part) (at : ℕ) (p : Part) → at < length parts → get_or parts at p ≡ p → built parts at ≡ part_tree (trees_of (take at parts)) p
+pub built-part : (parts : List Part) (at : ℕ) (p : Part) → at < length parts → get_or parts at p ≡ p → built parts at
+    ≡ part_tree (trees_of (take at parts)) p
 built-part parts at p lt e =
     let len : length (take at parts) ≡ at = omega (arith, length-take at parts) in
     ap (λ (t : List Part). built t at) (cut_part parts at p lt e)
-    ∙ built-append (take at parts ++ (p ∷ [])) (drop (at + 1) parts) at (omega (arith, length-append (take at parts) (p ∷ [])))
+    ∙ built-append (take at parts ++ (p ∷ [])) (drop (at + 1) parts) at
+    (omega (arith, length-append (take at parts) (p ∷ [])))
     ∙ ap (λ (k : ℕ). built (take at parts ++ (p ∷ [])) k) (sym len)
     ∙ built-last (take at parts) p
 
@@ -62,7 +74,8 @@ built-past parts k le = get_or_past (trees_of parts) k Variable (omega (arith, l
 
 -- ---- what was added
 
-pub Builds-part : (old new : List Part) (p : Part) (i : ℕ) → i ≡ length old → new ≡ old ++ p ∷ [] → Builds old new i (part_tree (trees_of old) p)
+pub Builds-part : (old new : List Part) (p : Part) (i : ℕ) → i ≡ length old → new ≡ old ++ p ∷ []
+    → Builds old new i (part_tree (trees_of old) p)
 Builds-part old new p i e f = record {
   more = p ∷ [];
   grown = f;
@@ -71,13 +84,15 @@ Builds-part old new p i e f = record {
 }
 
 -- what was there before is what it was
-Builds-keeps : (old new : List Part) (i : ℕ) (t : Tree) (k : ℕ) → Builds old new i t → k < length old → built new k ≡ built old k
+Builds-keeps : (old new : List Part) (i : ℕ) (t : Tree) (k : ℕ) → Builds old new i t → k < length old → built new k
+    ≡ built old k
 Builds-keeps old new i t k h lt = ap (λ (ps : List Part). built ps k) h.grown ∙ built-append old h.more k lt
 
 Builds-longer : (old new : List Part) (i : ℕ) (t : Tree) (k : ℕ) → Builds old new i t → k < length old → k < length new
 Builds-longer old new i t k h lt = omega (arith, ap length h.grown, length-append old h.more)
 
-Builds-both : (old mid new : List Part) (i j : ℕ) (s t u : Tree) → Builds old mid i s → Builds mid new j t → t ≡ u → Builds old new j u
+Builds-both : (old mid new : List Part) (i j : ℕ) (s t u : Tree) → Builds old mid i s → Builds mid new j t → t ≡ u
+    → Builds old new j u
 Builds-both old mid new i j s t u h k same = record {
   more = h.more ++ k.more;
   grown = k.grown ∙ ap (λ (ps : List Part). ps ++ k.more) h.grown ∙ append_assoc old h.more k.more;
@@ -89,18 +104,29 @@ pub IfOk-map : {A E : Type 0} {P Q : A → Type 0} (r : Result A E) → ((x : A)
 IfOk-map (Ok x) f h = f x h
 IfOk-map (Err e) f h = tt
 
-pub builds_negation : (old mid new : List Part) (i j : ℕ) (operand whole : Tree) → Builds old mid i operand → Builds mid new j (part_tree (trees_of mid) (Negate i)) → Negation operand ≡ whole → Builds old new j whole
-builds_negation old mid new i j operand whole h k same = Builds-both old mid new i j operand _ whole h k (ap Negation h.is ∙ same)
+pub builds_negation : (old mid new : List Part) (i j : ℕ) (operand whole : Tree) → Builds old mid i operand
+    → Builds mid new j (part_tree (trees_of mid) (Negate i)) → Negation operand ≡ whole → Builds old new j whole
+builds_negation old mid new i j operand whole h k same = Builds-both old mid new i j operand _ whole h k
+    (ap Negation h.is ∙ same)
 
-pub builds_binary : (old first second new : List Part) (operator : Operator) (i j k : ℕ) (left right whole : Tree) → Builds old first i left → Builds first second j right → Builds second new k (part_tree (trees_of second) (Combine operator i j)) → Binary operator left right ≡ whole → Builds old new k whole
+pub builds_binary : (old first second new : List Part) (operator : Operator) (i j k : ℕ) (left right whole : Tree)
+    → Builds old first i left → Builds first second j right → Builds second new k
+    (part_tree (trees_of second) (Combine operator i j)) → Binary operator left right ≡ whole → Builds old new k whole
 builds_binary old first second new operator i j k left right whole h l m same =
     Builds-both old second new j k right _ whole (Builds-both old first second i j left right right h l refl) m
-    (ap (λ (t : Tree). Binary operator t (built second j)) (Builds-keeps first second j right i l h.there ∙ h.is) ∙ ap (λ (t : Tree). Binary operator left t) l.is ∙ same)
+    (ap (λ (t : Tree). Binary operator t (built second j)) (Builds-keeps first second j right i l h.there ∙ h.is)
+    ∙ ap (λ (t : Tree). Binary operator left t) l.is ∙ same)
 
-pub builds_choice : (old first second third new : List Part) (i j k l : ℕ) (condition chosen other whole : Tree) → Builds old first i condition → Builds first second j chosen → Builds second third k other → Builds third new l (part_tree (trees_of third) (Choose i j k)) → Choice condition chosen other ≡ whole → Builds old new l whole
+pub builds_choice : (old first second third new : List Part) (i j k l : ℕ) (condition chosen other whole : Tree)
+    → Builds old first i condition → Builds first second j chosen → Builds second third k other
+    → Builds third new l (part_tree (trees_of third) (Choose i j k)) → Choice condition chosen other ≡ whole
+    → Builds old new l whole
 builds_choice old first second third new i j k l condition chosen other whole a b c d same =
     let two : Builds old second j chosen = Builds-both old first second i j condition chosen chosen a b refl in
-    let i_is : built third i ≡ condition = Builds-keeps second third k other i c (Builds-longer first second j chosen i b a.there) ∙ Builds-keeps first second j chosen i b a.there ∙ a.is in
+    let i_is : built third i ≡ condition = Builds-keeps second third k other i c
+    (Builds-longer first second j chosen i b a.there) ∙ Builds-keeps first second j chosen i b a.there ∙ a.is in
     let j_is : built third j ≡ chosen = Builds-keeps second third k other j c b.there ∙ b.is in
     Builds-both old third new k l other _ whole (Builds-both old second third j k chosen other other two c refl) d
-    (ap (λ (t : Tree). Choice t (built third j) (built third k)) i_is ∙ ap (λ (t : Tree). Choice condition t (built third k)) j_is ∙ ap (λ (t : Tree). Choice condition chosen t) c.is ∙ same)
+    (ap (λ (t : Tree). Choice t (built third j) (built third k)) i_is
+    ∙ ap (λ (t : Tree). Choice condition t (built third k)) j_is ∙ ap (λ (t : Tree). Choice condition chosen t) c.is
+    ∙ same)

@@ -16,7 +16,8 @@ IsReadAs-one text tree other h g =
     let same = Spells-one (expression text) h.tokens g.tokens h.spells g.spells in
     Derives-one h.tokens tree other h.derives (subst (λ (ts : List Token). Derives ts other) (sym same) g.derives)
 
-given_one : (text : List ℕ) (n m : ℕ) (tree other : Tree) → IsGiven text n tree → IsGiven text m other → Given n tree ≡ Given m other
+given_one : (text : List ℕ) (n m : ℕ) (tree other : Tree) → IsGiven text n tree → IsGiven text m other → Given n tree
+    ≡ Given m other
 given_one text n m tree other h g =
     let count = Follows-one _ text _ _ h.both.count_is g.both.count_is in
     let expr = Follows-one _ text _ _ h.both.expr_is g.both.expr_is in
@@ -25,7 +26,8 @@ given_one text n m tree other h g =
     let trees = IsReadAs-one h.expr tree other h.read (subst (λ (t : List ℕ). IsReadAs t other) (sym expr) g.read) in
     cc (number, trees)
 
-given_fails : (text : List ℕ) (n : ℕ) (tree : Tree) → (h : IsGiven text n tree) → (leading_number h.count ≡ None) ⊎ (IsTooLong h.expr ⊎ IsMalformed h.expr) → ⊥
+given_fails : (text : List ℕ) (n : ℕ) (tree : Tree) → (h : IsGiven text n tree) → (leading_number h.count ≡ None)
+    ⊎ (IsTooLong h.expr ⊎ IsMalformed h.expr) → ⊥
 given_fails text n tree h (inl none) = let x = h.number in absurd (cc (x, none))
 given_fails text n tree h (inr (inl long)) = h.short long
 given_fails text n tree h (inr (inr none)) = none tree h.read
@@ -64,12 +66,14 @@ some_of_both : (text count expr : List ℕ) → HasBoth text count expr → ((ru
 some_of_both text count expr both none = elim (option_cases (leading_number count)) [
   | inl e ↦ none Broken (record { count = count; expr = expr; both = both; fails = inl e })
   | inr (n, e) ↦
-      let short : ¬ IsTooLong expr = λ long. none Broken (record { count = count; expr = expr; both = both; fails = inr (inl long) }) in
+      let short : ¬ IsTooLong expr = λ long. none Broken (record
+      { count = count; expr = expr; both = both; fails = inr (inl long) }) in
       none Broken (record {
         count = count;
         expr = expr;
         both = both;
-        fails = inr (inr (λ tree read. none (Given n tree) (record { count = count; expr = expr; both = both; number = e; short = short; read = read })));
+        fails = inr (inr (λ tree read. none (Given n tree) (record
+            { count = count; expr = expr; both = both; number = e; short = short; read = read })));
       })
 ]
 
@@ -78,6 +82,10 @@ HasRule-some text none = elim (option_cases (behind_first (codes "nplurals=") te
   | inl e ↦ none (Absent, inl (lacks_is (codes "nplurals=") text (omega arith) e))
   | inr (count, e) ↦ elim (option_cases (behind_first (codes "plural=") text)) [
     | inl f ↦ none (Absent, inr (lacks_is (codes "plural=") text (omega arith) f))
-    | inr (expr, f) ↦ some_of_both text count expr (record { count_is = follows_is _ text count e; expr_is = follows_is _ text expr f }) (λ rule has. none (rule, has))
+    | inr (expr, f) ↦ some_of_both text count expr (record {
+      count_is = follows_is _ text count e;
+      expr_is = follows_is
+          _ text expr f;
+    }) (λ rule has. none (rule, has))
   ]
 ]

@@ -17,18 +17,27 @@ use Rattle.po_header.specs.ChoiceSteps.{reached, step_value, step_values, values
 
 -- ---- values of steps
 
-pub values_from-append : (a b : List Step) (found : List (Option ℕ)) (n : ℕ) → values_from found n (a ++ b) ≡ values_from (values_from found n a) n b
+pub values_from-append : (a b : List Step) (found : List (Option ℕ)) (n : ℕ) → values_from found n (a ++ b)
+    ≡ values_from (values_from found n a) n b
 values_from-append [] b found n = refl
 values_from-append (s ∷ a) b found n = values_from-append a b (found ++ (step_value found n s ∷ [])) n
 
-pub length-values_from : (steps : List Step) (found : List (Option ℕ)) (n : ℕ) → length (values_from found n steps) ≡ length found + length steps
+pub length-values_from : (steps : List Step) (found : List (Option ℕ)) (n : ℕ) → length (values_from found n steps)
+    ≡ length found + length steps
 length-values_from [] found n = omega arith
-length-values_from (s ∷ steps) found n = omega (arith, length-values_from steps (found ++ (step_value found n s ∷ [])) n, length-append found (step_value found n s ∷ []))
+length-values_from (s ∷ steps) found n = omega (
+  arith,
+  length-values_from steps (found ++ (step_value found n s ∷ []))
+      n,
+  length-append found (step_value found n s ∷ []),
+)
 
-pub values_from-keeps : (steps : List Step) (found : List (Option ℕ)) (n k : ℕ) → k < length found → value_at (values_from found n steps) k ≡ value_at found k
+pub values_from-keeps : (steps : List Step) (found : List (Option ℕ)) (n k : ℕ) → k < length found
+    → value_at (values_from found n steps) k ≡ value_at found k
 values_from-keeps [] found n k lt = refl
 values_from-keeps (s ∷ steps) found n k lt =
-    values_from-keeps steps (found ++ (step_value found n s ∷ [])) n k (omega (arith, length-append found (step_value found n s ∷ [])))
+    values_from-keeps steps (found ++ (step_value found n s ∷ [])) n k
+    (omega (arith, length-append found (step_value found n s ∷ [])))
     ∙ get_or_append_left found (step_value found n s ∷ []) None k lt
 
 length-step_values : (steps : List Step) (n : ℕ) → length (step_values n steps) ≡ length steps
@@ -41,33 +50,47 @@ reached-append old more n k lt =
     ∙ values_from-keeps more (step_values n old) n k (omega (arith, length-step_values old n))
 
 -- the step that was added last
-pub reached-last : (old : List Step) (s : Step) (n : ℕ) → reached (old ++ (s ∷ [])) (length old) n ≡ step_value (step_values n old) n s
+pub reached-last : (old : List Step) (s : Step) (n : ℕ) → reached (old ++ (s ∷ [])) (length old) n
+    ≡ step_value (step_values n old) n s
 reached-last old s n =
     ap (λ (vs : List (Option ℕ)). value_at vs (length old)) (values_from-append old (s ∷ []) [] n)
-    ∙ ap (λ (k : ℕ). value_at (step_values n old ++ (step_value (step_values n old) n s ∷ [])) k) (sym (length-step_values old n))
+    ∙ ap (λ (k : ℕ). value_at (step_values n old ++ (step_value (step_values n old) n s ∷ [])) k)
+    (sym (length-step_values old n))
     ∙ get_or-append_seam (step_values n old) (step_value (step_values n old) n s) [] None
 
 -- ---- what was added
 
-pub Adds-map : (old new : List Step) (i : ℕ) (f g : ℕ → Option ℕ) → ((n : ℕ) → f n ≡ g n) → Adds old new i f → Adds old new i g
-Adds-map old new i f g same h = record { more = h.more; grown = h.grown; there = h.there; reaches = λ n. h.reaches n ∙ same n }
+pub Adds-map : (old new : List Step) (i : ℕ) (f g : ℕ → Option ℕ) → ((n : ℕ) → f n ≡ g n) → Adds old new i f
+    → Adds old new i g
+Adds-map old new i f g same h = record {
+  more = h.more;
+  grown = h.grown;
+  there = h.there;
+  reaches = λ n. h.reaches n
+      ∙ same n;
+}
 
-pub Adds-step : (old new : List Step) (s : Step) (i : ℕ) → i ≡ length old → new ≡ old ++ s ∷ [] → Adds old new i (λ n. step_value (step_values n old) n s)
+pub Adds-step : (old new : List Step) (s : Step) (i : ℕ) → i ≡ length old → new ≡ old ++ s ∷ []
+    → Adds old new i (λ n. step_value (step_values n old) n s)
 Adds-step old new s i e f = record {
   more = s ∷ [];
   grown = f;
   there = omega (arith, ap length f, length-append old (s ∷ []));
-  reaches = λ n. ap (λ (t : List Step). reached t i n) f ∙ ap (λ (k : ℕ). reached (old ++ (s ∷ [])) k n) e ∙ reached-last old s n;
+  reaches = λ n. ap (λ (t : List Step). reached t i n) f ∙ ap (λ (k : ℕ). reached (old ++ (s ∷ [])) k n) e
+      ∙ reached-last old s n;
 }
 
 -- what was there before reaches what it reached
-pub Adds-keeps : (old new : List Step) (i : ℕ) (f : ℕ → Option ℕ) (k n : ℕ) → Adds old new i f → k < length old → reached new k n ≡ reached old k n
+pub Adds-keeps : (old new : List Step) (i : ℕ) (f : ℕ → Option ℕ) (k n : ℕ) → Adds old new i f → k < length old
+    → reached new k n ≡ reached old k n
 Adds-keeps old new i f k n h lt = ap (λ (t : List Step). reached t k n) h.grown ∙ reached-append old h.more n k lt
 
-pub Adds-longer : (old new : List Step) (i k : ℕ) (f : ℕ → Option ℕ) → Adds old new i f → k < length old → k < length new
+pub Adds-longer : (old new : List Step) (i k : ℕ) (f : ℕ → Option ℕ) → Adds old new i f → k < length old
+    → k < length new
 Adds-longer old new i k f h lt = omega (arith, ap length h.grown, length-append old h.more)
 
-pub Adds-both : (old mid new : List Step) (i j : ℕ) (f g : ℕ → Option ℕ) → Adds old mid i f → Adds mid new j g → Adds old new j g
+pub Adds-both : (old mid new : List Step) (i j : ℕ) (f g : ℕ → Option ℕ) → Adds old mid i f → Adds mid new j g
+    → Adds old new j g
 Adds-both old mid new i j f g h k = record {
   more = h.more ++ k.more;
   grown = k.grown ∙ ap (λ (t : List Step). t ++ k.more) h.grown ∙ append_assoc old h.more k.more;
@@ -90,11 +113,16 @@ choice-either (Some x) None a b = elim (cases_eq x 0) [
   | inr e ↦ rw (ne_eqb x 0 e) refl
 ]
 choice-either (Some x) (Some y) a b = elim (cases_eq x 0) [
-  | inl e ↦ elim (cases_eq y 0) [ inl f ↦ rw (eq-eqb x 0 e, eq-eqb y 0 f) refl | inr f ↦ rw (eq-eqb x 0 e, ne_eqb y 0 f) refl ]
+  | inl e ↦ elim (cases_eq y 0) [
+    | inl f ↦ rw (eq-eqb x 0 e, eq-eqb y 0 f) refl
+    | inr f ↦ rw (eq-eqb x 0 e, ne_eqb y 0 f)
+        refl
+  ]
   | inr e ↦ rw (ne_eqb x 0 e) refl
 ]
 
-pub choice-conjoined : (left right a b : Option ℕ) → choice (conjoined left right) a b ≡ choice left (choice right a b) b
+pub choice-conjoined : (left right a b : Option ℕ) → choice (conjoined left right) a b
+    ≡ choice left (choice right a b) b
 choice-conjoined None right a b = refl
 choice-conjoined (Some x) None a b = elim (cases_eq x 0) [
   | inl e ↦ rw (eq-eqb x 0 e) refl
@@ -102,7 +130,11 @@ choice-conjoined (Some x) None a b = elim (cases_eq x 0) [
 ]
 choice-conjoined (Some x) (Some y) a b = elim (cases_eq x 0) [
   | inl e ↦ rw (eq-eqb x 0 e) refl
-  | inr e ↦ elim (cases_eq y 0) [ inl f ↦ rw (ne_eqb x 0 e, eq-eqb y 0 f) refl | inr f ↦ rw (ne_eqb x 0 e, ne_eqb y 0 f) refl ]
+  | inr e ↦ elim (cases_eq y 0) [
+    | inl f ↦ rw (ne_eqb x 0 e, eq-eqb y 0 f) refl
+    | inr f ↦ rw (ne_eqb x 0 e, ne_eqb y 0 f)
+        refl
+  ]
 ]
 
 pub choice-opposite : (operand a b : Option ℕ) → choice (option_map opposite operand) a b ≡ choice operand b a
@@ -160,43 +192,55 @@ by_not t w a b e = sym (ap (λ (x : Bool). choice (Some (truth x)) a b) e ∙ ch
 
 -- a test of one bound, in each of its forms
 pub test-equal : (m k here there : ℕ) → IsTest (Test m k k here there) Equal m k here there
-test-equal m k here there found n = by_truth _ _ (value_at found here) (value_at found there) (sym (within-equal (measured m n) k))
+test-equal m k here there found n = by_truth _ _ (value_at found here) (value_at found there)
+    (sym (within-equal (measured m n) k))
 
 pub test-not_equal : (m k here there : ℕ) → IsTest (Test m k k there here) NotEqual m k here there
-test-not_equal m k here there found n = by_not _ _ (value_at found here) (value_at found there) (ap not (sym (within-equal (measured m n) k)))
+test-not_equal m k here there found n = by_not _ _ (value_at found here) (value_at found there)
+    (ap not (sym (within-equal (measured m n) k)))
 
 pub test-at_most : (m k here there : ℕ) → IsTest (Test m 0 k here there) AtMost m k here there
-test-at_most m k here there found n = by_truth _ _ (value_at found here) (value_at found there) (sym (within-most (measured m n) k))
+test-at_most m k here there found n = by_truth _ _ (value_at found here) (value_at found there)
+    (sym (within-most (measured m n) k))
 
 pub test-greater : (m k here there : ℕ) → IsTest (Test m 0 k there here) Greater m k here there
-test-greater m k here there found n = by_not _ _ (value_at found here) (value_at found there) (within-greater (measured m n) k)
+test-greater m k here there found n = by_not _ _ (value_at found here) (value_at found there)
+    (within-greater (measured m n) k)
 
 pub test-less : (m k here there : ℕ) → 0 < k → IsTest (Test m 0 (k - 1) here there) Less m k here there
-test-less m k here there some found n = by_truth _ _ (value_at found here) (value_at found there) (within-less (measured m n) k some)
+test-less m k here there some found n = by_truth _ _ (value_at found here) (value_at found there)
+    (within-less (measured m n) k some)
 
 pub test-at_least : (m k here there : ℕ) → 0 < k → IsTest (Test m 0 (k - 1) there here) AtLeast m k here there
-test-at_least m k here there some found n = by_not _ _ (value_at found here) (value_at found there) (within-least (measured m n) k some)
+test-at_least m k here there some found n = by_not _ _ (value_at found here) (value_at found there)
+    (within-least (measured m n) k some)
 
 -- ---- running
 
 -- a step stands behind the steps before it
-cut_step : (steps : List Step) (at : ℕ) (s : Step) → at < length steps → get_or steps at s ≡ s → steps ≡ (take at steps ++ (s ∷ [])) ++ drop (at + 1) steps
+cut_step : (steps : List Step) (at : ℕ) (s : Step) → at < length steps → get_or steps at s ≡ s → steps
+    ≡ (take at steps ++ (s ∷ [])) ++ drop (at + 1) steps
 cut_step steps at s lt e =
-    sym (take-append-drop at steps) ∙ ap (λ (t : List Step). take at steps ++ t) (drop_more steps at s lt ∙ ap (λ (x : Step). x ∷ drop (at + 1) steps) e)
+    sym (take-append-drop at steps) ∙ ap (λ (t : List Step). take at steps ++ t)
+    (drop_more steps at s lt ∙ ap (λ (x : Step). x ∷ drop (at + 1) steps) e)
     ∙ sym (append_assoc (take at steps) (s ∷ []) (drop (at + 1) steps))
 
-pub reached-step : (steps : List Step) (at n : ℕ) (s : Step) → at < length steps → get_or steps at s ≡ s → reached steps at n ≡ step_value (step_values n (take at steps)) n s
+pub reached-step : (steps : List Step) (at n : ℕ) (s : Step) → at < length steps → get_or steps at s ≡ s
+    → reached steps at n ≡ step_value (step_values n (take at steps)) n s
 reached-step steps at n s lt e =
     let len : length (take at steps) ≡ at = omega (arith, length-take at steps) in
     ap (λ (t : List Step). reached t at n) (cut_step steps at s lt e)
-    ∙ reached-append (take at steps ++ (s ∷ [])) (drop (at + 1) steps) n at (omega (arith, length-append (take at steps) (s ∷ [])))
+    ∙ reached-append (take at steps ++ (s ∷ [])) (drop (at + 1) steps) n at
+    (omega (arith, length-append (take at steps) (s ∷ [])))
     ∙ ap (λ (k : ℕ). reached (take at steps ++ (s ∷ [])) k n) (sym len)
     ∙ reached-last (take at steps) s n
 
 -- an earlier step
-pub reached-earlier : (steps : List Step) (at k n : ℕ) → at < length steps → k < at → value_at (step_values n (take at steps)) k ≡ reached steps k n
+pub reached-earlier : (steps : List Step) (at k n : ℕ) → at < length steps → k < at
+    → value_at (step_values n (take at steps)) k ≡ reached steps k n
 reached-earlier steps at k n lt less =
-    sym (ap (λ (t : List Step). reached t k n) (sym (take-append-drop at steps)) ∙ reached-append (take at steps) (drop at steps) n k (omega (arith, length-take at steps)))
+    sym (ap (λ (t : List Step). reached t k n) (sym (take-append-drop at steps))
+    ∙ reached-append (take at steps) (drop at steps) n k (omega (arith, length-take at steps)))
 
 -- none from there on
 pub reached-none : (steps : List Step) (k n : ℕ) → length steps ≤ k → value_at (step_values n steps) k ≡ None
@@ -204,46 +248,62 @@ reached-none steps k n le = get_or_past (step_values n steps) k None (omega (ari
 
 -- ---- conditions
 
-pub IfFound-map : {E : Type 0} {P Q : ℕ → Type 0} (r : Result (Option ℕ) E) → ((i : ℕ) → P i → Q i) → IfOk r (λ found. IfSome found P) → IfOk r (λ found. IfSome found Q)
+pub IfFound-map : {E : Type 0} {P Q : ℕ → Type 0} (r : Result (Option ℕ) E) → ((i : ℕ) → P i → Q i)
+    → IfOk r (λ found. IfSome found P) → IfOk r (λ found. IfSome found Q)
 IfFound-map (Ok None) f h = tt
 IfFound-map (Ok (Some i)) f h = f i h
 IfFound-map (Err e) f h = tt
 
 -- either side: the steps of the left side, behind those of the right side
-pub adds_either : (old mid new : List Step) (whole left right : Node) (here there rest i : ℕ) → ((n : ℕ) → node_value whole n ≡ either (node_value left n) (node_value right n)) → here < length old → Adds old mid rest (chosen_step old right here there) → Adds mid new i (chosen_step mid left here rest) → Adds old new i (chosen_step old whole here there)
+pub adds_either : (old mid new : List Step) (whole left right : Node) (here there rest i : ℕ)
+    → ((n : ℕ) → node_value whole n ≡ either (node_value left n) (node_value right n)) → here < length old
+    → Adds old mid rest (chosen_step old right here there) → Adds mid new i (chosen_step mid left here rest)
+    → Adds old new i (chosen_step old whole here there)
 adds_either old mid new whole left right here there rest i is lt h k =
     Adds-map old new i (chosen_step mid left here rest) (chosen_step old whole here there)
     (λ n.
-    ap (λ (a : Option ℕ). choice (node_value left n) a (reached mid rest n)) (Adds-keeps old mid rest (chosen_step old right here there) here n h lt)
+    ap (λ (a : Option ℕ). choice (node_value left n) a (reached mid rest n))
+    (Adds-keeps old mid rest (chosen_step old right here there) here n h lt)
     ∙ ap (λ (b : Option ℕ). choice (node_value left n) (reached old here n) b) (h.reaches n)
     ∙ sym (choice-either (node_value left n) (node_value right n) (reached old here n) (reached old there n))
     ∙ ap (λ (v : Option ℕ). choice v (reached old here n) (reached old there n)) (sym (is n)))
     (Adds-both old mid new rest i (chosen_step old right here there) (chosen_step mid left here rest) h k)
 
-pub adds_both_sides : (old mid new : List Step) (whole left right : Node) (here there rest i : ℕ) → ((n : ℕ) → node_value whole n ≡ conjoined (node_value left n) (node_value right n)) → there < length old → Adds old mid rest (chosen_step old right here there) → Adds mid new i (chosen_step mid left rest there) → Adds old new i (chosen_step old whole here there)
+pub adds_both_sides : (old mid new : List Step) (whole left right : Node) (here there rest i : ℕ)
+    → ((n : ℕ) → node_value whole n ≡ conjoined (node_value left n) (node_value right n)) → there < length old
+    → Adds old mid rest (chosen_step old right here there) → Adds mid new i (chosen_step mid left rest there)
+    → Adds old new i (chosen_step old whole here there)
 adds_both_sides old mid new whole left right here there rest i is lt h k =
     Adds-map old new i (chosen_step mid left rest there) (chosen_step old whole here there)
     (λ n.
-    ap (λ (b : Option ℕ). choice (node_value left n) (reached mid rest n) b) (Adds-keeps old mid rest (chosen_step old right here there) there n h lt)
+    ap (λ (b : Option ℕ). choice (node_value left n) (reached mid rest n) b)
+    (Adds-keeps old mid rest (chosen_step old right here there) there n h lt)
     ∙ ap (λ (a : Option ℕ). choice (node_value left n) a (reached old there n)) (h.reaches n)
     ∙ sym (choice-conjoined (node_value left n) (node_value right n) (reached old here n) (reached old there n))
     ∙ ap (λ (v : Option ℕ). choice v (reached old here n) (reached old there n)) (sym (is n)))
     (Adds-both old mid new rest i (chosen_step old right here there) (chosen_step mid left rest there) h k)
 
 -- a choice: the steps of its condition, behind those of its sides
-pub adds_choice : (old first second new : List Step) (whole condition chosen other : Node) (here there i : ℕ) → ((n : ℕ) → node_value whole n ≡ choice (node_value condition n) (node_value chosen n) (node_value other n)) → Adds old first here (node_value chosen) → Adds first second there (node_value other) → Adds second new i (chosen_step second condition here there) → Adds old new i (node_value whole)
+pub adds_choice : (old first second new : List Step) (whole condition chosen other : Node) (here there i : ℕ)
+    → ((n : ℕ) → node_value whole n ≡ choice (node_value condition n) (node_value chosen n) (node_value other n))
+    → Adds old first here (node_value chosen) → Adds first second there (node_value other)
+    → Adds second new i (chosen_step second condition here there) → Adds old new i (node_value whole)
 adds_choice old first second new whole condition chosen other here there i is h k l =
     Adds-map old new i (chosen_step second condition here there) (node_value whole)
     (λ n.
-    ap (λ (a : Option ℕ). choice (node_value condition n) a (reached second there n)) (Adds-keeps first second there (node_value other) here n k h.there ∙ h.reaches n)
+    ap (λ (a : Option ℕ). choice (node_value condition n) a (reached second there n))
+    (Adds-keeps first second there (node_value other) here n k h.there ∙ h.reaches n)
     ∙ ap (λ (b : Option ℕ). choice (node_value condition n) (node_value chosen n) b) (k.reaches n)
     ∙ sym (is n))
-    (Adds-both old second new there i (node_value other) (chosen_step second condition here there) (Adds-both old first second here there (node_value chosen) (node_value other) h k) l)
+    (Adds-both old second new there i (node_value other) (chosen_step second condition here there)
+    (Adds-both old first second here there (node_value chosen) (node_value other) h k) l)
 
 -- what `get` found
 pub reached-past : (steps : List Step) (at n : ℕ) → false ≡ nat_lt at (length steps) → None ≡ reached steps at n
 reached-past steps at n e = sym (reached-none steps at n (ltb-false at (length steps) (sym e)))
 
 -- the sides of an operator, behind their boxes
-pub sides_are : (f : Option ℕ → Option ℕ → Option ℕ) (left right boxed_left boxed_right : Node) (n : ℕ) → left ≡ boxed_left → right ≡ boxed_right → f (node_value boxed_left n) (node_value boxed_right n) ≡ f (node_value left n) (node_value right n)
+pub sides_are : (f : Option ℕ → Option ℕ → Option ℕ) (left right boxed_left boxed_right : Node) (n : ℕ) → left
+    ≡ boxed_left → right ≡ boxed_right → f (node_value boxed_left n) (node_value boxed_right n)
+    ≡ f (node_value left n) (node_value right n)
 sides_are f left right boxed_left boxed_right n e g = rw (e, g) refl

@@ -26,7 +26,8 @@ begins_not word text h = elim (cases_Bool (starts_with nat_eq text word)) [
 no_word : (word rest : List ℕ) → 0 < length word → [] ≡ word ++ rest → ⊥
 no_word word rest some e = absurd (omega (arith, length-append word rest, ap length e))
 
-pub behind_first-found : (i : ℕ) (word text : List ℕ) → 0 < length word → ((k : ℕ) → k < i → LacksTextAt word text k) → drop i text ≡ word ++ drop (i + length word) text → behind_first word text ≡ Some (drop (i + length word) text)
+pub behind_first-found : (i : ℕ) (word text : List ℕ) → 0 < length word → ((k : ℕ) → k < i → LacksTextAt word text k)
+    → drop i text ≡ word ++ drop (i + length word) text → behind_first word text ≡ Some (drop (i + length word) text)
 behind_first-found zero word [] some lacks has = absurd (no_word word _ some has)
 behind_first-found zero word (b ∷ text) some lacks has =
     let n : zero + length word ≡ length word = omega arith in
@@ -35,31 +36,44 @@ behind_first-found (suc i) word [] some lacks has = absurd (no_word word _ some 
 behind_first-found (suc i) word (b ∷ text) some lacks has =
     let n : suc i + length word ≡ suc (i + length word) = omega arith in
     let first : LacksTextAt word (b ∷ text) 0 = lacks 0 (omega arith) in
-    rw (begins_not word (b ∷ text) first, n) (behind_first-found i word text some (λ k lt. lacks (suc k) (omega arith)) (rw n at has))
+    rw (begins_not word (b ∷ text) first, n) (behind_first-found i word text some (λ k lt. lacks (suc k) (omega arith))
+    (rw n at has))
 
-pub behind_first-none : (text word : List ℕ) → 0 < length word → ((k : ℕ) → k ≤ length text → LacksTextAt word text k) → behind_first word text ≡ None
+pub behind_first-none : (text word : List ℕ) → 0 < length word → ((k : ℕ) → k ≤ length text → LacksTextAt word text k)
+    → behind_first word text ≡ None
 behind_first-none [] word some lacks = refl
 behind_first-none (b ∷ text) word some lacks =
     let first : LacksTextAt word (b ∷ text) 0 = lacks 0 (omega arith) in
     rw (begins_not word (b ∷ text) first) (behind_first-none text word some (λ k le. lacks (suc k) (omega arith)))
 
 -- in the words of `split_once`
-pub behind_first-split : (word text back : List ℕ) (i j : ℕ) → 0 < length word → ((k : ℕ) → k < i → LacksTextAt word text k) → HasTextAt word text i j → back ≡ drop j text → behind_first word text ≡ Some back
+pub behind_first-split : (word text back : List ℕ) (i j : ℕ) → 0 < length word
+    → ((k : ℕ) → k < i → LacksTextAt word text k) → HasTextAt word text i j → back ≡ drop j text
+    → behind_first word text ≡ Some back
 behind_first-split word text back i j some lacks has e =
-    let split : drop i text ≡ word ++ drop (i + length word) text = has.split ∙ ap (λ (k : ℕ). word ++ drop k text) has.ends in
+    let split : drop i text ≡ word ++ drop (i + length word) text = has.split
+    ∙ ap (λ (k : ℕ). word ++ drop k text) has.ends in
     behind_first-found i word text some lacks split ∙ ap Some (ap (λ (k : ℕ). drop k text) (sym has.ends) ∙ sym e)
 
 -- ---- the function, and the relations that say what it is
 
-front_case : (word text : List ℕ) (b : ℕ) → starts_with nat_eq (b ∷ text) word ≡ true → Follows word (b ∷ text) (drop (length word) (b ∷ text))
+front_case : (word text : List ℕ) (b : ℕ) → starts_with nat_eq (b ∷ text) word ≡ true
+    → Follows word (b ∷ text) (drop (length word) (b ∷ text))
 front_case word text b found = ([], record { split = rest_behind word (b ∷ text) found; first = λ c a e. omega arith })
 
-shorter_first : (word text before : List ℕ) (b : ℕ) → starts_with nat_eq (b ∷ text) word ≡ false → ((c a : List ℕ) → text ≡ c ++ word ++ a → length before ≤ length c) → (c a : List ℕ) → b ∷ text ≡ c ++ word ++ a → length (b ∷ before) ≤ length c
+shorter_first : (word text before : List ℕ) (b : ℕ) → starts_with nat_eq (b ∷ text) word ≡ false
+    → ((c a : List ℕ) → text ≡ c ++ word ++ a → length before ≤ length c) → (c a : List ℕ) → b ∷ text ≡ c ++ word ++ a
+    → length (b ∷ before) ≤ length c
 shorter_first word text before b other first [] a e = let f = begins_with word (b ∷ text) a e in absurd (cc (other, f))
 shorter_first word text before b other first (x ∷ c) a e = let le = first c a (cc e) in omega (arith, le)
 
-later_case : (word text after : List ℕ) (b : ℕ) → starts_with nat_eq (b ∷ text) word ≡ false → Follows word text after → Follows word (b ∷ text) after
-later_case word text after b other (before, s) = (b ∷ before, record { split = ap (λ (t : List ℕ). b ∷ t) s.split; first = shorter_first word text before b other s.first })
+later_case : (word text after : List ℕ) (b : ℕ) → starts_with nat_eq (b ∷ text) word ≡ false → Follows word text after
+    → Follows word (b ∷ text) after
+later_case word text after b other (before, s) = (
+  b ∷ before,
+  record
+      { split = ap (λ (t : List ℕ). b ∷ t) s.split; first = shorter_first word text before b other s.first },
+)
 
 pub follows_is : (word text after : List ℕ) → behind_first word text ≡ Some after → Follows word text after
 follows_is word [] after e = absurd (cc e)
@@ -74,18 +88,26 @@ follows_is word (b ∷ text) after e = elim (cases_Bool (starts_with nat_eq (b �
 ]
 
 pub lacks_is : (word text : List ℕ) → 0 < length word → behind_first word text ≡ None → Lacks word text
-lacks_is word [] some none before after e = absurd (omega (arith, ap length e, length-append (before ++ word) after, length-append before word))
+lacks_is word [] some none before after e = absurd (omega (
+  arith,
+  ap length e,
+  length-append (before ++ word) after,
+  length-append before word,
+))
 lacks_is word (b ∷ text) some none [] after e =
     let found = begins_with word (b ∷ text) after e in
     let f : Some (drop (length word) (b ∷ text)) ≡ None = rw found at none in
     absurd (cc f)
 lacks_is word (b ∷ text) some none (x ∷ before) after e = elim (cases_Bool (starts_with nat_eq (b ∷ text) word)) [
   | inl found ↦ let f : Some (drop (length word) (b ∷ text)) ≡ None = rw found at none in absurd (cc f)
-  | inr other ↦ let f : behind_first word text ≡ None = rw other at none in lacks_is word text some f before after (cc e)
+  | inr other ↦ let f : behind_first word text ≡ None = rw other at none in lacks_is word text some f before after
+      (cc e)
 ]
 
-after_is : (word text before after : List ℕ) → text ≡ before ++ word ++ after → after ≡ drop (length before + length word) text
-after_is word text before after e = sym (drop-append_seam (before ++ word) after) ∙ rw (length-append before word, e) refl
+after_is : (word text before after : List ℕ) → text ≡ before ++ word ++ after → after
+    ≡ drop (length before + length word) text
+after_is word text before after e = sym (drop-append_seam (before ++ word) after)
+    ∙ rw (length-append before word, e) refl
 
 -- at most one text follows the first place
 pub Follows-one : (word text after other : List ℕ) → Follows word text after → Follows word text other → after ≡ other

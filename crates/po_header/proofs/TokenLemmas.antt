@@ -22,7 +22,8 @@ fold_grows [] a = omega arith
 fold_grows (d ∷ digits) a = omega (arith, fold_grows digits (10 * a + (d - 48)))
 
 pub decimal_value-grows : (digits rest : List ℕ) → decimal_value digits ≤ decimal_value (digits ++ rest)
-decimal_value-grows digits rest = rw (fold-append (λ (n d : ℕ). 10 * n + (d - 48)) 0 digits rest) (fold_grows rest (decimal_value digits))
+decimal_value-grows digits rest = rw (fold-append (λ (n d : ℕ). 10 * n + (d - 48)) 0 digits rest)
+    (fold_grows rest (decimal_value digits))
 
 pub over_limit : (m n : ℕ) → None ≡ below_limit m → m ≤ n → None ≡ below_limit n
 over_limit m n none le = grind (arith, nat_tests)
@@ -43,17 +44,27 @@ limit_below m v e = elim (cases_Bool (nat_lt m (2 ^ 64))) [
   | inr above ↦ let f : Some v ≡ None = rw above at e in absurd (cc f)
 ]
 
-decimal_value-next : (digits : List ℕ) (i : ℕ) → i < length digits → decimal_value (take (i + 1) digits) ≡ 10 * decimal_value (take i digits) + (get_or digits i 0 - 48)
-decimal_value-next digits i lt = rw (take_more digits i 0 lt, fold-append (λ (n d : ℕ). 10 * n + (d - 48)) 0 (take i digits) (get_or digits i 0 ∷ [])) refl
+decimal_value-next : (digits : List ℕ) (i : ℕ) → i < length digits → decimal_value (take (i + 1) digits)
+    ≡ 10 * decimal_value (take i digits) + (get_or digits i 0 - 48)
+decimal_value-next digits i lt = rw (
+  take_more digits i 0 lt,
+  fold-append (λ (n d : ℕ). 10 * n + (d - 48)) 0
+      (take i digits) (get_or digits i 0 ∷ []),
+) refl
 
-pub limit_next : (digits : List ℕ) (i value : ℕ) → Some value ≡ below_limit (decimal_value (take i digits)) → i < length digits → below_limit (10 * value + (get_or digits i 0 - 48)) ≡ below_limit (decimal_value (take (i + 1) digits))
+pub limit_next : (digits : List ℕ) (i value : ℕ) → Some value ≡ below_limit (decimal_value (take i digits))
+    → i < length digits → below_limit (10 * value + (get_or digits i 0 - 48))
+    ≡ below_limit (decimal_value (take (i + 1) digits))
 limit_next digits i value e lt = rw (decimal_value-next digits i lt, limit_value _ _ e) refl
 
 -- digits whose front is too large already
-pub limit_passed : (digits : List ℕ) (i value : ℕ) → Some value ≡ below_limit (decimal_value (take i digits)) → i < length digits → None ≡ below_limit (10 * value + (get_or digits i 0 - 48)) → None ≡ below_limit (decimal_value digits)
+pub limit_passed : (digits : List ℕ) (i value : ℕ) → Some value ≡ below_limit (decimal_value (take i digits))
+    → i < length digits → None ≡ below_limit (10 * value + (get_or digits i 0 - 48)) → None
+    ≡ below_limit (decimal_value digits)
 limit_passed digits i value e lt none =
     over_limit _ _ (none ∙ limit_next digits i value e lt)
-    (subst (λ (t : List ℕ). decimal_value (take (i + 1) digits) ≤ decimal_value t) (take-append-drop (i + 1) digits) (decimal_value-grows (take (i + 1) digits) (drop (i + 1) digits)))
+    (subst (λ (t : List ℕ). decimal_value (take (i + 1) digits) ≤ decimal_value t) (take-append-drop (i + 1) digits)
+    (decimal_value-grows (take (i + 1) digits) (drop (i + 1) digits)))
 
 -- ---- the first byte
 
@@ -67,13 +78,39 @@ pub digit_no_symbol : (b : ℕ) → is_ascii_digit b ≡ true → short_symbol (
 digit_no_symbol b e =
     let low : 48 ≤ b = digit_low b e in
     let high : b ≤ 57 = digit_high b e in
-    rw (ne_eqb b 110 (λ h. omega arith), ne_eqb b 40 (λ h. omega arith), ne_eqb b 41 (λ h. omega arith), ne_eqb b 63 (λ h. omega arith), ne_eqb b 58 (λ h. omega arith), ne_eqb b 33 (λ h. omega arith), ne_eqb b 60 (λ h. omega arith), ne_eqb b 62 (λ h. omega arith), ne_eqb b 43 (λ h. omega arith), ne_eqb b 45 (λ h. omega arith), ne_eqb b 42 (λ h. omega arith), ne_eqb b 47 (λ h. omega arith), ne_eqb b 37 (λ h. omega arith)) refl
+    rw (
+      ne_eqb b 110 (λ h. omega arith),
+      ne_eqb b 40 (λ h. omega arith),
+      ne_eqb b 41 (λ h. omega arith),
+      ne_eqb b 63
+          (λ h. omega arith),
+      ne_eqb b 58 (λ h. omega arith),
+      ne_eqb b 33 (λ h. omega arith),
+      ne_eqb b 60
+          (λ h. omega arith),
+      ne_eqb b 62 (λ h. omega arith),
+      ne_eqb b 43 (λ h. omega arith),
+      ne_eqb b 45
+          (λ h. omega arith),
+      ne_eqb b 42 (λ h. omega arith),
+      ne_eqb b 47 (λ h. omega arith),
+      ne_eqb b 37
+          (λ h. omega arith),
+    ) refl
 
 pub digit_no_long : (a b : ℕ) → is_ascii_digit a ≡ true → long_symbol (a ∷ b ∷ []) ≡ None
 digit_no_long a b e =
     let low : 48 ≤ a = digit_low a e in
     let high : a ≤ 57 = digit_high a e in
-    rw (ne_eqb a 124 (λ h. omega arith), ne_eqb a 38 (λ h. omega arith), ne_eqb a 61 (λ h. omega arith), ne_eqb a 33 (λ h. omega arith), ne_eqb a 60 (λ h. omega arith), ne_eqb a 62 (λ h. omega arith)) refl
+    rw (
+      ne_eqb a 124 (λ h. omega arith),
+      ne_eqb a 38 (λ h. omega arith),
+      ne_eqb a 61 (λ h. omega arith),
+      ne_eqb a 33
+          (λ h. omega arith),
+      ne_eqb a 60 (λ h. omega arith),
+      ne_eqb a 62 (λ h. omega arith),
+    ) refl
 
 pub digit_no_blank : (b : ℕ) → is_ascii_digit b ≡ true → is_blank b ≡ false
 digit_no_blank b e =
@@ -97,7 +134,8 @@ blank_is b e = elim (cases_eq b 32) [
 ]
 
 -- the first of some digits
-pub first_digit : (text : List ℕ) (b : ℕ) (more : List ℕ) → 0 < prefix_len is_ascii_digit text → text ≡ b ∷ more → is_ascii_digit b ≡ true
+pub first_digit : (text : List ℕ) (b : ℕ) (more : List ℕ) → 0 < prefix_len is_ascii_digit text → text ≡ b ∷ more
+    → is_ascii_digit b ≡ true
 first_digit text b more some e = elim (cases_Bool (is_ascii_digit b)) [
   | inl digit ↦ digit
   | inr other ↦ let none : prefix_len is_ascii_digit text ≡ 0 = rw (e, other) refl in absurd (omega arith)
@@ -108,14 +146,18 @@ no_symbol token o e f = absurd (cc (e, f))
 
 -- ---- where no piece stands
 
-pub large_numeral : (text : List ℕ) → 0 < prefix_len is_ascii_digit text → None ≡ below_limit (decimal_value (take_while is_ascii_digit text)) → IsStray text
-large_numeral text some large (Blank b) rest p = let digit = first_digit text b rest some p.0 in let none = digit_no_blank b digit in let e = p.1 in absurd (cc (e, none))
+pub large_numeral : (text : List ℕ) → 0 < prefix_len is_ascii_digit text → None
+    ≡ below_limit (decimal_value (take_while is_ascii_digit text)) → IsStray text
+large_numeral text some large (Blank b) rest p = let digit = first_digit text b rest some p.0 in let none =
+    digit_no_blank b digit in let e = p.1 in absurd (cc (e, none))
 large_numeral text some large (Digits digits) rest p =
     let same = ap (λ (ds : List ℕ). below_limit (decimal_value ds)) p.1 in
     let fits = limit_some (decimal_value digits) p.3 in
     absurd (cc (large, same, fits))
-large_numeral text some large (Short b token) rest p = no_symbol token _ (digit_no_symbol b (first_digit text b rest some p.0)) p.2
-large_numeral text some large (Long a b token) rest p = no_symbol token _ (digit_no_long a b (first_digit text a (b ∷ rest) some p.0)) p.1
+large_numeral text some large (Short b token) rest p = no_symbol token _
+    (digit_no_symbol b (first_digit text b rest some p.0)) p.2
+large_numeral text some large (Long a b token) rest p = no_symbol token _
+    (digit_no_long a b (first_digit text a (b ∷ rest) some p.0)) p.1
 
 pub nothing_stray : (text : List ℕ) → text ≡ [] → IsStray text
 nothing_stray text e (Blank b) rest p = let f = p.0 in absurd (cc (e, f))
@@ -124,7 +166,8 @@ nothing_stray text e (Digits (d ∷ digits)) rest p = let f = p.0 in absurd (cc 
 nothing_stray text e (Short b token) rest p = let f = p.0 in absurd (cc (e, f))
 nothing_stray text e (Long a b token) rest p = let f = p.0 in absurd (cc (e, f))
 
-pub byte_stray : (text : List ℕ) (b : ℕ) (more : List ℕ) → text ≡ b ∷ more → StopsBlanks text → long_at text ≡ None → is_ascii_digit b ≡ false → None ≡ short_symbol (b ∷ []) → IsStray text
+pub byte_stray : (text : List ℕ) (b : ℕ) (more : List ℕ) → text ≡ b ∷ more → StopsBlanks text → long_at text ≡ None
+    → is_ascii_digit b ≡ false → None ≡ short_symbol (b ∷ []) → IsStray text
 byte_stray text b more e stops long digit short (Blank c) rest p =
     let f = p.0 in
     let same : b ≡ c = cc (e, f) in
@@ -144,27 +187,41 @@ byte_stray text b more e stops long digit short (Long a c token) rest p =
 -- ---- where a piece stands
 
 -- one piece, of one token
-pub Begins-piece : (piece : Piece) (token : Token) (text rest : List ℕ) → PieceAt piece text rest → piece_token piece ≡ Some token → Begins (token ∷ []) text rest
-Begins-piece piece token text rest at is = record { pieces = piece ∷ []; each = (rest, at, refl); tokens_are = rw is refl }
+pub Begins-piece : (piece : Piece) (token : Token) (text rest : List ℕ) → PieceAt piece text rest → piece_token piece
+    ≡ Some token → Begins (token ∷ []) text rest
+Begins-piece piece token text rest at is = record {
+  pieces = piece
+      ∷ [];
+  each = (rest, at, refl);
+  tokens_are = rw is refl;
+}
 
 some_front : (n : ℕ) (text digits : List ℕ) → digits ≡ take n text → 0 < n → n ≤ length text → digits ≢ []
 some_front n text digits front some le none =
     let few : length digits ≡ 0 = rw none refl in
     absurd (omega (arith, few, ap length front, length-take n text))
 
-pub Begins-numeral : (text digits rest : List ℕ) (n value : ℕ) → digits ≡ take n text → rest ≡ drop n text → n ≡ prefix_len is_ascii_digit text → 0 < prefix_len is_ascii_digit text → Some value ≡ below_limit (decimal_value digits) → Begins (Number value ∷ []) text rest
+pub Begins-numeral : (text digits rest : List ℕ) (n value : ℕ) → digits ≡ take n text → rest ≡ drop n text → n
+    ≡ prefix_len is_ascii_digit text → 0 < prefix_len is_ascii_digit text → Some value
+    ≡ below_limit (decimal_value digits) → Begins (Number value ∷ []) text rest
 Begins-numeral text digits rest n value front back is some fits =
     let run : take_while is_ascii_digit text ≡ digits = ap (λ (k : ℕ). take k text) (sym is) ∙ sym front in
     let same : value ≡ decimal_value digits = limit_value _ _ fits in
     let split : text ≡ digits ++ rest = sym (take-append-drop n text) ∙ rw (front, back) refl in
     let le = prefix_len-le-length is_ascii_digit text in
     Begins-piece (Digits digits) (Number value) text rest
-    (split, run, some_front n text digits front (omega arith) (omega arith), limit_below _ _ fits) (ap (λ (v : ℕ). Some (Number v)) (sym same))
+    (split, run, some_front n text digits front (omega arith) (omega arith), limit_below _ _ fits)
+    (ap (λ (v : ℕ). Some (Number v)) (sym same))
 
 -- ---- blanks
 
 Begins-blank : (b : ℕ) (text rest : List ℕ) → is_blank b ≡ true → Begins [] text rest → Begins [] (b ∷ text) rest
-Begins-blank b text rest blank more = record { pieces = Blank b ∷ more.pieces; each = (text, (refl, blank), more.each); tokens_are = more.tokens_are }
+Begins-blank b text rest blank more = record {
+  pieces = Blank b
+      ∷ more.pieces;
+  each = (text, (refl, blank), more.each);
+  tokens_are = more.tokens_are;
+}
 
 pub Begins-blanks : (text : List ℕ) → Begins [] text (drop (prefix_len is_blank text) text)
 Begins-blanks [] = record { pieces = []; each = refl; tokens_are = refl }
@@ -180,8 +237,11 @@ StopsBlanks-blanks (b ∷ text) = elim (cases_Bool (is_blank b)) [
   | inr other ↦ rw other other
 ]
 
-pub Begins-short : (text rest : List ℕ) (b : ℕ) (token : Token) → text ≡ b ∷ rest → long_at text ≡ None → Some token ≡ short_symbol (b ∷ []) → Begins (token ∷ []) text rest
+pub Begins-short : (text rest : List ℕ) (b : ℕ) (token : Token) → text ≡ b ∷ rest → long_at text ≡ None → Some token
+    ≡ short_symbol (b ∷ []) → Begins (token ∷ []) text rest
 Begins-short text rest b token e long is = Begins-piece (Short b token) token text rest (e, long, sym is) refl
 
-pub Begins-long : (text rest later : List ℕ) (a b : ℕ) (token : Token) → text ≡ a ∷ rest → rest ≡ b ∷ later → Some token ≡ long_symbol (a ∷ b ∷ []) → Begins (token ∷ []) text later
-Begins-long text rest later a b token e f is = Begins-piece (Long a b token) token text later (e ∙ ap (λ (t : List ℕ). a ∷ t) f, sym is) refl
+pub Begins-long : (text rest later : List ℕ) (a b : ℕ) (token : Token) → text ≡ a ∷ rest → rest ≡ b ∷ later → Some token
+    ≡ long_symbol (a ∷ b ∷ []) → Begins (token ∷ []) text later
+Begins-long text rest later a b token e f is = Begins-piece (Long a b token) token text later
+    (e ∙ ap (λ (t : List ℕ). a ∷ t) f, sym is) refl

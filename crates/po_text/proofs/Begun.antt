@@ -22,9 +22,11 @@ use Rattle.po_text.proofs.Taking.{opens_to}
 -- ---- what may be added
 
 key_free : (bytes : List ℕ) (p q : Place) → key_text bytes p ≡ Some q → ¬ Contains bytes 4
-key_free bytes p q e m = let four = four_from bytes m in let none : key_text bytes p ≡ None = rw four refl in absurd (cc (e, none))
+key_free bytes p q e m = let four = four_from bytes m in let none : key_text bytes p
+    ≡ None = rw four refl in absurd (cc (e, none))
 
-text_can : (p : code.Place) (n k : ℕ) (bytes : List ℕ) (q : Place) (d : Draft) → step (place_view p n) (Text bytes) ≡ Some q → HasForm (place_view p n) d → CanAddText (place_view p k) bytes d
+text_can : (p : code.Place) (n k : ℕ) (bytes : List ℕ) (q : Place) (d : Draft) → step (place_view p n) (Text bytes)
+    ≡ Some q → HasForm (place_view p n) d → CanAddText (place_view p k) bytes d
 unfolding step
 text_can places.Start n k bytes q d e h = absurd (cc e)
 text_can places.ContextWord n k bytes q d e h = key_free bytes ContextText q e
@@ -42,7 +44,9 @@ text_can places.IndexedWord n k bytes q d e h = h
 text_can places.IndexedText n k bytes q d e h = h
 
 -- a token that may stand here may be added
-pub can_add : (p : code.Place) (n k : ℕ) (t : code_token.Token) (bytes : List ℕ) (q : Place) (d : Draft) → step (place_view p n) (token_view t bytes) ≡ Some q → IsLawfulToken (token_view t bytes) → HasForm (place_view p n) d → CanAdd (token_view t bytes) (place_view p k) d
+pub can_add : (p : code.Place) (n k : ℕ) (t : code_token.Token) (bytes : List ℕ) (q : Place) (d : Draft)
+    → step (place_view p n) (token_view t bytes) ≡ Some q → IsLawfulToken (token_view t bytes)
+    → HasForm (place_view p n) d → CanAdd (token_view t bytes) (place_view p k) d
 can_add p n k kinds.Text bytes q d e l h = (l, text_can p n k bytes q d e h)
 can_add p n k _ bytes q d e l h = tt
 
@@ -69,14 +73,16 @@ str_form : (p q : Place) (d : Draft) → step p Str ≡ Some q → HasForm q (pu
 unfolding step
 str_form IdText q d e = form_to (put Str IdText d) FormWord q e (snoc_some d.starts (length d.flat))
 str_form PluralText q d e = form_to (put Str PluralText d) (IndexOpen 0) q e (snoc_some d.starts (length d.flat))
-str_form (IndexedText k) q d e = form_to (put Str (IndexedText k) d) (IndexOpen (k + 1)) q e (snoc_some d.starts (length d.flat))
+str_form (IndexedText k) q d e = form_to (put Str (IndexedText k) d) (IndexOpen (k + 1)) q e
+    (snoc_some d.starts (length d.flat))
 str_form p q d e = absurd (cc e)
 
 chosen : (b : Bool) (r q : Place) → (if b then Some r else None) ≡ Some q → Some r ≡ Some q
 chosen true r q e = e
 chosen false r q e = absurd (cc e)
 
-number_form : (n : ℕ) (p q : Place) (d : Draft) → step p (Number n) ≡ Some q → HasForm p d → HasForm q (put (Number n) p d)
+number_form : (n : ℕ) (p q : Place) (d : Draft) → step p (Number n) ≡ Some q → HasForm p d
+    → HasForm q (put (Number n) p d)
 unfolding step
 number_form n (IndexNumber k) q d e h = form_to d (IndexClose k) q (chosen (n == k) (IndexClose k) q e) h
 number_form n p q d e h = absurd (cc e)
@@ -94,7 +100,8 @@ close_form p q d e h = absurd (cc e)
 key_form : (bytes : List ℕ) (r q : Place) (d : Draft) → key_text bytes r ≡ Some q → HasForm r d → HasForm q d
 key_form bytes r q d e h = subst (λ (x : Place). HasForm x d) (key_to bytes r q e) h
 
-text_form : (bytes : List ℕ) (p q : Place) (d : Draft) → step p (Text bytes) ≡ Some q → HasForm p d → HasForm q (put_text p bytes d)
+text_form : (bytes : List ℕ) (p q : Place) (d : Draft) → step p (Text bytes) ≡ Some q → HasForm p d
+    → HasForm q (put_text p bytes d)
 unfolding step
 text_form bytes ContextWord q d e h = key_form bytes ContextText q (put_text ContextWord bytes d) e tt
 text_form bytes ContextText q d e h = key_form bytes ContextText q (put_text ContextText bytes d) e tt
@@ -109,7 +116,8 @@ text_form bytes (IndexedText k) q d e h = form_to (put_text (IndexedText k) byte
 text_form bytes p q d e h = absurd (cc e)
 
 -- a token that opens no entry leads to a place where a form was begun, if it should be
-pub put_form : (p : Place) (t : Token) (q : Place) (d : Draft) → step p t ≡ Some q → opens t p ≡ None → HasForm p d → HasForm q (put t p d)
+pub put_form : (p : Place) (t : Token) (q : Place) (d : Draft) → step p t ≡ Some q → opens t p ≡ None → HasForm p d
+    → HasForm q (put t p d)
 put_form p Context q d e o h = absurd (cc o)
 put_form p Id q d e o h = id_form p q d e o
 put_form p Plural q d e o h = plural_form p q d e
@@ -128,8 +136,10 @@ opening_at places.Start n e = refl
 opening_at _ n e = elim e [ inl c ↦ absurd (cc c) | inr i ↦ absurd (cc i) ]
 
 -- a token that opens an entry leads to its keyword
-pub opens_opening : (p : Place) (t : Token) (q : code.Place) (n : ℕ) (c : Option (List ℕ)) → step p t ≡ Some (place_view q n) → opens t p ≡ Some c → is_opening q ≡ true
-opens_opening p t q n c e f = elim (opens_to p t (place_view q n) c e f).1 [ inl h ↦ opening_at q n (inl h.0) | inr h ↦ opening_at q n (inr h.0) ]
+pub opens_opening : (p : Place) (t : Token) (q : code.Place) (n : ℕ) (c : Option (List ℕ)) → step p t
+    ≡ Some (place_view q n) → opens t p ≡ Some c → is_opening q ≡ true
+opens_opening p t q n c e f = elim (opens_to p t (place_view q n) c e f).1
+    [ inl h ↦ opening_at q n (inl h.0) | inr h ↦ opening_at q n (inr h.0) ]
 
 -- there no form needs to be
 pub opening_form : (q : code.Place) (n : ℕ) (d : Draft) → is_opening q ≡ true → HasForm (place_view q n) d

@@ -21,22 +21,36 @@ Derived ts = (ds : List Derivation) × AllByRecursion IsLawfulEntry ds × (ts �
 
 -- what ends a run of forms: the strings of one form, further forms, and entries
 abbrev Forms : ℕ → List Token → Strings → Type 0
-Forms k ts form = (forms : List Strings) × (later : List Token) × AllByRecursion IsOneOrMore forms × Derived later × (ts ≡ texts form ++ (form_tokens (k + 1) forms ++ later))
+Forms k ts form = (forms : List Strings) × (later : List Token) × AllByRecursion IsOneOrMore forms × Derived later
+    × (ts ≡ texts form ++ (form_tokens (k + 1) forms ++ later))
 
 -- the tokens that are left at a place
 abbrev Left : Place → List Token → Type 0
 Left Start ts = Derived ts
-Left ContextWord ts = (parts : Strings) × (id : Strings) × (part : Part) × (later : List Token) × IsKeyText parts × IsKeyText id × IsLawfulPart part × Derived later × (ts ≡ texts parts ++ (Id ∷ (texts id ++ (part_tokens part ++ later))))
-Left ContextText ts = (parts : Strings) × (id : Strings) × (part : Part) × (later : List Token) × NoFour parts × IsKeyText id × IsLawfulPart part × Derived later × (ts ≡ texts parts ++ (Id ∷ (texts id ++ (part_tokens part ++ later))))
-Left IdWord ts = (id : Strings) × (part : Part) × (later : List Token) × IsKeyText id × IsLawfulPart part × Derived later × (ts ≡ texts id ++ (part_tokens part ++ later))
-Left IdText ts = (id : Strings) × (part : Part) × (later : List Token) × NoFour id × IsLawfulPart part × Derived later × (ts ≡ texts id ++ (part_tokens part ++ later))
-Left FormWord ts = (form : Strings) × (later : List Token) × IsOneOrMore form × Derived later × (ts ≡ texts form ++ later)
+Left ContextWord ts = (parts : Strings) × (id : Strings) × (part : Part) × (later : List Token) × IsKeyText parts
+    × IsKeyText id × IsLawfulPart part × Derived later × (ts ≡ texts parts
+    ++ (Id ∷ (texts id ++ (part_tokens part ++ later))))
+Left ContextText ts = (parts : Strings) × (id : Strings) × (part : Part) × (later : List Token) × NoFour parts
+    × IsKeyText id × IsLawfulPart part × Derived later × (ts ≡ texts parts
+    ++ (Id ∷ (texts id ++ (part_tokens part ++ later))))
+Left IdWord ts = (id : Strings) × (part : Part) × (later : List Token) × IsKeyText id × IsLawfulPart part
+    × Derived later × (ts ≡ texts id ++ (part_tokens part ++ later))
+Left IdText ts = (id : Strings) × (part : Part) × (later : List Token) × NoFour id × IsLawfulPart part × Derived later
+    × (ts ≡ texts id ++ (part_tokens part ++ later))
+Left FormWord ts = (form : Strings) × (later : List Token) × IsOneOrMore form × Derived later
+    × (ts ≡ texts form ++ later)
 Left FormText ts = (form : Strings) × (later : List Token) × Derived later × (ts ≡ texts form ++ later)
-Left PluralWord ts = (plural : Strings) × (forms : List Strings) × (later : List Token) × IsOneOrMore plural × IsOneOrMore forms × AllByRecursion IsOneOrMore forms × Derived later × (ts ≡ texts plural ++ (form_tokens 0 forms ++ later))
-Left PluralText ts = (plural : Strings) × (forms : List Strings) × (later : List Token) × IsOneOrMore forms × AllByRecursion IsOneOrMore forms × Derived later × (ts ≡ texts plural ++ (form_tokens 0 forms ++ later))
-Left (IndexOpen k) ts = (form : Strings) × (more : List Token) × (ts ≡ Open ∷ Number k ∷ Close ∷ more) × IsOneOrMore form × Forms k more form
-Left (IndexNumber k) ts = (form : Strings) × (more : List Token) × (ts ≡ Number k ∷ Close ∷ more) × IsOneOrMore form × Forms k more form
-Left (IndexClose k) ts = (form : Strings) × (more : List Token) × (ts ≡ Close ∷ more) × IsOneOrMore form × Forms k more form
+Left PluralWord ts = (plural : Strings) × (forms : List Strings) × (later : List Token) × IsOneOrMore plural
+    × IsOneOrMore forms × AllByRecursion IsOneOrMore forms × Derived later
+    × (ts ≡ texts plural ++ (form_tokens 0 forms ++ later))
+Left PluralText ts = (plural : Strings) × (forms : List Strings) × (later : List Token) × IsOneOrMore forms
+    × AllByRecursion IsOneOrMore forms × Derived later × (ts ≡ texts plural ++ (form_tokens 0 forms ++ later))
+Left (IndexOpen k) ts = (form : Strings) × (more : List Token) × (ts ≡ Open ∷ Number k ∷ Close ∷ more)
+    × IsOneOrMore form × Forms k more form
+Left (IndexNumber k) ts = (form : Strings) × (more : List Token) × (ts ≡ Number k ∷ Close ∷ more) × IsOneOrMore form
+    × Forms k more form
+Left (IndexClose k) ts = (form : Strings) × (more : List Token) × (ts ≡ Close ∷ more) × IsOneOrMore form
+    × Forms k more form
 Left (IndexedWord k) ts = (form : Strings) × IsOneOrMore form × Forms k ts form
 Left (IndexedText k) ts = (form : Strings) × Forms k ts form
 
@@ -63,19 +77,24 @@ dead : (ts : List Token) (q : Place) → run None ts ≡ Some q → ⊥
 dead ts q e = let f = run-none ts in absurd (cc (e, f))
 
 -- an entry in front of others
-plain_entry : (id : Strings) (part : Part) (later ts : List Token) → IsKeyText id → IsLawfulPart part → Derived later → ts ≡ texts id ++ (part_tokens part ++ later) → Derived (Id ∷ ts)
+plain_entry : (id : Strings) (part : Part) (later ts : List Token) → IsKeyText id → IsLawfulPart part → Derived later
+    → ts ≡ texts id ++ (part_tokens part ++ later) → Derived (Id ∷ ts)
 plain_entry id part later ts key lawful (ds, all, is) e = (
   record { context = None; id = id; part = part } ∷ ds,
   (record { context = tt; id = key; part = lawful }, all),
-  rw (e, is) (ap (λ (x : List Token). Id ∷ x) (sym (append_assoc (texts id) (part_tokens part) (flat_map tokens_of ds)))),
+  rw (e, is) (ap (λ (x : List Token). Id ∷ x) (sym (append_assoc (texts id) (part_tokens part)
+      (flat_map tokens_of ds)))),
 )
 
-context_entry : (parts id : Strings) (part : Part) (later ts : List Token) → IsKeyText parts → IsKeyText id → IsLawfulPart part → Derived later → ts ≡ texts parts ++ (Id ∷ (texts id ++ (part_tokens part ++ later))) → Derived (Context ∷ ts)
+context_entry : (parts id : Strings) (part : Part) (later ts : List Token) → IsKeyText parts → IsKeyText id
+    → IsLawfulPart part → Derived later → ts ≡ texts parts ++ (Id ∷ (texts id ++ (part_tokens part ++ later)))
+    → Derived (Context ∷ ts)
 context_entry parts id part later ts context key lawful (ds, all, is) e = (
   record { context = Some parts; id = id; part = part } ∷ ds,
   (record { context = context; id = key; part = lawful }, all),
   rw (e, is) (ap (λ (x : List Token). Context ∷ x) (
-      ap (λ (x : List Token). texts parts ++ (Id ∷ x)) (sym (append_assoc (texts id) (part_tokens part) (flat_map tokens_of ds)))
+      ap (λ (x : List Token). texts parts ++ (Id ∷ x)) (sym (append_assoc (texts id) (part_tokens part)
+      (flat_map tokens_of ds)))
       ∙ sym (append_assoc (texts parts) (Id ∷ (texts id ++ part_tokens part)) (flat_map tokens_of ds)))),
 )
 
@@ -89,17 +108,21 @@ left_end p q e b = go_end p (let same : p ≡ q = cc e in subst (λ (x : Place).
     go_end _ b = absurd b
 
 -- after a step by a key text, which had no byte 4
-key_was : (bytes : List ℕ) (p q : Place) (ts : List Token) → run (key_text bytes p) ts ≡ Some q → (has_four bytes ≡ false) × (run (Some p) ts ≡ Some q)
+key_was : (bytes : List ℕ) (p q : Place) (ts : List Token) → run (key_text bytes p) ts ≡ Some q
+    → (has_four bytes ≡ false) × (run (Some p) ts ≡ Some q)
 key_was bytes p q ts e = elim (cases_Bool (has_four bytes)) [
   | inl four ↦ let f : run (key_text bytes p) ts ≡ run None ts = rw four refl in absurd (dead ts q (sym f ∙ e))
   | inr none ↦ let f : run (key_text bytes p) ts ≡ run (Some p) ts = rw none refl in (none, sym f ∙ e)
 ]
 
-index_was : (n k : ℕ) (q : Place) (ts : List Token) → run (step (IndexNumber k) (Number n)) ts ≡ Some q → (n ≡ k) × (run (Some (IndexClose k)) ts ≡ Some q)
+index_was : (n k : ℕ) (q : Place) (ts : List Token) → run (step (IndexNumber k) (Number n)) ts ≡ Some q → (n ≡ k)
+    × (run (Some (IndexClose k)) ts ≡ Some q)
 unfolding step
 index_was n k q ts e = elim (cases_eq n k) [
-  | inl same ↦ let f : run (step (IndexNumber k) (Number n)) ts ≡ run (Some (IndexClose k)) ts = rw (eq-eqb n k same) refl in (same, sym f ∙ e)
-  | inr other ↦ let f : run (step (IndexNumber k) (Number n)) ts ≡ run None ts = rw (ne_eqb n k other) refl in absurd (dead ts q (sym f ∙ e))
+  | inl same ↦ let f : run (step (IndexNumber k) (Number n)) ts
+      ≡ run (Some (IndexClose k)) ts = rw (eq-eqb n k same) refl in (same, sym f ∙ e)
+  | inr other ↦ let f : run (step (IndexNumber k) (Number n)) ts
+      ≡ run None ts = rw (ne_eqb n k other) refl in absurd (dead ts q (sym f ∙ e))
 ]
 
 -- opening keywords
@@ -107,7 +130,8 @@ opens_id : (ts : List Token) → Left IdWord ts → Derived (Id ∷ ts)
 opens_id ts (id, part, later, key, lawful, rest, e) = plain_entry id part later ts key lawful rest e
 
 opens_context : (ts : List Token) → Left ContextWord ts → Derived (Context ∷ ts)
-opens_context ts (parts, id, part, later, context, key, lawful, rest, e) = context_entry parts id part later ts context key lawful rest e
+opens_context ts (parts, id, part, later, context, key, lawful, rest, e) = context_entry parts id part later ts context
+    key lawful rest e
 
 put : (t : Token) {ts us : List Token} → ts ≡ us → t ∷ ts ≡ t ∷ us
 put t e = ap (λ (x : List Token). t ∷ x) e
@@ -119,8 +143,18 @@ left (Context ∷ ts) Start q e b = opens_context ts (left ts ContextWord q e b)
 left (Id ∷ ts) Start q e b = opens_id ts (left ts IdWord q e b)
 left (Text s ∷ ts) ContextWord q e b =
     let was = key_was s ContextText q ts e in
-    let (parts, id, part, later, none, key, lawful, rest, is) = left ts ContextText q was.1 b in
-    (s ∷ parts, id, part, later, (cons_some s parts, no_four_cons s parts was.0 none), key, lawful, rest, put (Text s) is)
+    let (parts, id, part, later, none, key, lawful, rest, is) = left ts ContextText q was.1 b in (
+      s ∷ parts,
+      id,
+      part,
+      later,
+      (cons_some s parts, no_four_cons s parts was.0 none),
+      key,
+      lawful,
+      rest,
+      put (Text s)
+          is,
+    )
 left (Text s ∷ ts) ContextText q e b =
     let was = key_was s ContextText q ts e in
     let (parts, id, part, later, none, key, lawful, rest, is) = left ts ContextText q was.1 b in
@@ -140,8 +174,16 @@ left (Str ∷ ts) IdText q e b =
     let (form, later, some, rest, is) = left ts FormWord q e b in
     ([], PlainPart form, later, no_more, some, rest, put Str is)
 left (Plural ∷ ts) IdText q e b =
-    let (plural, forms, later, some, forms_some, each, rest, is) = left ts PluralWord q e b in
-    ([], PluralPart plural forms, later, no_more, (some, forms_some, each), rest, put Plural (is ∙ sym (append_assoc (texts plural) (form_tokens 0 forms) later)))
+    let (plural, forms, later, some, forms_some, each, rest, is) = left ts PluralWord q e b in (
+      [],
+      PluralPart plural forms,
+      later,
+      no_more,
+      (some, forms_some, each),
+      rest,
+      put Plural
+          (is ∙ sym (append_assoc (texts plural) (form_tokens 0 forms) later)),
+    )
 left (Text s ∷ ts) FormWord q e b =
     let (form, later, rest, is) = left ts FormText q e b in
     (s ∷ form, later, cons_some s form, rest, put (Text s) is)
@@ -164,7 +206,8 @@ left (Str ∷ ts) PluralText q e b =
       cons_some form forms,
       (some, each),
       rest,
-      put Str (is ∙ ap (λ (x : List Token). Open ∷ Number 0 ∷ Close ∷ x) (cut ∙ sym (append_assoc (texts form) (form_tokens (0 + 1) forms) later))),
+      put Str (is ∙ ap (λ (x : List Token). Open ∷ Number 0 ∷ Close ∷ x)
+          (cut ∙ sym (append_assoc (texts form) (form_tokens (0 + 1) forms) later))),
     )
 left (Open ∷ ts) (IndexOpen k) q e b =
     let (form, more, is, some, forms) = left ts (IndexNumber k) q e b in
@@ -190,10 +233,21 @@ left (Str ∷ ts) (IndexedText k) q e b =
         later,
         (some, each),
         rest,
-        put Str (is ∙ ap (λ (x : List Token). Open ∷ Number (k + 1) ∷ Close ∷ x) (cut ∙ sym (append_assoc (texts form) (form_tokens (k + 1 + 1) forms) later))),
+        put Str (is ∙ ap (λ (x : List Token). Open ∷ Number (k + 1) ∷ Close ∷ x)
+            (cut ∙ sym (append_assoc (texts form) (form_tokens (k + 1 + 1) forms) later))),
       ),
     )
-left (Context ∷ ts) (IndexedText k) q e b = ([], ([], Context ∷ ts, tt, opens_context ts (left ts ContextWord q e b), refl))
+left (Context ∷ ts) (IndexedText k) q e b = (
+  [],
+  (
+    [],
+    Context
+        ∷ ts,
+    tt,
+    opens_context ts (left ts ContextWord q e b),
+    refl,
+  ),
+)
 left (Id ∷ ts) (IndexedText k) q e b = ([], ([], Id ∷ ts, tt, opens_id ts (left ts IdWord q e b), refl))
 left (t ∷ ts) p q e b = absurd (dead ts q e)
 

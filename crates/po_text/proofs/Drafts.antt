@@ -19,7 +19,8 @@ pub forms_one : (k : ℕ) (fs gs : List (List ℕ)) → concat fs ≡ concat gs 
 forms_one k [] [] e o = refl
 forms_one k [] (g ∷ gs) e o = absurd (cc o)
 forms_one k (f ∷ fs) [] e o = absurd (cc o)
-forms_one k (f ∷ []) (g ∷ []) e o = let same : f ≡ g = sym (append-nil f) ∙ e ∙ append-nil g in ap (λ (x : List ℕ). x ∷ []) same
+forms_one k (f ∷ []) (g ∷ []) e o = let same : f ≡ g = sym (append-nil f) ∙ e
+    ∙ append-nil g in ap (λ (x : List ℕ). x ∷ []) same
 forms_one k (f ∷ []) (g ∷ g' ∷ gs) e o = absurd (cc o)
 forms_one k (f ∷ f' ∷ fs) (g ∷ []) e o = absurd (cc o)
 forms_one k (f ∷ f' ∷ fs) (g ∷ g' ∷ gs) e o =
@@ -31,20 +32,85 @@ forms_one k (f ∷ f' ∷ fs) (g ∷ g' ∷ gs) e o =
     cc (same, rest)
 
 -- entries whose fields are equal
-pub same_entry : (e e' : Entry) → e.line ≡ e'.line → e.fuzzy ≡ e'.fuzzy → e.c_format ≡ e'.c_format → e.context ≡ e'.context → e.id ≡ e'.id → e.plural ≡ e'.plural → e.forms ≡ e'.forms → e ≡ e'
+pub same_entry : (e e' : Entry) → e.line ≡ e'.line → e.fuzzy ≡ e'.fuzzy → e.c_format ≡ e'.c_format → e.context
+    ≡ e'.context → e.id ≡ e'.id → e.plural ≡ e'.plural → e.forms ≡ e'.forms → e ≡ e'
 same_entry e e' line fuzzy c_format context id plural forms =
-    ap (λ (x : ℕ). record { line = x; fuzzy = e.fuzzy; c_format = e.c_format; context = e.context; id = e.id; plural = e.plural; forms = e.forms }) line
-    ∙ ap (λ (x : _). record { line = e'.line; fuzzy = x; c_format = e.c_format; context = e.context; id = e.id; plural = e.plural; forms = e.forms }) fuzzy
-    ∙ ap (λ (x : _). record { line = e'.line; fuzzy = e'.fuzzy; c_format = x; context = e.context; id = e.id; plural = e.plural; forms = e.forms }) c_format
-    ∙ ap (λ (x : _). record { line = e'.line; fuzzy = e'.fuzzy; c_format = e'.c_format; context = x; id = e.id; plural = e.plural; forms = e.forms }) context
-    ∙ ap (λ (x : _). record { line = e'.line; fuzzy = e'.fuzzy; c_format = e'.c_format; context = e'.context; id = x; plural = e.plural; forms = e.forms }) id
-    ∙ ap (λ (x : _). record { line = e'.line; fuzzy = e'.fuzzy; c_format = e'.c_format; context = e'.context; id = e'.id; plural = x; forms = e.forms }) plural
-    ∙ ap (λ (x : _). record { line = e'.line; fuzzy = e'.fuzzy; c_format = e'.c_format; context = e'.context; id = e'.id; plural = e'.plural; forms = x }) forms
+    ap (λ (x : ℕ). record {
+      line = x;
+      fuzzy = e.fuzzy;
+      c_format = e.c_format;
+      context = e.context;
+      id = e.id;
+      plural =
+          e.plural;
+      forms = e.forms;
+    }) line
+    ∙ ap (λ (x : _). record {
+      line = e'.line;
+      fuzzy = x;
+      c_format = e.c_format;
+      context = e.context;
+      id = e.id;
+      plural =
+          e.plural;
+      forms = e.forms;
+    }) fuzzy
+    ∙ ap (λ (x : _). record {
+      line = e'.line;
+      fuzzy = e'.fuzzy;
+      c_format = x;
+      context = e.context;
+      id = e.id;
+      plural =
+          e.plural;
+      forms = e.forms;
+    }) c_format
+    ∙ ap (λ (x : _). record {
+      line = e'.line;
+      fuzzy = e'.fuzzy;
+      c_format = e'.c_format;
+      context = x;
+      id = e.id;
+      plural =
+          e.plural;
+      forms = e.forms;
+    }) context
+    ∙ ap (λ (x : _). record {
+      line = e'.line;
+      fuzzy = e'.fuzzy;
+      c_format = e'.c_format;
+      context = e'.context;
+      id = x;
+      plural = e.plural;
+      forms = e.forms;
+    }) id
+    ∙ ap (λ (x : _). record {
+      line = e'.line;
+      fuzzy = e'.fuzzy;
+      c_format = e'.c_format;
+      context = e'.context;
+      id =
+          e'.id;
+      plural = x;
+      forms = e.forms;
+    }) plural
+    ∙ ap (λ (x : _). record {
+      line = e'.line;
+      fuzzy = e'.fuzzy;
+      c_format = e'.c_format;
+      context = e'.context;
+      id =
+          e'.id;
+      plural = e'.plural;
+      forms = x;
+    }) forms
 
 pub draft_one : (e e' : Entry) → draft_of e ≡ draft_of e' → e ≡ e'
 draft_one e e' same =
-    same_entry e e' (ap (λ (d : Draft). d.line) same) (ap (λ (d : Draft). d.flags.fuzzy) same) (ap (λ (d : Draft). d.flags.c_format) same) (ap (λ (d : Draft). d.context) same) (ap (λ (d : Draft). d.id) same)
-    (ap (λ (d : Draft). d.plural) same) (forms_one 0 e.forms e'.forms (ap (λ (d : Draft). d.flat) same) (ap (λ (d : Draft). d.starts) same))
+    same_entry e e' (ap (λ (d : Draft). d.line) same) (ap (λ (d : Draft). d.flags.fuzzy) same)
+    (ap (λ (d : Draft). d.flags.c_format) same) (ap (λ (d : Draft). d.context) same) (ap (λ (d : Draft). d.id) same)
+    (ap (λ (d : Draft). d.plural) same) (forms_one 0 e.forms e'.forms (ap (λ (d : Draft). d.flat) same)
+    (ap (λ (d : Draft). d.starts) same))
 
 pub drafts_one : (es fs : List Entry) → map draft_of es ≡ map draft_of fs → es ≡ fs
 drafts_one [] [] e = refl
@@ -56,11 +122,13 @@ drafts_one (x ∷ es) (y ∷ fs) e =
     cc (head, tail)
 
 -- the last of some drafts that are of entries is of an entry
-pub split_last : (P : Entry → Type 0) (done : List Draft) (d : Draft) (es : List Entry) → AllByRecursion P es → done ++ (d ∷ []) ≡ map draft_of es → (e : Entry) × (d ≡ draft_of e) × P e
+pub split_last : (P : Entry → Type 0) (done : List Draft) (d : Draft) (es : List Entry) → AllByRecursion P es → done
+    ++ (d ∷ []) ≡ map draft_of es → (e : Entry) × (d ≡ draft_of e) × P e
 split_last P [] d [] all e = absurd (cc e)
 split_last P [] d (x ∷ es) all e = (x, cc e, all.0)
 split_last P (y ∷ done) d [] all e = absurd (cc e)
 split_last P (y ∷ done) d (x ∷ es) all e = split_last P done d es all.1 (cc e)
 
-pub snoc_drafts : (es : List Entry) (e : Entry) (d : Draft) → d ≡ draft_of e → map draft_of (es ++ (e ∷ [])) ≡ map draft_of es ++ (d ∷ [])
+pub snoc_drafts : (es : List Entry) (e : Entry) (d : Draft) → d ≡ draft_of e → map draft_of (es ++ (e ∷ []))
+    ≡ map draft_of es ++ (d ∷ [])
 snoc_drafts es e d is = map-append draft_of es (e ∷ []) ∙ ap (λ (x : Draft). map draft_of es ++ (x ∷ [])) (sym is)

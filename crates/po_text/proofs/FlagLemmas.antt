@@ -33,43 +33,59 @@ flags_over-append f xs ys = rw (fuzzy_of-append f.fuzzy xs ys, c_format_of-appen
 
 -- ---- a flag stands behind the last Clear
 
-fuzzy_next : (mark : Mark) (marks : List Mark) → fuzzy_of false (reverse marks) ≡ list_any (mark_eq Fuzzy) (take_while is_no_clear marks) → fuzzy_of false (reverse (mark ∷ marks)) ≡ list_any (mark_eq Fuzzy) (take_while is_no_clear (mark ∷ marks))
+fuzzy_next : (mark : Mark) (marks : List Mark) → fuzzy_of false (reverse marks)
+    ≡ list_any (mark_eq Fuzzy) (take_while is_no_clear marks) → fuzzy_of false (reverse (mark ∷ marks))
+    ≡ list_any (mark_eq Fuzzy) (take_while is_no_clear (mark ∷ marks))
 fuzzy_next mark marks before =
-    ap (λ (m : List Mark). fuzzy_of false m) (reverse-append (mark ∷ []) marks) ∙ fuzzy_of-append false (reverse marks) (mark ∷ []) ∙ last mark
+    ap (λ (m : List Mark). fuzzy_of false m) (reverse-append (mark ∷ []) marks)
+    ∙ fuzzy_of-append false (reverse marks) (mark ∷ []) ∙ last mark
   where
-    last : (m : Mark) → fuzzy_of (fuzzy_of false (reverse marks)) (m ∷ []) ≡ list_any (mark_eq Fuzzy) (take_while is_no_clear (m ∷ marks))
+    last : (m : Mark) → fuzzy_of (fuzzy_of false (reverse marks)) (m ∷ [])
+        ≡ list_any (mark_eq Fuzzy) (take_while is_no_clear (m ∷ marks))
     last Fuzzy = sym (ap (λ (m : List Mark). list_any (mark_eq Fuzzy) m) (take_while-cons is_no_clear Fuzzy marks))
-    last CFormat = before ∙ sym (ap (λ (m : List Mark). list_any (mark_eq Fuzzy) m) (take_while-cons is_no_clear CFormat marks))
+    last CFormat = before ∙ sym (ap (λ (m : List Mark). list_any (mark_eq Fuzzy) m)
+        (take_while-cons is_no_clear CFormat marks))
     last Clear = sym (ap (λ (m : List Mark). list_any (mark_eq Fuzzy) m) (take_while-cons is_no_clear Clear marks))
 
-fuzzy_from_last : (marks : List Mark) → fuzzy_of false (reverse marks) ≡ list_any (mark_eq Fuzzy) (take_while is_no_clear marks)
+fuzzy_from_last : (marks : List Mark) → fuzzy_of false (reverse marks)
+    ≡ list_any (mark_eq Fuzzy) (take_while is_no_clear marks)
 fuzzy_from_last [] = refl
 fuzzy_from_last (Fuzzy ∷ marks) = fuzzy_next Fuzzy marks (fuzzy_from_last marks)
 fuzzy_from_last (CFormat ∷ marks) = fuzzy_next CFormat marks (fuzzy_from_last marks)
 fuzzy_from_last (Clear ∷ marks) = fuzzy_next Clear marks (fuzzy_from_last marks)
 
-c_format_next : (mark : Mark) (marks : List Mark) → c_format_of false (reverse marks) ≡ list_any (mark_eq CFormat) (take_while is_no_clear marks) → c_format_of false (reverse (mark ∷ marks)) ≡ list_any (mark_eq CFormat) (take_while is_no_clear (mark ∷ marks))
+c_format_next : (mark : Mark) (marks : List Mark) → c_format_of false (reverse marks)
+    ≡ list_any (mark_eq CFormat) (take_while is_no_clear marks) → c_format_of false (reverse (mark ∷ marks))
+    ≡ list_any (mark_eq CFormat) (take_while is_no_clear (mark ∷ marks))
 c_format_next mark marks before =
-    ap (λ (m : List Mark). c_format_of false m) (reverse-append (mark ∷ []) marks) ∙ c_format_of-append false (reverse marks) (mark ∷ []) ∙ last mark
+    ap (λ (m : List Mark). c_format_of false m) (reverse-append (mark ∷ []) marks)
+    ∙ c_format_of-append false (reverse marks) (mark ∷ []) ∙ last mark
   where
-    last : (m : Mark) → c_format_of (c_format_of false (reverse marks)) (m ∷ []) ≡ list_any (mark_eq CFormat) (take_while is_no_clear (m ∷ marks))
-    last CFormat = sym (ap (λ (m : List Mark). list_any (mark_eq CFormat) m) (take_while-cons is_no_clear CFormat marks))
-    last Fuzzy = before ∙ sym (ap (λ (m : List Mark). list_any (mark_eq CFormat) m) (take_while-cons is_no_clear Fuzzy marks))
+    last : (m : Mark) → c_format_of (c_format_of false (reverse marks)) (m ∷ [])
+        ≡ list_any (mark_eq CFormat) (take_while is_no_clear (m ∷ marks))
+    last CFormat = sym (ap (λ (m : List Mark). list_any (mark_eq CFormat) m)
+        (take_while-cons is_no_clear CFormat marks))
+    last Fuzzy = before ∙ sym (ap (λ (m : List Mark). list_any (mark_eq CFormat) m)
+        (take_while-cons is_no_clear Fuzzy marks))
     last Clear = sym (ap (λ (m : List Mark). list_any (mark_eq CFormat) m) (take_while-cons is_no_clear Clear marks))
 
-c_format_from_last : (marks : List Mark) → c_format_of false (reverse marks) ≡ list_any (mark_eq CFormat) (take_while is_no_clear marks)
+c_format_from_last : (marks : List Mark) → c_format_of false (reverse marks)
+    ≡ list_any (mark_eq CFormat) (take_while is_no_clear marks)
 c_format_from_last [] = refl
 c_format_from_last (Fuzzy ∷ marks) = c_format_next Fuzzy marks (c_format_from_last marks)
 c_format_from_last (CFormat ∷ marks) = c_format_next CFormat marks (c_format_from_last marks)
 c_format_from_last (Clear ∷ marks) = c_format_next Clear marks (c_format_from_last marks)
 
 fuzzy_is : (marks : List Mark) → fuzzy_of false marks ≡ is_flagged Fuzzy marks
-fuzzy_is marks = ap (λ (m : List Mark). fuzzy_of false m) (sym (reverse-reverse marks)) ∙ fuzzy_from_last (reverse marks)
+fuzzy_is marks = ap (λ (m : List Mark). fuzzy_of false m) (sym (reverse-reverse marks))
+    ∙ fuzzy_from_last (reverse marks)
 
 c_format_is : (marks : List Mark) → c_format_of false marks ≡ is_flagged CFormat marks
-c_format_is marks = ap (λ (m : List Mark). c_format_of false m) (sym (reverse-reverse marks)) ∙ c_format_from_last (reverse marks)
+c_format_is marks = ap (λ (m : List Mark). c_format_of false m) (sym (reverse-reverse marks))
+    ∙ c_format_from_last (reverse marks)
 
-pub flags_are : (marks : List Mark) → flags_over no_flags marks ≡ record { fuzzy = is_flagged Fuzzy marks; c_format = is_flagged CFormat marks }
+pub flags_are : (marks : List Mark) → flags_over no_flags marks
+    ≡ record { fuzzy = is_flagged Fuzzy marks; c_format = is_flagged CFormat marks }
 flags_are marks = rw (fuzzy_is marks, c_format_is marks) refl
 
 -- ---- the words of a flag line
@@ -79,24 +95,30 @@ abbrev more_words : List ℕ → List (List ℕ)
 more_words [] = []
 more_words (b ∷ later) = slice_split is_separator later
 
-split_first : (words : List ℕ) → slice_split is_separator words ≡ take (prefix_len is_no_separator words) words ∷ more_words (drop (prefix_len is_no_separator words) words)
+split_first : (words : List ℕ) → slice_split is_separator words ≡ take (prefix_len is_no_separator words) words
+    ∷ more_words (drop (prefix_len is_no_separator words) words)
 split_first [] = refl
 split_first (b ∷ xs) = elim (cases_Bool (is_separator b)) [
   | inl here ↦ rw here refl
   | inr not_here ↦ rw (not_here, one-add, split_first xs) refl
 ]
 
-pub words_step : (words word rest later : List ℕ) (n b : ℕ) (f g : Flags) → n ≡ prefix_len is_no_separator words → word ≡ take n words → rest ≡ drop n words → rest ≡ b ∷ later → g ≡ flags_over f (filter_map flag_mark (word ∷ []))
-    → flags_over f (filter_map flag_mark (slice_split is_separator words)) ≡ flags_over g (filter_map flag_mark (slice_split is_separator later))
+pub words_step : (words word rest later : List ℕ) (n b : ℕ) (f g : Flags) → n ≡ prefix_len is_no_separator words → word
+    ≡ take n words → rest ≡ drop n words → rest ≡ b ∷ later → g ≡ flags_over f (filter_map flag_mark (word ∷ []))
+    → flags_over f (filter_map flag_mark (slice_split is_separator words))
+    ≡ flags_over g (filter_map flag_mark (slice_split is_separator later))
 words_step words word rest later n b f g len front back split flags =
-    let cut : slice_split is_separator words ≡ word ∷ slice_split is_separator later = split_first words ∙ rw (← len, ← back, split, ← front) refl in
+    let cut : slice_split is_separator words ≡ word ∷ slice_split is_separator later = split_first words
+    ∙ rw (← len, ← back, split, ← front) refl in
     ap (λ (x : List (List ℕ)). flags_over f (filter_map flag_mark x)) cut
     ∙ ap (λ (x : List Mark). flags_over f x) (filter_map-append flag_mark (word ∷ []) (slice_split is_separator later))
     ∙ flags_over-append f (filter_map flag_mark (word ∷ [])) (filter_map flag_mark (slice_split is_separator later))
     ∙ ap (λ (x : Flags). flags_over x (filter_map flag_mark (slice_split is_separator later))) (sym flags)
 
-pub words_end : (words word rest : List ℕ) (n : ℕ) (f g : Flags) → n ≡ prefix_len is_no_separator words → word ≡ take n words → rest ≡ drop n words → rest ≡ [] → g ≡ flags_over f (filter_map flag_mark (word ∷ []))
+pub words_end : (words word rest : List ℕ) (n : ℕ) (f g : Flags) → n ≡ prefix_len is_no_separator words → word
+    ≡ take n words → rest ≡ drop n words → rest ≡ [] → g ≡ flags_over f (filter_map flag_mark (word ∷ []))
     → flags_over f (filter_map flag_mark (slice_split is_separator words)) ≡ g
 words_end words word rest n f g len front back split flags =
-    let cut : slice_split is_separator words ≡ word ∷ [] = split_first words ∙ rw (← len, ← back, split, ← front) refl in
+    let cut : slice_split is_separator words ≡ word ∷ [] = split_first words
+    ∙ rw (← len, ← back, split, ← front) refl in
     ap (λ (x : List (List ℕ)). flags_over f (filter_map flag_mark x)) cut ∙ sym flags

@@ -12,7 +12,8 @@ use Rattle.po_text.specs.Lexing.{TakesGap, IsGapPiece, gap_marks}
 use Rattle.po_text.proofs.FlagLemmas.{flags_over-append}
 use Rattle.po_text.proofs.Chains.{Chain-append}
 
-pub All-append : {A : Type 0} (P : A → Type 0) (xs ys : List A) → AllByRecursion P xs → AllByRecursion P ys → AllByRecursion P (xs ++ ys)
+pub All-append : {A : Type 0} (P : A → Type 0) (xs ys : List A) → AllByRecursion P xs → AllByRecursion P ys
+    → AllByRecursion P (xs ++ ys)
 All-append P [] ys p q = q
 All-append P (x ∷ xs) ys p q = (p.0, All-append P xs ys p.1 q)
 
@@ -28,16 +29,20 @@ line_of-append (Quoted bytes ∷ xs) ys = line_of-append xs ys
 gap_marks-append : (xs ys : List Piece) → gap_marks (xs ++ ys) ≡ gap_marks xs ++ gap_marks ys
 gap_marks-append [] ys = refl
 gap_marks-append (White b ∷ xs) ys = gap_marks-append xs ys
-gap_marks-append (Comment after ∷ xs) ys = ap (λ (m : List Mark). comment_marks after ++ m) (gap_marks-append xs ys) ∙ sym (append_assoc (comment_marks after) (gap_marks xs) (gap_marks ys))
+gap_marks-append (Comment after ∷ xs) ys = ap (λ (m : List Mark). comment_marks after ++ m) (gap_marks-append xs ys)
+    ∙ sym (append_assoc (comment_marks after) (gap_marks xs) (gap_marks ys))
 gap_marks-append (Word bytes token ∷ xs) ys = gap_marks-append xs ys
 gap_marks-append (OpenBracket ∷ xs) ys = gap_marks-append xs ys
 gap_marks-append (CloseBracket ∷ xs) ys = gap_marks-append xs ys
 gap_marks-append (Quoted bytes ∷ xs) ys = gap_marks-append xs ys
 
-pub TakesGap-append : (f g h : Flags) (a b c : ℕ) (s m t : List ℕ) → TakesGap f a s g b m → TakesGap g b m h c t → TakesGap f a s h c t
+pub TakesGap-append : (f g h : Flags) (a b c : ℕ) (s m t : List ℕ) → TakesGap f a s g b m → TakesGap g b m h c t
+    → TakesGap f a s h c t
 TakesGap-append f g h a b c s m t p q = record {
   pieces = p.pieces ++ q.pieces;
-  flags = q.flags ∙ ap (λ (x : Flags). flags_over x (gap_marks q.pieces)) p.flags ∙ sym (flags_over-append f (gap_marks p.pieces) (gap_marks q.pieces)) ∙ ap (λ (m : List Mark). flags_over f m) (sym (gap_marks-append p.pieces q.pieces));
+  flags = q.flags ∙ ap (λ (x : Flags). flags_over x (gap_marks q.pieces)) p.flags
+      ∙ sym (flags_over-append f (gap_marks p.pieces) (gap_marks q.pieces))
+      ∙ ap (λ (m : List Mark). flags_over f m) (sym (gap_marks-append p.pieces q.pieces));
   each = Chain-append PieceAt p.pieces q.pieces s m t p.each q.each;
   gap = All-append IsGapPiece p.pieces q.pieces p.gap q.gap;
   line = omega (arith, line_of-append p.pieces q.pieces, p.line, q.line);
@@ -48,7 +53,8 @@ TakesGap-append f g h a b c s m t p q = record {
 line_end_is_white : (b : ℕ) → b ≡ 10 → is_white b ≡ true
 line_end_is_white b e = rw e refl
 
-pub goes_line : (f g : Flags) (a b c byte : ℕ) (s m t : List ℕ) → TakesGap f a s g b m → m ≡ byte ∷ t → byte ≡ 10 → c ≡ b + 1 → TakesGap f a s g c t
+pub goes_line : (f g : Flags) (a b c byte : ℕ) (s m t : List ℕ) → TakesGap f a s g b m → m ≡ byte ∷ t → byte ≡ 10 → c
+    ≡ b + 1 → TakesGap f a s g c t
 goes_line f g a b c byte s m t p split is e = TakesGap-append f g g a b c s m t p (record {
   pieces = White byte ∷ [];
   flags = refl;
@@ -59,7 +65,8 @@ goes_line f g a b c byte s m t p split is e = TakesGap-append f g g a b c s m t 
   falls = omega (arith, ap length split);
 })
 
-pub goes_white : (f g : Flags) (a b byte : ℕ) (s m t : List ℕ) → TakesGap f a s g b m → m ≡ byte ∷ t → byte ≢ 10 → is_white byte ≡ true → TakesGap f a s g b t
+pub goes_white : (f g : Flags) (a b byte : ℕ) (s m t : List ℕ) → TakesGap f a s g b m → m ≡ byte ∷ t → byte ≢ 10
+    → is_white byte ≡ true → TakesGap f a s g b t
 goes_white f g a b byte s m t p split other white = TakesGap-append f g g a b b s m t p (record {
   pieces = White byte ∷ [];
   flags = refl;
@@ -70,7 +77,9 @@ goes_white f g a b byte s m t p split other white = TakesGap-append f g g a b b 
   falls = omega (arith, ap length split);
 })
 
-pub goes_comment : (f g h : Flags) (a b byte : ℕ) (s m after later t : List ℕ) → TakesGap f a s g b m → m ≡ byte ∷ later → byte ≡ 35 → after ≡ take_while is_not_line_end later → later ≡ after ++ t → h ≡ flags_over g (comment_marks after) → TakesGap f a s h b t
+pub goes_comment : (f g h : Flags) (a b byte : ℕ) (s m after later t : List ℕ) → TakesGap f a s g b m → m ≡ byte ∷ later
+    → byte ≡ 35 → after ≡ take_while is_not_line_end later → later ≡ after ++ t → h ≡ flags_over g (comment_marks after)
+    → TakesGap f a s h b t
 goes_comment f g h a b byte s m after later t p split is run cut flagged = TakesGap-append f g h a b b s m t p (record {
   pieces = Comment after ∷ [];
   flags = flagged ∙ ap (λ (m : List Mark). flags_over g m) (sym (append-nil (comment_marks after)));

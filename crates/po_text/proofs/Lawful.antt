@@ -18,14 +18,19 @@ lawful_append a b p q = record {
   utf8 = IsUtf8-append a b p.utf8 q.utf8;
 }
 
-part_forms : (part : Part) → IsLawfulPart part → IsOneOrMore (forms_of part) × (plural_of part ≡ None → length (forms_of part) ≡ 1)
+part_forms : (part : Part) → IsLawfulPart part → IsOneOrMore (forms_of part)
+    × (plural_of part ≡ None → length (forms_of part) ≡ 1)
 part_forms (PlainPart form) h = (λ e. absurd (cc e), λ _. refl)
 part_forms (PluralPart plural []) h = absurd (h.1 refl)
 part_forms (PluralPart plural (form ∷ forms)) h = (λ e. absurd (cc e), λ e. absurd (cc e))
 
 -- a derived entry has its forms
-pub derived_forms : (entries : List Entry) (now later : Remaining) → Chain EntryAt entries now later → AllByRecursion HasItsForms entries
+pub derived_forms : (entries : List Entry) (now later : Remaining) → Chain EntryAt entries now later
+    → AllByRecursion HasItsForms entries
 derived_forms [] now later c = tt
 derived_forms (e ∷ entries) now later (middle, at, more) =
-    let forms = part_forms at.derivation.part at.lawful.part in
-    (subst HasItsForms (sym at.entry) (record { some = forms.0; one = forms.1 }), derived_forms entries middle later more)
+    let forms = part_forms at.derivation.part at.lawful.part in (
+      subst HasItsForms (sym at.entry) (record { some = forms.0; one = forms.1 }),
+      derived_forms entries middle later
+          more,
+    )

@@ -13,11 +13,14 @@ use Rattle.po_text.proofs.Chains.{Chain-append}
 use Rattle.po_text.proofs.GapLemmas.{line_of-append}
 
 -- over a gap only the line and the marks change
-over_gap : (line end : ℕ) (marks : List Mark) (gap more : List Piece) → AllByRecursion IsGapPiece gap → end + 1 ≡ line + line_of gap
+over_gap : (line end : ℕ) (marks : List Mark) (gap more : List Piece) → AllByRecursion IsGapPiece gap → end + 1
+    ≡ line + line_of gap
     → lexemes line marks (gap ++ more) ≡ lexemes end (marks ++ gap_marks gap) more
 over_gap line end marks [] more all e = let same : end ≡ line = omega arith in rw (same, append-nil marks) refl
-over_gap line end marks (White b ∷ gap) more all e = over_gap (line + newlines (b ∷ [])) end marks gap more all.1 (omega arith)
-over_gap line end marks (Comment after ∷ gap) more all e = over_gap line end (marks ++ comment_marks after) gap more all.1 e ∙ ap (λ (m : List Mark). lexemes end m more) (append_assoc marks (comment_marks after) (gap_marks gap))
+over_gap line end marks (White b ∷ gap) more all e = over_gap (line + newlines (b ∷ [])) end marks gap more all.1
+    (omega arith)
+over_gap line end marks (Comment after ∷ gap) more all e = over_gap line end (marks ++ comment_marks after) gap more
+    all.1 e ∙ ap (λ (m : List Mark). lexemes end m more) (append_assoc marks (comment_marks after) (gap_marks gap))
 over_gap line end marks (Word bytes token ∷ gap) more all e = absurd all.0
 over_gap line end marks (OpenBracket ∷ gap) more all e = absurd all.0
 over_gap line end marks (CloseBracket ∷ gap) more all e = absurd all.0
@@ -45,31 +48,47 @@ token_line (Quoted bytes) token e = refl
 abbrev pub lexeme_of : (token : code.Token) (bytes : List ℕ) (line : ℕ) (gap : List Piece) → Lexeme
 lexeme_of token bytes line gap = record { marks = gap_marks gap; line = line; token = token_view token bytes }
 
-pub lexemes_push : (found : List Lexeme) (a b c : ℕ) (s m t : List ℕ) (f g : Flags) (token : code.Token) (bytes : List ℕ) → TakesLexemes found a s b m → (h : HasNext token bytes f b m g c t) → TakesLexemes (found ++ lexeme_of token bytes c h.gap.pieces ∷ []) a s c t
+pub lexemes_push : (found : List Lexeme) (a b c : ℕ) (s m t : List ℕ) (f g : Flags) (token : code.Token)
+    (bytes : List ℕ) → TakesLexemes found a s b m → (h : HasNext token bytes f b m g c t)
+    → TakesLexemes (found ++ lexeme_of token bytes c h.gap.pieces ∷ []) a s c t
 lexemes_push found a b c s m t f g token bytes p h =
     let piece = h.takes.0 in
     let next : Lexeme = record { marks = gap_marks h.gap.pieces; line = c; token = token_view token bytes } in
     let pieces = h.gap.pieces ++ piece ∷ [] in
     record {
       pieces = p.pieces ++ pieces;
-      each = Chain-append PieceAt p.pieces pieces s m t p.each (Chain-append PieceAt h.gap.pieces (piece ∷ []) m h.middle t h.gap.each (t, h.takes.1, refl));
-      line = omega (arith, p.line, h.gap.line, line_of-append p.pieces pieces, line_of-append h.gap.pieces (piece ∷ []), token_line piece (token_view token bytes) h.takes.2);
+      each = Chain-append PieceAt p.pieces pieces s m t p.each
+          (Chain-append PieceAt h.gap.pieces (piece ∷ []) m h.middle t h.gap.each (t, h.takes.1, refl));
+      line = omega (
+        arith,
+        p.line,
+        h.gap.line,
+        line_of-append p.pieces pieces,
+        line_of-append h.gap.pieces (piece ∷ []),
+        token_line piece (token_view token bytes) h.takes.2,
+      );
       found_are = λ more.
           ap (λ (ps : List Piece). lexemes a [] ps) (append_assoc p.pieces pieces more) ∙ p.found_are (pieces ++ more)
-          ∙ ap (λ (ls : List Lexeme). found ++ ls) (ap (λ (ps : List Piece). lexemes b [] ps) (append_assoc h.gap.pieces (piece ∷ []) more) ∙ over_gap b c [] h.gap.pieces (piece ∷ more) h.gap.gap h.gap.line ∙ over_token c (gap_marks h.gap.pieces) piece (token_view token bytes) more h.takes.2)
+          ∙ ap (λ (ls : List Lexeme). found ++ ls) (ap (λ (ps : List Piece). lexemes b [] ps)
+          (append_assoc h.gap.pieces (piece ∷ []) more) ∙ over_gap b c [] h.gap.pieces (piece ∷ more) h.gap.gap
+          h.gap.line ∙ over_token c (gap_marks h.gap.pieces) piece (token_view token bytes) more h.takes.2)
           ∙ sym (append_assoc found (next ∷ []) (lexemes c [] more));
       room = omega (arith, p.room, h.gap.room, h.shorter);
     }
 
-pub lexemes_end : (found : List Lexeme) (b : ℕ) (text m : List ℕ) (f : Flags) → TakesLexemes found 1 text b m → HasEnd f b m → Spells text found
+pub lexemes_end : (found : List Lexeme) (b : ℕ) (text m : List ℕ) (f : Flags) → TakesLexemes found 1 text b m
+    → HasEnd f b m → Spells text found
 lexemes_end found b text m f p (flags, last, gap) =
     record {
       pieces = p.pieces ++ gap.pieces;
       each = Chain-append PieceAt p.pieces gap.pieces text m [] p.each gap.each;
-      found_are = sym (p.found_are gap.pieces ∙ ap (λ (ls : List Lexeme). found ++ ls) (ap (λ (ps : List Piece). lexemes b [] ps) (sym (append-nil gap.pieces)) ∙ over_gap b last [] gap.pieces [] gap.gap gap.line) ∙ append-nil found);
+      found_are = sym (p.found_are gap.pieces ∙ ap (λ (ls : List Lexeme). found ++ ls)
+          (ap (λ (ps : List Piece). lexemes b [] ps) (sym (append-nil gap.pieces))
+          ∙ over_gap b last [] gap.pieces [] gap.gap gap.line) ∙ append-nil found);
     }
 
-pub lexemes_fault : (found : List Lexeme) (b : ℕ) (text m : List ℕ) (f : Flags) (kind : PoKind) (line : ℕ) → TakesLexemes found 1 text b m → HasFaultFrom f b m kind line → HasFault text kind line
+pub lexemes_fault : (found : List Lexeme) (b : ℕ) (text m : List ℕ) (f : Flags) (kind : PoKind) (line : ℕ)
+    → TakesLexemes found 1 text b m → HasFaultFrom f b m kind line → HasFault text kind line
 lexemes_fault found b text m f kind line p h = record {
   pieces = p.pieces ++ h.gap.pieces;
   rest = h.middle;

@@ -18,7 +18,8 @@ use Rattle.po_text.proofs.Unique.{head_is, octal_no_escape, octal_run-none, quot
 
 -- a backslash before what is neither a letter of an escape nor octal digits up to 255
 slash_stops : (s m : List ℕ) → s ≡ 92 ∷ m → ((c v : ℕ) (n : List ℕ) → m ≡ c ∷ n → escaped c ≡ Some v → ⊥)
-    → ((digits n : List ℕ) → m ≡ digits ++ n → octal_run m ≡ digits → digits ≢ [] → octal_value digits ≤ 255 → ⊥) → Stops UnitAt s
+    → ((digits n : List ℕ) → m ≡ digits ++ n → octal_run m ≡ digits → digits ≢ [] → octal_value digits ≤ 255 → ⊥)
+    → Stops UnitAt s
 slash_stops s m e no_escape no_octal (Plain b) n p = plain_no_slash b s n m p.0 p.1 e
 slash_stops s m e no_escape no_octal (Escape c v) n p = let f = p.0 in no_escape c v n (cc (e, f)) p.1
 slash_stops s m e no_escape no_octal (Octal digits) n p =
@@ -35,16 +36,21 @@ bad_stops s (inl (c, more, e, no_end, no_octal, none)) = slash_stops s (c ∷ mo
 bad_stops s (inr (more, e, large)) = slash_stops s more e
     (λ c v n f is. elim (cases_Bool (is_octal c)) [
       | inl octal ↦ none_is_none c v (octal_no_escape c octal) is
-      | inr other ↦ let empty : octal_run more ≡ [] = ap octal_run f ∙ octal_run-none c n other in let zero_value : octal_value (octal_run more) ≡ 0 = ap octal_value empty in absurd (omega arith)
+      | inr other ↦ let empty : octal_run more ≡ [] = ap octal_run f
+          ∙ octal_run-none c n other in let zero_value : octal_value (octal_run more)
+          ≡ 0 = ap octal_value empty in absurd (omega arith)
     ])
-    (λ digits n f run some small. let same : octal_value (octal_run more) ≡ octal_value digits = ap octal_value run in absurd (omega arith))
+    (λ digits n f run some small. let same : octal_value (octal_run more)
+    ≡ octal_value digits = ap octal_value run in absurd (omega arith))
 
 -- ---- where a string ends early
 
 line_end_stops : (s m : List ℕ) → s ≡ 10 ∷ m → Stops UnitAt s
-line_end_stops s m e (Plain b) n p = let f = p.0 in let same : 10 ≡ b = cc (e, f) in let plain : is_plain 10 ≡ true = ap is_plain same ∙ p.1 in absurd (cc plain)
+line_end_stops s m e (Plain b) n p = let f = p.0 in let same : 10 ≡ b = cc (e, f) in let plain : is_plain 10
+    ≡ true = ap is_plain same ∙ p.1 in absurd (cc plain)
 line_end_stops s m e (Escape c v) n p = let f = p.0 in absurd (omega (arith, head_is 10 92 m (c ∷ n) (sym e ∙ f)))
-line_end_stops s m e (Octal digits) n p = let f = p.0 in absurd (omega (arith, head_is 10 92 m (digits ++ n) (sym e ∙ f)))
+line_end_stops s m e (Octal digits) n p = let f = p.0 in absurd
+    (omega (arith, head_is 10 92 m (digits ++ n) (sym e ∙ f)))
 
 end_stops : Stops UnitAt []
 end_stops (Plain b) n p = let f = p.0 in absurd (cc f)
@@ -62,8 +68,10 @@ open_stops (b ∷ []) (inr e) = slash_stops (b ∷ []) [] (ap (λ (x : ℕ). x �
     (λ c v n f is. absurd (cc f)) (λ digits n f run some small. some (sym run ∙ octal_run-nil))
 open_stops (b ∷ c ∷ more) (inl e) = line_end_stops (b ∷ c ∷ more) (c ∷ more) (ap (λ (x : ℕ). x ∷ c ∷ more) e)
 open_stops (b ∷ c ∷ more) (inr e) = slash_stops (b ∷ c ∷ more) (c ∷ more) (ap (λ (x : ℕ). x ∷ c ∷ more) e.0)
-    (λ c' v n f is. let same : 10 ≡ c' = let g = e.1 in cc (f, g) in let none : escaped 10 ≡ None = refl in none_is_none c' v (ap escaped (sym same) ∙ none) is)
-    (λ digits n f run some small. let octal : is_octal c ≡ false = ap is_octal e.1 in some (sym run ∙ octal_run-none c more octal))
+    (λ c' v n f is. let same : 10 ≡ c' = let g = e.1 in cc (f, g) in let none : escaped 10
+    ≡ None = refl in none_is_none c' v (ap escaped (sym same) ∙ none) is)
+    (λ digits n f run some small. let octal : is_octal c ≡ false = ap is_octal e.1 in some
+    (sym run ∙ octal_run-none c more octal))
 
 -- ---- the kinds are apart
 
@@ -87,7 +95,8 @@ open_slash c m (inl e) = absurd (omega arith)
 open_slash c m (inr e) = e.1
 
 bad_no_open : (s : List ℕ) → IsBadEscape s → IsOpenEnd s → ⊥
-bad_no_open s (inl (c, more, e, no_end, no_octal, none)) h = no_end (open_slash c more (subst (λ (t : List ℕ). IsOpenEnd t) e h))
+bad_no_open s (inl (c, more, e, no_end, no_octal, none)) h = no_end
+    (open_slash c more (subst (λ (t : List ℕ). IsOpenEnd t) e h))
 bad_no_open s (inr (more, e, large)) h =
     let empty = no_octals more (subst (λ (t : List ℕ). IsOpenEnd t) e h) in
     let zero_value : octal_value (octal_run more) ≡ 0 = ap octal_value empty in absurd (omega arith)
@@ -98,7 +107,8 @@ or_false : (x y : Bool) → (x || y) ≡ false → (x ≡ false) × (y ≡ false
 or_false true y e = absurd (cc e)
 or_false false y e = (refl, e)
 
-other_kind : (b : ℕ) → ((is_white b || is_word_byte b) || ((b == 34 || b == 35) || (b == 91 || b == 93))) ≡ false → byte_kind b ≡ 6
+other_kind : (b : ℕ) → ((is_white b || is_word_byte b) || ((b == 34 || b == 35) || (b == 91 || b == 93))) ≡ false
+    → byte_kind b ≡ 6
 other_kind b e =
     let h = or_false (is_white b || is_word_byte b) ((b == 34 || b == 35) || (b == 91 || b == 93)) e in
     let w = or_false (is_white b) (is_word_byte b) h.0 in
@@ -118,32 +128,44 @@ piece_below OpenBracket = omega arith
 piece_below CloseBracket = omega arith
 piece_below (Quoted bytes) = omega arith
 
-word_fault_stops : (rest : List ℕ) → StartsAs 1 rest → word_token (take_while is_word_byte rest) ≡ None → Stops PieceAt rest
-word_fault_stops rest at none (Word bytes token) m h = let e = h.2 in let f = ap word_token h.1 in absurd (cc (e, f, none))
-word_fault_stops rest at none p m h = let k = same_kind 1 (piece_kind p) rest at (starts p rest m h) in absurd (omega arith)
+word_fault_stops : (rest : List ℕ) → StartsAs 1 rest → word_token (take_while is_word_byte rest) ≡ None
+    → Stops PieceAt rest
+word_fault_stops rest at none (Word bytes token) m h = let e = h.2 in let f = ap word_token h.1 in absurd
+    (cc (e, f, none))
+word_fault_stops rest at none p m h = let k = same_kind 1 (piece_kind p) rest at (starts p rest m h) in absurd
+    (omega arith)
 
 -- only a string stands behind a quote
-quote_fault_stops : (inner rest : List ℕ) → rest ≡ 34 ∷ inner → ((bytes m : List ℕ) → UnitsAt bytes inner (34 ∷ m) → IsLawful bytes → ⊥) → Stops PieceAt rest
+quote_fault_stops : (inner rest : List ℕ) → rest ≡ 34 ∷ inner
+    → ((bytes m : List ℕ) → UnitsAt bytes inner (34 ∷ m) → IsLawful bytes → ⊥) → Stops PieceAt rest
 quote_fault_stops inner rest e never (Quoted bytes) m h =
     let f = h.1 in let same : h.0 ≡ inner = cc (e, f) in
     never bytes m (subst (λ (t : List ℕ). UnitsAt bytes t (34 ∷ m)) same h.2) h.3
-quote_fault_stops inner rest e never p m h = let k = same_kind 5 (piece_kind p) rest (34, inner, e, refl) (starts p rest m h) in absurd (omega arith)
+quote_fault_stops inner rest e never p m h = let k = same_kind 5 (piece_kind p) rest (34, inner, e, refl)
+    (starts p rest m h) in absurd (omega arith)
 
 pub fault_stops : (kind : PoKind) (rest : List ℕ) → FaultAt kind rest → Stops PieceAt rest
 fault_stops BadWord rest (inl (b, more, e, word, none)) = word_fault_stops rest (b, more, e, word_kind b word) none
-fault_stops BadWord rest (inr (b, more, e, other)) = λ p m h. let k = same_kind 6 (piece_kind p) rest (b, more, e, other_kind b other) (starts p rest m h) in absurd (omega (arith, piece_below p))
+fault_stops BadWord rest (inr (b, more, e, other)) = λ p m h. let k = same_kind 6 (piece_kind p) rest
+    (b, more, e, other_kind b other) (starts p rest m h) in absurd (omega (arith, piece_below p))
 fault_stops BadEscape rest (values, inner, stop, e, units, bad) = quote_fault_stops inner rest e
-    (λ bytes m h lawful. quote_no_bad m (subst (λ (t : List ℕ). IsBadEscape t) (UnitsAt-one values bytes inner stop (34 ∷ m) units h (bad_stops stop bad) (quote_stops m)).1 bad))
+    (λ bytes m h lawful. quote_no_bad m (subst (λ (t : List ℕ). IsBadEscape t)
+    (UnitsAt-one values bytes inner stop (34 ∷ m) units h (bad_stops stop bad) (quote_stops m)).1 bad))
 fault_stops OpenString rest (values, inner, stop, e, units, ends) = quote_fault_stops inner rest e
-    (λ bytes m h lawful. quote_no_open m (subst (λ (t : List ℕ). IsOpenEnd t) (UnitsAt-one values bytes inner stop (34 ∷ m) units h (open_stops stop ends) (quote_stops m)).1 ends))
+    (λ bytes m h lawful. quote_no_open m (subst (λ (t : List ℕ). IsOpenEnd t)
+    (UnitsAt-one values bytes inner stop (34 ∷ m) units h (open_stops stop ends) (quote_stops m)).1 ends))
 fault_stops BadText rest (values, inner, stop, e, units, unlawful) = quote_fault_stops inner rest e
-    (λ bytes m h lawful. unlawful (subst (λ (t : List ℕ). IsLawful t) (sym (UnitsAt-one values bytes inner (34 ∷ stop) (34 ∷ m) units h (quote_stops stop) (quote_stops m)).0) lawful))
+    (λ bytes m h lawful. unlawful (subst (λ (t : List ℕ). IsLawful t)
+    (sym (UnitsAt-one values bytes inner (34 ∷ stop) (34 ∷ m) units h (quote_stops stop) (quote_stops m)).0)
+    lawful))
 fault_stops _ rest h = absurd h
 
 -- a text that has a lexical fault spells no lexemes
-pub no_both : (text : List ℕ) (found : List Lexeme) (kind : PoKind) (line : ℕ) → Spells text found → HasFault text kind line → ⊥
+pub no_both : (text : List ℕ) (found : List Lexeme) (kind : PoKind) (line : ℕ) → Spells text found
+    → HasFault text kind line → ⊥
 no_both text found kind line p q =
-    let same = Chain-one PieceAt Piece-one p.pieces q.pieces text [] q.rest p.each q.each nothing_stops (fault_stops kind q.rest q.fault) in
+    let same = Chain-one PieceAt Piece-one p.pieces q.pieces text [] q.rest p.each q.each nothing_stops
+    (fault_stops kind q.rest q.fault) in
     no_fault_at_end kind (subst (λ (t : List ℕ). FaultAt kind t) (sym same.1) q.fault)
   where
     no_fault_at_end : (kind : PoKind) → FaultAt kind [] → ⊥
@@ -155,32 +177,44 @@ no_both text found kind line p q =
     no_fault_at_end _ h = absurd h
 
 -- and the place and the line of the fault are the only ones
-pub one_place : (text : List ℕ) (kind kind' : PoKind) (line line' : ℕ) → (p : HasFault text kind line) → (q : HasFault text kind' line') → (p.rest ≡ q.rest) × (line ≡ line')
+pub one_place : (text : List ℕ) (kind kind' : PoKind) (line line' : ℕ) → (p : HasFault text kind line)
+    → (q : HasFault text kind' line') → (p.rest ≡ q.rest) × (line ≡ line')
 one_place text kind kind' line line' p q =
-    let same = Chain-one PieceAt Piece-one p.pieces q.pieces text p.rest q.rest p.each q.each (fault_stops kind p.rest p.fault) (fault_stops kind' q.rest q.fault) in
+    let same = Chain-one PieceAt Piece-one p.pieces q.pieces text p.rest q.rest p.each q.each
+    (fault_stops kind p.rest p.fault) (fault_stops kind' q.rest q.fault) in
     (same.1, p.line_is ∙ ap line_of same.0 ∙ sym q.line_is)
 
 -- ---- and its kind
 
 word_no_quote : (rest inner : List ℕ) → FaultAt BadWord rest → rest ≡ 34 ∷ inner → ⊥
-word_no_quote rest inner (inl (b, more, e, word, none)) f = let k = same_kind 1 5 rest (b, more, e, word_kind b word) (34, inner, f, refl) in absurd (omega arith)
-word_no_quote rest inner (inr (b, more, e, other)) f = let k = same_kind 6 5 rest (b, more, e, other_kind b other) (34, inner, f, refl) in absurd (omega arith)
+word_no_quote rest inner (inl (b, more, e, word, none)) f = let k = same_kind 1 5 rest (b, more, e, word_kind b word)
+    (34, inner, f, refl) in absurd (omega arith)
+word_no_quote rest inner (inr (b, more, e, other)) f = let k = same_kind 6 5 rest (b, more, e, other_kind b other)
+    (34, inner, f, refl) in absurd (omega arith)
 
-stops_same : (rest values inner stop values' inner' stop' : List ℕ) → rest ≡ 34 ∷ inner → rest ≡ 34 ∷ inner' → UnitsAt values inner stop → UnitsAt values' inner' stop' → Stops UnitAt stop → Stops UnitAt stop' → stop ≡ stop'
+stops_same : (rest values inner stop values' inner' stop' : List ℕ) → rest ≡ 34 ∷ inner → rest ≡ 34 ∷ inner'
+    → UnitsAt values inner stop → UnitsAt values' inner' stop' → Stops UnitAt stop → Stops UnitAt stop' → stop ≡ stop'
 stops_same rest values inner stop values' inner' stop' e f p q s t =
-    let same : inner' ≡ inner = cc (e, f) in (UnitsAt-one values values' inner stop stop' p (subst (λ (x : List ℕ). UnitsAt values' x stop') same q) s t).1
+    let same : inner' ≡ inner = cc (e, f) in (UnitsAt-one values values' inner stop stop' p
+    (subst (λ (x : List ℕ). UnitsAt values' x stop') same q) s t).1
 
 escape_no_open : (rest : List ℕ) → FaultAt BadEscape rest → FaultAt OpenString rest → ⊥
 escape_no_open rest (values, inner, stop, e, units, bad) (values', inner', stop', f, units', ends) =
-    bad_no_open stop' (subst (λ (t : List ℕ). IsBadEscape t) (stops_same rest values inner stop values' inner' stop' e f units units' (bad_stops stop bad) (open_stops stop' ends)) bad) ends
+    bad_no_open stop' (subst (λ (t : List ℕ). IsBadEscape t)
+    (stops_same rest values inner stop values' inner' stop' e f units units' (bad_stops stop bad)
+    (open_stops stop' ends)) bad) ends
 
 escape_no_text : (rest : List ℕ) → FaultAt BadEscape rest → FaultAt BadText rest → ⊥
 escape_no_text rest (values, inner, stop, e, units, bad) (values', inner', stop', f, units', unlawful) =
-    quote_no_bad stop' (subst (λ (t : List ℕ). IsBadEscape t) (stops_same rest values inner stop values' inner' (34 ∷ stop') e f units units' (bad_stops stop bad) (quote_stops stop')) bad)
+    quote_no_bad stop' (subst (λ (t : List ℕ). IsBadEscape t)
+    (stops_same rest values inner stop values' inner' (34 ∷ stop') e f units units' (bad_stops stop bad)
+    (quote_stops stop')) bad)
 
 open_no_text : (rest : List ℕ) → FaultAt OpenString rest → FaultAt BadText rest → ⊥
 open_no_text rest (values, inner, stop, e, units, ends) (values', inner', stop', f, units', unlawful) =
-    quote_no_open stop' (subst (λ (t : List ℕ). IsOpenEnd t) (stops_same rest values inner stop values' inner' (34 ∷ stop') e f units units' (open_stops stop ends) (quote_stops stop')) ends)
+    quote_no_open stop' (subst (λ (t : List ℕ). IsOpenEnd t)
+    (stops_same rest values inner stop values' inner' (34 ∷ stop') e f units units' (open_stops stop ends)
+    (quote_stops stop')) ends)
 
 pub one_kind : (kind kind' : PoKind) (rest : List ℕ) → FaultAt kind rest → FaultAt kind' rest → kind ≡ kind'
 one_kind BadWord BadWord rest p q = refl
@@ -205,7 +239,8 @@ one_kind _ OpenString rest p q = absurd p
 one_kind _ BadText rest p q = absurd p
 one_kind kind _ rest p q = absurd q
 
-pub HasFault-one : (text : List ℕ) (kind kind' : PoKind) (line line' : ℕ) → HasFault text kind line → HasFault text kind' line' → (kind ≡ kind') × (line ≡ line')
+pub HasFault-one : (text : List ℕ) (kind kind' : PoKind) (line line' : ℕ) → HasFault text kind line
+    → HasFault text kind' line' → (kind ≡ kind') × (line ≡ line')
 HasFault-one text kind kind' line line' p q =
     let at = one_place text kind kind' line line' p q in
     (one_kind kind kind' q.rest (subst (λ (t : List ℕ). FaultAt kind t) at.0 p.fault) q.fault, at.1)

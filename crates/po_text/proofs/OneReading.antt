@@ -12,7 +12,8 @@ use Rattle.po_text.specs.Spelling.{is_word_byte, is_not_line_end, word_token, To
 use Rattle.po_text.proofs.Unique.{Stops, IsOneWay, Chain-one, UnitsAt-one, quote_stops}
 
 abbrev pub byte_kind : ℕ → ℕ
-byte_kind b = if is_white b then 0 else if is_word_byte b then 1 else if b == 35 then 2 else if b == 91 then 3 else if b == 93 then 4 else if b == 34 then 5 else 6
+byte_kind b = if is_white b then 0 else if is_word_byte b then 1 else if b == 35 then 2 else if b == 91 then 3 else if b
+    == 93 then 4 else if b == 34 then 5 else 6
 
 abbrev pub piece_kind : Piece → ℕ
 piece_kind (White b) = 0
@@ -37,10 +38,12 @@ word_no_white b e = elim (cases_Bool (is_white b)) [
 abbrev pub StartsAs : ℕ → List ℕ → Type 0
 StartsAs k s = (b : ℕ) × (more : List ℕ) × (s ≡ b ∷ more) × (byte_kind b ≡ k)
 
-word_starts : (bytes s m : List ℕ) (token : Token) → s ≡ bytes ++ m → take_while is_word_byte s ≡ bytes → word_token bytes ≡ Some token → StartsAs 1 s
+word_starts : (bytes s m : List ℕ) (token : Token) → s ≡ bytes ++ m → take_while is_word_byte s ≡ bytes
+    → word_token bytes ≡ Some token → StartsAs 1 s
 word_starts [] s m token e run is = let none : word_token [] ≡ None = refl in absurd (cc (is, none))
 word_starts (b ∷ bytes) s m token e run is =
-    let at : take_while is_word_byte (b ∷ (bytes ++ m)) ≡ b ∷ bytes = ap (λ (t : List ℕ). take_while is_word_byte t) (sym e) ∙ run in
+    let at : take_while is_word_byte (b ∷ (bytes ++ m)) ≡ b ∷ bytes = ap (λ (t : List ℕ). take_while is_word_byte t)
+    (sym e) ∙ run in
     let cut = sym (take_while-cons is_word_byte b (bytes ++ m)) ∙ at in
     elim (cases_Bool (is_word_byte b)) [
       | inl word ↦ (b, bytes ++ m, e, rw (word_no_white b word, word) refl)
@@ -56,12 +59,14 @@ starts CloseBracket s m h = (93, m, h, refl)
 starts (Quoted bytes) s m h = (34, h.0, h.1, refl)
 
 pub same_kind : (j k : ℕ) (s : List ℕ) → StartsAs j s → StartsAs k s → j ≡ k
-same_kind j k s (b, more, e, is) (b', more', e', is') = let same : b ≡ b' = cc in let f = ap byte_kind same in sym is ∙ f ∙ is'
+same_kind j k s (b, more, e, is) (b', more', e', is') = let same : b ≡ b' = cc in let f = ap byte_kind same in sym is
+    ∙ f ∙ is'
 
 kinds_differ : (p q : Piece) (s m n : List ℕ) → PieceAt p s m → PieceAt q s n → piece_kind p ≡ piece_kind q
 kinds_differ p q s m n h g = same_kind (piece_kind p) (piece_kind q) s (starts p s m h) (starts q s n g)
 
-run_one : (f : List ℕ → List ℕ) (a m b n s t : List ℕ) → s ≡ a ++ m → t ≡ b ++ n → s ≡ t → f s ≡ a → f t ≡ b → (a ≡ b) × (m ≡ n)
+run_one : (f : List ℕ → List ℕ) (a m b n s t : List ℕ) → s ≡ a ++ m → t ≡ b ++ n → s ≡ t → f s ≡ a → f t ≡ b → (a ≡ b)
+    × (m ≡ n)
 run_one f a m b n s t e g same x y =
     let eq : a ≡ b = sym x ∙ ap f same ∙ y in
     (eq, append_cancel_left a m n (sym e ∙ same ∙ g ∙ ap (λ (z : List ℕ). z ++ n) (sym eq)))
@@ -70,7 +75,8 @@ pub Piece-one : IsOneWay PieceAt
 Piece-one (White b) (White b') s m n h g = let e = h.0 in let f = g.0 in (cc (e, f), cc (e, f))
 Piece-one (Comment after) (Comment after') s m n h g =
     let e = h.0 in let f = g.0 in
-    let same = run_one (λ t. take_while is_not_line_end t) after m after' n (after ++ m) (after' ++ n) refl refl (cc (e, f)) h.1 g.1 in
+    let same = run_one (λ t. take_while is_not_line_end t) after m after' n (after ++ m) (after' ++ n) refl refl
+    (cc (e, f)) h.1 g.1 in
     (ap Comment same.0, same.1)
 Piece-one (Word bytes token) (Word bytes' token') s m n h g =
     let same = run_one (λ t. take_while is_word_byte t) bytes m bytes' n s s h.0 g.0 refl h.1 g.1 in
@@ -81,7 +87,8 @@ Piece-one OpenBracket OpenBracket s m n h g = (refl, cc (h, g))
 Piece-one CloseBracket CloseBracket s m n h g = (refl, cc (h, g))
 Piece-one (Quoted bytes) (Quoted bytes') s m n h g =
     let e = h.1 in let f = g.1 in let inner : h.0 ≡ g.0 = cc (e, f) in
-    let same = UnitsAt-one bytes bytes' h.0 (34 ∷ m) (34 ∷ n) h.2 (subst (λ (t : List ℕ). UnitsAt bytes' t (34 ∷ n)) (sym inner) g.2) (quote_stops m) (quote_stops n) in
+    let same = UnitsAt-one bytes bytes' h.0 (34 ∷ m) (34 ∷ n) h.2
+    (subst (λ (t : List ℕ). UnitsAt bytes' t (34 ∷ n)) (sym inner) g.2) (quote_stops m) (quote_stops n) in
     let rest = same.1 in
     (ap Quoted same.0, cc rest)
 Piece-one p q s m n h g = let k = kinds_differ p q s m n h g in absurd (omega arith)

@@ -47,7 +47,8 @@ number_taken k = rw (eq-eqb k k refl) refl
 
 index_ends : (k : ℕ) → run (Some (IndexNumber k)) (index_end k) ≡ Some (IndexedText k)
 unfolding step
-index_ends k = run-from (step (IndexNumber k) (Number k)) (Some (IndexClose k)) (Some (IndexedText k)) (Close ∷ form_end) (number_taken k) refl
+index_ends k = run-from (step (IndexNumber k) (Number k)) (Some (IndexClose k)) (Some (IndexedText k))
+    (Close ∷ form_end) (number_taken k) refl
 
 completes : (p : Place) → EndsWell (run (Some p) (completion p))
 unfolding step
@@ -67,7 +68,8 @@ completes (IndexedWord k) = (IndexedText k, tt, refl)
 completes (IndexedText k) = (IndexedText k, tt, refl)
 
 -- where two lists joined are two others joined, the first begins the third, or goes past it
-pub two_cuts : {A : Type 0} (xs ys a b : List A) → xs ++ ys ≡ a ++ b → ((c : List A) × (a ≡ xs ++ c)) ⊎ ((c : List A) × (xs ≡ a ++ c) × (c ++ ys ≡ b))
+pub two_cuts : {A : Type 0} (xs ys a b : List A) → xs ++ ys ≡ a ++ b → ((c : List A) × (a ≡ xs ++ c))
+    ⊎ ((c : List A) × (xs ≡ a ++ c) × (c ++ ys ≡ b))
 two_cuts [] ys a b e = inl (a, refl)
 two_cuts (x ∷ xs) ys [] b e = inr (x ∷ xs, refl, e)
 two_cuts {A} (x ∷ xs) ys (y ∷ a) b e =
@@ -88,13 +90,32 @@ unfolding sample
 sample_lawful = record { context = tt; id = (λ e. absurd (cc e), no_four_empty); part = λ e. absurd (cc e) }
 
 nothing_open : (xs ys : List Token) → xs ++ ys ≡ [] → IsOpenList xs
-nothing_open [] ys e = record { whole = []; front = []; last = sample; back = tokens_of sample; split = refl; each = tt; begins = refl; lawful = sample_lawful }
+nothing_open [] ys e = record {
+  whole = [];
+  front = [];
+  last = sample;
+  back = tokens_of sample;
+  split = refl;
+  each = tt;
+  begins = refl;
+  lawful = sample_lawful;
+}
 nothing_open (x ∷ xs) ys e = absurd (cc e)
 
-begins_open : (ds : List Derivation) (xs ys : List Token) → AllByRecursion IsLawfulEntry ds → xs ++ ys ≡ flat_map tokens_of ds → IsOpenList xs
+begins_open : (ds : List Derivation) (xs ys : List Token) → AllByRecursion IsLawfulEntry ds → xs ++ ys
+    ≡ flat_map tokens_of ds → IsOpenList xs
 begins_open [] xs ys all e = nothing_open xs ys e
 begins_open (d ∷ ds) xs ys all e = elim (two_cuts xs ys (tokens_of d) (flat_map tokens_of ds) e) [
-  | inl p ↦ record { whole = []; front = xs; last = d; back = p.0; split = refl; each = tt; begins = p.1; lawful = all.0 }
+  | inl p ↦ record {
+    whole = [];
+    front = xs;
+    last = d;
+    back = p.0;
+    split = refl;
+    each = tt;
+    begins = p.1;
+    lawful = all.0;
+  }
   | inr p ↦
       let o = begins_open ds p.0 ys all.1 p.2 in
       record {
@@ -102,7 +123,8 @@ begins_open (d ∷ ds) xs ys all e = elim (two_cuts xs ys (tokens_of d) (flat_ma
         front = o.front;
         last = o.last;
         back = o.back;
-        split = p.1 ∙ ap (λ (ts : List Token). tokens_of d ++ ts) o.split ∙ sym (append_assoc (tokens_of d) (flat_map tokens_of o.whole) o.front);
+        split = p.1 ∙ ap (λ (ts : List Token). tokens_of d ++ ts) o.split
+            ∙ sym (append_assoc (tokens_of d) (flat_map tokens_of o.whole) o.front);
         each = (all.0, o.each);
         begins = o.begins;
         lawful = o.lawful;
@@ -113,5 +135,6 @@ begins_open (d ∷ ds) xs ys all e = elim (two_cuts xs ys (tokens_of d) (flat_ma
 pub taken_open : (xs : List Token) (p : Place) → run (Some Start) xs ≡ Some p → IsOpenList xs
 taken_open xs p e =
     let end = completes p in
-    let whole = derived (xs ++ completion p) end.0 (run-over (Some Start) (Some p) (Some end.0) xs (completion p) e end.2) end.1 in
+    let whole = derived (xs ++ completion p) end.0 (run-over (Some Start) (Some p) (Some end.0) xs (completion p) e
+    end.2) end.1 in
     begins_open whole.0 xs (completion p) whole.1 whole.2

@@ -71,13 +71,26 @@ units_size [] s t e = omega (arith, ap length e)
 units_size (u ∷ units) s t (m, at, rest) = omega (arith, unit_size u s m at, units_size units m t rest)
 
 values_size : (values s t : List ℕ) → UnitsAt values s t → length values + length t ≤ length s
-values_size values s t h = omega (arith, units_size h.units s t h.each, ap length h.values_are, length-map h.units unit_value)
+values_size values s t h = omega (
+  arith,
+  units_size h.units s t h.each,
+  ap length h.values_are,
+  length-map h.units
+      unit_value,
+)
 
 -- a word that is tested for a keyword
-keyword_size : (word keyword : List ℕ) (t token : Token) (other : Option Token) → length keyword ≡ token_size t → (other ≡ Some token → token_size token ≤ length word)
+keyword_size : (word keyword : List ℕ) (t token : Token) (other : Option Token) → length keyword ≡ token_size t
+    → (other ≡ Some token → token_size token ≤ length word)
     → cond (bytes_eq word keyword) (Some t) other ≡ Some token → token_size token ≤ length word
-keyword_size word keyword t token other size more = cond_both (bytes_eq word keyword) (Some t) other (λ (o : Option Token). o ≡ Some token → token_size token ≤ length word)
-    (λ test e. let same : t ≡ token = cc e in omega (arith, ap token_size same, ap length ((bytes_eq-Decides word keyword).0 test)))
+keyword_size word keyword t token other size more = cond_both (bytes_eq word keyword) (Some t) other
+    (λ (o : Option Token). o ≡ Some token → token_size token ≤ length word)
+    (λ test e. let same : t ≡ token = cc e in omega (
+      arith,
+      ap token_size same,
+      ap length
+          ((bytes_eq-Decides word keyword).0 test),
+    ))
     (λ test. more)
 
 middle : (a b c : Bool) → (a && (b && c)) ≡ true → b ≡ true
@@ -99,14 +112,21 @@ word_size word token =
 
 -- ---- a text is at least as long as its tokens
 
-pieces_size : (pieces : List Piece) (line : ℕ) (marks : List Mark) (s t : List ℕ) → Chain PieceAt pieces s t → tokens_size (all_tokens (lexemes line marks pieces)) + length t ≤ length s
+pieces_size : (pieces : List Piece) (line : ℕ) (marks : List Mark) (s t : List ℕ) → Chain PieceAt pieces s t
+    → tokens_size (all_tokens (lexemes line marks pieces)) + length t ≤ length s
 pieces_size [] line marks s t e = omega (arith, ap length e)
-pieces_size (White b ∷ more) line marks s t (m, at, rest) = omega (arith, ap length at.0, pieces_size more (line + newlines (b ∷ [])) marks m t rest)
-pieces_size (Comment after ∷ more) line marks s t (m, at, rest) = omega (arith, ap length at.0, length-append after m, pieces_size more line (marks ++ comment_marks after) m t rest)
-pieces_size (Word bytes token ∷ more) line marks s t (m, at, rest) = omega (arith, ap length at.0, length-append bytes m, word_size bytes token at.2, pieces_size more line [] m t rest)
-pieces_size (OpenBracket ∷ more) line marks s t (m, at, rest) = omega (arith, ap length at, pieces_size more line [] m t rest)
-pieces_size (CloseBracket ∷ more) line marks s t (m, at, rest) = omega (arith, ap length at, pieces_size more line [] m t rest)
-pieces_size (Quoted bytes ∷ more) line marks s t (m, at, rest) = omega (arith, ap length at.1, values_size bytes at.0 (34 ∷ m) at.2, pieces_size more line [] m t rest)
+pieces_size (White b ∷ more) line marks s t (m, at, rest) = omega
+    (arith, ap length at.0, pieces_size more (line + newlines (b ∷ [])) marks m t rest)
+pieces_size (Comment after ∷ more) line marks s t (m, at, rest) = omega
+    (arith, ap length at.0, length-append after m, pieces_size more line (marks ++ comment_marks after) m t rest)
+pieces_size (Word bytes token ∷ more) line marks s t (m, at, rest) = omega
+    (arith, ap length at.0, length-append bytes m, word_size bytes token at.2, pieces_size more line [] m t rest)
+pieces_size (OpenBracket ∷ more) line marks s t (m, at, rest) = omega
+    (arith, ap length at, pieces_size more line [] m t rest)
+pieces_size (CloseBracket ∷ more) line marks s t (m, at, rest) = omega
+    (arith, ap length at, pieces_size more line [] m t rest)
+pieces_size (Quoted bytes ∷ more) line marks s t (m, at, rest) = omega
+    (arith, ap length at.1, values_size bytes at.0 (34 ∷ m) at.2, pieces_size more line [] m t rest)
 
 -- ---- an entry takes at most twice as much as its tokens
 
@@ -120,35 +140,76 @@ context_size (Some parts) = omega (arith, texts_size parts)
 
 indexed_size : (k : ℕ) (forms : List Strings) → forms_size (map concat forms) ≤ tokens_size (form_tokens k forms)
 indexed_size k [] = omega arith
-indexed_size k (form ∷ forms) = omega (arith, texts_size form, tokens_size-append (texts form) (form_tokens (k + 1) forms), indexed_size (k + 1) forms)
+indexed_size k (form ∷ forms) = omega (
+  arith,
+  texts_size form,
+  tokens_size-append (texts form)
+      (form_tokens (k + 1) forms),
+  indexed_size (k + 1) forms,
+)
 
 -- the keywords of a part are at least 5 bytes longer than the NULs of its strings
-part_size : (part : Part) → option_size (plural_of part) + forms_size (forms_of part) + 5 ≤ tokens_size (part_tokens part)
+part_size : (part : Part) → option_size (plural_of part) + forms_size (forms_of part) + 5 ≤ tokens_size
+    (part_tokens part)
 part_size (PlainPart form) = omega (arith, texts_size form)
-part_size (PluralPart plural forms) = omega (arith, texts_size plural, tokens_size-append (texts plural) (form_tokens 0 forms), indexed_size 0 forms)
+part_size (PluralPart plural forms) = omega (
+  arith,
+  texts_size plural,
+  tokens_size-append (texts plural)
+      (form_tokens 0 forms),
+  indexed_size 0 forms,
+)
 
-derivation_size : (line : ℕ) (marks : List Mark) (d : Derivation) → entry_size (entry_of line marks d) ≤ 2 * tokens_size (tokens_of d)
+derivation_size : (line : ℕ) (marks : List Mark) (d : Derivation)
+    → entry_size (entry_of line marks d) ≤ 2 * tokens_size (tokens_of d)
 derivation_size line marks d =
-    omega (arith, context_size d.context, texts_size d.id, part_size d.part, tokens_size-append (context_tokens d.context) (Id ∷ texts d.id ++ part_tokens d.part), tokens_size-append (texts d.id) (part_tokens d.part))
+    omega (
+      arith,
+      context_size d.context,
+      texts_size d.id,
+      part_size d.part,
+      tokens_size-append
+          (context_tokens d.context) (Id ∷ texts d.id ++ part_tokens d.part),
+      tokens_size-append (texts d.id)
+          (part_tokens d.part),
+    )
 
 -- ---- the entries of a text
 
-entry_at_size : (e : Entry) (now later : Remaining) → EntryAt e now later → entry_size e + 2 * tokens_size (all_tokens later.1) ≤ 2 * tokens_size (all_tokens now.1)
+entry_at_size : (e : Entry) (now later : Remaining) → EntryAt e now later
+    → entry_size e + 2 * tokens_size (all_tokens later.1) ≤ 2 * tokens_size (all_tokens now.1)
 entry_at_size e now later at =
     let front = all_tokens (at.first ∷ at.others) in
     let cut = map-append (λ (l : Lexeme). l.token) (at.first ∷ at.others) later.1 in
-    omega (arith, ap entry_size at.entry, derivation_size at.first.line (now.0 ++ at.first.marks) at.derivation, ap tokens_size at.tokens, ap (λ (ls : List Lexeme). tokens_size (all_tokens ls)) at.split, ap tokens_size cut, tokens_size-append front (all_tokens later.1))
+    omega (
+      arith,
+      ap entry_size at.entry,
+      derivation_size at.first.line (now.0 ++ at.first.marks) at.derivation,
+      ap
+          tokens_size at.tokens,
+      ap (λ (ls : List Lexeme). tokens_size (all_tokens ls)) at.split,
+      ap tokens_size cut,
+      tokens_size-append front (all_tokens later.1),
+    )
 
-chain_size : (entries : List Entry) (now later : Remaining) → Chain EntryAt entries now later → entries_size entries + 2 * tokens_size (all_tokens later.1) ≤ 2 * tokens_size (all_tokens now.1)
+chain_size : (entries : List Entry) (now later : Remaining) → Chain EntryAt entries now later
+    → entries_size entries + 2 * tokens_size (all_tokens later.1) ≤ 2 * tokens_size (all_tokens now.1)
 chain_size [] now later e = omega (arith, ap (λ (l : Remaining). tokens_size (all_tokens l.1)) e)
 chain_size (e ∷ es) now later (m, at, rest) = omega (arith, entry_at_size e now m at, chain_size es m later rest)
 
 reads_size : (text : List ℕ) (entries : List Entry) → Reads text entries → entries_size entries ≤ 2 * length text
 reads_size text entries (found, spells, (marks, derives)) =
-    omega (arith, chain_size entries ([], found) (marks, []) derives, pieces_size spells.pieces 1 [] text [] spells.each, ap (λ (ls : List Lexeme). tokens_size (all_tokens ls)) spells.found_are)
+    omega (
+      arith,
+      chain_size entries ([], found) (marks, []) derives,
+      pieces_size spells.pieces 1 [] text []
+          spells.each,
+      ap (λ (ls : List Lexeme). tokens_size (all_tokens ls)) spells.found_are,
+    )
 
 body_size : (text : List ℕ) → length (body text) ≤ length text
-body_size text = cond_both (bytes_eq (take 3 text) byte_order_mark) (drop 3 text) text (λ (t : List ℕ). length t ≤ length text) (λ e. omega (arith, length-drop 3 text)) (λ e. omega arith)
+body_size text = cond_both (bytes_eq (take 3 text) byte_order_mark) (drop 3 text) text
+    (λ (t : List ℕ). length t ≤ length text) (λ e. omega (arith, length-drop 3 text)) (λ e. omega arith)
 
 -- the entries of a text take at most twice as much
 pub gives_size : (text : List ℕ) (entries : List Entry) → Gives text entries → entries_size entries ≤ 2 * length text

@@ -1,4 +1,5 @@
--- A text has an outcome: it leads to ⊥ that it has none. On the way to ⊥ any case may be split, whether or not there is a test for it.
+-- A text has an outcome: it leads to ⊥ that it has none. On the way to ⊥ any case may be split, whether or not there
+-- is a test for it.
 use Rattle.std.proofs.Common.{◌≡◌, ℕ, zero, suc, ◌+◌, ◌<◌, ◌≤◌, true, List, [], ◌∷◌, ◌++◌, length, take}
 use Rattle.std.proofs.Common.{drop, Option, Some, None, refl, sym, ap, ◌∙◌, subst, arith, inl, inr, append_assoc}
 use Rattle.std.specs.Prelude.{◌⊎◌}
@@ -48,7 +49,8 @@ octal_next c more octal =
       | inr small ↦ inl (record {
         unit = Octal (octal_run text);
         rest = drop n text;
-        at = octal_unit (octal_run text) (drop n text) text (sym (take-append-drop n text) ∙ ap (λ (t : List ℕ). t ++ drop n text) front) refl (octal_some c more octal) small;
+        at = octal_unit (octal_run text) (drop n text) text (sym (take-append-drop n text)
+            ∙ ap (λ (t : List ℕ). t ++ drop n text) front) refl (octal_some c more octal) small;
         shorter = omega (arith, length-drop n text);
       })
     ]
@@ -74,7 +76,13 @@ unit_next (b ∷ more) = elim (cases_eq b 34) [
     | inl e ↦ subst (λ (x : ℕ). BeginsUnit (x ∷ more) ⊎ EndsUnits (x ∷ more)) (sym e) (slash_next more)
     | inr no_slash ↦ elim (cases_eq b 10) [
       | inl e ↦ inr (inr (inr (open_at_line_end b more e)))
-      | inr no_end ↦ inl (record { unit = Plain b; rest = more; at = (refl, rw (ne_eqb b 34 no_quote, ne_eqb b 92 no_slash, ne_eqb b 10 no_end) refl); shorter = omega arith })
+      | inr no_end ↦ inl (record {
+        unit = Plain b;
+        rest = more;
+        at =
+            (refl, rw (ne_eqb b 34 no_quote, ne_eqb b 92 no_slash, ne_eqb b 10 no_end) refl);
+        shorter = omega arith;
+      })
     ]
   ]
 ]
@@ -114,7 +122,15 @@ string_next : (more : List ℕ) → NoPiece (34 ∷ more) → NoFault (34 ∷ mo
 string_next more no_piece no_fault = let to = units_to (length more + 1) more (omega arith) in elim to.ends [
   | inl (after, e) ↦
       let units : UnitsAt to.values more (34 ∷ after) = subst (λ (t : List ℕ). UnitsAt to.values more t) e to.units in
-      no_fault BadText (to.values, more, after, refl, units, λ lawful. no_piece (Quoted to.values) after (omega (arith, to.falls, ap length e)) (more, refl, units, lawful))
+      no_fault BadText (
+        to.values,
+        more,
+        after,
+        refl,
+        units,
+        λ lawful. no_piece (Quoted to.values) after
+            (omega (arith, to.falls, ap length e)) (more, refl, units, lawful),
+      )
   | inr (inl bad) ↦ no_fault BadEscape (to.values, more, to.stop, refl, to.units, bad)
   | inr (inr ends) ↦ no_fault OpenString (to.values, more, to.stop, refl, to.units, ends)
 ]
@@ -133,7 +149,8 @@ word_next b more word no_piece no_fault =
     let some : 0 < n = rw word (omega arith) in
     elim (option_cases (word_token (take n text))) [
       | inl none ↦ no_fault BadWord (inl (b, more, refl, word, none))
-      | inr (token, is) ↦ no_piece (Word (take n text) token) (drop n text) (omega (arith, some, length-drop n text)) (sym (take-append-drop n text), refl, is)
+      | inr (token, is) ↦ no_piece (Word (take n text) token) (drop n text) (omega (arith, some, length-drop n text))
+          (sym (take-append-drop n text), refl, is)
     ]
 
 next_piece : (b : ℕ) (more : List ℕ) → NoPiece (b ∷ more) → NoFault (b ∷ more) → ⊥
@@ -142,14 +159,28 @@ next_piece b more no_piece no_fault = elim (cases_Bool (is_white b)) [
   | inr no_white ↦ elim (cases_Bool (is_word_byte b)) [
     | inl word ↦ word_next b more word no_piece no_fault
     | inr no_word ↦ elim (cases_eq b 34) [
-      | inl e ↦ string_next more (subst (λ (x : ℕ). NoPiece (x ∷ more)) e no_piece) (subst (λ (x : ℕ). NoFault (x ∷ more)) e no_fault)
+      | inl e ↦ string_next more (subst (λ (x : ℕ). NoPiece (x ∷ more)) e no_piece)
+          (subst (λ (x : ℕ). NoFault (x ∷ more)) e no_fault)
       | inr no_quote ↦ elim (cases_eq b 35) [
         | inl e ↦ comment_next more (subst (λ (x : ℕ). NoPiece (x ∷ more)) e no_piece)
         | inr no_sign ↦ elim (cases_eq b 91) [
           | inl e ↦ no_piece OpenBracket more (omega arith) (ap (λ (x : ℕ). x ∷ more) e)
           | inr no_open ↦ elim (cases_eq b 93) [
             | inl e ↦ no_piece CloseBracket more (omega arith) (ap (λ (x : ℕ). x ∷ more) e)
-            | inr no_close ↦ no_fault BadWord (inr (b, more, refl, rw (no_white, no_word, ne_eqb b 34 no_quote, ne_eqb b 35 no_sign, ne_eqb b 91 no_open, ne_eqb b 93 no_close) refl))
+            | inr no_close ↦ no_fault BadWord (inr (
+              b,
+              more,
+              refl,
+              rw (
+                no_white,
+                no_word,
+                ne_eqb b 34 no_quote,
+                ne_eqb b 35 no_sign,
+                ne_eqb b 91 no_open,
+                ne_eqb b 93
+                    no_close,
+              ) refl,
+            ))
           ]
         ]
       ]
@@ -158,13 +189,23 @@ next_piece b more no_piece no_fault = elim (cases_Bool (is_white b)) [
 ]
 
 -- from a place that pieces reach
-lexes_from : (n : ℕ) (text rest : List ℕ) (pieces : List Piece) → length rest < n → Chain PieceAt pieces text rest → ((found : List Lexeme) → Spells text found → ⊥) → ((kind : PoKind) (line : ℕ) → HasFault text kind line → ⊥) → ⊥
+lexes_from : (n : ℕ) (text rest : List ℕ) (pieces : List Piece) → length rest < n → Chain PieceAt pieces text rest
+    → ((found : List Lexeme) → Spells text found → ⊥) → ((kind : PoKind) (line : ℕ) → HasFault text kind line → ⊥) → ⊥
 lexes_from zero text rest pieces short each no_lexemes no_fault = omega arith
-lexes_from (suc n) text [] pieces short each no_lexemes no_fault = no_lexemes (lexemes 1 [] pieces) (record { pieces = pieces; each = each; found_are = refl })
+lexes_from (suc n) text [] pieces short each no_lexemes no_fault = no_lexemes (lexemes 1 [] pieces)
+    (record { pieces = pieces; each = each; found_are = refl })
 lexes_from (suc n) text (b ∷ more) pieces short each no_lexemes no_fault =
     next_piece b more
-    (λ p rest less at. lexes_from n text rest (pieces ++ p ∷ []) (omega (arith, short, less)) (Chain-append PieceAt pieces (p ∷ []) text (b ∷ more) rest each (rest, at, refl)) no_lexemes no_fault)
-    (λ kind fault. no_fault kind (line_of pieces) (record { pieces = pieces; rest = b ∷ more; each = each; fault = fault; line_is = refl }))
+    (λ p rest less at. lexes_from n text rest (pieces ++ p ∷ []) (omega (arith, short, less))
+    (Chain-append PieceAt pieces (p ∷ []) text (b ∷ more) rest each (rest, at, refl)) no_lexemes no_fault)
+    (λ kind fault. no_fault kind (line_of pieces) (record {
+      pieces = pieces;
+      rest = b
+          ∷ more;
+      each = each;
+      fault = fault;
+      line_is = refl;
+    }))
 
 -- ---- grammar
 
@@ -173,24 +214,42 @@ last_of x [] = ([], x, refl)
 last_of x (z ∷ xs) = let (ys, y, e) = last_of z xs in (x ∷ ys, y, ap (λ (t : List Lexeme). x ∷ t) e)
 
 -- an open list to its end
-ends : (found : List Lexeme) → IsOpenList (all_tokens found) → ((entries : List Entry) → Derives found entries → ⊥) → ((kind : PoKind) (line : ℕ) → HasGrammarFault found kind line → ⊥) → ⊥
+ends : (found : List Lexeme) → IsOpenList (all_tokens found) → ((entries : List Entry) → Derives found entries → ⊥)
+    → ((kind : PoKind) (line : ℕ) → HasGrammarFault found kind line → ⊥) → ⊥
 ends [] opened no_entries no_fault = no_entries [] ([], refl)
 ends (x ∷ xs) opened no_entries no_fault =
     let (before, last, e) = last_of x xs in
-    no_fault BadOrder last.line (inr (refl, record { before = before; x = last; split = e; still_open = opened; underived = no_entries; line_is = refl }))
+    no_fault BadOrder last.line (inr (
+      refl,
+      record {
+        before = before;
+        x = last;
+        split = e;
+        still_open = opened;
+        underived = no_entries;
+        line_is = refl;
+      },
+    ))
 
 -- from a place up to which the list is open
-derives_from : (found before after : List Lexeme) → found ≡ before ++ after → IsOpenList (all_tokens before) → ((entries : List Entry) → Derives found entries → ⊥) → ((kind : PoKind) (line : ℕ) → HasGrammarFault found kind line → ⊥) → ⊥
+derives_from : (found before after : List Lexeme) → found ≡ before ++ after → IsOpenList (all_tokens before)
+    → ((entries : List Entry) → Derives found entries → ⊥) →
+    ((kind : PoKind) (line : ℕ) → HasGrammarFault found kind line → ⊥) → ⊥
 derives_from found before [] split opened no_entries no_fault =
-    ends found (subst (λ (ls : List Lexeme). IsOpenList (all_tokens ls)) (sym (split ∙ append-nil before)) opened) no_entries no_fault
+    ends found (subst (λ (ls : List Lexeme). IsOpenList (all_tokens ls)) (sym (split ∙ append-nil before)) opened)
+    no_entries no_fault
 derives_from found before (x ∷ after) split opened no_entries no_fault =
-    let closed : IsOpenList (all_tokens (before ++ x ∷ [])) → ⊥ = λ o. derives_from found (before ++ x ∷ []) after (split ∙ sym (append_assoc before (x ∷ []) after)) o no_entries no_fault in
-    let refuse : (kind : PoKind) (line : ℕ) → ClosesBy kind before x line → ⊥ = λ kind line how. no_fault kind line (inl (record { before = before; x = x; after = after; split = split; open_before = opened; closed = closed; how = how })) in
+    let closed : IsOpenList (all_tokens (before ++ x ∷ [])) → ⊥ = λ o. derives_from found (before ++ x ∷ []) after
+    (split ∙ sym (append_assoc before (x ∷ []) after)) o no_entries no_fault in
+    let refuse : (kind : PoKind) (line : ℕ) → ClosesBy kind before x line
+    → ⊥ = λ kind line how. no_fault kind line (inl (record
+    { before = before; x = x; after = after; split = split; open_before = opened; closed = closed; how = how })) in
     refuse BadOrder x.line (λ n four. refuse BadText n four, λ index. refuse BadIndex x.line (index, refl), refl)
 
 -- ---- whole texts
 
-reads_some : (text : List ℕ) → ((entries : List Entry) → Reads text entries → ⊥) → ((kind : PoKind) (line : ℕ) → IsFaulty text kind line → ⊥) → ⊥
+reads_some : (text : List ℕ) → ((entries : List Entry) → Reads text entries → ⊥)
+    → ((kind : PoKind) (line : ℕ) → IsFaulty text kind line → ⊥) → ⊥
 reads_some text no_entries no_fault =
     lexes_from (length text + 1) text text [] (omega arith) refl
     (λ found spells.
@@ -199,7 +258,8 @@ reads_some text no_entries no_fault =
     (λ kind line fault. no_fault kind line (inr (found, spells, fault))))
     (λ kind line fault. no_fault kind line (inl fault))
 
-pub some_outcome : (text : List ℕ) → ((entries : List Entry) → Gives text entries → ⊥) → ((kind : PoKind) × (line : ℕ) × Refuses text kind line → ⊥) → ⊥
+pub some_outcome : (text : List ℕ) → ((entries : List Entry) → Gives text entries → ⊥)
+    → ((kind : PoKind) × (line : ℕ) × Refuses text kind line → ⊥) → ⊥
 some_outcome text no_entries no_refusal = elim (cases_lt 67108864 (length text)) [
   | inl large ↦ no_refusal (TooLarge, 0, (large, refl))
   | inr small ↦ no_refusal (
@@ -209,7 +269,8 @@ some_outcome text no_entries no_refusal = elim (cases_lt 67108864 (length text))
       size = small;
       undecodable = λ utf8.
           let readable : IsReadable text = record { size = small; utf8 = utf8 } in
-          reads_some (body text) (λ entries reads. no_entries entries (record { readable = readable; reads = reads })) (λ kind line fault. no_refusal (kind, line, faulty_refuses text kind line readable fault));
+          reads_some (body text) (λ entries reads. no_entries entries (record { readable = readable; reads = reads }))
+          (λ kind line fault. no_refusal (kind, line, faulty_refuses text kind line readable fault));
       line_is = refl;
     },
   )

@@ -37,7 +37,8 @@ opens_with_context FormText q e = (tt, sym (cc e))
 opens_with_context (IndexedText k) q e = (tt, sym (cc e))
 opens_with_context p q e = absurd (cc e)
 
-opens_with_id : (p q : Place) (c : Option (List ℕ)) → step p Id ≡ Some q → opens_id p ≡ Some c → IsBoundary p × (q ≡ IdWord) × (c ≡ None)
+opens_with_id : (p q : Place) (c : Option (List ℕ)) → step p Id ≡ Some q → opens_id p ≡ Some c → IsBoundary p
+    × (q ≡ IdWord) × (c ≡ None)
 unfolding step
 opens_with_id Start q c e f = (tt, sym (cc e), sym (cc f))
 opens_with_id FormText q c e f = (tt, sym (cc e), sym (cc f))
@@ -45,49 +46,62 @@ opens_with_id (IndexedText k) q c e f = (tt, sym (cc e), sym (cc f))
 opens_with_id ContextText q c e f = absurd (cc f)
 opens_with_id p q c e f = absurd (cc e)
 
-pub opens_to : (p : Place) (t : Token) (q : Place) (c : Option (List ℕ)) → step p t ≡ Some q → opens t p ≡ Some c → IsBoundary p × (((q ≡ ContextWord) × (c ≡ Some [])) ⊎ ((q ≡ IdWord) × (c ≡ None)))
+pub opens_to : (p : Place) (t : Token) (q : Place) (c : Option (List ℕ)) → step p t ≡ Some q → opens t p ≡ Some c
+    → IsBoundary p × (((q ≡ ContextWord) × (c ≡ Some [])) ⊎ ((q ≡ IdWord) × (c ≡ None)))
 opens_to p Context q c e f = let h = opens_with_context p q e in (h.0, inl (h.1, sym (cc f)))
 opens_to p Id q c e f = let h = opens_with_id p q c e f in (h.0, inr (h.1, h.2))
 opens_to p _ q c e f = absurd (cc f)
 
-view_context : (p : code.Place) (n m : ℕ) → place_view p n ≡ ContextWord → (place_view p n ≡ place_view p m) × (is_context_word p ≡ true)
+view_context : (p : code.Place) (n m : ℕ) → place_view p n ≡ ContextWord → (place_view p n ≡ place_view p m)
+    × (is_context_word p ≡ true)
 view_context places.ContextWord n m e = (refl, refl)
 view_context _ n m e = absurd (cc e)
 
-view_id : (p : code.Place) (n m : ℕ) → place_view p n ≡ IdWord → (place_view p n ≡ place_view p m) × (is_context_word p ≡ false)
+view_id : (p : code.Place) (n m : ℕ) → place_view p n ≡ IdWord → (place_view p n ≡ place_view p m)
+    × (is_context_word p ≡ false)
 view_id places.IdWord n m e = (refl, refl)
 view_id _ n m e = absurd (cc e)
 
 -- the place to which an opening token leads doesn't depend on the count
-pub opens_view : (p : Place) (t : Token) (q : code.Place) (n m : ℕ) (c : Option (List ℕ)) → step p t ≡ Some (place_view q n) → opens t p ≡ Some c → (place_view q n ≡ place_view q m) × (c ≡ some_if (is_context_word q) [])
+pub opens_view : (p : Place) (t : Token) (q : code.Place) (n m : ℕ) (c : Option (List ℕ)) → step p t
+    ≡ Some (place_view q n) → opens t p ≡ Some c → (place_view q n ≡ place_view q m)
+    × (c ≡ some_if (is_context_word q) [])
 opens_view p t q n m c e f = elim (opens_to p t (place_view q n) c e f).1 [
   | inl h ↦ let v = view_context q n m h.0 in (v.0, h.1 ∙ ap (λ (b : Bool). some_if b []) (sym v.1))
   | inr h ↦ let v = view_id q n m h.0 in (v.0, h.1 ∙ ap (λ (b : Bool). some_if b []) (sym v.1))
 ]
 
-pub feed_open : (p : Place) (t : Token) (q : code.Place) (n m : ℕ) (c : Option (List ℕ)) (done : List Draft) (d : Draft) (g : Flags) (k line : ℕ) → step p t ≡ Some (place_view q n) → opens t p ≡ Some c
-    → feed_at (at_state p done d g k) [] line t ≡ Some (at_state (place_view q m) (drafts_at p done d) (begin line g (some_if (is_context_word q) [])) no_flags line)
+pub feed_open : (p : Place) (t : Token) (q : code.Place) (n m : ℕ) (c : Option (List ℕ)) (done : List Draft) (d : Draft)
+    (g : Flags) (k line : ℕ) → step p t ≡ Some (place_view q n) → opens t p ≡ Some c
+    → feed_at (at_state p done d g k) [] line t ≡ Some (at_state (place_view q m) (drafts_at p done d)
+    (begin line g (some_if (is_context_word q) [])) no_flags line)
 feed_open p t q n m c done d g k line e f =
     let v = opens_view p t q n m c e f in
     ap (λ (o : Option Place). option_map (λ (x : Place). after (opens t p) (at_state p done d g k) [] line t x) o) e
     ∙ ap (λ (o : Option (Option (List ℕ))). Some (after o (at_state p done d g k) [] line t (place_view q n))) f
     ∙ ap (λ (x : Place). Some (at_state x (drafts_at p done d) (begin line g c) no_flags line)) v.0
-    ∙ ap (λ (x : Option (List ℕ)). Some (at_state (place_view q m) (drafts_at p done d) (begin line g x) no_flags line)) v.1
+    ∙ ap (λ (x : Option (List ℕ)). Some (at_state (place_view q m) (drafts_at p done d) (begin line g x) no_flags line))
+    v.1
 
 -- ---- a lexeme more
 
 -- the marks of the gap may be counted before the token
-feed_flags : (o : Option (Option (List ℕ))) (p : Place) (done : List Draft) (d : Draft) (f : Flags) (k : ℕ) (marks : List Mark) (line : ℕ) (t : Token) (q : Place)
+feed_flags : (o : Option (Option (List ℕ))) (p : Place) (done : List Draft) (d : Draft) (f : Flags) (k : ℕ)
+    (marks : List Mark) (line : ℕ) (t : Token) (q : Place)
     → after o (at_state p done d f k) marks line t q ≡ after o (at_state p done d (flags_over f marks) k) [] line t q
 feed_flags None p done d f k marks line t q = refl
 feed_flags (Some c) p done d f k marks line t q = refl
 
-feed_flags_at : (o : Option Place) (p : Place) (done : List Draft) (d : Draft) (f : Flags) (k : ℕ) (marks : List Mark) (line : ℕ) (t : Token)
-    → option_map (λ (q : Place). after (opens t p) (at_state p done d f k) marks line t q) o ≡ option_map (λ (q : Place). after (opens t p) (at_state p done d (flags_over f marks) k) [] line t q) o
+feed_flags_at : (o : Option Place) (p : Place) (done : List Draft) (d : Draft) (f : Flags) (k : ℕ) (marks : List Mark)
+    (line : ℕ) (t : Token)
+    → option_map (λ (q : Place). after (opens t p) (at_state p done d f k) marks line t q) o
+    ≡ option_map (λ (q : Place). after (opens t p) (at_state p done d (flags_over f marks) k) [] line t q) o
 feed_flags_at None p done d f k marks line t = refl
 feed_flags_at (Some q) p done d f k marks line t = ap Some (feed_flags (opens t p) p done d f k marks line t q)
 
-pub taken_push : (text : List ℕ) (b c : ℕ) (m t : List ℕ) (p : Place) (done : List Draft) (d : Draft) (f g : Flags) (k : ℕ) (s : State) (token : code_token.Token) (bytes : List ℕ) → HasTaken text b m (at_state p done d f k) → HasNext token bytes f b m g c t
+pub taken_push : (text : List ℕ) (b c : ℕ) (m t : List ℕ) (p : Place) (done : List Draft) (d : Draft) (f g : Flags)
+    (k : ℕ) (s : State) (token : code_token.Token) (bytes : List ℕ) → HasTaken text b m (at_state p done d f k)
+    → HasNext token bytes f b m g c t
     → feed_at (at_state p done d g k) [] c (token_view token bytes) ≡ Some s → HasTaken text c t s
 taken_push text b c m t p done d f g k s token bytes h next e =
     let l = lexeme_of token bytes c next.gap.pieces in
@@ -96,7 +110,8 @@ taken_push text b c m t p done d f g k s token bytes h next e =
       takes = lexemes_push h.found 1 b c text m t f g token bytes h.takes next;
       last = inr (h.found, l, refl, refl);
       fed = feeds-over (Some start) (Some (at_state p done d f k)) (Some s) h.found (l ∷ []) h.fed (
-          feed_flags_at (step p (token_view token bytes)) p done d f k (gap_marks next.gap.pieces) c (token_view token bytes)
+          feed_flags_at (step p (token_view token bytes)) p done d f k (gap_marks next.gap.pieces) c
+          (token_view token bytes)
           ∙ ap (λ (x : Flags). feed_at (at_state p done d x k) [] c (token_view token bytes)) (sym next.gap.flags)
           ∙ e);
     }
@@ -110,51 +125,93 @@ true_false : (b : Bool) {A : Type 0} → b ≡ true → b ≡ false → A
 true_false b e f = absurd (cc (e, f))
 
 -- the entry under way has its forms
-under_way_forms : (text : List ℕ) (entries : List Entry) (line : ℕ) (rest : List ℕ) (p : Place) (e : Entry) (f : Flags) (k : ℕ) → HasTaken text line rest (at_state p (map draft_of entries) (draft_of e) f k) → IsBoundary p → drafts_at p (map draft_of entries) (draft_of e) ≡ map draft_of entries ++ (draft_of e ∷ [])
+under_way_forms : (text : List ℕ) (entries : List Entry) (line : ℕ) (rest : List ℕ) (p : Place) (e : Entry) (f : Flags)
+    (k : ℕ) → HasTaken text line rest (at_state p (map draft_of entries) (draft_of e) f k) → IsBoundary p
+    → drafts_at p (map draft_of entries) (draft_of e) ≡ map draft_of entries ++ (draft_of e ∷ [])
     → HasItsForms e
 under_way_forms text entries line rest p e f k h b last =
     let (es, derives, is) = put_together h.found (at_state p (map draft_of entries) (draft_of e) f k) h.fed b in
-    let (other, same, forms) = split_last HasItsForms (map draft_of entries) (draft_of e) es (derived_forms es ([], h.found) (derives.0, []) derives.1) (sym last ∙ is) in
+    let (other, same, forms) = split_last HasItsForms (map draft_of entries) (draft_of e) es
+    (derived_forms es ([], h.found) (derives.0, []) derives.1) (sym last ∙ is) in
     subst HasItsForms (sym (draft_one e other same)) forms
 
 -- the next entry's opening keyword was taken
-pub opening_goes_on : (text : List ℕ) (entries : List Entry) (line : ℕ) (rest : List ℕ) (p : Place) (e : Entry) (f : Flags) (k : ℕ) (new : Parser)
-    → HasTaken text line rest (at_state p (map draft_of entries) (draft_of e) f k) → IsBoundary p → drafts_at p (map draft_of entries) (draft_of e) ≡ map draft_of entries ++ (draft_of e ∷ [])
-    → HasTakenTo text (map draft_of entries ++ (draft_of e ∷ [])) (pending new) new → new.finished ≡ false → ParsesOn true text entries e new
+pub opening_goes_on : (text : List ℕ) (entries : List Entry) (line : ℕ) (rest : List ℕ) (p : Place) (e : Entry)
+    (f : Flags) (k : ℕ) (new : Parser)
+    → HasTaken text line rest (at_state p (map draft_of entries) (draft_of e) f k) → IsBoundary p
+    → drafts_at p (map draft_of entries) (draft_of e) ≡ map draft_of entries ++ (draft_of e ∷ [])
+    → HasTakenTo text (map draft_of entries ++ (draft_of e ∷ [])) (pending new) new → new.finished ≡ false
+    → ParsesOn true text entries e new
 opening_goes_on text entries line rest p e f k new h b last taken finished = (
   under_way_forms text entries line rest p e f k h b last,
   record {
-    under_way = λ not_finished. subst (λ (x : List Draft). HasTakenTo text x (pending new) new) (sym (snoc_drafts entries e (draft_of e) refl)) taken;
+    under_way = λ not_finished. subst (λ (x : List Draft). HasTakenTo text x (pending new) new)
+        (sym (snoc_drafts entries e (draft_of e) refl)) taken;
     at_end = λ done. true_false new.finished done finished;
   },
 )
 
-at_end_read : (text : List ℕ) (entries : List Entry) (r : Parser) → r.finished ≡ true → Reads text entries → HasParsed text entries r
-at_end_read text entries r done reads = record { under_way = λ not_done. true_false r.finished done not_done; at_end = λ _. reads }
+at_end_read : (text : List ℕ) (entries : List Entry) (r : Parser) → r.finished ≡ true → Reads text entries
+    → HasParsed text entries r
+at_end_read text entries r done reads = record {
+  under_way = λ not_done. true_false r.finished done not_done;
+  at_end = λ
+      _. reads;
+}
 
 -- the text ended where it may
-pub end_goes_on : (ended : Bool) (text : List ℕ) (entries : List Entry) (line : ℕ) (rest : List ℕ) (old new : Parser) (e : Entry) (f : Flags) (k : ℕ)
-    → HasTaken text line rest (at_state (place_view old.place old.count) (map draft_of entries) (draft_of e) f k) → HasEnd f line rest → EndsRight ended old → new.finished ≡ true → ParsesOn ended text entries e new
+pub end_goes_on : (ended : Bool) (text : List ℕ) (entries : List Entry) (line : ℕ) (rest : List ℕ) (old new : Parser)
+    (e : Entry) (f : Flags) (k : ℕ)
+    → HasTaken text line rest (at_state (place_view old.place old.count) (map draft_of entries) (draft_of e) f k)
+    → HasEnd f line rest → EndsRight ended old → new.finished ≡ true → ParsesOn ended text entries e new
 end_goes_on true text entries line rest old new e f k h end (b, last) done =
     let p = place_view old.place old.count in
     let (es, derives, is) = put_together h.found (at_state p (map draft_of entries) (draft_of e) f k) h.fed b in
-    let all : es ≡ entries ++ (e ∷ []) = drafts_one es (entries ++ (e ∷ [])) (sym is ∙ last (map draft_of entries) (draft_of e) ∙ sym (snoc_drafts entries e (draft_of e) refl)) in
-    let reads : Reads text (entries ++ (e ∷ [])) = (h.found, lexemes_end h.found line text rest f h.takes end, subst (λ (x : List Entry). Derives h.found x) all derives) in
-    (under_way_forms text entries line rest p e f k h b (last (map draft_of entries) (draft_of e)), at_end_read text (entries ++ (e ∷ [])) new done reads)
+    let all : es ≡ entries ++ (e ∷ []) = drafts_one es (entries ++ (e ∷ []))
+    (sym is ∙ last (map draft_of entries) (draft_of e) ∙ sym (snoc_drafts entries e (draft_of e) refl)) in
+    let reads : Reads text (entries ++ (e ∷ [])) = (
+      h.found,
+      lexemes_end h.found line text rest f h.takes end,
+      subst
+          (λ (x : List Entry). Derives h.found x) all derives,
+    ) in (
+      under_way_forms text entries line rest p e f k h b (last (map draft_of entries) (draft_of e)),
+      at_end_read text
+          (entries ++ (e ∷ [])) new done reads,
+    )
 end_goes_on false text entries line rest old new e f k h end empty done =
     let p = place_view old.place old.count in
-    let (es, derives, is) = put_together h.found (at_state p (map draft_of entries) (draft_of e) f k) h.fed (subst (λ (x : Place). IsBoundary x) (sym empty) tt) in
-    let all : es ≡ entries = drafts_one es entries (sym is ∙ ap (λ (x : Place). drafts_at x (map draft_of entries) (draft_of e)) empty) in
-    let reads : Reads text entries = (h.found, lexemes_end h.found line text rest f h.takes end, subst (λ (x : List Entry). Derives h.found x) all derives) in
+    let (es, derives, is) = put_together h.found (at_state p (map draft_of entries) (draft_of e) f k) h.fed
+    (subst (λ (x : Place). IsBoundary x) (sym empty) tt) in
+    let all : es ≡ entries = drafts_one es entries (sym is ∙ ap
+    (λ (x : Place). drafts_at x (map draft_of entries) (draft_of e)) empty) in
+    let reads : Reads text entries = (
+      h.found,
+      lexemes_end h.found line text rest f h.takes end,
+      subst
+          (λ (x : List Entry). Derives h.found x) all derives,
+    ) in
     (reads, at_end_read text entries new done reads)
 
 -- the text ended too early
-pub end_is_faulty : (text : List ℕ) (line : ℕ) (rest : List ℕ) (p : Place) (done : List Draft) (d : Draft) (f : Flags) (k : ℕ) (kind : PoKind) (at : ℕ) → HasTaken text line rest (at_state p done d f k) → HasEnd f line rest → ¬ IsBoundary p → kind ≡ BadOrder → at ≡ line → IsFaulty text kind at
+pub end_is_faulty : (text : List ℕ) (line : ℕ) (rest : List ℕ) (p : Place) (done : List Draft) (d : Draft) (f : Flags)
+    (k : ℕ) (kind : PoKind) (at : ℕ) → HasTaken text line rest (at_state p done d f k) → HasEnd f line rest
+    → ¬ IsBoundary p → kind ≡ BadOrder → at ≡ line → IsFaulty text kind at
 end_is_faulty text line rest p done d f k kind at h end inside is line_is =
-    inr (h.found, lexemes_end h.found line text rest f h.takes end, inr (is, subst (λ (x : ℕ). EndsEarly h.found x) (sym line_is) (ends_early h.found (at_state p done d f k) line h.fed inside h.last)))
+    inr (
+      h.found,
+      lexemes_end h.found line text rest f h.takes end,
+      inr (
+        is,
+        subst (λ (x : ℕ). EndsEarly h.found x) (sym line_is)
+            (ends_early h.found (at_state p done d f k) line h.fed inside h.last),
+      ),
+    )
 
 -- a token can't stand here
-pub taken_refused : (text : List ℕ) (b c : ℕ) (m t : List ℕ) (p : Place) (done : List Draft) (d : Draft) (f g : Flags) (k : ℕ) (token : code_token.Token) (bytes : List ℕ) → HasTaken text b m (at_state p done d f k) → HasNext token bytes f b m g c t
+pub taken_refused : (text : List ℕ) (b c : ℕ) (m t : List ℕ) (p : Place) (done : List Draft) (d : Draft) (f g : Flags)
+    (k : ℕ) (token : code_token.Token) (bytes : List ℕ) → HasTaken text b m (at_state p done d f k)
+    → HasNext token bytes f b m g c t
     → step p (token_view token bytes) ≡ None → Refused text c t p k (token_view token bytes)
 taken_refused text b c m t p done d f g k token bytes h next e = record {
   found = h.found;
@@ -169,12 +226,22 @@ taken_refused text b c m t p done d f g k token bytes h next e = record {
   refused = e;
 }
 
-pub refused_is_faulty : (text : List ℕ) (line : ℕ) (rest : List ℕ) (p : Place) (k : ℕ) (t : Token) (fault : PoFault) → (h : Refused text line rest p k t) → (more : List Lexeme) → Spells text ((h.found ++ (h.x ∷ [])) ++ more) → fault ≡ refusal t p line k → IsFaulty text fault.kind fault.line
+pub refused_is_faulty : (text : List ℕ) (line : ℕ) (rest : List ℕ) (p : Place) (k : ℕ) (t : Token) (fault : PoFault)
+    → (h : Refused text line rest p k t) → (more : List Lexeme) → Spells text ((h.found ++ (h.x ∷ [])) ++ more) → fault
+    ≡ refusal t p line k → IsFaulty text fault.kind fault.line
 refused_is_faulty text line rest p k t fault h more spells is =
     let token = h.token in
     let place = h.place in
-    let at : step h.s.place h.x.token ≡ None = ap (λ (x : Token). step h.s.place x) h.token ∙ ap (λ (x : Place). step x t) h.place ∙ h.refused in
+    let at : step h.s.place h.x.token ≡ None = ap (λ (x : Token). step h.s.place x) h.token
+    ∙ ap (λ (x : Place). step x t) h.place ∙ h.refused in
     let closes = refused_closes h.found more h.x h.s h.fed at in
     let same : refusal h.x.token h.s.place h.x.line h.s.keyword ≡ fault
-    = ap (λ (x : Token). refusal x h.s.place h.x.line h.s.keyword) h.token ∙ ap (λ (x : Place). refusal t x h.x.line h.s.keyword) h.place ∙ ap (λ (x : ℕ). refusal t p x h.s.keyword) h.line_is ∙ ap (λ (x : ℕ). refusal t p line x) h.keyword ∙ sym is in
-    inr (h.found ++ (h.x ∷ more), subst (λ (x : List Lexeme). Spells text x) (append_assoc h.found (h.x ∷ []) more) spells, inl (subst (λ (x : PoFault). ClosesAt (h.found ++ (h.x ∷ more)) x.kind x.line) same closes))
+    = ap (λ (x : Token). refusal x h.s.place h.x.line h.s.keyword) h.token
+    ∙ ap (λ (x : Place). refusal t x h.x.line h.s.keyword) h.place
+    ∙ ap (λ (x : ℕ). refusal t p x h.s.keyword) h.line_is ∙ ap (λ (x : ℕ). refusal t p line x) h.keyword ∙ sym is in
+    inr (
+      h.found ++ (h.x ∷ more),
+      subst (λ (x : List Lexeme). Spells text x) (append_assoc h.found (h.x ∷ []) more)
+          spells,
+      inl (subst (λ (x : PoFault). ClosesAt (h.found ++ (h.x ∷ more)) x.kind x.line) same closes),
+    )

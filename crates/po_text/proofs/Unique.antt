@@ -16,13 +16,15 @@ abbrev pub IsOneWay : {A S : Type 0} → (A → S → S → Type 0) → Type 0
 IsOneWay {A} {S} Step = (a b : A) (s m n : S) → Step a s m → Step b s n → (a ≡ b) × (m ≡ n)
 
 -- where each step is the only one, a chain that can't go on is the only one
-pub Chain-one : {A S : Type 0} (Step : A → S → S → Type 0) → IsOneWay Step → (xs ys : List A) (s t u : S) → Chain Step xs s t → Chain Step ys s u → Stops Step t → Stops Step u → (xs ≡ ys) × (t ≡ u)
+pub Chain-one : {A S : Type 0} (Step : A → S → S → Type 0) → IsOneWay Step → (xs ys : List A) (s t u : S)
+    → Chain Step xs s t → Chain Step ys s u → Stops Step t → Stops Step u → (xs ≡ ys) × (t ≡ u)
 Chain-one Step one [] [] s t u e f stop stop' = (refl, sym e ∙ f)
 Chain-one Step one [] (y ∷ ys) s t u e (n, step, more) stop stop' = absurd (stop y n (subst (λ z. Step y z n) e step))
 Chain-one Step one (x ∷ xs) [] s t u (m, step, more) f stop stop' = absurd (stop' x m (subst (λ z. Step x z m) f step))
 Chain-one {A} {S} Step one (x ∷ xs) (y ∷ ys) s t u (m, step, more) (n, step', more') stop stop' =
     let same = one x y s m n step step' in
-    let rest = Chain-one Step one xs ys m t u more (subst (λ (z : S). Chain Step ys z u) (sym same.1) more') stop stop' in
+    let rest = Chain-one Step one xs ys m t u more (subst (λ (z : S). Chain Step ys z u) (sym same.1) more') stop stop'
+    in
     (cc (same.0, rest.0), rest.1)
 
 -- ---- units of a string
@@ -46,19 +48,33 @@ pub octal_no_escape : (c : ℕ) → is_octal c ≡ true → escaped c ≡ None
 octal_no_escape c e =
     let low : 48 ≤ c = omega (arith, octal_low c e) in
     let high : c ≤ 55 = omega (arith, octal_high c e) in
-    rw (ne_eqb c 110 (λ h. omega arith), ne_eqb c 116 (λ h. omega arith), ne_eqb c 98 (λ h. omega arith), ne_eqb c 114 (λ h. omega arith), ne_eqb c 102 (λ h. omega arith), ne_eqb c 118 (λ h. omega arith), ne_eqb c 97 (λ h. omega arith), ne_eqb c 92 (λ h. omega arith), ne_eqb c 34 (λ h. omega arith)) refl
+    rw (
+      ne_eqb c 110 (λ h. omega arith),
+      ne_eqb c 116 (λ h. omega arith),
+      ne_eqb c 98 (λ h. omega arith),
+      ne_eqb c 114
+          (λ h. omega arith),
+      ne_eqb c 102 (λ h. omega arith),
+      ne_eqb c 118 (λ h. omega arith),
+      ne_eqb c 97
+          (λ h. omega arith),
+      ne_eqb c 92 (λ h. omega arith),
+      ne_eqb c 34 (λ h. omega arith),
+    ) refl
 
 pub octal_run-none : (c : ℕ) (m : List ℕ) → is_octal c ≡ false → octal_run (c ∷ m) ≡ []
 unfolding octal_run
 octal_run-none c m e = rw e refl
 
-escape_no_octal : (c v : ℕ) (m digits n : List ℕ) → escaped c ≡ Some v → c ∷ m ≡ digits ++ n → octal_run (digits ++ n) ≡ digits → digits ≢ [] → ⊥
+escape_no_octal : (c v : ℕ) (m digits n : List ℕ) → escaped c ≡ Some v → c ∷ m ≡ digits ++ n → octal_run (digits ++ n)
+    ≡ digits → digits ≢ [] → ⊥
 escape_no_octal c v m digits n e split run some = elim (cases_Bool (is_octal c)) [
   | inl is ↦ let none = octal_no_escape c is in absurd (cc (e, none))
   | inr not_octal ↦ some (sym run ∙ sym (ap octal_run split) ∙ octal_run-none c m not_octal)
 ]
 
-octal_one : (digits m digits' n : List ℕ) → digits ++ m ≡ digits' ++ n → octal_run (digits ++ m) ≡ digits → octal_run (digits' ++ n) ≡ digits' → (digits ≡ digits') × (m ≡ n)
+octal_one : (digits m digits' n : List ℕ) → digits ++ m ≡ digits' ++ n → octal_run (digits ++ m) ≡ digits
+    → octal_run (digits' ++ n) ≡ digits' → (digits ≡ digits') × (m ≡ n)
 octal_one digits m digits' n e run run' =
     let same : digits ≡ digits' = sym run ∙ ap octal_run e ∙ run' in
     (same, append_cancel_left digits m n (e ∙ ap (λ (d : List ℕ). d ++ n) (sym same)))
@@ -72,9 +88,11 @@ Unit-one (Escape c v) (Escape c' v') s m n p q =
     let e = p.0 in let f = q.0 in let same : c ≡ c' = cc (e, f) in
     let value : v ≡ v' = let g = p.1 in let h = q.1 in let k = ap escaped same in cc (g, h, k) in
     (cc (same, value), cc (e, f))
-Unit-one (Escape c v) (Octal digits) s m n p q = let e = p.0 in let f = q.0 in absurd (escape_no_octal c v m digits n p.1 (cc (e, f)) q.1 q.2)
+Unit-one (Escape c v) (Octal digits) s m n p q = let e = p.0 in let f = q.0 in absurd
+    (escape_no_octal c v m digits n p.1 (cc (e, f)) q.1 q.2)
 Unit-one (Octal digits) (Plain b) s m n p q = absurd (plain_no_slash b s n (digits ++ m) q.0 q.1 p.0)
-Unit-one (Octal digits) (Escape c v) s m n p q = let e = p.0 in let f = q.0 in absurd (escape_no_octal c v n digits m q.1 (cc (e, f)) p.1 p.2)
+Unit-one (Octal digits) (Escape c v) s m n p q = let e = p.0 in let f = q.0 in absurd
+    (escape_no_octal c v n digits m q.1 (cc (e, f)) p.1 p.2)
 Unit-one (Octal digits) (Octal digits') s m n p q =
     let e = p.0 in let f = q.0 in
     let same = octal_one digits m digits' n (cc (e, f)) p.1 q.1 in
@@ -83,11 +101,13 @@ Unit-one (Octal digits) (Octal digits') s m n p q =
 -- ---- where no unit stands
 
 pub quote_stops : (m : List ℕ) → Stops UnitAt (34 ∷ m)
-quote_stops m (Plain b) n p = let e = p.0 in let same : 34 ≡ b = cc e in let plain : is_plain 34 ≡ true = ap is_plain same ∙ p.1 in absurd (cc plain)
+quote_stops m (Plain b) n p = let e = p.0 in let same : 34 ≡ b = cc e in let plain : is_plain 34
+    ≡ true = ap is_plain same ∙ p.1 in absurd (cc plain)
 quote_stops m (Escape c v) n p = let e = p.0 in absurd (omega (arith, head_is 34 92 m (c ∷ n) e))
 quote_stops m (Octal digits) n p = let e = p.0 in absurd (omega (arith, head_is 34 92 m (digits ++ n) e))
 
-pub UnitsAt-one : (values values' s t u : List ℕ) → UnitsAt values s t → UnitsAt values' s u → Stops UnitAt t → Stops UnitAt u → (values ≡ values') × (t ≡ u)
+pub UnitsAt-one : (values values' s t u : List ℕ) → UnitsAt values s t → UnitsAt values' s u → Stops UnitAt t
+    → Stops UnitAt u → (values ≡ values') × (t ≡ u)
 UnitsAt-one values values' s t u p q stop stop' =
     let same = Chain-one UnitAt Unit-one p.units q.units s t u p.each q.each stop stop' in
     (p.values_are ∙ ap (λ (us : List StringUnit). map unit_value us) same.0 ∙ sym q.values_are, same.1)

@@ -14,8 +14,14 @@ use Rattle.std.proofs.lemmas.List.{map-append, length-take, take-take, take_min}
 pub UnitsAt-nil : (text : List ℕ) → UnitsAt [] text text
 UnitsAt-nil text = record { units = []; each = refl; values_are = refl }
 
-pub UnitsAt-cons : (u : StringUnit) (values s m t : List ℕ) → UnitAt u s m → UnitsAt values m t → UnitsAt (unit_value u ∷ values) s t
-UnitsAt-cons u values s m t one more = record { units = u ∷ more.units; each = (m, one, more.each); values_are = ap (λ (vs : List ℕ). unit_value u ∷ vs) more.values_are }
+pub UnitsAt-cons : (u : StringUnit) (values s m t : List ℕ) → UnitAt u s m → UnitsAt values m t
+    → UnitsAt (unit_value u ∷ values) s t
+UnitsAt-cons u values s m t one more = record {
+  units = u ∷ more.units;
+  each = (m, one, more.each);
+  values_are = ap
+      (λ (vs : List ℕ). unit_value u ∷ vs) more.values_are;
+}
 
 pub UnitsAt-append : (a b s m t : List ℕ) → UnitsAt a s m → UnitsAt b m t → UnitsAt (a ++ b) s t
 UnitsAt-append a b s m t p q = record {
@@ -25,11 +31,13 @@ UnitsAt-append a b s m t p q = record {
 }
 
 -- plain bytes are units of themselves
-pub plain_units : (k : ℕ) (text : List ℕ) → k ≤ length text → ((i : ℕ) → i < k → is_plain (get_or text i 0) ≡ true) → UnitsAt (take k text) text (drop k text)
+pub plain_units : (k : ℕ) (text : List ℕ) → k ≤ length text → ((i : ℕ) → i < k → is_plain (get_or text i 0) ≡ true)
+    → UnitsAt (take k text) text (drop k text)
 plain_units zero text le plain = UnitsAt-nil text
 plain_units (suc k) [] le plain = absurd (omega arith)
 plain_units (suc k) (b ∷ text) le plain =
-    UnitsAt-cons (Plain b) (take k text) (b ∷ text) text (drop k text) (refl, plain 0 (omega arith)) (plain_units k text (omega arith) (λ i lt. plain (suc i) (omega arith)))
+    UnitsAt-cons (Plain b) (take k text) (b ∷ text) text (drop k text) (refl, plain 0 (omega arith))
+    (plain_units k text (omega arith) (λ i lt. plain (suc i) (omega arith)))
 
 -- ---- octal digits
 
@@ -47,9 +55,14 @@ pub octal_some : (b : ℕ) (more : List ℕ) → is_octal b ≡ true → 0 < len
 unfolding octal_run
 octal_some b more e = rw (e, one-add) (omega arith)
 
-pub octal_unit : (digits rest text : List ℕ) → text ≡ digits ++ rest → digits ≡ octal_run text → 0 < length (octal_run text) → octal_value digits ≤ 255 → UnitAt (Octal digits) (92 ∷ text) rest
-octal_unit digits rest text split is some small =
-    (ap (λ (t : List ℕ). 92 ∷ t) split, rw (← split) (sym is), (λ none. let e : length (octal_run text) ≡ 0 = rw (← is, none) refl in absurd (omega arith)), small)
+pub octal_unit : (digits rest text : List ℕ) → text ≡ digits ++ rest → digits ≡ octal_run text
+    → 0 < length (octal_run text) → octal_value digits ≤ 255 → UnitAt (Octal digits) (92 ∷ text) rest
+octal_unit digits rest text split is some small = (
+  ap (λ (t : List ℕ). 92 ∷ t) split,
+  rw (← split) (sym is),
+  (λ none. let e : length (octal_run text) ≡ 0 = rw (← is, none) refl in absurd (omega arith)),
+  small,
+)
 
 -- ---- what a loop has taken
 
@@ -64,22 +77,28 @@ pub TakesUnits-run : (out run s t : List ℕ) → UnitsAt run s t → TakesUnits
 TakesUnits-run out run s t p = record { values = run; units = p; grown = refl }
 
 pub TakesUnits-unit : (out s t : List ℕ) (value : ℕ) → ReadsUnit s value t → TakesUnits out (out ++ value ∷ []) s t
-TakesUnits-unit out s t value (u, at, is) = TakesUnits-run out (value ∷ []) s t (rw (← is) (UnitsAt-cons u [] s t t at (UnitsAt-nil t)))
+TakesUnits-unit out s t value (u, at, is) = TakesUnits-run out (value ∷ []) s t
+    (rw (← is) (UnitsAt-cons u [] s t t at (UnitsAt-nil t)))
 
-pub goes_run : (a b new run s m t : List ℕ) → TakesUnits a b s m → UnitsAt run m t → new ≡ b ++ run → TakesUnits a new s t
+pub goes_run : (a b new run s m t : List ℕ) → TakesUnits a b s m → UnitsAt run m t → new ≡ b ++ run
+    → TakesUnits a new s t
 goes_run a b new run s m t p q e = rw e (TakesUnits-append a b (b ++ run) s m t p (TakesUnits-run b run m t q))
 
-pub goes_unit : (a b new s m t : List ℕ) (value : ℕ) → TakesUnits a b s m → ReadsUnit m value t → new ≡ b ++ value ∷ [] → TakesUnits a new s t
-goes_unit a b new s m t value p q e = rw e (TakesUnits-append a b (b ++ value ∷ []) s m t p (TakesUnits-unit b m t value q))
+pub goes_unit : (a b new s m t : List ℕ) (value : ℕ) → TakesUnits a b s m → ReadsUnit m value t → new ≡ b ++ value ∷ []
+    → TakesUnits a new s t
+goes_unit a b new s m t value p q e = rw e (TakesUnits-append a b (b ++ value ∷ []) s m t p
+    (TakesUnits-unit b m t value q))
 
 pub fails_there : (kind : PoKind) (a b s m : List ℕ) → TakesUnits a b s m → StopsBadly kind m → UnitsFail kind s
 fails_there kind a b s m p bad = (p.values, m, p.units, bad)
 
 -- what is left of text behind k bytes that are plain
-pub cut_plain : (text front back : List ℕ) (k : ℕ) → front ≡ take k text → back ≡ drop k text → k ≤ length text → ((i : ℕ) → i < k → is_plain (get_or text i 0) ≡ true) → UnitsAt front text back
+pub cut_plain : (text front back : List ℕ) (k : ℕ) → front ≡ take k text → back ≡ drop k text → k ≤ length text
+    → ((i : ℕ) → i < k → is_plain (get_or text i 0) ≡ true) → UnitsAt front text back
 cut_plain text front back k e f le plain = rw (e, f) (plain_units k text le plain)
 
-pub octal_window : (text : List ℕ) (n k : ℕ) → k ≡ min (length text) 3 → n ≡ prefix_len is_octal (take k text) → n ≡ prefix_len is_octal (take 3 text)
+pub octal_window : (text : List ℕ) (n k : ℕ) → k ≡ min (length text) 3 → n ≡ prefix_len is_octal (take k text) → n
+    ≡ prefix_len is_octal (take 3 text)
 octal_window text n k e f =
     let m : k ≡ min 3 (length text) = omega arith in
     f ∙ rw (m, take_min) refl
@@ -88,7 +107,8 @@ octal_window text n k e f =
 pub is_line_end : (b : ℕ) → is_plain b ≡ false → (b ≡ 34 → ⊥) → (b ≡ 92 → ⊥) → b ≡ 10
 is_line_end b stops no_quote no_slash = elim (cases_eq b 10) [
   | inl e ↦ e
-  | inr no_end ↦ let t : is_plain b ≡ true = rw (ne_eqb b 34 no_quote, ne_eqb b 92 no_slash, ne_eqb b 10 no_end) refl in absurd (cc (stops, t))
+  | inr no_end ↦ let t : is_plain b ≡ true = rw (ne_eqb b 34 no_quote, ne_eqb b 92 no_slash, ne_eqb b 10 no_end) refl in
+      absurd (cc (stops, t))
 ]
 
 pub open_at_line_end : (b : ℕ) (more : List ℕ) → b ≡ 10 → IsOpenEnd (b ∷ more)

@@ -80,7 +80,8 @@ gap_marks (Comment after ∷ more) = comment_marks after ++ gap_marks more
 gap_marks (_ ∷ more) = gap_marks more
 
 -- from one line and rest to another over a gap, which changes the flags
-pub record TakesGap (old_flags : Flags) (old_line : ℕ) (old_rest : List ℕ) (new_flags : Flags) (new_line : ℕ) (new_rest : List ℕ) : Type 0 where
+pub record TakesGap (old_flags : Flags) (old_line : ℕ) (old_rest : List ℕ) (new_flags : Flags) (new_line : ℕ)
+    (new_rest : List ℕ) : Type 0 where
   pub pieces : List Piece
   pub flags : new_flags ≡ flags_over old_flags (gap_marks pieces)
   pub each : Chain PieceAt pieces old_rest new_rest
@@ -98,7 +99,8 @@ abbrev pub HasEnd : Flags → ℕ → List ℕ → Type 0
 HasEnd flags line rest = (new_flags : Flags) × (last : ℕ) × TakesGap flags line rest new_flags last []
 
 -- behind a gap stands a token, on the new line
-pub record HasNext (token : code.Token) (bytes : List ℕ) (old_flags : Flags) (old_line : ℕ) (old_rest : List ℕ) (new_flags : Flags) (new_line : ℕ) (new_rest : List ℕ) : Type 0 where
+pub record HasNext (token : code.Token) (bytes : List ℕ) (old_flags : Flags) (old_line : ℕ) (old_rest : List ℕ)
+    (new_flags : Flags) (new_line : ℕ) (new_rest : List ℕ) : Type 0 where
   pub middle : List ℕ
   pub gap : TakesGap old_flags old_line old_rest new_flags new_line middle
   pub takes : TakesToken token bytes middle new_rest
@@ -112,7 +114,8 @@ pub record HasFaultFrom (flags : Flags) (old_line : ℕ) (old_rest : List ℕ) (
   pub fault : FaultAt kind middle
 
 -- from one line and rest to another over these lexemes, the last of which ends there
-pub record TakesLexemes (found : List Lexeme) (old_line : ℕ) (old_rest : List ℕ) (new_line : ℕ) (new_rest : List ℕ) : Type 0 where
+pub record TakesLexemes (found : List Lexeme) (old_line : ℕ) (old_rest : List ℕ) (new_line : ℕ) (new_rest : List ℕ) :
+    Type 0 where
   pub pieces : List Piece
   pub each : Chain PieceAt pieces old_rest new_rest
   pub line : new_line + 1 ≡ old_line + line_of pieces

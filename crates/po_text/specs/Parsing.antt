@@ -92,9 +92,11 @@ ParsesOn false text entries e r = Reads text entries × HasParsed text entries r
 -- a token was taken that leads to this place; true where it opens the next entry
 abbrev pub TakesToken : Bool → List Draft → Token → ℕ → Parser → Entry → Parser → Entry → Type 0
 TakesToken true done t line old old_entry new entry =
-    IsBoundary (place_view old.place old.count) × (drafts_at (place_view old.place old.count) done (draft_of old_entry) ≡ done ++ (draft_of old_entry ∷ []))
+    IsBoundary (place_view old.place old.count) × (drafts_at (place_view old.place old.count) done (draft_of old_entry)
+    ≡ done ++ (draft_of old_entry ∷ []))
     × (entry ≡ old_entry)
-    × (feed_at (state_with old (draft_of old_entry) done) [] line t ≡ Some (state_with new (pending new) (done ++ (draft_of old_entry ∷ []))))
+    × (feed_at (state_with old (draft_of old_entry) done) [] line t
+    ≡ Some (state_with new (pending new) (done ++ (draft_of old_entry ∷ []))))
 TakesToken false done t line old old_entry new entry =
     feed_at (state_with old (draft_of old_entry) done) [] line t ≡ Some (state_with new (draft_of entry) done)
 

@@ -16,17 +16,25 @@ parts byte text = (before_first (is_byte byte) text, after_first (is_byte byte) 
 -- ---- what a search for the byte says
 
 pub place_found : (byte : ℕ) (text : List ℕ) (k : ℕ) → IsFirstByte (is_byte byte) text (Some k) → place byte text ≡ k
-place_found byte text k found = position_or_len_is (is_byte byte) text k 0 (omega (arith, found.0.high)) (λ i lt. false_from_ne_true _ (found.0.before i (omega arith) lt)) (λ lt. found.1)
+place_found byte text k found = position_or_len_is (is_byte byte) text k 0 (omega (arith, found.0.high))
+    (λ i lt. false_from_ne_true _ (found.0.before i (omega arith) lt)) (λ lt. found.1)
 
 pub place_none : (byte : ℕ) (text : List ℕ) → IsFirstByte (is_byte byte) text None → place byte text ≡ length text
-place_none byte text none = position_or_len_is (is_byte byte) text (length text) 0 (omega arith) (λ i lt. false_from_ne_true _ (none i (omega arith) lt)) (λ lt. absurd (omega arith))
+place_none byte text none = position_or_len_is (is_byte byte) text (length text) 0 (omega arith)
+    (λ i lt. false_from_ne_true _ (none i (omega arith) lt)) (λ lt. absurd (omega arith))
 
 -- the parts at a place where the byte was found
-pub cut_at : (byte : ℕ) (text front behind : List ℕ) (k : ℕ) → IsFirstByte (is_byte byte) text (Some k) → front ≡ slice_range text 0 k → behind ≡ drop (k + 1) text → IsCut byte text front behind
+pub cut_at : (byte : ℕ) (text front behind : List ℕ) (k : ℕ) → IsFirstByte (is_byte byte) text (Some k) → front
+    ≡ slice_range text 0 k → behind ≡ drop (k + 1) text → IsCut byte text front behind
 cut_at byte text front behind k found e f =
     let at : place byte text ≡ k = place_found byte text k found in
     let all : k - 0 ≡ k = omega arith in
-    record { within = omega (arith, at, found.0.high); front_is = rw at (e ∙ ap (λ n. take n text) all); behind_is = rw at f }
+    record {
+      within = omega (arith, at, found.0.high);
+      front_is = rw at (e ∙ ap (λ n. take n text) all);
+      behind_is = rw
+          at f;
+    }
 
 -- ---- the cut
 
@@ -36,8 +44,10 @@ cut_there byte text lt = ap (λ b. cond b (Some (parts byte text)) None) (lt-ltb
 pub cut_nowhere : (byte : ℕ) (text : List ℕ) → place byte text ≡ length text → cut byte text ≡ None
 cut_nowhere byte text none = ap (λ b. cond b (Some (parts byte text)) None) (le-ltb _ _ (omega (arith, none)))
 
-pub cut_is : (byte : ℕ) (text front behind : List ℕ) → IsCut byte text front behind → Some (front, behind) ≡ cut byte text
-cut_is byte text front behind at = ap (λ f. Some (f, behind)) at.front_is ∙ ap (λ b. Some (before_first (is_byte byte) text, b)) at.behind_is ∙ sym (cut_there byte text at.within)
+pub cut_is : (byte : ℕ) (text front behind : List ℕ) → IsCut byte text front behind → Some (front, behind)
+    ≡ cut byte text
+cut_is byte text front behind at = ap (λ f. Some (f, behind)) at.front_is
+    ∙ ap (λ b. Some (before_first (is_byte byte) text, b)) at.behind_is ∙ sym (cut_there byte text at.within)
 
 -- a text without the byte is all in front of it
 pub front_whole : (byte : ℕ) (text : List ℕ) → place byte text ≡ length text → text ≡ before_first (is_byte byte) text

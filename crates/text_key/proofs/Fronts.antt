@@ -1,5 +1,6 @@
 -- Texts beside the numbers that their first bytes spell.
-use Rattle.std.proofs.Common.{◌≡◌, ℕ, zero, suc, ◌+◌, ◌*◌, ◌^◌, ◌<◌, ◌≤◌, List, [], ◌∷◌, length, Ordering, refl, sym, ap, ◌∙◌, arith, inl, inr}
+use Rattle.std.proofs.Common.{◌≡◌, ℕ, zero, suc, ◌+◌, ◌*◌, ◌^◌, ◌<◌, ◌≤◌, List, [], ◌∷◌, length, Ordering, refl, sym}
+use Rattle.std.proofs.Common.{ap, ◌∙◌, arith, inl, inr}
 use Rattle.std.specs.Prelude.{slice_index, ◌≢◌}
 use Rattle.std.specs.Ordering.{nat_cmp, ordering_reverse, ordering_then}
 use Rattle.std.specs.declared.cmp.Ordering.TheVariants.{Less, Equal, Greater}
@@ -46,12 +47,14 @@ lower n u v us vs small lt = elim (cases_lt v u) [
 abbrev head_then : Ordering → List ℕ → List ℕ → Ordering
 head_then r us vs = ordering_then r (slice_cmp nat_cmp us vs)
 
-behind : (n u v : ℕ) (us vs : List ℕ) → u ≡ v → big_number (suc n) (u ∷ us) < big_number (suc n) (v ∷ vs) → big_number n us < big_number n vs
+behind : (n u v : ℕ) (us vs : List ℕ) → u ≡ v → big_number (suc n) (u ∷ us) < big_number (suc n) (v ∷ vs)
+    → big_number n us < big_number n vs
 behind n u v us vs same lt =
     let top : u * 256 ^ n ≡ v * 256 ^ n = ap (λ x. x * 256 ^ n) same in
     omega (arith, lt, top, later 0 n u us, later 0 n v vs)
 
-less : (n : ℕ) (us vs : List ℕ) → Bytes us → Bytes vs → big_number n us < big_number n vs → slice_cmp nat_cmp us vs ≡ Less
+less : (n : ℕ) (us vs : List ℕ) → Bytes us → Bytes vs → big_number n us < big_number n vs → slice_cmp nat_cmp us vs
+    ≡ Less
 less zero us vs a b lt = absurd (omega arith)
 less (suc n) [] [] a b lt = absurd (omega arith)
 less (suc n) [] (v ∷ vs) a b lt = refl
@@ -60,28 +63,34 @@ less (suc n) (u ∷ us) (v ∷ vs) a b lt = elim (cases_lt u v) [
   | inl under ↦ ap (λ r. head_then r us vs) (sym (nat_cmp_is u v Less under))
   | inr fits ↦
       let same : u ≡ v = omega (arith, fits, lower n u v us vs (bytes_behind v vs b) lt) in
-      ap (λ r. head_then r us vs) (sym (nat_cmp_is u v Equal same)) ∙ less n us vs (bytes_behind u us a) (bytes_behind v vs b) (behind n u v us vs same lt)
+      ap (λ r. head_then r us vs) (sym (nat_cmp_is u v Equal same))
+      ∙ less n us vs (bytes_behind u us a) (bytes_behind v vs b) (behind n u v us vs same lt)
 ]
 
 -- texts with other numbers lie as those do
-pub by_fronts : (us vs : List ℕ) (m n : ℕ) → IsFrontOf us m → IsFrontOf vs n → m ≢ n → nat_cmp m n ≡ slice_cmp nat_cmp us vs
+pub by_fronts : (us vs : List ℕ) (m n : ℕ) → IsFrontOf us m → IsFrontOf vs n → m ≢ n → nat_cmp m n
+    ≡ slice_cmp nat_cmp us vs
 unfolding leading
 by_fronts us vs m n a b differ = elim (cases_lt m n) [
   | inl lt ↦ sym (nat_cmp_is _ _ Less lt) ∙ sym (less 8 us vs a.bytes b.bytes (omega (arith, lt, a.number, b.number)))
   | inr fits ↦
       let gt : n < m = omega (arith, fits, differ) in
-      sym (nat_cmp_is _ _ Greater gt) ∙ ap ordering_reverse (sym (less 8 vs us b.bytes a.bytes (omega (arith, gt, a.number, b.number)))) ∙ sym (nat_list_cmp_total.antisymm us vs)
+      sym (nat_cmp_is _ _ Greater gt) ∙ ap ordering_reverse (sym
+      (less 8 vs us b.bytes a.bytes (omega (arith, gt, a.number, b.number))))
+      ∙ sym (nat_list_cmp_total.antisymm us vs)
 ]
 
 -- ---- short texts of one number are the same
 
-lesser_head : (n u v : ℕ) (us vs : List ℕ) → Bytes us → u < v → big_number (suc n) (u ∷ us) < big_number (suc n) (v ∷ vs)
+lesser_head : (n u v : ℕ) (us vs : List ℕ) → Bytes us → u < v
+    → big_number (suc n) (u ∷ us) < big_number (suc n) (v ∷ vs)
 lesser_head n u v us vs small lt =
     let top : big_from 0 n us < 256 ^ n = big_from-lt 0 n us small in
     let step : (u + 1) * 256 ^ n ≤ v * 256 ^ n = mul-le-mul_right (256 ^ n) (omega (arith, lt)) in
     omega (arith, top, step, later 0 n u us, later 0 n v vs)
 
-same_head : (n u v : ℕ) (us vs : List ℕ) → Bytes us → Bytes vs → big_number (suc n) (u ∷ us) ≡ big_number (suc n) (v ∷ vs) → u ≡ v
+same_head : (n u v : ℕ) (us vs : List ℕ) → Bytes us → Bytes vs → big_number (suc n) (u ∷ us)
+    ≡ big_number (suc n) (v ∷ vs) → u ≡ v
 same_head n u v us vs a b e = elim (cases_lt u v) [
   | inl lt ↦ absurd (omega (arith, e, lesser_head n u v us vs a lt))
   | inr le ↦ elim (cases_lt v u) [
@@ -90,7 +99,8 @@ same_head n u v us vs a b e = elim (cases_lt u v) [
   ]
 ]
 
-same_behind : (n u v : ℕ) (us vs : List ℕ) → u ≡ v → big_number (suc n) (u ∷ us) ≡ big_number (suc n) (v ∷ vs) → big_number n us ≡ big_number n vs
+same_behind : (n u v : ℕ) (us vs : List ℕ) → u ≡ v → big_number (suc n) (u ∷ us) ≡ big_number (suc n) (v ∷ vs)
+    → big_number n us ≡ big_number n vs
 same_behind n u v us vs same e =
     let top : u * 256 ^ n ≡ v * 256 ^ n = ap (λ x. x * 256 ^ n) same in
     omega (arith, e, top, later 0 n u us, later 0 n v vs)
@@ -98,7 +108,8 @@ same_behind n u v us vs same e =
 one_longer : (u v : ℕ) (us vs : List ℕ) → u ≡ v → us ≡ vs → u ∷ us ≡ v ∷ vs
 one_longer u v us vs e f = cc
 
-same_short : (n : ℕ) (us vs : List ℕ) → Bytes us → Bytes vs → length us ≡ length vs → length us ≤ n → big_number n us ≡ big_number n vs → us ≡ vs
+same_short : (n : ℕ) (us vs : List ℕ) → Bytes us → Bytes vs → length us ≡ length vs → length us ≤ n → big_number n us
+    ≡ big_number n vs → us ≡ vs
 same_short n [] [] a b lens fits e = refl
 same_short n [] (v ∷ vs) a b lens fits e = absurd (omega (arith, lens))
 same_short n (u ∷ us) [] a b lens fits e = absurd (omega (arith, lens))
@@ -107,12 +118,16 @@ same_short (suc n) (u ∷ us) (v ∷ vs) a b lens fits e =
     let small = bytes_behind u us a in
     let small' = bytes_behind v vs b in
     let head : u ≡ v = same_head n u v us vs small small' e in
-    one_longer u v us vs head (same_short n us vs small small' (omega (arith, lens)) (omega (arith, fits)) (same_behind n u v us vs head e))
+    one_longer u v us vs head (same_short n us vs small small' (omega (arith, lens)) (omega (arith, fits))
+    (same_behind n u v us vs head e))
 
 -- texts of one front, as long as one another and no longer than it, are the same
-pub by_lengths : (us vs : List ℕ) (m n : ℕ) → IsFrontOf us m → IsFrontOf vs n → m ≡ n → length us ≡ length vs → length us ≤ 8 → us ≡ vs
+pub by_lengths : (us vs : List ℕ) (m n : ℕ) → IsFrontOf us m → IsFrontOf vs n → m ≡ n → length us ≡ length vs
+    → length us ≤ 8 → us ≡ vs
 unfolding leading
 by_lengths us vs m n a b same lens fits = same_short 8 us vs a.bytes b.bytes lens fits (sym a.number ∙ same ∙ b.number)
 
-pub tie_by_lengths : (us vs : List ℕ) (m n : ℕ) → IsFrontOf us m → IsFrontOf vs n → m ≡ n → length us ≡ length vs → length us ≤ 8 → slice_cmp nat_cmp us vs ≡ Equal
-tie_by_lengths us vs m n a b same lens fits = ap (slice_cmp nat_cmp us) (sym (by_lengths us vs m n a b same lens fits)) ∙ tied_itself nat_list_cmp_total us
+pub tie_by_lengths : (us vs : List ℕ) (m n : ℕ) → IsFrontOf us m → IsFrontOf vs n → m ≡ n → length us ≡ length vs
+    → length us ≤ 8 → slice_cmp nat_cmp us vs ≡ Equal
+tie_by_lengths us vs m n a b same lens fits = ap (slice_cmp nat_cmp us) (sym (by_lengths us vs m n a b same lens fits))
+    ∙ tied_itself nat_list_cmp_total us

@@ -8,4 +8,5 @@ pub split_at-requires : goal.split_at-requires
 split_at-requires c = omega (arith, c.name_len.ensures, prefix_len-le-length is_name_byte c.args.text.now)
 
 pub returns : goal.returns
-returns c = run_is is_name_byte c.args.text.now _ _ c.name_len.result c.name_len.ensures c.split_at.ensures.front c.split_at.ensures.back
+returns c = run_is is_name_byte c.args.text.now _ _ c.name_len.result c.name_len.ensures c.split_at.ensures.front
+    c.split_at.ensures.back

@@ -3,7 +3,17 @@ use Rattle.c_signature.proofs.PartLemmas.{number_room, digit_at}
 use Rattle.c_signature.proofs.parts.number_of.Goals as goal
 
 pub overflow_mul-number : goal.overflow_mul-number
-overflow_mul-number c = omega (arith, number_room c.loop-digit.number c.loop-digit.digit-index (length c.args.digits.now) c.loop-digit.invariant.small c.loop-digit-test.true c.if-digits-gt9.false)
+overflow_mul-number c = omega (
+  arith,
+  number_room c.loop-digit.number c.loop-digit.digit-index
+      (length c.args.digits.now) c.loop-digit.invariant.small c.loop-digit-test.true c.if-digits-gt9.false,
+)
 
 pub overflow_add-number : goal.overflow_add-number
-overflow_add-number c = omega (arith, number_room c.loop-digit.number c.loop-digit.digit-index (length c.args.digits.now) c.loop-digit.invariant.small c.loop-digit-test.true c.if-digits-gt9.false, digit_at c.args.digits.now c.loop-digit.digit-index c.requires c.loop-digit-test.true)
+overflow_add-number c = omega (
+  arith,
+  number_room c.loop-digit.number c.loop-digit.digit-index
+      (length c.args.digits.now) c.loop-digit.invariant.small c.loop-digit-test.true c.if-digits-gt9.false,
+  digit_at
+      c.args.digits.now c.loop-digit.digit-index c.requires c.loop-digit-test.true,
+)

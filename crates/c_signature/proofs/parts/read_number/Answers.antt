@@ -6,7 +6,8 @@ returns-in_default c = no_dollar c.args.text.now _ _ c.split_digits.ensures c.in
 
 pub returns-in-Some-number_of : goal.returns-in-Some-number_of
 returns-in-Some-number_of c =
-    longest_number c.in-Some-number_of.number c.args.text.now c.split_digits.result.0.now c.in-Some.rest.now (rw c.in-Some.ensures at c.split_digits.ensures) c.in-Some-number_of.ensures
+    longest_number c.in-Some-number_of.number c.args.text.now c.split_digits.result.0.now c.in-Some.rest.now
+    (rw c.in-Some.ensures at c.split_digits.ensures) c.in-Some-number_of.ensures
 
 pub returns-in-None : goal.returns-in-None
 returns-in-None c = no_number c.args.text.now _ _ c.split_digits.ensures c.in-None.ensures

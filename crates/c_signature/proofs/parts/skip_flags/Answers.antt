@@ -9,4 +9,8 @@ pub split_at-requires : goal.split_at-requires
 split_at-requires c = omega (arith, c.flags_len.ensures, prefix_len-le-length is_flag c.args.text.now)
 
 pub returns : goal.returns
-returns c = (c.split_at.result.0.now, longest_flags _ _ _ (run_is is_flag c.args.text.now _ _ c.flags_len.result c.flags_len.ensures c.split_at.ensures.front c.split_at.ensures.back))
+returns c = (
+  c.split_at.result.0.now,
+  longest_flags _ _ _ (run_is is_flag c.args.text.now _ _ c.flags_len.result
+      c.flags_len.ensures c.split_at.ensures.front c.split_at.ensures.back),
+)

@@ -5,18 +5,25 @@ use Rattle.c_signature.proofs.requests.list_rows.Goals as goal
 use Rattle.c_signature.proofs.requests.list_rows.Goals.{then-place-len+in_ok-push, else-place-len+else-not-is_at}
 
 pub returns-in_default-clause-err : goal.returns-in_default-clause-err
-returns-in_default-clause-err c kinds all = zero_has_none c.args.rows.now c.rows.row-index _ kinds c.rows-test.true c.in_default.ensures all
+returns-in_default-clause-err c kinds all = zero_has_none c.args.rows.now c.rows.row-index _ kinds c.rows-test.true
+    c.in_default.ensures all
 
 pub returns-then-not-is_at-clause-err : goal.returns-then-not-is_at-clause-err
 returns-then-not-is_at-clause-err c kinds all =
     let len : c.len.result ≡ length c.rows.kinds.items = omega (arith, c.len.ensures, c.rows.kinds.ok.0) in
-    wrong_has_none c.args.rows.now c.rows.row-index c.in-Some.place _ c.rows.kinds.items kinds c.rows-test.true c.requires.rising c.rows.invariant c.in-Some.ensures
-    (λ e. c.if-place-len.false (e ∙ sym len)) (λ e. false≢true (c.if-not-is_at.ensures.1 (rw c.deref.ensures.value e))) all
+    wrong_has_none c.args.rows.now c.rows.row-index c.in-Some.place _ c.rows.kinds.items kinds c.rows-test.true
+    c.requires.rising c.rows.invariant c.in-Some.ensures
+    (λ e. c.if-place-len.false (e ∙ sym len)) (λ e. false≢true (c.if-not-is_at.ensures.1 (rw c.deref.ensures.value e)))
+    all
 
 pub rows-preserved : goal.rows-preserved
 rows-preserved c =
     let len : c.len.result ≡ length c.rows.kinds.items = omega (arith, c.len.ensures, c.rows.kinds.ok.0) in
     elim c.if-place-len.branch [
-      | then-place-len+in_ok-push w ↦ rw w.kinds-is (row_next c.args.rows.now c.rows.row-index c.in-Some.place _ c.rows.kinds.items _ c.rows-test.true c.rows.invariant c.in-Some.ensures (w.if-place-len.true ∙ len) w.in_ok-push.ensures.items)
-      | else-place-len+else-not-is_at w ↦ rw w.kinds-is (row_again c.args.rows.now c.rows.row-index c.in-Some.place _ c.rows.kinds.items c.rows-test.true c.rows.invariant c.in-Some.ensures (rw w.deref.ensures.value at (w.if-not-is_at.ensures.0 refl)))
+      | then-place-len+in_ok-push w ↦ rw w.kinds-is (row_next c.args.rows.now c.rows.row-index c.in-Some.place _
+          c.rows.kinds.items _ c.rows-test.true c.rows.invariant c.in-Some.ensures (w.if-place-len.true ∙ len)
+          w.in_ok-push.ensures.items)
+      | else-place-len+else-not-is_at w ↦ rw w.kinds-is (row_again c.args.rows.now c.rows.row-index c.in-Some.place _
+          c.rows.kinds.items c.rows-test.true c.rows.invariant c.in-Some.ensures
+          (rw w.deref.ensures.value at (w.if-not-is_at.ensures.0 refl)))
     ]

@@ -17,20 +17,28 @@ pub returns-in_err-next_entry-clause-err : goal.returns-in_err-next_entry-clause
 returns-in_err-next_entry-clause-err c =
     let p = err_from_is_err_and c.from_residual-in_err-next_entry.result c.from_residual-in_err-next_entry.ensures.1 in
     let fault = c.in_err-next_entry.field-0.0 in
-    rw (p.1, p.2) (elim (c.in_err-next_entry.ensures.fault (body c.args.text.now) c.entries.invariant.entries c.entries.invariant.read) [
+    rw (p.1, p.2) (elim (c.in_err-next_entry.ensures.fault (body c.args.text.now) c.entries.invariant.entries
+    c.entries.invariant.read) [
       | inl e ↦ inl (ap (λ (f : PoFault). kind_of f.kind) e)
-      | inr f ↦ refused_as c.args.text.now c.args.options fault.kind fault.line (faulty_refuses c.args.text.now fault.kind fault.line c.in_ok-reader.ensures.readable f)
+      | inr f ↦ refused_as c.args.text.now c.args.options fault.kind fault.line
+          (faulty_refuses c.args.text.now fault.kind fault.line c.in_ok-reader.ensures.readable f)
     ])
 
 pub entries-init : goal.entries-init
-entries-init c = collects_none _ _ _ _ _ _ c.in_ok-reader.ensures.read c.new-texts.ensures.bytes c.new-spans.ensures.items (c.new-findings.ensures c.args.options)
+entries-init c = collects_none _ _ _ _ _ _ c.in_ok-reader.ensures.read c.new-texts.ensures.bytes
+    c.new-spans.ensures.items (c.new-findings.ensures c.args.options)
 
 pub entries-preserved : goal.entries-preserved
 entries-preserved c =
     let inv = c.entries.invariant in
-    collects_more c.args.text.now c.args.options _ _ _ _ c.entries.spans.items _ c.entries.findings c.look_at.new.self _ c.next_entry.new.into inv (rw c.if-branch.true at (c.in_ok-next_entry.ensures.read (body c.args.text.now) inv.entries inv.read)) c.in_ok-add_entry.ensures.lawful c.in_ok-add_entry.ensures.added c.in_ok-add_entry.ensures.span c.in_ok-push.ensures.items c.in_ok-look_at.ensures
+    collects_more c.args.text.now c.args.options _ _ _ _ c.entries.spans.items _ c.entries.findings c.look_at.new.self _
+    c.next_entry.new.into inv (rw c.if-branch.true at (c.in_ok-next_entry.ensures.read (body c.args.text.now)
+    inv.entries inv.read)) c.in_ok-add_entry.ensures.lawful c.in_ok-add_entry.ensures.added
+    c.in_ok-add_entry.ensures.span c.in_ok-push.ensures.items c.in_ok-look_at.ensures
 
 pub returns-clause-ok : goal.returns-clause-ok
 returns-clause-ok c =
     let inv = c.entries.invariant in
-    collects_all c.args.text.now c.args.options _ _ _ c.entries.spans.items c.entries.findings c.next_entry.new.into c.in_ok-reader.ensures.readable inv (rw c.if-branch.false at (c.in_ok-next_entry.ensures.read (body c.args.text.now) inv.entries inv.read))
+    collects_all c.args.text.now c.args.options _ _ _ c.entries.spans.items c.entries.findings c.next_entry.new.into
+    c.in_ok-reader.ensures.readable inv (rw c.if-branch.false at
+    (c.in_ok-next_entry.ensures.read (body c.args.text.now) inv.entries inv.read))

@@ -5,4 +5,5 @@ use Rattle.catalogue.proofs.OutlineOrder.{draft_order}
 use Rattle.catalogue.proofs.drafts.sort.Goals as goal
 
 pub returns-clause-sorted : goal.returns-clause-sorted
-returns-clause-sorted c = c.sort_unstable_by.ensures.sorted comes_before draft_order (answers_always _ _ _ (λ f a r q k. search rules))
+returns-clause-sorted c = c.sort_unstable_by.ensures.sorted comes_before draft_order
+    (answers_always _ _ _ (λ f a r q k. search rules))

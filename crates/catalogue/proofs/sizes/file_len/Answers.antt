@@ -5,4 +5,5 @@ use Rattle.catalogue.proofs.Accepting.{message_size, messages_size}
 use Rattle.catalogue.proofs.sizes.file_len.Goals as goal
 
 pub returns : goal.returns
-returns c = c.messages.invariant ∙ ap capped (ap (λ n. 28 + sum_by message_size n) (take_all _ _ c.messages-test.false) ∙ sym (messages_size c.args.messages.now))
+returns c = c.messages.invariant ∙ ap capped (ap (λ n. 28 + sum_by message_size n) (take_all _ _ c.messages-test.false)
+    ∙ sym (messages_size c.args.messages.now))

@@ -5,4 +5,5 @@ use Rattle.catalogue.proofs.Accepting.{form_size, pool_size}
 use Rattle.catalogue.proofs.sizes.forms_len.Goals as goal
 
 pub returns : goal.returns
-returns c = c.forms.invariant ∙ ap capped (ap (sum_by form_size) (take_all _ _ c.forms-test.false) ∙ sym (pool_size c.args.forms.now))
+returns c = c.forms.invariant ∙ ap capped (ap (sum_by form_size) (take_all _ _ c.forms-test.false)
+    ∙ sym (pool_size c.args.forms.now))

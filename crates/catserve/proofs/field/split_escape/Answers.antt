@@ -4,7 +4,8 @@ use Rattle.std.proofs.lemmas.Str.{encode_ascii}
 use Rattle.catserve.proofs.Escapes.{no_escape}
 use Rattle.catserve.proofs.field.split_escape.Goals as goal
 
-begins_not : (c : ℕ) (text : List ℕ) → c < 128 → ((rest : List ℕ) → text ≢ encode c ++ rest) → (rest : List ℕ) → text ≢ c ∷ rest
+begins_not : (c : ℕ) (text : List ℕ) → c < 128 → ((rest : List ℕ) → text ≢ encode c ++ rest) → (rest : List ℕ)
+    → text ≢ c ∷ rest
 begins_not c text small none rest e = none rest (e ∙ ap (λ zs. zs ++ rest) (sym (encode_ascii c small)))
 
 pub returns-in_err-rest : goal.returns-in_err-rest

@@ -5,15 +5,21 @@ use Rattle.catserve.proofs.Parsing.{takes_none, takes_text}
 use Rattle.catserve.proofs.parse.take_in.Goals as goal
 
 pub returns-in-Blank-clause-ok : goal.returns-in-Blank-clause-ok
-returns-in-Blank-clause-ok c = rw c.in-Blank.is (takes_none c.args.rounds.now c.args.rounds.now Blank c.args.behind.now c.args.number [] refl refl c.utf8.behind)
+returns-in-Blank-clause-ok c = rw c.in-Blank.is (takes_none c.args.rounds.now c.args.rounds.now Blank c.args.behind.now
+    c.args.number [] refl refl c.utf8.behind)
 
 pub returns-in_ok-go-in-Goes-clause-ok : goal.returns-in_ok-go-in-Goes-clause-ok
-returns-in_ok-go-in-Goes-clause-ok c = rw c.in-Goes.is (takes_none c.args.rounds.now c.go.new.self Goes c.args.behind.now c.args.number (Go ∷ []) refl c.in_ok-go-in-Goes.ensures c.utf8.behind)
+returns-in_ok-go-in-Goes-clause-ok c = rw c.in-Goes.is (takes_none c.args.rounds.now c.go.new.self Goes
+    c.args.behind.now c.args.number (Go ∷ []) refl c.in_ok-go-in-Goes.ensures c.utf8.behind)
 
 pub returns-in_ok-ask-in-Asks-clause-ok : goal.returns-in_ok-ask-in-Asks-clause-ok
-returns-in_ok-ask-in-Asks-clause-ok c = rw c.in-Asks.is (takes_none c.args.rounds.now c.ask.new.self (Asks c.in-Asks.worker c.in-Asks.query) c.args.behind.now c.args.number (Ask c.in-Asks.worker c.in-Asks.query ∷ []) refl c.in_ok-ask-in-Asks.ensures c.utf8.behind)
+returns-in_ok-ask-in-Asks-clause-ok c = rw c.in-Asks.is (takes_none c.args.rounds.now c.ask.new.self
+    (Asks c.in-Asks.worker c.in-Asks.query) c.args.behind.now c.args.number (Ask c.in-Asks.worker c.in-Asks.query ∷ [])
+    refl c.in_ok-ask-in-Asks.ensures c.utf8.behind)
 
 pub returns-in_ok-load-in-Loads-clause-ok : goal.returns-in_ok-load-in-Loads-clause-ok
 returns-in_ok-load-in-Loads-clause-ok c =
     let l = c.in-Loads in
-    rw c.in-Loads.is (takes_text c.args.rounds.now c.load.new.self c.in-Loads.domain.now c.in-Loads.locale.now c.in-Loads.options c.in-Loads.count c.args.behind.now c.args.number c.in-Some.text.now c.in-Some.rest.now c.in-Some.ensures c.in_ok-load-in-Loads.ensures)
+    rw c.in-Loads.is (takes_text c.args.rounds.now c.load.new.self c.in-Loads.domain.now c.in-Loads.locale.now
+    c.in-Loads.options c.in-Loads.count c.args.behind.now c.args.number c.in-Some.text.now c.in-Some.rest.now
+    c.in-Some.ensures c.in_ok-load-in-Loads.ensures)

@@ -12,9 +12,12 @@ loads-preserved c =
     let load = c.load-item.result in
     let was = c.args.publisher.now.pending in
     let now = c.make_load.new.publisher.pending in
-    let front : take (i + 1) loads ≡ take i loads ++ load ∷ [] = take_more loads i load (omega arith) ∙ ap (λ q. take i loads ++ q ∷ []) (sym c.load-item.is) in
+    let front : take (i + 1) loads ≡ take i loads ++ load ∷ [] = take_more loads i load (omega arith)
+    ∙ ap (λ q. take i loads ++ q ∷ []) (sym c.load-item.is) in
     let P : List LoadText → Type 0 = λ ls. LoadsAll ls was now c.args.output.now.items c.make_load.new.output.items in
     record {
-      loaded = subst P (sym front) (loads_more (take i loads) load was c.loads.publisher.pending now c.args.output.now.items c.loads.output.items c.make_load.new.output.items c.loads.invariant.loaded c.in_ok-make_load.ensures.ok);
+      loaded = subst P (sym front) (loads_more (take i loads) load was c.loads.publisher.pending now
+          c.args.output.now.items c.loads.output.items c.make_load.new.output.items c.loads.invariant.loaded
+          c.in_ok-make_load.ensures.ok);
       seen = c.make_load.ensures.seen ∙ c.loads.invariant.seen;
     }

@@ -6,7 +6,8 @@ use Rattle.catserve.proofs.run.run_script.Goals as goal
 pub returns-in-Ok : goal.returns-in-Ok
 returns-in-Ok g c =
     let Is : List ℕ → Type 0 = λ text. HasOutput text c.in_ok-output.output.items in
-    let Written : List ℕ → Type 0 = λ bytes. Appends (g.W.Sink.contents c.args.writer.now) (g.W.Sink.contents c.write_all.new.self) bytes in
+    let Written : List ℕ → Type 0 = λ bytes. Appends (g.W.Sink.contents c.args.writer.now)
+    (g.W.Sink.contents c.write_all.new.self) bytes in
     record {
       text = c.in_ok-text.text.items;
       read = c.in_ok-text.ensures.ok;

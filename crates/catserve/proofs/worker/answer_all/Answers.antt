@@ -12,8 +12,10 @@ queries-preserved c =
     let i = c.queries.query-index in
     let query = c.query-item.result in
     let loads = joined c.args.notice.now.batches in
-    let more = one_answer_more loads c.args.worker (take i queries) query c.queries.output.items c.answer.new.output.items c.queries.invariant.answered c.in_ok-answer.ensures.ok in
-    let front : take (i + 1) queries ≡ take i queries ++ query ∷ [] = take_more queries i query (omega arith) ∙ ap (λ q. take i queries ++ q ∷ []) (sym c.query-item.is) in
+    let more = one_answer_more loads c.args.worker (take i queries) query c.queries.output.items
+    c.answer.new.output.items c.queries.invariant.answered c.in_ok-answer.ensures.ok in
+    let front : take (i + 1) queries ≡ take i queries ++ query ∷ [] = take_more queries i query (omega arith)
+    ∙ ap (λ q. take i queries ++ q ∷ []) (sym c.query-item.is) in
     let P : List QueryValue → Type 0 = λ qs. Answers loads c.args.worker qs c.answer.new.output.items in
     record {
       answered = subst P (sym front) more;

@@ -5,10 +5,12 @@ use Rattle.std.specs.declared.cmp.Ordering.TheVariants.{Equal}
 use Rattle.entry_search.proofs.find.search.Goals as goal
 
 pub halves-preserved-in-Less : goal.halves-preserved-in-Less
-halves-preserved-in-Less g c = goes_up _ _ _ _ _ _ _ _ c.halves.invariant c.len-high.ensures.lawful.rises c.halves-test.true c.middle-mid.ensures c.in-Less.ensures.step c.in-Less.ensures.order
+halves-preserved-in-Less g c = goes_up _ _ _ _ _ _ _ _ c.halves.invariant c.len-high.ensures.lawful.rises
+    c.halves-test.true c.middle-mid.ensures c.in-Less.ensures.step c.in-Less.ensures.order
 
 pub halves-preserved : goal.halves-preserved
-halves-preserved g c = goes_down _ _ _ _ _ _ _ _ c.halves.invariant c.len-high.ensures.lawful.rises c.halves-test.true c.middle-mid.ensures c.in-Greater.ensures.step c.in-Greater.ensures.order
+halves-preserved g c = goes_down _ _ _ _ _ _ _ _ c.halves.invariant c.len-high.ensures.lawful.rises c.halves-test.true
+    c.middle-mid.ensures c.in-Greater.ensures.step c.in-Greater.ensures.order
 
 pub returns-in-Equal-clause-cost : goal.returns-in-Equal-clause-cost
 returns-in-Equal-clause-cost g c = cost_here _ _ _ _ _ _ _ c.halves.invariant c.halves-test.true c.in-Equal.ensures.step
@@ -18,10 +20,13 @@ returns-in-Equal-clause-found g c =
     let m = c.args.image.now in
     let mid = c.middle-mid.result in
     let asked = c.looked_through-asked.result in
-    sym (found_equal m mid c.entry.result asked c.len-high.ensures.lawful.rises c.entry.ensures (order_at m mid c.entry.result asked Equal c.in-Equal.ensures.order c.entry.ensures)) ∙ ap (entry_at m) c.looked_through-asked.ensures
+    sym (found_equal m mid c.entry.result asked c.len-high.ensures.lawful.rises c.entry.ensures
+    (order_at m mid c.entry.result asked Equal c.in-Equal.ensures.order c.entry.ensures))
+    ∙ ap (entry_at m) c.looked_through-asked.ensures
 
 pub returns-clause-found : goal.returns-clause-found
-returns-clause-found g c = sym (missing _ _ _ _ c.halves.invariant.below c.halves.invariant.above c.halves-test.false) ∙ ap (entry_at c.args.image.now) c.looked_through-asked.ensures
+returns-clause-found g c = sym (missing _ _ _ _ c.halves.invariant.below c.halves.invariant.above c.halves-test.false)
+    ∙ ap (entry_at c.args.image.now) c.looked_through-asked.ensures
 
 pub returns-clause-cost : goal.returns-clause-cost
 returns-clause-cost g c = cost_there _ _ _ _ _ _ c.halves.invariant

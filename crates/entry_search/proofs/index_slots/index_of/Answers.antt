@@ -10,6 +10,11 @@ returns c =
     let m = c.args.image.now in
     let slots : List Slot = c.in_ok-slots.slots.items in
     let placed : List Slot = c.in_ok-placed.placed.items in
-    let one : OneForEachHash slots = subst (λ (r : List Slot). OneForEachHash r) c.deref.ensures.value (c.if-not-have_own_hashes.ensures refl) in
-    let same : (x : Slot) → (Contains slots x → Contains placed x) × (Contains placed x → Contains slots x) = subst (λ (r : List Slot). (x : Slot) → (Contains r x → Contains placed x) × (Contains placed x → Contains r x)) c.deref-2.ensures.value c.in_ok-placed.ensures.same in
-    subst (λ (r : List Slot). IsIndex m r) (sym c.new.ensures) (indexed m slots placed c.in_ok-slots.ensures.names one c.in_ok-placed.ensures.climbs same)
+    let one : OneForEachHash slots = subst (λ (r : List Slot). OneForEachHash r) c.deref.ensures.value
+    (c.if-not-have_own_hashes.ensures refl) in
+    let same : (x : Slot) → (Contains slots x → Contains placed x)
+    × (Contains placed x → Contains slots x) = subst (λ (r : List Slot). (x : Slot)
+    → (Contains r x → Contains placed x) × (Contains placed x → Contains r x)) c.deref-2.ensures.value
+    c.in_ok-placed.ensures.same in
+    subst (λ (r : List Slot). IsIndex m r) (sym c.new.ensures)
+    (indexed m slots placed c.in_ok-slots.ensures.names one c.in_ok-placed.ensures.climbs same)

@@ -17,5 +17,8 @@ loop-i-preserved g c =
     let o : List ℕ = string_at number bytes (c.args.originals + 8 * c.loop-i.i) in
     let t : List ℕ = string_at number bytes (c.args.translations + 8 * c.loop-i.i) in
     let same : c.entry_strings.result ≡ entry_of o t =
-    c.entry_strings.ensures ∙ ap (λ (x : List ℕ). entry_of x c.text-translation.result.now) c.text-original.ensures ∙ ap (entry_of o) c.text-translation.ensures in
-    one_more number bytes c.args.originals c.args.translations c.args.n c.loop-i.i c.loop-i.entries.items c.push.new.self.items c.entry_strings.result _ c.loop-i-test.true same c.in_ok-push.ensures.items c.loop-i.invariant
+    c.entry_strings.ensures ∙ ap (λ (x : List ℕ). entry_of x c.text-translation.result.now) c.text-original.ensures
+    ∙ ap (entry_of o) c.text-translation.ensures in
+    one_more number bytes c.args.originals c.args.translations c.args.n c.loop-i.i c.loop-i.entries.items
+    c.push.new.self.items c.entry_strings.result _ c.loop-i-test.true same c.in_ok-push.ensures.items
+    c.loop-i.invariant

@@ -19,7 +19,8 @@ read_file-requires c =
 pub returns-then-not-is_low_first-clause-ok : goal.returns-then-not-is_low_first-clause-ok
 returns-then-not-is_low_first-clause-ok c =
     let bytes : List ℕ = c.args.bytes.now in
-    subst (Mo bytes) (sym (c.in_ok-read_file.ensures ∙ ap (λ (number : ℕ → List ℕ → ℕ). named_in number bytes) (sym (order_high bytes c.if-not-is_low_first.ensures)))) (is_mo bytes c.in_ok-check_all.ensures.ok)
+    subst (Mo bytes) (sym (c.in_ok-read_file.ensures ∙ ap (λ (number : ℕ → List ℕ → ℕ). named_in number bytes)
+    (sym (order_high bytes c.if-not-is_low_first.ensures)))) (is_mo bytes c.in_ok-check_all.ensures.ok)
 
 pub is_own-requires : goal.is_own-requires
 is_own-requires c =
@@ -30,8 +31,15 @@ pub from_file-requires : goal.from_file-requires
 from_file-requires c =
     let bytes : List ℕ = c.args.bytes.now in
     let P : (ℕ → List ℕ → ℕ) → Type 0 = λ number. PassesBelow (file_by number bytes) 12 in
-    let passed : PassesBelow (file_by little_number bytes) 12 = subst P (order_low bytes c.if-not-is_low_first.ensures) c.in_ok-check_all.ensures.ok in
-    (named_in little_number bytes, record { lawful = lawful_map little_number bytes passed; spelt = c.if-is_own.ensures refl })
+    let passed : PassesBelow (file_by little_number bytes) 12 = subst P (order_low bytes c.if-not-is_low_first.ensures)
+    c.in_ok-check_all.ensures.ok in (
+      named_in little_number bytes,
+      record {
+        lawful = lawful_map little_number bytes passed;
+        spelt = c.if-is_own.ensures
+            refl;
+      },
+    )
 
 pub returns-then-is_own-clause-ok : goal.returns-then-is_own-clause-ok
 returns-then-is_own-clause-ok c =
@@ -47,4 +55,5 @@ read_file-requires-2 c =
 pub returns-clause-ok : goal.returns-clause-ok
 returns-clause-ok c =
     let bytes : List ℕ = c.args.bytes.now in
-    subst (Mo bytes) (sym (c.in_ok-read_file-2.ensures ∙ ap (λ (number : ℕ → List ℕ → ℕ). named_in number bytes) (sym (order_low bytes c.if-not-is_low_first.ensures)))) (is_mo bytes c.in_ok-check_all.ensures.ok)
+    subst (Mo bytes) (sym (c.in_ok-read_file-2.ensures ∙ ap (λ (number : ℕ → List ℕ → ℕ). named_in number bytes)
+    (sym (order_low bytes c.if-not-is_low_first.ensures)))) (is_mo bytes c.in_ok-check_all.ensures.ok)

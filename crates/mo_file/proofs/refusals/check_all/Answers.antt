@@ -6,20 +6,24 @@ use Rattle.mo_file.proofs.refusals.check_all.Goals as goal
 
 pub returns-then-is_low_first-clause-ok : goal.returns-then-is_low_first-clause-ok
 returns-then-is_low_first-clause-ok c =
-    let P : (ℕ → List ℕ → ℕ) → Type 0 = λ number. OnOk c.check_file.result (PassesBelow (file_by number c.args.bytes.now) 12) in
+    let P : (ℕ → List ℕ → ℕ) → Type 0 = λ number. OnOk c.check_file.result
+    (PassesBelow (file_by number c.args.bytes.now) 12) in
     subst P (sym (order_low c.args.bytes.now c.if-is_low_first.ensures)) c.check_file.ensures.ok
 
 pub returns-then-is_low_first-clause-err : goal.returns-then-is_low_first-clause-err
 returns-then-is_low_first-clause-err c =
-    let P : (ℕ → List ℕ → ℕ) → Type 0 = λ number. IfErr c.check_file.result (λ f. RefusedBy (file_by number c.args.bytes.now) f) in
+    let P : (ℕ → List ℕ → ℕ) → Type 0 = λ number. IfErr c.check_file.result
+    (λ f. RefusedBy (file_by number c.args.bytes.now) f) in
     subst P (sym (order_low c.args.bytes.now c.if-is_low_first.ensures)) c.check_file.ensures.err
 
 pub returns-clause-ok : goal.returns-clause-ok
 returns-clause-ok c =
-    let P : (ℕ → List ℕ → ℕ) → Type 0 = λ number. OnOk c.check_file-2.result (PassesBelow (file_by number c.args.bytes.now) 12) in
+    let P : (ℕ → List ℕ → ℕ) → Type 0 = λ number. OnOk c.check_file-2.result
+    (PassesBelow (file_by number c.args.bytes.now) 12) in
     subst P (sym (order_high c.args.bytes.now c.if-is_low_first.ensures)) c.check_file-2.ensures.ok
 
 pub returns-clause-err : goal.returns-clause-err
 returns-clause-err c =
-    let P : (ℕ → List ℕ → ℕ) → Type 0 = λ number. IfErr c.check_file-2.result (λ f. RefusedBy (file_by number c.args.bytes.now) f) in
+    let P : (ℕ → List ℕ → ℕ) → Type 0 = λ number. IfErr c.check_file-2.result
+    (λ f. RefusedBy (file_by number c.args.bytes.now) f) in
     subst P (sym (order_high c.args.bytes.now c.if-is_low_first.ensures)) c.check_file-2.ensures.err

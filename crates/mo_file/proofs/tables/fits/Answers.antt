@@ -15,7 +15,16 @@ returns g c =
     let number = g.T.ByteOrder.number_of in
     let os = strings number c.args.bytes.now c.args.originals c.args.n in
     let ts = strings number c.args.bytes.now c.args.translations c.args.n in
-    let total = length-file c.args.n os ts (length-strings number c.args.bytes.now c.args.originals c.args.n) (length-strings number c.args.bytes.now c.args.translations c.args.n) in (
-      λ short. record { short = omega (arith, leb-true _ _ short, total, c.pool_len.ensures.value, c.pool_len-2.ensures.value) },
+    let total = length-file c.args.n os ts (length-strings number c.args.bytes.now c.args.originals c.args.n)
+    (length-strings number c.args.bytes.now c.args.translations c.args.n) in (
+      λ short. record {
+        short = omega (
+          arith,
+          leb-true _ _ short,
+          total,
+          c.pool_len.ensures.value,
+          c.pool_len-2.ensures.value,
+        );
+      },
       λ fits. le-leb _ _ (omega (arith, fits.short, total, c.pool_len.ensures.value, c.pool_len-2.ensures.value)),
     )

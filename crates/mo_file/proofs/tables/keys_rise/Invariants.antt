@@ -10,4 +10,5 @@ abbrev pub invariant-loop-i : goal.invariant-loop-i
 invariant-loop-i g l =
     let number = g.T.ByteOrder.number_of in
     (k : ℕ) → k < l.i
-    → slice_cmp nat_cmp (before_nul (string_at number l.bytes (l.table + 8 * k))) (before_nul (string_at number l.bytes (l.table + 8 * (k + 1)))) ≡ Less
+    → slice_cmp nat_cmp (before_nul (string_at number l.bytes (l.table + 8 * k)))
+    (before_nul (string_at number l.bytes (l.table + 8 * (k + 1)))) ≡ Less

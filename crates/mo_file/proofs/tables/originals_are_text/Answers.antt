@@ -6,13 +6,21 @@ use Rattle.mo_file.proofs.tables.originals_are_text.Goals as goal
 
 pub loop-i-preserved-in_default : goal.loop-i-preserved-in_default
 loop-i-preserved-in_default g c =
-    let P : ℕ → Type 0 = λ k. IsOriginalText (string_at g.T.ByteOrder.number_of c.args.bytes.now (c.args.table + 8 * k)) in
-    below_more P _ c.loop-i.invariant (as_before IsOriginalText g.T.ByteOrder.number_of c.args.bytes.now c.args.table c.loop-i.i c.in_default.ensures c.loop-i.invariant)
+    let P : ℕ → Type 0 = λ k. IsOriginalText (string_at g.T.ByteOrder.number_of c.args.bytes.now (c.args.table + 8 * k))
+    in
+    below_more P _ c.loop-i.invariant (as_before IsOriginalText g.T.ByteOrder.number_of c.args.bytes.now c.args.table
+    c.loop-i.i c.in_default.ensures c.loop-i.invariant)
 
 pub returns-then-not-is_original_text : goal.returns-then-not-is_original_text
-returns-then-not-is_original_text g c = (λ e. absurd cc, λ all. c.if-not-is_original_text.ensures.1 (subst IsOriginalText (sym c.in-Some.ensures) (all.each c.loop-i.i c.loop-i-test.true)))
+returns-then-not-is_original_text g c = (
+  λ e. absurd cc,
+  λ all. c.if-not-is_original_text.ensures.1
+      (subst IsOriginalText (sym c.in-Some.ensures) (all.each c.loop-i.i c.loop-i-test.true)),
+)
 
 pub loop-i-preserved : goal.loop-i-preserved
 loop-i-preserved g c =
-    let P : ℕ → Type 0 = λ k. IsOriginalText (string_at g.T.ByteOrder.number_of c.args.bytes.now (c.args.table + 8 * k)) in
-    below_more P _ c.loop-i.invariant (subst IsOriginalText c.in-Some.ensures (c.if-not-is_original_text.ensures.0 refl))
+    let P : ℕ → Type 0 = λ k. IsOriginalText (string_at g.T.ByteOrder.number_of c.args.bytes.now (c.args.table + 8 * k))
+    in
+    below_more P _ c.loop-i.invariant (subst IsOriginalText c.in-Some.ensures
+    (c.if-not-is_original_text.ensures.0 refl))

@@ -7,6 +7,7 @@ abbrev pub invariant-loop-i : goal.invariant-loop-i
 invariant-loop-i g l =
     let number = g.T.ByteOrder.number_of in
     record {
-      counted : l.len + length (pool (strings number l.bytes (l.table + 8 * l.i) (l.n - l.i))) ≡ length (pool (strings number l.bytes l.table l.n));
+      counted : l.len + length (pool (strings number l.bytes (l.table + 8 * l.i) (l.n - l.i)))
+          ≡ length (pool (strings number l.bytes l.table l.n));
       small : l.len ≤ l.i * 2 ^ 28;
     }

@@ -13,7 +13,12 @@ returns-in-Some-find_byte c =
     let first = c.in-Some.first in
     let P : List ℕ → Type 0 = λ others. IsFirstByte (is_byte c.args.byte) others (Some c.in-Some-find_byte.field-0) in
     let second = subst P (take_rest text (first + 1)) c.in-Some-find_byte.ensures in
-    omega (arith, count_past c.args.byte text first c.in-Some.ensures, count_past c.args.byte (drop (first + 1) text) c.in-Some-find_byte.field-0 second)
+    omega (
+      arith,
+      count_past c.args.byte text first c.in-Some.ensures,
+      count_past c.args.byte (drop (first + 1) text)
+          c.in-Some-find_byte.field-0 second,
+    )
 
 pub returns-in-None : goal.returns-in-None
 returns-in-None c =
@@ -21,4 +26,9 @@ returns-in-None c =
     let first = c.in-Some.first in
     let P : List ℕ → Type 0 = λ others. IsFirstByte (is_byte c.args.byte) others None in
     let none = subst P (take_rest text (first + 1)) c.in-None.ensures in
-    omega (arith, count_past c.args.byte text first c.in-Some.ensures, count_absent c.args.byte (drop (first + 1) text) none)
+    omega (
+      arith,
+      count_past c.args.byte text first c.in-Some.ensures,
+      count_absent c.args.byte (drop (first + 1) text)
+          none,
+    )

@@ -6,23 +6,38 @@ pub text_in-requires : goal.text_in-requires
 text_in-requires c =
     let bytes = c.args.bytes.now in
     let at = c.requires.extents.1 in
-    piece_held bytes _ c.args.extents.now.original at.original (entry_facts bytes c.requires.extents.0 c.requires.image at.within).original
+    piece_held bytes _ c.args.extents.now.original at.original
+    (entry_facts bytes c.requires.extents.0 c.requires.image at.within).original
 
 pub text_in-requires-2 : goal.text_in-requires-2
 text_in-requires-2 c =
     let bytes = c.args.bytes.now in
     let at = c.requires.extents.1 in
-    piece_held bytes _ c.args.extents.now.translation at.translation (entry_facts bytes c.requires.extents.0 c.requires.image at.within).translation
+    piece_held bytes _ c.args.extents.now.translation at.translation
+    (entry_facts bytes c.requires.extents.0 c.requires.image at.within).translation
 
 pub new-requires : goal.new-requires
 new-requires c =
     let bytes = c.args.bytes.now in
     let at = c.requires.extents.1 in
-    rw (c.text_in.ensures, c.text_in-2.ensures, piece_named bytes _ c.args.extents.now.original at.original, piece_named bytes _ c.args.extents.now.translation at.translation)
+    rw (
+      c.text_in.ensures,
+      c.text_in-2.ensures,
+      piece_named bytes _ c.args.extents.now.original at.original,
+      piece_named
+          bytes _ c.args.extents.now.translation at.translation,
+    )
     (entry_facts bytes c.requires.extents.0 c.requires.image at.within).lawful
 
 pub returns : goal.returns
 returns c i at =
     let bytes = c.args.bytes.now in
-    rw (c.new.ensures, c.text_in.ensures, c.text_in-2.ensures, piece_named bytes _ c.args.extents.now.original at.original, piece_named bytes _ c.args.extents.now.translation at.translation)
+    rw (
+      c.new.ensures,
+      c.text_in.ensures,
+      c.text_in-2.ensures,
+      piece_named bytes _ c.args.extents.now.original
+          at.original,
+      piece_named bytes _ c.args.extents.now.translation at.translation,
+    )
     (entry_facts bytes i c.requires.image at.within).found

@@ -11,16 +11,35 @@ pub overflow_add-originals : goal.overflow_add-originals
 overflow_add-originals c = omega (arith, entry_room c.args.bytes.now c.args.i c.requires.image c.requires.within)
 
 pub overflow_mul-translations : goal.overflow_mul-translations
-overflow_mul-translations c = omega (arith, c.count_of.ensures, entry_room c.args.bytes.now c.args.i c.requires.image c.requires.within)
+overflow_mul-translations c = omega (
+  arith,
+  c.count_of.ensures,
+  entry_room c.args.bytes.now c.args.i c.requires.image
+      c.requires.within,
+)
 
 pub overflow_add-translations : goal.overflow_add-translations
-overflow_add-translations c = omega (arith, c.count_of.ensures, entry_room c.args.bytes.now c.args.i c.requires.image c.requires.within)
+overflow_add-translations c = omega (
+  arith,
+  c.count_of.ensures,
+  entry_room c.args.bytes.now c.args.i c.requires.image
+      c.requires.within,
+)
 
 pub extent_at-requires : goal.extent_at-requires
-extent_at-requires c = omega (arith, (entry_facts c.args.bytes.now c.args.i c.requires.image c.requires.within).original.row)
+extent_at-requires c = omega (
+  arith,
+  (entry_facts c.args.bytes.now c.args.i c.requires.image
+      c.requires.within).original.row,
+)
 
 pub extent_at-requires-2 : goal.extent_at-requires-2
-extent_at-requires-2 c = omega (arith, c.count_of.ensures, (entry_facts c.args.bytes.now c.args.i c.requires.image c.requires.within).small)
+extent_at-requires-2 c = omega (
+  arith,
+  c.count_of.ensures,
+  (entry_facts c.args.bytes.now c.args.i c.requires.image
+      c.requires.within).small,
+)
 
 pub returns : goal.returns
 returns c =

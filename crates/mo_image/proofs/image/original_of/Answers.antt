@@ -13,4 +13,5 @@ pub overflow_add-i : goal.overflow_add-i
 overflow_add-i c = omega (arith, entry_room c.args.bytes.now c.args.i c.requires.image c.requires.within)
 
 pub returns-clause-key : goal.returns-clause-key
-returns-clause-key c = key_found c.args.bytes.now c.args.i (key_part c.text.result.now) c.requires.image c.requires.within (ap key_part c.text.ensures)
+returns-clause-key c = key_found c.args.bytes.now c.args.i (key_part c.text.result.now) c.requires.image
+    c.requires.within (ap key_part c.text.ensures)

@@ -13,6 +13,8 @@ returns-in-Ok g c =
     let o = output_seen g.W.Sink.contents g.W.Sink.failures in
     ended (change f c.args.files.now c.work-done.new.files) (change i c.args.reader.now c.work-done.new.reader)
     (change o c.args.writer.now c.work-done.new.writer)
-    (g.E.Sink.failures c.args.errors.now) (g.E.Sink.failures c.work-done.new.errors) (g.E.Sink.failures c.end.new.errors) c.end.ensures.later
+    (g.E.Sink.failures c.args.errors.now) (g.E.Sink.failures c.work-done.new.errors)
+    (g.E.Sink.failures c.end.new.errors) c.end.ensures.later
     (map string_bytes c.args.words.items) (subst (λ ws. AreTaken ws) words-is c.in-Ok.ensures.taken)
-    (asked_in c.in-Ok.request) (c.in-Ok.ensures.asked ∙ ap asked words-is) c.work-done.result c.end.result c.work-done.ensures c.end.ensures.tells
+    (asked_in c.in-Ok.request) (c.in-Ok.ensures.asked ∙ ap asked words-is) c.work-done.result c.end.result
+    c.work-done.ensures c.end.ensures.tells

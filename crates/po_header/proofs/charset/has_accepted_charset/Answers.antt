@@ -11,6 +11,10 @@ pub returns-in-Some : goal.returns-in-Some
 returns-in-Some c =
     let text = c.args.text.now in
     let name = c.in-Some.name.now in
-    let names : NamesCharset text (Some name) = rw c.in-Some.is at c.charset_of.ensures in
-    ((λ so. record { accepted = λ other n. subst IsAcceptedCharset (charset_one text name other names n) (c.charset_accepted.ensures.0 so) }),
-    (λ h. c.charset_accepted.ensures.1 (h.accepted name names)))
+    let names : NamesCharset text (Some name) = rw c.in-Some.is at c.charset_of.ensures in (
+      (λ so. record {
+        accepted = λ other n. subst IsAcceptedCharset (charset_one text name other names n)
+            (c.charset_accepted.ensures.0 so);
+      }),
+      (λ h. c.charset_accepted.ensures.1 (h.accepted name names)),
+    )

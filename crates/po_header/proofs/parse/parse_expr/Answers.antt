@@ -10,4 +10,5 @@ returns-in_err-node-clause-malformed c e =
     let x = p.1 in
     let y = p.2 in
     let same : c.in_err-node.field-0.0 ≡ Malformed = cc (e, x, y) in
-    rw (c.expression_at-front.ensures, c.as_bytes.ensures.value) at (malformed_says c.in_err-node.field-0.0 same c.in_err-node.ensures.err)
+    rw (c.expression_at-front.ensures, c.as_bytes.ensures.value) at
+    (malformed_says c.in_err-node.field-0.0 same c.in_err-node.ensures.err)

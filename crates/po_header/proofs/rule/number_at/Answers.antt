@@ -4,4 +4,9 @@ use Rattle.std.proofs.lemmas.List.Sums.{prefix_len-le-length}
 use Rattle.po_header.proofs.rule.number_at.Goals as goal
 
 pub split_at-requires : goal.split_at-requires
-split_at-requires c = omega (arith, c.digits_len.ensures, prefix_len-le-length is_ascii_digit c.skip_blanks-rest.result.now)
+split_at-requires c = omega (
+  arith,
+  c.digits_len.ensures,
+  prefix_len-le-length is_ascii_digit
+      c.skip_blanks-rest.result.now,
+)

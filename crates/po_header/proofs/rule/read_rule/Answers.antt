@@ -13,7 +13,11 @@ returns-in_default-number_at c =
     record {
       count = c.in-Some.count.now;
       expr = c.in-Some-behind.expr.now;
-      both = record { count_is = follows_is _ _ _ (sym c.in-Some.ensures); expr_is = follows_is _ _ _ (sym c.in-Some-behind.ensures) };
+      both = record {
+        count_is = follows_is _ _ _ (sym c.in-Some.ensures);
+        expr_is = follows_is _ _ _
+            (sym c.in-Some-behind.ensures);
+      };
       fails = inl (rw c.as_bytes.ensures.value at (sym c.in_default-number_at.ensures));
     }
 
@@ -22,7 +26,11 @@ returns-in-Err-TooLong c =
     record {
       count = c.in-Some.count.now;
       expr = c.in-Some-behind.expr.now;
-      both = record { count_is = follows_is _ _ _ (sym c.in-Some.ensures); expr_is = follows_is _ _ _ (sym c.in-Some-behind.ensures) };
+      both = record {
+        count_is = follows_is _ _ _ (sym c.in-Some.ensures);
+        expr_is = follows_is _ _ _
+            (sym c.in-Some-behind.ensures);
+      };
       fails = inr (inl (c.in-Err-TooLong.ensures.too_long.0 (ap Err c.in-Err-TooLong.field-0-is)));
     }
 
@@ -31,7 +39,11 @@ returns-in-Ok c =
     record {
       count = c.in-Some.count.now;
       expr = c.in-Some-behind.expr.now;
-      both = record { count_is = follows_is _ _ _ (sym c.in-Some.ensures); expr_is = follows_is _ _ _ (sym c.in-Some-behind.ensures) };
+      both = record {
+        count_is = follows_is _ _ _ (sym c.in-Some.ensures);
+        expr_is = follows_is _ _ _
+            (sym c.in-Some-behind.ensures);
+      };
       number = rw c.as_bytes.ensures.value at (sym c.in-Some-number_at.ensures);
       short = λ long. let e = c.in-Ok.ensures.too_long.1 long in absurd (cc e);
       read = c.in-Ok.ensures.ok;
@@ -42,6 +54,10 @@ returns-in-Err-Malformed c =
     record {
       count = c.in-Some.count.now;
       expr = c.in-Some-behind.expr.now;
-      both = record { count_is = follows_is _ _ _ (sym c.in-Some.ensures); expr_is = follows_is _ _ _ (sym c.in-Some-behind.ensures) };
+      both = record {
+        count_is = follows_is _ _ _ (sym c.in-Some.ensures);
+        expr_is = follows_is _ _ _
+            (sym c.in-Some-behind.ensures);
+      };
       fails = inr (inr (c.in-Err-Malformed.ensures.malformed (ap Err c.in-Err-Malformed.field-0-is)));
     }

@@ -4,7 +4,8 @@ use Rattle.po_header.proofs.TextLemmas.{behind_first-split, behind_first-none}
 use Rattle.po_header.proofs.search.behind.Goals as goal
 
 pub returns-in_err-after : goal.returns-in_err-after
-returns-in_err-after c = ap option_copied c.from_residual.ensures ∙ sym (behind_first-none c.args.text.now c.args.word.now c.requires c.in_err-after.ensures.cases)
+returns-in_err-after c = ap option_copied c.from_residual.ensures
+    ∙ sym (behind_first-none c.args.text.now c.args.word.now c.requires c.in_err-after.ensures.cases)
 
 pub returns : goal.returns
 returns c =

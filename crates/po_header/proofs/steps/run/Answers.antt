@@ -6,7 +6,8 @@ use Rattle.po_header.proofs.StepLemmas.{reached-step, reached-earlier, reached-n
 use Rattle.po_header.proofs.steps.run.Goals as goal
 
 pub returns-in_err-value : goal.returns-in_err-value
-returns-in_err-value c = c.from_residual.ensures ∙ reached-past c.args.steps.now c.steps.at c.args.n c.in_err-value.ensures.lookup.0 ∙ sym c.steps.invariant
+returns-in_err-value c = c.from_residual.ensures ∙ reached-past c.args.steps.now c.steps.at c.args.n
+    c.in_err-value.ensures.lookup.0 ∙ sym c.steps.invariant
 
 pub returns-in-Value : goal.returns-in-Value
 returns-in-Value c =
@@ -20,7 +21,8 @@ returns-then-next-at c =
     sym (c.steps.invariant ∙ reached-step c.args.steps.now c.steps.at c.args.n c.in_ok-value.field-0.now h.3.0 (sym h.1)
     ∙ ap (λ (s : Step). step_value (step_values c.args.n (take c.steps.at c.args.steps.now)) c.args.n s) c.in-Test.is
     ∙ c.next_step-next.ensures (step_values c.args.n (take c.steps.at c.args.steps.now))
-    ∙ reached-none (take c.steps.at c.args.steps.now) c.next_step-next.result c.args.n (omega (arith, length-take c.steps.at c.args.steps.now, c.if-next-at.true)))
+    ∙ reached-none (take c.steps.at c.args.steps.now) c.next_step-next.result c.args.n
+    (omega (arith, length-take c.steps.at c.args.steps.now, c.if-next-at.true)))
 
 pub steps-preserved : goal.steps-preserved
 steps-preserved c =

@@ -9,7 +9,8 @@ split_at-requires c = omega (arith, c.digits_len.ensures, prefix_len-le-length i
 
 pub returns-in-Some-clause-some : goal.returns-in-Some-clause-some
 returns-in-Some-clause-some c =
-    Begins-numeral c.args.text.now c.split_at.result.0.now c.split_at.result.1.now c.digits_len.result c.in-Some.value c.split_at.ensures.front c.split_at.ensures.back c.digits_len.ensures c.requires c.in-Some.ensures
+    Begins-numeral c.args.text.now c.split_at.result.0.now c.split_at.result.1.now c.digits_len.result c.in-Some.value
+    c.split_at.ensures.front c.split_at.ensures.back c.digits_len.ensures c.requires c.in-Some.ensures
 
 pub returns-in-None-clause-none : goal.returns-in-None-clause-none
 returns-in-None-clause-none c =

@@ -5,7 +5,8 @@ use Rattle.po_text.specs.Building.{flags_over}
 use Rattle.po_text.proofs.flags.flag_words.Given as goal
 
 abbrev pub invariant-words : goal.invariant-words
-invariant-words l = flags_over l.fn.flags (filter_map flag_mark (slice_split is_separator l.fn.words)) ≡ flags_over l.flags (filter_map flag_mark (slice_split is_separator l.rest))
+invariant-words l = flags_over l.fn.flags (filter_map flag_mark (slice_split is_separator l.fn.words))
+    ≡ flags_over l.flags (filter_map flag_mark (slice_split is_separator l.rest))
 
 abbrev pub decreases-words : goal.decreases-words
 decreases-words l = length l.rest

@@ -17,10 +17,18 @@ room v i n small lt le =
     omega (arith, small, top)
 
 pub overflow_mul-value : goal.overflow_mul-value
-overflow_mul-value c = omega (arith, room c.loop-digit.value c.loop-digit.digit-index (length c.args.word.now) c.loop-digit.invariant.small c.loop-digit-test.true c.if-word-gt9.false)
+overflow_mul-value c = omega (
+  arith,
+  room c.loop-digit.value c.loop-digit.digit-index (length c.args.word.now)
+      c.loop-digit.invariant.small c.loop-digit-test.true c.if-word-gt9.false,
+)
 
 pub overflow_add-value : goal.overflow_add-value
-overflow_add-value c = omega (arith, room c.loop-digit.value c.loop-digit.digit-index (length c.args.word.now) c.loop-digit.invariant.small c.loop-digit-test.true c.if-word-gt9.false)
+overflow_add-value c = omega (
+  arith,
+  room c.loop-digit.value c.loop-digit.digit-index (length c.args.word.now)
+      c.loop-digit.invariant.small c.loop-digit-test.true c.if-word-gt9.false,
+)
 
 some_bytes : (n : ℕ) → false ≡ (n == 0) → 1 ≤ n
 some_bytes n e = elim (cases_eq n 0) [
@@ -28,13 +36,17 @@ some_bytes n e = elim (cases_eq n 0) [
   | inr some ↦ omega arith
 ]
 
-is_number : (word : List ℕ) (value i : ℕ) → ((k : ℕ) → k < i → is_ascii_digit (get_or word k 0) ≡ true) → value ≡ decimal_value (take i word) → i ≡ length word → 1 ≤ length word → length word ≤ 9 → Some (Number value) ≡ number_of word
+is_number : (word : List ℕ) (value i : ℕ) → ((k : ℕ) → k < i → is_ascii_digit (get_or word k 0) ≡ true) → value
+    ≡ decimal_value (take i word) → i ≡ length word → 1 ≤ length word → length word ≤ 9 → Some (Number value)
+    ≡ number_of word
 is_number word value i digits is end some few =
-    let all : list_all is_ascii_digit word ≡ true = list_all-from_AllPass is_ascii_digit word (λ k d lt. rw (get_or_default word k d 0 lt) (digits k (omega arith))) in
+    let all : list_all is_ascii_digit word ≡ true = list_all-from_AllPass is_ascii_digit word
+    (λ k d lt. rw (get_or_default word k d 0 lt) (digits k (omega arith))) in
     let whole : value ≡ decimal_value word = is ∙ ap decimal_value (take_all i word (omega arith)) in
     rw (all, le-leb 1 (length word) some, le-leb (length word) 9 few, whole) refl
 
 pub returns : goal.returns
 returns c bytes =
-    is_number c.args.word.now c.loop-digit.value c.loop-digit.digit-index c.loop-digit.invariant.digits c.loop-digit.invariant.value (omega arith)
+    is_number c.args.word.now c.loop-digit.value c.loop-digit.digit-index c.loop-digit.invariant.digits
+    c.loop-digit.invariant.value (omega arith)
     (some_bytes (length c.args.word.now) c.if-is_empty.ensures) c.if-word-gt9.false

@@ -11,12 +11,16 @@ use Rattle.po_text.proofs.lexer.read_token.Goals as goal
 
 pub returns-in_ok-rest-clause-ok : goal.returns-in_ok-rest-clause-ok
 returns-in_ok-rest-clause-ok c =
-    let quote : c.args.text.now ≡ 34 ∷ c.in-Some.later.now = c.in-Some.ensures ∙ ap (λ (b : ℕ). b ∷ c.in-Some.later.now) c.if-byte-eq34.true in
+    let quote : c.args.text.now ≡ 34 ∷ c.in-Some.later.now = c.in-Some.ensures
+    ∙ ap (λ (b : ℕ). b ∷ c.in-Some.later.now) c.if-byte-eq34.true in
     (Quoted c.read_string.new.bytes.items, rw quote c.in_ok-rest.ensures.ok, refl)
 
-a_word : (text bytes : List ℕ) (r : Result (code.Token × Bor (List ℕ)) PoKind) → IfOk r (λ x. (token : spec.Token) × PieceAt (Word (take_while is_word_byte text) token) text x.1.now × ((bytes' : List ℕ) → token_view x.0 bytes' ≡ token)) → IfOk r (λ x. TakesToken x.0 bytes text x.1.now)
+a_word : (text bytes : List ℕ) (r : Result (code.Token × Bor (List ℕ)) PoKind)
+    → IfOk r (λ x. (token : spec.Token) × PieceAt (Word (take_while is_word_byte text) token) text x.1.now
+    × ((bytes' : List ℕ) → token_view x.0 bytes' ≡ token)) → IfOk r (λ x. TakesToken x.0 bytes text x.1.now)
 a_word text bytes (Ok x) h = (Word (take_while is_word_byte text) h.0, h.1, ap Some (sym (h.2 bytes)))
 a_word text bytes (Err e) h = tt
 
 pub returns-else-byte-eq93-clause-ok : goal.returns-else-byte-eq93-clause-ok
-returns-else-byte-eq93-clause-ok c = a_word c.args.text.now c.args.bytes.now.items c.read_word.result c.read_word.ensures.ok
+returns-else-byte-eq93-clause-ok c = a_word c.args.text.now c.args.bytes.now.items c.read_word.result
+    c.read_word.ensures.ok

@@ -12,7 +12,8 @@ pub returns-in_err-next_entry-clause-err : goal.returns-in_err-next_entry-clause
 returns-in_err-next_entry-clause-err c =
     let p = err_from_is_err_and c.from_residual-in_err-next_entry.result c.from_residual-in_err-next_entry.ensures.1 in
     let fault = c.in_err-next_entry.field-0.0 in
-    rw (p.1, p.2) (elim (c.in_err-next_entry.ensures.fault (body c.args.text.now) (entries_view c.entries.entries.items) c.entries.invariant) [
+    rw (p.1, p.2) (elim (c.in_err-next_entry.ensures.fault (body c.args.text.now) (entries_view c.entries.entries.items)
+    c.entries.invariant) [
       | inl e ↦ inl e
       | inr f ↦ inr (faulty_refuses c.args.text.now fault.kind fault.line c.in_ok-reader.ensures.readable f)
     ])
@@ -21,7 +22,9 @@ pub entries-preserved : goal.entries-preserved
 entries-preserved c =
     let text = body c.args.text.now in
     let before = c.entries.entries.items in
-    let (forms, had) = rw c.if-branch.true at (c.in_ok-next_entry.ensures.read text (entries_view before) c.entries.invariant) in
+    let (forms, had) = rw c.if-branch.true at (c.in_ok-next_entry.ensures.read text (entries_view before)
+    c.entries.invariant) in
     let all : entries_view c.push.new.self.items ≡ entries_view before ++ (c.next_entry.new.into ∷ [])
-    = ap entries_view c.in_ok-push.ensures.items ∙ map-append entry_view before (c.in_ok-entry.entry ∷ []) ∙ ap (λ (x : Entry). entries_view before ++ (x ∷ [])) c.in_ok-entry.ensures in
+    = ap entries_view c.in_ok-push.ensures.items ∙ map-append entry_view before (c.in_ok-entry.entry ∷ [])
+    ∙ ap (λ (x : Entry). entries_view before ++ (x ∷ [])) c.in_ok-entry.ensures in
     subst (λ (x : List Entry). HasRead text x c.next_entry.new.self) (sym all) had

@@ -11,9 +11,12 @@ not_true : (b : Bool) → (b ≡ true → ⊥) → not b ≡ true
 not_true true h = absurd (h refl)
 not_true false h = refl
 
-line_len : (text : List ℕ) (r : Option ℕ) → IsFirstByte (is_byte 10) text r → prefix_len is_not_line_end text ≡ unwrap_or r (length text)
-line_len text None none = prefix_len_is is_not_line_end text (length text) 0 (omega arith) (λ i lt. not_true _ (none i (omega arith) lt)) (λ lt. absurd (omega arith))
-line_len text (Some k) some = prefix_len_is is_not_line_end text k 0 (omega (arith, some.0.high)) (λ i lt. not_true _ (some.0.before i (omega arith) lt)) (λ lt. ap not some.1)
+line_len : (text : List ℕ) (r : Option ℕ) → IsFirstByte (is_byte 10) text r → prefix_len is_not_line_end text
+    ≡ unwrap_or r (length text)
+line_len text None none = prefix_len_is is_not_line_end text (length text) 0 (omega arith)
+    (λ i lt. not_true _ (none i (omega arith) lt)) (λ lt. absurd (omega arith))
+line_len text (Some k) some = prefix_len_is is_not_line_end text k 0 (omega (arith, some.0.high))
+    (λ i lt. not_true _ (some.0.before i (omega arith) lt)) (λ lt. ap not some.1)
 
 pub returns-clause-line : goal.returns-clause-line
 returns-clause-line c =

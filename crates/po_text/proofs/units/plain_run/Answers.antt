@@ -19,7 +19,8 @@ plain_unless : (b : ℕ) → (is_in (34 ∷ 92 ∷ 10 ∷ []) b ≡ true → ⊥
 unfolding is_in
 plain_unless b h = none_of (b == 34) (b == 92) (b == 10) h
 
-plain_before : (text : List ℕ) (r : Option ℕ) → IsFirstByte (is_in (34 ∷ 92 ∷ 10 ∷ [])) text r → (i : ℕ) → i < unwrap_or r (length text) → is_plain (get_or text i 0) ≡ true
+plain_before : (text : List ℕ) (r : Option ℕ) → IsFirstByte (is_in (34 ∷ 92 ∷ 10 ∷ [])) text r → (i : ℕ)
+    → i < unwrap_or r (length text) → is_plain (get_or text i 0) ≡ true
 plain_before text None none i lt = plain_unless (get_or text i 0) (none i (omega arith) lt)
 plain_before text (Some k) some i lt = plain_unless (get_or text i 0) (some.0.before i (omega arith) lt)
 
@@ -42,14 +43,18 @@ stops_end : (text : List ℕ) → StopsPlain (drop (length text) text)
 stops_end [] = tt
 stops_end (b ∷ more) = stops_end more
 
-stops_after : (text : List ℕ) (r : Option ℕ) → IsFirstByte (is_in (34 ∷ 92 ∷ 10 ∷ [])) text r → StopsPlain (drop (unwrap_or r (length text)) text)
+stops_after : (text : List ℕ) (r : Option ℕ) → IsFirstByte (is_in (34 ∷ 92 ∷ 10 ∷ [])) text r
+    → StopsPlain (drop (unwrap_or r (length text)) text)
 stops_after text None none = stops_end text
 stops_after text (Some k) some = stops_at text k some.0.high (plain_not (get_or text k 0) some.1)
 
 pub returns-clause-units : goal.returns-clause-units
 returns-clause-units c =
-    cut_plain c.args.text.now c.split_at.result.0.now c.split_at.result.1.now c.unwrap_or-len.result c.split_at.ensures.front c.split_at.ensures.back (omega (arith, c.split_at.ensures.back_len))
-    (λ i lt. plain_before c.args.text.now c.find_byteset.result c.find_byteset.ensures i (rw c.unwrap_or-len.ensures at lt))
+    cut_plain c.args.text.now c.split_at.result.0.now c.split_at.result.1.now c.unwrap_or-len.result
+    c.split_at.ensures.front c.split_at.ensures.back (omega (arith, c.split_at.ensures.back_len))
+    (λ i lt. plain_before c.args.text.now c.find_byteset.result c.find_byteset.ensures i
+    (rw c.unwrap_or-len.ensures at lt))
 
 pub returns-clause-stops : goal.returns-clause-stops
-returns-clause-stops c = rw (c.split_at.ensures.back, c.unwrap_or-len.ensures) (stops_after c.args.text.now c.find_byteset.result c.find_byteset.ensures)
+returns-clause-stops c = rw (c.split_at.ensures.back, c.unwrap_or-len.ensures)
+    (stops_after c.args.text.now c.find_byteset.result c.find_byteset.ensures)

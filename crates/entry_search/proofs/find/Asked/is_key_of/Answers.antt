@@ -5,4 +5,5 @@ use Rattle.entry_search.proofs.Found.{tied_same}
 use Rattle.entry_search.proofs.find.Asked.is_key_of.Goals as goal
 
 pub returns-in-Some : goal.returns-in-Some
-returns-in-Some c = c.is_eq.ensures ∙ ap is_eq c.cmp_original.ensures ∙ tied_same (key_part c.args.original.now) c.args.self.now
+returns-in-Some c = c.is_eq.ensures ∙ ap is_eq c.cmp_original.ensures
+    ∙ tied_same (key_part c.args.original.now) c.args.self.now

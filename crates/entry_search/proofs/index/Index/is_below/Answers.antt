@@ -9,4 +9,5 @@ returns-else-cut-eq0 c so =
     let slots = c.self.inside.slots.items in
     let bound = c.args.bound in
     subst (λ (r : List Slot). AllWithin (λ (slot : Slot). slot.hash < bound) r 0 c.args.cut) c.self.view_is
-    (below_is slots bound c.args.cut c.index.result.now c.self.invariant c.index.ensures (omega (arith, c.if-cut-eq0.false)) (omega (arith, c.requires, ap length c.self.view_is)) (ltb-true _ _ so))
+    (below_is slots bound c.args.cut c.index.result.now c.self.invariant c.index.ensures
+    (omega (arith, c.if-cut-eq0.false)) (omega (arith, c.requires, ap length c.self.view_is)) (ltb-true _ _ so))

@@ -15,5 +15,7 @@ returns-else-slot-hash-clause-none c =
     let within : place < length slots = ltb-true _ _ (sym lookup.0) in
     let climbs : Climbs slots = subst (λ (r : List Slot). Climbs r) (sym c.deref.ensures.value) c.self.invariant in
     let cut : IsCut slots t place = subst (λ (r : List Slot). IsCut r t place) (sym same) c.requires in
-    let none : HasNoSlot slots t = no_slot slots t place climbs cut within (λ d e. c.if-slot-hash.false (ap (λ (r : Slot). r.hash) (lookup.1 ∙ get_or_default slots place c.in_ok-slot.slot.now d within) ∙ e)) in
+    let none : HasNoSlot slots t = no_slot slots t place climbs cut within
+    (λ d e. c.if-slot-hash.false (ap (λ (r : Slot). r.hash)
+    (lookup.1 ∙ get_or_default slots place c.in_ok-slot.slot.now d within) ∙ e)) in
     subst (λ (r : List Slot). HasNoSlot r t) same none

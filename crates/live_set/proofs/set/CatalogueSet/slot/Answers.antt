@@ -8,5 +8,7 @@ use Rattle.live_set.proofs.set.CatalogueSet.slot.Goals as goal
 pub returns : goal.returns
 returns c =
     let facts = c.binary_search_by.ensures in
-    let by = facts.position (λ l. compared l (asked c.args.domain.now c.args.locale.now)) (always_returns_same _ _ _ (λ a r f' called. search rules)) in
-    rw (← c.self.view_is, ← c.deref.ensures.value) (searched _ _ _ _ (rw c.deref.ensures.value c.self.invariant) facts.bound by)
+    let by = facts.position (λ l. compared l (asked c.args.domain.now c.args.locale.now))
+    (always_returns_same _ _ _ (λ a r f' called. search rules)) in
+    rw (← c.self.view_is, ← c.deref.ensures.value) (searched _ _ _ _ (rw c.deref.ensures.value c.self.invariant)
+    facts.bound by)

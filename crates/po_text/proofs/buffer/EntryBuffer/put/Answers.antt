@@ -8,11 +8,14 @@ put_text-requires-clause-lawful c = (rw c.in-Text.is at (c.requires 0)).0
 pub invariant_of-self-in-Str : goal.invariant_of-self-in-Str
 invariant_of-self-in-Str c =
     let b = c.self-in-Str.inside in
-    let at : c.push.new.self.items ≡ b.starts.items ++ (length b.forms.items ∷ []) = c.in_ok-push-in-Str.ensures.items ∙ ap (λ (n : ℕ). b.starts.items ++ (n ∷ [])) (omega (arith, c.len.ensures, b.forms.ok.0)) in
+    let at : c.push.new.self.items ≡ b.starts.items ++ (length b.forms.items ∷ []) = c.in_ok-push-in-Str.ensures.items
+    ∙ ap (λ (n : ℕ). b.starts.items ++ (n ∷ [])) (omega (arith, c.len.ensures, b.forms.ok.0)) in
     form_kept b _ c.args.self.now c.self-in-Str.view_is c.self-in-Str.invariant (rw at refl)
 
 pub returns-in_ok-push-in-Str : goal.returns-in_ok-push-in-Str
 returns-in_ok-push-in-Str c k =
     let b = c.self-in-Str.inside in
-    let at : c.push.new.self.items ≡ b.starts.items ++ (length b.forms.items ∷ []) = c.in_ok-push-in-Str.ensures.items ∙ ap (λ (n : ℕ). b.starts.items ++ (n ∷ [])) (omega (arith, c.len.ensures, b.forms.ok.0)) in
-    rw c.in-Str.is (form_put b _ c.args.self.now c.self-in-Str.view_is c.self-in-Str.invariant (invariant_of-self-in-Str c) (rw at refl))
+    let at : c.push.new.self.items ≡ b.starts.items ++ (length b.forms.items ∷ []) = c.in_ok-push-in-Str.ensures.items
+    ∙ ap (λ (n : ℕ). b.starts.items ++ (n ∷ [])) (omega (arith, c.len.ensures, b.forms.ok.0)) in
+    rw c.in-Str.is (form_put b _ c.args.self.now c.self-in-Str.view_is c.self-in-Str.invariant
+    (invariant_of-self-in-Str c) (rw at refl))

@@ -10,7 +10,8 @@ returns-in_err-next_token-clause-err c =
     let p = err_from_is_err_and c.from_residual.result c.from_residual.ensures.1 in
     rw (p.1, p.2) (elim c.in_err-next_token.ensures.err [
       | inl e ↦ inl e
-      | inr h ↦ inr (λ text found taken. let t = c.tokens.invariant.taken text found taken in lexemes_fault (found ++ t.0) c.tokens.self.line text c.tokens.self.rest.now c.tokens.self.flags _ _ t.1 h)
+      | inr h ↦ inr (λ text found taken. let t = c.tokens.invariant.taken text found taken in lexemes_fault
+          (found ++ t.0) c.tokens.self.line text c.tokens.self.rest.now c.tokens.self.flags _ _ t.1 h)
     ])
 
 pub tokens-preserved : goal.tokens-preserved
@@ -19,8 +20,15 @@ tokens-preserved c =
     record {
       taken = λ text found taken.
           let t = c.tokens.invariant.taken text found taken in
-          let l = lexeme_of c.in-Some.field-0 c.next_token.new.bytes.items c.next_token.new.self.line next.gap.pieces in
-          (t.0 ++ l ∷ [], subst (λ (ls : List Lexeme). TakesLexemes ls 1 text c.next_token.new.self.line c.next_token.new.self.rest.now) (append_assoc found t.0 (l ∷ [])) (lexemes_push (found ++ t.0) 1 c.tokens.self.line c.next_token.new.self.line text c.tokens.self.rest.now c.next_token.new.self.rest.now c.tokens.self.flags c.next_token.new.self.flags c.in-Some.field-0 c.next_token.new.bytes.items t.1 next));
+          let l = lexeme_of c.in-Some.field-0 c.next_token.new.bytes.items c.next_token.new.self.line
+          next.gap.pieces in (
+            t.0 ++ l ∷ [],
+            subst (λ (ls : List Lexeme). TakesLexemes ls 1 text c.next_token.new.self.line
+                c.next_token.new.self.rest.now) (append_assoc found t.0 (l ∷ []))
+                (lexemes_push (found ++ t.0) 1 c.tokens.self.line c.next_token.new.self.line text c.tokens.self.rest.now
+                c.next_token.new.self.rest.now c.tokens.self.flags c.next_token.new.self.flags c.in-Some.field-0
+                c.next_token.new.bytes.items t.1 next),
+          );
       room = omega (arith, next.gap.room, next.shorter, c.tokens.invariant.room);
     }
 

@@ -8,10 +8,12 @@ use Rattle.po_text.proofs.parser.Parser.next_entry.Given as goal
 
 abbrev pub invariant-tokens : goal.invariant-tokens
 invariant-tokens l = record {
-  taken : (text : List ℕ) (entries : List Entry) → HasParsed text entries l.initial.self → HasTakenTo text (map draft_of entries) (draft_of l.into) l.self;
+  taken : (text : List ℕ) (entries : List Entry) → HasParsed text entries l.initial.self
+      → HasTakenTo text (map draft_of entries) (draft_of l.into) l.self;
   form : HasForm (place_view l.self.place l.self.count) (draft_of l.into);
   not_finished : l.self.finished ≡ false;
-  lines : l.self.lexer.line + length l.self.lexer.rest.now ≤ l.initial.self.lexer.line + length l.initial.self.lexer.rest.now;
+  lines : l.self.lexer.line + length l.self.lexer.rest.now ≤ l.initial.self.lexer.line + length
+      l.initial.self.lexer.rest.now;
   falls : length l.self.lexer.rest.now ≤ length l.initial.self.lexer.rest.now;
   counts : l.self.count + length l.self.lexer.rest.now ≤ l.initial.self.count + length l.initial.self.lexer.rest.now;
 }

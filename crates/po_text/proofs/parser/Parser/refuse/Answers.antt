@@ -7,7 +7,8 @@ returns-in-Ok c =
     let r = c.args.self.now in
     inr (λ text h.
     let s = c.in-Ok.ensures.ok text (h.found ++ (h.x ∷ [])) h.takes in
-    refused_is_faulty text r.lexer.line r.lexer.rest.now _ r.keyword_line _ c.refusal_of-fault.result h s.0 s.1 (c.refusal_of-fault.ensures r.bytes.items r.count))
+    refused_is_faulty text r.lexer.line r.lexer.rest.now _ r.keyword_line _ c.refusal_of-fault.result h s.0 s.1
+    (c.refusal_of-fault.ensures r.bytes.items r.count))
 
 pub returns-in-Err : goal.returns-in-Err
 returns-in-Err c = elim c.in-Err.ensures.err [

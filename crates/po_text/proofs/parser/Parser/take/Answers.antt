@@ -15,9 +15,13 @@ returns-then-is_start-clause-taken c done =
     let t = token_view c.args.token r.bytes.items in
     let o = c.if-not-opens_entry.ensures r.bytes.items r.count in
     let empty = c.if-is_start.ensures r.count in
-    feed_open p t c.args.place _ r.count _ done (draft_of c.args.into.now) r.lexer.flags r.keyword_line r.lexer.line st o
-    ∙ ap (λ (x : List Draft). Some (at_state (place_view c.args.place r.count) x (begin r.lexer.line r.lexer.flags (some_if (is_context_word c.args.place) [])) no_flags r.lexer.line)) (at_start p done (draft_of c.args.into.now) empty)
-    ∙ ap (λ (x : Draft). Some (at_state (place_view c.args.place r.count) done x no_flags r.lexer.line)) (sym (c.begin.ensures ∙ rw c.is_context.ensures refl))
+    feed_open p t c.args.place _ r.count _ done (draft_of c.args.into.now) r.lexer.flags r.keyword_line r.lexer.line st
+    o
+    ∙ ap (λ (x : List Draft). Some (at_state (place_view c.args.place r.count) x
+    (begin r.lexer.line r.lexer.flags (some_if (is_context_word c.args.place) [])) no_flags r.lexer.line))
+    (at_start p done (draft_of c.args.into.now) empty)
+    ∙ ap (λ (x : Draft). Some (at_state (place_view c.args.place r.count) done x no_flags r.lexer.line))
+    (sym (c.begin.ensures ∙ rw c.is_context.ensures refl))
 
 pub returns-clause-taken : goal.returns-clause-taken
 returns-clause-taken c done =
@@ -30,28 +34,37 @@ returns-clause-taken c done =
       (opens_to p t _ _ st o).0,
       some,
       refl,
-      feed_open p t c.args.place _ r.count _ done (draft_of c.args.into.now) r.lexer.flags r.keyword_line r.lexer.line st o
-          ∙ ap (λ (x : List Draft). Some (at_state (place_view c.args.place r.count) x (begin r.lexer.line r.lexer.flags (some_if (is_context_word c.args.place) [])) no_flags r.lexer.line)) some,
+      feed_open p t c.args.place _ r.count _ done (draft_of c.args.into.now) r.lexer.flags r.keyword_line r.lexer.line
+          st o
+          ∙ ap (λ (x : List Draft). Some (at_state (place_view c.args.place r.count) x
+          (begin r.lexer.line r.lexer.flags (some_if (is_context_word c.args.place) [])) no_flags r.lexer.line))
+          some,
     )
 
 pub put-requires : goal.put-requires
 put-requires c k =
     let r = c.args.self.now in
-    rw c.deref.ensures.value (can_add r.place r.count k c.args.token r.bytes.items _ (draft_of c.args.into.now) c.requires.stands c.requires.lawful c.requires.form)
+    rw c.deref.ensures.value (can_add r.place r.count k c.args.token r.bytes.items _ (draft_of c.args.into.now)
+    c.requires.stands c.requires.lawful c.requires.form)
 
 pub returns-then-not-opens_entry-clause-form : goal.returns-then-not-opens_entry-clause-form
 returns-then-not-opens_entry-clause-form c =
     let r = c.args.self.now in
     let t = token_view c.args.token r.bytes.items in
     let put = rw c.deref.ensures.value at (c.in_ok-put.ensures r.count) in
-    rw (c.forms_after-self.ensures.is, put) (put_form (place_view r.place r.count) t (place_view c.args.place (next_count r.place c.args.token r.count)) (draft_of c.args.into.now) c.requires.stands (c.if-not-opens_entry.ensures r.bytes.items r.count) c.requires.form)
+    rw (c.forms_after-self.ensures.is, put) (put_form (place_view r.place r.count) t
+    (place_view c.args.place (next_count r.place c.args.token r.count)) (draft_of c.args.into.now) c.requires.stands
+    (c.if-not-opens_entry.ensures r.bytes.items r.count) c.requires.form)
 
 pub returns-then-is_start-clause-form : goal.returns-then-is_start-clause-form
 returns-then-is_start-clause-form c =
     let r = c.args.self.now in
-    opening_form c.args.place r.count (draft_of c.begin.new.self) (opens_opening (place_view r.place r.count) (token_view c.args.token r.bytes.items) c.args.place _ _ c.requires.stands (c.if-not-opens_entry.ensures r.bytes.items r.count))
+    opening_form c.args.place r.count (draft_of c.begin.new.self)
+    (opens_opening (place_view r.place r.count) (token_view c.args.token r.bytes.items) c.args.place _ _
+    c.requires.stands (c.if-not-opens_entry.ensures r.bytes.items r.count))
 
 pub returns-clause-form : goal.returns-clause-form
 returns-clause-form c =
     let r = c.args.self.now in
-    opens_opening (place_view r.place r.count) (token_view c.args.token r.bytes.items) c.args.place _ _ c.requires.stands (c.if-not-opens_entry.ensures r.bytes.items r.count)
+    opens_opening (place_view r.place r.count) (token_view c.args.token r.bytes.items) c.args.place _ _
+    c.requires.stands (c.if-not-opens_entry.ensures r.bytes.items r.count)
