@@ -13,8 +13,8 @@ sources = {path: path.read_text() for crate in ("catalogue", "mo_file") for path
 
 
 def contract(name, text):
-    """The heads, up to their bodies, of the functions of this name."""
-    return re.findall(rf"fn {name}\b.*?\n\s*\{{", text, re.S)
+    """The heads, up to their bodies, of the functions of this name, each on one line."""
+    return [" ".join(head.split()) for head in re.findall(rf"fn {name}\b.*?\n\s*\{{", text, re.S)]
 
 
 missing = [block.split("\n")[0] for block in re.findall(r"```rust\n(.*?)```", page, re.S) if block not in caller]
