@@ -11,6 +11,7 @@ pub record LoadValue : Type 0 where
   pub locale : List ℕ
   pub map : List Entry
 
+-- the load is for the domain and the locale
 abbrev pub is_for : List ℕ → List ℕ → LoadValue → Bool
 is_for domain locale load = bytes_eq load.domain domain && bytes_eq load.locale locale
 

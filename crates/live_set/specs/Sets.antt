@@ -16,6 +16,7 @@ pub record SetValue : Type 0 where
 abbrev pub map_in : List LoadValue → List ℕ → List ℕ → List Entry
 map_in held domain locale = map_or_empty (find (is_for domain locale) held)
 
+-- the set of no loads
 abbrev pub no_loads : SetValue
 no_loads = record { version = 0; held = [] }
 

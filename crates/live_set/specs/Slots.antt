@@ -12,6 +12,7 @@ use Rattle.live_set.specs.Loads.{LoadValue}
 abbrev pub compared : LoadValue → LoadValue → Ordering
 compared a b = ordering_then (slice_cmp nat_cmp a.locale b.locale) (slice_cmp nat_cmp a.domain b.domain)
 
+-- the first load stands before the second
 abbrev pub is_before : LoadValue → LoadValue → Bool
 is_before a b = is_lt (compared a b)
 

@@ -47,13 +47,15 @@ pub record File : Type 0 where
   pub originals : Table
   pub translations : Table
 
--- what the words of the header say: how many rows each table has, and where it begins
+-- what the words of the header say: how many rows each table has
 abbrev pub count : (ℕ → List ℕ → ℕ) → List ℕ → ℕ
 count number bytes = word_at number bytes 8
 
+-- where the table of the originals begins
 abbrev pub originals_start : (ℕ → List ℕ → ℕ) → List ℕ → ℕ
 originals_start number bytes = word_at number bytes 12
 
+-- where that of the translations begins
 abbrev pub translations_start : (ℕ → List ℕ → ℕ) → List ℕ → ℕ
 translations_start number bytes = word_at number bytes 16
 
@@ -93,6 +95,7 @@ pub record IsOriginalText (o : List ℕ) : Type 0 where
   pub utf8 : IsUtf8 o
   pub separators : count_by (λ b. b == 4) (before_nul o) ≤ 1
 
+-- UTF-8
 pub record IsTranslationText (t : List ℕ) : Type 0 where
   pub utf8 : IsUtf8 t
 
@@ -181,6 +184,7 @@ PassesBelow file n = (fault : MoFault) → rank fault < n → Passes file fault
 abbrev pub RefusedBy : File → MoFault → Type 0
 RefusedBy file fault = rank fault < 12 → ¬ Passes file fault × PassesBelow file (rank fault)
 
+-- the same of bytes
 abbrev pub Refused : List ℕ → MoFault → Type 0
 Refused bytes fault = RefusedBy (file_of bytes) fault
 
