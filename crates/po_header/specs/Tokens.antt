@@ -1,5 +1,5 @@
 -- Which tokens an expression spells (C standard, 6.4 "Lexical elements": each token is as long as it can be).
-use Rattle.std.specs.Prelude.{◌≡◌, ◌≢◌, ℕ, ◌+◌, ◌-◌, ◌*◌, ◌<◌, ◌^◌, Bool, true, ◌&&◌, ◌||◌}
+use Rattle.std.specs.Prelude.{◌≡◌, ◌≢◌, ℕ, ◌+◌, ◌-◌, ◌*◌, ◌<◌, ◌^◌, Bool, true, ◌||◌}
 use Rattle.std.specs.Prelude.{◌==◌, nat_lt, if◌then◌else◌, List, [], ◌∷◌, ◌++◌, drop, Option, None, Some, codes}
 use Rattle.std.specs.List.{take_while, filter_map, fold, prefix_len}
 use Rattle.std.specs.Char.{is_ascii_digit}
