@@ -1,18 +1,15 @@
 -- Messages that list a lawful map: texts, keys in order, the header, and the size of the file.
-use Rattle.std.proofs.Common.{◌≡◌, ◌↔◌, ℕ, zero, suc, ◌+◌, ◌<◌, ◌≤◌, Bool, true, false, cond, min, max, List, [], ◌∷◌}
-use Rattle.std.proofs.Common.{◌++◌, length, map, take, drop, get_or, Some, None, Ordering, String, Global, refl, sym}
-use Rattle.std.proofs.Common.{ap, ◌∙◌, subst, arith, add-one, append_assoc, length-append}
+use Rattle.std.proofs.Common.{◌≡◌, ◌↔◌, ℕ, zero, suc, ◌+◌, ◌<◌, Bool, true, false, cond, min, max, List, [], ◌∷◌}
+use Rattle.std.proofs.Common.{length, map, get_or, Some, None, Ordering, String, Global, refl, sym}
+use Rattle.std.proofs.Common.{ap, ◌∙◌, subst, arith, add-one, length-append}
 use Rattle.std.specs.Prelude.{IsTrue, option_map, IfSome}
 use Rattle.std.specs.Bool.{MatchBool}
 use Rattle.std.specs.List.{AllByRecursion, AllWithin, HoldsAt, IsAllAdjacentAnswer, find, sum_by, join_with_byte}
 use Rattle.std.specs.String.{string_bytes}
-use Rattle.std.specs.Ordering.{nat_cmp, is_lt, ordering_then, ordering_reverse}
+use Rattle.std.specs.Ordering.{is_lt}
 use Rattle.std.specs.declared.cmp.Ordering.TheVariants.{Less, Equal, Greater}
-use Rattle.std.specs.Cmp.Lexicographic.{slice_cmp}
-use Rattle.std.proofs.lemmas.Cmp.{nat_list_cmp_total}
 use Rattle.std.specs.Str.{bytes_eq}
 use Rattle.std.proofs.lemmas.Bool.{false≢true}
-use Rattle.std.proofs.lemmas.List.{take-append-drop, length-take-le}
 use Rattle.std.proofs.lemmas.List.Concat.{flat_map-cons}
 use Rattle.std.proofs.lemmas.List.Sums.{sum_by-cons}
 use Rattle.mo_image.specs.Entry.{Entry, key, translation}
@@ -22,7 +19,6 @@ use Rattle.catalogue.specs.Messages.{message_entry, messages_of}
 use Rattle.catalogue.specs.Sizes.{capped}
 use Rattle.catalogue.specs.Accepted.{is_below, is_header}
 use Rattle.catalogue.specs.declared.sorted.Message.{Message}
-use Rattle.mo_image.proofs.KeyParts.{cmp-append, then_assoc}
 use Rattle.mo_image.proofs.MoLengths.{length-closed, closed_joined}
 use Rattle.mo_image.proofs.FileSizes.{file_size}
 

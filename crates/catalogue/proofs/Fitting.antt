@@ -1,5 +1,5 @@
 -- The catalogue of a text within its limit has an MO file within its limit.
-use Rattle.std.proofs.Common.{◌≡◌, ℕ, ◌+◌, ◌*◌, ◌≤◌, Bool, true, false, List, [], ◌∷◌, length, map, Option, Some, None}
+use Rattle.std.proofs.Common.{◌≡◌, ℕ, ◌+◌, ◌≤◌, Bool, true, false, List, [], ◌∷◌, length, Option, Some, None}
 use Rattle.std.proofs.Common.{refl, ap, ◌∙◌, arith, length-append}
 use Rattle.std.specs.List.{AllByRecursion, cons_option, sum_by}
 use Rattle.std.proofs.lemmas.List.Concat.{flat_map-cons}
@@ -8,7 +8,7 @@ use Rattle.std.proofs.lemmas.List.Sorted.{sum_by-IsPermutation}
 use Rattle.po_text.specs.Entries as po
 use Rattle.po_text.specs.Outcome.{Gives}
 use Rattle.po_text.proofs.Sizes.{option_size, forms_size, entry_size, entries_size, gives_size}
-use Rattle.mo_image.specs.Entry.{Entry, key_bytes, with_plural, original, translation}
+use Rattle.mo_image.specs.Entry.{Entry, key_bytes, with_plural, original}
 use Rattle.mo_image.specs.MoFile.{closed, pool, spelling, entry_size as size}
 use Rattle.po_checks.specs.Kept.{message_of, is_kept}
 use Rattle.catalogue.specs.Drafts.{Outline, outline_of, outlines_from, kept_entry}

@@ -1,6 +1,5 @@
 -- Private: the slots by which an entry is found by the hash of its key.
-use Rattle.std.specs.Prelude.{◌≡◌, ℕ, ◌+◌, ◌*◌, ◌<◌, ◌≤◌, List, Option, Some, None, Contains, length, slice_get, take}
-use Rattle.std.specs.Prelude.{drop}
+use Rattle.std.specs.Prelude.{◌≡◌, ℕ, ◌<◌, ◌≤◌, List, Option, Some, None, Contains, length, slice_get}
 use Rattle.std.specs.List.Sorted.{IsNonDecreasingBy, IsPartitionPoint}
 use Rattle.std.specs.Hash.FoldHasher as folding
 use Rattle.entry_search.specs.declared.index.Slot.{Slot}

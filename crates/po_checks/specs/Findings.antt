@@ -7,20 +7,17 @@ use Rattle.po_header.specs.Rule.{Rule}
 use Rattle.c_signature.specs.Agreement.{Agrees}
 use Rattle.c_signature.specs.Signature as signature
 use Rattle.c_signature.specs.declared.Strictness.{Strictness}
-use Rattle.po_checks.specs.Checks.{NoneOf, FirstAt, HasSystemDependentText, HasOtherArguments, IsPlural, HasOtherCount}
+use Rattle.po_checks.specs.Checks.{HasSystemDependentText, HasOtherArguments}
 use Rattle.po_checks.specs.Checks.{HasOtherNewlines, has_form, IsFirstWithoutForm, Differs, begins_with_newline}
 use Rattle.po_checks.specs.Checks.{ends_with_newline}
-use Rattle.po_checks.specs.Kept.{kept, header_line_of, header_text_of, HasHeaderRule}
-use Rattle.po_checks.specs.Fails.{rank, Fails, IsFirst}
+use Rattle.po_checks.specs.Kept.{header_line_of, HasHeaderRule}
 use Rattle.po_checks.specs.declared.findings.Findings.{Findings}
 use Rattle.po_checks.specs.declared.formats.Format.{Format}
 use Rattle.po_checks.specs.declared.formats.Format.TheVariants.{Arguments, Invalid, SystemDependent}
-use Rattle.po_checks.specs.declared.plurals.FirstPlural.{FirstPlural}
 use Rattle.po_checks.specs.declared.plurals.Plurals.{Plurals}
 use Rattle.po_checks.specs.declared.options.Options.{Options}
 use Rattle.po_checks.specs.declared.fault.LoadFault.{LoadFault}
-use Rattle.po_checks.specs.declared.fault.LoadKind.{LoadKind}
-use Rattle.po_checks.specs.Found.{AreFound, FailsFrom, FirstFault, FirstLine, HasFound, HasPlurals, IsFault, LooksAt}
+use Rattle.po_checks.specs.Found.{FailsFrom, FirstFault, FirstLine, HasFound, HasPlurals}
 use Rattle.po_checks.specs.Found.{line_for, line_of}
 
 -- the line that was found before, or this one

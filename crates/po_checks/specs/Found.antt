@@ -1,20 +1,12 @@
 -- What the checks found among the kept entries that were read so far, and the first fault that it comes to.
-use Rattle.std.specs.Prelude.{◌≡◌, ◌≢◌, ◌⊎◌, ℕ, ◌≤◌, ◌==◌, Bool, not, true, false, IsTrue, if◌then◌else◌, List, [], ◌∷◌}
+use Rattle.std.specs.Prelude.{◌≡◌, ℕ, ◌≤◌, ◌==◌, Bool, IsTrue, if◌then◌else◌, List, [], ◌∷◌}
 use Rattle.std.specs.Prelude.{◌++◌, Option, Some, None}
 use Rattle.po_text.specs.Entries as po
-use Rattle.po_header.specs.Grammar.{Tree}
-use Rattle.po_header.specs.Rule.{Rule}
-use Rattle.c_signature.specs.Agreement.{Agrees}
-use Rattle.c_signature.specs.Signature as signature
-use Rattle.c_signature.specs.declared.Strictness.{Strictness}
 use Rattle.po_checks.specs.Checks.{NoneOf, FirstAt, HasSystemDependentText, HasOtherArguments, IsPlural, HasOtherCount}
-use Rattle.po_checks.specs.Checks.{HasOtherNewlines, has_form, IsFirstWithoutForm, Differs, begins_with_newline}
-use Rattle.po_checks.specs.Checks.{ends_with_newline}
-use Rattle.po_checks.specs.Kept.{kept, header_line_of, header_text_of, HasHeaderRule}
+use Rattle.po_checks.specs.Checks.{HasOtherNewlines}
+use Rattle.po_checks.specs.Kept.{kept, header_line_of, header_text_of}
 use Rattle.po_checks.specs.Fails.{rank, Fails, IsFirst}
 use Rattle.po_checks.specs.declared.findings.Findings.{Findings}
-use Rattle.po_checks.specs.declared.formats.Format.{Format}
-use Rattle.po_checks.specs.declared.formats.Format.TheVariants.{Arguments, Invalid, SystemDependent}
 use Rattle.po_checks.specs.declared.plurals.FirstPlural.{FirstPlural}
 use Rattle.po_checks.specs.declared.plurals.Plurals.{Plurals}
 use Rattle.po_checks.specs.declared.options.Options.{Options}
