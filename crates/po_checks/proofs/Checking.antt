@@ -22,7 +22,7 @@ use Rattle.po_checks.specs.Kept.{is_kept, kept}
 use Rattle.po_checks.specs.declared.findings.Findings.{Findings}
 use Rattle.po_checks.specs.declared.formats.Format.{Format}
 use Rattle.po_checks.specs.declared.formats.Format.TheVariants.{Arguments, Invalid, SystemDependent}
-use Rattle.po_checks.specs.declared.formats.FormatFaults.{FormatFaults}
+use Rattle.po_checks.specs.declared.formats.FormatFindings.{FormatFindings}
 use Rattle.po_checks.specs.declared.plurals.Plurals.{Plurals}
 use Rattle.po_checks.specs.declared.options.Options.{Options}
 use Rattle.po_checks.proofs.FirstLines.{first_more, first_skip, any_head, any_tail, any_cases, any_none, any_left}
@@ -200,12 +200,12 @@ original_is e f rule r rule_is = subst (λ s. Any (DiffersFrom f s) e.forms ↔ 
     )
 
 -- the faults of the first k forms
-pub record FormFaults (original : Format) (rule : Strictness) (forms : List (List ℕ)) (k : ℕ) (faults : FormatFaults) :
+pub record FormFaults (original : Format) (rule : Strictness) (forms : List (List ℕ)) (k : ℕ) (faults : FormatFindings) :
     Type 0 where
   pub dependent : IsTrue faults.system_dependent ↔ Any signature.IsSystemDependent (take k forms)
   pub mismatch : IsTrue faults.mismatch ↔ Any (DiffersFrom original rule) (take k forms)
 
-pub no_faults : (original : Format) (rule : Strictness) (forms : List (List ℕ)) (faults : FormatFaults) → faults
+pub no_faults : (original : Format) (rule : Strictness) (forms : List (List ℕ)) (faults : FormatFindings) → faults
     ≡ record { system_dependent = false; mismatch = false } → FormFaults original rule forms 0 faults
 no_faults original rule forms faults is = record {
   dependent = (
@@ -218,7 +218,7 @@ no_faults original rule forms faults is = record {
   );
 }
 
-pub one_more_form : (original : Format) (rule : Strictness) (forms : List (List ℕ)) (k : ℕ) (old new : FormatFaults)
+pub one_more_form : (original : Format) (rule : Strictness) (forms : List (List ℕ)) (k : ℕ) (old new : FormatFindings)
     (text : List ℕ) (form : Format) → FormFaults original rule forms k old → slice_get forms k ≡ Some text
     → IsReadAs text form → new.system_dependent ≡ (is_dependent form || old.system_dependent)
     → (IsTrue new.mismatch ↔ (FormatsDiffer original form rule ⊎ IsTrue old.mismatch))

@@ -19,7 +19,7 @@ pub(crate) enum Format {
 
 /// What the formats of an entry are refused for.
 #[derive(Clone, Copy)]
-pub(crate) struct FormatFaults {
+pub(crate) struct FormatFindings {
     /// A text is system-dependent.
     pub(crate) system_dependent: bool,
     /// A form differs from its original.
@@ -57,34 +57,34 @@ fn differs(original: &Format, form: &Format, rule: Strictness) -> bool
     }
 }
 
-impl FormatFaults {
+impl FormatFindings {
     /// No text was looked at.
-    fn none() -> FormatFaults
+    fn none() -> FormatFindings
         ensures { result ≡ record { system_dependent = false; mismatch = false } }
     {
-        FormatFaults {
+        FormatFindings {
             system_dependent: false,
             mismatch: false,
         }
     }
 
     /// With one more text.
-    fn with_text(self, text: &Format) -> FormatFaults
+    fn with_text(self, text: &Format) -> FormatFindings
         ensures dependent { result.system_dependent ≡ (is_dependent text.now || self.system_dependent) }
         ensures mismatch { result.mismatch ≡ self.mismatch }
     {
-        FormatFaults {
+        FormatFindings {
             system_dependent: is_system_dependent(text) || self.system_dependent,
             mismatch: self.mismatch,
         }
     }
 
     /// With one more form, beside its original.
-    fn with_form(self, original: &Format, form: &Format, rule: Strictness) -> FormatFaults
+    fn with_form(self, original: &Format, form: &Format, rule: Strictness) -> FormatFindings
         ensures dependent { result.system_dependent ≡ (is_dependent form.now || self.system_dependent) }
         ensures mismatch { IsTrue result.mismatch ↔ (FormatsDiffer original.now form.now rule ⊎ IsTrue self.mismatch) }
     {
-        FormatFaults {
+        FormatFindings {
             system_dependent: is_system_dependent(form) || self.system_dependent,
             mismatch: differs(original, form, rule) || self.mismatch,
         }
@@ -97,12 +97,12 @@ fn form_faults(
     entry: &EntryBuffer,
     original: &Format,
     rule: Strictness,
-) -> Result<FormatFaults, AllocError>
+) -> Result<FormatFindings, AllocError>
     ensures dependent { IfOk result (λ faults. IsTrue faults.system_dependent ↔ Any IsSystemDependent entry.now.forms) }
     ensures mismatch { IfOk result (λ faults. IsTrue faults.mismatch
         ↔ Any (DiffersFrom original.now rule) entry.now.forms) }
 {
-    let mut faults = FormatFaults::none();
+    let mut faults = FormatFindings::none();
     'forms: for k in 0..entry.form_count() {
         let form = read_format(alloc, entry.form(k))?;
         faults = faults.with_form(original, &form, rule);
@@ -111,7 +111,7 @@ fn form_faults(
 }
 
 /// The faults of an entry that is flagged `c-format`.
-fn flagged_faults(alloc: Global, entry: &EntryBuffer) -> Result<FormatFaults, AllocError>
+fn flagged_faults(alloc: Global, entry: &EntryBuffer) -> Result<FormatFindings, AllocError>
     ensures dependent { IfOk result
         (λ faults. IsTrue faults.system_dependent ↔ Any IsSystemDependent (texts entry.now)) }
     ensures mismatch { IfOk result (λ faults. IsTrue faults.mismatch ↔ FormsDiffer entry.now) }
@@ -127,12 +127,15 @@ fn flagged_faults(alloc: Global, entry: &EntryBuffer) -> Result<FormatFaults, Al
 }
 
 /// What the formats of an entry are refused for.
-pub(crate) fn format_faults(alloc: Global, entry: &EntryBuffer) -> Result<FormatFaults, AllocError>
+pub(crate) fn format_faults(
+    alloc: Global,
+    entry: &EntryBuffer,
+) -> Result<FormatFindings, AllocError>
     ensures dependent { IfOk result (λ faults. IsTrue faults.system_dependent ↔ HasSystemDependentText entry.now) }
     ensures mismatch { IfOk result (λ faults. IsTrue faults.mismatch ↔ HasOtherArguments entry.now) }
 {
     if !entry.is_c_format() {
-        return Ok(FormatFaults::none());
+        return Ok(FormatFindings::none());
     }
     flagged_faults(alloc, entry)
 }
