@@ -200,7 +200,8 @@ original_is e f rule r rule_is = subst (λ s. Any (DiffersFrom f s) e.forms ↔ 
     )
 
 -- the faults of the first k forms
-pub record FormFaults (original : Format) (rule : Strictness) (forms : List (List ℕ)) (k : ℕ) (faults : FormatFindings) :
+pub record FormFaults (original : Format) (rule : Strictness) (forms : List (List ℕ)) (k : ℕ) (faults : FormatFindings)
+    :
     Type 0 where
   pub dependent : IsTrue faults.system_dependent ↔ Any signature.IsSystemDependent (take k forms)
   pub mismatch : IsTrue faults.mismatch ↔ Any (DiffersFrom original rule) (take k forms)
