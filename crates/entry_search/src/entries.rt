@@ -61,6 +61,7 @@ impl Entries {
     }
 
     /// The entry of this msgid in this context, or in none; None exactly where there is no such entry.
+    #[inline(always)]
     pub fn find(&self, context: Option<&str>, id: &str) -> Option<EntryRef<'_>>
         ensures { result ≡ entry_at self.now (key_bytes (option_map (λ s. s.now) context.entry) id.now) }
     {

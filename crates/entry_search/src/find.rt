@@ -80,6 +80,7 @@ impl<'a> Asked<'a> {
     }
 
     /// The hash of this key; None where the context holds the byte that parts the two in keys.
+    #[inline]
     fn hash(&self) -> Option<u64>
         ensures { IfSome result (λ h. h ≡ hash self.now) }
     {
@@ -108,6 +109,7 @@ impl<'a> Asked<'a> {
     }
 
     /// Whether the key of an original is this one.
+    #[inline]
     fn is_key_of(&self, original: &str) -> bool
         ensures { result ≡ bytes_eq (key_part original.now) self.now }
     {
@@ -136,6 +138,7 @@ fn compare<L: Ledger>(original: &str, asked: &Asked<'_>, steps: &mut Steps<L>) -
 }
 
 /// Whether the key of an original is the one asked for, which is one step.
+#[inline]
 fn is_same<L: Ledger>(original: &str, asked: &Asked<'_>, count: &mut Steps<L>) -> bool
     ensures same { result ≡ bytes_eq (key_part original.now) asked.now }
     ensures step { count.new ≡ count.old + 1 }
@@ -182,6 +185,7 @@ fn search<'a, L: Ledger>(
 }
 
 /// The entry of this key, by the slot that the index has of its hash.
+#[inline(always)]
 fn search_indexed<'a, L: Ledger>(
     image: &'a Image,
     index: &Index,
@@ -204,6 +208,7 @@ fn search_indexed<'a, L: Ledger>(
 }
 
 /// The entry of this key, by the index where there is one.
+#[inline(always)]
 fn search_by<'a, L: Ledger>(
     image: &'a Image,
     index: Option<&Index>,
@@ -221,6 +226,7 @@ fn search_by<'a, L: Ledger>(
 }
 
 /// The same, for a caller that counts nothing.
+#[inline(always)]
 fn search_uncounted<'a, L: Ledger>(
     image: &'a Image,
     index: Option<&Index>,
@@ -238,6 +244,7 @@ fn search_uncounted<'a, L: Ledger>(
 }
 
 /// The entry of this msgid in this context, or in none, by the index where there is one.
+#[inline(always)]
 pub(crate) fn find_in<'a>(
     image: &'a Image,
     index: Option<&Index>,

@@ -41,6 +41,7 @@ impl Model for Index {
 }
 
 /// The hash of a msgid alone.
+#[inline]
 fn hash_alone(id: &str) -> u64
     ensures { result ≡ hash_alone id.now }
 {
@@ -60,6 +61,7 @@ pub(crate) fn hash_within(context: &str, id: &str) -> u64
 }
 
 /// The hash of a key.
+#[inline]
 pub(crate) fn hash_of(key: &str) -> u64
     ensures { result ≡ hash key.now }
 {
