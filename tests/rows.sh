@@ -16,19 +16,6 @@ run() {
 # whole: how many bytes $room/in has
 whole() { echo "$(($(wc -c < "$room/in")))"; }
 
-# judge NAME STATUS ERR: compares the last run's status, and what it said on its error output with the line ERR (or
-# nothing, where ERR is empty). False where one differs. Its standard output is the caller's to look at.
-judge() {
-  if [ "$status" != "$2" ]; then
-    failed "$1" "status $status and not $2; it said '$(head -c 300 "$room/err")'"
-  elif ! printf '%s' "${3:+$3$'\n'}" | cmp -s - "$room/err"; then
-    failed "$1" "it said '$(head -c 300 "$room/err")' and not '$3'"
-  else
-    return 0
-  fi
-  return 1
-}
-
 # tells NAME ERR HEX WORD..: these words read all of $room/in, write the bytes HEX (white space in it counts for
 # nothing), say ERR, and end with 0
 tells() {

@@ -49,22 +49,10 @@ run() {
   status=$?
 }
 
-# said NAME STATUS LINES: judges the status and the error output of the last run; false where one differs
-said() {
-  if [ "$status" != "$2" ]; then
-    failed "$1" "status $status and not $2; it said '$(head -c 300 "$room/err")'"
-  elif ! printf '%s\n' "$3" | cmp -s - "$room/err"; then
-    failed "$1" "it said '$(head -c 300 "$room/err")' and not '$3'"
-  else
-    return 0
-  fi
-  return 1
-}
-
 # compiled NAME OPTIONS STATISTICS ORIGINAL TRANSLATION ..
 compiled() {
   run "$2"
-  said "$1" 0 "$3" || return
+  judge "$1" 0 "$3" || return
   local name=$1
   shift 3
   if [ "$(hex < "$room/out")" = "$(mo_file "$@")" ]; then ok "$name"; else failed "$name" "it wrote $(hex < "$room/out")"; fi
@@ -73,7 +61,7 @@ compiled() {
 # refused NAME OPTIONS LINE: WHY
 refused() {
   run "$2"
-  said "$1" 1 "-:$3" || return
+  judge "$1" 1 "-:$3" || return
   if [ -s "$room/out" ]; then failed "$1" "it wrote $(($(wc -c < "$room/out"))) bytes"; else ok "$1"; fi
 }
 
@@ -138,8 +126,8 @@ unescaped() {
   printf '%s' "${text%'"'}"
 }
 
-# judge: runs the answer that stands in $answer, with the lines that followed it
-judge() {
+# settle: runs the answer that stands in $answer, with the lines that followed it
+settle() {
   [ -n "$answer" ] || return
   local head=${answer%%:*} rest=${answer#*: } words name
   read -r -a words <<< "${head%,*}"
@@ -170,7 +158,7 @@ take() {
       lines+=("${pair%%'" = "'*}" "${pair#*'" = "'}") ;;
     gettext* | pgettext* | ngettext* | npgettext*) lines+=("$1") ;;
     *)
-      judge
+      settle
       answer=$1 lines=() ;;
   esac
 }
@@ -179,7 +167,7 @@ case_name='' answer='' lines=() in_text=no
 while IFS= read -r line; do
   case $line in
     '== '*)
-      judge
+      settle
       case_name=${line#'== '} in_text=yes
       : > "$room/text" ;;
     '-- '*)
@@ -188,4 +176,4 @@ while IFS= read -r line; do
     *) [ $in_text = no ] || printf '%s\n' "$line" >> "$room/text" ;;
   esac
 done < tests/texts.txt
-judge
+settle
