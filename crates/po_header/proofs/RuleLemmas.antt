@@ -40,7 +40,7 @@ given_broken text n tree h g =
     (subst (λ (t : List ℕ). (leading_number h.count ≡ None) ⊎ (IsTooLong t ⊎ IsMalformed t)) (sym expr)
     (subst (λ (t : List ℕ). (leading_number t ≡ None) ⊎ (IsTooLong g.expr ⊎ IsMalformed g.expr)) (sym count) g.fails))
 
-absent_both : (text count expr : List ℕ) → HasRule text Absent → HasBoth text count expr → ⊥
+pub absent_both : (text count expr : List ℕ) → HasRule text Absent → HasBoth text count expr → ⊥
 absent_both text count expr (inl none) h = Follows-lacks _ text count h.count_is none
 absent_both text count expr (inr none) h = Follows-lacks _ text expr h.expr_is none
 

@@ -1,7 +1,6 @@
 -- Which tree a text is read as.
 use Rattle.std.specs.Prelude.{ℕ, ◌<◌, Bool, not, ◌||◌, ◌==◌, List, length}
 use Rattle.std.specs.List.{take_while}
-use Rattle.po_header.specs.declared.TheConstants.{EXPRESSION_LIMIT}
 use Rattle.po_header.specs.declared.token.Token.{Token}
 use Rattle.po_header.specs.Tokens.{Spells}
 use Rattle.po_header.specs.Grammar.{Tree, Derives}
@@ -14,9 +13,9 @@ is_inside b = not (b == 59 || b == 10)
 abbrev pub expression : List ℕ → List ℕ
 expression text = take_while is_inside text
 
--- an expression has too many bytes (a limit of our own)
+-- an expression has more than 1,000 bytes (a limit of our own)
 abbrev pub IsTooLong : List ℕ → Type 0
-IsTooLong text = EXPRESSION_LIMIT < length (expression text)
+IsTooLong text = 1000 < length (expression text)
 
 -- the text's tokens derive the tree
 pub record SpellsTree (text : List ℕ) (tree : Tree) : Type 0 where

@@ -1,6 +1,6 @@
 -- The fields of a header (GNU gettext manual, "Header Entry").
 use Rattle.std.specs.Prelude.{ℕ, ◌+◌, Bool, ◌==◌, nat_eq, if◌then◌else◌, List, []}
-use Rattle.std.specs.Prelude.{◌∷◌, ◌++◌, length, drop, Option, None, Some}
+use Rattle.std.specs.Prelude.{◌∷◌, ◌++◌, length, map, drop, is_none, Option, None, Some, codes}
 use Rattle.std.specs.List.{find, slice_split, starts_with}
 use Rattle.std.specs.Option.{option_map}
 use Rattle.po_header.specs.Tokens.{behind_blanks}
@@ -27,3 +27,13 @@ field_value text name = option_map (value_of name) (find (has_name name) (lines 
 -- the value of one line, if it has the name
 abbrev pub line_value : List ℕ → List ℕ → Option (List ℕ)
 line_value name line = if has_name name line then Some (value_of name line) else None
+
+-- the names of the fields that a header is expected to have, in their order (our choice)
+abbrev pub expected_names : List (List ℕ)
+expected_names = codes "Project-Id-Version" ∷ codes "PO-Revision-Date" ∷ codes "Last-Translator"
+    ∷ codes "Language-Team" ∷ codes "MIME-Version" ∷ codes "Content-Type" ∷ codes "Content-Transfer-Encoding"
+    ∷ codes "Language" ∷ []
+
+-- which of these fields the text lacks
+abbrev pub missing : List ℕ → List Bool
+missing text = map (λ name. is_none (field_value text name)) expected_names

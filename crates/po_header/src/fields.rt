@@ -1,8 +1,8 @@
 // The fields of a header.
-ghost use Rattle.std.specs.Prelude.{◌≡◌, ℕ, ◌≤◌, List, Option, length, map, is_none};
+ghost use Rattle.std.specs.Prelude.{◌≡◌, ℕ, ◌≤◌, List, Option, length, is_none};
 ghost use Rattle.std.specs.Option.{option_copied};
 ghost use Rattle.po_header.specs.Tokens.{behind_blanks};
-ghost use Rattle.po_header.specs.Fields.{field_value, line_value};
+ghost use Rattle.po_header.specs.Fields.{field_value, line_value, missing};
 
 use crate::token::blanks_len;
 
@@ -58,7 +58,7 @@ fn lacks(text: &str, name: &str) -> bool
 
 /// Which of `FIELD_NAMES` a header's text lacks.
 pub fn missing_fields(text: &str) -> [bool; 8]
-    ensures { result ≡ map (λ name. is_none (field_value text.now name.now)) FIELD_NAMES }
+    ensures { result ≡ missing text.now }
 {
     let [
         project,

@@ -1,6 +1,6 @@
 // The rule for plural forms.
-ghost use Rattle.std.specs.Prelude.{◌≡◌, ℕ, List, IfOk, option_map};
-ghost use Rattle.po_header.specs.Rule.{Rule, HasRule, HasRuleIn, leading_number, place};
+ghost use Rattle.std.specs.Prelude.{◌≡◌, ℕ, List, IfOk, IsOk, option_map};
+ghost use Rattle.po_header.specs.Rule.{Absent, Rule, HasRule, HasRuleIn, leading_number, place};
 ghost use Rattle.po_header.specs.Rules.{rule_of};
 
 use crate::ExprFault;
@@ -36,7 +36,10 @@ fn number_at(text: &[u8]) -> Option<u64>
 /// Reads the rule in a header's text, by the first `nplurals=` and the first `plural=`
 /// (GNU gettext manual, "Plural forms").
 pub fn read_rule(alloc: Global, text: &str) -> Result<RuleRead, AllocError>
-    ensures { IfOk result (λ rule. HasRule text.now (rule_of rule)) }
+    ensures ok { IfOk result (λ rule. HasRule text.now (rule_of rule)) }
+
+    // A text without a rule takes no memory.
+    ensures no_memory { HasRule text.now Absent → IsOk result }
 {
     let Some(count) = behind(text, "nplurals=") else {
         return Ok(RuleRead::Absent)
@@ -57,7 +60,8 @@ pub fn read_rule(alloc: Global, text: &str) -> Result<RuleRead, AllocError>
 
 /// The rule in the text of a header, where there is a header; without one it is absent.
 pub fn rule_in(alloc: Global, header: Option<&str>) -> Result<RuleRead, AllocError>
-    ensures { IfOk result (λ rule. HasRuleIn (option_map (λ text. text.now) header.entry) (rule_of rule)) }
+    ensures ok { IfOk result (λ rule. HasRuleIn (option_map (λ text. text.now) header.entry) (rule_of rule)) }
+    ensures no_memory { HasRuleIn (option_map (λ text. text.now) header.entry) Absent → IsOk result }
 {
     match header {
         Some(text) => read_rule(alloc, text),
