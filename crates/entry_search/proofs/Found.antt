@@ -17,7 +17,7 @@ use Rattle.entry_search.specs.Index.{hash, hash_by, hash_within, HasNoSlot, IsIn
 use Rattle.mo_image.specs.MoFile.{spelling}
 use Rattle.mo_image.specs.Extents.{AreExtentsOf}
 use Rattle.entry_search.specs.declared.index.Slot.{Slot}
-use Rattle.entry_search.proofs.Searching.{apart, find_none, find_some, greater_ne, less_ne, some_is}
+use Rattle.entry_search.proofs.Searching.{apart, few_steps, find_none, find_some, greater_ne, less_ne, some_is}
 use Rattle.mo_image.proofs.EntryParts.{cut-some}
 use Rattle.mo_image.proofs.Originals.{uncut_at}
 
@@ -75,7 +75,7 @@ tied_same x y = elim (slice_cmp nat_cmp x y) as (λ o. slice_cmp nat_cmp x y ≡
 pub one_digit : (n old new : ℕ) → new ≡ old + 1 → 0 < n → AtMostDigits n old new
 one_digit n old new step some =
     let e : new - old ≡ 1 = omega (arith, step) in
-    record { counted = omega (arith, step); cost = rw e (omega (arith, some)) }
+    few_steps n old new (omega (arith, step)) (rw e (omega (arith, some)))
 
 -- the hash of a key whose context holds no EOT
 pub hash_of_pair : (context id : List ℕ) → cut 4 context ≡ None → hash (context ++ (4 ∷ id)) ≡ hash_within context id

@@ -1,6 +1,6 @@
 -- The place of a key among rising keys, and a search for it by halves.
 use Rattle.std.proofs.Common.{◌≡◌, ℕ, zero, suc, ◌+◌, ◌<◌, ◌≤◌, true, false, List, [], ◌∷◌, length, map, Option, Some}
-use Rattle.std.proofs.Common.{None, Ordering, slice_get, refl, sym, ap, ◌∙◌, subst, arith, inl, inr}
+use Rattle.std.proofs.Common.{None, Ordering, slice_get, refl, sym, ap, ◌∙◌, subst, arith, lit≤, inl, inr}
 use Rattle.std.specs.Prelude.{IfSome, ◌-◌, ◌*◌, ◌/◌, ◌^◌}
 use Rattle.std.specs.Ordering.{nat_cmp, ordering_reverse}
 use Rattle.std.specs.declared.cmp.Ordering.TheVariants.{Less, Equal, Greater}
@@ -12,10 +12,13 @@ use Rattle.std.proofs.lemmas.Cmp.{nat_list_cmp_total, tied_itself}
 use Rattle.std.proofs.lemmas.Slice.Eq.{bytes_eq-Decides}
 use Rattle.std.proofs.lemmas.Nat.{mul-le}
 use Rattle.std.proofs.Math.Nat.{pow-suc}
+use Rattle.std.proofs.Math.Pow.{pow_mono}
+use Rattle.std.proofs.lemmas.Int.Digits.{number_lt, number_digits_of, all_below_base_digits_of}
+use Rattle.std.specs.Int.Digits.{digits_of}
 use Rattle.std.specs.FinMap.{slice_cmp-IsAntisymmetric, nat_cmp-IsAntisymmetric}
 use Rattle.mo_image.specs.Entry.{Entry, key}
 use Rattle.mo_image.specs.Map.{Rises, entry_at}
-use Rattle.entry_search.specs.Search.{AtMostDigits}
+use Rattle.entry_search.specs.Search.{AtMostDigits, digits}
 use Rattle.mo_image.proofs.Lists.{slice_get-map}
 
 -- the entries before `low` have lesser keys than the one asked for
@@ -149,6 +152,23 @@ order_at m i e asked o order here = sym (subst (λ (x : Option Entry). IfSome x
 
 -- ---- the cost
 
+enough_digits : (n : ℕ) → n < 2 ^ digits n
+enough_digits n =
+    subst (λ (value : ℕ). value < 2 ^ digits n) (number_digits_of 2 n (lit≤ tt))
+    (number_lt 2 (digits_of 2 n) (all_below_base_digits_of 2 n (lit≤ tt)))
+
+-- each step but the last halves what is left
+pub few_steps : (n old new : ℕ) → old ≤ new → 2 ^ (new - old) ≤ 2 * n + 1 → AtMostDigits n old new
+few_steps n old new counted small = record {
+  counted = counted;
+  cost = elim (cases_lt (digits n) (new - old)) [
+    | inl more ↦
+        let grown : 2 ^ suc (digits n) ≤ 2 ^ (new - old) = pow_mono (omega (arith, more)) in
+        absurd (omega (arith, enough_digits n, grown, pow-suc 2 (digits n), small))
+    | inr few ↦ omega (arith, few, counted)
+  ];
+}
+
 doubled : (old now : ℕ) → old ≤ now → 2 ^ (now + 1 - old) ≡ 2 * 2 ^ (now - old)
 doubled old now le =
     let e : now + 1 - old ≡ suc (now - old) = omega arith in
@@ -188,14 +208,12 @@ costs m old now next s t le step some half left =
 
 pub cost_here : (m : List Entry) (asked : List ℕ) (old now next low high : ℕ) → Range m asked old now low high
     → low < high → next ≡ now + 1 → AtMostDigits (length m) old next
-cost_here m asked old now next low high r lt step = record {
-  counted = omega (arith, r.counted, step);
-  cost = (costs m old now next (high - low) 0 r.counted step (omega arith) (omega arith) r.left).0;
-}
+cost_here m asked old now next low high r lt step = few_steps (length m) old next (omega (arith, r.counted, step))
+    (costs m old now next (high - low) 0 r.counted step (omega arith) (omega arith) r.left).0
 
 pub cost_there : (m : List Entry) (asked : List ℕ) (old now low high : ℕ) → Range m asked old now low high
     → AtMostDigits (length m) old now
-cost_there m asked old now low high r = record { counted = r.counted; cost = r.cost }
+cost_there m asked old now low high r = few_steps (length m) old now r.counted r.cost
 
 pub goes_up : (m : List Entry) (asked : List ℕ) (old now next low high mid : ℕ) → Range m asked old now low high
     → Rises (map key m) → low < high → mid ≡ low + (high - low) / 2 → next ≡ now + 1

@@ -1,7 +1,6 @@
 //! Why a text is refused.
 ghost use Rattle.std.specs.Prelude.{◌≡◌};
-ghost use Rattle.po_checks.specs.declared.fault.LoadKind.TheVariants.{Memory};
-ghost use Rattle.po_checks.specs.Refusal.{kind_of};
+ghost use Rattle.po_checks.specs.Refusal.{kind_of, out_of_memory};
 
 use po_text::{PoFault, PoKind};
 use std::alloc::{AllocError, AllocFailed};
@@ -76,7 +75,7 @@ pub struct LoadFault {
 }
 
 impl From<AllocError> for LoadFault {
-    ghost from_gives = { λ _ f. f.kind ≡ Memory };
+    ghost from_gives = { λ _ f. f ≡ out_of_memory };
 
     fn from(_: AllocError) -> LoadFault {
         LoadFault {
@@ -87,7 +86,7 @@ impl From<AllocError> for LoadFault {
 }
 
 impl<T: Drop> From<AllocFailed<T>> for LoadFault {
-    ghost from_gives = { λ _ f. f.kind ≡ Memory };
+    ghost from_gives = { λ _ f. f ≡ out_of_memory };
 
     fn from(_: AllocFailed<T>) -> LoadFault {
         LoadFault {

@@ -1,8 +1,9 @@
 //! The checks of a text, over its kept entries in the order in which they are read.
-ghost use Rattle.std.specs.Prelude.{◌≡◌, [], OnOk, IfOk, option_map};
+ghost use Rattle.std.specs.Prelude.{◌≡◌, ◌&&◌, [], OnOk, IfOk, IfErr, IsTrue, option_map};
 ghost use Rattle.po_header.specs.Rules.{rule_of};
 ghost use Rattle.po_checks.specs.Findings.{first_or, AddsFormats, AddsTexts, IsCheckedFault};
 ghost use Rattle.po_checks.specs.Found.{HasFound, IsFault, LooksAt};
+ghost use Rattle.po_checks.specs.Kept as Kept;
 
 use crate::formats::format_faults;
 use crate::kept::is_kept;
@@ -61,7 +62,8 @@ impl Findings {
 
     /// Looks at the formats of a kept entry.
     fn look_at_formats(&mut self, alloc: Global, entry: &EntryBuffer) -> Result<(), AllocError>
-        ensures { OnOk result (AddsFormats self.old self.new entry.now) }
+        ensures ok { OnOk result (AddsFormats self.old self.new entry.now) }
+        ensures no_memory { IfErr result (λ _. IsTrue entry.now.c_format) }
     {
         let faults = format_faults(alloc, entry)?;
         let line = entry.line();
@@ -85,7 +87,10 @@ impl Findings {
         entry: &EntryBuffer,
         options: Options,
     ) -> Result<(), AllocError>
-        ensures { OnOk result (LooksAt options entry.now self.old self.new) }
+        ensures ok { OnOk result (LooksAt options entry.now self.old self.new) }
+
+        // Formats alone take memory.
+        ensures no_memory { IfErr result (λ _. IsTrue (Kept.is_kept options entry.now && entry.now.c_format)) }
     {
         if !is_kept(entry, options) {
             return Ok(());
@@ -121,8 +126,11 @@ impl Findings {
         header: Option<&str>,
         header_line: u32,
     ) -> Result<Option<LoadFault>, AllocError>
-        ensures { IfOk result (λ fault. IsFault self.now options (option_map (λ text. text.now) header.entry)
+        ensures ok { IfOk result (λ fault. IsFault self.now options (option_map (λ text. text.now) header.entry)
             header_line fault) }
+
+        // Only at the checked level is the rule read, which takes memory.
+        ensures no_memory { IfErr result (λ _. IsTrue options.checked) }
     {
         if let Some(line) = self.system_dependent {
             let kind = LoadKind::SystemDependent;

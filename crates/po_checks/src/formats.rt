@@ -1,5 +1,5 @@
 //! The check of C formats: the arguments of a form are those of its original.
-ghost use Rattle.std.specs.Prelude.{◌≡◌, ◌⊎◌, ◌↔◌, ◌||◌, false, IsTrue, IfOk};
+ghost use Rattle.std.specs.Prelude.{◌≡◌, ◌⊎◌, ◌↔◌, ◌||◌, false, IsTrue, IfOk, IfErr};
 ghost use Rattle.std.specs.List.{Any};
 ghost use Rattle.c_signature.specs.Signature.{IsSystemDependent};
 ghost use Rattle.po_checks.specs.Checks.{texts, FormsDiffer, HasOtherArguments, HasSystemDependentText};
@@ -133,6 +133,7 @@ pub(crate) fn format_faults(
 ) -> Result<FormatFindings, AllocError>
     ensures dependent { IfOk result (λ faults. IsTrue faults.system_dependent ↔ HasSystemDependentText entry.now) }
     ensures mismatch { IfOk result (λ faults. IsTrue faults.mismatch ↔ HasOtherArguments entry.now) }
+    ensures no_memory { IfErr result (λ _. IsTrue entry.now.c_format) }
 {
     if !entry.is_c_format() {
         return Ok(FormatFindings::none());
