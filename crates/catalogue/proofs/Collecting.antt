@@ -1,7 +1,6 @@
 -- The texts so far are those of the entries that were read.
-use Rattle.std.proofs.Common.{◌≡◌, ℕ, ◌+◌, true, false, List, [], ◌∷◌, ◌++◌, length, map, refl, sym, ap, ◌∙◌, inl, inr}
+use Rattle.std.proofs.Common.{◌≡◌, ℕ, ◌+◌, true, false, List, [], ◌∷◌, ◌++◌, length, map, sym, ap, ◌∙◌, inl, inr}
 use Rattle.std.proofs.Common.{arith}
-use Rattle.std.specs.Prelude.{◌⊎◌}
 use Rattle.std.specs.List.{AllByRecursion, flat_map}
 use Rattle.std.proofs.lemmas.Grind.{flat_map-append}
 use Rattle.std.proofs.lemmas.List.{append-nil, map-append, length-map}
@@ -23,7 +22,6 @@ use Rattle.po_checks.specs.declared.findings.Findings.{Findings}
 use Rattle.po_checks.specs.declared.options.Options.{Options}
 use Rattle.catalogue.specs.declared.drafts.Draft.{Draft}
 use Rattle.catalogue.specs.declared.spans.Span.{Span}
-use Rattle.po_checks.specs.declared.fault.LoadKind.TheVariants.{Memory}
 use Rattle.catalogue.proofs.PoEntries.{message_lawful}
 use Rattle.catalogue.proofs.InOrder.{length-outlines_from}
 
@@ -109,15 +107,21 @@ collects_all text o reader next texts spans findings e readable c ends = record 
   found = c.found;
 }
 
+-- want of memory is no fault of a text
+no_memory : (text : List ℕ) (line : ℕ) → outcome.Refuses text kinds.Memory line → ⊥
+no_memory text line (readable, inl fault) = fault.fault
+no_memory text line (readable, inr (found, spells, inl closes)) = closes.how
+no_memory text line (readable, inr (found, spells, inr (is, early))) = absurd (cc is)
+
 -- a refusal of the PO text is the compiler's
-pub refused_as : (text : List ℕ) (o : Options) (kind : PoKind) (line : ℕ) → outcome.Refuses text kind line
-    → (kind_of kind ≡ Memory) ⊎ Refuses text o (kind_of kind) line
-refused_as text o kinds.TooLarge line r = inr r
-refused_as text o kinds.NotUtf8 line r = inr r
-refused_as text o kinds.BadEscape line r = inr r
-refused_as text o kinds.OpenString line r = inr r
-refused_as text o kinds.BadWord line r = inr r
-refused_as text o kinds.BadText line r = inr r
-refused_as text o kinds.BadOrder line r = inr r
-refused_as text o kinds.BadIndex line r = inr r
-refused_as text o kinds.Memory line r = inl refl
+pub text_refuses : (text : List ℕ) (o : Options) (fault : PoKind) (line : ℕ) → outcome.Refuses text fault line
+    → Refuses text o (kind_of fault) line
+text_refuses text o kinds.TooLarge line r = r
+text_refuses text o kinds.NotUtf8 line r = r
+text_refuses text o kinds.BadEscape line r = r
+text_refuses text o kinds.OpenString line r = r
+text_refuses text o kinds.BadWord line r = r
+text_refuses text o kinds.BadText line r = r
+text_refuses text o kinds.BadOrder line r = r
+text_refuses text o kinds.BadIndex line r = r
+text_refuses text o kinds.Memory line r = absurd (no_memory text line r)

@@ -15,8 +15,6 @@ use Rattle.std.proofs.lemmas.List.Elements.{Contains-append_left, Contains-appen
 use Rattle.std.proofs.lemmas.List.Quantifiers.{all_pairs_push}
 use Rattle.po_text.specs.Entries as po
 use Rattle.po_text.specs.Outcome as outcome
-use Rattle.po_text.specs.declared.fault.PoKind.{PoKind}
-use Rattle.po_text.specs.declared.fault.PoKind.TheVariants as kinds
 use Rattle.po_text.proofs.SomeOutcome.{some_outcome}
 use Rattle.mo_image.specs.Entry.{Entry, key}
 use Rattle.mo_image.specs.Map.{Rises}
@@ -29,6 +27,7 @@ use Rattle.catalogue.specs.declared.compiler.Compiled.{Compiled}
 use Rattle.po_checks.specs.declared.fault.LoadKind.{LoadKind}
 use Rattle.po_checks.specs.declared.fault.LoadKind.TheVariants.{TooLarge, NotUtf8, BadEscape, OpenString, BadWord}
 use Rattle.po_checks.specs.declared.fault.LoadKind.TheVariants.{BadText, BadOrder, BadIndex, Duplicate}
+use Rattle.catalogue.proofs.Collecting.{text_refuses}
 use Rattle.catalogue.proofs.OneMeaning.{rises_behind, below_members}
 use Rattle.catalogue.proofs.Members.{has_head, has_tail, has_cases, has_map, from_map, from_filter}
 
@@ -215,24 +214,6 @@ entries_refuse text o BadText line entries gives first = absurd first.holds
 entries_refuse text o BadOrder line entries gives first = absurd first.holds
 entries_refuse text o BadIndex line entries gives first = absurd first.holds
 entries_refuse text o _ line entries gives first = (entries, gives, first)
-
--- want of memory is no fault of a text
-no_memory : (text : List ℕ) (line : ℕ) → outcome.Refuses text kinds.Memory line → ⊥
-no_memory text line (readable, inl fault) = fault.fault
-no_memory text line (readable, inr (found, spells, inl closes)) = closes.how
-no_memory text line (readable, inr (found, spells, inr (is, early))) = absurd (cc is)
-
-text_refuses : (text : List ℕ) (o : Options) (fault : PoKind) (line : ℕ) → outcome.Refuses text fault line
-    → Refuses text o (kind_of fault) line
-text_refuses text o kinds.TooLarge line r = r
-text_refuses text o kinds.NotUtf8 line r = r
-text_refuses text o kinds.BadEscape line r = r
-text_refuses text o kinds.OpenString line r = r
-text_refuses text o kinds.BadWord line r = r
-text_refuses text o kinds.BadText line r = r
-text_refuses text o kinds.BadOrder line r = r
-text_refuses text o kinds.BadIndex line r = r
-text_refuses text o kinds.Memory line r = absurd (no_memory text line r)
 
 -- ---- a text
 

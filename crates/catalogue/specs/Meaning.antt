@@ -5,8 +5,7 @@ use Rattle.std.specs.List.{filter, count_by}
 use Rattle.po_text.specs.Entries as po
 use Rattle.po_text.specs.Outcome as po_outcome
 use Rattle.po_text.specs.declared.PoKind.TheVariants as po_kind
-use Rattle.po_header.specs.Fields.{field_value}
-use Rattle.po_header.specs.declared.fields.TheConstants.{FIELD_NAMES}
+use Rattle.po_header.specs.Fields.{missing}
 use Rattle.mo_image.specs.Entry.{Entry, key}
 use Rattle.mo_image.specs.Map.{Rises}
 pub use Rattle.po_checks.specs.Kept.{message_of, key_of, is_header, is_untranslated, is_kept, kept, kept_header}
@@ -50,7 +49,7 @@ none_missing = false ∷ false ∷ false ∷ false ∷ false ∷ false ∷ false
 -- which of the eight fields a header's text lacks (manual, "Header Entry")
 abbrev pub lacking : Option (List ℕ) → List Bool
 lacking None = none_missing
-lacking (Some text) = map (λ name. is_none (field_value text name.now)) FIELD_NAMES
+lacking (Some text) = missing text
 
 -- those that the kept header lacks, looked for at the checked level
 abbrev pub missing_of : Options → List po.Entry → List Bool

@@ -9,7 +9,7 @@ ghost use Rattle.catalogue.specs.Drafts as Drafts;
 ghost use Rattle.catalogue.specs.Drafts.{outline_of, texts_if_kept};
 ghost use Rattle.catalogue.specs.Spans.{bytes_if_kept, kept_bytes, kept_span, plural_bytes, span_of, stored};
 ghost use Rattle.catalogue.specs.Spans.{HasGathered};
-ghost use Rattle.po_checks.specs.declared.fault.LoadKind.TheVariants.{Memory};
+ghost use Rattle.po_checks.specs.Refusal.{out_of_memory};
 
 use crate::drafts::Standing;
 use crate::spans::{KeptSpan, Span};
@@ -130,7 +130,7 @@ pub(crate) struct Collected {
 pub(crate) fn collect(alloc: Global, text: &[u8], options: Options) -> Result<Collected, LoadFault>
     ensures ok { IfOk result (λ collected. HasGathered text.now options (string_bytes collected.texts)
         collected.spans.items collected.findings) }
-    ensures err { IfErr result (λ fault. (fault.kind ≡ Memory) ⊎ Refuses text.now options fault.kind fault.line) }
+    ensures err { IfErr result (λ fault. (fault ≡ out_of_memory) ⊎ Refuses text.now options fault.kind fault.line) }
 {
     let mut reader = open_text(alloc, text)?;
     let mut entry = EntryBuffer::new(alloc);

@@ -5,7 +5,7 @@ ghost use Rattle.std.specs.List.{count_by};
 ghost use Rattle.catalogue.specs.Drafts.{counts_as, outline};
 ghost use Rattle.mo_image.specs.Map.{HasAcceptedCharset};
 ghost use Rattle.catalogue.specs.Meaning.{lacking, none_missing, Means, Refuses};
-ghost use Rattle.po_checks.specs.declared.fault.LoadKind.TheVariants.{Memory};
+ghost use Rattle.po_checks.specs.Refusal.{out_of_memory};
 
 use crate::Catalogue;
 use crate::collect::{Collected, collect};
@@ -92,7 +92,7 @@ fn missing_in(header: Option<&str>, options: Options) -> [bool; 8]
 /// Where memory is refused in the call, `Memory` may stand in place of any other answer.
 pub fn compile(alloc: Global, text: &[u8], options: Options) -> Result<Compiled, LoadFault>
     ensures ok { IfOk result (Means text.now options) }
-    ensures err { IfErr result (λ fault. (fault.kind ≡ Memory) ⊎ Refuses text.now options fault.kind fault.line) }
+    ensures err { IfErr result (λ fault. (fault ≡ out_of_memory) ⊎ Refuses text.now options fault.kind fault.line) }
 {
     let Collected {
         texts,

@@ -4,14 +4,19 @@ use Rattle.po_text.specs.Outcome.{body}
 use Rattle.po_text.proofs.Outcomes.{faulty_refuses}
 use Rattle.po_text.specs.declared.fault.PoFault.{PoFault}
 use Rattle.po_checks.specs.Refusal.{kind_of}
-use Rattle.catalogue.proofs.Collecting.{collects_none, collects_more, collects_all, refused_as}
+use Rattle.po_checks.specs.declared.fault.LoadFault.{LoadFault}
+use Rattle.catalogue.proofs.Collecting.{collects_none, collects_more, collects_all, text_refuses}
 use Rattle.catalogue.proofs.collect.collect.Goals as goal
+
+abbrev load_fault : PoFault → LoadFault
+load_fault fault = record { kind = kind_of fault.kind; line = fault.line }
 
 pub returns-in_err-reader-clause-err : goal.returns-in_err-reader-clause-err
 returns-in_err-reader-clause-err c =
     let p = err_from_is_err_and c.from_residual.result c.from_residual.ensures.1 in
     let fault = c.in_err-reader.field-0.0 in
-    rw (p.1, p.2) (refused_as c.args.text.now c.args.options fault.kind fault.line c.in_err-reader.ensures.err)
+    rw (p.1, p.2)
+    (inr (text_refuses c.args.text.now c.args.options fault.kind fault.line c.in_err-reader.ensures.err))
 
 pub returns-in_err-next_entry-clause-err : goal.returns-in_err-next_entry-clause-err
 returns-in_err-next_entry-clause-err c =
@@ -19,9 +24,9 @@ returns-in_err-next_entry-clause-err c =
     let fault = c.in_err-next_entry.field-0.0 in
     rw (p.1, p.2) (elim (c.in_err-next_entry.ensures.fault (body c.args.text.now) c.entries.invariant.entries
     c.entries.invariant.read) [
-      | inl e ↦ inl (ap (λ (f : PoFault). kind_of f.kind) e)
-      | inr f ↦ refused_as c.args.text.now c.args.options fault.kind fault.line
-          (faulty_refuses c.args.text.now fault.kind fault.line c.in_ok-reader.ensures.readable f)
+      | inl e ↦ inl (ap load_fault e)
+      | inr f ↦ inr (text_refuses c.args.text.now c.args.options fault.kind fault.line
+          (faulty_refuses c.args.text.now fault.kind fault.line c.in_ok-reader.ensures.readable f))
     ])
 
 pub entries-init : goal.entries-init
@@ -34,7 +39,7 @@ entries-preserved c =
     collects_more c.args.text.now c.args.options _ _ _ _ c.entries.spans.items _ c.entries.findings c.look_at.new.self _
     c.next_entry.new.into inv (rw c.if-branch.true at (c.in_ok-next_entry.ensures.read (body c.args.text.now)
     inv.entries inv.read)) c.in_ok-add_entry.ensures.lawful c.in_ok-add_entry.ensures.added
-    c.in_ok-add_entry.ensures.span c.in_ok-push.ensures.items c.in_ok-look_at.ensures
+    c.in_ok-add_entry.ensures.span c.in_ok-push.ensures.items c.in_ok-look_at.ensures.ok
 
 pub returns-clause-ok : goal.returns-clause-ok
 returns-clause-ok c =

@@ -44,7 +44,7 @@ returns-in-Some-failed-clause-err c =
           c.deref-3.ensures.value at c.header_text-header.ensures;
     })
     (c.is_accepted-is_accepted.ensures.0 c.if-not-is_accepted.false)
-    (rw c.in-Some-failed.is at c.in_ok-failed.ensures))
+    (rw c.in-Some-failed.is at c.in_ok-failed.ensures.ok))
 
 pub from_list-requires : goal.from_list-requires
 from_list-requires c =
@@ -72,6 +72,6 @@ returns-clause-ok c =
           c.deref-3.ensures.value at c.header_text-header.ensures;
     })
     (c.is_accepted-is_accepted.ensures.0 c.if-not-is_accepted.false)
-    (rw c.in_default-failed.is at c.in_ok-failed.ensures) c.keep.ensures
+    (rw c.in_default-failed.is at c.in_ok-failed.ensures.ok) c.keep.ensures
     (record { translated = stats.translated; fuzzy = stats.fuzzy; untranslated = stats.untranslated })
     c.in_ok-catalogue.ensures c.missing_in-missing.ensures
