@@ -3,7 +3,8 @@ use Rattle.std.proofs.Common.{◌≡◌, ℕ, ◌<◌, List, map, refl, sym, ap,
 use Rattle.std.specs.Prelude.{Result, Ok, Err, IfOk, IfErr}
 use Rattle.catalogue.specs.Entry.{Entry, translation}
 use Rattle.mo_file.specs.Tables.{strings}
-use Rattle.mo_file.specs.MoReading.{Mo, Refused, rank, order, count, originals_start, translations_start}
+use Rattle.mo_file.specs.MoReading.{Mo, Passes, Refused, rank, order, count, originals_start, translations_start}
+use Rattle.mo_file.specs.MoReading.{file_of}
 use Rattle.mo_file.specs.declared.fault.MoFault.{MoFault}
 use Rattle.mo_file.specs.declared.fault.MoFault.TheVariants.{TooLarge, Short, Magic, Revision, Bounds, NoNul, BadText}
 use Rattle.mo_file.specs.declared.fault.MoFault.TheVariants.{Forms, Order, Charset, Swollen, Memory}
@@ -27,6 +28,25 @@ unique_map bytes m n p q = read_from bytes m p ∙ sym (read_from bytes n q)
 pub refused_map : (bytes : List ℕ) (m : List Entry) (fault : MoFault) → rank fault < 12 → Refused bytes fault
     → Mo bytes m → ⊥
 refused_map bytes m fault test refused mo = (refused test).0 (mo.passed fault test)
+
+-- the file of a map passes each test; want of memory is none
+passes_each : (bytes : List ℕ) (m : List Entry) (fault : MoFault) → Mo bytes m → Passes (file_of bytes) fault
+passes_each bytes m Memory mo = tt
+passes_each bytes m TooLarge mo = mo.passed TooLarge (omega arith)
+passes_each bytes m Short mo = mo.passed Short (omega arith)
+passes_each bytes m Magic mo = mo.passed Magic (omega arith)
+passes_each bytes m Revision mo = mo.passed Revision (omega arith)
+passes_each bytes m Bounds mo = mo.passed Bounds (omega arith)
+passes_each bytes m NoNul mo = mo.passed NoNul (omega arith)
+passes_each bytes m BadText mo = mo.passed BadText (omega arith)
+passes_each bytes m Forms mo = mo.passed Forms (omega arith)
+passes_each bytes m Order mo = mo.passed Order (omega arith)
+passes_each bytes m Charset mo = mo.passed Charset (omega arith)
+passes_each bytes m Swollen mo = mo.passed Swollen (omega arith)
+
+pub failing_map : (bytes : List ℕ) (m : List Entry) (fault : MoFault) → (Passes (file_of bytes) fault → ⊥)
+    → Mo bytes m → ⊥
+failing_map bytes m fault fails mo = fails (passes_each bytes m fault mo)
 
 -- the file of a map is read back
 pub reread_map : (m : List Entry) (bytes : List ℕ) (r : Result (List Entry) MoFault) → IsLawful m → bytes ≡ spelling m

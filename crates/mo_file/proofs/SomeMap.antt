@@ -3,7 +3,7 @@ use Rattle.std.proofs.Common.{◌≡◌, ℕ, zero, suc, ◌+◌, ◌<◌, List,
 use Rattle.std.proofs.Common.{inr}
 use Rattle.std.proofs.lemmas.Bool.{cases_lt}
 use Rattle.catalogue.specs.Entry.{Entry}
-use Rattle.mo_file.specs.MoReading.{order, file_of, Passes, rank, PassesBelow, Refused, Mo}
+use Rattle.mo_file.specs.MoReading.{order, file_of, Passes, rank, PassesBelow, Refused, Mo, IsMoFile}
 use Rattle.mo_file.specs.declared.fault.MoFault.{MoFault}
 use Rattle.mo_file.specs.declared.fault.MoFault.TheVariants.{TooLarge, Short, Magic, Revision, Bounds, NoNul, BadText}
 use Rattle.mo_file.specs.declared.fault.MoFault.TheVariants.{Forms, Order, Charset, Swollen, Memory}
@@ -82,3 +82,6 @@ pub some_map : (bytes : List ℕ) → ((m : List Entry) → Mo bytes m → ⊥)
 some_map bytes no_map no_refusal =
     passed_below bytes 11 (omega arith) (λ fault test refused. no_refusal (fault, test, refused))
     (λ passed. no_map (named_in (order bytes) bytes) (is_mo bytes passed))
+
+pub passing_map : (bytes : List ℕ) → ((fault : MoFault) → Passes (file_of bytes) fault) → IsMoFile bytes
+passing_map bytes passed = (named_in (order bytes) bytes, is_mo bytes (λ fault test. passed fault))

@@ -1,5 +1,5 @@
-use Rattle.mo_file.proofs.OneMap.{unique_map, refused_map}
-use Rattle.mo_file.proofs.SomeMap.{some_map}
+use Rattle.mo_file.proofs.OneMap.{unique_map, refused_map, failing_map}
+use Rattle.mo_file.proofs.SomeMap.{some_map, passing_map}
 use Rattle.mo_file.proofs.laws.one_map.Goals as goal
 
 pub returns-clause-unique : goal.returns-clause-unique
@@ -10,3 +10,9 @@ returns-clause-refused c = refused_map
 
 pub returns-clause-some : goal.returns-clause-some
 returns-clause-some c = some_map
+
+pub returns-clause-any : goal.returns-clause-any
+returns-clause-any c = failing_map
+
+pub returns-clause-passed : goal.returns-clause-passed
+returns-clause-passed c = passing_map
