@@ -1,5 +1,5 @@
 -- What files tell of what was written, and how they count their failures.
-use Rattle.std.specs.Prelude.{◌≡◌, ◌≤◌, ⊤, ℕ, List, [], ◌∷◌, ◌++◌, Option, Some, None, Result, IsErrOf}
+use Rattle.std.specs.Prelude.{◌≡◌, ◌⊎◌, ◌≤◌, ⊤, ℕ, List, [], ◌∷◌, ◌++◌, Option, Some, None, Result, IsErrOf}
 use Rattle.devices.specs.Devices.{RisesBy}
 use Rattle.devices.specs.declared.file.FileFault.{FileFault}
 use Rattle.devices.specs.declared.file.FileFault.TheVariants.{Device}
@@ -19,6 +19,13 @@ abbrev pub KeepsLog : Log → Log → Type 0
 KeepsLog None new = ⊤
 KeepsLog (Some files) None = ⊥
 KeepsLog (Some files) (Some files') = files' ≡ files
+
+-- no further file was written, or one more under this name, with any bytes
+abbrev pub MayLog : Log → Log → List ℕ → Type 0
+MayLog None new name = ⊤
+MayLog (Some files) None name = ⊥
+MayLog (Some files) (Some files') name =
+    (files' ≡ files) ⊎ ((bytes : List ℕ) × (files' ≡ files ++ (name, bytes) ∷ []))
 
 -- `Device` is answered only where a file failed
 pub record CountsFault {T : Type 0} (failures failures' : ℕ) (result : Result T FileFault) : Type 0 where

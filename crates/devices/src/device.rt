@@ -52,5 +52,6 @@ pub trait Sink {
     fn write_all(&mut self, bytes: &[u8]) -> Result<(), WriteFault>
         ensures bytes { OnOk result (Appends (contents self.old) (contents self.new) bytes.now) }
         ensures later { failures self.old ≤ failures self.new }
+        ensures steady { OnOk result (failures self.new ≡ failures self.old) }
         ensures cause { IfErr result (λ _. RisesBy 1 (failures self.old) (failures self.new)) };
 }

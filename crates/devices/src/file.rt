@@ -1,6 +1,6 @@
 //! What a program asks of files that have names.
 ghost use Rattle.std.specs.Prelude.{◌≡◌, ℕ, List, Option, IfOk, IfSome, IsErrOf, OnOk, take};
-ghost use Rattle.devices.specs.Files.{CountsFault, KeepsLog, Log, Logs};
+ghost use Rattle.devices.specs.Files.{CountsFault, KeepsLog, Log, Logs, MayLog};
 
 use std::alloc::Global;
 use thiserror::Error;
@@ -34,9 +34,10 @@ pub trait Files {
         ensures counts { CountsFault (failures self.old) (failures self.new) result };
 
     /// Makes these the bytes of a file, which is made where there is none. After `Memory` no file was written;
-    /// after `Device` the file may have any bytes.
+    /// after `Device` the file may have any bytes, but no other was written.
     fn write(&mut self, alloc: Global, name: &str, bytes: &[u8]) -> Result<(), FileFault>
         ensures bytes { OnOk result (Logs (written self.old) (written self.new) name.now bytes.now) }
         ensures none_written { IsErrOf result FileFault.Memory → KeepsLog (written self.old) (written self.new) }
+        ensures no_other { IsErrOf result FileFault.Device → MayLog (written self.old) (written self.new) name.now }
         ensures counts { CountsFault (failures self.old) (failures self.new) result };
 }

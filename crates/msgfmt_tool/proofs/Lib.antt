@@ -1,3 +1,5 @@
 pub mod OneFault
 pub mod RunLemmas
 pub mod WordLemmas
+pub mod OneStatus
+pub mod SomeRun

@@ -2,7 +2,7 @@
 use Rattle.std.proofs.Common.{◌≡◌, ◌∙◌, ◌⊎◌, ◌≤◌, ◌++◌, ◌∷◌, [], ap, sym, subst, refl, inl, inr, arith, ℕ, Bool, true}
 use Rattle.std.proofs.Common.{false, List, Some, None, Result, Ok, Err, IsErrAnd, IsTrue}
 use Rattle.devices.specs.Devices.{RisesBy}
-use Rattle.devices.specs.Files.{KeepsLog, Log, Logs}
+use Rattle.devices.specs.Files.{KeepsLog, Log, Logs, MayLog}
 use Rattle.catalogue.specs.MoFile.{spelling}
 use Rattle.catalogue.specs.declared.Compiled.{Compiled}
 use Rattle.msgfmt_tool.specs.Words.{AreTaken, Asked, asked}
@@ -31,15 +31,9 @@ pub rises_before : (a b c : ℕ) → RisesBy 1 a b → b ≤ c → RisesBy 1 a c
 rises_before a b c (inl h) le = inl (omega arith)
 rises_before a b c (inr h) le = inr (omega arith)
 
-pub tells_later : (a b c : ℕ) (cause : Cause) → a ≤ b → EndsTelling (between b c) cause
+pub tells_later : (a b c : ℕ) (cause : Cause) → b ≡ a → EndsTelling (between b c) cause
     → EndsTelling (between a c) cause
-tells_later a b c Words le h = absurd h
-tells_later a b c NoInput le h = absurd h
-tells_later a b c CannotRead le h = absurd h
-tells_later a b c (Refused fault) le h = absurd h
-tells_later a b c CannotWrite le h = absurd h
-tells_later a b c ErrorOutput le h = rises_after a b c le h
-tells_later a b c Memory le h = tt
+tells_later a b c cause is h = subst (λ x. EndsTelling (between x c) cause) is h
 
 kept_twice : (a b c : Log) → KeepsLog a b → KeepsLog b c → KeepsLog a c
 kept_twice None b c h k = tt
@@ -52,6 +46,14 @@ logged_after None b c name bytes h k = tt
 logged_after (Some xs) None c name bytes h k = absurd h
 logged_after (Some xs) (Some ys) None name bytes h k = absurd k
 logged_after (Some xs) (Some ys) (Some zs) name bytes h k = k ∙ ap (λ files. files ++ (name, bytes) ∷ []) h
+
+may_log_after : (a b c : Log) (name : List ℕ) → KeepsLog a b → MayLog b c name → MayLog a c name
+may_log_after None b c name h k = tt
+may_log_after (Some xs) None c name h k = absurd h
+may_log_after (Some xs) (Some ys) None name h k = absurd k
+may_log_after (Some xs) (Some ys) (Some zs) name h (inl k) = inl (k ∙ h)
+may_log_after (Some xs) (Some ys) (Some zs) name h (inr (bytes, k)) =
+    inr (bytes, logged_after (Some xs) (Some ys) (Some zs) name bytes h k)
 
 -- ---- FILE, after INPUT was read
 
@@ -69,10 +71,14 @@ module _ (f f' f'' : FilesSeen) (output : Change OutputSeen)
     no_output = h.no_output;
   }
 
-  fails_after : (standard : Bool) → FailsToWrite standard (between f' f'') output
-      → FailsToWrite standard (between f f'') output
-  fails_after true h = (h.0, kept_twice f.log f'.log f''.log kept h.1)
-  fails_after false h = (rises_after f.failures f'.failures f''.failures later h.0, h.1)
+  fails_after : (standard : Bool) (name : List ℕ) → FailsToWrite standard (between f' f'') output name
+      → FailsToWrite standard (between f f'') output name
+  fails_after true name h = record { failed = h.failed; no_file = kept_twice f.log f'.log f''.log kept h.no_file }
+  fails_after false name h = record {
+    failed = rises_after f.failures f'.failures f''.failures later h.failed;
+    no_other = may_log_after f.log f'.log f''.log name kept h.no_other;
+    no_output = h.no_output;
+  }
 
 -- ---- the work on an INPUT
 
@@ -149,7 +155,7 @@ module _ (f f' : FilesSeen) (i : Change InputSeen) (a : Asked) (name : List ℕ)
     lacks_memory (inr h) = inr (inr (makes_first h))
 
     pub delivered : {T : Type 0} (r : Result T Cause) → Delivers (between f' f'') output errors a c r → Works run a r
-    delivered (Ok u) h = makes h
+    delivered (Ok u) h = (h.0, makes h.1)
     delivered (Err Words) h = absurd h
     delivered (Err NoInput) h = absurd h
     delivered (Err CannotRead) h = absurd h
@@ -157,14 +163,14 @@ module _ (f f' : FilesSeen) (i : Change InputSeen) (a : Asked) (name : List ℕ)
     delivered (Err CannotWrite) h = record {
       compiled = c;
       compiles = compiles;
-      failed = fails_after f f' f'' output kept later (is_standard a.output) h;
+      failed = fails_after f f' f'' output kept later (is_standard a.output) a.output h;
     }
     delivered (Err ErrorOutput) h = (h.0, fails_to_tell h.1)
     delivered (Err Memory) h = lacks_memory h
 
 -- ---- the end of a run
 
-kept_same : (log : Log) → KeepsLog log log
+pub kept_same : (log : Log) → KeepsLog log log
 kept_same None = tt
 kept_same (Some files) = refl
 
@@ -254,9 +260,10 @@ module _ (files : Change FilesSeen) (input : Change InputSeen) (output : Change 
 
     -- the work ended, and that was told
     pub ended : {T : Type 0} (a : Asked) (is : a ≡ asked words) (done : Result T Cause) (status : Status)
-        → Works worked a done → Tells done status → Runs told words status
+        → Works worked a done → Tells (between e' e'') done status → Runs told words status
     ended a is (Ok u) status works tells =
-        subst (λ s. Runs told words s) (sym tells) (inr (taken, subst (λ b. MakesFile told b) is (makes_on a works)))
+        subst (λ s. Runs told words s) (sym tells.1)
+        (tells.0 ∙ works.0, inr (taken, subst (λ b. MakesFile told b) is (makes_on a works.1)))
     ended a is (Err cause) status works (inl tells) =
         subst (λ s. Runs told words s) (sym tells)
         (failed cause (subst (λ b. Fails told b cause) is (fails_on a cause works)))

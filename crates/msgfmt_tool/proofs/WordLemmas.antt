@@ -42,17 +42,22 @@ asked_built f checked use_fuzzy statistics input output checked_is fuzzy_is stat
     }
 
 -- the text that stands in place of none
-pub unwrapped : (found : Option (Bor (List ℕ))) (other : Bor (List ℕ)) → (unwrap_or found other).now
+unwrapped : (found : Option (Bor (List ℕ))) (other : Bor (List ℕ)) → (unwrap_or found other).now
     ≡ unwrap_or (option_map (λ s. s.now) found) other.now
 unwrapped None other = refl
 unwrapped (Some text) other = refl
+
+pub named_or : (found : Option (Bor (List ℕ))) (name : Bor (List ℕ)) (other : Bor (List ℕ)) (value : Option (List ℕ))
+    → name ≡ unwrap_or found other → option_map (λ s. s.now) found ≡ value → name.now ≡ unwrap_or value other.now
+named_or found name other value is found_is =
+    ap (λ (s : _). s.now) is ∙ unwrapped found other ∙ ap (λ t. unwrap_or t other.now) found_is
 
 abbrev is_help : ErrorKind → Bool
 is_help kind.DisplayHelp = true
 is_help _ = false
 
 -- the words have one fault at most
-one_fault : (words : List (List ℕ)) → One (word_faults words)
+pub one_fault : (words : List (List ℕ)) → One (word_faults words)
 one_fault words = built_one (built msgfmt).top refl nothing_held (argument_words msgfmt words)
 
 -- an answer to an error of `clap` explains the words

@@ -3,3 +3,4 @@ pub mod Runs
 pub mod Requests
 pub mod Causes
 pub mod RunSteps
+pub mod Laws

@@ -9,7 +9,7 @@ use Rattle.catalogue.specs.declared.Compiled.{Compiled}
 use Rattle.catalogue.specs.declared.LoadFault.{LoadFault}
 use Rattle.msgfmt_tool.specs.Words.{Asked}
 use Rattle.msgfmt_tool.specs.Runs.{Change, Fails, FailsToRead, FailsToWrite, FilesSeen, InputSeen, IsUnwritten}
-use Rattle.msgfmt_tool.specs.Runs.{MakesFile, OutputSeen, Reads, Run, Writes, is_standard}
+use Rattle.msgfmt_tool.specs.Runs.{MakesFile, OutputSeen, Reads, Run, TellsAll, Writes, is_standard}
 use Rattle.msgfmt_tool.specs.declared.outcome.Cause.{Cause}
 use Rattle.msgfmt_tool.specs.declared.outcome.Cause.TheVariants.{Words, CannotRead, CannotWrite, ErrorOutput, Memory}
 use Rattle.msgfmt_tool.specs.declared.outcome.Cause.TheVariants.{Refused}
@@ -59,10 +59,10 @@ EndsTelling errors _ = ⊥
 -- ---- writing
 
 -- why FILE wasn't written
-abbrev pub EndsWriting : Bool → Change FilesSeen → Change OutputSeen → Cause → Type 0
-EndsWriting standard files output CannotWrite = FailsToWrite standard files output
-EndsWriting standard files output Memory = IsUnwritten files output
-EndsWriting standard files output _ = ⊥
+abbrev pub EndsWriting : Bool → Change FilesSeen → Change OutputSeen → List ℕ → Cause → Type 0
+EndsWriting standard files output name CannotWrite = FailsToWrite standard files output name
+EndsWriting standard files output name Memory = IsUnwritten files output
+EndsWriting standard files output name _ = ⊥
 
 -- FILE has the MO file of what was compiled
 abbrev pub WritesCompiled : Change FilesSeen → Change OutputSeen → Asked → Compiled → Type 0
@@ -72,8 +72,10 @@ WritesCompiled files output request compiled =
 -- what was compiled is delivered: warnings, FILE, statistics
 abbrev pub Delivers : {T : Type 0} → Change FilesSeen → Change OutputSeen → Change ℕ → Asked → Compiled
     → Result T Cause → Type 0
-Delivers files output errors request compiled (Ok done) = WritesCompiled files output request compiled
-Delivers files output errors request compiled (Err CannotWrite) = FailsToWrite (is_standard request.output) files output
+Delivers files output errors request compiled (Ok done) =
+    TellsAll errors × WritesCompiled files output request compiled
+Delivers files output errors request compiled (Err CannotWrite) =
+    FailsToWrite (is_standard request.output) files output request.output
 Delivers files output errors request compiled (Err ErrorOutput) = RisesBy 1 errors.before errors.after
     × ((IsTrue request.options.checked × IsUnwritten files output)
     ⊎ (IsTrue request.statistics × WritesCompiled files output request compiled))
@@ -85,13 +87,13 @@ Delivers files output errors request compiled (Err _) = ⊥
 
 -- the work on what the words ask for
 abbrev pub Works : {T : Type 0} → Run → Asked → Result T Cause → Type 0
-Works run request (Ok done) = MakesFile run request
+Works run request (Ok done) = TellsAll run.error_failures × MakesFile run request
 Works run request (Err cause) = Fails run request cause
 
--- a failure was told on the error output, or there was no memory for its line
-abbrev pub Tells : {T : Type 0} → Result T Cause → Status → Type 0
-Tells (Ok done) status = status ≡ Done
-Tells (Err cause) status = (status ≡ Failed cause) ⊎ (status ≡ Failed Memory)
+-- work that was done has nothing to tell; a failure was told on the error output, or there was no memory for its line
+abbrev pub Tells : {T : Type 0} → Change ℕ → Result T Cause → Status → Type 0
+Tells errors (Ok done) status = TellsAll errors × (status ≡ Done)
+Tells errors (Err cause) status = (status ≡ Failed cause) ⊎ (status ≡ Failed Memory)
 
 -- words that give no request: the help text was written, or they are faulty, or there was no memory
 abbrev pub AnswersWords : {T : Type 0} → Change OutputSeen → WordsFault → Result T Cause → Type 0

@@ -3,7 +3,7 @@ use Rattle.std.specs.Prelude.{◌≡◌, ◌⊎◌, ℕ, Bool, true, false, List
 use Rattle.std.specs.Str.{bytes_eq}
 use Rattle.std.specs.Io.KnownBytes.{Appends, Consumes}
 use Rattle.devices.specs.Devices.{RisesBy}
-use Rattle.devices.specs.Files.{KeepsLog, Log, Logs}
+use Rattle.devices.specs.Files.{KeepsLog, Log, Logs, MayLog}
 use Rattle.catalogue.specs.MoFile.{spelling}
 use Rattle.catalogue.specs.Meaning.{Means, Refuses}
 use Rattle.catalogue.specs.declared.Compiled.{Compiled}
@@ -71,6 +71,10 @@ pub record IsUntouched (run : Run) : Type 0 where
   pub input : run.input.after ≡ run.input.before
   pub output : run.output.after ≡ run.output.before
 
+-- no write to the error output failed
+abbrev pub TellsAll : Change ℕ → Type 0
+TellsAll failures = failures.after ≡ failures.before
+
 -- no file was written, and nothing to standard output
 pub record IsUnwritten (files : Change FilesSeen) (output : Change OutputSeen) : Type 0 where
   pub no_file : KeepsLog files.before.log files.after.log
@@ -101,11 +105,13 @@ abbrev pub Reads : Bool → FilesSeen → Change InputSeen → List ℕ → List
 Reads true files input name text = ReadsStandard input text
 Reads false files input name text = ReadsFile files input name text
 
--- INPUT failed: a read of standard input, or the bound on its reads was reached; or the file
+-- INPUT failed: a read of standard input, or the bound on its reads was reached; or the file, and nothing was read of
+-- standard input
 abbrev pub FailsToRead : Bool → Change FilesSeen → Change InputSeen → Type 0
 FailsToRead true files input =
     RisesBy 1 input.before.failures input.after.failures ⊎ RisesBy 134217728 input.before.reads input.after.reads
-FailsToRead false files input = RisesBy 1 files.before.failures files.after.failures
+FailsToRead false files input =
+    RisesBy 1 files.before.failures files.after.failures × (input.after ≡ input.before)
 
 -- these bytes were written to standard output, and nothing else
 pub record WritesStandard (files : Change FilesSeen) (output : Change OutputSeen) (bytes : List ℕ) : Type 0 where
@@ -122,12 +128,21 @@ abbrev pub Writes : Bool → Change FilesSeen → Change OutputSeen → List ℕ
 Writes true files output name bytes = WritesStandard files output bytes
 Writes false files output name bytes = WritesFile files output name bytes
 
--- FILE failed: a write to standard output, or the file
-abbrev pub FailsToWrite : Bool → Change FilesSeen → Change OutputSeen → Type 0
-FailsToWrite true files output =
-    RisesBy 1 output.before.failures output.after.failures × KeepsLog files.before.log files.after.log
-FailsToWrite false files output =
-    RisesBy 1 files.before.failures files.after.failures × (output.after ≡ output.before)
+-- a write to standard output failed, and no file was written
+pub record FailsOnStandard (files : Change FilesSeen) (output : Change OutputSeen) : Type 0 where
+  pub failed : RisesBy 1 output.before.failures output.after.failures
+  pub no_file : KeepsLog files.before.log files.after.log
+
+-- the file of this name failed, and no other was written
+pub record FailsOnFile (files : Change FilesSeen) (output : Change OutputSeen) (name : List ℕ) : Type 0 where
+  pub failed : RisesBy 1 files.before.failures files.after.failures
+  pub no_other : MayLog files.before.log files.after.log name
+  pub no_output : output.after ≡ output.before
+
+-- FILE failed, which is standard output (true) or a file
+abbrev pub FailsToWrite : Bool → Change FilesSeen → Change OutputSeen → List ℕ → Type 0
+FailsToWrite true files output name = FailsOnStandard files output
+FailsToWrite false files output name = FailsOnFile files output name
 
 -- ---- the work on what the words ask for
 
@@ -172,7 +187,7 @@ pub record FailsToWarn (run : Run) (request : Asked) : Type 0 where
 pub record IsUnwritable (run : Run) (request : Asked) : Type 0 where
   pub compiled : Compiled
   pub compiles : Compiles run request compiled
-  pub failed : FailsToWrite (is_standard request.output) run.files run.output
+  pub failed : FailsToWrite (is_standard request.output) run.files run.output request.output
 
 -- FILE is made, and the statistics are asked for
 pub record MakesFileFirst (run : Run) (request : Asked) : Type 0 where
@@ -211,7 +226,8 @@ pub record HelpFails (run : Run) (words : List (List ℕ)) : Type 0 where
 
 -- what a run of these words did, by its status
 abbrev pub Runs : Run → List (List ℕ) → Status → Type 0
-Runs run words Done = Helps run words ⊎ (AreTaken words × MakesFile run (asked words))
+Runs run words Done =
+    TellsAll run.error_failures × (Helps run words ⊎ (AreTaken words × MakesFile run (asked words)))
 Runs run words (Failed Words) = AreFaulty words × IsUntouched run
 Runs run words (Failed CannotWrite) = HelpFails run words ⊎ (AreTaken words × Fails run (asked words) CannotWrite)
 Runs run words (Failed Memory) =

@@ -93,7 +93,7 @@ fn end<E: Sink>(
     output: &str,
     errors: &mut E,
 ) -> Status
-    ensures tells { Tells done result }
+    ensures tells { Tells (change E.failures errors.old errors.new) done result }
     ensures later { E.failures errors.old ≤ E.failures errors.new }
 {
     let Err(cause) = done else {

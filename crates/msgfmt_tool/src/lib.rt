@@ -5,12 +5,14 @@
 #![tactic(auto)]
 
 mod command;
+mod law;
 mod outcome;
 mod steps;
 mod texts;
 mod words;
 
 pub use command::run;
+pub use law::one_status;
 pub use outcome::{Cause, Status};
 pub use steps::MOST_INPUT;
 

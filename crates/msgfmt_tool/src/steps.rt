@@ -1,7 +1,8 @@
 //! The steps of a run, in their order.
 ghost use Rattle.std.specs.Prelude.{◌≤◌, IfErr, IfOk, OnOk};
 ghost use Rattle.devices.specs.Files.{KeepsLog};
-ghost use Rattle.msgfmt_tool.specs.Runs.{Reads, Writes, change, files_seen, input_seen, is_standard, output_seen};
+ghost use Rattle.msgfmt_tool.specs.Runs.{Reads, TellsAll, Writes, change, files_seen, input_seen, is_standard};
+ghost use Rattle.msgfmt_tool.specs.Runs.{output_seen};
 ghost use Rattle.msgfmt_tool.specs.RunSteps.{CompilesNamed, EndsCompiling, EndsReading, EndsTelling, EndsWriting};
 
 use crate::outcome::Cause;
@@ -66,6 +67,7 @@ pub(crate) fn compile_input<F: Files, R: Source>(
 /// Tells a line on the error output.
 fn tell<E: Sink>(errors: &mut E, line: &str) -> Result<(), Cause>
     ensures later { E.failures errors.old ≤ E.failures errors.new }
+    ensures told { OnOk result (TellsAll (change E.failures errors.old errors.new)) }
     ensures fails { IfErr result (EndsTelling (change E.failures errors.old errors.new)) }
 {
     match errors.write_all(line.as_bytes()) {
@@ -83,6 +85,7 @@ pub(crate) fn warn<E: Sink>(
     errors: &mut E,
 ) -> Result<(), Cause>
     ensures later { E.failures errors.old ≤ E.failures errors.new }
+    ensures told { OnOk result (TellsAll (change E.failures errors.old errors.new)) }
     ensures fails { IfErr result (EndsTelling (change E.failures errors.old errors.new)) }
 {
     let line = compiled.header_line;
@@ -110,7 +113,7 @@ pub(crate) fn write_output<F: Files, W: Sink>(
         (change (output_seen W.contents W.failures) writer.old writer.new) name.now file.now) }
     ensures fails { IfErr result (EndsWriting (is_standard name.now)
         (change (files_seen F.content F.written F.failures) files.old files.new)
-        (change (output_seen W.contents W.failures) writer.old writer.new)) }
+        (change (output_seen W.contents W.failures) writer.old writer.new) name.now) }
 {
     if name == "-" {
         writer.write_all(file)?;
@@ -126,6 +129,7 @@ pub(crate) fn write_output<F: Files, W: Sink>(
 /// Tells the statistics.
 pub(crate) fn report<E: Sink>(alloc: Global, stats: Stats, errors: &mut E) -> Result<(), Cause>
     ensures later { E.failures errors.old ≤ E.failures errors.new }
+    ensures told { OnOk result (TellsAll (change E.failures errors.old errors.new)) }
     ensures fails { IfErr result (EndsTelling (change E.failures errors.old errors.new)) }
 {
     let text = StatisticsText(stats);

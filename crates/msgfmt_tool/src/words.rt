@@ -1,5 +1,5 @@
 //! What the words of the command line ask for.
-ghost use Rattle.std.specs.Prelude.{◌≡◌, IfOk, IfErr, codes, false, map, string_bytes};
+ghost use Rattle.std.specs.Prelude.{◌≡◌, IfOk, IfErr, codes, false, map, string_bytes, unwrap_or};
 ghost use Rattle.clap.specs.Words.{app_of, first_value, found_of, kind_of, new_app, rows_of, rule_of};
 ghost use Rattle.msgfmt_tool.specs.Words.{AreTaken, asked, asked_by, is_true, msgfmt, msgfmt_flags};
 ghost use Rattle.msgfmt_tool.specs.Words.{flag_rule, input_rule, letter_flag_rule, output_rule};
@@ -126,17 +126,33 @@ fn is_on(matches: &ArgMatches<'_>, id: &str) -> bool
     }
 }
 
+fn options_of(matches: &ArgMatches<'_>) -> Options
+    ensures checked { result.checked ≡ is_true (first_value (found_of matches.now) (codes "check")) }
+    ensures use_fuzzy { result.use_fuzzy ≡ is_true (first_value (found_of matches.now) (codes "use-fuzzy")) }
+{
+    Options {
+        checked: is_on(matches, "check"),
+        use_fuzzy: is_on(matches, "use-fuzzy"),
+    }
+}
+
+/// The name of FILE.
+#[tactic(auto, using(crate::proofs::WordLemmas::named_or))]
+fn output_of<'a>(matches: &ArgMatches<'a>) -> &'a str
+    ensures { result.now
+        ≡ unwrap_or (first_value (found_of matches.now) (codes "output-file")) (codes "messages.mo") }
+{
+    matches.get_str("output-file").unwrap_or("messages.mo")
+}
+
 fn request_of<'a>(matches: &ArgMatches<'a>) -> Request<'a>
     ensures { asked_in result ≡ asked_by (rows_of (found_of matches.now)) }
 {
     Request {
-        options: Options {
-            checked: is_on(matches, "check"),
-            use_fuzzy: is_on(matches, "use-fuzzy"),
-        },
+        options: options_of(matches),
         statistics: is_on(matches, "statistics"),
         input: matches.get_str("INPUT"),
-        output: matches.get_str("output-file").unwrap_or("messages.mo"),
+        output: output_of(matches),
     }
 }
 
