@@ -50,7 +50,8 @@ Fits s (Enter reader version) = version ≡ version_of s.batches
 Fits s (Learn reader version) = IsWhole s version
 Fits s _ = ⊤
 
-was_whole : (history : List Event) (version : ℕ) → WasPublished history version → IsWhole (state_of history) version
+was_whole : (history : List Event) (version : ℕ) → WasPublished opened history version
+    → IsWhole (state_of history) version
 was_whole history version was = (
   (state_of was.0).batches,
   subst
@@ -59,7 +60,7 @@ was_whole history version was = (
   was.3,
 )
 
-fits : (most : ℕ) (first : List Event) (e : Event) → MayFollow most first e → Fits (state_of first) e
+fits : (most : ℕ) (first : List Event) (e : Event) → MayFollow most opened first e → Fits (state_of first) e
 fits most first (Accept load) may = tt
 fits most first Refuse may = tt
 fits most first Publish may = tt

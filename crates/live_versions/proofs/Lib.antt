@@ -3,4 +3,5 @@ pub mod Changes
 pub mod Events
 pub mod Joining
 pub mod Looking
+pub mod OneAnswer
 pub mod Steps

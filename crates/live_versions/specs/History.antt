@@ -34,27 +34,36 @@ after s Publish = record s { batches = published s.batches s.pending; pending = 
 after s (Enter reader version) = with_seen s reader version
 after s (Learn reader version) = with_seen s reader (max (s.seen reader) version)
 
--- the state that a history leads to
+-- the state that a history leads to from this one
+abbrev pub state_from : State → List Event → State
+state_from start history = fold after start history
+
+-- the state that the history of a new store leads to
 abbrev pub state_of : List Event → State
-state_of history = fold after opened history
+state_of history = state_from opened history
 
 -- the version is that of what is published after some first events
-abbrev pub WasPublished : List Event → ℕ → Type 0
-WasPublished history version = (first rest : List Event) × (history ≡ first ++ rest)
-    × (version ≡ version_of (state_of first).batches)
+abbrev pub WasPublished : State → List Event → ℕ → Type 0
+WasPublished start history version = (first rest : List Event) × (history ≡ first ++ rest)
+    × (version ≡ version_of (state_from start first).batches)
 
 -- an event may happen behind these ones, in a store that accepts so many loads at most
-abbrev pub MayFollow : ℕ → List Event → Event → Type 0
-MayFollow most history (Accept load) = version_of (state_of history).batches + length (state_of history).pending < most
-MayFollow most history Refuse = ⊤
-MayFollow most history Publish = ⊤
-MayFollow most history (Enter reader version) = version ≡ version_of (state_of history).batches
-MayFollow most history (Learn reader version) = WasPublished history version
+abbrev pub MayFollow : ℕ → State → List Event → Event → Type 0
+MayFollow most start history (Accept load) = version_of (state_from start history).batches
+    + length (state_from start history).pending < most
+MayFollow most start history Refuse = ⊤
+MayFollow most start history Publish = ⊤
+MayFollow most start history (Enter reader version) = version ≡ version_of (state_from start history).batches
+MayFollow most start history (Learn reader version) = WasPublished start history version
 
--- each event may follow those before it
+-- each event may follow those before it, from this state on
+abbrev pub IsLegalFrom : ℕ → State → List Event → Type 0
+IsLegalFrom most start history = (first : List Event) (event : Event) (rest : List Event)
+    → history ≡ first ++ event ∷ rest → MayFollow most start first event
+
+-- each event of a new store may follow those before it
 abbrev pub IsLegal : ℕ → List Event → Type 0
-IsLegal most history = (first : List Event) (event : Event) (rest : List Event) → history ≡ first ++ event ∷ rest
-    → MayFollow most first event
+IsLegal most history = IsLegalFrom most opened history
 
 -- the version is that of whole batches at the front of what is published
 abbrev pub IsWhole : State → ℕ → Type 0

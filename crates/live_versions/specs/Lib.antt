@@ -2,6 +2,7 @@ pub mod Batches
 pub mod History
 pub mod Seen
 pub mod Store
+pub mod LoadAnswers
 pub mod Entering
 pub mod Loading
 pub mod Book

@@ -1,5 +1,5 @@
 -- What a publisher stands for, and what a load does to it.
-use Rattle.std.specs.Prelude.{◌≡◌, ⊤, ℕ, ◌+◌, ◌<◌, List, [], ◌∷◌, ◌++◌, length}
+use Rattle.std.specs.Prelude.{◌≡◌, ⊤, ℕ, ◌+◌, ◌<◌, ◌≤◌, List, [], ◌∷◌, ◌++◌, length}
 use Rattle.catalogue.specs.Meaning.{Means, Refuses}
 use Rattle.catalogue.specs.declared.Options.{Options}
 use Rattle.catalogue.specs.declared.Stats.{Stats}
@@ -20,6 +20,10 @@ pub record StoreValue : Type 0 where
 -- how many loads were accepted, published or pending
 abbrev pub accepted : StoreValue → ℕ
 accepted s = version_of s.seen.batches + length s.pending
+
+-- no more loads were accepted than may be
+abbrev pub IsWithin : StoreValue → Type 0
+IsWithin s = accepted s ≤ s.most
 
 -- both are names
 pub record AreNames (domain locale : List ℕ) : Type 0 where

@@ -6,6 +6,7 @@
 //! is never older than what it entered before, or learnt of from the publisher.
 #![tactic(auto)]
 
+mod answers;
 mod fault;
 mod law;
 mod notice;
@@ -18,6 +19,7 @@ mod seen;
 mod store;
 mod writer;
 
+pub use answers::one_answer;
 pub use fault::{Ahead, AskFault, Closed, OpenFault, PublishFault, StoreFault};
 pub use law::versions_never_fall;
 pub use notice::Notice;

@@ -5,11 +5,12 @@ ghost use Rattle.catalogue.specs.Meaning.{Means};
 ghost use Rattle.live_set.specs.Names.{IsName};
 ghost use Rattle.live_versions.specs.Batches.{version_of, published};
 ghost use Rattle.live_versions.specs.Loading.{NameFaultOf, TextFaultOf};
-ghost use Rattle.live_versions.specs.Store.{Accepts, IsRefused};
+ghost use Rattle.live_versions.specs.Store.{Accepts, IsRefused, IsWithin};
 
 use crate::Version;
 use crate::fault::{PublishFault, StoreFault};
 use crate::notice::Notice;
+use crate::rule::Shown;
 use crate::seal::{Seal, Sealing, bundle_of};
 use crate::seen::Seen;
 use crate::writer::{StoreWriter, append_load, append_seal, just_shown, publish_at};
@@ -100,14 +101,20 @@ impl Publisher {
 
     /// How many loads are published.
     pub fn version(&self) -> Version
-        ensures { result ≡ version_of self.now.seen.batches }
+        ensures version { result ≡ version_of self.now.seen.batches }
+
+        // With those that are pending there are no more than the store takes.
+        ensures within { IsWithin self.now }
     {
         self.seen.version()
     }
 
     /// How many loads are pending: accepted and not published.
     pub fn pending(&self) -> u64
-        ensures { result ≡ length self.now.pending }
+        ensures count { result ≡ length self.now.pending }
+
+        // With those that are published there are no more than the store takes.
+        ensures within { IsWithin self.now }
     {
         self.pending
     }
@@ -207,6 +214,13 @@ impl Publisher {
     /// Ends the publisher. Its pending loads are dropped, and readers that enter from now on may find the
     /// store closed. It waits until every `Pinned` is left.
     pub fn end<R: Wait>(self, rt: &R) {
+        drop(self.close(rt));
+    }
+
+    /// Closes the store, and gives back what readers entered last: what was published, and nothing that is pending.
+    fn close<R: Wait>(self, rt: &R) -> Box<Shown>
+        ensures { result.value.seen ≡ self.seen }
+    {
         let Publisher {
             writer,
             sealing: _,
@@ -214,6 +228,6 @@ impl Publisher {
             most: _,
             pending: _,
         } = self;
-        drop(writer.take(rt));
+        writer.take(rt)
     }
 }

@@ -5,12 +5,17 @@ use catalogue::{LoadFault, LoadKind, Options, Stats};
 use live_set::{Ask, Query};
 use live_versions::{
     Ahead, AskFault, Closed, Lookups, Notice, OpenFault, Pinned, Publisher, StoreFault, Version,
-    open_store, versions_never_fall,
+    one_answer, open_store, versions_never_fall,
 };
 use std::alloc::{AllocError, Global};
-use std::sync::Wait;
+use std::sync::atomic::AtomicBool;
+use std::sync::atomic::Ordering::SeqCst;
+use std::sync::{Arc, Wait};
 use std::test::Fail;
-use std::thread::{Threads, join};
+use std::thread::{Threads, join, spawn, yield_now};
+
+/// A thread that waits for another gives up after so many turns.
+const TURNS: u32 = 10_000_000;
 
 const PLAIN: Options = Options {
     checked: false,
@@ -208,29 +213,46 @@ fn notices_are_learnt(rt: HostRuntime) -> Result<(), Fail> {
     Ok(())
 }
 
-/// The fault of opening a store with so many readers, if there is one.
-fn open_fault<R: Wait>(rt: &R, alloc: Global, readers: u32) -> Option<OpenFault> {
-    match open_store(rt, alloc, readers, 9) {
-        Ok((publisher, _readers)) => {
-            publisher.end(rt);
-            None
+/// How many of the readers show a publish, each in two entries.
+fn count_shown<R: Wait>(
+    rt: &R,
+    alloc: Global,
+    publisher: &mut Publisher,
+    readers: Vec<Lookups>,
+) -> u32 {
+    let _ = publisher.load(alloc, "app", "fr", SALUT, PLAIN);
+    let _ = publisher.publish(rt);
+    let mut shown: u32 = 0;
+    for mut reader in readers {
+        if shows(&mut reader, 1, "salut", "hi", "hi")
+            && shows(&mut reader, 1, "salut", "hi", "hi")
+        {
+            shown = shown.saturating_add(1);
         }
-        Err(fault) => Some(fault),
     }
+    shown
+}
+
+/// Opens a store with so many readers, and says how many of them show a publish.
+fn open_and_show<R: Wait>(rt: &R, alloc: Global, readers: u32) -> Result<u32, OpenFault> {
+    let (mut publisher, readers) = open_store(rt, alloc, readers, 9)?;
+    let shown = count_shown(rt, alloc, &mut publisher, readers);
+    publisher.end(rt);
+    Ok(shown)
 }
 
 #[test]
 fn stores_have_one_to_sixteen_readers(rt: HostRuntime) {
-    for (readers, fault) in [
-        (0, Some(OpenFault::BadCount)),
-        (1, None),
-        (2, None),
-        (16, None),
-        (17, Some(OpenFault::BadCount)),
+    for (readers, shown) in [
+        (0, Err(OpenFault::BadCount)),
+        (1, Ok(1)),
+        (2, Ok(2)),
+        (16, Ok(16)),
+        (17, Err(OpenFault::BadCount)),
     ] {
         assert_eq!(rt;
-            open_fault(&rt, rt.alloc(), readers),
-            fault,
+            open_and_show(&rt, rt.alloc(), readers),
+            shown,
             "with {readers}"
         );
     }
@@ -248,23 +270,25 @@ fn load_four(alloc: Global, publisher: &mut Publisher) -> [Loaded; 4] {
 
 #[test]
 fn loads_are_refused_in_order(rt: HostRuntime) -> Result<(), Fail> {
-    let (mut publisher, _readers) = open_store(&rt, rt.alloc(), 1, 1)?;
+    let (mut publisher, readers) = open_store(&rt, rt.alloc(), 1, 1)?;
     let [name, first, second, empty] = load_four(rt.alloc(), &mut publisher);
     let pending = publisher.pending();
+    let shown = count_shown(&rt, rt.alloc(), &mut publisher, readers);
     publisher.end(&rt);
     assert!(rt; name == Err(StoreFault::BadName) && first == Ok(ONE));
     assert!(rt; second == Err(StoreFault::VersionsSpent) && empty == Err(StoreFault::BadName));
-    assert!(rt; pending == 1);
+    assert!(rt; pending == 1 && shown == 1);
     Ok(())
 }
 
-/// The second reader enters and looks up while the first one's entry lives. Neither can wait.
-fn side_by_side(first: &mut Lookups, second: &mut Lookups) -> Result<(bool, bool), Closed> {
+/// The second reader enters and looks up while the first one's entry lives, and each once more. Neither can wait.
+fn side_by_side(first: &mut Lookups, second: &mut Lookups) -> Result<[bool; 4], Closed> {
     let pinned = first.enter()?;
     let other = shows(second, 1, "salut", "hi", "hi");
     let same = pinned.version() == 1 && hi_in(&pinned, "fr") == "salut";
     pinned.leave();
-    Ok((other, same))
+    let again = shows(first, 1, "salut", "hi", "hi");
+    Ok([other, same, again, shows(second, 1, "salut", "hi", "hi")])
 }
 
 fn both_learn<R: Wait>(
@@ -273,7 +297,7 @@ fn both_learn<R: Wait>(
     publisher: &mut Publisher,
     first: &mut Lookups,
     second: &mut Lookups,
-) -> Result<(bool, bool), Closed>
+) -> Result<[bool; 4], Closed>
     requires first { first.old.book ≡ publisher.old.seen.book }
     requires second { second.old.book ≡ publisher.old.seen.book }
 {
@@ -294,7 +318,7 @@ fn readers_enter_side_by_side(rt: HostRuntime) -> Result<(), Fail> {
     };
     let found = both_learn(&rt, rt.alloc(), &mut publisher, &mut first, &mut second);
     publisher.end(&rt);
-    assert!(rt; found == Ok((true, true)));
+    assert!(rt; found == Ok([true; 4]));
     Ok(())
 }
 
@@ -323,12 +347,13 @@ fn entries_answer_each_call(rt: HostRuntime) -> Result<(), Fail> {
         publisher.end(&rt);
         return Ok(());
     };
+    let empty = shows(&mut reader, 0, "hi", "hi", "hi");
     let loaded = publisher.load(rt.alloc(), "app", "fr", COUNTED, PLAIN);
     let published = publisher.publish(&rt);
     let found = look_all(rt.alloc(), &mut reader);
     publisher.end(&rt);
     let closed = !shows(&mut reader, 1, "hi", "hi", "hi");
-    assert!(rt; loaded == Ok(ONE) && published == Ok(1));
+    assert!(rt; empty && loaded == Ok(ONE) && published == Ok(1));
     assert!(rt; found == Ok([true; 6]));
     assert!(rt; closed);
     Ok(())
@@ -409,13 +434,108 @@ fn readers_never_go_back(rt: HostRuntime) -> Result<(), Fail> {
     let notice = publisher.tell();
     hand_over(&publisher, &first, &notice);
     let found = in_threads(&rt, rt.alloc(), &mut publisher, &mut first, &mut second);
+    let last = (
+        shows(&mut first, 200, "salut", "hi", "hi"),
+        shows(&mut second, 200, "salut", "hi", "hi"),
+    );
     publisher.end(&rt);
-    assert!(rt; found == (200, true));
+    assert!(rt; found == (200, true) && last == (true, true));
+    Ok(())
+}
+
+/// Enters until the store is closed, and says whether each entry showed `salut` at version 1 and nothing besides.
+fn shows_until_closed(reader: &mut Lookups) -> bool {
+    'turns: for _ in 0..TURNS {
+        let Ok(pinned) = reader.enter() else {
+            return true;
+        };
+        let same = pinned.version() == 1
+            && hi_in(&pinned, "fr") == "salut"
+            && hi_in(&pinned, "de") == "hi";
+        pinned.leave();
+        if !same {
+            return false;
+        }
+        yield_now();
+    }
+    false
+}
+
+/// While the first reader's entry lives, which keeps the end from returning, the second one enters, as it did
+/// before. Then both find the store closed.
+fn stand_and_enter(
+    first: &mut Lookups,
+    second: &mut Lookups,
+    stands: &AtomicBool,
+) -> Result<[bool; 4], Closed> {
+    let open = shows(second, 1, "salut", "hi", "hi") && shows(second, 1, "salut", "hi", "hi");
+    let entered = first.enter();
+    stands.store(true, SeqCst);
+    let pinned = entered?;
+    let shown = shows_until_closed(second);
+    let same = pinned.version() == 1 && hi_in(&pinned, "fr") == "salut";
+    pinned.leave();
+    let closed = !shows(first, 1, "salut", "hi", "hi");
+    Ok([open, shown, same, closed])
+}
+
+/// Waits until a reader stands in its entry.
+fn wait_for(stands: &AtomicBool) {
+    'turns: for _ in 0..TURNS {
+        if stands.load(SeqCst) {
+            return;
+        }
+        yield_now();
+    }
+}
+
+/// Ends the publisher once a reader in another thread stands in its entry. `None` where there is no such thread.
+fn end_beside<R: Threads + Wait>(
+    rt: &R,
+    alloc: Global,
+    publisher: Publisher,
+    first: Lookups,
+    second: Lookups,
+) -> Option<Result<[bool; 4], Closed>> {
+    let (mut first, mut second) = (first, second);
+    let Ok(stands) = Arc::new(alloc, AtomicBool::new(false)) else {
+        publisher.end(rt);
+        return None;
+    };
+    let Ok(flag) = Arc::try_clone(&stands) else {
+        publisher.end(rt);
+        return None;
+    };
+    let Ok(readers) = spawn(rt, move || {
+        stand_and_enter(&mut first, &mut second, &flag)
+    }) else {
+        publisher.end(rt);
+        return None;
+    };
+    wait_for(&stands);
+    publisher.end(rt);
+    Some(readers.join(rt))
+}
+
+#[test]
+fn the_end_publishes_nothing(rt: HostRuntime) -> Result<(), Fail> {
+    let (mut publisher, mut readers) = open_store(&rt, rt.alloc(), 2, 9)?;
+    let (Some(second), Some(first)) = (readers.pop(), readers.pop()) else {
+        publisher.end(&rt);
+        return Ok(());
+    };
+    let published = publish_many(&rt, rt.alloc(), &mut publisher, 1);
+    let loaded = publisher.load(rt.alloc(), "app", "de", HALLO, PLAIN);
+    let pending = publisher.pending();
+    let found = end_beside(&rt, rt.alloc(), publisher, first, second);
+    assert!(rt; published == 1 && loaded == Ok(ONE) && pending == 1);
+    assert!(rt; found == Some(Ok([true; 4])));
     Ok(())
 }
 
 #[test]
-fn the_law_does_nothing(rt: HostRuntime) {
+fn the_laws_do_nothing(rt: HostRuntime) {
     versions_never_fall();
+    one_answer();
     assert!(rt; true);
 }
