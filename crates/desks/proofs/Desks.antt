@@ -1,0 +1,134 @@
+-- Lists of desks, member by member.
+use Rattle.std.specs.List.{AllZip, AllByRecursion}
+use Rattle.std.proofs.Common.{◌≡◌, ◌≢◌, ◌≤◌, max, List, [], ◌∷◌, None, Some, sym, refl, ap, ◌∙◌, subst}
+use Rattle.std.proofs.Common.{arith}
+use Rattle.live_versions.specs.Seen.{SeenValue}
+use Rattle.live_versions.specs.Batches.{version_of}
+use Rattle.live_versions.proofs.Joining.{begins_refl, begins_trans}
+use Rattle.desks.specs.declared.desk.Desk.{Desk}
+use Rattle.desks.specs.declared.desk.ServeFault.{ServeFault}
+use Rattle.desks.specs.declared.desk.ServeFault.TheVariants as fault
+use Rattle.desks.specs.Answers.{Answered}
+use Rattle.desks.specs.Desks.{EndsAhead, IsKept, IsServed}
+use Rattle.desks.specs.Working.{HasLearnt, Worked, Settled}
+use Rattle.desks.proofs.Answers.{answered_grows, answered_less, version_grows}
+
+-- ---- lists
+
+pub each_refl : (P : Desk → Desk → Type 0) → ((d : Desk) → P d d) → (ds : List Desk) → AllZip P ds ds
+each_refl P same [] = tt
+each_refl P same (d ∷ ds) = (same d, each_refl P same ds)
+
+pub each_map : (P Q : Desk → Desk → Type 0) → ((d e : Desk) → P d e → Q d e) → (ds es : List Desk) → AllZip P ds es
+    → AllZip Q ds es
+each_map P Q to [] [] h = tt
+each_map P Q to (d ∷ ds) (e ∷ es) h = (to d e h.0, each_map P Q to ds es h.1)
+each_map P Q to [] (e ∷ es) h = absurd h
+each_map P Q to (d ∷ ds) [] h = absurd h
+
+pub each_then : (P Q R : Desk → Desk → Type 0) → ((d e f : Desk) → P d e → Q e f → R d f) → (ds es fs : List Desk)
+    → AllZip P ds es → AllZip Q es fs → AllZip R ds fs
+each_then P Q R to [] [] [] h k = tt
+each_then P Q R to (d ∷ ds) (e ∷ es) (f ∷ fs) h k = (to d e f h.0 k.0, each_then P Q R to ds es fs h.1 k.1)
+each_then P Q R to [] (e ∷ es) fs h k = absurd h
+each_then P Q R to (d ∷ ds) [] fs h k = absurd h
+each_then P Q R to [] [] (f ∷ fs) h k = absurd k
+each_then P Q R to (d ∷ ds) (e ∷ es) [] h k = absurd k
+
+pub each_every : (P : Desk → Desk → Type 0) (A B : Desk → Type 0) → ((d e : Desk) → A d → P d e → B e)
+    → (ds es : List Desk) → AllByRecursion A ds → AllZip P ds es → AllByRecursion B es
+each_every P A B to [] [] a h = tt
+each_every P A B to (d ∷ ds) (e ∷ es) a h = (to d e a.0 h.0, each_every P A B to ds es a.1 h.1)
+each_every P A B to [] (e ∷ es) a h = absurd h
+each_every P A B to (d ∷ ds) [] a h = absurd h
+
+-- what holds of each new desk may be used beside
+pub each_with : (P Q : Desk → Desk → Type 0) (A : Desk → Type 0) → ((d e : Desk) → P d e → A e → Q d e)
+    → (ds es : List Desk) → AllZip P ds es → AllByRecursion A es → AllZip Q ds es
+each_with P Q A to [] [] h a = tt
+each_with P Q A to (d ∷ ds) (e ∷ es) h a = (to d e h.0 a.0, each_with P Q A to ds es h.1 a.1)
+each_with P Q A to [] (e ∷ es) h a = absurd h
+each_with P Q A to (d ∷ ds) [] h a = absurd h
+
+-- ---- desks
+
+pub kept_refl : (d : Desk) → IsKept d d
+kept_refl d = record { queries = refl; book = refl; seen = begins_refl d.reader.batches }
+
+kept_trans : (d e f : Desk) → IsKept d e → IsKept e f → IsKept d f
+kept_trans d e f h k = record {
+  queries = k.queries ∙ h.queries;
+  book = k.book ∙ h.book;
+  seen = begins_trans f.reader.batches e.reader.batches d.reader.batches k.seen h.seen;
+}
+
+pub kept_all : (ds : List Desk) → AllZip IsKept ds ds
+kept_all ds = each_refl IsKept kept_refl ds
+
+learnt_kept : (f : SeenValue) (d e : Desk) → HasLearnt f d e → IsKept d e
+learnt_kept f d e h = record { queries = h.queries; book = h.book; seen = h.seen }
+
+-- desks that learnt and were worked are kept
+pub worked_kept : (f : SeenValue) (ds es fs : List Desk) → AllZip (HasLearnt f) ds es → AllZip Worked es fs
+    → AllZip IsKept ds fs
+worked_kept f ds es fs h k =
+    each_then (HasLearnt f) Worked IsKept (λ d e z l w. kept_trans d e z (learnt_kept f d e l) w.kept) ds es fs h k
+
+pub kept_then : (ds es fs : List Desk) → AllZip IsKept ds es → AllZip IsKept es fs → AllZip IsKept ds fs
+kept_then ds es fs h k = each_then IsKept IsKept IsKept kept_trans ds es fs h k
+
+pub worked_not_ahead : (ds es : List Desk) → AllZip Worked ds es → AllByRecursion (λ d. d.fault ≢ Some fault.Ahead) es
+worked_not_ahead [] [] h = tt
+worked_not_ahead (d ∷ ds) (e ∷ es) h = (h.0.not_ahead, worked_not_ahead ds es h.1)
+worked_not_ahead [] (e ∷ es) h = absurd h
+worked_not_ahead (d ∷ ds) [] h = absurd h
+
+-- the readers are of one book still
+pub kept_book : (f g : SeenValue) (ds es : List Desk) → g.book ≡ f.book
+    → AllByRecursion (λ d. d.reader.book ≡ f.book) ds → AllZip IsKept ds es
+    → AllByRecursion (λ d. d.reader.book ≡ g.book) es
+kept_book f g ds es same all h =
+    let A : Desk → Type 0 = λ d. d.reader.book ≡ f.book in
+    let B : Desk → Type 0 = λ d. d.reader.book ≡ g.book in
+    each_every IsKept A B (λ d e a k. k.book ∙ a ∙ sym same) ds es all h
+
+-- a desk that learnt, was worked with no fault, and settled
+served_one : (start end : SeenValue) (d e f z : Desk) → HasLearnt start d e → Worked e f → f.fault ≡ None
+    → Settled end f z → IsServed start end d z
+served_one start end d e f z l w none s =
+    let least = max (version_of d.reader.batches) (version_of start.batches) in
+    let seen = version_grows e.reader.batches d.reader.batches l.seen in
+    let told = version_grows e.reader.batches start.batches l.told in
+    let low : least ≤ version_of e.reader.batches = omega (arith, seen, told) in
+    let here = answered_less f.reader.batches least (version_of e.reader.batches) e.queries.items f.answers.items low
+    (w.answered none) in
+    let now = answered_grows end.batches f.reader.batches least e.queries.items f.answers.items s.later here in
+    record {
+      reader = s.reader;
+      queries = s.queries ∙ w.kept.queries ∙ l.queries;
+      fault = s.fault ∙ none;
+      answered =
+          subst (λ qs. Answered end.batches least qs z.answers.items) (ap (λ v. v.items) l.queries)
+          (subst (λ rs. Answered end.batches least e.queries.items rs) (ap (λ v. v.items) (sym s.answers)) now);
+    }
+
+-- all desks
+pub served_all : (start end : SeenValue) (ds es fs zs : List Desk) → AllZip (HasLearnt start) ds es
+    → AllZip Worked es fs → AllByRecursion (λ d. d.fault ≡ None) fs → AllZip (Settled end) fs zs
+    → AllZip (IsServed start end) ds zs
+served_all start end [] [] [] [] l w n s = tt
+served_all start end (d ∷ ds) (e ∷ es) (f ∷ fs) (z ∷ zs) l w n s =
+    (served_one start end d e f z l.0 w.0 n.0 s.0, served_all start end ds es fs zs l.1 w.1 n.1 s.1)
+served_all start end [] (e ∷ es) fs zs l w n s = absurd l
+served_all start end (d ∷ ds) [] fs zs l w n s = absurd l
+served_all start end [] [] (f ∷ fs) zs l w n s = absurd w
+served_all start end (d ∷ ds) (e ∷ es) [] zs l w n s = absurd w
+served_all start end [] [] [] (z ∷ zs) l w n s = absurd s
+served_all start end (d ∷ ds) (e ∷ es) (f ∷ fs) [] l w n s = absurd s
+
+-- a fault that isn't `Ahead` needs no reader that is
+pub other_fault : (end : SeenValue) (desks : List Desk) (e : ServeFault) → e ≢ fault.Ahead → EndsAhead end desks e
+other_fault end desks fault.Memory not = tt
+other_fault end desks fault.Ahead not = absurd (not refl)
+other_fault end desks fault.Join not = tt
+other_fault end desks fault.Closed not = tt

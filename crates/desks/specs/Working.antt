@@ -1,0 +1,37 @@
+-- Private: what one job leaves, and what a worker, and the end of a service, do to a desk.
+use Rattle.std.specs.Prelude.{◌≡◌, ◌⊎◌, ◌≢◌, Some, None}
+use Rattle.catalogue.specs.declared.Stats.{Stats}
+use Rattle.live_versions.specs.Seen.{SeenValue}
+use Rattle.live_versions.specs.Store.{StoreValue}
+use Rattle.live_versions.specs.Batches.{version_of, StartsWith}
+use Rattle.desks.specs.declared.desk.Desk.{Desk}
+use Rattle.desks.specs.declared.desk.ServeFault.TheVariants.{Ahead}
+use Rattle.desks.specs.Jobs.{JobValue, IsAccepted}
+use Rattle.desks.specs.Answers.{Answered}
+use Rattle.desks.specs.Desks.{IsKept}
+
+-- a fault leaves a job's load pending, or nothing
+abbrev pub LeavesOne : StoreValue → JobValue → StoreValue → Type 0
+LeavesOne s job after = (after ≡ s) ⊎ ((stats : Stats) × IsAccepted s job stats after)
+
+-- the reader has learnt what was published, and nothing else changed
+pub record HasLearnt (start : SeenValue) (desk after : Desk) : Type 0 where
+  pub book : after.reader.book ≡ desk.reader.book
+  pub seen : StartsWith after.reader.batches desk.reader.batches
+  pub told : StartsWith after.reader.batches start.batches
+  pub queries : after.queries ≡ desk.queries
+
+-- a desk was worked: where there is no fault, each query has its answer in what the reader has now seen
+pub record Worked (desk after : Desk) : Type 0 where
+  pub kept : IsKept desk after
+  pub not_ahead : after.fault ≢ Some Ahead
+  pub answered : after.fault ≡ None
+      → Answered after.reader.batches (version_of desk.reader.batches) desk.queries.items after.answers.items
+
+-- the reader has learnt what is published, and nothing else changed
+pub record Settled (end : SeenValue) (desk after : Desk) : Type 0 where
+  pub reader : after.reader ≡ end
+  pub later : StartsWith end.batches desk.reader.batches
+  pub queries : after.queries ≡ desk.queries
+  pub answers : after.answers ≡ desk.answers
+  pub fault : after.fault ≡ desk.fault

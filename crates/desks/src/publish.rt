@@ -1,0 +1,71 @@
+//! The publishing thread.
+ghost use Rattle.std.specs.Prelude.{◌≡◌, ◌≢◌, [], IfOk, OnErr, IfErr};
+ghost use Rattle.desks.specs.Jobs.{Does, HasDone, Stops};
+ghost use Rattle.desks.specs.Working.{LeavesOne};
+ghost use Rattle.desks.specs.declared.desk.ServeFault.TheVariants.{Ahead};
+
+use crate::desk::ServeFault;
+use crate::gate::{Gate, Place};
+use crate::job::Job;
+use catalogue::Stats;
+use live_versions::{Publisher, StoreFault};
+use std::alloc::Global;
+use std::sync::Wait;
+
+/// Does one job: a load, which is published where it is accepted.
+fn do_job<R: Wait>(
+    rt: &R,
+    alloc: Global,
+    publisher: &mut Publisher,
+    job: &Job,
+) -> Result<Result<Stats, StoreFault>, ServeFault>
+    requires { publisher.old.pending ≡ [] }
+    ensures book { publisher.new.seen.book ≡ publisher.old.seen.book }
+    ensures most { publisher.new.most ≡ publisher.old.most }
+    ensures ok { IfOk result (λ outcome. Does publisher.old job.now outcome publisher.new) }
+    ensures err { OnErr result (LeavesOne publisher.old job.now publisher.new) }
+    ensures fault { IfErr result (λ fault. fault ≢ Ahead) }
+{
+    let (domain, locale) = (job.domain.as_str(), job.locale.as_str());
+    match publisher.load(alloc, domain, locale, job.bytes.as_slice(), job.options) {
+        Ok(stats) => {
+            if publisher.publish(rt).is_err() {
+                return Err(ServeFault::Memory);
+            }
+            Ok(Ok(stats))
+        }
+        Err(fault) => match fault {
+            StoreFault::Memory => Err(ServeFault::Memory),
+            _ => Ok(Err(fault)),
+        },
+    }
+}
+
+/// Publishes what is pending, and then does the jobs in turn.
+pub(crate) fn do_jobs<R: Wait, G: Gate>(
+    rt: &R,
+    gate: &G,
+    alloc: Global,
+    publisher: &mut Publisher,
+    jobs: &[Job],
+    outcomes: &mut Vec<Result<Stats, StoreFault>>,
+) -> Result<(), ServeFault>
+    ensures book { publisher.new.seen.book ≡ publisher.old.seen.book }
+    ensures most { publisher.new.most ≡ publisher.old.most }
+    ensures ok { IfOk result (λ _. HasDone publisher.old jobs.now outcomes.new.items publisher.new) }
+    ensures stops { Stops publisher.old jobs.now publisher.new }
+    ensures fault { IfErr result (λ fault. fault ≢ Ahead) }
+{
+    outcomes.clear();
+    if publisher.publish(rt).is_err() {
+        return Err(ServeFault::Memory);
+    }
+    for index in 0..jobs.len() {
+        gate.pass(Place::Publishing, index as u64);
+        let outcome = do_job(rt, alloc, publisher, &jobs[index])?;
+        if outcomes.push(outcome).is_err() {
+            return Err(ServeFault::Memory);
+        }
+    }
+    Ok(())
+}

@@ -1,0 +1,149 @@
+//! The service as a whole.
+ghost use Rattle.std.specs.List.{AllZip, AllByRecursion};
+ghost use Rattle.std.specs.Thread.{IsSync};
+ghost use Rattle.std.specs.Prelude.{◌≡◌, ◌≢◌, ◌≤◌, All, IfOk, IfErr, vec_len, length};
+ghost use Rattle.live_versions.specs.Batches.{version_of};
+ghost use Rattle.desks.specs.Desks.{EndsAhead, IsKept, IsServed};
+ghost use Rattle.desks.specs.Jobs.{HasDone, Stops};
+ghost use Rattle.desks.specs.Working.{Worked};
+ghost use Rattle.desks.specs.declared.desk.ServeFault.TheVariants.{Ahead};
+
+use crate::desk::{Desk, ServeFault};
+use crate::gate::Gate;
+use crate::job::Job;
+use crate::publish::do_jobs;
+use crate::settle::{first_fault, learn_all, settle_all};
+use crate::worker::{are_idle, work_all};
+use catalogue::Stats;
+use live_versions::{Publisher, StoreFault, Version};
+use std::alloc::Global;
+use std::sync::Wait;
+use std::thread::{Threads, join_mut};
+
+/// The outcome of each job, in order, and the version at the end.
+#[derive(Drop)]
+pub struct Served {
+    pub outcomes: Vec<Result<Stats, StoreFault>>,
+    pub version: Version,
+}
+
+/// The jobs beside the work of all desks.
+fn run_all<R: Threads + Wait + Sync, G: Gate + Sync>(
+    rt: &R,
+    alloc: Global,
+    publisher: &mut Publisher,
+    outcomes: &mut Vec<Result<Stats, StoreFault>>,
+    jobs: &[Job],
+    gate: &G,
+    desks: &mut [Desk],
+) -> Result<(), ServeFault>
+    requires count { length desks.old ≤ 16 }
+    ensures book { publisher.new.seen.book ≡ publisher.old.seen.book }
+    ensures most { publisher.new.most ≡ publisher.old.most }
+    ensures done { IfOk result (λ _. HasDone publisher.old jobs.now outcomes.new.items publisher.new) }
+    ensures stops { Stops publisher.old jobs.now publisher.new }
+    ensures fault { IfErr result (λ fault. fault ≢ Ahead) }
+    ensures worked { AllZip Worked desks.old desks.new }
+{
+    if jobs.is_empty() || are_idle(desks) {
+        let published = do_jobs(rt, gate, alloc, publisher, jobs, outcomes);
+        work_all(rt, gate, alloc, 0, desks);
+        return published;
+    }
+    let (published, ()) = join_mut(
+        rt,
+        &mut || do_jobs(rt, gate, alloc, publisher, jobs, outcomes),
+        &mut ||
+            requires { IsSync R.row × IsSync G.row × (length desks.now ≤ 16) }
+            ensures { AllZip Worked desks.entry.now desks.exit.now }
+        { work_all(rt, gate, alloc, 0, desks) },
+    );
+    published
+}
+
+/// The service over a slice of desks. It answers the version at the end.
+fn serve_slice<R: Threads + Wait + Sync, G: Gate + Sync>(
+    rt: &R,
+    alloc: Global,
+    publisher: &mut Publisher,
+    outcomes: &mut Vec<Result<Stats, StoreFault>>,
+    jobs: &[Job],
+    gate: &G,
+    desks: &mut [Desk],
+) -> Result<Version, ServeFault>
+    requires book { AllByRecursion (λ d. d.reader.book ≡ publisher.old.seen.book) desks.old }
+    requires count { length desks.old ≤ 16 }
+    ensures book { publisher.new.seen.book ≡ publisher.old.seen.book }
+    ensures most { publisher.new.most ≡ publisher.old.most }
+    ensures kept { AllZip IsKept desks.old desks.new }
+    ensures store { AllByRecursion (λ d. d.reader.book ≡ publisher.new.seen.book) desks.new }
+    ensures done { IfOk result (λ _. HasDone publisher.old jobs.now outcomes.new.items publisher.new) }
+    ensures version { IfOk result (λ version. version ≡ version_of publisher.new.seen.batches) }
+    ensures desks { IfOk result (λ _. AllZip (IsServed publisher.old.seen publisher.new.seen) desks.old desks.new) }
+    ensures stops { Stops publisher.old jobs.now publisher.new }
+    ensures fault { IfErr result (EndsAhead publisher.new.seen desks.new) }
+{
+    let opening = publisher.tell();
+    learn_all(desks, &opening);
+    run_all(rt, alloc, publisher, outcomes, jobs, gate, desks)?;
+    if let Some(fault) = first_fault(desks) {
+        return Err(fault);
+    }
+    let closing = publisher.tell();
+    match settle_all(desks, &closing) {
+        Ok(()) => Ok(closing.version()),
+        Err(fault) => Err(fault),
+    }
+}
+
+/// Answers the queries of all desks, each query by one entry, while the publisher publishes what is pending and then
+/// does the jobs in turn, each a load that is published by itself where it is accepted.
+///
+/// Desks with queries are worked side by side, each in a thread of its own, beside the thread that publishes; a desk
+/// without queries takes no thread, nor does the publishing where there are no jobs or no queries. At first each reader learns what is published,
+/// and at the end it settles with what is published then. Where the system makes no thread, the work is done in turn.
+///
+/// After a fault the desks' `answers` and `fault` are left open, and the store has the loads that it had, behind them
+/// those of some first jobs that were accepted, and no other; at most the last of these is pending.
+pub fn serve<R: Threads + Wait + Sync, G: Gate + Sync>(
+    rt: &R,
+    alloc: Global,
+    publisher: &mut Publisher,
+    desks: &mut Vec<Desk>,
+    jobs: Vec<Job>,
+    gate: &G,
+) -> Result<Served, ServeFault>
+    requires book { All (λ d. d.reader.book ≡ publisher.old.seen.book) desks.old.items }
+    requires count { (1 ≤ vec_len desks.old) × (vec_len desks.old ≤ 16) }
+    ensures book { publisher.new.seen.book ≡ publisher.old.seen.book }
+    ensures most { publisher.new.most ≡ publisher.old.most }
+    ensures kept { AllZip IsKept desks.old.items desks.new.items }
+
+    // The desks may be served again.
+    ensures again { All (λ d. d.reader.book ≡ publisher.new.seen.book) desks.new.items }
+    ensures as_many { vec_len desks.new ≡ vec_len desks.old }
+
+    // The outcomes of the jobs, what is published at the end, and what each desk has.
+    ensures done { IfOk result (λ s. HasDone publisher.old jobs.items s.outcomes.items publisher.new) }
+    ensures version { IfOk result (λ s. s.version ≡ version_of publisher.new.seen.batches) }
+    ensures desks { IfOk result (λ _.
+        AllZip (IsServed publisher.old.seen publisher.new.seen) desks.old.items desks.new.items) }
+
+    // What a fault leaves of the store. It holds without one too.
+    ensures stops { Stops publisher.old jobs.items publisher.new }
+    ensures fault { IfErr result (EndsAhead publisher.new.seen desks.new.items) }
+{
+    let mut outcomes = Vec::new(alloc);
+    match serve_slice(
+        rt,
+        alloc,
+        publisher,
+        &mut outcomes,
+        jobs.as_slice(),
+        gate,
+        desks.as_mut_slice(),
+    ) {
+        Ok(version) => Ok(Served { outcomes, version }),
+        Err(fault) => Err(fault),
+    }
+}

@@ -1,0 +1,54 @@
+//! What is done to all desks before and behind their work.
+ghost use Rattle.std.specs.List.{AllZip, AllByRecursion};
+ghost use Rattle.std.specs.Prelude.{◌≡◌, ◌≢◌, ◌<◌, OnOk, IfErr, IfNone, None, Some};
+ghost use Rattle.live_versions.specs.Batches.{version_of};
+ghost use Rattle.desks.specs.declared.desk.ServeFault.TheVariants.{Ahead};
+ghost use Rattle.desks.specs.Desks.{AtSome, IsKept};
+ghost use Rattle.desks.specs.Working.{HasLearnt, Settled};
+
+use crate::desk::{Desk, ServeFault};
+use live_versions::Notice;
+
+/// Each reader learns a notice.
+pub(crate) fn learn_all(desks: &mut [Desk], opening: &Notice)
+    requires { AllByRecursion (λ d. d.reader.book ≡ opening.now.book) desks.old }
+    ensures { AllZip (HasLearnt opening.now) desks.old desks.new }
+{
+    let Some((desk, rest)) = desks.split_first_mut() else {
+        return;
+    };
+    desk.reader.learn(opening);
+    learn_all(rest, opening);
+}
+
+/// The first worker's fault.
+pub(crate) fn first_fault(desks: &[Desk]) -> Option<ServeFault>
+    requires { AllByRecursion (λ d. d.fault ≢ Some Ahead) desks.now }
+    ensures none { IfNone result (AllByRecursion (λ d. d.fault ≡ None) desks.now) }
+    ensures fault { result ≢ Some Ahead }
+{
+    let (desk, rest) = desks.split_first()?;
+    match desk.fault {
+        Some(fault) => Some(fault),
+        None => first_fault(rest),
+    }
+}
+
+#[tactic(auto, using(crate::proofs::Desks::kept_all))]
+/// Each reader settles with the closing notice.
+pub(crate) fn settle_all(desks: &mut [Desk], closing: &Notice) -> Result<(), ServeFault>
+    requires { AllByRecursion (λ d. d.reader.book ≡ closing.now.book) desks.old }
+    ensures settled { OnOk result (AllZip (Settled closing.now) desks.old desks.new) }
+    ensures kept { AllZip IsKept desks.old desks.new }
+    ensures fault { IfErr result (λ fault. fault ≡ Ahead) }
+    ensures ahead { IfErr result (λ _.
+        AtSome (λ d. version_of closing.now.batches < version_of d.reader.batches) desks.new) }
+{
+    let Some((desk, rest)) = desks.split_first_mut() else {
+        return Ok(());
+    };
+    if desk.reader.settle(closing).is_err() {
+        return Err(ServeFault::Ahead);
+    }
+    settle_all(rest, closing)
+}

@@ -1,0 +1,104 @@
+//! The workers: each desk's queries.
+ghost use Rattle.std.specs.List.{AllZip};
+ghost use Rattle.std.specs.Thread.{IsSync};
+ghost use Rattle.std.specs.Prelude.{◌≡◌, ◌≢◌, ◌+◌, ◌<◌, ◌≤◌, ◌^◌, length, OnOk, IfErr};
+ghost use Rattle.live_versions.specs.Batches.{version_of, StartsWith};
+ghost use Rattle.desks.specs.Answers.{Answered};
+ghost use Rattle.desks.specs.Working.{Worked};
+ghost use Rattle.desks.specs.declared.desk.ServeFault.TheVariants.{Ahead};
+
+use crate::desk::{Answer, Desk, ServeFault};
+use crate::gate::{Gate, Place};
+use live_set::Query;
+use live_versions::{AskFault, Lookups};
+use std::alloc::Global;
+use std::mem;
+use std::thread::{Threads, join_mut};
+
+/// Answers each query by one entry, one after another.
+fn answer_all<G: Gate>(
+    gate: &G,
+    alloc: Global,
+    place: u32,
+    reader: &mut Lookups,
+    queries: &[Query],
+    answers: &mut Vec<Answer>,
+) -> Result<(), ServeFault>
+    ensures book { reader.new.book ≡ reader.old.book }
+    ensures later { StartsWith reader.new.batches reader.old.batches }
+    ensures answered { OnOk result
+        (Answered reader.new.batches (version_of reader.old.batches) queries.now answers.new.items) }
+    ensures fault { IfErr result (λ fault. fault ≢ Ahead) }
+{
+    answers.clear();
+    if answers.reserve(queries.len()).is_err() {
+        return Err(ServeFault::Memory);
+    }
+    for index in 0..queries.len() {
+        gate.pass(Place::Worker(place), index as u64);
+        match reader.ask(alloc, &queries[index]) {
+            Ok((version, text)) => {
+                if answers.push(Answer { version, text }).is_err() {
+                    return Err(ServeFault::Memory);
+                }
+            }
+            Err(AskFault::Closed) => return Err(ServeFault::Closed),
+            Err(AskFault::Memory) => return Err(ServeFault::Memory),
+        }
+    }
+    Ok(())
+}
+
+/// One desk's work. What changes with each answer lies on the thread's own stack: the desks stand side by side.
+fn work<G: Gate>(gate: &G, alloc: Global, place: u32, desk: &mut Desk)
+    ensures { Worked desk.old desk.new }
+{
+    let mut answers = mem::replace(&mut desk.answers, Vec::new(alloc));
+    let answered = answer_all(
+        gate,
+        alloc,
+        place,
+        &mut desk.reader,
+        desk.queries.as_slice(),
+        &mut answers,
+    );
+    desk.answers = answers;
+    desk.fault = answered.err();
+}
+
+/// Whether no desk has queries.
+pub(crate) fn are_idle(desks: &[Desk]) -> bool {
+    desks.iter().all(|desk| desk.queries.is_empty())
+}
+
+/// The work of all desks, whose places are counted from this one: each in a thread of its own, but for those without
+/// queries, and for the last one that has some.
+pub(crate) fn work_all<R: Threads + Sync, G: Gate + Sync>(
+    rt: &R,
+    gate: &G,
+    alloc: Global,
+    place: u32,
+    desks: &mut [Desk],
+)
+    requires { place + length desks.old < 2 ^ 32 }
+    ensures { AllZip Worked desks.old desks.new }
+{
+    let Some((desk, rest)) = desks.split_first_mut() else {
+        return;
+    };
+    if desk.queries.is_empty() || are_idle(rest) {
+        work(gate, alloc, place, desk);
+        work_all(rt, gate, alloc, place + 1, rest);
+        return;
+    }
+    join_mut(
+        rt,
+        &mut ||
+            ensures { Worked desk.entry.now desk.exit.now }
+        { work(gate, alloc, place, desk) },
+        &mut ||
+            requires { IsSync R.row × IsSync G.row × (place + 1 + length rest.now < 2 ^ 32) }
+            ensures { AllZip Worked rest.entry.now rest.exit.now }
+        { work_all(rt, gate, alloc, place + 1, rest) },
+    );
+}
