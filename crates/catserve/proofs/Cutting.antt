@@ -57,7 +57,7 @@ before-at p (x ∷ front) y rest d fails passes =
     rw (position-next p x (front ++ y ∷ rest) head) (ap (λ zs. x ∷ zs)
     (before-at p front y rest d (λ k lt. fails (suc k) (omega arith)) passes))
 
-take-all : {X : Type 0} (n : ℕ) (xs : List X) → n ≡ length xs → take n xs ≡ xs
+pub take-all : {X : Type 0} (n : ℕ) (xs : List X) → n ≡ length xs → take n xs ≡ xs
 take-all n xs e = rw e (take-length xs)
 
 -- what stands behind an ASCII byte of a text is a text

@@ -4,6 +4,8 @@ pub mod Escapes
 pub mod Taking
 pub mod Parsing
 pub mod Batching
+pub mod Turns
+pub mod Asked
 pub mod Playing
 pub mod OneOutput
 pub mod SomeOutput

@@ -1,6 +1,6 @@
 -- A text has one output.
-use Rattle.std.proofs.Common.{◌≡◌, ◌∙◌, refl, sym, ap, subst, ℕ, List, [], ◌∷◌, ◌++◌, length, Option, Some, None}
-use Rattle.std.proofs.Common.{Result, Ok, Err}
+use Rattle.std.proofs.Common.{◌≡◌, ◌∙◌, refl, sym, ap, subst, ℕ, zero, suc, ◌+◌, List, [], ◌∷◌, ◌++◌, length, Option}
+use Rattle.std.proofs.Common.{Some, None, Result, Ok, Err}
 use Rattle.std.specs.List.{AllZip, filter_map, flat_map}
 use Rattle.po_header.specs.Rule.{Rule, place}
 use Rattle.po_header.proofs.RuleLemmas.{HasRule-one}
@@ -11,10 +11,11 @@ use Rattle.catalogue.specs.declared.Compiled.{Compiled}
 use Rattle.catalogue.proofs.OneMeaning.{meaning_one, refusal_one, means_or_refuses}
 use Rattle.live_set.specs.Loads.{LoadValue, map_of}
 use Rattle.live_set.specs.Asks.{AskValue, Plain, Context, Number, ContextNumber, QueryValue, HasValue, IsAnswer}
-use Rattle.catserve.specs.Script.{LoadText, RoundValue, script}
+use Rattle.desks.specs.Jobs.{JobValue}
+use Rattle.catserve.specs.Script.{QuestionValue, RoundValue, ScriptValue, queries_for, script}
 use Rattle.catserve.specs.Output.{answer_line, version_line}
 use Rattle.catserve.specs.Rounds.{Outcome, Accepted, Refused, Unnamed, IsOutcome, outcome_line, accepted_load, Answers}
-use Rattle.catserve.specs.Rounds.{Plays, PlaysAll}
+use Rattle.catserve.specs.Rounds.{AnswersInTurn, Plays, PlaysAll}
 use Rattle.catserve.specs.Laws.{HasOneOutput}
 
 zip_one : {A B : Type 0} (R : A → B → Type 0) → ((x : A) (y z : B) → R x y → R x z → y ≡ z)
@@ -68,9 +69,17 @@ answers_one loads worker queries output other (texts, each, is) (texts', each', 
     is ∙ ap (λ ts. flat_map (answer_line worker (length loads)) ts)
     (zip_one (IsAnswer loads) (answer_one loads) queries texts texts' each each') ∙ sym is'
 
+turn_one : (loads : List LoadValue) (questions : List QuestionValue) (worker count : ℕ) (output other : List ℕ)
+    → AnswersInTurn loads questions worker count output → AnswersInTurn loads questions worker count other
+    → output ≡ other
+turn_one loads questions worker zero output other h k = h ∙ sym k
+turn_one loads questions worker (suc count) output other (front, back, one, all, is) (front', back', one', all', is') =
+    is ∙ ap (λ xs. xs ++ back) (answers_one loads worker (queries_for worker questions) front front' one one')
+    ∙ ap (λ xs. front' ++ xs) (turn_one loads questions (worker + 1) count back back' all all') ∙ sym is'
+
 -- ---- loads
 
-outcome_one : (l : LoadText) (o p : Outcome) → IsOutcome l o → IsOutcome l p → o ≡ p
+outcome_one : (l : JobValue) (o p : Outcome) → IsOutcome l o → IsOutcome l p → o ≡ p
 outcome_one l (Accepted load stats) (Accepted load' stats') (names, (c, means, st, ld)) (names', (c', means', st', ld'))
     =
     let same : c ≡ c' = meaning_one l.text l.options c c' means means' in
@@ -92,42 +101,42 @@ outcome_one l Unnamed Unnamed h k = refl
 
 -- ---- rounds
 
-after_one : (before : List LoadValue) (round : RoundValue) (after after' : List LoadValue) (output other : List ℕ)
-    → Plays before round after output → Plays before round after' other → after ≡ after'
-after_one before round after after' output other p q =
+after_one : (workers : ℕ) (before : List LoadValue) (round : RoundValue) (after after' : List LoadValue)
+    (output other : List ℕ) → Plays workers before round after output → Plays workers before round after' other → after
+    ≡ after'
+after_one workers before round after after' output other p q =
     p.after_is ∙ ap (λ os. before ++ filter_map accepted_load os)
     (zip_one IsOutcome outcome_one round.loads p.outcomes q.outcomes p.loaded q.loaded) ∙ sym q.after_is
 
-round_one : (before : List LoadValue) (round : RoundValue) (after : List LoadValue) (output other : List ℕ)
-    → Plays before round after output → Plays before round after other → output ≡ other
-round_one before round after output other p q =
+round_one : (workers : ℕ) (before : List LoadValue) (round : RoundValue) (after : List LoadValue)
+    (output other : List ℕ)
+    → Plays workers before round after output → Plays workers before round after other → output ≡ other
+round_one workers before round after output other p q =
     let loads = zip_one IsOutcome outcome_one round.loads p.outcomes q.outcomes p.loaded q.loaded in
-    let first = answers_one after 0 round.first p.first q.first p.first_answers q.first_answers in
-    let second = answers_one after 1 round.second p.second q.second p.second_answers q.second_answers in
-    p.output_is ∙ ap (λ os. flat_map outcome_line os ++ version_line (length after) ++ p.first ++ p.second) loads
-    ∙ ap (λ xs. flat_map outcome_line q.outcomes ++ version_line (length after) ++ xs ++ p.second) first
-    ∙ ap (λ xs. flat_map outcome_line q.outcomes ++ version_line (length after) ++ q.first ++ xs) second
-    ∙ sym q.output_is
+    let answers = turn_one after round.questions 0 workers p.answers q.answers p.answered q.answered in
+    p.output_is ∙ ap (λ os. flat_map outcome_line os ++ version_line (length after) ++ p.answers) loads
+    ∙ ap (λ xs. flat_map outcome_line q.outcomes ++ version_line (length after) ++ xs) answers ∙ sym q.output_is
 
-rounds_one : (before : List LoadValue) (rounds : List RoundValue) (output other : List ℕ)
-    → PlaysAll before rounds output → PlaysAll before rounds other → output ≡ other
-rounds_one before [] output other h k = h ∙ sym k
-rounds_one before (round ∷ rounds) output other (after, front, back, p, all, is) (after', front', back', q, all', is') =
-    let same : after ≡ after' = after_one before round after after' front front' p q in
-    let P : List LoadValue → Type 0 = λ ls. Plays before round ls front' in
-    let Q : List LoadValue → Type 0 = λ ls. PlaysAll ls rounds back' in
-    is ∙ ap (λ xs. xs ++ back) (round_one before round after front front' p (subst P (sym same) q))
-    ∙ ap (λ xs. front' ++ xs) (rounds_one after rounds back back' all (subst Q (sym same) all'))
+rounds_one : (workers : ℕ) (before : List LoadValue) (rounds : List RoundValue) (output other : List ℕ)
+    → PlaysAll workers before rounds output → PlaysAll workers before rounds other → output ≡ other
+rounds_one workers before [] output other h k = h ∙ sym k
+rounds_one workers before (round ∷ rounds) output other (after, front, back, p, all, is)
+    (after', front', back', q, all', is') =
+    let same : after ≡ after' = after_one workers before round after after' front front' p q in
+    let P : List LoadValue → Type 0 = λ ls. Plays workers before round ls front' in
+    let Q : List LoadValue → Type 0 = λ ls. PlaysAll workers ls rounds back' in
+    is ∙ ap (λ xs. xs ++ back) (round_one workers before round after front front' p (subst P (sym same) q))
+    ∙ ap (λ xs. front' ++ xs) (rounds_one workers after rounds back back' all (subst Q (sym same) all'))
     ∙ sym is'
 
 -- ---- scripts
 
-abbrev ok_or : List RoundValue → Result (List RoundValue) ℕ → List RoundValue
-ok_or d (Ok rounds) = rounds
+abbrev ok_or : ScriptValue → Result ScriptValue ℕ → ScriptValue
+ok_or d (Ok value) = value
 ok_or d (Err bad) = d
 
 pub output_one : HasOneOutput
-output_one text output other (rounds, script, all) (rounds', script', all') =
-    let same : rounds ≡ rounds' = ap (ok_or rounds) (sym script.says ∙ script'.says) in
-    let P : List RoundValue → Type 0 = λ rs. PlaysAll [] rs other in
-    rounds_one [] rounds output other all (subst P (sym same) all')
+output_one text output other (value, script, all) (value', script', all') =
+    let same : value ≡ value' = ap (ok_or value) (sym script.says ∙ script'.says) in
+    let P : ScriptValue → Type 0 = λ v. PlaysAll v.workers [] v.rounds other in
+    rounds_one value.workers [] value.rounds output other all (subst P (sym same) all')

@@ -1,22 +1,33 @@
 -- A round, step by step.
-use Rattle.std.proofs.Common.{◌≡◌, ◌∙◌, refl, sym, ap, subst, ℕ, List, [], ◌∷◌, ◌++◌, append_assoc}
+use Rattle.std.proofs.Common.{◌≡◌, ◌∙◌, refl, sym, ap, subst, ℕ, ◌+◌, ◌<◌, ◌≤◌, List, [], ◌∷◌, ◌++◌, append_assoc}
+use Rattle.std.proofs.Common.{arith}
+use Rattle.std.proofs.Common.{length, length-append, Result, Ok, Err, OnOk, IfOk}
 use Rattle.std.proofs.lemmas.List.{append-nil}
-use Rattle.std.specs.List.{filter_map, flat_map}
+use Rattle.std.proofs.lemmas.List.Elements.{filter_map-append}
+use Rattle.std.proofs.lemmas.List.Sums.{sum_by-append}
+use Rattle.std.proofs.lemmas.Slice.Zip.{AllZip-long}
+use Rattle.std.specs.List.{AllZip, filter_map, flat_map}
 use Rattle.catalogue.specs.Meaning.{Refuses}
 use Rattle.catalogue.specs.declared.Stats.{Stats}
 use Rattle.catalogue.specs.declared.LoadFault.{LoadFault}
 use Rattle.live_set.specs.Loads.{LoadValue}
 use Rattle.live_versions.specs.Batches.{joined, version_of, published}
-use Rattle.live_versions.specs.Store.{StoreValue, Accepts, AreNames}
+use Rattle.live_versions.specs.Store.{StoreValue, Accepts, AreNames, HasRoom}
 use Rattle.live_versions.specs.Seen.{SeenValue}
-use Rattle.catserve.specs.Script.{LoadText, RoundValue}
+use Rattle.desks.specs.Jobs.{JobValue}
+use Rattle.catserve.specs.Script.{RoundValue}
 use Rattle.catserve.specs.Output.{accepted_line, refused_line, version_line}
-use Rattle.catserve.specs.Rounds.{Outcome, Accepted, Refused, Unnamed, IsOutcome, outcome_line, accepted_load, Answers}
-use Rattle.catserve.specs.Rounds.{PlaysAll}
-use Rattle.catserve.specs.Running.{LoadsOne, LoadsAll, PlaysOne, HasPlayed}
+use Rattle.catserve.specs.Rounds.{Outcome, Accepted, Refused, Unnamed, IsOutcome, outcome_line, accepted_load}
+use Rattle.catserve.specs.Rounds.{AnswersInTurn, PlaysAll}
+use Rattle.catserve.specs.Gathering.{load_count}
+use Rattle.catserve.specs.Running.{LoadsOne, LoadsAll, HasLoaded, HasRoomFor, PlaysOne, HasPlayed}
 use Rattle.catserve.proofs.Batching.{AllZip-snoc, flat_map-snoc, joined-append}
 
-pub accepts_one : (load : LoadText) (s s' : StoreValue) (stats : Stats) (before after : List ℕ)
+pub map_ok : {T E A B : Type 0} (r : Result T E) → OnOk r A → (A → B) → IfOk r (λ _. B)
+map_ok (Ok x) a f = f a
+map_ok (Err x) a f = tt
+
+pub accepts_one : (load : JobValue) (s s' : StoreValue) (stats : Stats) (before after : List ℕ)
     → Accepts s load.domain load.locale load.text load.options stats s' → after ≡ before ++ accepted_line stats
     → LoadsOne load s.pending s'.pending before after
 accepts_one load s s' stats before after a written = record {
@@ -26,7 +37,7 @@ accepts_one load s s' stats before after a written = record {
   written = written;
 }
 
-pub refuses_one : (load : LoadText) (s s' : StoreValue) (fault : LoadFault) (before after : List ℕ)
+pub refuses_one : (load : JobValue) (s s' : StoreValue) (fault : LoadFault) (before after : List ℕ)
     → AreNames load.domain load.locale → Refuses load.text load.options fault.kind fault.line → s' ≡ s → after ≡ before
     ++ refused_line fault.kind fault.line → LoadsOne load s.pending s'.pending before after
 refuses_one load s s' fault before after names refuses same written = record {
@@ -36,21 +47,14 @@ refuses_one load s s' fault before after names refuses same written = record {
   written = written;
 }
 
-filter_map-append : (xs ys : List Outcome) → filter_map accepted_load (xs ++ ys) ≡ filter_map accepted_load xs
-    ++ filter_map accepted_load ys
-filter_map-append [] ys = refl
-filter_map-append (Accepted load stats ∷ xs) ys = ap (λ zs. load ∷ zs) (filter_map-append xs ys)
-filter_map-append (Refused kind line ∷ xs) ys = filter_map-append xs ys
-filter_map-append (Unnamed ∷ xs) ys = filter_map-append xs ys
-
-pub loads_more : (loads : List LoadText) (load : LoadText) (p q r : List LoadValue) (a b c : List ℕ)
+pub loads_more : (loads : List JobValue) (load : JobValue) (p q r : List LoadValue) (a b c : List ℕ)
     → LoadsAll loads p q a b → LoadsOne load q r b c → LoadsAll (loads ++ load ∷ []) p r a c
 loads_more loads load p q r a b c all one = record {
   outcomes = all.outcomes ++ one.outcome ∷ [];
   each = AllZip-snoc IsOutcome loads all.outcomes load one.outcome all.each one.is;
   pending_are = one.pending_are ∙ ap (λ xs. xs ++ filter_map accepted_load (one.outcome ∷ [])) all.pending_are
       ∙ append_assoc p (filter_map accepted_load all.outcomes) (filter_map accepted_load (one.outcome ∷ []))
-      ∙ ap (λ xs. p ++ xs) (sym (filter_map-append all.outcomes (one.outcome ∷ [])));
+      ∙ ap (λ xs. p ++ xs) (sym (filter_map-append accepted_load all.outcomes (one.outcome ∷ [])));
   written = one.written ∙ ap (λ xs. xs ++ outcome_line one.outcome) all.written
       ∙ append_assoc a (flat_map outcome_line all.outcomes) (outcome_line one.outcome)
       ∙ ap (λ xs. a ++ xs) (sym (flat_map-snoc outcome_line all.outcomes one.outcome));
@@ -61,19 +65,45 @@ joined-published : (bs : List (List LoadValue)) (pending : List LoadValue) → j
 joined-published bs [] = sym (append-nil (joined bs))
 joined-published bs (l ∷ ls) = joined-append bs ((l ∷ ls) ∷ []) ∙ ap (λ xs. joined bs ++ xs) (append-nil (l ∷ ls))
 
+-- at most one load more is accepted for each
+few_accepted : (outcomes : List Outcome) → length (filter_map accepted_load outcomes) ≤ length outcomes
+few_accepted [] = omega arith
+few_accepted (Accepted load stats ∷ outcomes) = omega (arith, few_accepted outcomes)
+few_accepted (Refused kind line ∷ outcomes) = omega (arith, few_accepted outcomes)
+few_accepted (Unnamed ∷ outcomes) = omega (arith, few_accepted outcomes)
+
+few_outcomes : (loads : List JobValue) (outcomes : List Outcome) → AllZip IsOutcome loads outcomes
+    → length (filter_map accepted_load outcomes) ≤ length loads
+few_outcomes loads outcomes each = omega (arith, few_accepted outcomes, AllZip-long IsOutcome loads outcomes each)
+
+-- so there is room for one load more
+pub has_room : (loads : List JobValue) (was now : StoreValue) (before after : List ℕ) (count : ℕ)
+    → HasLoaded loads was now before after → HasRoomFor count was → length loads < count → HasRoom now
+has_room loads was now before after count h room more = omega (
+  arith,
+  room,
+  more,
+  h.most,
+  ap (λ (f : SeenValue). version_of f.batches) h.seen,
+  ap length h.loaded.pending_are,
+  length-append was.pending (filter_map accepted_load h.loaded.outcomes),
+  few_outcomes loads h.loaded.outcomes h.loaded.each,
+)
+
 -- the loads, the version and the answers of a round
-pub plays_one : (round : RoundValue) (was loaded now : StoreValue) (version : ℕ) (a b c d e : List ℕ)
-    (one other : List ℕ) → was.pending ≡ [] → LoadsAll round.loads was.pending loaded.pending a b → loaded.seen
-    ≡ was.seen → now.seen.batches ≡ published loaded.seen.batches loaded.pending → now.pending ≡ [] → version
-    ≡ version_of now.seen.batches → c ≡ b ++ version_line version → Answers (joined now.seen.batches) 0 round.first one
-    → Answers (joined now.seen.batches) 1 round.second other → d ≡ c ++ one → e ≡ d ++ other
-    → PlaysOne round was now a e
-plays_one round was loaded now version a b c d e one other none all front shown empty is_version c_is first second d_is
-    e_is =
+pub plays_one : (workers : ℕ) (round : RoundValue) (was loaded now : StoreValue) (version : ℕ)
+    (a b c d answers : List ℕ)
+    → was.pending ≡ [] → LoadsAll round.loads was.pending loaded.pending a b → loaded.seen ≡ was.seen
+    → now.seen.batches ≡ published loaded.seen.batches loaded.pending → now.pending ≡ [] → now.most ≡ was.most → version
+    ≡ version_of now.seen.batches → c ≡ b ++ version_line version
+    → AnswersInTurn (joined now.seen.batches) round.questions 0 workers answers → d ≡ c ++ answers
+    → PlaysOne workers round was now a d
+plays_one workers round was loaded now version a b c d answers none all front shown empty most is_version c_is answered
+    d_is =
     let lines = flat_map outcome_line all.outcomes in
     let version_is = version_line (version_of now.seen.batches) in
     record {
-      output = lines ++ version_is ++ one ++ other;
+      output = lines ++ version_is ++ answers;
       plays = record {
         outcomes = all.outcomes;
         loaded = all.each;
@@ -81,28 +111,26 @@ plays_one round was loaded now version a b c d e one other none all front shown 
             ∙ ap (λ xs. joined loaded.seen.batches ++ xs) (all.pending_are
             ∙ ap (λ xs. xs ++ filter_map accepted_load all.outcomes) none)
             ∙ ap (λ (f : SeenValue). joined f.batches ++ filter_map accepted_load all.outcomes) front;
-        first = one;
-        first_answers = first;
-        second = other;
-        second_answers = second;
+        answers = answers;
+        answered = answered;
         output_is = refl;
       };
       none_pending = empty;
-      written = e_is ∙ ap (λ xs. xs ++ other) (d_is ∙ ap (λ xs. xs ++ one)
-          (c_is ∙ ap (λ v. b ++ version_line v) is_version ∙ ap (λ xs. xs ++ version_is) all.written))
-          ∙ ap (λ xs. (xs ++ one) ++ other) (append_assoc a lines version_is)
-          ∙ ap (λ xs. xs ++ other) (append_assoc a (lines ++ version_is) one)
-          ∙ append_assoc a (lines ++ version_is ++ one) other;
+      most = most;
+      written = d_is ∙ ap (λ xs. xs ++ answers)
+          (c_is ∙ ap (λ v. b ++ version_line v) is_version ∙ ap (λ xs. xs ++ version_is) all.written)
+          ∙ ap (λ xs. xs ++ answers) (append_assoc a lines version_is)
+          ∙ append_assoc a (lines ++ version_is) answers;
     }
 
 -- one more round
-pub plays_more : (rounds : List RoundValue) (round : RoundValue) (was now after : StoreValue) (output written : List ℕ)
-    → HasPlayed rounds was now output → PlaysOne round now after output written → after.seen.book ≡ now.seen.book
-    → HasPlayed (rounds ++ round ∷ []) was after written
-plays_more rounds round was now after output written played one same = record {
+pub plays_more : (workers : ℕ) (rounds : List RoundValue) (round : RoundValue) (was now after : StoreValue)
+    (output written : List ℕ) → HasPlayed workers rounds was now output
+    → PlaysOne workers round now after output written → HasPlayed workers (rounds ++ round ∷ []) was after written
+plays_more workers rounds round was now after output written played one = record {
   going = λ rest tail all.
-      let P : List RoundValue → Type 0 = λ rs. PlaysAll (joined was.seen.batches) rs (written ++ tail) in
-      let Q : List ℕ → Type 0 = λ out. PlaysAll (joined was.seen.batches) (rounds ++ round ∷ rest) out in
+      let P : List RoundValue → Type 0 = λ rs. PlaysAll workers (joined was.seen.batches) rs (written ++ tail) in
+      let Q : List ℕ → Type 0 = λ out. PlaysAll workers (joined was.seen.batches) (rounds ++ round ∷ rest) out in
       subst P (sym (append_assoc rounds (round ∷ []) rest))
       (subst Q (sym (ap (λ xs. xs ++ tail) one.written ∙ append_assoc output one.output tail))
       (played.going (round ∷ rest) (one.output ++ tail) (
@@ -114,16 +142,37 @@ plays_more rounds round was now after output written played one same = record {
         refl,
       )));
   none_pending = one.none_pending;
-  book = same ∙ played.book;
+  few = omega (
+    arith,
+    played.few,
+    sum_by-append (λ (r : RoundValue). length r.loads) rounds (round ∷ []),
+    ap length one.plays.after_is,
+    length-append (joined now.seen.batches) (filter_map accepted_load one.plays.outcomes),
+    few_outcomes round.loads one.plays.outcomes one.plays.loaded,
+  );
+  most = one.most ∙ played.most;
 }
 
 -- all rounds
-pub plays_all : (rounds : List RoundValue) (was now : StoreValue) (output : List ℕ) → HasPlayed rounds was now output
-    → PlaysAll (joined was.seen.batches) rounds output
-plays_all rounds was now output played =
-    let P : List RoundValue → Type 0 = λ rs. PlaysAll (joined was.seen.batches) rs (output ++ []) in
-    let Q : List ℕ → Type 0 = λ out. PlaysAll (joined was.seen.batches) rounds out in
+pub plays_all : (workers : ℕ) (rounds : List RoundValue) (was now : StoreValue) (output : List ℕ)
+    → HasPlayed workers rounds was now output → PlaysAll workers (joined was.seen.batches) rounds output
+plays_all workers rounds was now output played =
+    let P : List RoundValue → Type 0 = λ rs. PlaysAll workers (joined was.seen.batches) rs (output ++ []) in
+    let Q : List ℕ → Type 0 = λ out. PlaysAll workers (joined was.seen.batches) rounds out in
     subst Q (append-nil output) (subst P (append-nil rounds) (played.going [] [] refl))
 
-pub plays_none : (was : StoreValue) → was.pending ≡ [] → HasPlayed [] was was []
-plays_none was none = record { going = λ rest tail all. all; none_pending = none; book = refl }
+pub plays_none : (workers : ℕ) (was : StoreValue) → was.pending ≡ [] → HasPlayed workers [] was was []
+plays_none workers was none = record
+    { going = λ rest tail all. all; none_pending = none; few = omega arith; most = refl }
+
+-- there is room for the loads of the next round
+pub has_room_for : (workers : ℕ) (all played left : List RoundValue) (round : RoundValue) (was now : StoreValue)
+    (output : List ℕ) → HasPlayed workers played was now output → HasRoomFor (load_count all) was → all
+    ≡ played ++ round ∷ left → HasRoomFor (length round.loads) now
+has_room_for workers all played left round was now output h room whole =
+    let count : load_count all ≡ load_count played + load_count (round ∷ left) = ap load_count whole
+    ∙ sum_by-append (λ (r : RoundValue). length r.loads) played (round ∷ left) in
+    let next : load_count (round ∷ left) ≡ load_count (round ∷ []) + load_count left =
+    sum_by-append (λ (r : RoundValue). length r.loads) (round ∷ []) left in
+    let none : length now.pending ≡ 0 = ap length h.none_pending in
+    omega (arith, room, h.few, h.most, count, next, none)

@@ -1,6 +1,7 @@
 -- A text has an output or a fault: it leads to ⊥ that it has neither.
-use Rattle.std.proofs.Common.{◌≡◌, ℕ, ◌<◌, Bool, true, false, cond, List, [], ◌∷◌, ◌++◌, length, Option, Some, None}
-use Rattle.std.proofs.Common.{Result, Ok, Err, refl, sym, subst, arith, inl, inr}
+use Rattle.std.proofs.Common.{◌≡◌, ℕ, zero, suc, ◌+◌, ◌<◌, Bool, true, false, cond, List, [], ◌∷◌, ◌++◌, length}
+use Rattle.std.proofs.Common.{Option, Some}
+use Rattle.std.proofs.Common.{None, Result, Ok, Err, refl, sym, subst, arith, inl, inr}
 use Rattle.std.specs.Prelude.{nat_lt}
 use Rattle.std.specs.List.{AllByRecursion, AllZip, filter, filter_map, flat_map, last_or}
 use Rattle.std.proofs.lemmas.Bool.{cases_Bool, cases_lt, ltb-true}
@@ -14,11 +15,12 @@ use Rattle.entry_search.proofs.Searching.{some_at}
 use Rattle.catalogue.proofs.SomeMeaning.{some_meaning, IsFormed, means_formed}
 use Rattle.live_set.specs.Loads.{LoadValue, map_of, map_or_empty, is_for}
 use Rattle.live_set.specs.Asks.{AskValue, Plain, Context, Number, ContextNumber, QueryValue, HasValue, IsAnswer}
-use Rattle.catserve.specs.Script.{LoadText, RoundValue, script}
+use Rattle.desks.specs.Jobs.{JobValue}
+use Rattle.catserve.specs.Script.{QuestionValue, RoundValue, ScriptValue, queries_for, script}
 use Rattle.catserve.specs.Output.{answer_line, version_line}
 use Rattle.catserve.specs.Texts.{IsReadable}
 use Rattle.catserve.specs.Rounds.{Outcome, Accepted, Refused, Unnamed, IsOutcome, outcome_line, accepted_load, Answers}
-use Rattle.catserve.specs.Rounds.{Plays, PlaysAll}
+use Rattle.catserve.specs.Rounds.{AnswersInTurn, Plays, PlaysAll}
 use Rattle.catserve.specs.Laws.{HasSomeOutput}
 
 -- where each item has a match, all of them have matches
@@ -95,9 +97,17 @@ answers_some loads worker queries formed none =
     (map_formed loads q.domain q.locale formed)) queries
     (λ texts each. none (flat_map (answer_line worker (length loads)) texts) (texts, each, refl))
 
+turn_some : (loads : List LoadValue) (questions : List QuestionValue) (worker count : ℕ) → AreFormed loads
+    → ((output : List ℕ) → AnswersInTurn loads questions worker count output → ⊥) → ⊥
+turn_some loads questions worker zero formed none = none [] refl
+turn_some loads questions worker (suc count) formed none =
+    answers_some loads worker (queries_for worker questions) formed
+    (λ front one. turn_some loads questions (worker + 1) count formed
+    (λ back all. none (front ++ back) (front, back, one, all, refl)))
+
 -- ---- loads
 
-outcome_some : (l : LoadText) → ((o : Outcome) → IsOutcome l o → ⊥) → ⊥
+outcome_some : (l : JobValue) → ((o : Outcome) → IsOutcome l o → ⊥) → ⊥
 outcome_some l none =
     none Unnamed (λ names.
     some_meaning l.text l.options
@@ -106,7 +116,7 @@ outcome_some l none =
     (λ (kind, line, refused). none (Refused kind line) (names, refused)))
 
 -- what was accepted is formed
-accepted_formed : (ls : List LoadText) (os : List Outcome) → AllZip IsOutcome ls os
+accepted_formed : (ls : List JobValue) (os : List Outcome) → AllZip IsOutcome ls os
     → AreFormed (filter_map accepted_load os)
 accepted_formed [] [] all = tt
 accepted_formed [] (o ∷ os) all = absurd all
@@ -121,35 +131,31 @@ accepted_formed (l ∷ ls) (Unnamed ∷ os) all = accepted_formed ls os all.1
 
 -- ---- rounds
 
-plays_some : (before : List LoadValue) (round : RoundValue) → AreFormed before
-    → ((after : List LoadValue) (output : List ℕ) → AreFormed after → Plays before round after output → ⊥) → ⊥
-plays_some before round formed none =
+plays_some : (workers : ℕ) (before : List LoadValue) (round : RoundValue) → AreFormed before
+    → ((after : List LoadValue) (output : List ℕ) → AreFormed after → Plays workers before round after output → ⊥) → ⊥
+plays_some workers before round formed none =
     zip_some IsOutcome outcome_some round.loads
     (λ outcomes loaded.
     let after = before ++ filter_map accepted_load outcomes in
     let well = formed_append before (filter_map accepted_load outcomes) formed
     (accepted_formed round.loads outcomes loaded) in
-    answers_some after 0 round.first well
-    (λ first first_answers.
-    answers_some after 1 round.second well
-    (λ second second_answers.
-    none after (flat_map outcome_line outcomes ++ version_line (length after) ++ first ++ second) well (record {
+    turn_some after round.questions 0 workers well
+    (λ answers answered.
+    none after (flat_map outcome_line outcomes ++ version_line (length after) ++ answers) well (record {
       outcomes = outcomes;
       loaded = loaded;
       after_is = refl;
-      first = first;
-      first_answers = first_answers;
-      second = second;
-      second_answers = second_answers;
+      answers = answers;
+      answered = answered;
       output_is = refl;
-    }))))
+    })))
 
-rounds_some : (before : List LoadValue) (rounds : List RoundValue) → AreFormed before
-    → ((output : List ℕ) → PlaysAll before rounds output → ⊥) → ⊥
-rounds_some before [] formed none = none [] refl
-rounds_some before (round ∷ rounds) formed none =
-    plays_some before round formed
-    (λ after front well plays. rounds_some after rounds well
+rounds_some : (workers : ℕ) (before : List LoadValue) (rounds : List RoundValue) → AreFormed before
+    → ((output : List ℕ) → PlaysAll workers before rounds output → ⊥) → ⊥
+rounds_some workers before [] formed none = none [] refl
+rounds_some workers before (round ∷ rounds) formed none =
+    plays_some workers before round formed
+    (λ after front well plays. rounds_some workers after rounds well
     (λ back all. none (front ++ back) (after, front, back, plays, all, refl)))
 
 -- ---- scripts
@@ -163,7 +169,7 @@ output_some text no_output no_fault = elim (cases_lt 67108864 (length text)) [
   })))
 ]
   where
-    go : IsReadable text → (r : Result (List RoundValue) ℕ) → script text ≡ r → ⊥
-    go readable (Ok rounds) says = rounds_some [] rounds tt (λ output all. no_output output
-        (rounds, record { readable = readable; says = says }, all))
+    go : IsReadable text → (r : Result ScriptValue ℕ) → script text ≡ r → ⊥
+    go readable (Ok value) says = rounds_some value.workers [] value.rounds tt (λ output all. no_output output
+        (value, record { readable = readable; says = says }, all))
     go readable (Err line) says = no_fault (inr (inr (line, record { readable = readable; bad = says })))

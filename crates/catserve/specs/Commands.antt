@@ -3,15 +3,15 @@ use Rattle.std.specs.Prelude.{ℕ, ◌==◌, Bool, true, if◌then◌else◌, Li
 use Rattle.std.specs.Str.{bytes_eq}
 use Rattle.catalogue.specs.declared.Options.{Options}
 use Rattle.live_set.specs.Asks.{AskValue, QueryValue, Plain, Context, Number, ContextNumber}
-use Rattle.catserve.specs.declared.field.Worker.{Worker}
 use Rattle.catserve.specs.Lines.{fields}
-use Rattle.catserve.specs.ScriptFields.{number, unescaped, options_of, worker_of, ◌>>=◌}
+use Rattle.catserve.specs.ScriptFields.{number, unescaped, options_of, worker_of, worker_count, ◌>>=◌}
 
--- an empty line or a comment; a load of the next lines, of which it counts so many; a question; the end of a round
+-- an empty line or a comment; a load of the next lines, of which it counts so many; a question to a worker; the end of
+-- a round
 pub data Line : Type 0 where
   Blank : Line
   Loads : (domain locale : List ℕ) (options : Options) (count : ℕ) → Line
-  Asks : (worker : Worker) (query : QueryValue) → Line
+  Asks : (worker : ℕ) (query : QueryValue) → Line
   Goes : Line
 
 -- the texts of a call of gettext: its msgid
@@ -64,13 +64,13 @@ load_line (domain ∷ locale ∷ options ∷ count ∷ []) = do
   Some (Loads domain locale o n)
 load_line _ = None
 
--- behind `ask`: a worker, a domain, a locale, and a call
-abbrev pub ask_line : List (List ℕ) → Option Line
-ask_line (worker ∷ domain ∷ locale ∷ call ∷ texts) = do
-  w ← worker_of worker
+-- behind `ask`: one of so many workers, a domain, a locale, and a call
+abbrev pub ask_line : ℕ → List (List ℕ) → Option Line
+ask_line workers (worker ∷ domain ∷ locale ∷ call ∷ texts) = do
+  w ← worker_of workers worker
   a ← call_of call texts
   Some (Asks w (record { domain = domain; locale = locale; ask = a }))
-ask_line _ = None
+ask_line workers _ = None
 
 -- behind `go`: nothing
 abbrev pub go_line : List (List ℕ) → Option Line
@@ -78,18 +78,23 @@ go_line [] = Some Goes
 go_line _ = None
 
 -- a line by its first field
-abbrev pub command_line : List (List ℕ) → Option Line
-command_line (word ∷ rest) =
+abbrev pub command_line : ℕ → List (List ℕ) → Option Line
+command_line workers (word ∷ rest) =
     if bytes_eq word (codes "load") then load_line rest else
-    if bytes_eq word (codes "ask") then ask_line rest else
+    if bytes_eq word (codes "ask") then ask_line workers rest else
     if bytes_eq word (codes "go") then go_line rest else None
-command_line [] = None
+command_line workers [] = None
 
 -- an empty line, or one that begins with `#`
 abbrev pub is_blank : List ℕ → Bool
 is_blank [] = true
 is_blank (b ∷ text) = b == 35
 
--- what a line says, if it is one that a script may have
-abbrev pub line_of : List ℕ → Option Line
-line_of text = if is_blank text then Some Blank else command_line (fields text)
+-- what a line says in a script of so many workers, if it is one that such a script may have
+abbrev pub line_of : ℕ → List ℕ → Option Line
+line_of workers text = if is_blank text then Some Blank else command_line workers (fields text)
+
+-- `workers`, and how many there are
+abbrev pub workers_line : List (List ℕ) → Option ℕ
+workers_line (word ∷ count ∷ []) = if bytes_eq word (codes "workers") then worker_count count else None
+workers_line _ = None

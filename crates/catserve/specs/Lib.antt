@@ -7,6 +7,7 @@ pub mod Output
 pub mod Rounds
 pub mod Laws
 pub mod Run
+pub mod Asking
 pub mod Running
 pub mod Scanning
 pub mod LineValues

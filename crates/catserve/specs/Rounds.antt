@@ -1,5 +1,5 @@
 -- The whole output of a script: what its rounds mean, one after another.
-use Rattle.std.specs.Prelude.{◌≡◌, ℕ, List, [], ◌∷◌, ◌++◌, length, Option, Some, None}
+use Rattle.std.specs.Prelude.{◌≡◌, ℕ, zero, suc, ◌+◌, List, [], ◌∷◌, ◌++◌, length, Option, Some, None}
 use Rattle.std.specs.List.{AllZip, filter_map, flat_map}
 use Rattle.catalogue.specs.Meaning.{Means, Refuses}
 use Rattle.catalogue.specs.declared.Stats.{Stats}
@@ -8,7 +8,8 @@ use Rattle.catalogue.specs.declared.LoadKind.{LoadKind}
 use Rattle.live_set.specs.Loads.{LoadValue}
 use Rattle.live_set.specs.Asks.{QueryValue, IsAnswer}
 use Rattle.live_versions.specs.Store.{AreNames}
-use Rattle.catserve.specs.Script.{LoadText, RoundValue}
+use Rattle.desks.specs.Jobs.{JobValue}
+use Rattle.catserve.specs.Script.{QuestionValue, RoundValue, ScriptValue, queries_for}
 use Rattle.catserve.specs.Texts.{IsScript}
 use Rattle.catserve.specs.Output.{accepted_line, refused_line, unnamed_line, version_line, answer_line}
 
@@ -19,7 +20,7 @@ pub data Outcome : Type 0 where
   Unnamed : Outcome
 
 -- it has the map that its text means; its text is refused; its domain or its locale is no name
-abbrev pub IsOutcome : LoadText → Outcome → Type 0
+abbrev pub IsOutcome : JobValue → Outcome → Type 0
 IsOutcome l (Accepted load stats) = AreNames l.domain l.locale
     × ((c : Compiled) × Means l.text l.options c × (stats ≡ c.stats)
     × (load ≡ record { domain = l.domain; locale = l.locale; map = c.catalogue }))
@@ -42,24 +43,29 @@ abbrev pub Answers : List LoadValue → ℕ → List QueryValue → List ℕ →
 Answers loads worker queries output = (texts : List (List ℕ)) × AllZip (IsAnswer loads) queries texts
     × (output ≡ flat_map (answer_line worker (length loads)) texts)
 
--- a round behind these loads: its own loads, its version, and the answers of the two workers over all loads up to it
-pub record Plays (before : List LoadValue) (round : RoundValue) (after : List LoadValue) (output : List ℕ) : Type 0
-  where
-    pub outcomes : List Outcome
-    pub loaded : AllZip IsOutcome round.loads outcomes
-    pub after_is : after ≡ before ++ filter_map accepted_load outcomes
-    pub first : List ℕ
-    pub first_answers : Answers after 0 round.first first
-    pub second : List ℕ
-    pub second_answers : Answers after 1 round.second second
-    pub output_is : output ≡ flat_map outcome_line outcomes ++ version_line (length after) ++ first ++ second
+-- so many workers, from this one on, answer one behind another, each what it is asked
+abbrev pub AnswersInTurn : List LoadValue → List QuestionValue → (worker count : ℕ) → List ℕ → Type 0
+AnswersInTurn loads questions worker zero output = output ≡ []
+AnswersInTurn loads questions worker (suc count) output = (front : List ℕ) × (back : List ℕ)
+    × Answers loads worker (queries_for worker questions) front
+    × AnswersInTurn loads questions (worker + 1) count back × (output ≡ front ++ back)
+
+-- a round behind these loads: its own loads, its version, and the answers of so many workers over all loads up to it
+pub record Plays (workers : ℕ) (before : List LoadValue) (round : RoundValue) (after : List LoadValue)
+    (output : List ℕ) : Type 0 where
+  pub outcomes : List Outcome
+  pub loaded : AllZip IsOutcome round.loads outcomes
+  pub after_is : after ≡ before ++ filter_map accepted_load outcomes
+  pub answers : List ℕ
+  pub answered : AnswersInTurn after round.questions 0 workers answers
+  pub output_is : output ≡ flat_map outcome_line outcomes ++ version_line (length after) ++ answers
 
 -- the rounds behind these loads
-abbrev pub PlaysAll : List LoadValue → List RoundValue → List ℕ → Type 0
-PlaysAll before [] output = output ≡ []
-PlaysAll before (round ∷ rounds) output = (after : List LoadValue) × (front : List ℕ) × (back : List ℕ)
-    × Plays before round after front × PlaysAll after rounds back × (output ≡ front ++ back)
+abbrev pub PlaysAll : ℕ → List LoadValue → List RoundValue → List ℕ → Type 0
+PlaysAll workers before [] output = output ≡ []
+PlaysAll workers before (round ∷ rounds) output = (after : List LoadValue) × (front : List ℕ) × (back : List ℕ)
+    × Plays workers before round after front × PlaysAll workers after rounds back × (output ≡ front ++ back)
 
 -- the output of a text that is a script
 abbrev pub HasOutput : List ℕ → List ℕ → Type 0
-HasOutput text output = (rounds : List RoundValue) × IsScript text rounds × PlaysAll [] rounds output
+HasOutput text output = (value : ScriptValue) × IsScript text value × PlaysAll value.workers [] value.rounds output

@@ -8,7 +8,7 @@ use denote.Ref.{Bor}
 use Rattle.catserve.specs.declared.fault.ScriptFault.{ScriptFault}
 use Rattle.catserve.specs.declared.fault.ScriptKind.{ScriptKind}
 use Rattle.catserve.specs.declared.fault.ScriptKind.TheVariants as kind
-use Rattle.catserve.specs.Script.{RoundValue}
+use Rattle.catserve.specs.Script.{ScriptValue}
 use Rattle.catserve.specs.Texts.{IsRefused}
 use Rattle.catserve.specs.Lines.{lines, without_end, fields}
 use Rattle.std.specs.Str.{IsUtf8}
@@ -55,9 +55,9 @@ IsLineFault Bad number fault = fault ≡ record { kind = kind.BadLine; line = nu
 IsLineFault Memory number fault = fault ≡ record { kind = kind.Memory; line = 0 }
 
 -- the fault is that of a text with this outcome
-abbrev pub ParseFails : Result (List RoundValue) ℕ → ScriptFault → Type 0
+abbrev pub ParseFails : Result ScriptValue ℕ → ScriptFault → Type 0
 ParseFails outcome fault = FailsBy fault.kind outcome fault.line where
-  FailsBy : ScriptKind → Result (List RoundValue) ℕ → ℕ → Type 0
+  FailsBy : ScriptKind → Result ScriptValue ℕ → ℕ → Type 0
   FailsBy kind.BadLine outcome line = outcome ≡ Err line
   FailsBy kind.Memory outcome line = line ≡ 0
   FailsBy _ outcome line = ⊥

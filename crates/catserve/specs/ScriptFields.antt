@@ -1,13 +1,12 @@
 -- What the fields of a line stand for.
-use Rattle.std.specs.Prelude.{ℕ, ◌^◌, ◌&&◌, ◌==◌, Bool, true, false, if◌then◌else◌, nat_lt, List, [], ◌∷◌, length}
+use Rattle.std.specs.Prelude.{ℕ, ◌^◌, ◌&&◌, ◌==◌, Bool, true, false, if◌then◌else◌, nat_lt, nat_le, List, [], ◌∷◌}
+use Rattle.std.specs.Prelude.{length}
 use Rattle.std.specs.Prelude.{codes, Option, Some, None, option_and_then}
 use Rattle.std.specs.Char.{is_ascii_digit}
 use Rattle.std.specs.Str.{bytes_eq}
 use Rattle.std.specs.Str.Parse.{digits_value}
 use Rattle.std.specs.List.{list_all}
 use Rattle.catalogue.specs.declared.Options.{Options}
-use Rattle.catserve.specs.declared.field.Worker.{Worker}
-use Rattle.catserve.specs.declared.field.Worker.TheVariants.{First, Second}
 
 -- one field after another, where each of them can be read
 infixl 10 ◌>>=◌
@@ -49,8 +48,19 @@ options_of text =
     if bytes_eq text (codes "f") then Some (record { checked = false; use_fuzzy = true }) else
     if bytes_eq text (codes "cf") then Some (record { checked = true; use_fuzzy = true }) else None
 
--- the worker that is asked
-abbrev pub worker_of : List ℕ → Option Worker
-worker_of text =
-    if bytes_eq text (codes "0") then Some First else
-    if bytes_eq text (codes "1") then Some Second else None
+-- a 0 stands in front of other digits
+abbrev pub has_leading_zero : List ℕ → Bool
+has_leading_zero (b ∷ c ∷ text) = b == 48
+has_leading_zero _ = false
+
+-- one of so many workers, by its number, which are counted from 0
+abbrev pub worker_of : ℕ → List ℕ → Option ℕ
+worker_of workers text = if has_leading_zero text then None else (do
+  n ← number text
+  if nat_lt n workers then Some n else None)
+
+-- how many workers there are: 1 to 16
+abbrev pub worker_count : List ℕ → Option ℕ
+worker_count text = do
+  n ← number text
+  if nat_le 1 n && nat_le n 16 then Some n else None

@@ -1,9 +1,9 @@
--- What a text is as a script: its rounds, or a refusal.
+-- What a text is as a script: its workers and its rounds, or a refusal.
 use Rattle.std.specs.Prelude.{◌≡◌, ℕ, ◌<◌, ◌≤◌, List, length, Ok, Err}
 use Rattle.std.specs.Str.{IsUtf8}
 use Rattle.catserve.specs.declared.fault.ScriptKind.{ScriptKind}
 use Rattle.catserve.specs.declared.fault.ScriptKind.TheVariants.{TooLarge, NotUtf8, BadLine}
-use Rattle.catserve.specs.Script.{RoundValue, script}
+use Rattle.catserve.specs.Script.{ScriptValue, script}
 
 -- 64 MiB
 abbrev pub most_script : ℕ
@@ -14,10 +14,10 @@ pub record IsReadable (text : List ℕ) : Type 0 where
   pub size : length text ≤ most_script
   pub utf8 : IsUtf8 text
 
--- the text is a script of these rounds
-pub record IsScript (text : List ℕ) (rounds : List RoundValue) : Type 0 where
+-- the text is this script
+pub record IsScript (text : List ℕ) (value : ScriptValue) : Type 0 where
   pub readable : IsReadable text
-  pub says : script text ≡ Ok rounds
+  pub says : script text ≡ Ok value
 
 -- a line of the text is bad, and this is the first one
 pub record HasBadLine (text : List ℕ) (line : ℕ) : Type 0 where

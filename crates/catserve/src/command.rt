@@ -1,13 +1,14 @@
 //! What a line of a script says.
-ghost use Rattle.std.specs.Prelude.{◌≡◌};
+ghost use Rattle.std.specs.Prelude.{◌≡◌, IfErr};
 ghost use Rattle.catserve.specs.Commands.{plain_call, context_call, number_call, context_number_call, call_of};
-ghost use Rattle.catserve.specs.Commands.{load_line, ask_line, go_line, command_line, is_blank, line_of};
+ghost use Rattle.catserve.specs.Commands.{load_line, ask_line, go_line, command_line, is_blank, line_of, workers_line};
+ghost use Rattle.catserve.specs.Lines.{fields};
 ghost use Rattle.catserve.specs.Scanning.{Reads};
 ghost use Rattle.catserve.specs.LineValues.{line_value};
 ghost use Rattle.live_set.specs.Asks.{ask_value};
 
 use crate::fault::LineFault;
-use crate::field::{Worker, read_number, read_options, read_text, read_worker};
+use crate::field::{read_number, read_options, read_text, read_worker, read_worker_count};
 use crate::fields::Fields;
 use catalogue::Options;
 use live_set::{Ask, Query};
@@ -27,7 +28,7 @@ pub(crate) enum Line<'a> {
     },
     /// A worker is asked.
     Asks {
-        worker: Worker,
+        worker: u32,
         query: Query,
     },
     /// The round ends.
@@ -111,11 +112,11 @@ fn read_load(mut fields: Fields<'_>) -> Result<Line<'_>, LineFault>
     })
 }
 
-/// What stands behind `ask`.
-fn read_ask<'a>(alloc: Global, mut fields: Fields<'a>) -> Result<Line<'a>, LineFault>
-    ensures { Reads line_value result (ask_line fields.entry) }
+/// What stands behind `ask`, where there are so many workers.
+fn read_ask<'a>(alloc: Global, workers: u32, mut fields: Fields<'a>) -> Result<Line<'a>, LineFault>
+    ensures { Reads line_value result (ask_line workers fields.entry) }
 {
-    let worker = read_worker(fields.next()?)?;
+    let worker = read_worker(workers, fields.next()?)?;
     let domain = fields.next()?;
     let locale = fields.next()?;
     let name = fields.next()?;
@@ -137,23 +138,50 @@ fn read_go<'a>(fields: Fields<'a>) -> Result<Line<'a>, LineFault>
 }
 
 /// What a line says, by its first field.
-fn read_command<'a>(alloc: Global, mut fields: Fields<'a>) -> Result<Line<'a>, LineFault>
-    ensures { Reads line_value result (command_line fields.entry) }
+fn read_command<'a>(
+    alloc: Global,
+    workers: u32,
+    mut fields: Fields<'a>,
+) -> Result<Line<'a>, LineFault>
+    ensures { Reads line_value result (command_line workers fields.entry) }
 {
     match fields.next()? {
         "load" => read_load(fields),
-        "ask" => read_ask(alloc, fields),
+        "ask" => read_ask(alloc, workers, fields),
         "go" => read_go(fields),
         _ => Err(LineFault::Bad),
     }
 }
 
-/// What a line says, which is given without its LF. `Bad` where it is no line of a script.
-pub(crate) fn read_line(alloc: Global, text: &str) -> Result<Line<'_>, LineFault>
-    ensures { Reads line_value result (line_of text.now) }
+/// Whether a line, which is given without its LF, says nothing: it is empty, or a comment.
+pub(crate) fn says_nothing(text: &str) -> bool
+    ensures { result ≡ is_blank text.now }
 {
-    if text.is_empty() || text.starts_with('#') {
+    text.is_empty() || text.starts_with('#')
+}
+
+/// How many workers a line gives a script. `Bad` where it is no such line.
+pub(crate) fn read_workers(text: &str) -> Result<u32, LineFault>
+    ensures reads { Reads (λ n. n) result (workers_line (fields text.now)) }
+    ensures bad { IfErr result (λ fault. fault ≡ LineFault.Bad) }
+{
+    let mut fields = Fields::new(text);
+    let word = fields.next()?;
+    let count = fields.next()?;
+    fields.end()?;
+    match word {
+        "workers" => read_worker_count(count),
+        _ => Err(LineFault::Bad),
+    }
+}
+
+/// What a line says in a script of so many workers. The line is given without its LF. `Bad` where it is none that such
+/// a script may have.
+pub(crate) fn read_line(alloc: Global, workers: u32, text: &str) -> Result<Line<'_>, LineFault>
+    ensures { Reads line_value result (line_of workers text.now) }
+{
+    if says_nothing(text) {
         return Ok(Line::Blank);
     }
-    read_command(alloc, Fields::new(text))
+    read_command(alloc, workers, Fields::new(text))
 }

@@ -2,6 +2,7 @@
 ghost use Rattle.std.specs.Prelude.{◌≡◌};
 ghost use Rattle.catserve.specs.declared.fault.LineFault.TheVariants.{Memory};
 
+use desks::ServeFault;
 use std::alloc::AllocError;
 use thiserror::Error;
 
@@ -43,7 +44,7 @@ pub enum ScriptKind {
     /// There was no place for a reader of the store.
     #[error("no place for a reader")]
     NoPlace,
-    /// A reader found the store closed, or at another version than the round's.
+    /// A reader found the store closed, or had seen more than was published.
     #[error("the store is closed")]
     Closed,
     /// A thread couldn't be made.
@@ -87,5 +88,19 @@ impl From<AllocError> for ScriptKind {
 
     fn from(_: AllocError) -> ScriptKind {
         ScriptKind::Memory
+    }
+}
+
+impl From<ServeFault> for ScriptKind {
+    ghost use Rattle.catserve.specs.Running.{kind_of};
+
+    ghost from_gives = { λ fault kind. kind ≡ kind_of fault };
+
+    fn from(fault: ServeFault) -> ScriptKind {
+        match fault {
+            ServeFault::Memory => ScriptKind::Memory,
+            ServeFault::Ahead | ServeFault::Closed => ScriptKind::Closed,
+            ServeFault::Join => ScriptKind::Join,
+        }
     }
 }

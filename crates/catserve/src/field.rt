@@ -1,8 +1,9 @@
 //! What a field stands for.
-ghost use Rattle.std.specs.Prelude.{◌≡◌, MatchOption, IfSome, option_map, string_bytes};
+ghost use Rattle.std.specs.Prelude.{◌≡◌, MatchOption, IfErr, IfSome, option_map, string_bytes};
 ghost use Rattle.std.specs.List.{list_all};
 ghost use Rattle.std.specs.Char.{is_ascii_digit};
-ghost use Rattle.catserve.specs.ScriptFields.{number, unescaped, escaped_byte, options_of, worker_of};
+ghost use Rattle.catserve.specs.ScriptFields.{number, unescaped, escaped_byte, options_of};
+ghost use Rattle.catserve.specs.ScriptFields.{has_leading_zero, worker_of, worker_count};
 ghost use Rattle.catserve.specs.Scanning.{Reads, SplitsEscape};
 
 use crate::fault::LineFault;
@@ -10,12 +11,8 @@ use catalogue::Options;
 use std::alloc::Global;
 use text_cut::split_at_byte;
 
-/// A worker, who answers questions.
-#[derive(Clone, Copy, Debug, PartialEq, Eq)]
-pub(crate) enum Worker {
-    First,
-    Second,
-}
+/// The most workers that a script may have: as many as a store may have readers.
+const MOST_WORKERS: u64 = 16;
 
 /// Whether the text has no byte but decimal digits.
 fn all_digits(text: &str) -> bool
@@ -27,7 +24,8 @@ fn all_digits(text: &str) -> bool
 /// A decimal number below 2^64.
 #[tactic(auto, using(crate::proofs::Numerals::no_digits, crate::proofs::Numerals::some_number, crate::proofs::Numerals::no_number))]
 pub(crate) fn read_number(field: &str) -> Result<u64, LineFault>
-    ensures { Reads (λ n. n) result (number field.now) }
+    ensures reads { Reads (λ n. n) result (number field.now) }
+    ensures bad { IfErr result (λ fault. fault ≡ LineFault.Bad) }
 {
     if !all_digits(field) {
         return Err(LineFault::Bad);
@@ -84,13 +82,35 @@ pub(crate) fn read_options(field: &str) -> Result<Options, LineFault>
     Ok(Options { checked, use_fuzzy })
 }
 
-/// The worker that is asked.
-pub(crate) fn read_worker(field: &str) -> Result<Worker, LineFault>
-    ensures { Reads (λ w. w) result (worker_of field.now) }
+/// Whether a zero stands in front of other bytes.
+fn leads_with_zero(field: &str) -> bool
+    ensures { result ≡ has_leading_zero field.now }
 {
-    match field {
-        "0" => Ok(Worker::First),
-        "1" => Ok(Worker::Second),
-        _ => Err(LineFault::Bad),
+    field.len() > 1 && field.as_bytes()[0] == b'0'
+}
+
+/// The number of one of so many workers, without leading zeros.
+pub(crate) fn read_worker(workers: u32, field: &str) -> Result<u32, LineFault>
+    ensures { Reads (λ n. n) result (worker_of workers field.now) }
+{
+    if leads_with_zero(field) {
+        return Err(LineFault::Bad);
     }
+    let worker = read_number(field)?;
+    if worker >= workers as u64 {
+        return Err(LineFault::Bad);
+    }
+    Ok(worker as u32)
+}
+
+/// How many workers a script has: 1 to 16.
+pub(crate) fn read_worker_count(field: &str) -> Result<u32, LineFault>
+    ensures reads { Reads (λ n. n) result (worker_count field.now) }
+    ensures bad { IfErr result (λ fault. fault ≡ LineFault.Bad) }
+{
+    let count = read_number(field)?;
+    if count < 1 || count > MOST_WORKERS {
+        return Err(LineFault::Bad);
+    }
+    Ok(count as u32)
 }

@@ -1,9 +1,10 @@
-//! Scripts of loads and look-ups, and what they write.
+//! Scripts of loads and look-ups, and what they write; and `serve`, by which each round of a script is answered.
 //!
 //! A script is read whole before anything is done. It has rounds: in each round its loads are made and
-//! published, and then two workers look up what the round asks.
+//! published, and then the workers look up what the round asks them.
 #![tactic(auto)]
 
+mod asking;
 mod command;
 mod fault;
 mod field;
@@ -15,8 +16,8 @@ mod parse;
 mod round;
 mod rounds;
 mod run;
-mod worker;
 
+pub use desks::{Answer, Desk, Gate, Job, Place, ServeFault, Served, one_end, one_history, serve};
 pub use fault::{ScriptFault, ScriptKind};
 pub use law::one_output;
 pub use parse::MOST_SCRIPT;

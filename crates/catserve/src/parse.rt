@@ -4,19 +4,22 @@ ghost use Rattle.catserve.specs.Lines.{lines};
 ghost use Rattle.catserve.specs.Script.{script, saying, IsBad};
 ghost use Rattle.catserve.specs.Texts.{IsScript};
 ghost use Rattle.catserve.specs.LineValues.{line_value};
-ghost use Rattle.catserve.specs.Gathering.{TakesIn};
+ghost use Rattle.catserve.specs.Gathering.{HasBegun, TakesIn, load_count};
 ghost use Rattle.catserve.specs.Scanning.{IsLineFault, ParseFails, IsTextFault};
 
-use crate::command::{Line, read_line};
+use crate::command::{Line, read_line, read_workers, says_nothing};
 use crate::fault::{LineFault, ScriptFault, ScriptKind};
 use crate::line::{split_line, take_lines};
-use crate::rounds::{LoadText, Round, Rounds};
+use crate::rounds::{LoadText, Rounds, Script};
 use catalogue::MAX_TEXT;
 use simdutf8::compat::from_utf8;
 use std::alloc::Global;
 
 /// The most bytes that a script may have: as many as a PO text.
 pub const MOST_SCRIPT: usize = MAX_TEXT;
+
+/// How many workers a script has that doesn't say it.
+const DEFAULT_WORKERS: u32 = 2;
 
 /// The fault of a line.
 fn fault_at(fault: LineFault, line: u32) -> ScriptFault
@@ -76,17 +79,60 @@ fn take_in<'a>(
     }
 }
 
-/// The rounds of a script.
-fn parse(alloc: Global, text: &str) -> Result<Vec<Round<'_>>, ScriptFault>
+/// The front of a script: how many workers it has. The commands are in the lines from `number` on.
+struct Front<'a> {
+    workers: u32,
+    rest: &'a str,
+    number: u32,
+}
+
+/// The front of a text. Without a line `workers` there are two.
+fn read_front(text: &str) -> Front<'_>
     requires { length text.now ≤ MOST_SCRIPT }
-    ensures ok { IfOk result (λ rounds. script text.now ≡ Ok rounds.items) }
-    ensures err { IfErr result (λ fault. ParseFails (script text.now) fault) }
+    ensures { HasBegun text.now result.workers result.rest.now result.number }
 {
-    let mut rounds = Rounds::new(alloc);
     let mut rest = text;
     let mut number = 1;
+    'front: while let Some((line, behind)) = split_line(rest) {
+        if !says_nothing(line) {
+            return match read_workers(line) {
+                Ok(workers) => Front {
+                    workers,
+                    rest: behind,
+                    number: number + 1,
+                },
+                Err(_) => Front {
+                    workers: DEFAULT_WORKERS,
+                    rest,
+                    number,
+                },
+            };
+        }
+        rest = behind;
+        number += 1;
+    }
+    Front {
+        workers: DEFAULT_WORKERS,
+        rest,
+        number,
+    }
+}
+
+/// What a text says.
+fn parse(alloc: Global, text: &str) -> Result<Script<'_>, ScriptFault>
+    requires { length text.now ≤ MOST_SCRIPT }
+    ensures ok { IfOk result (λ value. script text.now ≡ Ok value) }
+    ensures few { IfOk result (λ value. load_count value.rounds ≤ MOST_SCRIPT) }
+    ensures err { IfErr result (λ fault. ParseFails (script text.now) fault) }
+{
+    let Front {
+        workers,
+        mut rest,
+        mut number,
+    } = read_front(text);
+    let mut rounds = Rounds::new(alloc);
     'lines: while let Some((line, behind)) = split_line(rest) {
-        let said = match read_line(alloc, line) {
+        let said = match read_line(alloc, workers, line) {
             Ok(said) => said,
             Err(fault) => return Err(fault_at(fault, number)),
         };
@@ -98,13 +144,16 @@ fn parse(alloc: Global, text: &str) -> Result<Vec<Round<'_>>, ScriptFault>
             Err(fault) => return Err(fault_at(fault, number)),
         }
     }
-    let all = rounds.all()?;
-    Ok(all)
+    Ok(Script {
+        workers,
+        rounds: rounds.all()?,
+    })
 }
 
-/// The rounds of a script, which is read whole.
-pub(crate) fn read_script(alloc: Global, bytes: &[u8]) -> Result<Vec<Round<'_>>, ScriptFault>
-    ensures ok { IfOk result (λ rounds. IsScript bytes.now rounds.items) }
+/// What the text of a script says, which is read whole.
+pub(crate) fn read_script(alloc: Global, bytes: &[u8]) -> Result<Script<'_>, ScriptFault>
+    ensures ok { IfOk result (λ value. IsScript bytes.now value) }
+    ensures few { IfOk result (λ value. load_count value.rounds ≤ MOST_SCRIPT) }
     ensures err { IfErr result (λ fault. IsTextFault bytes.now fault) }
 {
     if bytes.len() > MOST_SCRIPT {

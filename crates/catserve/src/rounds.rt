@@ -3,7 +3,6 @@ ghost use Rattle.std.specs.Prelude.{◌≡◌, [], ◌∷◌, ◌++◌, false, t
 ghost use Rattle.catserve.specs.Script.{Load, Ask, Go};
 ghost use Rattle.catserve.specs.Gathering.{empty_round, nothing, gathered, all_rounds};
 
-use crate::field::Worker;
 use catalogue::Options;
 use live_set::Query;
 use std::alloc::{AllocError, Global};
@@ -20,20 +19,34 @@ pub(crate) struct LoadText<'a> {
 }
 
 impl<'a> Model for LoadText<'a> {
-    ghost use Rattle.catserve.specs.Script.{LoadText as LoadValue};
+    ghost use Rattle.desks.specs.Jobs.{JobValue};
 
-    ghost Value = { LoadValue };
+    ghost Value = { JobValue };
 
     ghost view = { λ l.
         record { domain = l.domain.now; locale = l.locale.now; options = l.options; text = l.text.now } };
 }
 
-/// A round: its loads, and what the two workers are asked.
+/// A question, and the number of the worker that is asked.
+#[derive(Drop)]
+pub(crate) struct Question {
+    pub(crate) worker: u32,
+    pub(crate) query: Query,
+}
+
+impl Model for Question {
+    ghost use Rattle.catserve.specs.Script.{QuestionValue};
+
+    ghost Value = { QuestionValue };
+
+    ghost view = { λ q. record { worker = q.worker; query = q.query } };
+}
+
+/// A round: its loads, and its questions.
 #[derive(Drop)]
 pub(crate) struct Round<'a> {
     pub(crate) loads: Vec<LoadText<'a>>,
-    pub(crate) first: Vec<Query>,
-    pub(crate) second: Vec<Query>,
+    pub(crate) questions: Vec<Question>,
 }
 
 impl<'a> Model for Round<'a> {
@@ -41,7 +54,7 @@ impl<'a> Model for Round<'a> {
 
     ghost Value = { RoundValue };
 
-    ghost view = { λ r. record { loads = r.loads.items; first = r.first.items; second = r.second.items } };
+    ghost view = { λ r. record { loads = r.loads.items; questions = r.questions.items } };
 }
 
 impl Round<'_> {
@@ -50,10 +63,24 @@ impl Round<'_> {
     {
         Round {
             loads: Vec::new(alloc),
-            first: Vec::new(alloc),
-            second: Vec::new(alloc),
+            questions: Vec::new(alloc),
         }
     }
+}
+
+/// A script that was read: how many workers it has, and its rounds.
+#[derive(Drop)]
+pub(crate) struct Script<'a> {
+    pub(crate) workers: u32,
+    pub(crate) rounds: Vec<Round<'a>>,
+}
+
+impl<'a> Model for Script<'a> {
+    ghost use Rattle.catserve.specs.Script.{ScriptValue};
+
+    ghost Value = { ScriptValue };
+
+    ghost view = { λ s. record { workers = s.workers; rounds = s.rounds.items } };
 }
 
 /// The rounds that are read so far. Contracts see the rounds that have ended, the one that is current, and
@@ -95,14 +122,11 @@ impl<'a> Rounds<'a> {
     }
 
     /// One more question in the current round.
-    pub(crate) fn ask(&mut self, worker: Worker, query: Query) -> Result<(), AllocError>
+    pub(crate) fn ask(&mut self, worker: u32, query: Query) -> Result<(), AllocError>
         ensures { OnOk result (self.new ≡ gathered self.old (Ask worker query)) }
     {
         self.begun = true;
-        match worker {
-            Worker::First => self.current.first.push(query)?,
-            Worker::Second => self.current.second.push(query)?,
-        }
+        self.current.questions.push(Question { worker, query })?;
         Ok(())
     }
 

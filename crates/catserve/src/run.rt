@@ -1,71 +1,78 @@
 //! A run of a script over a reader and a writer.
-ghost use Rattle.std.specs.Prelude.{◌≡◌, [], All, IfOk, IfErr, vec_len};
+ghost use Rattle.std.specs.Prelude.{◌≡◌, ◌≤◌, [], All, IfOk, IfErr, vec_len};
 ghost use Rattle.live_versions.specs.Batches.{joined};
 ghost use Rattle.catserve.specs.Rounds.{HasOutput, PlaysAll};
 ghost use Rattle.catserve.specs.Run.{ReadsText, Runs, input_seen, output_seen};
-ghost use Rattle.catserve.specs.Running.{EndsPlaying, EndsReading, IsPlayFault};
+ghost use Rattle.catserve.specs.Gathering.{load_count};
+ghost use Rattle.catserve.specs.Running.{AreReady, EndsPlaying, EndsReading, HasRoomFor, IsPlayFault};
 
+use crate::asking::open_desks;
 use crate::fault::{ScriptFault, ScriptKind};
 use crate::parse::{MOST_SCRIPT, read_script};
 use crate::round::play;
-use crate::rounds::Round;
+use crate::rounds::{Round, Script};
+use desks::Desk;
 use devices::{InputFault, Sink, Source, read_all};
 use live_versions::{Lookups, OpenFault, Publisher, open_store};
 use std::alloc::Global;
 use std::sync::Wait;
 use std::thread::Threads;
 
-/// The output of some rounds, by a publisher and two readers of its store.
-fn play_rounds<T: Threads + Wait>(
+/// The output of a script's rounds, by a publisher and the desks of its readers.
+fn play_rounds<T: Threads + Wait + Sync>(
     rt: &T,
     alloc: Global,
     publisher: &mut Publisher,
-    first: &mut Lookups,
-    second: &mut Lookups,
-    rounds: &[Round<'_>],
+    desks: &mut Vec<Desk>,
+    rounds: Vec<Round<'_>>,
 ) -> Result<Vec<u8>, ScriptKind>
     requires pending { publisher.old.pending ≡ [] }
-    requires books { (first.old.book ≡ publisher.old.seen.book) × (second.old.book ≡ publisher.old.seen.book) }
-    ensures ok { IfOk result (λ output. PlaysAll (joined publisher.old.seen.batches) rounds.now output.items) }
+    requires ready { AreReady publisher.old.seen desks.old.items }
+    requires count { (1 ≤ vec_len desks.old) × (vec_len desks.old ≤ 16) }
+    requires room { HasRoomFor (load_count rounds.items) publisher.old }
+    ensures ok { IfOk result (λ output.
+        PlaysAll (vec_len desks.old) (joined publisher.old.seen.batches) rounds.entry.items output.items) }
     ensures fault { IsPlayFault result }
 {
     let mut output = Vec::new(alloc);
     'rounds: for round in rounds {
-        play(rt, alloc, publisher, first, second, round, &mut output)?;
+        play(rt, alloc, publisher, desks, round, &mut output)?;
     }
     Ok(output)
 }
 
-/// The output of some rounds, by a publisher and its two readers.
-fn play_by<T: Threads + Wait>(
+/// The output of a script's rounds, by a publisher and its readers.
+fn play_by<T: Threads + Wait + Sync>(
     rt: &T,
     alloc: Global,
     publisher: &mut Publisher,
     readers: Vec<Lookups>,
-    rounds: &[Round<'_>],
+    rounds: Vec<Round<'_>>,
 ) -> Result<Vec<u8>, ScriptKind>
     requires pending { publisher.old.pending ≡ [] }
     requires readers { All (λ l. l ≡ publisher.old.seen) readers.items }
-    ensures ok { IfOk result (λ output. PlaysAll (joined publisher.old.seen.batches) rounds.now output.items) }
+    requires count { (1 ≤ vec_len readers) × (vec_len readers ≤ 16) }
+    requires room { HasRoomFor (load_count rounds.items) publisher.old }
+    ensures ok { IfOk result (λ output.
+        PlaysAll (vec_len readers) (joined publisher.old.seen.batches) rounds.entry.items output.items) }
     ensures fault { IsPlayFault result }
 {
-    let mut readers = readers;
-    let (Some(mut second), Some(mut first)) = (readers.pop(), readers.pop()) else {
-        return Err(ScriptKind::NoPlace);
-    };
-    play_rounds(rt, alloc, publisher, &mut first, &mut second, rounds)
+    let mut desks = open_desks(alloc, readers)?;
+    play_rounds(rt, alloc, publisher, &mut desks, rounds)
 }
 
-/// The output of a script's rounds, by a store of its own.
-fn play_all<T: Threads + Wait>(
+/// The output of a script, by a store of its own, which has a reader for each worker and takes all loads of a script.
+fn play_script<T: Threads + Wait + Sync>(
     rt: &T,
     alloc: Global,
-    rounds: &[Round<'_>],
+    script: Script<'_>,
 ) -> Result<Vec<u8>, ScriptKind>
-    ensures ok { IfOk result (λ output. PlaysAll [] rounds.now output.items) }
+    requires { load_count script.rounds ≤ MOST_SCRIPT }
+    ensures ok { IfOk result (λ output. PlaysAll script.entry.workers [] script.entry.rounds output.items) }
     ensures fault { IsPlayFault result }
 {
-    match open_store(rt, alloc, 2, u64::MAX) {
+    let Script { workers, rounds } = script;
+    match open_store(rt, alloc, workers, MOST_SCRIPT as u64) {
         Ok((mut publisher, readers)) => {
             let output = play_by(rt, alloc, &mut publisher, readers, rounds);
             publisher.end(rt);
@@ -77,12 +84,16 @@ fn play_all<T: Threads + Wait>(
 }
 
 /// The output of a text that is a script.
-fn output_of<T: Threads + Wait>(rt: &T, alloc: Global, text: &[u8]) -> Result<Vec<u8>, ScriptFault>
+fn output_of<T: Threads + Wait + Sync>(
+    rt: &T,
+    alloc: Global,
+    text: &[u8],
+) -> Result<Vec<u8>, ScriptFault>
     ensures ok { IfOk result (λ output. HasOutput text.now output.items) }
     ensures fault { IfErr result (λ fault. EndsPlaying text.now fault.kind fault.line) }
 {
-    let rounds = read_script(alloc, text)?;
-    match play_all(rt, alloc, rounds.as_slice()) {
+    let script = read_script(alloc, text)?;
+    match play_script(rt, alloc, script) {
         Ok(output) => Ok(output),
         Err(kind) => Err(ScriptFault::from(kind)),
     }
@@ -102,12 +113,12 @@ fn read_text<R: Source>(alloc: Global, reader: &mut R) -> Result<Vec<u8>, Script
     }
 }
 
-/// Reads a script whole, runs it by a store of its own with two readers, and writes its output at the end.
+/// Reads a script whole, runs it by a store of its own with a reader for each worker, and writes its output at the end.
 ///
-/// Each round's loads are made and published, and then two workers, each in a thread of its own, answer what
-/// the round asks them. At most 67,108,865 bytes are read, in at most 134,217,728 reads. After every fault but
-/// `WriteFault` nothing was written; what a failed write left is open.
-pub fn run_script<T: Threads + Wait, R: Source, W: Sink>(
+/// Each round's loads are made and published, and then the workers answer what the round asks them, beside one another
+/// (`desks::serve`). There are two, or as many as the line `workers` says. At most 67,108,865 bytes are read, in at
+/// most 134,217,728 reads. After every fault but `WriteFault` nothing was written; what a failed write left is open.
+pub fn run_script<T: Threads + Wait + Sync, R: Source, W: Sink>(
     rt: &T,
     alloc: Global,
     reader: &mut R,

@@ -93,7 +93,7 @@ impl Write for FailingWriter {
 }
 
 /// What a run answers and writes, where so many reads and writes succeed.
-fn run_over<T: Threads + Wait>(
+fn run_over<T: Threads + Wait + Sync>(
     rt: &T,
     alloc: Global,
     script: &[u8],

@@ -1,21 +1,26 @@
-use Rattle.std.proofs.Common.{[], ◌∷◌, refl}
+use Rattle.std.proofs.Common.{[], ◌∷◌, refl, arith}
 use Rattle.catserve.specs.Script.{Ask, Go}
 use Rattle.catserve.specs.Commands.{Blank, Asks, Goes}
-use Rattle.catserve.proofs.Parsing.{takes_none, takes_text}
+use Rattle.catserve.proofs.Parsing.{takes_none, takes_text, few_go, few_ask}
 use Rattle.catserve.proofs.parse.take_in.Goals as goal
 
 pub returns-in-Blank-clause-ok : goal.returns-in-Blank-clause-ok
 returns-in-Blank-clause-ok c = rw c.in-Blank.is (takes_none c.args.rounds.now c.args.rounds.now Blank c.args.behind.now
-    c.args.number [] refl refl c.utf8.behind)
+    c.args.number [] refl refl (omega arith) c.utf8.behind)
 
 pub returns-in_ok-go-in-Goes-clause-ok : goal.returns-in_ok-go-in-Goes-clause-ok
-returns-in_ok-go-in-Goes-clause-ok c = rw c.in-Goes.is (takes_none c.args.rounds.now c.go.new.self Goes
-    c.args.behind.now c.args.number (Go ∷ []) refl c.in_ok-go-in-Goes.ensures c.utf8.behind)
+returns-in_ok-go-in-Goes-clause-ok c =
+    let is = c.in_ok-go-in-Goes.ensures in
+    rw c.in-Goes.is (takes_none c.args.rounds.now c.go.new.self Goes c.args.behind.now c.args.number (Go ∷ []) refl is
+    (few_go c.args.rounds.now c.go.new.self is) c.utf8.behind)
 
 pub returns-in_ok-ask-in-Asks-clause-ok : goal.returns-in_ok-ask-in-Asks-clause-ok
-returns-in_ok-ask-in-Asks-clause-ok c = rw c.in-Asks.is (takes_none c.args.rounds.now c.ask.new.self
-    (Asks c.in-Asks.worker c.in-Asks.query) c.args.behind.now c.args.number (Ask c.in-Asks.worker c.in-Asks.query ∷ [])
-    refl c.in_ok-ask-in-Asks.ensures c.utf8.behind)
+returns-in_ok-ask-in-Asks-clause-ok c =
+    let worker = c.in-Asks.worker in
+    let query = c.in-Asks.query in
+    let is = c.in_ok-ask-in-Asks.ensures in
+    rw c.in-Asks.is (takes_none c.args.rounds.now c.ask.new.self (Asks worker query) c.args.behind.now c.args.number
+    (Ask worker query ∷ []) refl is (few_ask c.args.rounds.now c.ask.new.self worker query is) c.utf8.behind)
 
 pub returns-in_ok-load-in-Loads-clause-ok : goal.returns-in_ok-load-in-Loads-clause-ok
 returns-in_ok-load-in-Loads-clause-ok c =

@@ -1,0 +1,261 @@
+-- What desks are asked, and what they have answered.
+use Rattle.std.proofs.Common.{◌≡◌, ◌≢◌, ◌∙◌, refl, sym, ap, subst, ℕ, zero, suc, ◌+◌, ◌<◌, ◌≤◌, max, List, [], ◌∷◌}
+use Rattle.std.proofs.Common.{drop}
+use Rattle.std.proofs.Common.{◌++◌, length, map, take, set, All, Some, None, arith, length-append, get_or}
+use Rattle.std.proofs.Math.Seq.{take-append_seam}
+use Rattle.std.proofs.lemmas.List.{append-nil, length-map}
+use Rattle.std.proofs.lemmas.List.Elements.{All-nil, All-cons, filter_map-append}
+use Rattle.std.proofs.lemmas.Bool.{ne_eqb, eq-eqb}
+use Rattle.std.specs.List.{AllZip, flat_map}
+use Rattle.std.specs.String.{string_bytes}
+use Rattle.live_set.specs.Loads.{LoadValue}
+use Rattle.live_set.specs.Asks.{QueryValue, IsAnswer}
+use Rattle.live_versions.specs.Batches.{joined, version_of}
+use Rattle.live_versions.specs.Seen.{SeenValue}
+use Rattle.live_versions.specs.Batches.{published}
+use Rattle.live_versions.specs.Store.{StoreValue}
+use Rattle.desks.specs.Jobs.{JobValue, Outcome, HasDone, after_publish}
+use Rattle.desks.specs.Answers.{Answered}
+use Rattle.desks.specs.Desks.{IsServed}
+use Rattle.desks.specs.declared.desk.Answer.{Answer}
+use Rattle.desks.specs.declared.desk.Desk.{Desk}
+use Rattle.catserve.specs.Script.{QuestionValue, query_for, queries_for}
+use Rattle.catserve.specs.Output.{answer_line}
+use Rattle.catserve.specs.Rounds.{Answers, AnswersInTurn}
+use Rattle.catserve.specs.Asking.{readers_of, AreAsked, GivesOne, answer_lines, desk_lines, IsFreed}
+use Rattle.catserve.specs.Running.{AreReady}
+use Rattle.catserve.proofs.Batching.{joined-append}
+use Rattle.catserve.proofs.Cutting.{take-all}
+
+-- ---- questions
+
+for_it : (worker : ℕ) (query : QueryValue) → query_for worker (record { worker = worker; query = query }) ≡ Some query
+for_it worker query = rw (eq-eqb worker worker refl) refl
+
+for_other : (worker other : ℕ) (query : QueryValue) → other ≢ worker
+    → query_for worker (record { worker = other; query = query }) ≡ None
+for_other worker other query differs = rw (ne_eqb other worker differs) refl
+
+-- a question more to this worker
+queries-more : (worker : ℕ) (questions : List QuestionValue) (query : QueryValue)
+    → queries_for worker (questions ++ record { worker = worker; query = query } ∷ [])
+    ≡ queries_for worker questions ++ query ∷ []
+queries-more worker questions query =
+    filter_map-append (query_for worker) questions (record { worker = worker; query = query } ∷ [])
+    ∙ ap (λ xs. queries_for worker questions ++ xs) (rw (for_it worker query) refl)
+
+-- a question more to another one
+queries-same : (worker other : ℕ) (questions : List QuestionValue) (query : QueryValue) → other ≢ worker
+    → queries_for worker (questions ++ record { worker = other; query = query } ∷ []) ≡ queries_for worker questions
+queries-same worker other questions query differs =
+    filter_map-append (query_for worker) questions (record { worker = other; query = query } ∷ [])
+    ∙ ap (λ xs. queries_for worker questions ++ xs) (rw (for_other worker other query differs) refl)
+    ∙ append-nil (queries_for worker questions)
+
+-- a question to a worker in front of these desks
+asked_behind : (worker other : ℕ) (questions : List QuestionValue) (query : QueryValue) (desks : List Desk)
+    → other < worker → AreAsked worker questions desks
+    → AreAsked worker (questions ++ record { worker = other; query = query } ∷ []) desks
+asked_behind worker other questions query [] below asked = tt
+asked_behind worker other questions query (desk ∷ desks) below asked = (
+  asked.0 ∙ sym (queries-same worker other questions query (λ e. absurd (omega arith))),
+  asked_behind (worker + 1) other questions query desks (omega arith) asked.1,
+)
+
+-- one question more
+pub asked_more : (first worker other : ℕ) (questions : List QuestionValue) (query : QueryValue)
+    (desks after : List Desk)
+    → other ≡ first + worker → AreAsked first questions desks → GivesOne desks worker query after
+    → AreAsked first (questions ++ record { worker = other; query = query } ∷ []) after
+asked_more first worker other questions query [] [] at asked given = tt
+asked_more first worker other questions query [] (d ∷ after) at asked given = absurd given
+asked_more first zero other questions query (desk ∷ desks) [] at asked given = absurd given
+asked_more first (suc worker) other questions query (desk ∷ desks) [] at asked given = absurd given
+asked_more first zero other questions query (desk ∷ desks) (d ∷ after) at asked (items, reader, same) =
+    let here : other ≡ first = omega arith in
+    rw (here, same) (
+      items ∙ ap (λ xs. xs ++ query ∷ []) asked.0 ∙ sym (queries-more first questions query),
+      asked_behind (first + 1) first questions query desks (omega arith) asked.1,
+    )
+asked_more first (suc worker) other questions query (desk ∷ desks) (d ∷ after) at asked (same, given) = (
+  ap (λ (x : Desk). x.queries.items) same ∙ asked.0
+      ∙ sym (queries-same first other questions query (λ e. absurd (omega arith))),
+  asked_more (first + 1) worker other questions query desks after (omega arith) asked.1 given,
+)
+
+pub readers-given : (desks after : List Desk) (worker : ℕ) (query : QueryValue) → GivesOne desks worker query after
+    → readers_of after ≡ readers_of desks
+readers-given [] [] worker query given = refl
+readers-given [] (d ∷ after) worker query given = absurd given
+readers-given (desk ∷ desks) [] zero query given = absurd given
+readers-given (desk ∷ desks) [] (suc worker) query given = absurd given
+readers-given (desk ∷ desks) (d ∷ after) zero query (items, reader, same) = rw (reader, same) refl
+readers-given (desk ∷ desks) (d ∷ after) (suc worker) query (same, given) =
+    rw (same, readers-given desks after worker query given) refl
+
+-- a query was put behind those of the desk with this number
+pub gives_at : (desks : List Desk) (worker : ℕ) (query : QueryValue) (desk d : Desk) → worker < length desks
+    → d.queries.items ≡ (get_or desks worker desk).queries.items ++ query ∷ []
+    → d.reader ≡ (get_or desks worker desk).reader → GivesOne desks worker query (set desks worker d)
+gives_at [] worker query desk d below items reader = absurd (omega arith)
+gives_at (x ∷ desks) zero query desk d below items reader = (items, reader, refl)
+gives_at (x ∷ desks) (suc worker) query desk d below items reader = (
+  refl,
+  gives_at desks worker query desk d (omega arith) items reader,
+)
+
+-- the same of desks that are so known
+pub gives_so : (desks after : List Desk) (worker : ℕ) (query : QueryValue) (desk d : Desk) → after ≡ set desks worker d
+    → worker < length desks → desk ≡ get_or desks worker desk → d.queries.items ≡ desk.queries.items ++ query ∷ []
+    → d.reader ≡ desk.reader → GivesOne desks worker query after
+gives_so desks after worker query desk d is below at items reader =
+    rw is (gives_at desks worker query desk d below (items ∙ ap (λ (x : Desk). x.queries.items ++ query ∷ []) at)
+    (reader ∙ ap (λ (x : Desk). x.reader) at))
+
+-- there is no desk with this number
+pub gives_none : (desks : List Desk) (worker : ℕ) (query : QueryValue) → length desks ≤ worker
+    → GivesOne desks worker query desks
+gives_none [] worker query beyond = tt
+gives_none (desk ∷ desks) zero query beyond = absurd (omega arith)
+gives_none (desk ∷ desks) (suc worker) query beyond = (refl, gives_none desks worker query (omega arith))
+
+-- ---- answers
+
+-- answers of which none is below the last version are all of that version
+answered_all : (batches : List (List LoadValue)) (least : ℕ) (queries : List QueryValue) (answers : List Answer)
+    → version_of batches ≤ least → Answered batches least queries answers → AllZip
+    (λ (query : QueryValue) (answer : Answer). (answer.version ≡ version_of batches)
+    × IsAnswer (joined batches) query (string_bytes answer.text)) queries answers
+answered_all batches least [] [] last h = tt
+answered_all batches least [] (answer ∷ answers) last h = absurd h
+answered_all batches least (query ∷ queries) [] last h = absurd h
+answered_all batches least (query ∷ queries) (answer ∷ answers) last (from, is, more) =
+    let (rest, e) = is.begins in
+    let whole = ap joined e ∙ joined-append is.front rest in
+    let all : answer.version ≡ version_of batches = omega (
+      arith,
+      from,
+      last,
+      is.version_is,
+      ap length whole,
+      length-append (joined is.front) (joined rest),
+    ) in
+    let P : List LoadValue → Type 0 = λ loads. IsAnswer loads query (string_bytes answer.text) in (
+      (all, subst P (take-all answer.version (joined batches) all) is.text_is),
+      answered_all batches answer.version queries answers (omega arith) more,
+    )
+
+-- their lines are those of a worker
+lines_of : (loads : List LoadValue) (worker : ℕ) (queries : List QueryValue) (answers : List Answer) → AllZip
+    (λ (query : QueryValue) (answer : Answer). (answer.version ≡ length loads)
+    × IsAnswer loads query (string_bytes answer.text)) queries answers
+    → Answers loads worker queries (answer_lines worker answers)
+lines_of loads worker [] [] h = ([], tt, refl)
+lines_of loads worker [] (answer ∷ answers) h = absurd h
+lines_of loads worker (query ∷ queries) [] h = absurd h
+lines_of loads worker (query ∷ queries) (answer ∷ answers) ((version, is), more) =
+    let (texts, each, lines) = lines_of loads worker queries answers more in (
+      string_bytes answer.text ∷ texts,
+      (is, each),
+      ap (λ v. answer_line worker v (string_bytes answer.text) ++ answer_lines worker answers) version
+          ∙ ap (λ xs. answer_line worker (length loads) (string_bytes answer.text) ++ xs) lines,
+    )
+
+-- the answers of desks that were served, where nothing was published meanwhile
+pub answers_in_turn : (start end : SeenValue) (questions : List QuestionValue) (worker : ℕ) (asked served : List Desk)
+    → end.batches ≡ start.batches → AreAsked worker questions asked → AllZip (IsServed start end) asked served
+    → AnswersInTurn (joined end.batches) questions worker (length asked) (desk_lines worker served)
+answers_in_turn start end questions worker [] [] same given all = refl
+answers_in_turn start end questions worker [] (s ∷ served) same given all = absurd all
+answers_in_turn start end questions worker (desk ∷ asked) [] same given all = absurd all
+answers_in_turn start end questions worker (desk ∷ asked) (s ∷ served) same given all =
+    let P : List QueryValue → Type 0 = λ qs. Answers (joined end.batches) worker qs
+    (answer_lines worker s.answers.items) in (
+      answer_lines worker s.answers.items,
+      desk_lines (worker + 1) served,
+      subst P given.0 (lines_of (joined end.batches) worker desk.queries.items s.answers.items
+          (answered_all end.batches (max (version_of desk.reader.batches) (version_of start.batches)) desk.queries.items
+          s.answers.items (omega (arith, ap version_of same)) all.0.answered)),
+      answers_in_turn start end questions (worker + 1) asked served same given.1 all.1,
+      refl,
+    )
+
+-- ---- from round to round
+
+-- desks that were served and let go are ready for the next round
+pub ready_again : (start end : SeenValue) (asked served freed : List Desk) → AllZip (IsServed start end) asked served
+    → AllZip IsFreed served freed → AreReady end freed
+ready_again start end asked served freed all gone = record
+    { book = books asked served freed all gone; free = frees 0 served freed gone }
+  where
+    books : (asked served freed : List Desk) → AllZip (IsServed start end) asked served → AllZip IsFreed served freed
+        → All (λ (seen : SeenValue). seen.book ≡ end.book) (readers_of freed)
+    books [] [] [] h k = All-nil (λ (seen : SeenValue). seen.book ≡ end.book)
+    books [] [] (f ∷ fs) h k = absurd k
+    books [] (s ∷ ss) fs h k = absurd h
+    books (d ∷ ds) [] fs h k = absurd h
+    books (d ∷ ds) (s ∷ ss) [] h k = absurd k
+    books (d ∷ ds) (s ∷ ss) (f ∷ fs) h k =
+        All-cons (λ (seen : SeenValue). seen.book ≡ end.book) f.reader (readers_of fs)
+        (ap (λ (seen : SeenValue). seen.book) (k.0.reader ∙ h.0.reader)) (books ds ss fs h.1 k.1)
+
+    frees : (worker : ℕ) (served freed : List Desk) → AllZip IsFreed served freed → AreAsked worker [] freed
+    frees worker [] [] k = tt
+    frees worker [] (f ∷ fs) k = absurd k
+    frees worker (s ∷ ss) [] k = absurd k
+    frees worker (s ∷ ss) (f ∷ fs) k = (k.0.queries, frees (worker + 1) ss fs k.1)
+
+-- where all readers are of one store, so are those of the desks
+pub books_of : (of : SeenValue) (desks : List Desk) → All (λ (seen : SeenValue). seen.book ≡ of.book) (readers_of desks)
+    → All (λ (desk : Desk). desk.reader.book ≡ of.book) desks
+books_of of [] all = All-nil (λ (desk : Desk). desk.reader.book ≡ of.book)
+books_of of (desk ∷ desks) all = All-cons (λ (desk : Desk). desk.reader.book ≡ of.book) desk desks
+    (all 0 desk.reader (omega arith)) (books_of of desks (λ k d below. all (suc k) d (omega arith)))
+
+-- the desks of new readers
+pub ready_first : (seen : SeenValue) (readers : List SeenValue) (desks : List Desk) → readers_of desks ≡ readers
+    → AreAsked 0 [] desks → All (λ (reader : SeenValue). reader ≡ seen) readers → AreReady seen desks
+ready_first seen readers desks e free all =
+    let P : List SeenValue → Type 0 = λ rs. All (λ (reader : SeenValue). reader ≡ seen) rs in
+    let each = subst P (sym e) all in
+    record { book = λ k d below. ap (λ (reader : SeenValue). reader.book) (each k d below); free = free }
+
+-- as many desks as readers
+pub count_of : (desks : List Desk) (readers : List SeenValue) → readers_of desks ≡ readers → length desks
+    ≡ length readers
+count_of desks readers e = omega (arith, length-map {A = Desk} {B = SeenValue}, ap length e)
+
+-- one desk more
+pub opens_more : (desks : List Desk) (desk : Desk) → AreAsked 0 [] desks → desk.queries.items ≡ []
+    → AreAsked 0 [] (desks ++ desk ∷ [])
+opens_more desks desk free none = go 0 desks free where
+  go : (worker : ℕ) (desks : List Desk) → AreAsked worker [] desks → AreAsked worker [] (desks ++ desk ∷ [])
+  go worker [] free = (none, tt)
+  go worker (d ∷ desks) free = (free.0, go (worker + 1) desks free.1)
+
+-- desks that were given questions have the readers that they had
+pub books_given : (was now : SeenValue) (old given : List Desk) → readers_of given ≡ readers_of old
+    → now.book ≡ was.book
+    → All (λ (seen : SeenValue). seen.book ≡ was.book) (readers_of old)
+    → All (λ (desk : Desk). desk.reader.book ≡ now.book) given
+books_given was now old given e same all =
+    let P : List SeenValue → Type 0 = λ rs. All (λ (seen : SeenValue). seen.book ≡ was.book) rs in
+    let each = books_of was given (subst P (sym e) all) in
+    λ k d below. each k d below ∙ sym same
+
+-- a list that was written back whole
+pub whole_of : (new old : List Desk) (count : ℕ) → count ≡ length new → take count (new ++ drop (length new) old) ≡ new
+whole_of new old count e = rw e (take-append_seam new (drop (length new) old))
+
+-- a service without jobs and with nothing pending leaves the store as it is
+pub done_none : (s after : StoreValue) (jobs : List JobValue) (outcomes : List Outcome) → jobs ≡ [] → s.pending ≡ []
+    → HasDone s jobs outcomes after → after ≡ s
+done_none s after jobs outcomes none empty done =
+    let P : List JobValue → Type 0 = λ js. HasDone s js outcomes after in
+    by_outcomes outcomes (subst P none done) ∙ ap (λ (p : List LoadValue). record s
+    { seen = record s.seen { batches = published s.seen.batches p }; pending = [] }) empty
+    ∙ ap (λ (p : List LoadValue). record s { pending = p }) (sym empty)
+  where
+    by_outcomes : (outcomes : List Outcome) → HasDone s [] outcomes after → after ≡ after_publish s
+    by_outcomes [] done = done
+    by_outcomes (o ∷ os) done = absurd done

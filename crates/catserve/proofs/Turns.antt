@@ -1,0 +1,24 @@
+-- A loop over a list that is taken apart from its front.
+use Rattle.std.proofs.Common.{◌≡◌, ◌∙◌, refl, sym, ap, ℕ, ◌+◌, List, [], ◌∷◌, ◌++◌, length, append_assoc, arith}
+use Rattle.std.proofs.lemmas.List.{append-nil}
+
+-- all of it stands in what was taken and what is left, of which there are so many
+pub record HasTaken {X : Type 0} (all taken left : List X) (count : ℕ) : Type 0 where
+  pub whole : taken ++ left ≡ all
+  pub count_is : count ≡ length left
+
+pub takes_one : {X : Type 0} (all taken left rest : List X) (count less : ℕ) (x : X) → HasTaken all taken left count
+    → left ≡ x ∷ rest → count ≡ less + 1 → HasTaken all (taken ++ x ∷ []) rest less
+takes_one all taken left rest count less x h next one = record {
+  whole = append_assoc taken (x ∷ []) rest ∙ ap (λ xs. taken ++ xs) (sym next) ∙ h.whole;
+  count_is = omega (arith, h.count_is, ap length next, one);
+}
+
+none_left : {X : Type 0} (xs : List X) → length xs ≡ 0 → xs ≡ []
+none_left [] e = refl
+none_left (x ∷ xs) e = absurd (omega arith)
+
+pub takes_all : {X : Type 0} (all taken left : List X) (count : ℕ) → HasTaken all taken left count → count ≡ 0 → taken
+    ≡ all
+takes_all all taken left count h none =
+    sym (append-nil taken) ∙ ap (λ xs. taken ++ xs) (sym (none_left left (sym h.count_is ∙ none))) ∙ h.whole

@@ -1,0 +1,35 @@
+use Rattle.std.proofs.Common.{◌≡◌, ◌≤◌, ◌∙◌, ◌+◌, ◌++◌, ◌∷◌, [], List, None, refl, sym, ap, subst, take, length}
+use Rattle.std.proofs.Common.{arith, rules}
+use Rattle.std.specs.Vec.Iter.{into_iter_items, into_iter_len}
+use Rattle.catserve.proofs.Turns.{takes_one, takes_all}
+use Rattle.std.proofs.lemmas.List.{map-append}
+use Rattle.live_versions.specs.Seen.{SeenValue}
+use Rattle.desks.specs.declared.desk.Desk.{Desk}
+use Rattle.catserve.specs.Asking.{readers_of, AreAsked}
+use Rattle.catserve.proofs.Asked.{opens_more}
+use Rattle.catserve.proofs.asking.open_desks.Goals as goal
+
+pub readers-preserved : goal.readers-preserved
+readers-preserved c =
+    let at = c.readers in
+    let x = c.in-Some.reader in
+    let desk : Desk = record { reader = x; queries = c.new.result; answers = c.new-in-readers.result; fault = None } in
+    let items : c.push.new.self.items ≡ at.desks.items ++ desk ∷ [] = c.in_ok-push.ensures.items in
+    let P : List Desk → Type 0 = λ ds. AreAsked 0 [] ds in
+    record {
+      taken = takes_one (into_iter_items c.into_iter-reader-iterator.result) at.yielded
+          (into_iter_items at.reader-iterator)
+          (into_iter_items c.next.new.self) (into_iter_len at.reader-iterator) (into_iter_len c.next.new.self) x
+          at.invariant.taken c.in-Some.ensures.steps.0 (omega (arith, c.in-Some.ensures.steps.1));
+      readers = ap readers_of items ∙ map-append (λ (d : Desk). d.reader) at.desks.items (desk ∷ [])
+          ∙ ap (λ rs. rs ++ x ∷ []) at.invariant.readers;
+      free = subst P (sym items) (opens_more at.desks.items desk at.invariant.free c.new.ensures.items);
+    }
+
+pub returns : goal.returns
+returns c =
+    let at = c.readers in
+    let all = takes_all (into_iter_items c.into_iter-reader-iterator.result) at.yielded
+    (into_iter_items at.reader-iterator)
+    (into_iter_len at.reader-iterator) at.invariant.taken c.in-None.ensures.steps.0
+    ∙ c.into_iter-reader-iterator.ensures.into_iter_gives.0 in (at.invariant.readers ∙ all, at.invariant.free)

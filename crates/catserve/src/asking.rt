@@ -1,0 +1,86 @@
+//! The desks of a script's workers: questions are given to them, and what they answer is written.
+ghost use Rattle.std.specs.Prelude.{◌≡◌, ◌+◌, ◌≤◌, ◌<◌, ◌^◌, ◌++◌, [], List, OnOk, IfOk, length, map};
+ghost use Rattle.std.specs.List.{AllZip};
+ghost use Rattle.catserve.specs.Asking.{readers_of, AreAsked, GivesOne, answer_lines, desk_lines, IsFreed};
+
+use crate::output::write_answer;
+use crate::rounds::Question;
+use desks::{Answer, Desk};
+use live_set::Query;
+use live_versions::Lookups;
+use std::alloc::{AllocError, Global};
+
+/// A desk for each reader, which is asked nothing.
+pub(crate) fn open_desks(alloc: Global, readers: Vec<Lookups>) -> Result<Vec<Desk>, AllocError>
+    ensures { IfOk result (λ desks. (readers_of desks.items ≡ readers.items) × AreAsked 0 [] desks.items) }
+{
+    let mut desks = Vec::new(alloc);
+    'readers: for reader in readers {
+        desks.push(Desk {
+            reader,
+            queries: Vec::new(alloc),
+            answers: Vec::new(alloc),
+            fault: None,
+        })?;
+    }
+    Ok(desks)
+}
+
+/// Gives a query to a worker's desk, behind those that it has. Where there is no such worker, nobody is asked.
+fn give(desks: &mut [Desk], worker: u32, query: Query) -> Result<(), AllocError>
+    ensures { OnOk result (GivesOne desks.old worker query desks.new) }
+{
+    let index = worker as usize;
+    if index < desks.len() {
+        desks[index].queries.push(query)?;
+    }
+    Ok(())
+}
+
+/// Gives the questions of a round to the desks of their workers, in order.
+pub(crate) fn give_all(desks: &mut [Desk], questions: Vec<Question>) -> Result<(), AllocError>
+    requires { AreAsked 0 [] desks.old }
+    ensures asked { OnOk result (AreAsked 0 questions.items desks.new) }
+    ensures readers { OnOk result (readers_of desks.new ≡ readers_of desks.old) }
+{
+    'questions: for question in questions {
+        let Question { worker, query } = question;
+        give(desks, worker, query)?;
+    }
+    Ok(())
+}
+
+/// Writes a worker's answers.
+fn write_answers(
+    alloc: Global,
+    worker: u32,
+    answers: &[Answer],
+    output: &mut Vec<u8>,
+) -> Result<(), AllocError>
+    ensures { OnOk result (output.new.items ≡ output.old.items ++ answer_lines worker answers.now) }
+{
+    'answers: for answer in answers {
+        write_answer(alloc, output, worker, answer.version, answer.text.as_str())?;
+    }
+    Ok(())
+}
+
+/// Writes what the workers have answered, from this worker on, and lets their questions and answers go.
+pub(crate) fn write_all(
+    alloc: Global,
+    worker: u32,
+    desks: &mut [Desk],
+    output: &mut Vec<u8>,
+) -> Result<(), AllocError>
+    requires { worker + length desks.old < 2 ^ 32 }
+    ensures written { OnOk result (output.new.items ≡ output.old.items ++ desk_lines worker desks.old) }
+    ensures freed { OnOk result (AllZip IsFreed desks.old desks.new) }
+{
+    let Some((desk, rest)) = desks.split_first_mut() else {
+        return Ok(());
+    };
+    write_answers(alloc, worker, desk.answers.as_slice(), output)?;
+    desk.queries.clear();
+    desk.answers.clear();
+    write_all(alloc, worker + 1, rest, output)
+}
