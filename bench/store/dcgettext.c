@@ -10,7 +10,7 @@
 #include <time.h>
 
 #define LANGUAGES 20
-#define THREADS 4
+#define MOST_THREADS 16
 
 struct query {
     char domain[16], id[32], wanted[64];
@@ -59,16 +59,16 @@ int main(int argc, char **argv) {
         wrong += strcmp(dcgettext(q->domain, q->id, LC_MESSAGES), q->wanted) != 0;
     }
     printf("dcgettext, %zu queries: %zu answers wrong\n", count, wrong);
-    size_t lost[THREADS] = { 0 };
-    double start = now();
-    ask_all(&lost[0]);
-    printf("dcgettext, one thread: %.0f ns each\n", (now() - start) / ((double)rounds * count));
-    pthread_t threads[THREADS];
-    start = now();
-    for (int t = 0; t < THREADS; t++)
-        pthread_create(&threads[t], NULL, ask_all, &lost[t]);
-    for (int t = 0; t < THREADS; t++)
-        pthread_join(threads[t], NULL);
-    printf("dcgettext, four threads: %.0f ns each\n", (now() - start) / ((double)rounds * count * THREADS));
+    static const int counts[] = { 1, 2, 4, 8, 16 };
+    for (size_t c = 0; c < sizeof counts / sizeof *counts; c++) {
+        size_t lost[MOST_THREADS] = { 0 };
+        pthread_t threads[MOST_THREADS];
+        double start = now();
+        for (int t = 0; t < counts[c]; t++)
+            pthread_create(&threads[t], NULL, ask_all, &lost[t]);
+        for (int t = 0; t < counts[c]; t++)
+            pthread_join(threads[t], NULL);
+        printf("dcgettext, %d threads: %.0f ns each\n", counts[c], (now() - start) / ((double)rounds * count * counts[c]));
+    }
     return 0;
 }

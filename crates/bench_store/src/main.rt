@@ -1,17 +1,20 @@
 //! Times a live store: entries, alone and of many readers beside a publisher; queries in one thread and in four;
-//! publishes beside many catalogues. The first word says how many messages each of 20 languages has (500 without a
-//! word), the second how often is published (100). Standard output has what went wrong, the same each time; standard
-//! error has the times by the clock.
+//! `serve` on 1 to 16 desks, alone and beside jobs; publishes beside many catalogues. The first word says how many
+//! messages each of 20 languages has (500 without a word), the second how often is published (100). Standard output
+//! has what went wrong, the same each time; standard error has the times by the clock.
 #![tactic(auto)]
 
+mod languages;
 mod messages;
 mod readers;
+mod serving;
 
+use crate::languages::publish_languages;
 use crate::messages::{LANGUAGES, PLAIN, locale_of, po_text, queries};
-use crate::readers::{ask_all, ask_each, enter_many, enter_until, look_all};
+use crate::readers::{ask_all, ask_each, enter_many, enter_until, keep_all, look_all};
+use crate::serving::time_serve;
 use live_set::Query;
 use live_versions::{Lookups, Publisher, open_store};
-use std::alloc::AllocError;
 use std::rt::Clock;
 use std::sync::Wait;
 use std::sync::atomic::AtomicBool;
@@ -230,23 +233,6 @@ fn time_queries<R: Print + Eprint + Clock + Threads + Wait + AllocGlobal + Sync>
     done
 }
 
-/// Publishes a catalogue of so many messages for each language, all in one step.
-fn publish_languages<R: Wait + AllocGlobal>(
-    rt: &R,
-    publisher: &mut Publisher,
-    messages: u32,
-) -> Result<bool, AllocError> {
-    let mut all = true;
-    'languages: for language in 0..LANGUAGES {
-        let text = po_text(rt.alloc(), language, messages)?;
-        let locale = locale_of(rt.alloc(), language)?;
-        let loaded = publisher.load(rt.alloc(), "app", &locale, text.as_bytes(), PLAIN);
-        all = all && loaded.is_ok();
-    }
-    let published = publisher.publish(rt);
-    Ok(all && published.is_ok())
-}
-
 fn run_queries<R: Print + Eprint + Clock + Threads + Wait + AllocGlobal + Sync>(
     rt: &R,
     mut readers: Vec<Lookups>,
@@ -270,6 +256,15 @@ fn run_queries<R: Print + Eprint + Clock + Threads + Wait + AllocGlobal + Sync>(
         let start = Instant::now(rt)?;
         let wrong = ask_all(rt.alloc(), reader, queries, rounds);
         print_time(rt, "queries, one reader", start.elapsed(rt)?, turns, wrong)?;
+        let start = Instant::now(rt)?;
+        let wrong = keep_all(rt.alloc(), reader, queries);
+        print_time(
+            rt,
+            "queries kept, one reader",
+            start.elapsed(rt)?,
+            count as u64,
+            wrong,
+        )?;
     }
     let alloc = rt.alloc();
     let start = Instant::now(rt)?;
@@ -372,5 +367,6 @@ fn main(rt: HostRuntime) -> io::Result<()> {
     'rounds: for rounds in ROUNDS {
         time_queries(&rt, messages, rounds)?;
     }
+    time_serve(&rt, messages)?;
     time_publishes(&rt)
 }

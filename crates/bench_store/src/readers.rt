@@ -1,5 +1,6 @@
 //! What readers do.
 use crate::messages::translation_of;
+use desks::Answer;
 use live_set::{Ask, Query};
 use live_versions::Lookups;
 use std::alloc::Global;
@@ -53,7 +54,7 @@ pub fn enter_until(reader: &mut Lookups, done: &AtomicBool, work: u32) -> (u64, 
 }
 
 /// Whether a text is what a query asks for.
-fn is_answer(alloc: Global, query: &Query, text: &str) -> bool {
+pub fn is_answer(alloc: Global, query: &Query, text: &str) -> bool {
     let Ask::Plain { id } = &query.ask else {
         return false;
     };
@@ -89,6 +90,21 @@ pub fn ask_all(alloc: Global, reader: &mut Lookups, queries: &[Query], rounds: u
         }
     }
     lost
+}
+
+/// Makes each query once, and keeps the answers. Counts those that were not answered.
+pub fn keep_all(alloc: Global, reader: &mut Lookups, queries: &[Query]) -> u64 {
+    let mut answers = Vec::new(alloc);
+    'queries: for query in queries {
+        let kept = match reader.ask(alloc, query) {
+            Ok((version, text)) => answers.push(Answer { version, text }).is_ok(),
+            Err(_) => false,
+        };
+        if !kept {
+            break;
+        }
+    }
+    queries.len().abs_diff(answers.len()) as u64
 }
 
 /// Enters for each query and looks its text up, without a copy. Counts the texts that are empty.
