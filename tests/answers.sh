@@ -18,21 +18,14 @@ else
   failed answers "$(diff crates/answers/stdout "$room/got" | head -n 3 | tr '\n' ' ')"
 fi
 
-if ! tests/needs gcc gcc libc6-dev || ! gcc -shared -fPIC -O2 -o "$room/refuse_nth.so" tests/refuse_nth.c 2> "$room/gcc"; then
-  skipped 'answers, refused' 'no gcc, or not the GNU C library'
-  exit 0
-fi
+makes_refuser 'answers, refused' || exit 0
 
 # each line is that of a case for which memory was refused, or counts the cases of a kind that are as written; where
 # a request for the list itself or for printing was refused, the lines end early
 told='^line [0-9]+, .*: out of memory$'
 counted='^(expression|rule|format|po): [0-9]+ of [0-9]+ as written$'
 n=0 spoke=0 wrong=
-while :; do
-  rm -f "$room/refused"
-  REFUSE_NTH=$((n + 1)) REFUSED=$room/refused LD_PRELOAD=$room/refuse_nth.so \
-    "$program" crates/answers/data/few > "$room/got" 2> /dev/null
-  [ -e "$room/refused" ] || break
+while refuses $((n + 1)) "$program" crates/answers/data/few > "$room/got" 2> /dev/null; do
   n=$((n + 1))
   if grep -qE "$told" "$room/got"; then spoke=$((spoke + 1)); fi
   wrong=$(grep -vE "$told|$counted" "$room/got" | head -n 1)

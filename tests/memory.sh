@@ -6,14 +6,7 @@
 # FILE must be missing, or whole where the run had come to the statistics. No other file may be left.
 . "$(dirname "$0")/common"
 
-if ! tests/needs gcc gcc libc6-dev; then
-  skipped memory 'no gcc, and it could not be installed'
-  exit 0
-fi
-if ! gcc -shared -fPIC -O2 -o "$room/refuse_nth.so" tests/refuse_nth.c 2> "$room/gcc"; then
-  skipped memory "tests/refuse_nth.c needs the GNU C library: $(head -n 1 "$room/gcc")"
-  exit 0
-fi
+makes_refuser memory || exit 0
 echo 'msgfmt: out of memory' > "$room/memory"
 
 # answer FILES: runs the program on $room/in, which is also the file in.po of the folder that it runs in, with the

@@ -26,7 +26,7 @@ __attribute__((constructor)) static void begin(void) {
 
 /* Says whether this request is the one to be refused. */
 static int is_refused(void) {
-  if (wanted == 0 || ++count != wanted)
+  if (wanted == 0 || __atomic_add_fetch(&count, 1, __ATOMIC_RELAXED) != wanted)
     return 0;
   const char *file = getenv("REFUSED");
   int made = file ? open(file, O_WRONLY | O_CREAT, 0644) : -1;

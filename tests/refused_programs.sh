@@ -1,6 +1,6 @@
 #!/usr/bin/env bash
 # Hands the programs of docs/LIVE.md that must not compile to the compiler, each as a crate of its own above
-# live_versions, and compares the error that it names with the one in the program's first line.
+# live_versions and live_set, and compares the error that it names with the one in the program's first line.
 . "$(dirname "$0")/common"
 read -r -a rt <<< "${RT:-rt}"
 
@@ -27,11 +27,11 @@ awk -v room="$room/repo/crates" '
   }
   inside && /^\/\/ does not compile: / { error = $NF; next }
   inside { text = text $0 "\n" }
-  inside && /^pub fn / { name = $3; sub(/\(.*/, "", name) }
+  inside && /^pub fn / { name = $3; sub(/[(<].*/, "", name) }
 ' docs/LIVE.md > "$room/programs"
 
 while read -r name error; do
-  echo "$name: live_versions" >> "$room/repo/crates.txt"
+  echo "$name: live_versions live_set" >> "$room/repo/crates.txt"
   # (rt try compiles without a proof: the errors of these programs come before it)
   (cd "$room/repo/crates/$name" && "${rt[@]}" try --test < /dev/null) > "$room/answer" 2>&1
   if grep -q "error\[$error\]" "$room/answer"; then
@@ -40,4 +40,4 @@ while read -r name error; do
     failed "refused program, $name" "$(grep -m 1 error "$room/answer" || tail -n 1 "$room/answer")"
   fi
 done < "$room/programs"
-[ "$(wc -l < "$room/programs")" = 2 ] || failed refused_programs 'docs/LIVE.md has not two of them'
+[ "$(wc -l < "$room/programs")" = 3 ] || failed refused_programs 'docs/LIVE.md has not three of them'

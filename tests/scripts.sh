@@ -71,6 +71,29 @@ answers 'script, cut' 1 '' 'catserve: 3 1'
 is_bad 'the first of two bad lines' 'go\n# x\n\nload\tapp\tfr\t-\t1\nstop\ngo\tx\nstop\n' 6
 printf 'go\n\377' > "$room/in"
 answers 'script, not UTF-8' 1 '' 'catserve: 2 0'
+
+# workers
+is_answered 'three workers, in turn' 'workers\t3\nask\t2\tapp\tfr\tgettext\thi\nask\t0\tapp\tfr\tgettext\tyes\n' \
+  'version\t0\n0\t0\tyes\n2\t0\thi\n'
+is_answered 'one worker, asked twice' 'workers\t1\nask\t0\ta\tb\tgettext\tx\nask\t0\ta\tb\tgettext\ty\n' \
+  'version\t0\n0\t0\tx\n0\t0\ty\n'
+is_answered 'the sixteenth worker' 'workers\t16\nask\t15\ta\tb\tgettext\tx\n' 'version\t0\n15\t0\tx\n'
+is_answered 'workers who are asked nothing' '# none\n\nworkers\t16\n' ''
+is_answered 'a number of workers with leading zeros' 'workers\t003\nask\t2\ta\tb\tgettext\tx\n' 'version\t0\n2\t0\tx\n'
+is_bad 'no workers' 'workers\t0\n' 1
+is_bad 'seventeen workers' 'workers\t17\n' 1
+is_bad 'workers without a count' 'workers\n' 1
+is_bad 'workers with a second count' 'workers\t2\t2\n' 1
+is_bad 'workers behind a round' 'go\nworkers\t2\n' 2
+is_bad 'workers behind a load' 'load\tapp\tfr\t-\t0\nworkers\t2\n' 2
+is_bad 'workers behind a question' 'ask\t0\ta\tb\tgettext\tx\nworkers\t2\n' 2
+is_bad 'workers twice' 'workers\t2\nworkers\t2\n' 2
+is_bad 'the third of two workers' 'workers\t2\nask\t2\ta\tb\tgettext\tx\n' 2
+is_bad 'a worker with leading zeros' 'ask\t00\ta\tb\tgettext\tx\n' 1
+is_bad 'a worker without a number' 'ask\t\ta\tb\tgettext\tx\n' 1
+printf 'load\tapp\tfr\t-\t0\n%.0s' $(seq 300) > "$room/in"
+answers 'script, three hundred loads' 0 "$(printf 'accepted\\t0\\t0\\t0\\n%.0s' $(seq 300))version\\t300\\n" ''
+
 head -c 67108865 /dev/zero > "$room/in"
 answers 'script, too large' 1 '' 'catserve: 1 0'
 head -c 67108864 /dev/zero | tr '\0' '\n' > "$room/in"
@@ -91,20 +114,13 @@ else
   ok 'script, a writer that fails'
 fi
 
-if ! tests/needs gcc gcc libc6-dev || ! gcc -shared -fPIC -O2 -o "$room/refuse_nth.so" tests/refuse_nth.c 2> "$room/gcc"; then
-  skipped 'script, memory' 'no gcc with the GNU C library, and it could not be installed'
-  exit 0
-fi
+makes_refuser 'script, memory' || exit 0
 
 # is_refused: the run on $stored/stdin says that something was refused, and wrote nothing
 is_refused() { [ "$1" = 1 ] && [ ! -s "$room/out" ] && grep -qxE 'catserve: [6789] 0' "$room/err"; }
 
 n=0 spoke=0 name='script, memory'
-while :; do
-  rm -f "$room/refused"
-  REFUSE_NTH=$((n + 1)) REFUSED=$room/refused LD_PRELOAD=$room/refuse_nth.so "$program" < $stored/stdin > "$room/out" 2> "$room/err"
-  status=$?
-  [ -e "$room/refused" ] || break
+while refuses $((n + 1)) "$program" < $stored/stdin > "$room/out" 2> "$room/err"; do
   n=$((n + 1))
   if is_refused $status; then
     spoke=$((spoke + 1))

@@ -95,34 +95,16 @@ publish: 3
 enter: 3 salut hallo salut
 END
 
-"$program" > "$room/got"
-if cmp -s "$room/got" "$room/own"; then
-  ok "store: $(wc -l < "$room/own") lines as worked out"
-else
-  failed store "$(diff "$room/own" "$room/got" | head -n 3 | tr '\n' ' ')"
-fi
-if why=$(python3 "$room/follows" 0 < "$room/got" 2>&1); then ok 'store: each line follows'; else failed store "$why"; fi
+is_as_worked_out store
+makes_refuser 'store, refused' || exit 0
 
-if ! tests/needs gcc gcc libc6-dev || ! gcc -shared -fPIC -O2 -o "$room/refuse_nth.so" tests/refuse_nth.c 2> "$room/gcc"; then
-  skipped 'store, refused' 'no gcc, or not the GNU C library'
-  exit 0
-fi
-
-n=0 loads=0 publishes=0 wrong=
-while :; do
-  rm -f "$room/refused"
-  REFUSE_NTH=$((n + 1)) REFUSED=$room/refused LD_PRELOAD=$room/refuse_nth.so timeout 20 "$program" > "$room/got" 2> /dev/null
-  status=$?
-  [ -e "$room/refused" ] || break
-  n=$((n + 1))
-  if [ "$status" = 124 ]; then wrong='it did not end in 20 seconds'; break; fi
-  wrong=$(python3 "$room/follows" 1 < "$room/got" 2>&1) || break
+loads=0 publishes=0
+told() {
   ! grep -q '^load .*: Memory$' "$room/got" || loads=$((loads + 1))
   ! grep -q '^publish: Memory$' "$room/got" || publishes=$((publishes + 1))
-done
-if [ -n "$wrong" ]; then
-  failed 'store, refused' "request $n refused: $wrong"
-elif [ "$loads" = 0 ] || [ "$publishes" = 0 ]; then
+}
+follows_refused 'store, refused' || exit 0
+if [ "$loads" = 0 ] || [ "$publishes" = 0 ]; then
   failed 'store, refused' "of $n requests $loads were told by a load and $publishes by a publish"
 else
   ok "store, refused: $n requests in turn, $loads of them told by a load, $publishes by a publish; what came after went on"
