@@ -22,10 +22,14 @@ form_or_first forms k = slice_get forms (if nat_lt k (length forms) then k else 
 abbrev pub IsFormFor : Rule → ℕ → List (List ℕ) → List ℕ → Type 0
 IsFormFor rule n forms text = form_or_first forms (place rule n) ≡ Some text
 
--- the form of the entry that was found, by the map's rule, or the other text
+-- the form that n takes by the map's rule
+abbrev pub IsMapFormFor : List Entry → ℕ → List (List ℕ) → List ℕ → Type 0
+IsMapFormFor m n forms text = (rule : Rule) × HasMapRule m rule × IsFormFor rule n forms text
+
+-- the form of the entry that was found, or the other text
 abbrev pub IsCounted : List Entry → Option Entry → ℕ → List ℕ → List ℕ → Type 0
 IsCounted m None n other text = text ≡ other
-IsCounted m (Some e) n other text = (rule : Rule) × HasMapRule m rule × IsFormFor rule n e.forms text
+IsCounted m (Some e) n other text = IsMapFormFor m n e.forms text
 
 -- the msgid for 1, the plural for other numbers
 abbrev pub text_by : ℕ → List ℕ → List ℕ → List ℕ

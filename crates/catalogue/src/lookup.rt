@@ -2,7 +2,7 @@
 ghost use Rattle.std.specs.Prelude.{◌≡◌, Some, None};
 ghost use Rattle.mo_image.specs.Entry.{key_bytes};
 ghost use Rattle.mo_image.specs.Map.{entry_at};
-ghost use Rattle.catalogue.specs.Value.{IsCounted, IsFirstForm, IsFormFor, text_by};
+ghost use Rattle.catalogue.specs.Value.{IsCounted, IsFirstForm, IsFormFor, IsMapFormFor, text_by};
 ghost use Rattle.po_header.specs.Rules.{rule_of};
 
 use crate::Catalogue;
@@ -10,7 +10,7 @@ use mo_image::EntryRef;
 use po_header::RuleRead;
 
 /// The form that a number takes by this rule; the first one, where the entry has no such form.
-fn form_for<'a>(entry: &EntryRef<'a>, rule: &RuleRead, n: u64) -> &'a str
+fn form_by<'a>(entry: &EntryRef<'a>, rule: &RuleRead, n: u64) -> &'a str
     ensures { IsFormFor (rule_of rule.now) n entry.now.forms result.now }
 {
     let k = rule.form_index(n);
@@ -40,6 +40,14 @@ fn first_form<'a>(found: Option<EntryRef<'a>>, id: &'a str) -> &'a str
 }
 
 impl Catalogue {
+    /// The form of an entry of this catalogue that a number takes by the rule in the catalogue's header; the first
+    /// form, where the entry has no such form (manual, "Additional functions for plural forms").
+    pub fn form_for<'a>(&self, entry: &EntryRef<'a>, n: u64) -> &'a str
+        ensures { IsMapFormFor self.now n entry.now.forms result.now }
+    {
+        form_by(entry, self.rule(), n)
+    }
+
     /// The form of the entry that was found, or one of the texts.
     fn counted<'a>(
         &'a self,
@@ -51,7 +59,7 @@ impl Catalogue {
         ensures { IsCounted self.now found.entry n (text_by n id.now plural.now) result.now }
     {
         match found {
-            Some(entry) => form_for(&entry, self.rule(), n),
+            Some(entry) => self.form_for(&entry, n),
             None => untranslated(id, plural, n),
         }
     }
