@@ -2,3 +2,4 @@ pub mod Order
 pub mod Finding
 pub mod Slotting
 pub mod Folding
+pub mod Listing

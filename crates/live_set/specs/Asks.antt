@@ -1,11 +1,13 @@
 -- Queries, and what they are answered (manual, "The interface of gettext"; "Using contexts for solving
 -- ambiguities"; "Additional functions for plural forms").
-use Rattle.std.specs.Prelude.{ℕ, List, Some, None}
+use Rattle.std.specs.Prelude.{ℕ, Bool, List, [], Some, None, is_some, map, find}
+use Rattle.std.specs.Option.{option_map_or}
 use Rattle.std.specs.String.{string_bytes}
 use Rattle.catalogue.specs.Entry.{Entry, key_bytes}
 use Rattle.catalogue.specs.Map.{entry_at}
 use Rattle.catalogue.specs.Value.{IsFirstForm, IsCounted, text_by}
 use Rattle.live_set.specs.Loads.{LoadValue, map_of}
+use Rattle.live_set.specs.Languages.{named}
 use Rattle.live_set.specs.declared.query.Ask.{Ask}
 use Rattle.live_set.specs.declared.query.Ask.TheVariants as ask
 
@@ -16,11 +18,15 @@ pub data AskValue : Type 0 where
   Number : (id plural : List ℕ) (n : ℕ) → AskValue
   ContextNumber : (context id plural : List ℕ) (n : ℕ) → AskValue
 
--- a call in a domain and a locale
+-- a call in a domain and a list of languages
 pub record QueryValue : Type 0 where
   pub domain : List ℕ
-  pub locale : List ℕ
+  pub languages : List ℕ
   pub ask : AskValue
+
+-- a call in this domain and these languages
+abbrev pub query_of : List ℕ → List ℕ → AskValue → QueryValue
+query_of domain languages ask = record { domain = domain; languages = languages; ask = ask }
 
 -- what a map answers to a call
 abbrev pub HasValue : List Entry → AskValue → List ℕ → Type 0
@@ -30,9 +36,33 @@ HasValue m (Number id plural n) text = IsCounted m (entry_at m (key_bytes None i
 HasValue m (ContextNumber context id plural n) text = IsCounted m (entry_at m (key_bytes (Some context) id)) n
     (text_by n id plural) text
 
--- what the query is answered after these loads: the value over the map of its domain and locale
+-- the key that a call asks for
+abbrev pub key_of : AskValue → List ℕ
+key_of (Plain id) = key_bytes None id
+key_of (Context context id) = key_bytes (Some context) id
+key_of (Number id plural n) = key_bytes None id
+key_of (ContextNumber context id plural n) = key_bytes (Some context) id
+
+-- the map has an entry with this key
+abbrev pub has_key : List ℕ → List Entry → Bool
+has_key key m = is_some (entry_at m key)
+
+-- the first of the maps that has the key, or the empty map
+abbrev pub first_with : List ℕ → List (List Entry) → List Entry
+first_with key maps = option_map_or (λ m. m) (find (has_key key) maps) []
+
+-- the map that answers a query, where each domain and locale has its map: that of the first locale named whose map
+-- has the key, or the empty map
+abbrev pub answering : (List ℕ → List ℕ → List Entry) → QueryValue → List Entry
+answering maps query = first_with (key_of query.ask) (map (maps query.domain) (named query.languages))
+
+-- what the query is answered over these maps
+abbrev pub HasAnswer : (List ℕ → List ℕ → List Entry) → QueryValue → List ℕ → Type 0
+HasAnswer maps query text = HasValue (answering maps query) query.ask text
+
+-- what the query is answered after these loads
 abbrev pub IsAnswer : List LoadValue → QueryValue → List ℕ → Type 0
-IsAnswer loads query text = HasValue (map_of loads query.domain query.locale) query.ask text
+IsAnswer loads query text = HasAnswer (map_of loads) query text
 
 -- a call by its texts
 abbrev pub ask_value : Ask → AskValue

@@ -1,5 +1,7 @@
 pub mod Names
 pub mod Loads
+pub mod Languages
 pub mod Asks
+pub mod Found
 pub mod Slots
 pub mod Sets

@@ -1,6 +1,7 @@
 //! Sets of catalogues: for each text domain and locale the catalogue that was loaded last.
 #![tactic(auto)]
 
+mod languages;
 mod load;
 mod name;
 mod query;

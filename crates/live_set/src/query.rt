@@ -1,4 +1,4 @@
-//! Queries: a call of gettext and its kin in a domain and a locale.
+//! Queries: a call of gettext and its kin in a domain and a list of languages.
 use std::marker::Model;
 
 /// A call of gettext, pgettext, ngettext or npgettext, with its texts.
@@ -28,11 +28,15 @@ pub enum Ask {
     },
 }
 
-/// A call in a domain and a locale, which may be any texts. Contracts see it by its texts' bytes.
+/// A call in a domain and a list of languages, which may be any texts. Contracts see it by its texts' bytes.
+///
+/// The list names the locales in which the message is looked for, in their order, as in the variable LANGUAGE (manual,
+/// "Specifying a Priority List of Languages"): its members are parted by `:`, and empty ones are passed over; a member
+/// `ll_CC` with no codeset and no variant stands for itself and then for `ll`; a member `C` or `POSIX` ends the list.
 #[derive(Debug, Drop)]
 pub struct Query {
     pub domain: String,
-    pub locale: String,
+    pub languages: String,
     pub ask: Ask,
 }
 
@@ -46,7 +50,7 @@ impl Model for Query {
 
     ghost view = { λ query. record {
       domain = string_bytes query.domain;
-      locale = string_bytes query.locale;
+      languages = string_bytes query.languages;
       ask =
           ask_value query.ask;
     } };

@@ -2,11 +2,12 @@
 ghost use Rattle.std.specs.Prelude.{◌≡◌, MatchResult, IfOk, IfErr, OnOk, OnErr, find, option_map};
 ghost use Rattle.live_set.specs.Loads.{is_for};
 ghost use Rattle.live_set.specs.Sets.{no_loads, map_in, HasAbsorbed, absorbed};
-ghost use Rattle.live_set.specs.Asks.{HasValue, Plain, Context, Number, ContextNumber};
+ghost use Rattle.live_set.specs.Asks.{HasAnswer, query_of, Plain, Context, Number, ContextNumber};
 ghost use Rattle.live_set.specs.Slots.{slotted, IsAt, IsGapFor};
 
+use crate::languages::{counted, first_form};
 use crate::{Ask, Load, Query};
-use catalogue::{Catalogue, untranslated};
+use catalogue::Catalogue;
 use std::alloc::{AllocError, Global};
 use std::marker::Model;
 use text_key::TextKey;
@@ -59,11 +60,11 @@ impl CatalogueSet {
     }
 
     /// The catalogue for this domain and locale, if there is one.
-    fn catalogue(&self, domain: &str, locale: &str) -> Option<&Catalogue>
+    pub(crate) fn catalogue(&self, domain: &TextKey<'_>, locale: &str) -> Option<&Catalogue>
         ensures { option_map (λ c. c.now) result ≡ option_map (λ l. l.map)
             (find (is_for domain.now locale.now) self.now.held) }
     {
-        match self.slot(&TextKey::new(domain), &TextKey::new(locale)) {
+        match self.slot(domain, &TextKey::new(locale)) {
             Ok(at) => Some(self.held[at].catalogue()),
             Err(_) => None,
         }
@@ -97,77 +98,83 @@ impl CatalogueSet {
         Ok(())
     }
 
-    /// The translation of a msgid in this domain and locale, by the catalogue that was loaded last for
-    /// them; the msgid itself, where there is no catalogue or it has no such entry.
-    pub fn gettext<'a>(&'a self, domain: &str, locale: &str, id: &'a str) -> &'a str
-        ensures { HasValue (map_in self.now.held domain.now locale.now) (Plain id.now) result.now }
+    /// The translation of a msgid in this domain: that of the first locale named by the list of languages whose
+    /// catalogue, the one that was loaded last for it, has the msgid; the msgid itself, where none has it.
+    pub fn gettext<'a>(&'a self, domain: &str, languages: &str, id: &'a str) -> &'a str
+        ensures { HasAnswer (map_in self.now.held) (query_of domain.now languages.now (Plain id.now)) result.now }
     {
-        match self.catalogue(domain, locale) {
-            Some(catalogue) => catalogue.gettext(id),
-            None => id,
-        }
+        first_form(self.find_by_list(domain, languages, None, id), id)
     }
 
     /// The same of a msgid in a context.
-    pub fn pgettext<'a>(&'a self, domain: &str, locale: &str, context: &str, id: &'a str) -> &'a str
-        ensures { HasValue (map_in self.now.held domain.now locale.now) (Context context.now id.now) result.now }
+    pub fn pgettext<'a>(
+        &'a self,
+        domain: &str,
+        languages: &str,
+        context: &str,
+        id: &'a str,
+    ) -> &'a str
+        ensures { HasAnswer (map_in self.now.held) (query_of domain.now languages.now (Context context.now id.now))
+            result.now }
     {
-        match self.catalogue(domain, locale) {
-            Some(catalogue) => catalogue.pgettext(context, id),
-            None => id,
-        }
+        first_form(self.find_by_list(domain, languages, Some(context), id), id)
     }
 
-    /// The translation of a message with a number: the form that the number takes by the rule in the
-    /// catalogue's header. Where there is no translation, the msgid for 1, and the plural for other numbers.
+    /// The translation of a message with a number: the form that the number takes by the rule in the header of the
+    /// catalogue that has it. Where there is no translation, the msgid for 1, and the plural for other numbers.
     pub fn ngettext<'a>(
         &'a self,
         domain: &str,
-        locale: &str,
+        languages: &str,
         id: &'a str,
         plural: &'a str,
         n: u64,
     ) -> &'a str
-        ensures { HasValue (map_in self.now.held domain.now locale.now) (Number id.now plural.now n) result.now }
+        ensures { HasAnswer (map_in self.now.held) (query_of domain.now languages.now (Number id.now plural.now n))
+            result.now }
     {
-        match self.catalogue(domain, locale) {
-            Some(catalogue) => catalogue.ngettext(id, plural, n),
-            None => untranslated(id, plural, n),
-        }
+        counted(
+            self.find_by_list(domain, languages, None, id),
+            id,
+            plural,
+            n,
+        )
     }
 
     /// The same of a message in a context.
     pub fn npgettext<'a>(
         &'a self,
         domain: &str,
-        locale: &str,
+        languages: &str,
         context: &str,
         id: &'a str,
         plural: &'a str,
         n: u64,
     ) -> &'a str
-        ensures { HasValue (map_in self.now.held domain.now locale.now) (ContextNumber context.now id.now plural.now n)
-            result.now }
+        ensures { HasAnswer (map_in self.now.held) (query_of domain.now languages.now
+            (ContextNumber context.now id.now plural.now n)) result.now }
     {
-        match self.catalogue(domain, locale) {
-            Some(catalogue) => catalogue.npgettext(context, id, plural, n),
-            None => untranslated(id, plural, n),
-        }
+        counted(
+            self.find_by_list(domain, languages, Some(context), id),
+            id,
+            plural,
+            n,
+        )
     }
 
     /// What the query is answered, lent from the set or from the query. It takes no memory.
     pub fn look<'a>(&'a self, query: &'a Query) -> &'a str
-        ensures { HasValue (map_in self.now.held query.now.domain query.now.locale) query.now.ask result.now }
+        ensures { HasAnswer (map_in self.now.held) query.now result.now }
     {
         let domain = query.domain.as_str();
-        let locale = query.locale.as_str();
+        let languages = query.languages.as_str();
         match &query.ask {
-            Ask::Plain { id } => self.gettext(domain, locale, id.as_str()),
+            Ask::Plain { id } => self.gettext(domain, languages, id.as_str()),
             Ask::Context { context, id } => {
-                self.pgettext(domain, locale, context.as_str(), id.as_str())
+                self.pgettext(domain, languages, context.as_str(), id.as_str())
             }
             Ask::Number { id, plural, n } => {
-                self.ngettext(domain, locale, id.as_str(), plural.as_str(), *n)
+                self.ngettext(domain, languages, id.as_str(), plural.as_str(), *n)
             }
             Ask::ContextNumber {
                 context,
@@ -176,7 +183,7 @@ impl CatalogueSet {
                 n,
             } => self.npgettext(
                 domain,
-                locale,
+                languages,
                 context.as_str(),
                 id.as_str(),
                 plural.as_str(),

@@ -33,17 +33,17 @@ fn load(alloc: Global, domain: &str, locale: &str, text: &[u8]) -> Result<Load, 
     })
 }
 
-fn query(alloc: Global, domain: &str, locale: &str, ask: Ask) -> Result<Query, AllocError> {
+fn query(alloc: Global, domain: &str, languages: &str, ask: Ask) -> Result<Query, AllocError> {
     Ok(Query {
         domain: String::from_str(alloc, domain)?,
-        locale: String::from_str(alloc, locale)?,
+        languages: String::from_str(alloc, languages)?,
         ask,
     })
 }
 
-fn plain(alloc: Global, domain: &str, locale: &str, id: &str) -> Result<Query, AllocError> {
+fn plain(alloc: Global, domain: &str, languages: &str, id: &str) -> Result<Query, AllocError> {
     let id = String::from_str(alloc, id)?;
-    query(alloc, domain, locale, Ask::Plain { id })
+    query(alloc, domain, languages, Ask::Plain { id })
 }
 
 #[test]
@@ -84,7 +84,7 @@ fn keeps_the_last_load(rt: HostRuntime) -> Result<(), Fail> {
         set.absorb(&load(alloc, domain, locale, text)?)?;
     }
     assert_eq!(rt; set.version(), 7);
-    for (domain, locale, wanted) in [
+    for (domain, languages, wanted) in [
         ("b", "a", "hallo"),
         ("app", "fr", "bonjour"),
         ("a", "b", "hallo"),
@@ -96,14 +96,16 @@ fn keeps_the_last_load(rt: HostRuntime) -> Result<(), Fail> {
         ("ap", "pfr", "hi"),
         ("", "", "hi"),
         ("app", "", "hi"),
+        ("app", "fr\n", "hi"),
+        ("app", "fr\n:de", "hallo"),
     ] {
         assert_eq!(rt;
-            set.gettext(domain, locale, "hi"),
+            set.gettext(domain, languages, "hi"),
             wanted,
-            "{domain} {locale}"
+            "{domain} {languages}"
         );
-        let query = plain(alloc, domain, locale, "hi")?;
-        assert_eq!(rt; set.look(&query), wanted, "{domain} {locale}");
+        let query = plain(alloc, domain, languages, "hi")?;
+        assert_eq!(rt; set.look(&query), wanted, "{domain} {languages}");
     }
     // A load replaces the whole catalogue, and the names of another load may be the same.
     let menu = load(alloc, "app", "fr", MENU)?;

@@ -11,16 +11,14 @@ returns-in-Ok c =
     let rises : Rises held = subst (λ (s : SetValue). Rises s.held) c.self.view_is c.self.invariant in
     let read = subst (λ (s : SetValue). c.index.result.now ≡ get_or s.held c.in-Ok.at c.index.result.now) c.self.view_is
     c.index.ensures in
-    let found = subst (λ (k : List ℕ). IsAt held k c.args.locale.now c.in-Ok.at) c.new.ensures
-    (subst (λ (k : List ℕ). IsAt held c.new.result k c.in-Ok.at) c.new-2.ensures c.in-Ok.ensures.found) in
+    let found = subst (λ (k : List ℕ). IsAt held c.args.domain.now k c.in-Ok.at) c.new.ensures c.in-Ok.ensures.found in
     ap (λ m. Some m) c.catalogue.ensures ∙ sym (ap (option_map (λ (l : LoadValue). l.map))
     (find_at held c.args.domain.now c.args.locale.now c.in-Ok.at c.index.result.now rises found read))
 
 pub returns-in-Err : goal.returns-in-Err
 returns-in-Err c =
     let held = c.args.self.now.held in
-    let gap = subst (λ (k : List ℕ). IsGapFor held k c.args.locale.now c.in-Err.field-0) c.new.ensures
-    (subst (λ (k : List ℕ). IsGapFor held c.new.result k c.in-Err.field-0) c.new-2.ensures c.in-Err.ensures.absent)
-    in
+    let gap = subst (λ (k : List ℕ). IsGapFor held c.args.domain.now k c.in-Err.field-0) c.new.ensures
+    c.in-Err.ensures.absent in
     sym (ap (option_map (λ (l : LoadValue). l.map)) (find_gap held c.args.domain.now c.args.locale.now c.in-Err.field-0
     gap))

@@ -1,0 +1,159 @@
+//! Lists of languages: the first of the locales that a list names whose catalogue has a message.
+ghost use Rattle.std.specs.Prelude.{◌≡◌, ◌<◌, Bool, false, true, List, [], ◌∷◌, length, option_map, map, MatchOption};
+ghost use Rattle.std.specs.Prelude.{IfSome};
+ghost use Rattle.std.specs.List.{before_first, list_any};
+ghost use Rattle.catalogue.specs.Entry.{key_bytes};
+ghost use Rattle.catalogue.specs.Value.{IsFirstForm, IsMapFormFor, text_by};
+ghost use Rattle.live_set.specs.Languages.{is_colon, is_underscore, has_only_territory, translates, locales_of, named};
+ghost use Rattle.live_set.specs.Sets.{map_in};
+ghost use Rattle.live_set.specs.Found.{IsFoundIn, IsCutAt};
+
+use crate::CatalogueSet;
+use catalogue::{Catalogue, EntryRef, untranslated};
+use text_key::TextKey;
+
+/// An entry that was found, and the catalogue that has it.
+pub(crate) type Found<'a> = (&'a Catalogue, EntryRef<'a>);
+
+/// The first form of the entry that was found, or the msgid.
+pub(crate) fn first_form<'a>(found: Option<Found<'a>>, id: &'a str) -> &'a str
+    ensures { IsFirstForm (option_map (λ f. f.1) found.entry) id.now result.now }
+{
+    match found {
+        Some((_, entry)) => entry.form(0),
+        None => id,
+    }
+}
+
+/// The form of the entry that was found which a number takes by its catalogue's rule, or one of the texts.
+pub(crate) fn counted<'a>(found: Option<Found<'a>>, id: &'a str, plural: &'a str, n: u64) -> &'a str
+    ensures { MatchOption found.entry (result.now ≡ text_by n id.now plural.now)
+        (λ f. IsMapFormFor f.0.now n f.1.forms result.now) }
+{
+    match found {
+        Some((catalogue, entry)) => catalogue.form_for(&entry, n),
+        None => untranslated(id, plural, n),
+    }
+}
+
+/// The language of a locale that has a territory, and neither a codeset nor a variant: `fr` of `fr_CA`.
+fn language_of(member: &str) -> Option<&str>
+    ensures { MatchOption result (has_only_territory member.now ≡ false) (λ language.
+        (has_only_territory member.now ≡ true) × (language.now ≡ before_first is_underscore member.now)) }
+{
+    let (language, _) = member.split_once('_')?;
+    if member.contains('.') || member.contains('@') {
+        None
+    } else {
+        Some(language)
+    }
+}
+
+/// Whether messages may be translated in a locale: in any but `C` and `POSIX`.
+fn is_translated(member: &str) -> bool
+    ensures { result ≡ translates member.now }
+{
+    member != "C" && member != "POSIX"
+}
+
+/// Whether a list is more than one member.
+fn has_colon(languages: &str) -> bool
+    ensures { result ≡ list_any is_colon languages.now }
+{
+    languages.bytes().any(|byte| byte == b':')
+}
+
+/// The first member that counts of a list with colons, and the list behind it.
+fn first_of_several(languages: &str) -> Option<(&str, &str)>
+    ensures cut { IsCutAt languages.now result }
+    ensures shorter { IfSome result (λ cut. length cut.1.now < length languages.now) }
+{
+    let mut list = languages;
+    'colons: while let Some(others) = list.strip_prefix(':') {
+        list = others;
+    }
+    if list.is_empty() {
+        return None;
+    }
+    let (member, others) = list.split_once(':').unwrap_or((list, ""));
+    if is_translated(member) {
+        Some((member, others))
+    } else {
+        None
+    }
+}
+
+/// The first member of a list that counts, and the list behind it. Most lists are one member, so that comes first.
+fn first_member(languages: &str) -> Option<(&str, &str)>
+    ensures cut { IsCutAt languages.now result }
+    ensures shorter { IfSome result (λ cut. length cut.1.now < length languages.now) }
+{
+    if has_colon(languages) {
+        return first_of_several(languages);
+    }
+    if languages.is_empty() {
+        return None;
+    }
+    if is_translated(languages) {
+        Some((languages, ""))
+    } else {
+        None
+    }
+}
+
+impl CatalogueSet {
+    /// The entry of a message in the catalogue for this domain and locale.
+    fn find_in(
+        &self,
+        domain: &TextKey<'_>,
+        locale: &str,
+        context: Option<&str>,
+        id: &str,
+    ) -> Option<Found<'_>>
+        ensures { IsFoundIn (key_bytes (option_map (λ s. s.now) context.entry) id.now)
+            (map_in self.now.held domain.now locale.now ∷ []) result }
+    {
+        let catalogue = self.catalogue(domain, locale)?;
+        let entry = catalogue.find(context, id)?;
+        Some((catalogue, entry))
+    }
+
+    /// The same in the first of the locales that a member of a list stands for.
+    fn find_by_member(
+        &self,
+        domain: &TextKey<'_>,
+        member: &str,
+        context: Option<&str>,
+        id: &str,
+    ) -> Option<Found<'_>>
+        ensures { IsFoundIn (key_bytes (option_map (λ s. s.now) context.entry) id.now)
+            (map (map_in self.now.held domain.now) (locales_of member.now)) result }
+    {
+        if let Some(found) = self.find_in(domain, member, context, id) {
+            return Some(found);
+        }
+        self.find_in(domain, language_of(member)?, context, id)
+    }
+
+    /// The same in the first of the locales that a list of languages names.
+    pub(crate) fn find_by_list(
+        &self,
+        domain: &str,
+        languages: &str,
+        context: Option<&str>,
+        id: &str,
+    ) -> Option<Found<'_>>
+        ensures { IsFoundIn (key_bytes (option_map (λ s. s.now) context.entry) id.now)
+            (map (map_in self.now.held domain.now) (named languages.now)) result }
+    {
+        let domain = TextKey::new(domain);
+        let mut rest = languages;
+        'members: while let Some((member, others)) = first_member(rest) {
+            if let Some(found) = self.find_by_member(&domain, member, context, id) {
+                return Some(found);
+            }
+            rest = others;
+        }
+        None
+    }
+}
