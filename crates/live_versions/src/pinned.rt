@@ -1,8 +1,7 @@
 //! Entries of readers, and what is looked up in one.
 ghost use Rattle.std.specs.Prelude.{◌≡◌, [], ◌∷◌};
 ghost use Rattle.left_right.specs.Sides.{view};
-ghost use Rattle.live_set.specs.Asks.{HasValue, IsAnswer, Plain, Context, Number, ContextNumber};
-ghost use Rattle.live_set.specs.Loads.{map_of};
+ghost use Rattle.live_set.specs.Asks.{IsAnswer, query_of, Plain, Context, Number, ContextNumber};
 ghost use Rattle.live_set.specs.Sets.{fold};
 ghost use Rattle.live_versions.specs.Batches.{joined, version_of};
 ghost use Rattle.live_versions.specs.Entering.{entry_of};
@@ -72,7 +71,7 @@ impl Pinned<'_> {
         entry.seen.version()
     }
 
-    /// The text of a query.
+    /// The text of a query (`live_set::CatalogueSet::look`).
     #[tactic(auto, using(crate::proofs::Looking::searched))]
     pub fn look<'a>(&'a self, query: &'a Query) -> &'a str
         ensures { IsAnswer (joined (entry_of self.now).batches) query.now result.now }
@@ -80,23 +79,29 @@ impl Pinned<'_> {
         self.set().look(query)
     }
 
-    /// The translation of a msgid in a domain and a locale (`catalogue::Catalogue::gettext`), or the msgid where
-    /// there is none.
+    /// The translation of a msgid in a domain, by the first locale of a list of languages that has it
+    /// (`live_set::Query`), or the msgid where none has it.
     #[tactic(auto, using(crate::proofs::Looking::searched))]
-    pub fn gettext<'a>(&'a self, domain: &str, locale: &str, id: &'a str) -> &'a str
-        ensures { HasValue (map_of (joined (entry_of self.now).batches) domain.now locale.now)
-            (Plain id.now) result.now }
+    pub fn gettext<'a>(&'a self, domain: &str, languages: &str, id: &'a str) -> &'a str
+        ensures { IsAnswer (joined (entry_of self.now).batches) (query_of domain.now languages.now (Plain id.now))
+            result.now }
     {
-        self.set().gettext(domain, locale, id)
+        self.set().gettext(domain, languages, id)
     }
 
     /// The translation of a msgid in a context (`pgettext`).
     #[tactic(auto, using(crate::proofs::Looking::searched))]
-    pub fn pgettext<'a>(&'a self, domain: &str, locale: &str, context: &str, id: &'a str) -> &'a str
-        ensures { HasValue (map_of (joined (entry_of self.now).batches) domain.now locale.now)
-            (Context context.now id.now) result.now }
+    pub fn pgettext<'a>(
+        &'a self,
+        domain: &str,
+        languages: &str,
+        context: &str,
+        id: &'a str,
+    ) -> &'a str
+        ensures { IsAnswer (joined (entry_of self.now).batches)
+            (query_of domain.now languages.now (Context context.now id.now)) result.now }
     {
-        self.set().pgettext(domain, locale, context, id)
+        self.set().pgettext(domain, languages, context, id)
     }
 
     /// The form that a number takes of a message with a plural (`ngettext`).
@@ -104,15 +109,15 @@ impl Pinned<'_> {
     pub fn ngettext<'a>(
         &'a self,
         domain: &str,
-        locale: &str,
+        languages: &str,
         id: &'a str,
         plural: &'a str,
         n: u64,
     ) -> &'a str
-        ensures { HasValue (map_of (joined (entry_of self.now).batches) domain.now locale.now)
-            (Number id.now plural.now n) result.now }
+        ensures { IsAnswer (joined (entry_of self.now).batches)
+            (query_of domain.now languages.now (Number id.now plural.now n)) result.now }
     {
-        self.set().ngettext(domain, locale, id, plural, n)
+        self.set().ngettext(domain, languages, id, plural, n)
     }
 
     /// The same of a message in a context (`npgettext`).
@@ -120,16 +125,17 @@ impl Pinned<'_> {
     pub fn npgettext<'a>(
         &'a self,
         domain: &str,
-        locale: &str,
+        languages: &str,
         context: &str,
         id: &'a str,
         plural: &'a str,
         n: u64,
     ) -> &'a str
-        ensures { HasValue (map_of (joined (entry_of self.now).batches) domain.now locale.now)
-            (ContextNumber context.now id.now plural.now n) result.now }
+        ensures { IsAnswer (joined (entry_of self.now).batches)
+            (query_of domain.now languages.now (ContextNumber context.now id.now plural.now n)) result.now }
     {
-        self.set().npgettext(domain, locale, context, id, plural, n)
+        self.set()
+            .npgettext(domain, languages, context, id, plural, n)
     }
 
     /// The set of the entry.

@@ -78,7 +78,7 @@ fn enter<R: Print>(rt: &R, reader: &mut Lookups) -> io::Result<()>
 fn query(alloc: Global) -> Result<Query, AllocError> {
     Ok(Query {
         domain: String::from_str(alloc, "app")?,
-        locale: String::from_str(alloc, "fr")?,
+        languages: String::from_str(alloc, "fr")?,
         ask: Ask::Plain {
             id: String::from_str(alloc, "hi")?,
         },

@@ -130,7 +130,7 @@ fn loads_are_published_together(rt: HostRuntime) -> Result<(), Fail> {
 fn query(alloc: Global, locale: &str) -> Result<Query, AllocError> {
     Ok(Query {
         domain: String::from_str(alloc, "app")?,
-        locale: String::from_str(alloc, locale)?,
+        languages: String::from_str(alloc, locale)?,
         ask: Ask::Plain {
             id: String::from_str(alloc, "hi")?,
         },
