@@ -1,15 +1,17 @@
-//! Times a live store: entries, alone and of many readers beside a publisher; queries in one thread and in four;
-//! `serve` on 1 to 16 desks, alone and beside jobs; publishes beside many catalogues. The first word says how many
+//! Times a live store: entries, alone and of many readers beside a publisher; queries in one thread and in four, and by
+//! lists of languages; `serve` on 1 to 16 desks, alone and beside jobs; publishes beside many catalogues. The first word says how many
 //! messages each of 20 languages has (500 without a word), the second how often is published (100). Standard output
 //! has what went wrong, the same each time; standard error has the times by the clock.
 #![tactic(auto)]
 
 mod languages;
+mod lists;
 mod messages;
 mod readers;
 mod serving;
 
 use crate::languages::publish_languages;
+use crate::lists::time_lists;
 use crate::messages::{LANGUAGES, PLAIN, locale_of, po_text, queries};
 use crate::readers::{ask_all, ask_each, enter_many, enter_until, keep_all, look_all};
 use crate::serving::time_serve;
@@ -39,7 +41,7 @@ const OTHERS: u32 = 1_000;
 const ROUNDS: [u32; 2] = [10, 1];
 
 /// Prints how long each of so many turns took, and how many went wrong.
-fn print_time<R: Print + Eprint>(
+pub(crate) fn print_time<R: Print + Eprint>(
     rt: &R,
     what: &str,
     taken: Duration,
@@ -224,7 +226,7 @@ fn time_queries<R: Print + Eprint + Clock + Threads + Wait + AllocGlobal + Sync>
     };
     let done = match (
         publish_languages(rt, &mut publisher, messages),
-        queries(rt.alloc(), messages, count),
+        queries(rt.alloc(), messages, count, ""),
     ) {
         (Ok(true), Ok(queries)) => run_queries(rt, readers, &queries, rounds),
         _ => println!(rt; "out of memory"),
@@ -367,6 +369,7 @@ fn main(rt: HostRuntime) -> io::Result<()> {
     'rounds: for rounds in ROUNDS {
         time_queries(&rt, messages, rounds)?;
     }
+    time_lists(&rt, messages)?;
     time_serve(&rt, messages)?;
     time_publishes(&rt)
 }

@@ -33,8 +33,23 @@ pub fn po_text(alloc: Global, language: u32, messages: u32) -> Result<String, Al
     Ok(text)
 }
 
-/// So many queries for messages here and there, each in one of the languages.
-pub fn queries(alloc: Global, messages: u32, count: u32) -> Result<Vec<Query>, AllocError> {
+/// The PO text of a language that has as many other messages.
+pub fn other_text(alloc: Global, messages: u32) -> Result<String, AllocError> {
+    let mut text = String::new(alloc);
+    'messages: for message in 0..messages {
+        let entry = format!(in alloc; "msgid \"other {message}\"\nmsgstr \"other\"\n")?;
+        text.push_str(&entry)?;
+    }
+    Ok(text)
+}
+
+/// So many queries for messages here and there, each in one of the languages, with these members of the list before it.
+pub fn queries(
+    alloc: Global,
+    messages: u32,
+    count: u32,
+    before: &str,
+) -> Result<Vec<Query>, AllocError> {
     let mut all = Vec::new(alloc);
     let mut state: u64 = 1;
     'queries: for _ in 0..count {
@@ -45,7 +60,7 @@ pub fn queries(alloc: Global, messages: u32, count: u32) -> Result<Vec<Query>, A
         let language = (state >> 40) % u64::from(LANGUAGES);
         all.push(Query {
             domain: String::from_str(alloc, "app")?,
-            locale: format!(in alloc; "l{language}")?,
+            languages: format!(in alloc; "{before}l{language}")?,
             ask: Ask::Plain {
                 id: format!(in alloc; "message {message}")?,
             },

@@ -53,12 +53,16 @@ pub fn enter_until(reader: &mut Lookups, done: &AtomicBool, work: u32) -> (u64, 
     (entries, fallen)
 }
 
-/// Whether a text is what a query asks for.
+/// Whether a text is what a query asks for: the translation of the last language in its list.
 pub fn is_answer(alloc: Global, query: &Query, text: &str) -> bool {
     let Ask::Plain { id } = &query.ask else {
         return false;
     };
-    match translation_of(alloc, &query.locale, id) {
+    let language = match query.languages.rsplit_once(':') {
+        Some((_, last)) => last,
+        None => query.languages.as_str(),
+    };
+    match translation_of(alloc, language, id) {
         Ok(wanted) => wanted.as_str() == text,
         Err(_) => false,
     }

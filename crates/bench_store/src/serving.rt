@@ -52,7 +52,7 @@ fn desk_of(alloc: Global, reader: Lookups, messages: u32, count: u32) -> Result<
 {
     Ok(Desk {
         reader,
-        queries: queries(alloc, messages, count)?,
+        queries: queries(alloc, messages, count, "")?,
         answers: Vec::new(alloc),
         fault: None,
     })

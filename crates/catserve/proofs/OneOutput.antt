@@ -10,7 +10,7 @@ use Rattle.catalogue.specs.Value.{IsFirstForm, IsCounted, HasRuleIn, form_or_fir
 use Rattle.catalogue.specs.declared.Compiled.{Compiled}
 use Rattle.catalogue.proofs.OneMeaning.{meaning_one, refusal_one, means_or_refuses}
 use Rattle.live_set.specs.Loads.{LoadValue, map_of}
-use Rattle.live_set.specs.Asks.{AskValue, Plain, Context, Number, ContextNumber, QueryValue, HasValue, IsAnswer}
+use Rattle.live_set.specs.Asks.{AskValue, Plain, Context, Number, ContextNumber, QueryValue, HasValue, IsAnswer, answering}
 use Rattle.desks.specs.Jobs.{JobValue}
 use Rattle.catserve.specs.Script.{QuestionValue, RoundValue, ScriptValue, queries_for, script}
 use Rattle.catserve.specs.Output.{answer_line, version_line}
@@ -61,7 +61,7 @@ value_one m (ContextNumber context id plural n) t u h k = counted_one m (entry_a
     (text_by n id plural) t u h k
 
 answer_one : (loads : List LoadValue) (q : QueryValue) (t u : List ℕ) → IsAnswer loads q t → IsAnswer loads q u → t ≡ u
-answer_one loads q t u h k = value_one (map_of loads q.domain q.locale) q.ask t u h k
+answer_one loads q t u h k = value_one (answering (map_of loads) q) q.ask t u h k
 
 answers_one : (loads : List LoadValue) (worker : ℕ) (queries : List QueryValue) (output other : List ℕ)
     → Answers loads worker queries output → Answers loads worker queries other → output ≡ other

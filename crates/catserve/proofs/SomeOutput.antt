@@ -1,6 +1,6 @@
 -- A text has an output or a fault: it leads to ⊥ that it has neither.
 use Rattle.std.proofs.Common.{◌≡◌, ℕ, zero, suc, ◌+◌, ◌<◌, Bool, true, false, cond, List, [], ◌∷◌, ◌++◌, length}
-use Rattle.std.proofs.Common.{Option, Some}
+use Rattle.std.proofs.Common.{Option, Some, map, find}
 use Rattle.std.proofs.Common.{None, Result, Ok, Err, refl, sym, subst, arith, inl, inr}
 use Rattle.std.specs.Prelude.{nat_lt}
 use Rattle.std.specs.List.{AllByRecursion, AllZip, filter, filter_map, flat_map, last_or}
@@ -15,6 +15,9 @@ use Rattle.entry_search.proofs.Searching.{some_at}
 use Rattle.catalogue.proofs.SomeMeaning.{some_meaning, IsFormed, means_formed}
 use Rattle.live_set.specs.Loads.{LoadValue, map_of, map_or_empty, is_for}
 use Rattle.live_set.specs.Asks.{AskValue, Plain, Context, Number, ContextNumber, QueryValue, HasValue, IsAnswer}
+use Rattle.live_set.specs.Asks.{answering, first_with, has_key, key_of}
+use Rattle.live_set.specs.Languages.{named}
+use Rattle.std.specs.Option.{option_map_or}
 use Rattle.desks.specs.Jobs.{JobValue}
 use Rattle.catserve.specs.Script.{QuestionValue, RoundValue, ScriptValue, queries_for, script}
 use Rattle.catserve.specs.Output.{answer_line, version_line}
@@ -53,6 +56,16 @@ last_formed o p (l ∷ loads) h all = step (p l) (last_formed o p loads h all.1)
 map_formed : (loads : List LoadValue) (domain locale : List ℕ) → AreFormed loads → IsFormed (map_of loads domain locale)
 map_formed loads domain locale all = last_formed None (is_for domain locale) loads
     (λ e has. absurd (omega (arith, has.1))) all
+
+first_formed : (key : List ℕ) (maps : List ℕ → List Entry) (locales : List (List ℕ))
+    → ((locale : List ℕ) → IsFormed (maps locale)) → IsFormed (first_with key (map maps locales))
+first_formed key maps [] each = λ e has. absurd (omega (arith, has.1))
+first_formed key maps (l ∷ ls) each = step (has_key key (maps l)) (first_formed key maps ls each)
+  where
+    step : (b : Bool) → IsFormed (first_with key (map maps ls))
+        → IsFormed (option_map_or (λ m. m) (cond b (Some (maps l)) (find (has_key key) (map maps ls))) [])
+    step true rest = each l
+    step false rest = rest
 
 -- ---- answers
 
@@ -93,8 +106,9 @@ value_some m (ContextNumber context id plural n) formed none = counted_some m (k
 answers_some : (loads : List LoadValue) (worker : ℕ) (queries : List QueryValue) → AreFormed loads
     → ((output : List ℕ) → Answers loads worker queries output → ⊥) → ⊥
 answers_some loads worker queries formed none =
-    zip_some (IsAnswer loads) (λ q. value_some (map_of loads q.domain q.locale) q.ask
-    (map_formed loads q.domain q.locale formed)) queries
+    zip_some (IsAnswer loads) (λ q. value_some (answering (map_of loads) q) q.ask
+    (first_formed (key_of q.ask) (map_of loads q.domain) (named q.languages)
+    (λ locale. map_formed loads q.domain locale formed))) queries
     (λ texts each. none (flat_map (answer_line worker (length loads)) texts) (texts, each, refl))
 
 turn_some : (loads : List LoadValue) (questions : List QuestionValue) (worker count : ℕ) → AreFormed loads

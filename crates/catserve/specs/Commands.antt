@@ -64,12 +64,12 @@ load_line (domain ∷ locale ∷ options ∷ count ∷ []) = do
   Some (Loads domain locale o n)
 load_line _ = None
 
--- behind `ask`: one of so many workers, a domain, a locale, and a call
+-- behind `ask`: one of so many workers, a domain, a list of languages, and a call
 abbrev pub ask_line : ℕ → List (List ℕ) → Option Line
-ask_line workers (worker ∷ domain ∷ locale ∷ call ∷ texts) = do
+ask_line workers (worker ∷ domain ∷ languages ∷ call ∷ texts) = do
   w ← worker_of workers worker
   a ← call_of call texts
-  Some (Asks w (record { domain = domain; locale = locale; ask = a }))
+  Some (Asks w (record { domain = domain; languages = languages; ask = a }))
 ask_line workers _ = None
 
 -- behind `go`: nothing

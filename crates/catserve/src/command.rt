@@ -118,12 +118,12 @@ fn read_ask<'a>(alloc: Global, workers: u32, mut fields: Fields<'a>) -> Result<L
 {
     let worker = read_worker(workers, fields.next()?)?;
     let domain = fields.next()?;
-    let locale = fields.next()?;
+    let languages = fields.next()?;
     let name = fields.next()?;
     let ask = read_call(alloc, name, fields)?;
     let query = Query {
         domain: String::from_str(alloc, domain)?,
-        locale: String::from_str(alloc, locale)?,
+        languages: String::from_str(alloc, languages)?,
         ask,
     };
     Ok(Line::Asks { worker, query })

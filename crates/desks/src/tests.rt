@@ -169,7 +169,7 @@ impl Gate for Overlap {
 fn query(alloc: Global) -> Result<Query, AllocError> {
     Ok(Query {
         domain: String::from_str(alloc, "app")?,
-        locale: String::from_str(alloc, "fr")?,
+        languages: String::from_str(alloc, "fr")?,
         ask: Ask::Plain {
             id: String::from_str(alloc, "hi")?,
         },

@@ -59,7 +59,7 @@ fn queries_of(alloc: Global) -> Result<Vec<Query>, AllocError> {
     'queries: for _ in 0..QUERIES {
         queries.push(Query {
             domain: String::from_str(alloc, "app")?,
-            locale: String::from_str(alloc, "fr")?,
+            languages: String::from_str(alloc, "fr")?,
             ask: Ask::Plain {
                 id: String::from_str(alloc, "hi")?,
             },
