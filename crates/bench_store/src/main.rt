@@ -1,7 +1,7 @@
 //! Times a live store: entries, alone and of many readers beside a publisher; queries in one thread and in four, and by
-//! lists of languages; `serve` on 1 to 16 desks, alone and beside jobs; publishes beside many catalogues. The first word says how many
-//! messages each of 20 languages has (500 without a word), the second how often is published (100). Standard output
-//! has what went wrong, the same each time; standard error has the times by the clock.
+//! lists of languages; `serve` on 1 to 16 desks, alone and beside jobs; publishes beside many catalogues. The first
+//! word says how many messages each of 20 languages has (500 without a word), the second how often is published (100).
+//! Standard output has what went wrong, the same each time; standard error has the times by the clock.
 #![tactic(auto)]
 
 mod languages;

@@ -10,7 +10,8 @@ use Rattle.catalogue.specs.Value.{IsFirstForm, IsCounted, HasRuleIn, form_or_fir
 use Rattle.catalogue.specs.declared.Compiled.{Compiled}
 use Rattle.catalogue.proofs.OneMeaning.{meaning_one, refusal_one, means_or_refuses}
 use Rattle.live_set.specs.Loads.{LoadValue, map_of}
-use Rattle.live_set.specs.Asks.{AskValue, Plain, Context, Number, ContextNumber, QueryValue, HasValue, IsAnswer, answering}
+use Rattle.live_set.specs.Asks.{AskValue, Plain, Context, Number, ContextNumber, QueryValue, HasValue, IsAnswer}
+use Rattle.live_set.specs.Asks.{answering}
 use Rattle.desks.specs.Jobs.{JobValue}
 use Rattle.catserve.specs.Script.{QuestionValue, RoundValue, ScriptValue, queries_for, script}
 use Rattle.catserve.specs.Output.{answer_line, version_line}

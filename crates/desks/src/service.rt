@@ -100,8 +100,9 @@ fn serve_slice<R: Threads + Wait + Sync, G: Gate + Sync>(
 /// does the jobs in turn, each a load that is published by itself where it is accepted.
 ///
 /// Desks with queries are worked side by side, each in a thread of its own, beside the thread that publishes; a desk
-/// without queries takes no thread, nor does the publishing where there are no jobs or no queries. At first each reader learns what is published,
-/// and at the end it settles with what is published then. Where the system makes no thread, the work is done in turn.
+/// without queries takes no thread, nor does the publishing where there are no jobs or no queries. At first each reader
+/// learns what is published, and at the end it settles with what is published then. Where the system makes no thread,
+/// the work is done in turn.
 ///
 /// After a fault the desks' `answers` and `fault` are left open, and the store has the loads that it had, behind them
 /// those of some first jobs that were accepted, and no other; at most the last of these is pending.

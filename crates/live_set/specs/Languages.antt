@@ -1,6 +1,7 @@
--- Lists of languages, and the locales that they name (manual, "Specifying a Priority List of Languages"; "Locale Names").
-use Rattle.std.specs.Prelude.{ℕ, ◌==◌, ◌&&◌, ◌||◌, not, Bool, true, false, if◌then◌else◌, List, [], ◌∷◌, codes, filter, take_while}
-use Rattle.std.specs.Prelude.{flat_map}
+-- Lists of languages, and the locales that they name (manual, "Specifying a Priority List of Languages"; "Locale
+-- Names").
+use Rattle.std.specs.Prelude.{ℕ, ◌==◌, ◌&&◌, ◌||◌, not, Bool, true, false, if◌then◌else◌, List, [], ◌∷◌, codes, filter}
+use Rattle.std.specs.Prelude.{take_while, flat_map}
 use Rattle.std.specs.List.{list_any, before_first, slice_split}
 use Rattle.std.specs.Str.{bytes_eq}
 

@@ -2,6 +2,6 @@ pub mod Names
 pub mod Loads
 pub mod Languages
 pub mod Asks
-pub mod Found
+pub mod FirstFound
 pub mod Slots
 pub mod Sets

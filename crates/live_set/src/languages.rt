@@ -6,7 +6,7 @@ ghost use Rattle.catalogue.specs.Entry.{key_bytes};
 ghost use Rattle.catalogue.specs.Value.{IsFirstForm, IsMapFormFor, text_by};
 ghost use Rattle.live_set.specs.Languages.{is_colon, is_underscore, has_only_territory, translates, locales_of, named};
 ghost use Rattle.live_set.specs.Sets.{map_in};
-ghost use Rattle.live_set.specs.Found.{IsFoundIn, IsCutAt};
+ghost use Rattle.live_set.specs.FirstFound.{IsFoundIn, IsCutAt};
 
 use crate::CatalogueSet;
 use catalogue::{Catalogue, EntryRef, untranslated};

@@ -12,7 +12,8 @@ returns-in_err-language c =
     let text = c.args.member.now in
     let P : Option (Bor (List ℕ)) → Type 0 = λ o. MatchOption o (has_only_territory text ≡ false)
     (λ language. (has_only_territory text ≡ true) × (language.now ≡ before_first is_underscore text)) in
-    subst P (sym c.from_residual.ensures) (no_territory text (c.in_err-language.ensures.byte (omega arith) (λ w o h. h)))
+    let none = c.in_err-language.ensures.byte (omega arith) (λ w o h. h) in
+    subst P (sym c.from_residual.ensures) (no_territory text none)
 
 pub returns-else-contains-2 : goal.returns-else-contains-2
 returns-else-contains-2 c =
