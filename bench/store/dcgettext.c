@@ -1,5 +1,6 @@
 /* Queries to glibc's dcgettext in 20 text domains, one for each language of crates/bench_store, with the same
-   messages in the same order: dcgettext FOLDER MESSAGES ROUNDS. Run by bench/store/run. */
+   messages in the same order: dcgettext FOLDER MESSAGES ROUNDS [MEMBERS]. Where it is told how many members the list in
+   LANGUAGE has, it runs in one thread alone, and prints that number. Run by bench/store/run. */
 #include <libintl.h>
 #include <locale.h>
 #include <pthread.h>
@@ -57,6 +58,13 @@ int main(int argc, char **argv) {
         snprintf(q->id, sizeof q->id, "message %llu", message);
         snprintf(q->wanted, sizeof q->wanted, "%.31s in %.15s", q->id, q->domain);
         wrong += strcmp(dcgettext(q->domain, q->id, LC_MESSAGES), q->wanted) != 0;
+    }
+    if (argc > 4) {
+        size_t lost = 0;
+        double start = now();
+        ask_all(&lost);
+        printf("dcgettext by lists of %s: %.0f ns each\n", argv[4], (now() - start) / ((double)rounds * count));
+        return wrong > 0;
     }
     printf("dcgettext, %zu queries: %zu answers wrong\n", count, wrong);
     static const int counts[] = { 1, 2, 4, 8, 16 };
