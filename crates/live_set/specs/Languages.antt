@@ -34,10 +34,13 @@ begins_detail b = b == 46 || b == 64
 abbrev pub has_only_territory : List ℕ → Bool
 has_only_territory member = list_any is_underscore member && not (list_any begins_detail member)
 
--- the locales that a member stands for: itself and, behind `ll_CC`, the language `ll`
+-- the language `ll`, which is tried behind `ll_CC`
+abbrev pub language_behind : List ℕ → List (List ℕ)
+language_behind member = if has_only_territory member then before_first is_underscore member ∷ [] else []
+
+-- the locales that a member stands for: itself, and that language
 abbrev pub locales_of : List ℕ → List (List ℕ)
-locales_of member = if has_only_territory member then member ∷ before_first is_underscore member ∷ []
-    else member ∷ []
+locales_of member = member ∷ language_behind member
 
 -- the locales that a list names, in the order in which they are tried
 abbrev pub named : List ℕ → List (List ℕ)

@@ -1,10 +1,10 @@
 //! Lists of languages: the first of the locales that a list names whose catalogue has a message.
-ghost use Rattle.std.specs.Prelude.{◌≡◌, ◌<◌, Bool, false, true, List, [], ◌∷◌, length, option_map, map, MatchOption};
-ghost use Rattle.std.specs.Prelude.{IfSome};
+ghost use Rattle.std.specs.Prelude.{◌≡◌, ◌<◌, ◌++◌, false, true, [], ◌∷◌, length, option_map, map, MatchOption, IfSome};
 ghost use Rattle.std.specs.List.{before_first, list_any};
 ghost use Rattle.catalogue.specs.Entry.{key_bytes};
 ghost use Rattle.catalogue.specs.Value.{IsFirstForm, IsMapFormFor, text_by};
-ghost use Rattle.live_set.specs.Languages.{is_colon, is_underscore, has_only_territory, translates, locales_of, named};
+ghost use Rattle.live_set.specs.Languages.{is_colon, is_underscore, has_only_territory, translates, language_behind};
+ghost use Rattle.live_set.specs.Languages.{locales_of, named};
 ghost use Rattle.live_set.specs.Sets.{map_in};
 ghost use Rattle.live_set.specs.FirstFound.{IsFoundIn, IsCutAt};
 
@@ -64,6 +64,7 @@ fn has_colon(languages: &str) -> bool
 }
 
 /// The first member that counts of a list with colons, and the list behind it.
+#[inline(never)]
 fn first_of_several(languages: &str) -> Option<(&str, &str)>
     ensures cut { IsCutAt languages.now result }
     ensures shorter { IfSome result (λ cut. length cut.1.now < length languages.now) }
@@ -84,6 +85,7 @@ fn first_of_several(languages: &str) -> Option<(&str, &str)>
 }
 
 /// The first member of a list that counts, and the list behind it. Most lists are one member, so that comes first.
+#[inline(always)]
 fn first_member(languages: &str) -> Option<(&str, &str)>
     ensures cut { IsCutAt languages.now result }
     ensures shorter { IfSome result (λ cut. length cut.1.now < length languages.now) }
@@ -103,6 +105,7 @@ fn first_member(languages: &str) -> Option<(&str, &str)>
 
 impl CatalogueSet {
     /// The entry of a message in the catalogue for this domain and locale.
+    #[inline(always)]
     fn find_in(
         &self,
         domain: &TextKey<'_>,
@@ -116,6 +119,20 @@ impl CatalogueSet {
         let catalogue = self.catalogue(domain, locale)?;
         let entry = catalogue.find(context, id)?;
         Some((catalogue, entry))
+    }
+
+    /// The same in the language of a locale that has a territory, and neither a codeset nor a variant.
+    fn find_by_language(
+        &self,
+        domain: &TextKey<'_>,
+        member: &str,
+        context: Option<&str>,
+        id: &str,
+    ) -> Option<Found<'_>>
+        ensures { IsFoundIn (key_bytes (option_map (λ s. s.now) context.entry) id.now)
+            (map (map_in self.now.held domain.now) (language_behind member.now)) result }
+    {
+        self.find_in(domain, language_of(member)?, context, id)
     }
 
     /// The same in the first of the locales that a member of a list stands for.
@@ -132,10 +149,39 @@ impl CatalogueSet {
         if let Some(found) = self.find_in(domain, member, context, id) {
             return Some(found);
         }
-        self.find_in(domain, language_of(member)?, context, id)
+        self.find_by_language(domain, member, context, id)
     }
 
-    /// The same in the first of the locales that a list of languages names.
+    /// The same in the first of the locales behind the first one of a list: its first member's language, and those that
+    /// the other members stand for.
+    #[inline(never)]
+    fn find_behind(
+        &self,
+        domain: &TextKey<'_>,
+        member: &str,
+        others: &str,
+        context: Option<&str>,
+        id: &str,
+    ) -> Option<Found<'_>>
+        ensures { IsFoundIn (key_bytes (option_map (λ s. s.now) context.entry) id.now)
+            (map (map_in self.now.held domain.now) (language_behind member.now ++ named others.now)) result }
+    {
+        if let Some(found) = self.find_by_language(domain, member, context, id) {
+            return Some(found);
+        }
+        let mut rest = others;
+        'members: while let Some((member, others)) = first_member(rest) {
+            if let Some(found) = self.find_by_member(domain, member, context, id) {
+                return Some(found);
+            }
+            rest = others;
+        }
+        None
+    }
+
+    /// The same in the first of the locales that a list of languages names. Most messages are found in the first one,
+    /// so the others are looked at elsewhere.
+    #[inline(always)]
     pub(crate) fn find_by_list(
         &self,
         domain: &str,
@@ -147,13 +193,10 @@ impl CatalogueSet {
             (map (map_in self.now.held domain.now) (named languages.now)) result }
     {
         let domain = TextKey::new(domain);
-        let mut rest = languages;
-        'members: while let Some((member, others)) = first_member(rest) {
-            if let Some(found) = self.find_by_member(&domain, member, context, id) {
-                return Some(found);
-            }
-            rest = others;
+        let (member, others) = first_member(languages)?;
+        if let Some(found) = self.find_in(&domain, member, context, id) {
+            return Some(found);
         }
-        None
+        self.find_behind(&domain, member, others, context, id)
     }
 }
