@@ -125,6 +125,7 @@ impl Catalogue {
 
     /// The entry of this msgid in this context, or in none; None exactly where there is no such entry.
     /// Two keys are the same where their bytes are.
+    #[inline(always)]
     pub fn find(&self, context: Option<&str>, id: &str) -> Option<EntryRef<'_>>
         ensures { result ≡ entry_at self.now (key_bytes (option_map (λ s. s.now) context.entry) id.now) }
     {

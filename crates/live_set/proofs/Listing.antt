@@ -1,14 +1,15 @@
 -- Lists of languages: their first member, and what stands behind it.
 use Rattle.std.proofs.Common.{◌≡◌, ◌≢◌, ℕ, ◌<◌, ◌+◌, Bool, true, false, ◌==◌, ◌&&◌, ◌||◌, not, cond, List, [], ◌∷◌}
 use Rattle.std.proofs.Common.{length, get_or, Option, Some, None, refl, sym, ap, ◌∙◌, arith, filter, take_while, inl}
-use Rattle.std.proofs.Common.{inr, ◌⊎◌, MatchOption, Bor, length-take}
+use Rattle.std.proofs.Common.{inr, ◌⊎◌, MatchOption, Bor, length-take, find, subst}
 use Rattle.std.proofs.lemmas.Bool.{cases_Bool, eqb-true, false≢true}
 use Rattle.std.specs.Option.{unwrap_or}
-use Rattle.std.specs.List.{list_any, position_or_len, before_first, after_first, slice_split}
+use Rattle.std.specs.List.{AllByRecursion, list_any, position_or_len, before_first, after_first, slice_split}
 use Rattle.std.proofs.lemmas.List.{get_or_default}
 use Rattle.std.proofs.lemmas.List.Splits.{slice_split_first}
 use Rattle.std.proofs.lemmas.List.Sums.{take_while-cons, passes_at_first}
 use Rattle.std.proofs.lemmas.List.Folds.{list_any_at, Any-from_list_any}
+use Rattle.live_set.specs.Names.{IsName, is_name_byte}
 use Rattle.live_set.specs.Languages.{is_colon, is_text, translates, members, is_underscore, begins_detail}
 use Rattle.live_set.specs.Languages.{has_only_territory}
 
@@ -103,15 +104,67 @@ single (b ∷ bs) e = elim (cases_Bool (is_colon b)) [
       rw (is_none, rest) refl
 ]
 
-pub members_of_one : (list : List ℕ) → false ≡ list_any is_colon list → (b : Bool) → b ≡ translates list
-    → false ≡ (length list == 0) → members list ≡ cond b (list ∷ []) []
-members_of_one list no_colon b is some =
-    members_first list list [] (ap (filter is_text) (single list (sym no_colon))) (is_some_text list some)
-    ∙ ap (λ c. cond c (list ∷ []) []) (sym is)
+pub members_of_one : (list : List ℕ) → list_any is_colon list ≡ false → 0 < length list → translates list ≡ true
+    → members list ≡ list ∷ []
+members_of_one list no_colon some is =
+    members_first list list [] (ap (filter is_text) (single list no_colon)) (text_by_length list some)
+    ∙ ap (λ b. cond b (list ∷ []) []) is
+
+-- where a list without a colon has a member, it is the whole list
+pub only_member : (list member : List ℕ) (others : List (List ℕ)) → list_any is_colon list ≡ false
+    → members list ≡ member ∷ others → (member ≡ list) × (members list ≡ list ∷ []) × (translates list ≡ true)
+only_member list member others none e =
+    let split = ap (filter is_text) (single list none) in
+    elim (cases_Bool (is_text list)) [
+      | inr empty ↦ absurd (no_member (sym (ap (take_while translates) split
+          ∙ ap (λ b. take_while translates (cond b (list ∷ []) [])) empty) ∙ e))
+      | inl text ↦
+          let whole = members_first list list [] split text in
+          elim (cases_Bool (translates list)) [
+            | inr not ↦ absurd (no_member (sym (whole ∙ ap (λ b. cond b (list ∷ []) []) not) ∙ e))
+            | inl is ↦
+                let one : members list ≡ list ∷ [] = whole ∙ ap (λ b. cond b (list ∷ []) []) is in
+                (ap (λ l. get_or l 0 []) (sym e ∙ one), one, is)
+          ]
+    ]
   where
-    is_some_text : (text : List ℕ) → false ≡ (length text == 0) → is_text text ≡ true
-    is_some_text [] some = absurd (false≢true some)
-    is_some_text (b ∷ bs) some = refl
+    no_member : {m : List ℕ} {ms : List (List ℕ)} → [] ≡ m ∷ ms → ⊥
+    no_member e = cc
+
+-- no locale's name has a colon
+no_colon : (text : List ℕ) → AllByRecursion (λ b. is_name_byte b ≡ true) text → list_any is_colon text ≡ false
+no_colon [] each = refl
+no_colon (b ∷ bs) each = elim (cases_Bool (is_colon b)) [
+  | inl is_one ↦
+      let colon : is_name_byte 58 ≡ true = subst (λ c. is_name_byte c ≡ true) (eqb-true b 58 is_one) each.0 in
+      absurd (false≢true colon)
+  | inr is_none ↦ rw is_none (no_colon bs each.1)
+]
+
+pub members_of_name : (text : List ℕ) → IsName text → translates text ≡ true → members text ≡ text ∷ []
+members_of_name text name is = members_of_one text (no_colon text name.each) name.some is
+
+-- ---- a search of the first locales
+
+pub find_first : {X : Type 0} (p : X → Bool) (x y : X) (xs : List X) → find p (x ∷ []) ≡ Some y
+    → find p (x ∷ xs) ≡ Some y
+find_first p x y xs e = elim (cases_Bool (p x)) [
+  | inl is ↦ ap (λ b. cond b (Some x) (find p xs)) is ∙ sym (ap (λ b. cond b (Some x) None) is) ∙ e
+  | inr not ↦ absurd (none_some (sym (ap (λ b. cond b (Some x) None) not) ∙ e))
+]
+  where
+    none_some : {X : Type 0} {y : X} → None ≡ Some y → ⊥
+    none_some e = cc
+
+pub find_next : {X : Type 0} (p : X → Bool) (x : X) (xs : List X) → find p (x ∷ []) ≡ None
+    → find p (x ∷ xs) ≡ find p xs
+find_next p x xs e = elim (cases_Bool (p x)) [
+  | inl is ↦ absurd (some_none (sym (ap (λ b. cond b (Some x) None) is) ∙ e))
+  | inr not ↦ ap (λ b. cond b (Some x) (find p xs)) not
+]
+  where
+    some_none : {X : Type 0} {y : X} → Some y ≡ None → ⊥
+    some_none e = cc
 
 -- ---- a territory, and no codeset or variant
 

@@ -1,10 +1,13 @@
 //! Lists of languages: the first of the locales that a list names whose catalogue has a message.
-ghost use Rattle.std.specs.Prelude.{◌≡◌, ◌<◌, ◌++◌, false, true, [], ◌∷◌, length, option_map, map, MatchOption, IfSome};
+ghost use Rattle.std.specs.Prelude.{◌≡◌, ◌<◌, false, true, [], ◌∷◌, length, option_map, map, find, None, MatchOption};
+ghost use Rattle.std.specs.Prelude.{IfSome};
 ghost use Rattle.std.specs.List.{before_first, list_any};
 ghost use Rattle.catalogue.specs.Entry.{key_bytes};
 ghost use Rattle.catalogue.specs.Value.{IsFirstForm, IsMapFormFor, text_by};
 ghost use Rattle.live_set.specs.Languages.{is_colon, is_underscore, has_only_territory, translates, language_behind};
 ghost use Rattle.live_set.specs.Languages.{locales_of, named};
+ghost use Rattle.live_set.specs.Asks.{has_key};
+ghost use Rattle.live_set.specs.Names.{IsName};
 ghost use Rattle.live_set.specs.Sets.{map_in};
 ghost use Rattle.live_set.specs.FirstFound.{IsFoundIn, IsCutAt};
 
@@ -56,16 +59,15 @@ fn is_translated(member: &str) -> bool
     member != "C" && member != "POSIX"
 }
 
-/// Whether a list is more than one member.
+/// Whether a list has more than one member.
 fn has_colon(languages: &str) -> bool
     ensures { result ≡ list_any is_colon languages.now }
 {
     languages.bytes().any(|byte| byte == b':')
 }
 
-/// The first member that counts of a list with colons, and the list behind it.
-#[inline(never)]
-fn first_of_several(languages: &str) -> Option<(&str, &str)>
+/// The first member of a list that counts, and the list behind it.
+fn first_member(languages: &str) -> Option<(&str, &str)>
     ensures cut { IsCutAt languages.now result }
     ensures shorter { IfSome result (λ cut. length cut.1.now < length languages.now) }
 {
@@ -84,25 +86,6 @@ fn first_of_several(languages: &str) -> Option<(&str, &str)>
     }
 }
 
-/// The first member of a list that counts, and the list behind it. Most lists are one member, so that comes first.
-#[inline(always)]
-fn first_member(languages: &str) -> Option<(&str, &str)>
-    ensures cut { IsCutAt languages.now result }
-    ensures shorter { IfSome result (λ cut. length cut.1.now < length languages.now) }
-{
-    if has_colon(languages) {
-        return first_of_several(languages);
-    }
-    if languages.is_empty() {
-        return None;
-    }
-    if is_translated(languages) {
-        Some((languages, ""))
-    } else {
-        None
-    }
-}
-
 impl CatalogueSet {
     /// The entry of a message in the catalogue for this domain and locale.
     #[inline(always)]
@@ -113,8 +96,9 @@ impl CatalogueSet {
         context: Option<&str>,
         id: &str,
     ) -> Option<Found<'_>>
-        ensures { IsFoundIn (key_bytes (option_map (λ s. s.now) context.entry) id.now)
+        ensures found { IsFoundIn (key_bytes (option_map (λ s. s.now) context.entry) id.now)
             (map_in self.now.held domain.now locale.now ∷ []) result }
+        ensures name { IfSome result (λ _. IsName locale.now) }
     {
         let catalogue = self.catalogue(domain, locale)?;
         let entry = catalogue.find(context, id)?;
@@ -152,24 +136,26 @@ impl CatalogueSet {
         self.find_by_language(domain, member, context, id)
     }
 
-    /// The same in the first of the locales behind the first one of a list: its first member's language, and those that
-    /// the other members stand for.
+    /// The same in the first of the locales that a list of languages names, where that isn't the whole list.
     #[inline(never)]
-    fn find_behind(
+    fn find_by_members(
         &self,
         domain: &TextKey<'_>,
-        member: &str,
-        others: &str,
+        languages: &str,
         context: Option<&str>,
         id: &str,
     ) -> Option<Found<'_>>
+        requires { translates languages.now ≡ true
+            → find (has_key (key_bytes (option_map (λ s. s.now) context) id.now))
+            (map_in self.now.held domain.now languages.now ∷ []) ≡ None }
         ensures { IsFoundIn (key_bytes (option_map (λ s. s.now) context.entry) id.now)
-            (map (map_in self.now.held domain.now) (language_behind member.now ++ named others.now)) result }
+            (map (map_in self.now.held domain.now) (named languages.now)) result }
     {
-        if let Some(found) = self.find_by_language(domain, member, context, id) {
-            return Some(found);
+        if !has_colon(languages) {
+            let (member, _) = first_member(languages)?;
+            return self.find_by_language(domain, member, context, id);
         }
-        let mut rest = others;
+        let mut rest = languages;
         'members: while let Some((member, others)) = first_member(rest) {
             if let Some(found) = self.find_by_member(domain, member, context, id) {
                 return Some(found);
@@ -179,8 +165,8 @@ impl CatalogueSet {
         None
     }
 
-    /// The same in the first of the locales that a list of languages names. Most messages are found in the first one,
-    /// so the others are looked at elsewhere.
+    /// The same in the first of the locales that a list of languages names. Most lists are one locale, that has the
+    /// message, so the whole list is looked at first: no locale's name has a colon.
     #[inline(always)]
     pub(crate) fn find_by_list(
         &self,
@@ -193,10 +179,11 @@ impl CatalogueSet {
             (map (map_in self.now.held domain.now) (named languages.now)) result }
     {
         let domain = TextKey::new(domain);
-        let (member, others) = first_member(languages)?;
-        if let Some(found) = self.find_in(&domain, member, context, id) {
-            return Some(found);
+        if is_translated(languages) {
+            if let Some(found) = self.find_in(&domain, languages, context, id) {
+                return Some(found);
+            }
         }
-        self.find_behind(&domain, member, others, context, id)
+        self.find_by_members(&domain, languages, context, id)
     }
 }

@@ -1,5 +1,6 @@
 //! Loads: a catalogue for a domain and a locale.
 ghost use Rattle.std.specs.Prelude.{◌≡◌, IfOk};
+ghost use Rattle.live_set.specs.Names.{IsName};
 ghost use Rattle.live_set.specs.Slots.{compared, asked};
 
 use crate::Name;
@@ -54,10 +55,12 @@ impl Load {
         self.locale.key()
     }
 
-    /// The load's catalogue.
+    /// The load's catalogue. Its locale has a name, as each load's.
     pub(crate) fn catalogue(&self) -> &Catalogue
-        ensures { result.now ≡ self.now.map }
+        ensures map { result.now ≡ self.now.map }
+        ensures name { IsName self.now.locale }
     {
+        let _name = self.locale.as_str();
         &*self.catalogue
     }
 

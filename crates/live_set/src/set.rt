@@ -1,6 +1,7 @@
 //! Sets of catalogues.
-ghost use Rattle.std.specs.Prelude.{◌≡◌, MatchResult, IfOk, IfErr, OnOk, OnErr, find, option_map};
+ghost use Rattle.std.specs.Prelude.{◌≡◌, MatchResult, IfOk, IfErr, IfSome, OnOk, OnErr, find, option_map};
 ghost use Rattle.live_set.specs.Loads.{is_for};
+ghost use Rattle.live_set.specs.Names.{IsName};
 ghost use Rattle.live_set.specs.Sets.{no_loads, map_in, HasAbsorbed, absorbed};
 ghost use Rattle.live_set.specs.Asks.{HasAnswer, query_of, Plain, Context, Number, ContextNumber};
 ghost use Rattle.live_set.specs.Slots.{slotted, IsAt, IsGapFor};
@@ -61,8 +62,9 @@ impl CatalogueSet {
 
     /// The catalogue for this domain and locale, if there is one.
     pub(crate) fn catalogue(&self, domain: &TextKey<'_>, locale: &str) -> Option<&Catalogue>
-        ensures { option_map (λ c. c.now) result ≡ option_map (λ l. l.map)
+        ensures map { option_map (λ c. c.now) result ≡ option_map (λ l. l.map)
             (find (is_for domain.now locale.now) self.now.held) }
+        ensures name { IfSome result (λ _. IsName locale.now) }
     {
         match self.slot(domain, &TextKey::new(locale)) {
             Ok(at) => Some(self.held[at].catalogue()),

@@ -1,7 +1,7 @@
 use Rattle.std.proofs.Common.{◌≡◌, ◌≤◌, length}
 use Rattle.std.specs.Str.{IsUtf8}
 use Rattle.live_set.specs.Languages.{members}
-use Rattle.live_set.proofs.languages.first_of_several.Given as goal
+use Rattle.live_set.proofs.languages.first_member.Given as goal
 
 abbrev pub invariant-colons : goal.invariant-colons
 invariant-colons l = (members l.languages ≡ members l.list) × (length l.list ≤ length l.languages) × IsUtf8 l.list
