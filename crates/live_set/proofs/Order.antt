@@ -43,7 +43,8 @@ tied_for domain locale l h =
     (slice_cmp-IsAntisymmetric nat_cmp-IsAntisymmetric l.locale locale parts.0) in
     λ i. d i && e i
 
-pub same_locale : (domain locale : List ℕ) (l : LoadValue) → compared l (asked domain locale) ≡ Equal → l.locale ≡ locale
+pub same_locale : (domain locale : List ℕ) (l : LoadValue) → compared l (asked domain locale) ≡ Equal
+    → l.locale ≡ locale
 same_locale domain locale l h = slice_cmp-IsAntisymmetric nat_cmp-IsAntisymmetric l.locale locale
     (equal_parts (slice_cmp nat_cmp l.locale locale) (slice_cmp nat_cmp l.domain domain) h).0
 
