@@ -55,11 +55,12 @@ impl Load {
         self.locale.key()
     }
 
-    /// The load's catalogue. Its locale has a name, as each load's.
+    /// The load's catalogue. The clause `name` says what is true of each load.
     pub(crate) fn catalogue(&self) -> &Catalogue
         ensures map { result.now ≡ self.now.map }
         ensures name { IsName self.now.locale }
     {
+        // (what is true of every name is known where one is used)
         let _name = self.locale.as_str();
         &*self.catalogue
     }
