@@ -59,7 +59,7 @@ fn is_translated(member: &str) -> bool
     member != "C" && member != "POSIX"
 }
 
-/// Whether a list has more than one member.
+/// Whether a list may have more than one member.
 fn has_colon(languages: &str) -> bool
     ensures { result ≡ list_any is_colon languages.now }
 {
