@@ -20,25 +20,37 @@ fi
 
 makes_refuser 'answers, refused' || exit 0
 
-# each line is that of a case for which memory was refused, or counts the cases of a kind that are as written; where
-# a request for the list itself or for printing was refused, the lines end early
+# each line is that of a case for which memory was refused, or counts the cases of a kind that are as written. No kind
+# is missing from a run that ends with 0; a run that was refused memory for the list itself ends with a fault, and says so.
 told='^line [0-9]+, .*: out of memory$'
 counted='^(expression|rule|format|po): [0-9]+ of [0-9]+ as written$'
-n=0 spoke=0 wrong=
-while refuses $((n + 1)) "$program" crates/answers/data/few > "$room/got" 2> /dev/null; do
+n=0 spoke=0 ended=0 wrong=
+while refuses $((n + 1)) "$program" crates/answers/data/few > "$room/got" 2> "$room/err"; do
   n=$((n + 1))
-  if grep -qE "$told" "$room/got"; then spoke=$((spoke + 1)); fi
+  lacks=$(grep -cE "$told" "$room/got")
+  spoke=$((spoke + lacks))
   wrong=$(grep -vE "$told|$counted" "$room/got" | head -n 1)
   [ -z "$wrong" ] || break
+  if [ "$status" != 0 ]; then
+    ended=$((ended + 1))
+    wrong="status $status, '$(head -c 200 "$room/err")'"
+    grep -qi 'memory' "$room/err" || break
+    wrong=
+  else
+    # so many cases as told are not as written, and no kind is missing
+    wrong=$(awk -v lacks="$lacks" '/as written$/ { kinds++; short += $4 - $2 }
+      END { if (kinds != 4 || short != lacks) print kinds + 0 " kinds, " short " cases not as written, " lacks " told" }' "$room/got")
+    [ -z "$wrong" ] || break
+  fi
 done
 # the last run was refused nothing: each case of the list has the answer that is written
 strays=$(awk '$2 != $4' "$room/got" | head -n 1)
 if [ -n "$wrong" ]; then
-  failed 'answers, refused' "request $n refused: '$wrong'"
+  failed 'answers, refused' "request $n refused: $wrong"
 elif [ -n "$strays" ]; then
   failed 'answers, refused' "with no request refused: '$strays'"
 elif [ "$spoke" = 0 ]; then
   failed 'answers, refused' "of $n requests none was told as want of memory"
 else
-  ok "answers, refused: $n requests in turn, $spoke of them told as want of memory, the others without effect on an answer"
+  ok "answers, refused: $n requests in turn, $spoke told as want of memory, $ended by the program's end, the others without effect"
 fi

@@ -1,7 +1,7 @@
 #!/usr/bin/env bash
-# Scripts of bin/catserve: the stored one, worked cases, devices that fail, and each request for memory refused in
-# turn. A run whose request is refused must say one of `catserve: 6 0`, `7 0`, `8 0` and `9 0`, end with 1 and write
-# nothing, or answer just as the run that nothing is refused.
+# Scripts of bin/catserve: the stored one, worked cases, devices that fail, threads that can't be made, and each request
+# for memory refused in turn. A run whose request is refused must say `catserve: 9 0`, end with 1 and write nothing, or
+# answer just as the run that nothing is refused. A run that is refused threads always does the latter.
 . "$(dirname "$0")/common"
 
 program=${CATSERVE:-bin/catserve}
@@ -41,6 +41,15 @@ is_bad() {
   answers "script, $1" 1 '' "catserve: 3 $3"
 }
 
+hi='msgid "hi"\nmsgstr'
+first="load\tapp\tfr\t-\t2\n$hi \"salut\"\nload\tapp\tde\tc\t2\n$hi \"hallo\"\n"
+first+='ask\t0\tapp\tfr\tgettext\thi\nask\t1\tapp\tde\tgettext\thi\nask\t0\tapp\tsv\tngettext\tfile\tfiles\t2\n'
+second="load\tapp\tfr\t-\t2\n$hi \"bonjour\"\n"
+second+='load\tapp\tfr\t-\t5\nmsgid "a"\nmsgstr "x"\n#, fuzzy\nmsgid "a"\nmsgstr "y"\n'
+second+='ask\t1\tapp\tfr\tgettext\thi\nask\t0\tapp\tfr\tpgettext\tmenu\thi\n'
+answered='accepted\t1\t0\t0\naccepted\t1\t0\t0\nversion\t2\n0\t2\tsalut\n0\t2\tfiles\n1\t2\thallo\n'
+is_answered 'PO texts in two rounds' "${first}go\n$second" \
+  "${answered}accepted\t1\t0\t0\nrefused\t9\t4\nversion\t3\n0\t3\thi\n1\t3\tbonjour\n"
 is_answered 'empty' '' ''
 is_answered 'a comment and an empty line' '\n# none\n' ''
 is_answered 'a round of nothing' 'go' 'version\t0\n'
@@ -72,6 +81,38 @@ is_bad 'the first of two bad lines' 'go\n# x\n\nload\tapp\tfr\t-\t1\nstop\ngo\tx
 printf 'go\n\377' > "$room/in"
 answers 'script, not UTF-8' 1 '' 'catserve: 2 0'
 
+# MO files, as GNU msgfmt writes them of `hi` = `salut`: the seven words of the header, the two tables, the strings
+file='de120495 00000000 01000000 1c000000 24000000 00000000 2c000000'
+file="$file 02000000 2c000000  05000000 2f000000  686900 73616c757400"
+file=${file// /}
+# the same in the other byte order
+swapped='950412de 00000000 00000001 0000001c 00000024 00000000 0000002c'
+swapped="$swapped 00000002 0000002c  00000005 0000002f  686900 73616c757400"
+swapped=${swapped// /}
+is_answered 'an MO file' "loadmo\tapp\tfr\t$file\nask\t0\tapp\tfr\tgettext\thi\n" 'accepted-mo\t1\nversion\t1\n0\t1\tsalut\n'
+is_answered 'an MO file and no more' "loadmo\tapp\tfr\t$file" 'accepted-mo\t1\nversion\t1\n'
+is_answered 'an MO file in upper-case digits' "loadmo\tapp\tfr\t${file^^}\nask\t0\tapp\tfr\tgettext\thi\n" \
+  'accepted-mo\t1\nversion\t1\n0\t1\tsalut\n'
+is_answered 'an MO file in the other byte order' "loadmo\tapp\tfr\t$swapped\nask\t0\tapp\tfr\tgettext\thi\n" \
+  'accepted-mo\t1\nversion\t1\n0\t1\tsalut\n'
+is_answered 'an MO file of no bytes' 'loadmo\tapp\tfr\t\n' 'refused-mo\t2\nversion\t0\n'
+is_answered 'an MO file of one byte' 'loadmo\tapp\tfr\tde\n' 'refused-mo\t2\nversion\t0\n'
+is_answered 'an MO file that is cut' "loadmo\tapp\tfr\t${file%00}\n" 'refused-mo\t5\nversion\t0\n'
+is_answered 'an MO file for no domain' "loadmo\ta/b\tfr\t$file\n" 'refused\tname\nversion\t0\n'
+is_answered 'an MO file for no locale' "loadmo\tapp\t\t$file\n" 'refused\tname\nversion\t0\n'
+is_answered 'no MO file for no name' 'loadmo\ta b\tfr\tde\n' 'refused\tname\nversion\t0\n'
+text='load\tapp\tfr\t-\t2\nmsgid "hi"\nmsgstr "bonjour"\n'
+is_answered 'an MO file behind a text' "${text}loadmo\tapp\tfr\t$file\nask\t1\tapp\tfr\tgettext\thi\n" \
+  'accepted\t1\t0\t0\naccepted-mo\t1\nversion\t2\n1\t2\tsalut\n'
+is_answered 'a text behind an MO file' "loadmo\tapp\tfr\t$file\n${text}ask\t1\tapp\tfr\tgettext\thi\n" \
+  'accepted-mo\t1\naccepted\t1\t0\t0\nversion\t2\n1\t2\tbonjour\n'
+is_bad 'one digit' 'loadmo\tapp\tfr\td\n' 1
+is_bad 'an odd number of digits' "go\nloadmo\tapp\tfr\t${file}0\n" 2
+is_bad 'letters that are no digits' 'loadmo\tapp\tfr\tzz\n' 1
+is_bad 'digits with a space' 'loadmo\tapp\tfr\tde 12\n' 1
+is_bad 'an MO file without digits' 'loadmo\tapp\tfr\n' 1
+is_bad 'an MO file with a fifth field' "loadmo\tapp\tfr\t$file\t\n" 1
+
 # workers
 is_answered 'three workers, in turn' 'workers\t3\nask\t2\tapp\tfr\tgettext\thi\nask\t0\tapp\tfr\tgettext\tyes\n' \
   'version\t0\n0\t0\tyes\n2\t0\thi\n'
@@ -86,6 +127,7 @@ is_bad 'workers without a count' 'workers\n' 1
 is_bad 'workers with a second count' 'workers\t2\t2\n' 1
 is_bad 'workers behind a round' 'go\nworkers\t2\n' 2
 is_bad 'workers behind a load' 'load\tapp\tfr\t-\t0\nworkers\t2\n' 2
+is_bad 'workers behind an MO file' 'loadmo\tapp\tfr\t\nworkers\t2\n' 2
 is_bad 'workers behind a question' 'ask\t0\ta\tb\tgettext\tx\nworkers\t2\n' 2
 is_bad 'workers twice' 'workers\t2\nworkers\t2\n' 2
 is_bad 'the third of two workers' 'workers\t2\nask\t2\ta\tb\tgettext\tx\n' 2
@@ -114,10 +156,47 @@ else
   ok 'script, a writer that fails'
 fi
 
+# is_run_without_threads FROM SCRIPT OUTPUT: runs the program on SCRIPT, and refuses it the thread with this number and
+# all later ones. It must write OUTPUT as ever. False where the program asked for fewer threads.
+is_run_without_threads() {
+  local name="script, $(basename "$2"), no thread from $1 on"
+  rm -f "$room/refused"
+  timeout 20 env REFUSE_FROM="$1" REFUSED="$room/refused" LD_PRELOAD="$room/refuse_threads.so" "$program" \
+    < "$2" > "$room/out" 2> "$room/err"
+  local status=$?
+  if [ $status != 0 ] || [ -s "$room/err" ] || ! cmp -s "$room/out" "$3"; then
+    failed "$name" "status $status, $(wc -c < "$room/out") bytes, '$(cat "$room/err")'"
+  elif [ -e "$room/refused" ]; then
+    ok "$name"
+  fi
+  [ -e "$room/refused" ]
+}
+
+# are_run_without_threads THREADS SCRIPT OUTPUT: the same from each thread on, of which the program asks for so many
+are_run_without_threads() {
+  local n=0
+  while is_run_without_threads $((n + 1)) "$2" "$3"; do n=$((n + 1)); done
+  [ $n = "$1" ] || failed "script, $(basename "$2"), no threads" "it asked for $n, and not for $1"
+}
+
+if makes_library refuse_threads 'script, no threads'; then
+  # (each round answers the last of its workers in the thread that it has)
+  are_run_without_threads 2 $stored/stdin $stored/stdout
+  {
+    printf 'workers\t16\n'
+    printf 'ask\t%d\tapp\tfr\tgettext\thi\n' $(seq 0 15)
+  } > "$room/sixteen workers"
+  {
+    printf 'version\t0\n'
+    printf '%d\t0\thi\n' $(seq 0 15)
+  } > "$room/wanted"
+  are_run_without_threads 15 "$room/sixteen workers" "$room/wanted"
+fi
+
 makes_refuser 'script, memory' || exit 0
 
-# is_refused: the run on $stored/stdin says that something was refused, and wrote nothing
-is_refused() { [ "$1" = 1 ] && [ ! -s "$room/out" ] && grep -qxE 'catserve: [6789] 0' "$room/err"; }
+# is_refused: the run on $stored/stdin says that memory was refused, and wrote nothing
+is_refused() { [ "$1" = 1 ] && [ ! -s "$room/out" ] && [ "$(cat "$room/err")" = 'catserve: 9 0' ]; }
 
 n=0 spoke=0 name='script, memory'
 while refuses $((n + 1)) "$program" < $stored/stdin > "$room/out" 2> "$room/err"; do

@@ -19,7 +19,9 @@ import sys
 lines = sys.stdin.read().split('\n')[:-1]
 may_refuse = int(sys.argv[1])
 steps = [('load', 'fr', 'salut'), ('load', 'de', 'hallo'), ('publish',), ('enter',), ('publish',), ('enter',),
-         ('ask',), ('load', 'fr', None), ('publish',), ('load', 'sv', 'salut'), ('publish',), ('enter',)]
+         ('ask',), ('load', 'fr', None), ('publish',), ('load', 'sv', 'salut'), ('publish',), ('enter',),
+         ('load_mo', 'sv', 'hej'), ('load_mo', 'sv', None), ('publish',), ('enter',)]
+OWN = {'load': ('1 translated', 'Duplicate at 4'), 'load_mo': ('2 entries', 'Bounds')}
 pending, published, refused, at = [], [], 0, 0
 
 
@@ -52,9 +54,9 @@ def state():
 if may_refuse and lines in (['open: out of memory'], ['open: no place for a reader']):
     sys.exit(0)
 for step in steps:
-    if step[0] == 'load':
-        own = '1 translated' if step[2] else 'Duplicate at 4'
-        if take(f'load {step[1]}: {own}', f'load {step[1]}: Memory') and step[2]:
+    if step[0] in OWN:
+        own = OWN[step[0]][0 if step[2] else 1]
+        if take(f'{step[0]} {step[1]}: {own}', f'{step[0]} {step[1]}: Memory') and step[2]:
             pending.append(step[1:])
         state()
     elif step[0] == 'publish':
@@ -93,19 +95,27 @@ load sv: 1 translated
 publish: 3
   pending 0, version 3
 enter: 3 salut hallo salut
+load_mo sv: 2 entries
+  pending 1, version 3
+load_mo sv: Bounds
+  pending 1, version 3
+publish: 4
+  pending 0, version 4
+enter: 4 salut hallo hej
 END
 
 is_as_worked_out store
 makes_refuser 'store, refused' || exit 0
 
-loads=0 publishes=0
+loads=0 files=0 publishes=0
 told() {
   ! grep -q '^load .*: Memory$' "$room/got" || loads=$((loads + 1))
+  ! grep -q '^load_mo .*: Memory$' "$room/got" || files=$((files + 1))
   ! grep -q '^publish: Memory$' "$room/got" || publishes=$((publishes + 1))
 }
 follows_refused 'store, refused' || exit 0
-if [ "$loads" = 0 ] || [ "$publishes" = 0 ]; then
-  failed 'store, refused' "of $n requests $loads were told by a load and $publishes by a publish"
+if [ "$loads" = 0 ] || [ "$files" = 0 ] || [ "$publishes" = 0 ]; then
+  failed 'store, refused' "of $n requests $loads were told by a load of a text, $files by one of a file and $publishes by a publish"
 else
-  ok "store, refused: $n requests in turn, $loads of them told by a load, $publishes by a publish; what came after went on"
+  ok "store, refused: $n requests in turn, $loads of them told by a load of a text, $files by one of a file, $publishes by a publish; what came after went on"
 fi

@@ -14,7 +14,7 @@ static double now(void) {
 }
 
 int main(int argc, char **argv) {
-    printf("    bytes   ms to read     MB/s   ms to write     MB/s\n");
+    printf("file                bytes   ms to read     MB/s   ms to write     MB/s\n");
     for (int i = 2; i < argc; i++) {
         int turns = atoi(argv[1]);
         FILE *f = fopen(argv[i], "rb");
@@ -46,7 +46,7 @@ int main(int argc, char **argv) {
             fprintf(stderr, "%s: not read\n", argv[i]);
             return 1;
         }
-        printf("%9zu %12.1f %8.0f %13.2f %8.0f\n", len, read / 1e6, len * 1e3 / read, written / 1e6, bytes / 4 * 1e3 / written);
+        printf("%-15s %9zu %12.1f %8.0f %13.2f %8.0f\n", argv[i], len, read / 1e6, len * 1e3 / read, written / 1e6, bytes / 4 * 1e3 / written);
         fflush(stdout);
         free(file);
     }

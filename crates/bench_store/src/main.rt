@@ -1,17 +1,20 @@
 //! Times a live store: entries, alone and of many readers beside a publisher; queries in one thread and in four, and by
-//! lists of languages; `serve` on 1 to 16 desks, alone and beside jobs; publishes beside many catalogues. The first
-//! word says how many messages each of 20 languages has (500 without a word), the second how often is published (100).
+//! lists of languages; `serve` on 1 to 16 desks, alone and beside jobs; publishes beside many catalogues; loads of a PO
+//! text and of its MO file. The first word says how many messages each of 20 languages has (500 without a word), the
+//! second how often is published (100).
 //! Standard output has what went wrong, the same each time; standard error has the times by the clock.
 #![tactic(auto)]
 
 mod languages;
 mod lists;
+mod loads;
 mod messages;
 mod readers;
 mod serving;
 
 use crate::languages::publish_languages;
 use crate::lists::time_lists;
+use crate::loads::time_loads;
 use crate::messages::{LANGUAGES, PLAIN, locale_of, po_text, queries};
 use crate::readers::{ask_all, ask_each, enter_many, enter_until, keep_all, look_all};
 use crate::serving::time_serve;
@@ -371,5 +374,6 @@ fn main(rt: HostRuntime) -> io::Result<()> {
     }
     time_lists(&rt, messages)?;
     time_serve(&rt, messages)?;
-    time_publishes(&rt)
+    time_publishes(&rt)?;
+    time_loads(&rt)
 }

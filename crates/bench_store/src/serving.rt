@@ -4,7 +4,7 @@ ghost use Rattle.std.specs.Prelude.{◌≡◌, ◌≤◌, All, IfOk, vec_len};
 use crate::languages::publish_languages;
 use crate::messages::{LANGUAGES, PLAIN, locale_of, po_text, queries};
 use crate::readers::is_answer;
-use desks::{Answer, Desk, Gate, Job, Place, serve};
+use desks::{Answer, Desk, Gate, Job, Place, Source, serve};
 use live_set::Query;
 use live_versions::{Lookups, Publisher, open_store};
 use std::alloc::{AllocError, Global};
@@ -39,8 +39,10 @@ fn jobs_of(alloc: Global, count: u32) -> Result<Vec<Job>, AllocError> {
         jobs.push(Job {
             domain: String::from_str(alloc, "app")?,
             locale: locale_of(alloc, language)?,
-            bytes: po_text(alloc, language, JOB_MESSAGES)?.into_bytes(),
-            options: PLAIN,
+            source: Source::Po {
+                bytes: po_text(alloc, language, JOB_MESSAGES)?.into_bytes(),
+                options: PLAIN,
+            },
         })?;
     }
     Ok(jobs)

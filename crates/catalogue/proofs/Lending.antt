@@ -21,7 +21,7 @@ use Rattle.catalogue.specs.Spans.{HoldsKept, Holds, HoldsAll, HasGathered}
 use Rattle.po_checks.specs.declared.findings.Findings.{Findings}
 use Rattle.po_checks.specs.declared.options.Options.{Options}
 use Rattle.catalogue.specs.declared.drafts.Draft.{Draft}
-use Rattle.catalogue.specs.declared.spans.Span.{Span}
+use Rattle.catalogue.specs.Spans.{SpanValue}
 use Rattle.mo_image.proofs.Originals.{key_utf8, translation_utf8}
 
 -- ---- an outline in front
@@ -175,12 +175,13 @@ holds_all o k (e ∷ es) text is lawful =
 
 -- ---- the pool of a text
 
-pub may_lend : (text : List ℕ) (o : Options) (texts : List ℕ) (spans : List Span) (found : Findings)
+pub may_lend : (text : List ℕ) (o : Options) (texts : List ℕ) (spans : List SpanValue) (found : Findings)
     → HasGathered text o texts spans found → HoldsAll texts spans
 may_lend text o texts spans found h = subst (HoldsAll texts) (sym h.texts_are.spans_are)
     (holds_all o 0 h.entries texts h.texts_are.texts_are h.lawful)
 
-pub lent : (text : List ℕ) (o : Options) (texts : List ℕ) (spans : List Span) (found : Findings) (drafts : List Draft)
+pub lent : (text : List ℕ) (o : Options) (texts : List ℕ) (spans : List SpanValue) (found : Findings)
+    (drafts : List Draft)
     → HasGathered text o texts spans found → outlines drafts ≡ outlines_at 0 texts spans
     → HasCollected text o drafts found
 lent text o texts spans found drafts h rows_are = record {
@@ -195,11 +196,12 @@ lent text o texts spans found drafts h rows_are = record {
 -- ---- one outline after another is lent
 
 -- the drafts so far, and the outlines in what is left, are the outlines of the pool
-pub record Lends (drafts : List Draft) (number : ℕ) (rest : List ℕ) (texts : List ℕ) (spans : List Span) : Type 0 where
+pub record Lends (drafts : List Draft) (number : ℕ) (rest : List ℕ) (texts : List ℕ) (spans : List SpanValue) :
+    Type 0 where
   pub rows_are : outlines drafts ++ outlines_at number rest (drop number spans) ≡ outlines_at 0 texts spans
   pub left : HoldsAll rest (drop number spans)
 
-pub lends_none : (drafts : List Draft) (texts : List ℕ) (spans : List Span) → drafts ≡ [] → HoldsAll texts spans
+pub lends_none : (drafts : List Draft) (texts : List ℕ) (spans : List SpanValue) → drafts ≡ [] → HoldsAll texts spans
     → Lends drafts 0 texts texts spans
 lends_none drafts texts spans none holds = record {
   rows_are = ap
@@ -207,19 +209,21 @@ lends_none drafts texts spans none holds = record {
   left = holds;
 }
 
-next_span : (spans : List Span) (i : ℕ) (s : Span) → slice_get spans i ≡ Some s → drop i spans ≡ s ∷ drop (i + 1) spans
+next_span : (spans : List SpanValue) (i : ℕ) (s : SpanValue) → slice_get spans i ≡ Some s
+    → drop i spans ≡ s ∷ drop (i + 1) spans
 next_span spans i s at =
     let more : suc i ≡ i + 1 = omega arith in
-    drop-cons spans i s (slice_get_within spans i s at) ∙ ap (λ (x : Span). x ∷ drop (suc i) spans)
+    drop-cons spans i s (slice_get_within spans i s at) ∙ ap (λ (x : SpanValue). x ∷ drop (suc i) spans)
     (get_or_from_slice_get spans i s s at) ∙ ap (λ n. s ∷ drop n spans) more
 
-pub holds_next : (drafts : List Draft) (i : ℕ) (rest texts : List ℕ) (spans : List Span) (s : Span)
+pub holds_next : (drafts : List Draft) (i : ℕ) (rest texts : List ℕ) (spans : List SpanValue) (s : SpanValue)
     → Lends drafts i rest texts spans → slice_get spans i ≡ Some s → Holds rest s
 holds_next drafts i rest texts spans s l at = (subst (HoldsAll rest) (next_span spans i s at) l.left).0
 
-pub lends_more : (drafts longer : List Draft) (i : ℕ) (rest behind texts : List ℕ) (spans : List Span) (s : Span)
-    (d : Draft) → Lends drafts i rest texts spans → slice_get spans i ≡ Some s → outline d ≡ outline_at i rest s
-    → behind ≡ drop (size s) rest → longer ≡ drafts ++ d ∷ [] → Lends longer (i + 1) behind texts spans
+pub lends_more : (drafts longer : List Draft) (i : ℕ) (rest behind texts : List ℕ) (spans : List SpanValue)
+    (s : SpanValue) (d : Draft) → Lends drafts i rest texts spans → slice_get spans i ≡ Some s
+    → outline d ≡ outline_at i rest s → behind ≡ drop (size s) rest → longer ≡ drafts ++ d ∷ []
+    → Lends longer (i + 1) behind texts spans
 lends_more drafts longer i rest behind texts spans s d l at row_is left pushed =
     let next = next_span spans i s at in
     let rs = outlines_at (i + 1) (drop (size s) rest) (drop (i + 1) spans) in
@@ -228,14 +232,15 @@ lends_more drafts longer i rest behind texts spans s d l at row_is left pushed =
     record {
       rows_are = ap (λ (t : List ℕ). outlines longer ++ outlines_at (i + 1) t (drop (i + 1) spans)) left
           ∙ ap (λ (x : List Outline). x ++ rs) grown ∙ append_assoc (outlines drafts) (outline_at i rest s ∷ []) rs
-          ∙ sym (ap (λ (ss : List Span). outlines drafts ++ outlines_at i rest ss) next) ∙ l.rows_are;
+          ∙ sym (ap (λ (ss : List SpanValue). outlines drafts ++ outlines_at i rest ss) next) ∙ l.rows_are;
       left = subst (λ (t : List ℕ). HoldsAll t (drop (i + 1) spans)) (sym left) (subst (HoldsAll rest) next l.left).1;
     }
 
-pub lends_all : (drafts : List Draft) (i : ℕ) (rest texts : List ℕ) (spans : List Span)
+pub lends_all : (drafts : List Draft) (i : ℕ) (rest texts : List ℕ) (spans : List SpanValue)
     → Lends drafts i rest texts spans → length spans ≤ i → outlines drafts ≡ outlines_at 0 texts spans
 lends_all drafts i rest texts spans l all = sym (append-nil (outlines drafts))
-    ∙ sym (ap (λ (ss : List Span). outlines drafts ++ outlines_at i rest ss) (drop_of_length-le spans all)) ∙ l.rows_are
+    ∙ sym (ap (λ (ss : List SpanValue). outlines drafts ++ outlines_at i rest ss) (drop_of_length-le spans all))
+    ∙ l.rows_are
 
 -- ---- where a text is cut
 

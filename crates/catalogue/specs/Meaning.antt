@@ -1,5 +1,5 @@
 -- What a PO text means to the compiler: a catalogue with its counts, or a refusal (manual, "msgfmt Invocation").
-use Rattle.std.specs.Prelude.{◌≡◌, ℕ, ◌&&◌, not, is_none, Bool, if◌then◌else◌, false, List, [], ◌∷◌, map, All, Contains}
+use Rattle.std.specs.Prelude.{◌≡◌, ℕ, ◌&&◌, not, Bool, if◌then◌else◌, false, List, [], ◌∷◌, map, All, Contains}
 use Rattle.std.specs.Prelude.{Option, Some, None}
 use Rattle.std.specs.List.{filter, count_by}
 use Rattle.po_text.specs.Entries as po

@@ -9,8 +9,25 @@ use Rattle.catalogue.specs.Drafts.{Kept, Outline, outlines_from, IsLawfulMessage
 use Rattle.po_checks.specs.Found.{HasFound}
 use Rattle.po_checks.specs.declared.findings.Findings.{Findings}
 use Rattle.po_checks.specs.declared.options.Options.{Options}
+use Rattle.catalogue.specs.declared.drafts.Standing.{Standing}
 use Rattle.catalogue.specs.declared.spans.KeptSpan.{KeptSpan}
-use Rattle.catalogue.specs.declared.spans.Span.{Span}
+use Rattle.catalogue.specs.declared.spans.Share.{Share}
+use Rattle.catalogue.specs.declared.spans.Share.TheVariants.{Dropped, Plain, Plural}
+
+-- ---- the lengths of an entry's texts
+
+-- how long the texts of an entry are, and how it stands in the text that was read
+pub record SpanValue : Type 0 where
+  pub key : ℕ
+  pub kept : Option KeptSpan
+  pub line : ℕ
+  pub standing : Standing
+
+-- what is kept of an entry, by its share and its lengths
+abbrev pub kept_by : Share → ℕ → ℕ → Option KeptSpan
+kept_by Dropped plural translation = None
+kept_by Plain plural translation = Some (record { plural = None; translation = translation })
+kept_by Plural plural translation = Some (record { plural = Some plural; translation = translation })
 
 -- ---- what the texts have of an outline, and how long it is
 
@@ -31,7 +48,7 @@ stored r = r.key ++ bytes_if_kept r.texts
 abbrev pub kept_span : Kept → KeptSpan
 kept_span t = record { plural = option_map length t.0; translation = length t.1 }
 
-abbrev pub span_of : Outline → Span
+abbrev pub span_of : Outline → SpanValue
 span_of r = record { key = length r.key; kept = option_map kept_span r.texts; line = r.line; standing = r.standing }
 
 -- ---- the outline that stands in front, by its span
@@ -47,7 +64,7 @@ abbrev pub size_if_kept : Option KeptSpan → ℕ
 size_if_kept None = 0
 size_if_kept (Some k) = kept_size k
 
-abbrev pub size : Span → ℕ
+abbrev pub size : SpanValue → ℕ
 size s = s.key + size_if_kept s.kept
 
 abbrev pub plural_at : List ℕ → Option ℕ → Option (List ℕ)
@@ -56,7 +73,7 @@ plural_at text plural = option_map (λ n. take n text) plural
 abbrev pub kept_at : List ℕ → KeptSpan → Kept
 kept_at text k = (plural_at text k.plural, take k.translation (drop (plural_size k.plural) text))
 
-abbrev pub outline_at : ℕ → List ℕ → Span → Outline
+abbrev pub outline_at : ℕ → List ℕ → SpanValue → Outline
 outline_at number text s = record {
   number = number;
   line = s.line;
@@ -65,7 +82,7 @@ outline_at number text s = record {
   texts = option_map (kept_at (drop s.key text)) s.kept;
 }
 
-abbrev pub outlines_at : ℕ → List ℕ → List Span → List Outline
+abbrev pub outlines_at : ℕ → List ℕ → List SpanValue → List Outline
 outlines_at number text [] = []
 outlines_at number text (s ∷ spans) = outline_at number text s ∷ outlines_at (number + 1) (drop (size s) text) spans
 
@@ -83,24 +100,24 @@ pub record HoldsKept (text : List ℕ) (k : KeptSpan) : Type 0 where
   pub plural : HoldsPlural text k.plural
   pub translation : HoldsText (drop (plural_size k.plural) text) k.translation
 
-pub record Holds (text : List ℕ) (s : Span) : Type 0 where
+pub record Holds (text : List ℕ) (s : SpanValue) : Type 0 where
   pub key : HoldsText text s.key
   pub kept : IfSome s.kept (HoldsKept (drop s.key text))
 
-abbrev pub HoldsAll : List ℕ → List Span → Type 0
+abbrev pub HoldsAll : List ℕ → List SpanValue → Type 0
 HoldsAll text [] = ⊤
 HoldsAll text (s ∷ spans) = Holds text s × HoldsAll (drop (size s) text) spans
 
 -- ---- the texts of a whole PO text
 
 -- the texts are those of these outlines, and nothing else
-pub record AreTextsOf (texts : List ℕ) (spans : List Span) (rs : List Outline) : Type 0 where
+pub record AreTextsOf (texts : List ℕ) (spans : List SpanValue) (rs : List Outline) : Type 0 where
   pub texts_are : texts ≡ flat_map stored rs
   pub spans_are : spans ≡ map span_of rs
 
 -- the texts, their spans and the findings are those of the entries that the text gives
-pub record HasGathered (text : List ℕ) (options : Options) (texts : List ℕ) (spans : List Span) (findings : Findings) :
-    Type 0 where
+pub record HasGathered (text : List ℕ) (options : Options) (texts : List ℕ) (spans : List SpanValue)
+    (findings : Findings) : Type 0 where
   pub entries : List po.Entry
   pub gives : Gives text entries
   pub texts_are : AreTextsOf texts spans (outlines_from options 0 entries)

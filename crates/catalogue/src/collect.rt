@@ -107,12 +107,9 @@ fn add_entry(texts: &mut String, entry: &EntryBuffer, options: Options) -> Resul
         ++ stored (outline_of options 0 entry.now)) }
     ensures span { IfOk result (λ span. span ≡ span_of (outline_of options 0 entry.now)) }
 {
-    Ok(Span {
-        key: add_key(texts, entry)?,
-        kept: add_if_kept(texts, entry, options)?,
-        line: entry.line(),
-        standing: standing_of(entry),
-    })
+    let key = add_key(texts, entry)?;
+    let kept = add_if_kept(texts, entry, options)?;
+    Ok(Span::new(key, kept, entry.line(), standing_of(entry)))
 }
 
 /// What was read of a text.

@@ -91,7 +91,7 @@ impl Catalogue {
     /// comparison of keys instead of a search by halves, for some 40 bytes an entry. The entries stay as
     /// they are. Answers AllocError where memory is refused, and nothing is changed then.
     ///
-    /// Where two keys have one hash, of 64 bits, there is no index, and look-ups go on by halves.
+    /// Look-ups of keys that share a hash, of 64 bits, go on by halves.
     pub fn index(&mut self, alloc: Global) -> Result<(), AllocError>
         ensures { self.new ≡ self.old }
     {

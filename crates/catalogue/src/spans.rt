@@ -6,6 +6,7 @@ ghost use Rattle.catalogue.specs.Spans.{Holds, HoldsAll, HoldsKept, HoldsPlural}
 
 use crate::drafts::{Draft, Standing, Texts};
 use std::alloc::{AllocError, Global};
+use std::marker::Model;
 use text_key::TextKey;
 
 /// How long the texts are that are kept of an entry beside its key.
@@ -16,15 +17,99 @@ pub(crate) struct KeptSpan {
     pub(crate) translation: usize,
 }
 
-/// How long the texts of an entry are, and how it stands in the text that was read.
+/// What is kept of an entry beside its key.
 #[derive(Clone, Copy)]
+enum Share {
+    /// Nothing.
+    Dropped,
+    /// Its form.
+    Plain,
+    /// Its plural and its forms.
+    Plural,
+}
+
+/// How long the texts of an entry are, and how it stands in the text that was read. A large text has millions of them,
+/// so it is packed: contracts see the lengths of what is kept as an option.
+#[derive(Drop)]
 pub(crate) struct Span {
-    /// The number of bytes of its key.
-    pub(crate) key: usize,
-    /// None for an entry that isn't kept.
-    pub(crate) kept: Option<KeptSpan>,
-    pub(crate) line: u32,
-    pub(crate) standing: Standing,
+    key: usize,
+    plural: usize,
+    translation: usize,
+    line: u32,
+    share: Share,
+    standing: Standing,
+}
+
+impl Model for Span {
+    ghost use Rattle.catalogue.specs.Spans.{SpanValue, kept_by};
+
+    ghost Value = { SpanValue };
+
+    ghost view = { λ s. record {
+        key = s.key; kept = kept_by s.share s.plural s.translation; line = s.line; standing = s.standing } };
+}
+
+impl Span {
+    /// The span of an entry with this key; `kept` is None for one that isn't kept.
+    pub(crate) fn new(key: usize, kept: Option<KeptSpan>, line: u32, standing: Standing) -> Span
+        ensures { result ≡ record { key = key; kept = kept; line = line; standing = standing } }
+    {
+        let (share, plural, translation) = match kept {
+            None => (Share::Dropped, 0, 0),
+            Some(KeptSpan {
+                plural: None,
+                translation,
+            }) => (Share::Plain, 0, translation),
+            Some(KeptSpan {
+                plural: Some(plural),
+                translation,
+            }) => (Share::Plural, plural, translation),
+        };
+        Span {
+            key,
+            plural,
+            translation,
+            line,
+            share,
+            standing,
+        }
+    }
+
+    /// The number of bytes of the key.
+    fn key(&self) -> usize
+        ensures { result ≡ self.now.key }
+    {
+        self.key
+    }
+
+    /// The lengths of what is kept; None for an entry that isn't.
+    fn kept(&self) -> Option<KeptSpan>
+        ensures { result ≡ self.now.kept }
+    {
+        let (plural, translation) = match self.share {
+            Share::Dropped => return None,
+            Share::Plain => (None, self.translation),
+            Share::Plural => (Some(self.plural), self.translation),
+        };
+        Some(KeptSpan {
+            plural,
+            translation,
+        })
+    }
+
+    /// The line of the text on which the entry begins.
+    fn line(&self) -> u32
+        ensures { result ≡ self.now.line }
+    {
+        self.line
+    }
+
+    /// How the entry counts in the statistics.
+    fn standing(&self) -> Standing
+        ensures { result ≡ self.now.standing }
+    {
+        self.standing
+    }
 }
 
 /// The plural, if there is one, and what is behind it.
@@ -65,10 +150,10 @@ fn lend_entry<'a>(texts: &'a str, number: usize, span: &Span) -> (Draft<'a>, &'a
     ensures draft { outline result.0 ≡ outline_at number texts.now span.now }
     ensures behind { result.1.now ≡ drop (size span.now) texts.now }
 {
-    let (key, behind) = texts.split_at(span.key);
-    let (texts, behind) = match &span.kept {
+    let (key, behind) = texts.split_at(span.key());
+    let (texts, behind) = match span.kept() {
         Some(kept) => {
-            let (texts, behind) = lend_kept(behind, kept);
+            let (texts, behind) = lend_kept(behind, &kept);
             (Some(texts), behind)
         }
         None => (None, behind),
@@ -76,8 +161,8 @@ fn lend_entry<'a>(texts: &'a str, number: usize, span: &Span) -> (Draft<'a>, &'a
     let draft = Draft {
         key: TextKey::new(key),
         number,
-        line: span.line,
-        standing: span.standing,
+        line: span.line(),
+        standing: span.standing(),
         texts,
     };
     (draft, behind)

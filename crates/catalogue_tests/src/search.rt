@@ -140,6 +140,45 @@ fn finds_contexts_by_an_index(rt: HostRuntime) -> Result<(), Fail> {
     Ok(())
 }
 
+/// The hash function's seed is fixed, so keys can be picked that have one hash: in the context `euf` the first eight
+/// bytes of these msgids make nought of what it multiplies them by, and their last sixteen are alike.
+const ONE_HASH: [&str; 4] = [
+    "EZ1T{u9^aaaaaaaathe same end of.",
+    "EZ1T{u9^bbbbbbbbthe same end of.",
+    "EZ1T{u9^ccccccccthe same end of.",
+    "EZ1T{u9^ddddddddthe same end of.",
+];
+
+/// Whether the first three of these keys are found, and the fourth isn't; and others are that differ from one another
+/// in where the context ends, or in whether there is one.
+fn tells_hashes_apart(catalogue: &Catalogue) -> bool {
+    catalogue.pgettext("euf", ONE_HASH[0]) == "1"
+        && catalogue.pgettext("euf", ONE_HASH[1]) == "2"
+        && catalogue.pgettext("euf", ONE_HASH[2]) == "3"
+        && catalogue.pgettext("euf", ONE_HASH[3]) == ONE_HASH[3]
+        && catalogue.gettext(ONE_HASH[0]) == ONE_HASH[0]
+        && catalogue.pgettext("ab", "c") == "4"
+        && catalogue.pgettext("a", "bc") == "5"
+        && catalogue.pgettext("", "abc") == "6"
+        && catalogue.gettext("abc") == "7"
+}
+
+#[test]
+fn finds_keys_of_one_hash(rt: HostRuntime) -> Result<(), Fail> {
+    let text = "msgctxt \"euf\"\nmsgid \"EZ1T{u9^aaaaaaaathe same end of.\"\nmsgstr \"1\"\n\
+        msgctxt \"euf\"\nmsgid \"EZ1T{u9^bbbbbbbbthe same end of.\"\nmsgstr \"2\"\n\
+        msgctxt \"euf\"\nmsgid \"EZ1T{u9^ccccccccthe same end of.\"\nmsgstr \"3\"\n\
+        msgctxt \"ab\"\nmsgid \"c\"\nmsgstr \"4\"\n\
+        msgctxt \"a\"\nmsgid \"bc\"\nmsgstr \"5\"\n\
+        msgctxt \"\"\nmsgid \"abc\"\nmsgstr \"6\"\n\
+        msgid \"abc\"\nmsgstr \"7\"\n";
+    let mut compiled = compile(rt.alloc(), text.as_bytes(), PLAIN)?;
+    assert!(rt; tells_hashes_apart(&compiled.catalogue));
+    compiled.catalogue.index(rt.alloc())?;
+    assert!(rt; tells_hashes_apart(&compiled.catalogue));
+    Ok(())
+}
+
 fn finds_nothing(catalogue: &Catalogue) -> bool {
     catalogue.is_empty()
         && catalogue.find(None, "").is_none()

@@ -1,13 +1,9 @@
 -- Batches behind one another, and answers one after another.
-use Rattle.std.proofs.Common.{◌≡◌, ◌∙◌, refl, sym, ap, subst, ℕ, List, [], ◌∷◌, ◌++◌, length, arith, append_assoc}
-use Rattle.std.proofs.Common.{length-append}
+use Rattle.std.proofs.Common.{◌≡◌, ◌∙◌, refl, sym, ap, List, [], ◌∷◌, ◌++◌, append_assoc}
 use Rattle.std.proofs.lemmas.List.{append-nil}
 use Rattle.std.specs.List.{AllZip, flat_map}
 use Rattle.live_set.specs.Loads.{LoadValue}
-use Rattle.live_set.specs.Asks.{QueryValue, IsAnswer}
-use Rattle.live_versions.specs.Batches.{StartsWith, joined, version_of}
-use Rattle.catserve.specs.Output.{answer_line}
-use Rattle.catserve.specs.Rounds.{Answers}
+use Rattle.live_versions.specs.Batches.{joined}
 
 pub joined-append : (a b : List (List LoadValue)) → joined (a ++ b) ≡ joined a ++ joined b
 joined-append [] b = refl

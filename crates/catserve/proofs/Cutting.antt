@@ -1,17 +1,17 @@
 -- Where a list is cut: its pieces, and the parts of a line.
-use Rattle.std.proofs.Common.{◌≡◌, ◌≢◌, ◌∙◌, refl, sym, ap, ℕ, suc, ◌+◌, ◌-◌, ◌<◌, Bool, true, false, List, Some, None}
+use Rattle.std.proofs.Common.{◌≡◌, ◌≢◌, ◌∙◌, refl, sym, ap, ℕ, suc, ◌+◌, ◌-◌, ◌<◌, Bool, true, false, List}
 use Rattle.std.proofs.Common.{[], ◌∷◌, ◌++◌, length, get_or, take, drop, subst, arith, inl, inr, append_assoc, add-one}
 use Rattle.std.proofs.Common.{length-append, length-take}
 use Rattle.std.proofs.Math.Seq.{take-length}
 use Rattle.std.proofs.lemmas.List.{append-nil, get_or_append_left, get_or-append_right, take-append-drop}
-use Rattle.std.specs.List.{position_or_len, before_first, after_first, slice_range}
-use Rattle.std.proofs.lemmas.Bool.{cases_Bool, eqb-true, eqb-false, false_from_ne_true}
+use Rattle.std.specs.List.{position_or_len, before_first, after_first}
+use Rattle.std.proofs.lemmas.Bool.{cases_Bool, eqb-true, eqb-false}
 use Rattle.std.proofs.lemmas.List.Splits.{slice_split_first, length-slice_split}
-use Rattle.std.proofs.lemmas.List.Sums.{split_at_first, fails_before_first, passes_at_first, position_or_len_is}
+use Rattle.std.proofs.lemmas.List.Sums.{split_at_first, fails_before_first, passes_at_first}
 use Rattle.std.specs.Str.{IsUtf8}
 use Rattle.std.proofs.lemmas.Str.{IsUtf8-drop, IsUtf8-nil, IsCharBoundary-after_ascii}
 use Rattle.catserve.specs.Lines.{pieces, is_line_end, is_tab, fields}
-use Rattle.bstr.specs.Find.{IsFirstByte, is_byte}
+use Rattle.bstr.specs.Find.{is_byte}
 use Rattle.text_cut.specs.Cut.{IsCut}
 use Rattle.catserve.specs.Scanning.{IsFirstLine}
 

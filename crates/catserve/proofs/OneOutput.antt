@@ -7,17 +7,17 @@ use Rattle.po_header.proofs.RuleLemmas.{HasRule-one}
 use Rattle.catalogue.specs.Entry.{Entry, key_bytes}
 use Rattle.catalogue.specs.Map.{header_text, entry_at}
 use Rattle.catalogue.specs.Value.{IsFirstForm, IsCounted, HasRuleIn, form_or_first, text_by}
-use Rattle.catalogue.specs.declared.Compiled.{Compiled}
-use Rattle.catalogue.proofs.OneMeaning.{meaning_one, refusal_one, means_or_refuses}
 use Rattle.live_set.specs.Loads.{LoadValue, map_of}
 use Rattle.live_set.specs.Asks.{AskValue, Plain, Context, Number, ContextNumber, QueryValue, HasValue, IsAnswer}
 use Rattle.live_set.specs.Asks.{answering}
+use Rattle.live_versions.specs.declared.fault.StoreFault.TheVariants as store_fault
 use Rattle.desks.specs.Jobs.{JobValue}
 use Rattle.catserve.specs.Script.{QuestionValue, RoundValue, ScriptValue, queries_for, script}
 use Rattle.catserve.specs.Output.{answer_line, version_line}
-use Rattle.catserve.specs.Rounds.{Outcome, Accepted, Refused, Unnamed, IsOutcome, outcome_line, accepted_load, Answers}
-use Rattle.catserve.specs.Rounds.{AnswersInTurn, Plays, PlaysAll}
+use Rattle.catserve.specs.Rounds.{Outcome, Accepted, Refused, RefusedMo, Unnamed, IsOutcome, outcome_line}
+use Rattle.catserve.specs.Rounds.{accepted_load, Answers, AnswersInTurn, Plays, PlaysAll}
 use Rattle.catserve.specs.Laws.{HasOneOutput}
+use Rattle.catserve.proofs.Sources.{brings_one, fault_one, no_fault}
 
 zip_one : {A B : Type 0} (R : A → B → Type 0) → ((x : A) (y z : B) → R x y → R x z → y ≡ z)
     → (xs : List A) (ys zs : List B) → AllZip R xs ys → AllZip R xs zs → ys ≡ zs
@@ -80,25 +80,41 @@ turn_one loads questions worker (suc count) output other (front, back, one, all,
 
 -- ---- loads
 
+same_load : (a b : LoadValue) → a.domain ≡ b.domain → a.locale ≡ b.locale → a.map ≡ b.map → a ≡ b
+same_load a b domain locale map =
+    let of : List ℕ → List ℕ → List Entry → LoadValue = λ d l m. record { domain = d; locale = l; map = m } in
+    ap (λ d. of d a.locale a.map) domain ∙ ap (λ l. of b.domain l a.map) locale ∙ ap (of b.domain b.locale) map
+
 outcome_one : (l : JobValue) (o p : Outcome) → IsOutcome l o → IsOutcome l p → o ≡ p
-outcome_one l (Accepted load stats) (Accepted load' stats') (names, (c, means, st, ld)) (names', (c', means', st', ld'))
-    =
-    let same : c ≡ c' = meaning_one l.text l.options c c' means means' in
-    ap (λ x. Accepted x stats) (ld ∙ ap (λ (k : Compiled). record
-    { domain = l.domain; locale = l.locale; map = k.catalogue }) same ∙ sym ld')
-    ∙ ap (λ x. Accepted load' x) (st ∙ ap (λ (k : Compiled). k.stats) same ∙ sym st')
-outcome_one l (Accepted load stats) (Refused kind line) (names, (c, means, st, ld)) k = absurd
-    (means_or_refuses l.text l.options c kind line means k.1)
-outcome_one l (Accepted load stats) Unnamed h k = absurd (k h.0)
-outcome_one l (Refused kind line) (Accepted load stats) h (names, (c, means, st, ld)) = absurd
-    (means_or_refuses l.text l.options c kind line means h.1)
-outcome_one l (Refused kind line) (Refused kind' line') h k =
-    let same = refusal_one l.text l.options kind kind' line line' h.1 k.1 in
-    ap (λ x. Refused x line) same.0 ∙ ap (λ x. Refused kind' x) same.1
-outcome_one l (Refused kind line) Unnamed h k = absurd (k h.0)
-outcome_one l Unnamed (Accepted load stats) h k = absurd (h k.0)
-outcome_one l Unnamed (Refused kind line) h k = absurd (h k.0)
+outcome_one l (Accepted load answer) (Accepted load' answer') h k =
+    let same = brings_one l.source answer answer' load.map load'.map h.1 k.1 in
+    ap (λ x. Accepted x answer) (same_load load load' (h.2 ∙ sym k.2) (h.3 ∙ sym k.3) same.1)
+    ∙ ap (λ x. Accepted load' x) same.0
+outcome_one l (Accepted load answer) (Refused fault) h k = absurd
+    (no_fault l.source answer load.map (store_fault.Refused fault) h.1 k.1)
+outcome_one l (Accepted load answer) (RefusedMo fault) h k = absurd
+    (no_fault l.source answer load.map (store_fault.RefusedMo fault) h.1 k.1)
+outcome_one l (Refused fault) (Accepted load answer) h k = absurd
+    (no_fault l.source answer load.map (store_fault.Refused fault) k.1 h.1)
+outcome_one l (RefusedMo fault) (Accepted load answer) h k = absurd
+    (no_fault l.source answer load.map (store_fault.RefusedMo fault) k.1 h.1)
+outcome_one l (Refused fault) (Refused fault') h k =
+    let same = fault_one l.source (store_fault.Refused fault) (store_fault.Refused fault') h.1 k.1 in
+    let inside : fault ≡ fault' = cc same in ap Refused inside
+outcome_one l (RefusedMo fault) (RefusedMo fault') h k =
+    let same = fault_one l.source (store_fault.RefusedMo fault) (store_fault.RefusedMo fault') h.1 k.1 in
+    let inside : fault ≡ fault' = cc same in ap RefusedMo inside
+outcome_one l (Refused fault) (RefusedMo fault') h k = absurd
+    (cc (fault_one l.source (store_fault.Refused fault) (store_fault.RefusedMo fault') h.1 k.1))
+outcome_one l (RefusedMo fault) (Refused fault') h k = absurd
+    (cc (fault_one l.source (store_fault.RefusedMo fault) (store_fault.Refused fault') h.1 k.1))
 outcome_one l Unnamed Unnamed h k = refl
+outcome_one l Unnamed (Accepted load answer) h k = absurd (h k.0)
+outcome_one l Unnamed (Refused fault) h k = absurd (h k.0)
+outcome_one l Unnamed (RefusedMo fault) h k = absurd (h k.0)
+outcome_one l (Accepted load answer) Unnamed h k = absurd (k h.0)
+outcome_one l (Refused fault) Unnamed h k = absurd (k h.0)
+outcome_one l (RefusedMo fault) Unnamed h k = absurd (k h.0)
 
 -- ---- rounds
 

@@ -12,8 +12,9 @@ use Rattle.catalogue.specs.declared.Options.{Options}
 use Rattle.live_set.specs.Asks.{QueryValue}
 use Rattle.catserve.specs.Lines.{lines, pieces, without_end, fields}
 use Rattle.catserve.specs.Commands.{Line, Loads, is_blank, line_of, workers_line}
+use Rattle.desks.specs.Jobs.{JobValue, Po}
 use Rattle.catserve.specs.Script.{Command, Load, Ask, Go, RoundValue, round_of, rounds_of, is_go, Says}
-use Rattle.catserve.specs.Script.{IsBad, saying, and_then, commands_from, ScriptValue, script_of, script_from, script}
+use Rattle.catserve.specs.Script.{IsBad, saying, and_then, commands_from, script_of, script_from, script}
 use Rattle.catserve.specs.Gathering.{Gathered, empty_round, nothing, both, gathered, onto_open, all_rounds, going_on}
 use Rattle.catserve.specs.Gathering.{load_count, loads_so_far, TakesIn, HasSkipped, HasBegun, HasParsed}
 use Rattle.catserve.specs.Scanning.{IsFirstLine, TakesLines}
@@ -105,22 +106,21 @@ pub few_ask : (old new : Gathered) (worker : ℕ) (query : QueryValue) → new �
     → loads_so_far new ≤ loads_so_far old + 1
 few_ask old new worker query is = omega (arith, ap loads_so_far is, ap length (append-nil old.current.loads))
 
--- a load with its text
+pub few_load : (old new : Gathered) (load : JobValue) → new ≡ gathered old (Load load)
+    → loads_so_far new ≤ loads_so_far old + 1
+few_load old new load is = omega (arith, ap loads_so_far is, length-append old.current.loads (load ∷ []))
+
+-- a load with its PO text
 pub takes_text : (old new : Gathered) (domain locale : List ℕ) (options : Options) (count : ℕ) (behind : List ℕ)
     (number : ℕ) (text rest : List ℕ) → TakesLines count behind text rest → new
-    ≡ gathered old (Load (record { domain = domain; locale = locale; options = options; text = text }))
+    ≡ gathered old (Load (record { domain = domain; locale = locale; source = Po text options }))
     → TakesIn old new (Loads domain locale options count) behind number rest (number + 1 + count)
 takes_text old new domain locale options count behind number text rest taken is = record {
-  commands = Load (record { domain = domain; locale = locale; options = options; text = text }) ∷ [];
+  commands = Load (record { domain = domain; locale = locale; source = Po text options }) ∷ [];
   text = count;
   says = rw (le-leb count (length (lines behind)) taken.enough, taken.taken_is) refl;
   gathered_are = is;
-  few = omega (
-    arith,
-    ap loads_so_far is,
-    length-append old.current.loads
-        (record { domain = domain; locale = locale; options = options; text = text } ∷ []),
-  );
+  few = few_load old new (record { domain = domain; locale = locale; source = Po text options }) is;
   behind_text = taken.rest_is;
   enough = taken.enough;
   next_is = refl;

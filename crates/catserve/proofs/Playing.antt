@@ -1,24 +1,22 @@
 -- A round, step by step.
 use Rattle.std.proofs.Common.{◌≡◌, ◌∙◌, refl, sym, ap, subst, ℕ, ◌+◌, ◌<◌, ◌≤◌, List, [], ◌∷◌, ◌++◌, append_assoc}
 use Rattle.std.proofs.Common.{arith}
-use Rattle.std.proofs.Common.{length, length-append, Result, Ok, Err, OnOk, IfOk}
+use Rattle.std.proofs.Common.{length, length-append, None, Result, Ok, Err, OnOk, IfOk}
 use Rattle.std.proofs.lemmas.List.{append-nil}
 use Rattle.std.proofs.lemmas.List.Elements.{filter_map-append}
 use Rattle.std.proofs.lemmas.List.Sums.{sum_by-append}
 use Rattle.std.proofs.lemmas.Slice.Zip.{AllZip-long}
 use Rattle.std.specs.List.{AllZip, filter_map, flat_map}
-use Rattle.catalogue.specs.Meaning.{Refuses}
-use Rattle.catalogue.specs.declared.Stats.{Stats}
-use Rattle.catalogue.specs.declared.LoadFault.{LoadFault}
 use Rattle.live_set.specs.Loads.{LoadValue}
 use Rattle.live_versions.specs.Batches.{joined, version_of, published}
-use Rattle.live_versions.specs.Store.{StoreValue, Accepts, AreNames, HasRoom}
+use Rattle.live_versions.specs.Store.{StoreValue, HasRoom}
 use Rattle.live_versions.specs.Seen.{SeenValue}
-use Rattle.desks.specs.Jobs.{JobValue}
+use Rattle.desks.specs.Jobs.{JobValue, IsAccepted}
+use Rattle.desks.specs.declared.job.Accepted as job
 use Rattle.catserve.specs.Script.{RoundValue}
-use Rattle.catserve.specs.Output.{accepted_line, refused_line, version_line}
-use Rattle.catserve.specs.Rounds.{Outcome, Accepted, Refused, Unnamed, IsOutcome, outcome_line, accepted_load}
-use Rattle.catserve.specs.Rounds.{AnswersInTurn, PlaysAll}
+use Rattle.catserve.specs.Output.{version_line}
+use Rattle.catserve.specs.Rounds.{Outcome, Accepted, Refused, RefusedMo, Unnamed, IsOutcome, outcome_line}
+use Rattle.catserve.specs.Rounds.{accepted_load, AnswersInTurn, PlaysAll}
 use Rattle.catserve.specs.Gathering.{load_count}
 use Rattle.catserve.specs.Running.{LoadsOne, LoadsAll, HasLoaded, HasRoomFor, PlaysOne, HasPlayed}
 use Rattle.catserve.proofs.Batching.{AllZip-snoc, flat_map-snoc, joined-append}
@@ -27,23 +25,26 @@ pub map_ok : {T E A B : Type 0} (r : Result T E) → OnOk r A → (A → B) → 
 map_ok (Ok x) a f = f a
 map_ok (Err x) a f = tt
 
-pub accepts_one : (load : JobValue) (s s' : StoreValue) (stats : Stats) (before after : List ℕ)
-    → Accepts s load.domain load.locale load.text load.options stats s' → after ≡ before ++ accepted_line stats
+-- the load is accepted, with the map that its source brings
+pub accepts_one : (load : JobValue) (answer : job.Accepted) (s s' : StoreValue) (before after : List ℕ)
+    → (is : IsAccepted s load answer s') → after ≡ before
+    ++ outcome_line (Accepted (record { domain = load.domain; locale = load.locale; map = is.0 }) answer)
     → LoadsOne load s.pending s'.pending before after
-accepts_one load s s' stats before after a written = record {
-  outcome = Accepted (record { domain = load.domain; locale = load.locale; map = a.compiled.catalogue }) stats;
-  is = (a.names, (a.compiled, a.means, a.stats_are, refl));
-  pending_are = ap (λ (x : StoreValue). x.pending) a.after_is;
+accepts_one load answer s s' before after (map, brings, adds) written = record {
+  outcome = Accepted (record { domain = load.domain; locale = load.locale; map = map }) answer;
+  is = (adds.names, brings, refl, refl);
+  pending_are = ap (λ (x : StoreValue). x.pending) adds.after_is;
   written = written;
 }
 
-pub refuses_one : (load : JobValue) (s s' : StoreValue) (fault : LoadFault) (before after : List ℕ)
-    → AreNames load.domain load.locale → Refuses load.text load.options fault.kind fault.line → s' ≡ s → after ≡ before
-    ++ refused_line fault.kind fault.line → LoadsOne load s.pending s'.pending before after
-refuses_one load s s' fault before after names refuses same written = record {
-  outcome = Refused fault.kind fault.line;
-  is = (names, refuses);
-  pending_are = ap (λ (x : StoreValue). x.pending) same ∙ sym (append-nil s.pending);
+-- it isn't
+pub refuses_one : (load : JobValue) (outcome : Outcome) (s s' : StoreValue) (before after : List ℕ)
+    → IsOutcome load outcome → accepted_load outcome ≡ None → s' ≡ s → after ≡ before ++ outcome_line outcome
+    → LoadsOne load s.pending s'.pending before after
+refuses_one load outcome s s' before after is none same written = record {
+  outcome = outcome;
+  is = is;
+  pending_are = ap (λ (x : StoreValue). x.pending) same ∙ sym (rw none (append-nil s.pending));
   written = written;
 }
 
@@ -68,8 +69,9 @@ joined-published bs (l ∷ ls) = joined-append bs ((l ∷ ls) ∷ []) ∙ ap (λ
 -- at most one load more is accepted for each
 few_accepted : (outcomes : List Outcome) → length (filter_map accepted_load outcomes) ≤ length outcomes
 few_accepted [] = omega arith
-few_accepted (Accepted load stats ∷ outcomes) = omega (arith, few_accepted outcomes)
-few_accepted (Refused kind line ∷ outcomes) = omega (arith, few_accepted outcomes)
+few_accepted (Accepted load answer ∷ outcomes) = omega (arith, few_accepted outcomes)
+few_accepted (Refused fault ∷ outcomes) = omega (arith, few_accepted outcomes)
+few_accepted (RefusedMo fault ∷ outcomes) = omega (arith, few_accepted outcomes)
 few_accepted (Unnamed ∷ outcomes) = omega (arith, few_accepted outcomes)
 
 few_outcomes : (loads : List JobValue) (outcomes : List Outcome) → AllZip IsOutcome loads outcomes

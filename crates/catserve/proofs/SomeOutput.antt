@@ -1,7 +1,7 @@
 -- A text has an output or a fault: it leads to ⊥ that it has neither.
 use Rattle.std.proofs.Common.{◌≡◌, ℕ, zero, suc, ◌+◌, ◌<◌, Bool, true, false, cond, List, [], ◌∷◌, ◌++◌, length}
 use Rattle.std.proofs.Common.{Option, Some, map, find}
-use Rattle.std.proofs.Common.{None, Result, Ok, Err, refl, sym, subst, arith, inl, inr}
+use Rattle.std.proofs.Common.{None, Result, Ok, Err, refl, arith, inl, inr}
 use Rattle.std.specs.Prelude.{nat_lt}
 use Rattle.std.specs.List.{AllByRecursion, AllZip, filter, filter_map, flat_map, last_or}
 use Rattle.std.proofs.lemmas.Bool.{cases_Bool, cases_lt, ltb-true}
@@ -12,7 +12,7 @@ use Rattle.catalogue.specs.Map.{header_text, entry_at}
 use Rattle.catalogue.specs.Value.{IsFirstForm, IsCounted, HasRuleIn, form_or_first, text_by}
 use Rattle.catalogue.proofs.Members.{from_find}
 use Rattle.entry_search.proofs.Searching.{some_at}
-use Rattle.catalogue.proofs.SomeMeaning.{some_meaning, IsFormed, means_formed}
+use Rattle.catalogue.proofs.SomeMeaning.{IsFormed}
 use Rattle.live_set.specs.Loads.{LoadValue, map_of, map_or_empty, is_for}
 use Rattle.live_set.specs.Asks.{AskValue, Plain, Context, Number, ContextNumber, QueryValue, HasValue, IsAnswer}
 use Rattle.live_set.specs.Asks.{answering, first_with, has_key, key_of}
@@ -22,9 +22,10 @@ use Rattle.desks.specs.Jobs.{JobValue}
 use Rattle.catserve.specs.Script.{QuestionValue, RoundValue, ScriptValue, queries_for, script}
 use Rattle.catserve.specs.Output.{answer_line, version_line}
 use Rattle.catserve.specs.Texts.{IsReadable}
-use Rattle.catserve.specs.Rounds.{Outcome, Accepted, Refused, Unnamed, IsOutcome, outcome_line, accepted_load, Answers}
-use Rattle.catserve.specs.Rounds.{AnswersInTurn, Plays, PlaysAll}
+use Rattle.catserve.specs.Rounds.{Outcome, Accepted, Refused, RefusedMo, Unnamed, IsOutcome, outcome_line}
+use Rattle.catserve.specs.Rounds.{accepted_load, Answers, AnswersInTurn, Plays, PlaysAll}
 use Rattle.catserve.specs.Laws.{HasSomeOutput}
+use Rattle.catserve.proofs.Sources.{brings_some, brings_formed}
 
 -- where each item has a match, all of them have matches
 zip_some : {A B : Type 0} (R : A → B → Type 0) → ((x : A) → ((y : B) → R x y → ⊥) → ⊥) → (xs : List A)
@@ -124,10 +125,11 @@ turn_some loads questions worker (suc count) formed none =
 outcome_some : (l : JobValue) → ((o : Outcome) → IsOutcome l o → ⊥) → ⊥
 outcome_some l none =
     none Unnamed (λ names.
-    some_meaning l.text l.options
-    (λ c means. none (Accepted (record { domain = l.domain; locale = l.locale; map = c.catalogue }) c.stats)
-    (names, (c, means, refl, refl)))
-    (λ (kind, line, refused). none (Refused kind line) (names, refused)))
+    brings_some l.source
+    (λ answer map brings. none (Accepted (record { domain = l.domain; locale = l.locale; map = map }) answer)
+    (names, brings, refl, refl))
+    (λ fault refused. none (Refused fault) (names, refused))
+    (λ fault refused. none (RefusedMo fault) (names, refused)))
 
 -- what was accepted is formed
 accepted_formed : (ls : List JobValue) (os : List Outcome) → AllZip IsOutcome ls os
@@ -135,12 +137,10 @@ accepted_formed : (ls : List JobValue) (os : List Outcome) → AllZip IsOutcome 
 accepted_formed [] [] all = tt
 accepted_formed [] (o ∷ os) all = absurd all
 accepted_formed (l ∷ ls) [] all = absurd all
-accepted_formed (l ∷ ls) (Accepted load stats ∷ os) ((names, (c, means, st, ld)), all) = (
-  subst (λ (x : LoadValue). IsFormed x.map) (sym ld) (means_formed l.text l.options c means),
-  accepted_formed ls os
-      all,
-)
-accepted_formed (l ∷ ls) (Refused kind line ∷ os) all = accepted_formed ls os all.1
+accepted_formed (l ∷ ls) (Accepted load answer ∷ os) (is, all) =
+    (brings_formed l.source answer load.map is.1, accepted_formed ls os all)
+accepted_formed (l ∷ ls) (Refused fault ∷ os) all = accepted_formed ls os all.1
+accepted_formed (l ∷ ls) (RefusedMo fault ∷ os) all = accepted_formed ls os all.1
 accepted_formed (l ∷ ls) (Unnamed ∷ os) all = accepted_formed ls os all.1
 
 -- ---- rounds

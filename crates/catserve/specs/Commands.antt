@@ -4,13 +4,14 @@ use Rattle.std.specs.Str.{bytes_eq}
 use Rattle.catalogue.specs.declared.Options.{Options}
 use Rattle.live_set.specs.Asks.{AskValue, QueryValue, Plain, Context, Number, ContextNumber}
 use Rattle.catserve.specs.Lines.{fields}
-use Rattle.catserve.specs.ScriptFields.{number, unescaped, options_of, worker_of, worker_count, ◌>>=◌}
+use Rattle.catserve.specs.ScriptFields.{number, unescaped, options_of, hex_bytes, worker_of, worker_count, ◌>>=◌}
 
--- an empty line or a comment; a load of the next lines, of which it counts so many; a question to a worker; the end of
--- a round
+-- an empty line or a comment; a load of the next lines, of which it counts so many; a load of an MO file with these
+-- bytes; a question to a worker; the end of a round
 pub data Line : Type 0 where
   Blank : Line
   Loads : (domain locale : List ℕ) (options : Options) (count : ℕ) → Line
+  LoadsMo : (domain locale bytes : List ℕ) → Line
   Asks : (worker : ℕ) (query : QueryValue) → Line
   Goes : Line
 
@@ -64,6 +65,13 @@ load_line (domain ∷ locale ∷ options ∷ count ∷ []) = do
   Some (Loads domain locale o n)
 load_line _ = None
 
+-- behind `loadmo`: a domain, a locale, and the digits of an MO file
+abbrev pub load_mo_line : List (List ℕ) → Option Line
+load_mo_line (domain ∷ locale ∷ digits ∷ []) = do
+  bytes ← hex_bytes digits
+  Some (LoadsMo domain locale bytes)
+load_mo_line _ = None
+
 -- behind `ask`: one of so many workers, a domain, a list of languages, and a call
 abbrev pub ask_line : ℕ → List (List ℕ) → Option Line
 ask_line workers (worker ∷ domain ∷ languages ∷ call ∷ texts) = do
@@ -81,6 +89,7 @@ go_line _ = None
 abbrev pub command_line : ℕ → List (List ℕ) → Option Line
 command_line workers (word ∷ rest) =
     if bytes_eq word (codes "load") then load_line rest else
+    if bytes_eq word (codes "loadmo") then load_mo_line rest else
     if bytes_eq word (codes "ask") then ask_line workers rest else
     if bytes_eq word (codes "go") then go_line rest else None
 command_line workers [] = None

@@ -5,6 +5,8 @@ use Rattle.std.specs.Fmt.{decimal}
 use Rattle.catalogue.specs.Meaning.{rank}
 use Rattle.catalogue.specs.declared.Stats.{Stats}
 use Rattle.catalogue.specs.declared.LoadKind.{LoadKind}
+use Rattle.mo_file.specs.MoReading.{rank as mo_rank}
+use Rattle.mo_file.specs.declared.fault.MoFault.{MoFault}
 
 -- fields with a tab between each two, and LF
 abbrev pub line : List (List ℕ) → List ℕ
@@ -18,14 +20,22 @@ escape b = if b == 10 then 92 ∷ 110 ∷ [] else if b == 9 then 92 ∷ 116 ∷ 
 abbrev pub escaped : List ℕ → List ℕ
 escaped text = flat_map escape text
 
--- a load that was accepted: how many entries are translated, fuzzy and untranslated
+-- a load of a PO text that was accepted: how many entries are translated, fuzzy and untranslated
 abbrev pub accepted_line : Stats → List ℕ
 accepted_line stats = line
     (codes "accepted" ∷ decimal stats.translated ∷ decimal stats.fuzzy ∷ decimal stats.untranslated ∷ [])
 
--- a load whose text is refused: the number of the refusal, and its line
+-- a load of an MO file that was accepted: how many entries it has
+abbrev pub accepted_mo_line : ℕ → List ℕ
+accepted_mo_line entries = line (codes "accepted-mo" ∷ decimal entries ∷ [])
+
+-- a load whose PO text is refused: the number of the refusal, and its line
 abbrev pub refused_line : LoadKind → ℕ → List ℕ
 refused_line kind at = line (codes "refused" ∷ decimal (rank kind) ∷ decimal at ∷ [])
+
+-- a load whose MO file is refused: the number of the refusal
+abbrev pub refused_mo_line : MoFault → List ℕ
+refused_mo_line fault = line (codes "refused-mo" ∷ decimal (mo_rank fault) ∷ [])
 
 -- a load for what is no name
 abbrev pub unnamed_line : List ℕ

@@ -1,41 +1,46 @@
 -- The whole output of a script: what its rounds mean, one after another.
 use Rattle.std.specs.Prelude.{◌≡◌, ℕ, zero, suc, ◌+◌, List, [], ◌∷◌, ◌++◌, length, Option, Some, None}
 use Rattle.std.specs.List.{AllZip, filter_map, flat_map}
-use Rattle.catalogue.specs.Meaning.{Means, Refuses}
-use Rattle.catalogue.specs.declared.Stats.{Stats}
-use Rattle.catalogue.specs.declared.Compiled.{Compiled}
-use Rattle.catalogue.specs.declared.LoadKind.{LoadKind}
+use Rattle.catalogue.specs.declared.LoadFault.{LoadFault}
+use Rattle.mo_file.specs.declared.fault.MoFault.{MoFault}
 use Rattle.live_set.specs.Loads.{LoadValue}
 use Rattle.live_set.specs.Asks.{QueryValue, IsAnswer}
 use Rattle.live_versions.specs.Store.{AreNames}
-use Rattle.desks.specs.Jobs.{JobValue}
+use Rattle.live_versions.specs.declared.fault.StoreFault.TheVariants as store_fault
+use Rattle.desks.specs.Jobs.{JobValue, Brings, IsSourceFault}
+use Rattle.desks.specs.declared.job.Accepted as job
+use Rattle.desks.specs.declared.job.Accepted.TheVariants as accepted
 use Rattle.catserve.specs.Script.{QuestionValue, RoundValue, ScriptValue, queries_for}
 use Rattle.catserve.specs.Texts.{IsScript}
-use Rattle.catserve.specs.Output.{accepted_line, refused_line, unnamed_line, version_line, answer_line}
+use Rattle.catserve.specs.Output.{accepted_line, accepted_mo_line, refused_line, refused_mo_line, unnamed_line}
+use Rattle.catserve.specs.Output.{version_line, answer_line}
 
 -- what becomes of a load
 pub data Outcome : Type 0 where
-  Accepted : (load : LoadValue) (stats : Stats) → Outcome
-  Refused : (kind : LoadKind) (line : ℕ) → Outcome
+  Accepted : (load : LoadValue) (answer : job.Accepted) → Outcome
+  Refused : (fault : LoadFault) → Outcome
+  RefusedMo : (fault : MoFault) → Outcome
   Unnamed : Outcome
 
--- it has the map that its text means; its text is refused; its domain or its locale is no name
+-- it has the map that its source brings; its PO text or its MO file is refused; its domain or its locale is no name
 abbrev pub IsOutcome : JobValue → Outcome → Type 0
-IsOutcome l (Accepted load stats) = AreNames l.domain l.locale
-    × ((c : Compiled) × Means l.text l.options c × (stats ≡ c.stats)
-    × (load ≡ record { domain = l.domain; locale = l.locale; map = c.catalogue }))
-IsOutcome l (Refused kind line) = AreNames l.domain l.locale × Refuses l.text l.options kind line
+IsOutcome l (Accepted load answer) = AreNames l.domain l.locale × Brings l.source answer load.map
+    × (load.domain ≡ l.domain) × (load.locale ≡ l.locale)
+IsOutcome l (Refused fault) = AreNames l.domain l.locale × IsSourceFault l.source (store_fault.Refused fault)
+IsOutcome l (RefusedMo fault) = AreNames l.domain l.locale × IsSourceFault l.source (store_fault.RefusedMo fault)
 IsOutcome l Unnamed = ¬ AreNames l.domain l.locale
 
 -- the line that is written of it
 abbrev pub outcome_line : Outcome → List ℕ
-outcome_line (Accepted load stats) = accepted_line stats
-outcome_line (Refused kind line) = refused_line kind line
+outcome_line (Accepted load (accepted.Po stats)) = accepted_line stats
+outcome_line (Accepted load (accepted.Mo entries)) = accepted_mo_line entries
+outcome_line (Refused fault) = refused_line fault.kind fault.line
+outcome_line (RefusedMo fault) = refused_mo_line fault
 outcome_line Unnamed = unnamed_line
 
 -- the load, where it was accepted
 abbrev pub accepted_load : Outcome → Option LoadValue
-accepted_load (Accepted load stats) = Some load
+accepted_load (Accepted load answer) = Some load
 accepted_load _ = None
 
 -- a worker answers its questions over these loads, in order; the version is how many they are

@@ -3,9 +3,9 @@ use Rattle.std.specs.Prelude.{ℕ, zero, suc, ◌+◌, ◌==◌, Bool, true, fal
 use Rattle.std.specs.Prelude.{length, map, take, Option, Some, None, Result, Ok, Err}
 use Rattle.std.specs.List.{concat, filter_map}
 use Rattle.live_set.specs.Asks.{QueryValue}
-use Rattle.desks.specs.Jobs.{JobValue}
+use Rattle.desks.specs.Jobs.{JobValue, Po, Mo}
 use Rattle.catserve.specs.Lines.{pieces, lines, without_end, fields}
-use Rattle.catserve.specs.Commands.{Line, Blank, Loads, Asks, Goes, is_blank, line_of, workers_line}
+use Rattle.catserve.specs.Commands.{Line, Blank, Loads, LoadsMo, Asks, Goes, is_blank, line_of, workers_line}
 
 -- ---- commands
 
@@ -20,7 +20,7 @@ pub data Saying : Type 0 where
   Says : (commands : List Command) (text : ℕ) → Saying
   IsBad : Saying
 
--- the text of a load is the lines behind it, of which there are as many as it counts
+-- the PO text of a load is the lines behind it, of which there are as many as it counts
 abbrev pub saying : Option Line → List (List ℕ) → Saying
 saying None behind = IsBad
 saying (Some Blank) behind = Says [] 0
@@ -28,9 +28,10 @@ saying (Some (Loads domain locale options count)) behind =
     if nat_le count (length behind) then Says (Load (record {
       domain = domain;
       locale = locale;
-      options = options;
-      text = concat (take count behind);
+      source = Po (concat (take count behind)) options;
     }) ∷ []) count else IsBad
+saying (Some (LoadsMo domain locale bytes)) behind =
+    Says (Load (record { domain = domain; locale = locale; source = Mo bytes }) ∷ []) 0
 saying (Some (Asks worker query)) behind = Says (Ask worker query ∷ []) 0
 saying (Some Goes) behind = Says (Go ∷ []) 0
 

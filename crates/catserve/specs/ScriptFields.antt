@@ -6,6 +6,8 @@ use Rattle.std.specs.Char.{is_ascii_digit}
 use Rattle.std.specs.Str.{bytes_eq}
 use Rattle.std.specs.Str.Parse.{digits_value}
 use Rattle.std.specs.List.{list_all}
+use Rattle.std.specs.Result.{result_ok}
+use Rattle.hex.specs.Hex.{decode_of}
 use Rattle.catalogue.specs.declared.Options.{Options}
 
 -- one field after another, where each of them can be read
@@ -47,6 +49,10 @@ options_of text =
     if bytes_eq text (codes "c") then Some (record { checked = true; use_fuzzy = false }) else
     if bytes_eq text (codes "f") then Some (record { checked = false; use_fuzzy = true }) else
     if bytes_eq text (codes "cf") then Some (record { checked = true; use_fuzzy = true }) else None
+
+-- the bytes of hexadecimal digits, of which two in either case stand for each byte
+abbrev pub hex_bytes : List ℕ → Option (List ℕ)
+hex_bytes digits = result_ok (decode_of digits)
 
 -- a 0 stands in front of other digits
 abbrev pub has_leading_zero : List ℕ → Bool

@@ -9,6 +9,7 @@ use desks::{Answer, Desk};
 use live_set::Query;
 use live_versions::Lookups;
 use std::alloc::{AllocError, Global};
+use std::mem;
 
 /// A desk for each reader, which is asked nothing.
 pub(crate) fn open_desks(alloc: Global, readers: Vec<Lookups>) -> Result<Vec<Desk>, AllocError>
@@ -50,14 +51,14 @@ pub(crate) fn give_all(desks: &mut [Desk], questions: Vec<Question>) -> Result<(
     Ok(())
 }
 
-/// Writes a worker's answers.
+/// Writes a worker's answers, and lets each go once it is written: together they are as long as the output.
 fn write_answers(
     alloc: Global,
     worker: u32,
-    answers: &[Answer],
+    answers: Vec<Answer>,
     output: &mut Vec<u8>,
 ) -> Result<(), AllocError>
-    ensures { OnOk result (output.new.items ≡ output.old.items ++ answer_lines worker answers.now) }
+    ensures { OnOk result (output.new.items ≡ output.old.items ++ answer_lines worker answers.items) }
 {
     'answers: for answer in answers {
         write_answer(alloc, output, worker, answer.version, answer.text.as_str())?;
@@ -79,8 +80,8 @@ pub(crate) fn write_all(
     let Some((desk, rest)) = desks.split_first_mut() else {
         return Ok(());
     };
-    write_answers(alloc, worker, desk.answers.as_slice(), output)?;
+    let answers = mem::replace(&mut desk.answers, Vec::new(alloc));
+    write_answers(alloc, worker, answers, output)?;
     desk.queries.clear();
-    desk.answers.clear();
     write_all(alloc, worker + 1, rest, output)
 }

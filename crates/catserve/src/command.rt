@@ -1,14 +1,17 @@
 //! What a line of a script says.
 ghost use Rattle.std.specs.Prelude.{◌≡◌, IfErr};
 ghost use Rattle.catserve.specs.Commands.{plain_call, context_call, number_call, context_number_call, call_of};
-ghost use Rattle.catserve.specs.Commands.{load_line, ask_line, go_line, command_line, is_blank, line_of, workers_line};
+ghost use Rattle.catserve.specs.Commands.{load_line, load_mo_line, ask_line, go_line, command_line};
+ghost use Rattle.catserve.specs.Commands.{is_blank, line_of, workers_line};
 ghost use Rattle.catserve.specs.Lines.{fields};
 ghost use Rattle.catserve.specs.Scanning.{Reads};
 ghost use Rattle.catserve.specs.LineValues.{line_value};
 ghost use Rattle.live_set.specs.Asks.{ask_value};
 
 use crate::fault::LineFault;
-use crate::field::{read_number, read_options, read_text, read_worker, read_worker_count};
+use crate::field::{
+    read_hex, read_number, read_options, read_text, read_worker, read_worker_count,
+};
 use crate::fields::Fields;
 use catalogue::Options;
 use live_set::{Ask, Query};
@@ -25,6 +28,12 @@ pub(crate) enum Line<'a> {
         locale: &'a str,
         options: Options,
         count: u64,
+    },
+    /// An MO file.
+    LoadsMo {
+        domain: &'a str,
+        locale: &'a str,
+        bytes: Vec<u8>,
     },
     /// A worker is asked.
     Asks {
@@ -112,6 +121,22 @@ fn read_load(mut fields: Fields<'_>) -> Result<Line<'_>, LineFault>
     })
 }
 
+/// What stands behind `loadmo`.
+fn read_load_mo(alloc: Global, mut fields: Fields<'_>) -> Result<Line<'_>, LineFault>
+    ensures { Reads line_value result (load_mo_line fields.entry) }
+{
+    let domain = fields.next()?;
+    let locale = fields.next()?;
+    let digits = fields.next()?;
+    fields.end()?;
+    let bytes = read_hex(alloc, digits)?;
+    Ok(Line::LoadsMo {
+        domain,
+        locale,
+        bytes,
+    })
+}
+
 /// What stands behind `ask`, where there are so many workers.
 fn read_ask<'a>(alloc: Global, workers: u32, mut fields: Fields<'a>) -> Result<Line<'a>, LineFault>
     ensures { Reads line_value result (ask_line workers fields.entry) }
@@ -147,6 +172,7 @@ fn read_command<'a>(
 {
     match fields.next()? {
         "load" => read_load(fields),
+        "loadmo" => read_load_mo(alloc, fields),
         "ask" => read_ask(alloc, workers, fields),
         "go" => read_go(fields),
         _ => Err(LineFault::Bad),

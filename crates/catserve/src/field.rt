@@ -2,12 +2,13 @@
 ghost use Rattle.std.specs.Prelude.{◌≡◌, MatchOption, IfErr, IfSome, option_map, string_bytes};
 ghost use Rattle.std.specs.List.{list_all};
 ghost use Rattle.std.specs.Char.{is_ascii_digit};
-ghost use Rattle.catserve.specs.ScriptFields.{number, unescaped, escaped_byte, options_of};
+ghost use Rattle.catserve.specs.ScriptFields.{number, unescaped, escaped_byte, options_of, hex_bytes};
 ghost use Rattle.catserve.specs.ScriptFields.{has_leading_zero, worker_of, worker_count};
 ghost use Rattle.catserve.specs.Scanning.{Reads, SplitsEscape};
 
 use crate::fault::LineFault;
 use catalogue::Options;
+use hex::FromHexError;
 use std::alloc::Global;
 use text_cut::split_at_byte;
 
@@ -80,6 +81,17 @@ pub(crate) fn read_options(field: &str) -> Result<Options, LineFault>
         _ => return Err(LineFault::Bad),
     };
     Ok(Options { checked, use_fuzzy })
+}
+
+/// The bytes of hexadecimal digits, of which two in either case stand for each byte.
+pub(crate) fn read_hex(alloc: Global, field: &str) -> Result<Vec<u8>, LineFault>
+    ensures { Reads (λ bytes. bytes.items) result (hex_bytes field.now) }
+{
+    match hex::decode(alloc, field) {
+        Ok(bytes) => Ok(bytes),
+        Err(FromHexError::OutOfMemory) => Err(LineFault::Memory),
+        Err(_) => Err(LineFault::Bad),
+    }
 }
 
 /// Whether a zero stands in front of other bytes.

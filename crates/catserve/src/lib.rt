@@ -17,7 +17,10 @@ mod round;
 mod rounds;
 mod run;
 
-pub use desks::{Answer, Desk, Gate, Job, Place, ServeFault, Served, one_end, one_history, serve};
+pub use desks::{
+    Accepted, Answer, Desk, Gate, Job, Place, ServeFault, Served, Source, one_end, one_history,
+    serve,
+};
 pub use fault::{ScriptFault, ScriptKind};
 pub use law::one_output;
 pub use parse::MOST_SCRIPT;

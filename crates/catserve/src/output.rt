@@ -2,11 +2,13 @@
 ghost use Rattle.std.specs.Prelude.{◌≡◌, ◌++◌, OnOk, string_bytes, codes};
 ghost use Rattle.std.specs.Fmt.{decimal};
 ghost use Rattle.catalogue.specs.Meaning.{rank};
-ghost use Rattle.catserve.specs.Output.{escape, escaped, accepted_line, refused_line, unnamed_line, version_line};
-ghost use Rattle.catserve.specs.Output.{answer_line};
+ghost use Rattle.mo_file.specs.MoReading.{rank as mo_rank};
+ghost use Rattle.catserve.specs.Output.{escape, escaped, accepted_line, accepted_mo_line, refused_line};
+ghost use Rattle.catserve.specs.Output.{refused_mo_line, unnamed_line, version_line, answer_line};
 
 use bstr::ByteSlice;
 use catalogue::{LoadFault, LoadKind, Stats};
+use mo_file::MoFault;
 use std::alloc::{AllocError, Global};
 
 /// Writes a byte of a text with escapes.
@@ -41,7 +43,7 @@ fn write_text(output: &mut Vec<u8>, text: &str) -> Result<(), AllocError>
     output.extend_from_slice(text.as_bytes())
 }
 
-/// The number of a refusal.
+/// The number of a PO text's refusal.
 fn rank_of(kind: LoadKind) -> u32
     ensures { result ≡ rank kind }
 {
@@ -67,7 +69,27 @@ fn rank_of(kind: LoadKind) -> u32
     }
 }
 
-/// Writes the line of a load that was accepted.
+/// The number of an MO file's refusal.
+fn mo_rank_of(fault: MoFault) -> u32
+    ensures { result ≡ mo_rank fault }
+{
+    match fault {
+        MoFault::TooLarge => 1,
+        MoFault::Short => 2,
+        MoFault::Magic => 3,
+        MoFault::Revision => 4,
+        MoFault::Bounds => 5,
+        MoFault::NoNul => 6,
+        MoFault::BadText => 7,
+        MoFault::Forms => 8,
+        MoFault::Order => 9,
+        MoFault::Charset => 10,
+        MoFault::Swollen => 11,
+        MoFault::Memory => 12,
+    }
+}
+
+/// Writes the line of a load of a PO text that was accepted.
 pub(crate) fn write_accepted(
     alloc: Global,
     output: &mut Vec<u8>,
@@ -80,7 +102,19 @@ pub(crate) fn write_accepted(
     write_text(output, line.as_str())
 }
 
-/// Writes the line of a load whose text is refused.
+/// Writes the line of a load of an MO file that was accepted.
+pub(crate) fn write_accepted_mo(
+    alloc: Global,
+    output: &mut Vec<u8>,
+    entries: u64,
+) -> Result<(), AllocError>
+    ensures { OnOk result (output.new.items ≡ output.old.items ++ accepted_mo_line entries) }
+{
+    let line = format!(in alloc; "accepted-mo\t{entries}\n")?;
+    write_text(output, line.as_str())
+}
+
+/// Writes the line of a load whose PO text is refused.
 pub(crate) fn write_refused(
     alloc: Global,
     output: &mut Vec<u8>,
@@ -90,6 +124,19 @@ pub(crate) fn write_refused(
 {
     let (number, at) = (rank_of(fault.kind), fault.line);
     let line = format!(in alloc; "refused\t{number}\t{at}\n")?;
+    write_text(output, line.as_str())
+}
+
+/// Writes the line of a load whose MO file is refused.
+pub(crate) fn write_refused_mo(
+    alloc: Global,
+    output: &mut Vec<u8>,
+    fault: MoFault,
+) -> Result<(), AllocError>
+    ensures { OnOk result (output.new.items ≡ output.old.items ++ refused_mo_line fault) }
+{
+    let number = mo_rank_of(fault);
+    let line = format!(in alloc; "refused-mo\t{number}\n")?;
     write_text(output, line.as_str())
 }
 

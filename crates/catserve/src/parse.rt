@@ -10,7 +10,7 @@ ghost use Rattle.catserve.specs.Scanning.{IsLineFault, ParseFails, IsTextFault};
 use crate::command::{Line, read_line, read_workers, says_nothing};
 use crate::fault::{LineFault, ScriptFault, ScriptKind};
 use crate::line::{split_line, take_lines};
-use crate::rounds::{LoadText, Rounds, Script};
+use crate::rounds::{LoadSource, Rounds, Script, ScriptLoad};
 use catalogue::MAX_TEXT;
 use simdutf8::compat::from_utf8;
 use std::alloc::Global;
@@ -68,13 +68,26 @@ fn take_in<'a>(
             let Some((text, rest)) = take_lines(behind, count) else {
                 return Err(LineFault::Bad);
             };
-            rounds.load(LoadText {
+            let source = LoadSource::Po { text, options };
+            rounds.load(ScriptLoad {
                 domain,
                 locale,
-                options,
-                text,
+                source,
             })?;
             Ok((rest, number + 1 + count as u32))
+        }
+        Line::LoadsMo {
+            domain,
+            locale,
+            bytes,
+        } => {
+            let source = LoadSource::Mo { bytes };
+            rounds.load(ScriptLoad {
+                domain,
+                locale,
+                source,
+            })?;
+            Ok((behind, number + 1))
         }
     }
 }

@@ -1,13 +1,17 @@
 //! A round of a script: its loads, and the answers of its workers.
-ghost use Rattle.std.specs.Prelude.{◌≡◌, ◌+◌, ◌≤◌, [], IfOk, OnOk, length, vec_len};
+ghost use Rattle.std.specs.Prelude.{◌≡◌, ◌+◌, ◌≤◌, [], IfOk, IfErr, OnOk, OnErr, length, vec_len};
 ghost use Rattle.live_versions.specs.Store.{HasRoom};
+ghost use Rattle.desks.specs.Jobs.{IsAccepted, IsRefused};
 ghost use Rattle.catserve.specs.Running.{AreReady, HasRoomFor, IsPlayFault, LoadsOne, LoadsAll, PlaysOne};
 
 use crate::asking::{give_all, write_all};
 use crate::fault::ScriptKind;
-use crate::output::{write_accepted, write_refused, write_unnamed, write_version};
-use crate::rounds::{LoadText, Round};
-use desks::{Desk, Gate, Place, serve};
+use crate::output::{
+    write_accepted, write_accepted_mo, write_refused, write_refused_mo, write_unnamed,
+    write_version,
+};
+use crate::rounds::{LoadSource, Round, ScriptLoad};
+use desks::{Accepted, Desk, Gate, Place, serve};
 use live_versions::{Publisher, StoreFault};
 use std::alloc::{AllocError, Global};
 use std::sync::Wait;
@@ -20,11 +24,35 @@ impl Gate for OpenGate {
     fn pass(&self, _place: Place, _index: u64) {}
 }
 
+/// Gives a load to the publisher. Where it is refused, nothing changes.
+fn add_load(
+    alloc: Global,
+    publisher: &mut Publisher,
+    load: &ScriptLoad<'_>,
+) -> Result<Accepted, StoreFault>
+    ensures ok { IfOk result (λ answer. IsAccepted publisher.old load.now answer publisher.new) }
+    ensures err { IfErr result (IsRefused publisher.old load.now) }
+    ensures unchanged { OnErr result (publisher.new ≡ publisher.old) }
+    ensures seen { publisher.new.seen ≡ publisher.old.seen }
+{
+    let (domain, locale) = (load.domain, load.locale);
+    match &load.source {
+        LoadSource::Po { text, options } => {
+            let stats = publisher.load(alloc, domain, locale, text, *options)?;
+            Ok(Accepted::Po(stats))
+        }
+        LoadSource::Mo { bytes } => {
+            let entries = publisher.load_mo(alloc, domain, locale, bytes.as_slice())?;
+            Ok(Accepted::Mo(entries))
+        }
+    }
+}
+
 /// Makes a load, and writes its line.
 fn make_load(
     alloc: Global,
     publisher: &mut Publisher,
-    load: &LoadText<'_>,
+    load: &ScriptLoad<'_>,
     output: &mut Vec<u8>,
 ) -> Result<(), AllocError>
     requires { HasRoom publisher.old }
@@ -33,10 +61,12 @@ fn make_load(
     ensures seen { publisher.new.seen ≡ publisher.old.seen }
     ensures most { publisher.new.most ≡ publisher.old.most }
 {
-    match publisher.load(alloc, load.domain, load.locale, load.text, load.options) {
-        Ok(stats) => write_accepted(alloc, output, stats),
+    match add_load(alloc, publisher, load) {
+        Ok(Accepted::Po(stats)) => write_accepted(alloc, output, stats),
+        Ok(Accepted::Mo(entries)) => write_accepted_mo(alloc, output, entries),
         Err(StoreFault::BadName) => write_unnamed(output),
         Err(StoreFault::Refused(fault)) => write_refused(alloc, output, fault),
+        Err(StoreFault::RefusedMo(fault)) => write_refused_mo(alloc, output, fault),
         Err(StoreFault::VersionsSpent) => unreachable!(),
         Err(StoreFault::Memory) => Err(AllocError),
     }
@@ -46,7 +76,7 @@ fn make_load(
 fn make_loads(
     alloc: Global,
     publisher: &mut Publisher,
-    loads: &[LoadText<'_>],
+    loads: &[ScriptLoad<'_>],
     output: &mut Vec<u8>,
 ) -> Result<(), AllocError>
     requires { HasRoomFor (length loads.now) publisher.old }

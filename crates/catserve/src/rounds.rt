@@ -9,22 +9,30 @@ use std::alloc::{AllocError, Global};
 use std::marker::Model;
 use std::mem;
 
-/// A PO text for a domain and a locale, and how it is compiled.
+/// Where the catalogue of a load comes from.
 #[derive(Drop)]
-pub(crate) struct LoadText<'a> {
-    pub(crate) domain: &'a str,
-    pub(crate) locale: &'a str,
-    pub(crate) options: Options,
-    pub(crate) text: &'a [u8],
+pub(crate) enum LoadSource<'a> {
+    /// A PO text, and how it is compiled.
+    Po { text: &'a [u8], options: Options },
+    /// An MO file.
+    Mo { bytes: Vec<u8> },
 }
 
-impl<'a> Model for LoadText<'a> {
+/// A load for a domain and a locale.
+#[derive(Drop)]
+pub(crate) struct ScriptLoad<'a> {
+    pub(crate) domain: &'a str,
+    pub(crate) locale: &'a str,
+    pub(crate) source: LoadSource<'a>,
+}
+
+impl<'a> Model for ScriptLoad<'a> {
     ghost use Rattle.desks.specs.Jobs.{JobValue};
+    ghost use Rattle.catserve.specs.LineValues.{source_value};
 
     ghost Value = { JobValue };
 
-    ghost view = { λ l.
-        record { domain = l.domain.now; locale = l.locale.now; options = l.options; text = l.text.now } };
+    ghost view = { λ l. record { domain = l.domain.now; locale = l.locale.now; source = source_value l.source } };
 }
 
 /// A question, and the number of the worker that is asked.
@@ -45,7 +53,7 @@ impl Model for Question {
 /// A round: its loads, and its questions.
 #[derive(Drop)]
 pub(crate) struct Round<'a> {
-    pub(crate) loads: Vec<LoadText<'a>>,
+    pub(crate) loads: Vec<ScriptLoad<'a>>,
     pub(crate) questions: Vec<Question>,
 }
 
@@ -113,7 +121,7 @@ impl<'a> Rounds<'a> {
     }
 
     /// One more load in the current round.
-    pub(crate) fn load(&mut self, load: LoadText<'a>) -> Result<(), AllocError>
+    pub(crate) fn load(&mut self, load: ScriptLoad<'a>) -> Result<(), AllocError>
         ensures { OnOk result (self.new ≡ gathered self.old (Load load.entry)) }
     {
         self.begun = true;

@@ -1,5 +1,6 @@
 //! Runs of a script over devices that fail in mid-stream. What is wanted was written by hand, and not taken from
 //! a run. More scripts are run by the program itself (`tests/scripts.sh`).
+use crate::tell;
 use catserve::{ScriptFault, ScriptKind, run_script};
 use devices::{Reading, Writing};
 use std::alloc::Global;
@@ -9,7 +10,7 @@ use std::sync::Wait;
 use std::test::Fail;
 use std::thread::Threads;
 
-/// Two rounds: the second one replaces a catalogue, and has a text that is refused.
+/// Two rounds: the second one replaces a catalogue, and has a text that is refused and an MO file.
 const SCRIPT: &str = "\
     load\tapp\tfr\t-\t2\n\
     msgid \"hi\"\n\
@@ -32,6 +33,11 @@ const SCRIPT: &str = "\
     msgstr \"y\"\n\
     ask\t1\tapp\tfr\tgettext\thi\n\
     ask\t0\tapp\tfr\tpgettext\tmenu\thi\n\
+    loadmo\tapp\tfr_CA\tde1204950000000001000000\
+    1c00000024000000000000002c000000\
+    020000002c000000050000002f000000\
+    68690073616c757400\n\
+    ask\t0\tapp\tfr_CA\tgettext\thi\n\
 ";
 
 /// What the script writes.
@@ -44,9 +50,11 @@ const OUTPUT: &str = "\
     1\t2\thallo\n\
     accepted\t1\t0\t0\n\
     refused\t9\t4\n\
-    version\t3\n\
-    0\t3\thi\n\
-    1\t3\tbonjour\n\
+    accepted-mo\t1\n\
+    version\t4\n\
+    0\t4\thi\n\
+    0\t4\tsalut\n\
+    1\t4\tbonjour\n\
 ";
 
 /// A reader that gives 16 bytes at a time, and fails after `good` reads.
@@ -148,4 +156,31 @@ fn each_write_fails(rt: HostRuntime) -> Result<(), Fail> {
         assert!(rt; OUTPUT.as_bytes().starts_with(written.as_slice()), "{good}");
     }
     Ok(())
+}
+
+/// Each kind has its number. Some of the kinds are what no run ends with: so the numbers are told here.
+#[test]
+fn each_kind_is_told(rt: HostRuntime) {
+    for (kind, line, said) in [
+        (ScriptKind::TooLarge, 0, "catserve: 1 0\n"),
+        (ScriptKind::NotUtf8, 0, "catserve: 2 0\n"),
+        (
+            ScriptKind::BadLine,
+            4_294_967_295,
+            "catserve: 3 4294967295\n",
+        ),
+        (ScriptKind::ReadFault, 0, "catserve: 4 0\n"),
+        (ScriptKind::WriteFault, 0, "catserve: 5 0\n"),
+        (ScriptKind::NoPlace, 0, "catserve: 6 0\n"),
+        (ScriptKind::Closed, 0, "catserve: 7 0\n"),
+        (ScriptKind::Join, 0, "catserve: 8 0\n"),
+        (ScriptKind::Memory, 0, "catserve: 9 0\n"),
+    ] {
+        let mut errors = Writing::new(FailingWriter {
+            held: Vec::new(rt.alloc()),
+            good: usize::MAX,
+        });
+        tell(rt.alloc(), ScriptFault { kind, line }, &mut errors);
+        assert!(rt; errors.inner.held.as_slice() == said.as_bytes(), "{said}");
+    }
 }

@@ -3,22 +3,46 @@ use Rattle.std.proofs.Common.{◌≡◌, ◌≢◌, ◌⊎◌, inl, inr, ℕ, Li
 use Rattle.std.proofs.Common.{◌+◌, ◌<◌, length, take, drop, append_assoc}
 use Rattle.std.proofs.lemmas.List.{take_more, take-append-drop}
 use Rattle.std.specs.Prelude.{get_or}
+use Rattle.catalogue.specs.Entry.{Entry}
 use Rattle.catalogue.specs.declared.Options.{Options}
 use Rattle.catalogue.specs.declared.Stats.{Stats}
 use Rattle.live_versions.specs.declared.fault.StoreFault.{StoreFault}
 use Rattle.live_versions.specs.declared.fault.StoreFault.TheVariants as fault
 use Rattle.live_versions.specs.Batches.{published}
 use Rattle.live_versions.specs.Seen.{SeenValue}
-use Rattle.live_versions.specs.Store.{StoreValue, IsRefused}
-use Rattle.desks.specs.Jobs.{JobValue, Outcome, after_publish, IsAccepted, Does, DoesAll, HasDone, Stops}
+use Rattle.live_versions.specs.Store.{StoreValue, Adds, Accepts, IsFileFault, IsRefusedFor, IsRefusedMo}
+use Rattle.desks.specs.declared.job.Accepted.{Accepted}
+use Rattle.desks.specs.declared.job.Accepted.TheVariants as accepted
+use Rattle.desks.specs.Jobs.{SourceValue, Po, Mo, JobValue, Outcome, after_publish, Brings, IsSourceFault, IsAccepted}
+use Rattle.desks.specs.Jobs.{IsRefused, Does, DoesAll, HasDone, Stops}
 use Rattle.desks.specs.Working.{LeavesOne}
 
-abbrev pub job_of : List ℕ → List ℕ → List ℕ → Options → JobValue
-job_of domain locale text options = record { domain = domain; locale = locale; options = options; text = text }
+-- ---- a load of either kind
 
-pub same_job : (d d' l l' t t' : List ℕ) (o : Options) → d ≡ d' → l ≡ l' → t ≡ t' → job_of d l t o ≡ job_of d' l' t' o
-same_job d d' l l' t t' o p q r = ap (λ x. job_of x l t o) p ∙ (ap (λ x. job_of d' x t o) q
-    ∙ ap (λ x. job_of d' l' x o) r)
+-- an accepted load of a job that is a PO text
+pub accepted_po : (s t : StoreValue) (job : JobValue) (domain locale text : List ℕ) (options : Options) (stats : Stats)
+    → job.domain ≡ domain → job.locale ≡ locale → job.source ≡ Po text options
+    → Accepts s domain locale text options stats t → IsAccepted s job (accepted.Po stats) t
+accepted_po s t job domain locale text options stats d l is accepts =
+    let map : List Entry = accepts.compiled.catalogue in
+    let brings : Brings (Po text options) (accepted.Po stats) map =
+    (accepts.compiled, accepts.means, accepts.stats_are, refl) in (
+      map,
+      subst (λ (x : SourceValue). Brings x (accepted.Po stats) map) (sym is) brings,
+      subst (λ (x : List ℕ). Adds s x job.locale map t) (sym d) (subst (λ (x : List ℕ). Adds s domain x map t) (sym l)
+          accepts.adds),
+    )
+
+-- a refused one of a job that is an MO file
+pub refused_mo : (s : StoreValue) (job : JobValue) (domain locale bytes : List ℕ) (e : StoreFault)
+    → job.domain ≡ domain → job.locale ≡ locale → job.source ≡ Mo bytes → IsRefusedMo s domain locale bytes e
+    → IsRefused s job e
+refused_mo s job domain locale bytes e d l is refused =
+    subst (λ (x : SourceValue). IsRefusedFor (IsSourceFault x) s job.domain job.locale e) (sym is)
+    (subst (λ (x : List ℕ). IsRefusedFor (IsFileFault bytes) s x job.locale e) (sym d)
+    (subst (λ (x : List ℕ). IsRefusedFor (IsFileFault bytes) s domain x e) (sym l) refused))
+
+-- ---- a job
 
 -- a publish as its clauses tell it
 pub is_published : (s t : StoreValue)
@@ -30,12 +54,10 @@ is_published s t seen pending most =
     let C : ℕ → StoreValue = λ x. record { seen = (after_publish s).seen; pending = []; most = x } in
     ap A seen ∙ (ap B pending ∙ ap C most)
 
-pub does_refused : (s t : StoreValue) (job : JobValue) (e : StoreFault) → e ≢ fault.Memory
-    → IsRefused s job.domain job.locale job.text job.options e → t ≡ s → Does s job (Err e) t
+pub does_refused : (s t : StoreValue) (job : JobValue) (e : StoreFault) → e ≢ fault.Memory → IsRefused s job e → t ≡ s
+    → Does s job (Err e) t
 does_refused s t job fault.Memory not is same = absurd (not refl)
-does_refused s t job fault.BadName not is same = (is, same)
-does_refused s t job fault.VersionsSpent not is same = (is, same)
-does_refused s t job (fault.Refused why) not is same = (is, same)
+does_refused s t job e not is same = (is, same)
 
 pub does_all_snoc : (s t u : StoreValue) (jobs : List JobValue) (job : JobValue) (outcomes : List Outcome) (o : Outcome)
     → DoesAll s jobs outcomes t → Does t job o u → DoesAll s (jobs ++ job ∷ []) (outcomes ++ o ∷ []) u
@@ -75,10 +97,10 @@ stops_in_job s t u jobs first job rest outcomes split done left = inr (record {
   left = leaves left;
 })
   where
-    leaves : LeavesOne t job u → (u ≡ t) ⊎ ((j : JobValue) × (others : List JobValue) × (stats : Stats)
-        × (job ∷ rest ≡ j ∷ others) × IsAccepted t j stats u)
+    leaves : LeavesOne t job u → (u ≡ t) ⊎ ((j : JobValue) × (others : List JobValue) × (counts : Accepted)
+        × (job ∷ rest ≡ j ∷ others) × IsAccepted t j counts u)
     leaves (inl same) = inl same
-    leaves (inr (stats, accepted)) = inr (job, rest, stats, refl, accepted)
+    leaves (inr (counts, accepted)) = inr (job, rest, counts, refl, accepted)
 
 -- what holds between two jobs
 pub record Playing (s : StoreValue) (jobs : List JobValue) (outcomes : List Outcome) (now : StoreValue) : Type 0 where
@@ -98,11 +120,9 @@ playing_first s t outcomes none same = record {
 }
 
 does_pending : (s t : StoreValue) (job : JobValue) (o : Outcome) → s.pending ≡ [] → Does s job o t → t.pending ≡ []
-does_pending s t job (Ok stats) none (l, a, is) = ap (λ (x : StoreValue). x.pending) is
+does_pending s t job (Ok counts) none (l, a, is) = ap (λ (x : StoreValue). x.pending) is
 does_pending s t job (Err fault.Memory) none h = absurd h
-does_pending s t job (Err fault.BadName) none h = ap (λ (x : StoreValue). x.pending) h.1 ∙ none
-does_pending s t job (Err fault.VersionsSpent) none h = ap (λ (x : StoreValue). x.pending) h.1 ∙ none
-does_pending s t job (Err (fault.Refused why)) none h = ap (λ (x : StoreValue). x.pending) h.1 ∙ none
+does_pending s t job (Err e) none h = ap (λ (x : StoreValue). x.pending) h.1 ∙ none
 
 -- one more job
 pub playing_more : (s t u : StoreValue) (jobs more : List JobValue) (job : JobValue) (os after : List Outcome)

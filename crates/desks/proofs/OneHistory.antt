@@ -31,10 +31,8 @@ record Done (seen : ℕ → ℕ) (jobs : List JobValue) (outcomes : List Outcome
   pub jobs_are : AreJobs jobs outcomes history
 
 unchanged : (s u : StoreValue) (job : JobValue) (why : StoreFault) → Does s job (Err why) u → s ≡ u
-unchanged s u job fault.BadName does = sym does.1
-unchanged s u job fault.VersionsSpent does = sym does.1
-unchanged s u job (fault.Refused why) does = sym does.1
 unchanged s u job fault.Memory does = absurd does
+unchanged s u job why does = sym does.1
 
 done_all : (seen : ℕ → ℕ) (jobs : List JobValue) (outcomes : List Outcome) (t s : StoreValue)
     → DoesAll s jobs outcomes t → Done seen jobs outcomes t s
@@ -50,23 +48,18 @@ done_all seen [] [] t s does = record {
 }
 done_all seen [] (outcome ∷ outcomes) t s does = absurd does
 done_all seen (job ∷ jobs) [] t s does = absurd does
-done_all seen (job ∷ jobs) (Ok stats ∷ outcomes) t s (between, one, all) =
-    let accepted = one.1 in
-    let load : LoadValue = record {
-      domain = job.domain;
-      locale = job.locale;
-      map = accepted.compiled.catalogue;
-    } in
-    let loaded : StoreValue = record s { pending = s.pending ++ load ∷ [] } in
-    let next : between ≡ after_publish loaded = one.2 ∙ ap after_publish accepted.after_is in
-    let rest : Done seen jobs outcomes t (after_publish loaded) = subst
+done_all seen (job ∷ jobs) (Ok counts ∷ outcomes) t s (between, (loaded, (map, brings, adds), is), all) =
+    let load : LoadValue = record { domain = job.domain; locale = job.locale; map = map } in
+    let next : between ≡ after_publish (record s { pending = s.pending ++ load ∷ [] }) = is
+    ∙ ap after_publish adds.after_is in
+    let rest : Done seen jobs outcomes t (after_publish (record s { pending = s.pending ++ load ∷ [] })) = subst
     (λ (x : StoreValue). Done seen jobs outcomes t x) next (done_all seen jobs outcomes t between all) in
     record {
       history = Accept load ∷ Publish ∷ rest.history;
-      runs = (accepted.room, (tt, rest.runs));
+      runs = (adds.room, (tt, rest.runs));
       below = (tt, (tt, rest.below));
       level = rest.level;
-      jobs_are = ((accepted.compiled, accepted.means, accepted.stats_are, refl), rest.jobs_are);
+      jobs_are = ((refl, refl, brings), rest.jobs_are);
     }
 done_all seen (job ∷ jobs) (Err why ∷ outcomes) t s (between, one, all) =
     let rest : Done seen jobs outcomes t s = subst (λ (x : StoreValue). Done seen jobs outcomes t x)

@@ -1,37 +1,70 @@
 -- What becomes of jobs, each a load that is published by itself.
-use Rattle.std.specs.Prelude.{◌≡◌, ◌⊎◌, ℕ, List, [], ◌∷◌, ◌++◌, Result, Ok, Err}
+use Rattle.std.specs.Prelude.{◌≡◌, ◌⊎◌, ℕ, List, [], ◌∷◌, ◌++◌, length, Result, Ok, Err}
+use Rattle.catalogue.specs.Entry.{Entry}
+use Rattle.catalogue.specs.Meaning.{Means}
 use Rattle.catalogue.specs.declared.Options.{Options}
-use Rattle.catalogue.specs.declared.Stats.{Stats}
+use Rattle.catalogue.specs.declared.Compiled.{Compiled}
+use Rattle.mo_file.specs.MoReading.{Mo as IsFileOf}
 use Rattle.live_versions.specs.declared.fault.StoreFault.{StoreFault}
 use Rattle.live_versions.specs.declared.fault.StoreFault.TheVariants.{Memory}
 use Rattle.live_versions.specs.Batches.{published}
-use Rattle.live_versions.specs.Store.{StoreValue, Accepts, IsRefused}
+use Rattle.live_versions.specs.Store.{StoreValue, Adds, IsTextFault, IsFileFault, IsRefusedFor}
+use Rattle.desks.specs.declared.job.Source.{Source}
+use Rattle.desks.specs.declared.job.Source.TheVariants as source
+use Rattle.desks.specs.declared.job.Accepted.{Accepted}
+use Rattle.desks.specs.declared.job.Accepted.TheVariants as accepted
 
--- a PO text for a domain and a locale, and how it is compiled
+-- what a load is of: a PO text, and how it is compiled, or an MO file
+pub data SourceValue : Type 0 where
+  Po : (text : List ℕ) (options : Options) → SourceValue
+  Mo : (bytes : List ℕ) → SourceValue
+
+-- what contracts see of one
+abbrev pub source_value : Source → SourceValue
+source_value (source.Po bytes options) = Po bytes.items options
+source_value (source.Mo bytes) = Mo bytes.items
+
+-- a source for a domain and a locale
 pub record JobValue : Type 0 where
   pub domain : List ℕ
   pub locale : List ℕ
-  pub options : Options
-  pub text : List ℕ
+  pub source : SourceValue
 
--- what a job is answered: the counts of a load that was accepted, or why it was refused
+-- a job's outcome: what its load is answered where it is accepted, or why it is refused
 abbrev pub Outcome : Type 0
-Outcome = Result Stats StoreFault
+Outcome = Result Accepted StoreFault
 
 -- the pending loads, if there are any, are published as one batch
 abbrev pub after_publish : StoreValue → StoreValue
 after_publish s = record s { seen = record s.seen { batches = published s.seen.batches s.pending }; pending = [] }
 
--- a job's load is accepted, with these counts
-abbrev pub IsAccepted : StoreValue → JobValue → Stats → StoreValue → Type 0
-IsAccepted s job stats after = Accepts s job.domain job.locale job.text job.options stats after
+-- a source brings this map, and its load is answered this: the counts of a PO text, or how many entries the map has
+abbrev pub Brings : SourceValue → Accepted → List Entry → Type 0
+Brings (Po text options) (accepted.Po stats) map = (compiled : Compiled) × Means text options compiled
+    × (stats ≡ compiled.stats) × (map ≡ compiled.catalogue)
+Brings (Mo bytes) (accepted.Mo entries) map = IsFileOf bytes map × (entries ≡ length map)
+Brings _ _ map = ⊥
+
+-- a source is refused for this
+abbrev pub IsSourceFault : SourceValue → StoreFault → Type 0
+IsSourceFault (Po text options) = IsTextFault text options
+IsSourceFault (Mo bytes) = IsFileFault bytes
+
+-- a job's load is accepted, with this answer: the map that its source brings is added
+abbrev pub IsAccepted : StoreValue → JobValue → Accepted → StoreValue → Type 0
+IsAccepted s job counts after = (map : List Entry) × Brings job.source counts map
+    × Adds s job.domain job.locale map after
+
+-- it is refused for this reason
+abbrev pub IsRefused : StoreValue → JobValue → StoreFault → Type 0
+IsRefused s job fault = IsRefusedFor (IsSourceFault job.source) s job.domain job.locale fault
 
 -- A job is done: its load is accepted and published as one batch, or it is refused and nothing changes. Want of memory
 -- is no outcome.
 abbrev pub Does : StoreValue → JobValue → Outcome → StoreValue → Type 0
-Does s job (Ok stats) after = (loaded : StoreValue) × IsAccepted s job stats loaded × (after ≡ after_publish loaded)
+Does s job (Ok counts) after = (loaded : StoreValue) × IsAccepted s job counts loaded × (after ≡ after_publish loaded)
 Does s job (Err Memory) after = ⊥
-Does s job (Err fault) after = IsRefused s job.domain job.locale job.text job.options fault × (after ≡ s)
+Does s job (Err fault) after = IsRefused s job fault × (after ≡ s)
 
 -- jobs are done one after another, each with its outcome
 abbrev pub DoesAll : StoreValue → List JobValue → List Outcome → StoreValue → Type 0
@@ -53,8 +86,8 @@ pub record StopsWithin (s : StoreValue) (jobs : List JobValue) (after : StoreVal
   pub reached : StoreValue
   pub done : HasDone s first outcomes reached
   pub left : (after ≡ reached)
-      ⊎ ((job : JobValue) × (others : List JobValue) × (stats : Stats) × (rest ≡ job ∷ others)
-      × IsAccepted reached job stats after)
+      ⊎ ((job : JobValue) × (others : List JobValue) × (counts : Accepted) × (rest ≡ job ∷ others)
+      × IsAccepted reached job counts after)
 
 -- what the jobs leave where they are stopped by a fault: no load is lost, and none invented
 abbrev pub Stops : StoreValue → List JobValue → StoreValue → Type 0

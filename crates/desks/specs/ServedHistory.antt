@@ -3,9 +3,6 @@ use Rattle.std.specs.Prelude.{◌≡◌, ◌≤◌, ◌==◌, ⊤, ℕ, if◌the
 use Rattle.std.specs.Prelude.{Ok, Err}
 use Rattle.std.specs.List.{AllZip}
 use Rattle.std.specs.String.{string_bytes}
-use Rattle.catalogue.specs.Meaning.{Means}
-use Rattle.catalogue.specs.declared.Stats.{Stats}
-use Rattle.catalogue.specs.declared.Compiled.{Compiled}
 use Rattle.live_set.specs.Loads.{LoadValue}
 use Rattle.live_set.specs.Asks.{QueryValue}
 use Rattle.live_set.specs.Asks.{IsAnswer as HasText}
@@ -14,7 +11,8 @@ use Rattle.live_versions.specs.Store.{StoreValue}
 use Rattle.live_versions.specs.History.{Event, Accept, Refuse, Publish, Enter, State, after, state_from, IsLegalFrom}
 use Rattle.desks.specs.declared.desk.Answer.{Answer}
 use Rattle.desks.specs.declared.desk.Desk.{Desk}
-use Rattle.desks.specs.Jobs.{JobValue, Outcome, HasDone}
+use Rattle.desks.specs.declared.job.Accepted.{Accepted}
+use Rattle.desks.specs.Jobs.{JobValue, Outcome, Brings, HasDone}
 use Rattle.desks.specs.Desks.{IsServed}
 
 -- ---- the desks of the workers, which are counted from 0: a worker that has no desk has nothing
@@ -75,15 +73,15 @@ without_entries [] = []
 without_entries (Enter reader version ∷ events) = without_entries events
 without_entries (event ∷ events) = event ∷ without_entries events
 
--- the load that a job with these counts brings
-abbrev pub IsLoadOf : JobValue → Stats → LoadValue → Type 0
-IsLoadOf job stats load = (compiled : Compiled) × Means job.text job.options compiled × (stats ≡ compiled.stats)
-    × (load ≡ record { domain = job.domain; locale = job.locale; map = compiled.catalogue })
+-- the load that a job with this answer brings
+abbrev pub IsLoadOf : JobValue → Accepted → LoadValue → Type 0
+IsLoadOf job counts load = (load.domain ≡ job.domain) × (load.locale ≡ job.locale)
+    × Brings job.source counts load.map
 
 -- each job's load is accepted and published, or it is refused
 abbrev pub AreJobs : List JobValue → List Outcome → List Event → Type 0
 AreJobs [] [] [] = ⊤
-AreJobs (job ∷ jobs) (Ok stats ∷ outcomes) (Accept load ∷ Publish ∷ events) = IsLoadOf job stats load
+AreJobs (job ∷ jobs) (Ok counts ∷ outcomes) (Accept load ∷ Publish ∷ events) = IsLoadOf job counts load
     × AreJobs jobs outcomes events
 AreJobs (job ∷ jobs) (Err fault ∷ outcomes) (Refuse ∷ events) = AreJobs jobs outcomes events
 AreJobs _ _ _ = ⊥

@@ -1,18 +1,18 @@
 -- Private: what one job leaves, and what a worker, and the end of a service, do to a desk.
 use Rattle.std.specs.Prelude.{◌≡◌, ◌⊎◌, ◌≢◌, Some, None}
-use Rattle.catalogue.specs.declared.Stats.{Stats}
 use Rattle.live_versions.specs.Seen.{SeenValue}
 use Rattle.live_versions.specs.Store.{StoreValue}
 use Rattle.live_versions.specs.Batches.{version_of, StartsWith}
 use Rattle.desks.specs.declared.desk.Desk.{Desk}
 use Rattle.desks.specs.declared.desk.ServeFault.TheVariants.{Ahead}
+use Rattle.desks.specs.declared.job.Accepted.{Accepted}
 use Rattle.desks.specs.Jobs.{JobValue, IsAccepted}
 use Rattle.desks.specs.Answers.{Answered}
 use Rattle.desks.specs.Desks.{IsKept}
 
 -- a fault leaves a job's load pending, or nothing
 abbrev pub LeavesOne : StoreValue → JobValue → StoreValue → Type 0
-LeavesOne s job after = (after ≡ s) ⊎ ((stats : Stats) × IsAccepted s job stats after)
+LeavesOne s job after = (after ≡ s) ⊎ ((counts : Accepted) × IsAccepted s job counts after)
 
 -- the reader has learnt what was published, and nothing else changed
 pub record HasLearnt (start : SeenValue) (desk after : Desk) : Type 0 where

@@ -1,7 +1,7 @@
 //! Queries of one to sixteen readers, answered beside a thread that loads and publishes.
 //!
-//! Each reader has a desk with its queries; the publisher has jobs, each a load that is published by itself. `serve`
-//! works them all at once, and answers each query by one entry of the store.
+//! Each reader has a desk with its queries; the publisher has jobs, each a load, of a PO text or of an MO file, that is
+//! published by itself. `serve` works them all at once, and answers each query by one entry of the store.
 #![tactic(auto)]
 
 mod desk;
@@ -17,6 +17,6 @@ mod worker;
 
 pub use desk::{Answer, Desk, ServeFault};
 pub use gate::{Gate, Place};
-pub use job::Job;
+pub use job::{Accepted, Job, Source};
 pub use law::{one_end, one_history};
 pub use service::{Served, serve};

@@ -1,16 +1,35 @@
 //! The publishing thread.
 ghost use Rattle.std.specs.Prelude.{◌≡◌, ◌≢◌, [], IfOk, OnErr, IfErr};
-ghost use Rattle.desks.specs.Jobs.{Does, HasDone, Stops};
+ghost use Rattle.desks.specs.Jobs.{IsAccepted, IsRefused, Does, HasDone, Stops};
 ghost use Rattle.desks.specs.Working.{LeavesOne};
 ghost use Rattle.desks.specs.declared.desk.ServeFault.TheVariants.{Ahead};
 
 use crate::desk::ServeFault;
 use crate::gate::{Gate, Place};
-use crate::job::Job;
-use catalogue::Stats;
+use crate::job::{Accepted, Job, Source};
 use live_versions::{Publisher, StoreFault};
 use std::alloc::Global;
 use std::sync::Wait;
+
+/// Loads what a job is of.
+fn load(alloc: Global, publisher: &mut Publisher, job: &Job) -> Result<Accepted, StoreFault>
+    ensures ok { IfOk result (λ counts. IsAccepted publisher.old job.now counts publisher.new) }
+    ensures err { IfErr result (IsRefused publisher.old job.now) }
+    ensures unchanged { OnErr result (publisher.new ≡ publisher.old) }
+    ensures seen { publisher.new.seen ≡ publisher.old.seen }
+{
+    let (domain, locale) = (job.domain.as_str(), job.locale.as_str());
+    match &job.source {
+        Source::Po { bytes, options } => {
+            let stats = publisher.load(alloc, domain, locale, bytes.as_slice(), *options)?;
+            Ok(Accepted::Po(stats))
+        }
+        Source::Mo { bytes } => {
+            let entries = publisher.load_mo(alloc, domain, locale, bytes.as_slice())?;
+            Ok(Accepted::Mo(entries))
+        }
+    }
+}
 
 /// Does one job: a load, which is published where it is accepted.
 fn do_job<R: Wait>(
@@ -18,7 +37,7 @@ fn do_job<R: Wait>(
     alloc: Global,
     publisher: &mut Publisher,
     job: &Job,
-) -> Result<Result<Stats, StoreFault>, ServeFault>
+) -> Result<Result<Accepted, StoreFault>, ServeFault>
     requires { publisher.old.pending ≡ [] }
     ensures book { publisher.new.seen.book ≡ publisher.old.seen.book }
     ensures most { publisher.new.most ≡ publisher.old.most }
@@ -26,13 +45,12 @@ fn do_job<R: Wait>(
     ensures err { OnErr result (LeavesOne publisher.old job.now publisher.new) }
     ensures fault { IfErr result (λ fault. fault ≢ Ahead) }
 {
-    let (domain, locale) = (job.domain.as_str(), job.locale.as_str());
-    match publisher.load(alloc, domain, locale, job.bytes.as_slice(), job.options) {
-        Ok(stats) => {
+    match load(alloc, publisher, job) {
+        Ok(counts) => {
             if publisher.publish(rt).is_err() {
                 return Err(ServeFault::Memory);
             }
-            Ok(Ok(stats))
+            Ok(Ok(counts))
         }
         Err(fault) => match fault {
             StoreFault::Memory => Err(ServeFault::Memory),
@@ -48,7 +66,7 @@ pub(crate) fn do_jobs<R: Wait, G: Gate>(
     alloc: Global,
     publisher: &mut Publisher,
     jobs: &[Job],
-    outcomes: &mut Vec<Result<Stats, StoreFault>>,
+    outcomes: &mut Vec<Result<Accepted, StoreFault>>,
 ) -> Result<(), ServeFault>
     ensures book { publisher.new.seen.book ≡ publisher.old.seen.book }
     ensures most { publisher.new.most ≡ publisher.old.most }

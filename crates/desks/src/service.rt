@@ -10,11 +10,10 @@ ghost use Rattle.desks.specs.declared.desk.ServeFault.TheVariants.{Ahead};
 
 use crate::desk::{Desk, ServeFault};
 use crate::gate::Gate;
-use crate::job::Job;
+use crate::job::{Accepted, Job};
 use crate::publish::do_jobs;
 use crate::settle::{first_fault, learn_all, settle_all};
 use crate::worker::{are_idle, work_all};
-use catalogue::Stats;
 use live_versions::{Publisher, StoreFault, Version};
 use std::alloc::Global;
 use std::sync::Wait;
@@ -23,7 +22,7 @@ use std::thread::{Threads, join_mut};
 /// The outcome of each job, in order, and the version at the end.
 #[derive(Drop)]
 pub struct Served {
-    pub outcomes: Vec<Result<Stats, StoreFault>>,
+    pub outcomes: Vec<Result<Accepted, StoreFault>>,
     pub version: Version,
 }
 
@@ -32,7 +31,7 @@ fn run_all<R: Threads + Wait + Sync, G: Gate + Sync>(
     rt: &R,
     alloc: Global,
     publisher: &mut Publisher,
-    outcomes: &mut Vec<Result<Stats, StoreFault>>,
+    outcomes: &mut Vec<Result<Accepted, StoreFault>>,
     jobs: &[Job],
     gate: &G,
     desks: &mut [Desk],
@@ -66,7 +65,7 @@ fn serve_slice<R: Threads + Wait + Sync, G: Gate + Sync>(
     rt: &R,
     alloc: Global,
     publisher: &mut Publisher,
-    outcomes: &mut Vec<Result<Stats, StoreFault>>,
+    outcomes: &mut Vec<Result<Accepted, StoreFault>>,
     jobs: &[Job],
     gate: &G,
     desks: &mut [Desk],

@@ -2,10 +2,11 @@
 //! run.
 ghost use Rattle.std.specs.Prelude.{◌≡◌, All, IfOk, vec_len};
 
-use crate::{Desk, Gate, Job, Place, ServeFault, Served, serve};
+use crate::{Accepted, Desk, Gate, Job, Place, ServeFault, Served, Source, serve};
 use catalogue::{LoadFault, LoadKind, Options, Stats};
 use live_set::{Ask, Query};
 use live_versions::{Lookups, Publisher, StoreFault, Version, open_store};
+use mo_file::MoFault;
 use std::alloc::{AllocError, Global};
 use std::sync::Wait;
 use std::sync::atomic::{AtomicU64, Ordering};
@@ -30,11 +31,16 @@ const SALUT: &[u8] = b"msgid \"hi\"\nmsgstr \"salut\"\n";
 
 const TWICE: &[u8] = b"msgid \"a\"\nmsgstr \"x\"\n#, fuzzy\nmsgid \"a\"\nmsgstr \"y\"\n";
 
-const ONE: Stats = Stats {
+/// An MO file of `hi` to `salut` and `yes` to `oui`.
+const FILE: &[u8] = b"\xde\x12\x04\x95\0\0\0\0\x02\0\0\0\x1c\0\0\0\x2c\0\0\0\0\0\0\0\x3c\0\0\0\
+    \x02\0\0\0\x3c\0\0\0\x03\0\0\0\x3f\0\0\0\x05\0\0\0\x43\0\0\0\x03\0\0\0\x49\0\0\0\
+    hi\0yes\0salut\0oui\0";
+
+const ONE: Accepted = Accepted::Po(Stats {
     translated: 1,
     fuzzy: 0,
     untranslated: 0,
-};
+});
 
 const DUPLICATE: StoreFault = StoreFault::Refused(LoadFault {
     kind: LoadKind::Duplicate,
@@ -217,15 +223,30 @@ fn desks_of(
     Ok(desks)
 }
 
-fn job(alloc: Global, domain: &str, text: &[u8]) -> Result<Job, AllocError> {
-    let mut bytes = Vec::new(alloc);
-    bytes.extend_from_slice(text)?;
+fn job_of(alloc: Global, domain: &str, source: Source) -> Result<Job, AllocError> {
     Ok(Job {
         domain: String::from_str(alloc, domain)?,
         locale: String::from_str(alloc, "fr")?,
+        source,
+    })
+}
+
+/// A PO text in French.
+fn job(alloc: Global, domain: &str, text: &[u8]) -> Result<Job, AllocError> {
+    let mut bytes = Vec::new(alloc);
+    bytes.extend_from_slice(text)?;
+    let source = Source::Po {
         bytes,
         options: PLAIN,
-    })
+    };
+    job_of(alloc, domain, source)
+}
+
+/// An MO file in French.
+fn file_job(alloc: Global, domain: &str, file: &[u8]) -> Result<Job, AllocError> {
+    let mut bytes = Vec::new(alloc);
+    bytes.extend_from_slice(file)?;
+    job_of(alloc, domain, Source::Mo { bytes })
 }
 
 /// So many jobs, each the same.
@@ -363,6 +384,35 @@ fn jobs_have_their_outcomes(rt: HostRuntime) -> Result<(), Fail> {
     assert_eq!(rt; outcomes.get(1), Some(&Err(DUPLICATE)));
     assert_eq!(rt; outcomes.get(2), Some(&Err(StoreFault::BadName)));
     assert_eq!(rt; (served.version, ran.version, ran.pending), (1, 1, 0));
+    Ok(())
+}
+
+/// The bytes but for the last one.
+fn cut(bytes: &[u8]) -> &[u8] {
+    match bytes.split_last() {
+        Some((_, front)) => front,
+        None => bytes,
+    }
+}
+
+#[test]
+fn files_have_their_outcomes(rt: HostRuntime) -> Result<(), Fail> {
+    let mut jobs = Vec::new(rt.alloc());
+    jobs.push(file_job(rt.alloc(), "app", FILE)?)?;
+    jobs.push(file_job(rt.alloc(), "app", cut(FILE))?)?;
+    jobs.push(file_job(rt.alloc(), "a b", FILE)?)?;
+    let ran = serve_new(&rt, rt.alloc(), 2, 9, false, THREE, jobs, &Open)?;
+    let served = ran.served?;
+    let outcomes = served.outcomes.as_slice();
+    assert_eq!(rt; outcomes.len(), 3);
+    assert_eq!(rt; outcomes.get(0), Some(&Ok(Accepted::Mo(2))));
+    assert_eq!(rt;
+        outcomes.get(1),
+        Some(&Err(StoreFault::RefusedMo(MoFault::Bounds)))
+    );
+    assert_eq!(rt; outcomes.get(2), Some(&Err(StoreFault::BadName)));
+    assert_eq!(rt; (served.version, ran.version, ran.pending), (1, 1, 0));
+    assert!(rt; are_right(ran.desks.as_slice(), 3, 1));
     Ok(())
 }
 

@@ -71,7 +71,7 @@ fn read_some<R: Source>(
 
 /// The first `limit` bytes of an input, in at most `most_reads` reads through `chunk`.
 #[tactic(auto, using(crate::proofs::ReadLemmas::many_reads))]
-fn read_within<R: Source>(
+pub(crate) fn read_within<R: Source>(
     alloc: Global,
     reader: &mut R,
     chunk: &mut [u8],

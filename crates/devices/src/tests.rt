@@ -4,7 +4,8 @@ ghost use Rattle.std.specs.Prelude.{◌≡◌, ◌≤◌, IfOk, IfSome, OnOk, So
 ghost use Rattle.devices.specs.Devices.{RisesBy};
 ghost use Rattle.devices.specs.Files.{Logs};
 
-use crate::{FileFault, Files, InputFault, Reading, Sink, Writing, read_all};
+use crate::input::read_within;
+use crate::{FileFault, Files, InputFault, MOST_READS, Reading, Sink, Writing, read_all};
 use std::alloc::{AllocError, Global};
 use std::io;
 use std::io::{Read, Write};
@@ -115,6 +116,51 @@ fn a_reader_fails_in_mid_stream(rt: HostRuntime) {
             "{failing}"
         );
         assert_eq!(rt; reader.failures, 1, "{failing}");
+    }
+}
+
+/// A reader that is interrupted so many times, and then is at its end.
+#[derive(Drop)]
+struct InterruptedReader {
+    left: u32,
+}
+
+impl Read for InterruptedReader {
+    fn read(&mut self, _buf: &mut [u8]) -> io::Result<usize> {
+        if self.left == 0 {
+            return Ok(0);
+        }
+        self.left -= 1;
+        Err(io::Error::from(io::ErrorKind::Interrupted))
+    }
+}
+
+#[test]
+fn an_interrupted_reader_is_given_up(rt: HostRuntime) {
+    for (interrupted, is_read) in [(MOST_READS - 1, true), (MOST_READS, false)] {
+        let mut reader = Reading::new(InterruptedReader { left: interrupted });
+        let bytes = read_all(rt.alloc(), &mut reader, 9);
+        assert_eq!(rt; bytes.is_ok(), is_read, "{interrupted}");
+        if let Err(fault) = bytes {
+            assert_eq!(rt; fault, InputFault::Unreadable);
+        }
+        assert_eq!(rt; reader.reads, 134_217_728, "{interrupted}");
+        assert_eq!(rt; reader.failures, 0, "{interrupted}");
+    }
+}
+
+// The last of the reads finds the end.
+#[test]
+fn a_slow_reader_is_given_up(rt: HostRuntime) {
+    for (most_reads, is_read) in [(6, true), (5, false), (1, false), (0, false)] {
+        let mut reader = Reading::new(SlowReader::new("salut", 1));
+        let bytes = read_within(rt.alloc(), &mut reader, &mut [0; 4], 9, most_reads);
+        assert_eq!(rt; bytes.is_ok(), is_read, "{most_reads}");
+        if let Err(fault) = bytes {
+            assert_eq!(rt; fault, InputFault::Unreadable);
+        }
+        assert_eq!(rt; reader.reads, most_reads as u64, "{most_reads}");
+        assert_eq!(rt; reader.failures, 0, "{most_reads}");
     }
 }
 

@@ -13,10 +13,10 @@ use Rattle.mo_image.specs.Entry.{Entry, key}
 use Rattle.mo_image.specs.Map.{IsLawful, entry_at}
 use Rattle.mo_image.specs.Parts.{cut}
 use Rattle.entry_search.specs.Search.{AtMostDigits}
-use Rattle.entry_search.specs.Index.{hash, hash_by, hash_within, HasNoSlot, IsIndex}
+use Rattle.entry_search.specs.Index.{hash, hash_by, hash_within, HasNoSlot, IndexValue, IsIndex}
 use Rattle.mo_image.specs.MoFile.{spelling}
 use Rattle.mo_image.specs.Extents.{AreExtentsOf}
-use Rattle.entry_search.specs.declared.index.Slot.{Slot}
+use Rattle.entry_search.specs.declared.slot_table.Slot.{Slot}
 use Rattle.entry_search.proofs.Searching.{apart, few_steps, find_none, find_some, greater_ne, less_ne, some_is}
 use Rattle.mo_image.proofs.EntryParts.{cut-some}
 use Rattle.mo_image.proofs.Originals.{uncut_at}
@@ -28,31 +28,32 @@ differs_unless k asked never = elim (bytes_eq k asked) as (λ r. bytes_eq k aske
 ] refl
 
 -- an entry with this key has a slot of its hash
-slot_of_key : (m : List Entry) (slots : List Slot) (asked : List ℕ) (j : ℕ) (d : Entry) → IsIndex m slots
+slot_of_key : (m : List Entry) (index : IndexValue) (asked : List ℕ) (j : ℕ) (d : Entry) → IsIndex m index
     → slice_get m j ≡ Some d → bytes_eq (key d) asked ≡ true
-    → (slot : Slot) × Contains slots slot × AreExtentsOf (spelling m) (length m) j slot.extents
+    → (slot : Slot) × Contains index.slots slot × AreExtentsOf (spelling m) (length m) j slot.extents
     × (slot.hash ≡ hash asked)
-slot_of_key m slots asked j d index here same =
+slot_of_key m value asked j d index here same =
     let there = index.names.each j d here in
     (there.0, there.1, there.2, there.3 ∙ ap hash ((bytes_eq-Decides (key d) asked).0 same))
 
-pub absent_without_slot : (m : List Entry) (slots : List Slot) (asked : List ℕ) → IsIndex m slots
-    → HasNoSlot slots (hash asked) → entry_at m asked ≡ None
-absent_without_slot m slots asked index none = find_none m asked (λ j d here. differs_unless (key d) asked (λ same.
-    let slot = slot_of_key m slots asked j d index here same in
+pub absent_without_slot : (m : List Entry) (value : IndexValue) (asked : List ℕ) → IsIndex m value
+    → HasNoSlot value.slots (hash asked) → entry_at m asked ≡ None
+absent_without_slot m value asked index none = find_none m asked (λ j d here. differs_unless (key d) asked (λ same.
+    let slot = slot_of_key m value asked j d index here same in
     none slot.0 slot.1 slot.3))
 
 abbrev pub LeadsTo : List Entry → Slot → Entry → Type 0
 LeadsTo m slot e = (i : ℕ) → AreExtentsOf (spelling m) (length m) i slot.extents → slice_get m i ≡ Some e
 
 -- the only slot of this hash is that of another key
-pub absent_by_slot : (m : List Entry) (slots : List Slot) (asked : List ℕ) (slot : Slot) (e : Entry) → IsIndex m slots
-    → Contains slots slot → slot.hash ≡ hash asked
+pub absent_by_slot : (m : List Entry) (value : IndexValue) (asked : List ℕ) (slot : Slot) (e : Entry) → IsIndex m value
+    → HasNoSlot value.shared (hash asked) → Contains value.slots slot → slot.hash ≡ hash asked
     → LeadsTo m slot e → bytes_eq (key e) asked ≡ false → entry_at m asked ≡ None
-absent_by_slot m slots asked slot e index has hashed leads other = find_none m asked
+absent_by_slot m value asked slot e index alone has hashed leads other = find_none m asked
     (λ j d there. differs_unless (key d) asked (λ same.
-    let mine = slot_of_key m slots asked j d index there same in
-    let one : mine.0 ≡ slot = index.one mine.0 slot mine.1 has (mine.3 ∙ sym hashed) in
+    let mine = slot_of_key m value asked j d index there same in
+    let one : mine.0 ≡ slot = index.one mine.0 slot mine.1 has (mine.3 ∙ sym hashed)
+    (λ other among same_hash. alone other among (same_hash ∙ mine.3)) in
     let here : slice_get m j ≡ Some e = leads j (subst (λ (r : Slot). AreExtentsOf (spelling m) (length m) j r.extents)
     one mine.2) in
     let is : e ≡ d = some_is e d (sym here ∙ there) in

@@ -11,8 +11,8 @@ use Rattle.std.proofs.lemmas.List.Sorted.{IsPermutation-sym, Contains-permutatio
 use Rattle.mo_image.specs.Entry.{Entry, key}
 use Rattle.mo_image.specs.MoFile.{spelling}
 use Rattle.mo_image.specs.Extents.{AreExtentsOf}
-use Rattle.entry_search.specs.declared.index.Slot.{Slot}
-use Rattle.entry_search.specs.Index.{hash, Climbs, IsIndex, NamesEntries, OneForEachHash}
+use Rattle.entry_search.specs.declared.slot_table.Slot.{Slot}
+use Rattle.entry_search.specs.Index.{hash, Climbs, HasNoSlot, IsIndex, NamesEntries, OneForEachHash}
 use Rattle.entry_search.proofs.Searching.{some_at}
 
 -- ---- a slot for each entry
@@ -77,37 +77,102 @@ named_in_order m slots sorted moves n = record {
 
 -- ---- hashes that rise
 
-abbrev pub HashesRise : List Slot → ℕ → Type 0
-HashesRise slots n = (p q : ℕ) (d : Slot) → p < q → q < n → (get_or slots p d).hash < (get_or slots q d).hash
+-- of the first n slots, each has a greater hash than those before it, or a hash that one of the shared has
+abbrev pub HashesRise : List Slot → List Slot → ℕ → Type 0
+HashesRise slots shared n = (p q : ℕ) (d : Slot) → p < q → q < n → HasNoSlot shared (get_or slots q d).hash
+    → (get_or slots p d).hash < (get_or slots q d).hash
 
-pub rise_more : (slots : List Slot) (n : ℕ) (first : Slot) → Climbs slots → HashesRise slots n → 1 ≤ n
-    → n < length slots
-    → ((get_or slots (n - 1) first).hash ≡ (get_or slots n first).hash → ⊥) → HashesRise slots (n + 1)
-rise_more slots n first climbs rise some lt other p q d pq q_lt = elim (cases_lt q n) [
-  | inl before ↦ rise p q d pq before
-  | inr from ↦
-      let same : q ≡ n = omega (arith, from, q_lt) in
-      let a : (get_or slots p d).hash ≤ (get_or slots (n - 1) d).hash = climbs p (n - 1) d (omega (arith, pq, same))
-      (omega (arith, lt)) in
-      let b : (get_or slots (n - 1) d).hash ≤ (get_or slots n d).hash = climbs (n - 1) n d (omega arith) lt in
-      let before_last = ap (λ (r : Slot). r.hash) (get_or_default slots (n - 1) first d (omega (arith, lt))) in
-      let last = ap (λ (r : Slot). r.hash) (get_or_default slots n first d lt) in
-      rw same (omega (arith, a, b, before_last, last, other))
-]
+pub record Shared (slots : List Slot) (n : ℕ) (shared : List Slot) : Type 0 where
+  pub climbs : Climbs shared
+  pub within : (p : ℕ) (d : Slot) → p < length shared → (get_or shared p d).hash ≤ (get_or slots (n - 1) d).hash
+  pub rise : HashesRise slots shared n
 
-below_apart : (slots : List Slot) (n : ℕ) → length slots ≤ n → HashesRise slots n
-    → (x y : Slot) (h : Contains slots x) (k : Contains slots y) → h.0 < k.0 → x.hash < y.hash
-below_apart slots n all rise x y h k lt =
-    let up = rise h.0 k.0 x lt (omega (arith, k.1, all)) in
+one_higher : (slots : List Slot) (n : ℕ) (d : Slot) → Climbs slots → 1 ≤ n → n < length slots
+    → (get_or slots (n - 1) d).hash ≤ (get_or slots n d).hash
+one_higher slots n d climbs some lt = climbs (n - 1) n d (omega arith) lt
+
+at_last : (n : ℕ) → n + 1 - 1 ≡ n
+at_last n = omega arith
+
+-- the hash of the next slot is another one
+pub shared_same : (slots shared : List Slot) (n : ℕ) (first : Slot) → Climbs slots → Shared slots n shared → 1 ≤ n
+    → n < length slots → ((get_or slots (n - 1) first).hash ≡ (get_or slots n first).hash → ⊥)
+    → Shared slots (n + 1) shared
+shared_same slots shared n first climbs s some lt other = record {
+  climbs = s.climbs;
+  within = λ p d p_lt. rw (at_last n) (omega (arith, s.within p d p_lt, one_higher slots n d climbs some lt));
+  rise = λ p q d pq q_lt none. elim (cases_lt q n) [
+    | inl before ↦ s.rise p q d pq before none
+    | inr from ↦
+        let same : q ≡ n = omega (arith, from, q_lt) in
+        let a : (get_or slots p d).hash ≤ (get_or slots (n - 1) d).hash = climbs p (n - 1) d (omega (arith, pq, same))
+        (omega (arith, lt)) in
+        let before_last = ap (λ (r : Slot). r.hash) (get_or_default slots (n - 1) first d (omega (arith, lt))) in
+        let last = ap (λ (r : Slot). r.hash) (get_or_default slots n first d lt) in
+        rw same (omega (arith, a, one_higher slots n d climbs some lt, before_last, last, other))
+  ];
+}
+
+among_more : (shared more : List Slot) (slot : Slot) → more ≡ shared ++ (slot ∷ []) → (x : Slot)
+    → Contains shared x → Contains more x
+among_more shared more slot is x h = (
+  h.0,
+  omega (arith, h.1, ap length is, length-append shared (slot ∷ [])),
+  ap (λ (xs : List Slot). get_or xs h.0 x) is ∙ get_or_append_left shared (slot ∷ []) x h.0 h.1 ∙ h.2,
+)
+
+at_end_of : (shared more : List Slot) (slot d : Slot) → more ≡ shared ++ (slot ∷ [])
+    → get_or more (length shared) d ≡ slot
+at_end_of shared more slot d is = ap (λ (xs : List Slot). get_or xs (length shared) d) is
+    ∙ get_or-append_seam shared slot [] d
+
+-- the next slot has the hash of the one before it
+pub shared_more : (slots shared more : List Slot) (n : ℕ) (slot : Slot) → Climbs slots → Shared slots n shared → 1 ≤ n
+    → n < length slots → more ≡ shared ++ (slot ∷ []) → ((d : Slot) → slot ≡ get_or slots n d)
+    → Shared slots (n + 1) more
+shared_more slots shared more n slot climbs s some lt is at =
+    let long : length more ≡ length shared + 1 = omega (arith, ap length is, length-append shared (slot ∷ [])) in
+    let old : (p : ℕ) (d : Slot) → p < length shared → get_or more p d ≡ get_or shared p d = λ p d p_lt.
+    ap (λ (xs : List Slot). get_or xs p d) is ∙ get_or_append_left shared (slot ∷ []) d p p_lt in
+    let new : (p : ℕ) (d : Slot) → p ≡ length shared → get_or more p d ≡ get_or slots n d = λ p d p_is.
+    ap (λ (k : ℕ). get_or more k d) p_is ∙ at_end_of shared more slot d is ∙ at d in
+    let within : (p : ℕ) (d : Slot) → p < length more → (get_or more p d).hash ≤ (get_or slots n d).hash = λ p d p_lt.
+    elim (cases_lt p (length shared)) [
+      | inl before ↦ rw (old p d before) (omega (arith, s.within p d before, one_higher slots n d climbs some lt))
+      | inr from ↦ rw (new p d (omega (arith, from, p_lt, long))) (omega arith)
+    ] in
+    record {
+      climbs = λ i j d le j_lt. elim (cases_lt j (length shared)) [
+        | inl before ↦ rw (old i d (omega (arith, le, before)), old j d before) (s.climbs i j d le before)
+        | inr from ↦ rw (new j d (omega (arith, from, j_lt, long))) (within i d (omega (arith, le, j_lt)))
+      ];
+      within = λ p d p_lt. rw (at_last n) (within p d p_lt);
+      rise = λ p q d pq q_lt none. elim (cases_lt q n) [
+        | inl before ↦ s.rise p q d pq before (λ x h e. none x (among_more shared more slot is x h) e)
+        | inr from ↦
+            let same : q ≡ n = omega (arith, from, q_lt) in
+            let last : get_or more (length shared) slot ≡ slot = at_end_of shared more slot slot is in
+            absurd (none slot (length shared, omega (arith, long), last)
+            (ap (λ (r : Slot). r.hash) (at d) ∙ ap (λ (k : ℕ). (get_or slots k d).hash) (sym same)))
+      ];
+    }
+
+below_apart : (slots shared : List Slot) (n : ℕ) → length slots ≤ n → HashesRise slots shared n
+    → (x y : Slot) (h : Contains slots x) (k : Contains slots y) → h.0 < k.0 → HasNoSlot shared y.hash → x.hash < y.hash
+below_apart slots shared n all rise x y h k lt none =
     let first : get_or slots h.0 x ≡ x = h.2 in
     let second : get_or slots k.0 x ≡ y = get_or_default slots k.0 x y k.1 ∙ k.2 in
+    let up = rise h.0 k.0 x lt (omega (arith, k.1, all))
+    (subst (λ (r : Slot). HasNoSlot shared r.hash) (sym second) none) in
     subst (λ (r : Slot). x.hash < r.hash) second (subst (λ (r : Slot). r.hash < (get_or slots k.0 x).hash) first up)
 
-pub own_hashes : (slots : List Slot) (n : ℕ) → length slots ≤ n → HashesRise slots n → OneForEachHash slots
-own_hashes slots n all rise x y h k same = elim (cases_lt h.0 k.0) [
-  | inl lt ↦ absurd (omega (arith, same, below_apart slots n all rise x y h k lt))
+pub own_hashes : (slots shared : List Slot) (n : ℕ) → length slots ≤ n → Shared slots n shared
+    → OneForEachHash slots shared
+own_hashes slots shared n all s x y h k same none = elim (cases_lt h.0 k.0) [
+  | inl lt ↦ absurd (omega
+      (arith, same, below_apart slots shared n all s.rise x y h k lt (λ z among e. none z among (e ∙ sym same))))
   | inr ge ↦ elim (cases_lt k.0 h.0) [
-    | inl gt ↦ absurd (omega (arith, same, below_apart slots n all rise y x k h gt))
+    | inl gt ↦ absurd (omega (arith, same, below_apart slots shared n all s.rise y x k h gt none))
     | inr le ↦
         let at : h.0 ≡ k.0 = omega (arith, ge, le) in
         sym h.2 ∙ ap (λ (i : ℕ). get_or slots i x) at ∙ get_or_default slots k.0 x y k.1 ∙ k.2
@@ -170,13 +235,13 @@ spread_same slots placed n s all x = (
   (λ h. let there = s.only h.0 x h.1 in (there.0, omega (arith, there.1, all), sym there.2 ∙ h.2)),
 )
 
-pub indexed : (m : List Entry) (slots placed : List Slot) → NamesEntries m slots → OneForEachHash slots → Climbs placed
-    → ((x : Slot) → (Contains slots x → Contains placed x) × (Contains placed x → Contains slots x)) → IsIndex m placed
-indexed m slots placed n one climbs same = record {
+pub indexed : (m : List Entry) (slots placed shared : List Slot) → NamesEntries m slots → OneForEachHash slots shared
+    → ((x : Slot) → (Contains slots x → Contains placed x) × (Contains placed x → Contains slots x))
+    → IsIndex m (record { slots = placed; shared = shared })
+indexed m slots placed shared n one same = record {
   names = record {
     each = λ i e h. let there = n.each i e h in (there.0, (same there.0).0 there.1, there.2, there.3);
     only = λ x h. n.only x ((same x).1 h);
   };
-  climbs = climbs;
   one = λ x y h k. one x y ((same x).1 h) ((same y).1 k);
 }

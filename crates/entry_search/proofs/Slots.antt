@@ -3,7 +3,7 @@ use Rattle.std.proofs.Common.{◌≡◌, ℕ, ◌-◌, ◌<◌, ◌≤◌, List,
 use Rattle.std.specs.List.{AllWithin}
 use Rattle.std.proofs.lemmas.Bool.{cases_lt}
 use Rattle.std.proofs.lemmas.List.{get_or_default}
-use Rattle.entry_search.specs.declared.index.Slot.{Slot}
+use Rattle.entry_search.specs.declared.slot_table.Slot.{Slot}
 use Rattle.entry_search.specs.Index.{Climbs, HasNoSlot, IsCut}
 
 pub below_is : (slots : List Slot) (bound cut : ℕ) (slot : Slot) → Climbs slots → slot ≡ get_or slots (cut - 1) slot

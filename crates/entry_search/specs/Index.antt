@@ -2,7 +2,7 @@
 use Rattle.std.specs.Prelude.{◌≡◌, ℕ, ◌<◌, ◌≤◌, List, Option, Some, None, Contains, length, slice_get}
 use Rattle.std.specs.List.Sorted.{IsNonDecreasingBy, IsPartitionPoint}
 use Rattle.std.specs.Hash.FoldHasher as folding
-use Rattle.entry_search.specs.declared.index.Slot.{Slot}
+use Rattle.entry_search.specs.declared.slot_table.Slot.{Slot}
 use Rattle.mo_image.specs.Entry.{Entry, key}
 use Rattle.mo_image.specs.MoFile.{spelling}
 use Rattle.mo_image.specs.Parts.{cut}
@@ -27,9 +27,19 @@ hash key = hash_by key (cut 4 key)
 abbrev pub Climbs : List Slot → Type 0
 Climbs slots = IsNonDecreasingBy (λ slot. slot.hash) slots
 
--- slots of one hash are the same slot
-abbrev pub OneForEachHash : List Slot → Type 0
-OneForEachHash slots = (x y : Slot) → Contains slots x → Contains slots y → x.hash ≡ y.hash → x ≡ y
+-- no slot has this hash
+abbrev pub HasNoSlot : List Slot → ℕ → Type 0
+HasNoSlot slots h = (slot : Slot) → Contains slots slot → slot.hash ≡ h → ⊥
+
+-- slots of one hash are the same slot, where no slot of the others has that hash
+abbrev pub OneForEachHash : List Slot → List Slot → Type 0
+OneForEachHash slots shared =
+    (x y : Slot) → Contains slots x → Contains slots y → x.hash ≡ y.hash → HasNoSlot shared x.hash → x ≡ y
+
+-- the slots of an index, and those of hashes that several keys have
+pub record IndexValue : Type 0 where
+  pub slots : List Slot
+  pub shared : List Slot
 
 -- the slot of the i-th entry is there, with the hash of its key
 abbrev pub HasSlotOf : List Entry → List Slot → ℕ → Entry → Type 0
@@ -41,15 +51,10 @@ pub record NamesEntries (m : List Entry) (slots : List Slot) : Type 0 where
   pub each : (i : ℕ) (e : Entry) → slice_get m i ≡ Some e → HasSlotOf m slots i e
   pub only : (slot : Slot) → Contains slots slot → AreExtents (spelling m) (length m) slot.extents
 
-pub record IsIndex (m : List Entry) (slots : List Slot) : Type 0 where
-  pub names : NamesEntries m slots
-  pub climbs : Climbs slots
-  pub one : OneForEachHash slots
+pub record IsIndex (m : List Entry) (index : IndexValue) : Type 0 where
+  pub names : NamesEntries m index.slots
+  pub one : OneForEachHash index.slots index.shared
 
 -- this many slots have hashes below a bound, and those behind them have not
 abbrev pub IsCut : List Slot → ℕ → ℕ → Type 0
 IsCut slots bound cut = IsPartitionPoint (λ slot. slot.hash < bound) (λ slot. bound ≤ slot.hash) slots cut
-
--- no slot has this hash
-abbrev pub HasNoSlot : List Slot → ℕ → Type 0
-HasNoSlot slots h = (slot : Slot) → Contains slots slot → slot.hash ≡ h → ⊥

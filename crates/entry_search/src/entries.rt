@@ -51,12 +51,12 @@ impl Entries {
     }
 
     /// Makes an index of the keys' hashes, by which a search is one comparison of keys. The entries stay as they are.
-    /// Answers AllocError where memory is refused, and nothing is changed then. Where two keys have one hash, of 64
-    /// bits, there is no index, and searches go on by halves.
+    /// Answers AllocError where memory is refused, and nothing is changed then. Where several keys have one hash, of 64
+    /// bits, searches for these go on by halves.
     pub fn index(&mut self, alloc: Global) -> Result<(), AllocError>
         ensures { self.new ≡ self.old }
     {
-        self.index = index_of(alloc, &self.image)?;
+        self.index = Some(index_of(alloc, &self.image)?);
         Ok(())
     }
 

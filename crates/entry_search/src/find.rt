@@ -10,8 +10,9 @@ ghost use Rattle.entry_search.specs.Search.{AtMostDigits};
 ghost use Rattle.entry_search.specs.Index.{hash, IsIndex};
 
 use crate::Steps;
-use crate::index::{Index, hash_of, hash_within};
+use crate::index::Index;
 use crate::keys::cmp_in_context;
+use crate::slot_table::{hash_of, hash_within};
 use mo_image::{EntryRef, Image, key_of, plural_of, split_context};
 use std::cmp::Ordering;
 use std::marker::{Brand, Model};
@@ -184,7 +185,7 @@ fn search<'a, L: Ledger>(
     None
 }
 
-/// The entry of this key, by the slot that the index has of its hash.
+/// The entry of this key, by the slot that the index has of its hash; by halves, where several keys have that hash.
 #[inline(always)]
 fn search_indexed<'a, L: Ledger>(
     image: &'a Image,
@@ -199,6 +200,9 @@ fn search_indexed<'a, L: Ledger>(
     let Some(hash) = asked.hash() else {
         return search(image, asked, steps);
     };
+    if index.is_shared(hash) {
+        return search(image, asked, steps);
+    }
     let entry = image.entry_in(&index.slot_of(hash)?.extents);
     if is_same(entry.original(), asked, steps) {
         Some(entry)

@@ -1,170 +1,49 @@
 //! Where an entry is found by the hash of its key, in one comparison.
-ghost use Rattle.std.specs.Prelude.{◌≡◌, ◌<◌, ◌≤◌, length, Contains, IfSome, IfNone, IsTrue};
-ghost use Rattle.std.specs.List.{AllWithin};
-ghost use Rattle.entry_search.specs.Index.{hash, hash_alone, hash_within, Climbs, IsCut, HasNoSlot};
+ghost use Rattle.std.specs.Prelude.{◌≡◌, false, Contains, IfNone, IfSome};
+ghost use Rattle.entry_search.specs.Index.{HasNoSlot};
 
-use mo_image::{EntryExtents, split_context};
-use std::hash::{FoldHasher, Hasher};
+use crate::slot_table::{Slot, SlotTable};
 use std::marker::Model;
 
-/// How far from where it is expected a slot is looked for.
-const REACH: usize = 8;
-
-/// How an entry is found: a slot leads from the hash of its key to its texts at once.
-#[derive(Clone, Copy, Debug)]
-pub(crate) struct Slot {
-    /// The hash of the entry's key.
-    pub(crate) hash: u64,
-    /// Where its texts lie.
-    pub(crate) extents: EntryExtents,
-}
-
-/// The entries of a catalogue by the hashes of their keys: their slots in rising order, each near the place
-/// that its hash expects. For two entries there are about three slots, since some stand there twice.
+/// The entries of a catalogue by the hashes of their keys. Where keys share a hash, which somebody may bring about who
+/// picks them, those keys are searched for by halves, and all others by their slots.
 #[derive(Drop)]
 pub(crate) struct Index {
-    slots: Vec<Slot>,
-    /// By how many places the slots are spread.
-    spread: usize,
+    slots: SlotTable,
+    /// A slot of each hash that several keys have.
+    shared: SlotTable,
 }
 
 impl Model for Index {
-    ghost use Rattle.std.specs.Prelude.{List};
-    ghost use Rattle.entry_search.specs.declared.index.Slot.{Slot};
-    ghost use Rattle.entry_search.specs.Index.{Climbs};
+    ghost use Rattle.entry_search.specs.Index.{IndexValue};
 
-    ghost Value = { List Slot };
+    ghost Value = { IndexValue };
 
-    ghost view = { λ index. index.slots.items };
-
-    ghost invariant = { λ index. Climbs index.slots.items };
-}
-
-/// The hash of a msgid alone.
-#[inline]
-fn hash_alone(id: &str) -> u64
-    ensures { result ≡ hash_alone id.now }
-{
-    let mut hasher = FoldHasher::default();
-    hasher.write(id.as_bytes());
-    hasher.finish()
-}
-
-/// The hash of a msgid in a context.
-pub(crate) fn hash_within(context: &str, id: &str) -> u64
-    ensures { result ≡ hash_within context.now id.now }
-{
-    let mut hasher = FoldHasher::default();
-    hasher.write(context.as_bytes());
-    hasher.write(id.as_bytes());
-    hasher.finish()
-}
-
-/// The hash of a key.
-#[inline]
-pub(crate) fn hash_of(key: &str) -> u64
-    ensures { result ≡ hash key.now }
-{
-    match split_context(key) {
-        Some((context, id)) => hash_within(context, id),
-        None => hash_alone(key),
-    }
-}
-
-/// Where a hash's slot is expected, if slots are spread by this many places.
-pub(crate) fn home(hash: u64, spread: usize) -> usize
-    ensures { result < 4294967296 }
-{
-    ((hash >> 32).wrapping_mul(spread as u64) >> 32) as usize
+    ghost view = { λ index. record { slots = index.slots; shared = index.shared } };
 }
 
 impl Index {
-    pub(crate) fn new(slots: Vec<Slot>, spread: usize) -> Index
-        requires { Climbs slots.items }
-        ensures { result ≡ slots.items }
+    pub(crate) fn new(slots: SlotTable, shared: SlotTable) -> Index
+        ensures { result ≡ record { slots = slots; shared = shared } }
     {
-        Index { slots, spread }
+        Index { slots, shared }
     }
 
-    /// The slot of this hash, if it stands at this place or not far behind it.
-    fn slot_near(&self, hash: u64, place: usize) -> Option<&Slot>
-        ensures some { IfSome result (λ slot. Contains self.now slot.now) }
-        ensures hash { IfSome result (λ slot. slot.now.hash ≡ hash) }
+    /// Whether several keys have this hash.
+    #[inline]
+    pub(crate) fn is_shared(&self, hash: u64) -> bool
+        ensures { result ≡ false → HasNoSlot self.now.shared hash }
     {
-        let end = place.saturating_add(REACH).min(self.slots.len());
-        'slots: for i in place..end {
-            let slot = &self.slots[i];
-            if slot.hash == hash {
-                return Some(slot);
-            }
-            if slot.hash > hash {
-                return None;
-            }
-        }
-        None
-    }
-
-    /// Whether the slots before this place have hashes below a bound.
-    fn is_below(&self, bound: u64, cut: usize) -> bool
-        requires { cut ≤ length self.now }
-        ensures { IsTrue result → AllWithin (λ slot. slot.hash < bound) self.now 0 cut }
-    {
-        cut == 0 || self.slots[cut - 1].hash < bound
-    }
-
-    /// Whether the slots from this place on have not.
-    fn is_above(&self, bound: u64, cut: usize) -> bool
-        requires { cut ≤ length self.now }
-        ensures { IsTrue result → AllWithin (λ slot. bound ≤ slot.hash) self.now cut (length self.now) }
-    {
-        cut == self.slots.len() || bound <= self.slots[cut].hash
-    }
-
-    /// How many of the slots have hashes below a bound, if the last of them is near this place.
-    fn cut_near(&self, bound: u64, place: usize) -> Option<usize>
-        ensures { IfSome result (λ cut. IsCut self.now bound cut) }
-    {
-        let end = place.saturating_add(REACH).min(self.slots.len());
-        let start = place.saturating_sub(REACH).min(end);
-        let cut = start + self.slots[start..end].partition_point(|slot| slot.hash < bound);
-        if self.is_below(bound, cut) && self.is_above(bound, cut) {
-            Some(cut)
-        } else {
-            None
-        }
-    }
-
-    /// How many of the slots have hashes below a bound; by halves, where they are far from this place.
-    fn cut(&self, bound: u64, place: usize) -> usize
-        ensures { IsCut self.now bound result }
-    {
-        match self.cut_near(bound, place) {
-            Some(cut) => cut,
-            None => self.slots.partition_point(|slot| slot.hash < bound),
-        }
-    }
-
-    /// The slot at this place, if it has this hash.
-    fn slot_at(&self, hash: u64, cut: usize) -> Option<&Slot>
-        requires { IsCut self.now hash cut }
-        ensures some { IfSome result (λ slot. Contains self.now slot.now) }
-        ensures hash { IfSome result (λ slot. slot.now.hash ≡ hash) }
-        ensures none { IfNone result (HasNoSlot self.now hash) }
-    {
-        let slot = self.slots.get(cut)?;
-        if slot.hash == hash { Some(slot) } else { None }
+        !self.shared.is_empty() && self.shared.slot_of(hash).is_some()
     }
 
     /// The slot of this hash, if there is one.
+    #[inline]
     pub(crate) fn slot_of(&self, hash: u64) -> Option<&Slot>
-        ensures some { IfSome result (λ slot. Contains self.now slot.now) }
+        ensures some { IfSome result (λ slot. Contains self.now.slots slot.now) }
         ensures hash { IfSome result (λ slot. slot.now.hash ≡ hash) }
-        ensures none { IfNone result (HasNoSlot self.now hash) }
+        ensures none { IfNone result (HasNoSlot self.now.slots hash) }
     {
-        let home = home(hash, self.spread);
-        match self.slot_near(hash, home) {
-            Some(slot) => Some(slot),
-            None => self.slot_at(hash, self.cut(hash, home)),
-        }
+        self.slots.slot_of(hash)
     }
 }

@@ -1,12 +1,13 @@
 //! The slots of an index, made of a catalogue's entries.
-ghost use Rattle.std.specs.Prelude.{◌≡◌, ◌<◌, length, slice_get, Contains, IfOk, IfSome, IsTrue};
+ghost use Rattle.std.specs.Prelude.{◌≡◌, ◌<◌, length, slice_get, Contains, IfOk, IfSome};
 ghost use Rattle.mo_image.specs.Entry.{key};
 ghost use Rattle.mo_image.specs.Extents.{AreExtentsOf};
 ghost use Rattle.mo_image.specs.MoFile.{spelling};
-ghost use Rattle.entry_search.specs.declared.index.Slot.{Slot};
+ghost use Rattle.entry_search.specs.declared.slot_table.Slot.{Slot};
 ghost use Rattle.entry_search.specs.Index.{hash, Climbs, IsIndex, NamesEntries, OneForEachHash};
 
-use crate::index::{Index, Slot, hash_of, home};
+use crate::index::Index;
+use crate::slot_table::{Slot, SlotTable, hash_of, home};
 use mo_image::{Image, key_of};
 use std::alloc::{AllocError, Global};
 
@@ -43,17 +44,19 @@ fn sort_slots(alloc: Global, image: &Image) -> Result<Vec<Slot>, AllocError>
     Ok(slots)
 }
 
-/// Whether no two of these slots, which rise, have one hash.
-fn have_own_hashes(slots: &[Slot]) -> bool
+/// A slot of each hash that several of these slots have, which rise.
+fn shared_slots(alloc: Global, slots: &[Slot]) -> Result<Vec<Slot>, AllocError>
     requires { Climbs slots.now }
-    ensures { IsTrue result → OneForEachHash slots.now }
+    ensures climbs { IfOk result (λ shared. Climbs shared.items) }
+    ensures one { IfOk result (λ shared. OneForEachHash slots.now shared.items) }
 {
+    let mut shared = Vec::new(alloc);
     'slots: for i in 1..slots.len() {
         if slots[i - 1].hash == slots[i].hash {
-            return false;
+            shared.push(slots[i])?;
         }
     }
-    true
+    Ok(shared)
 }
 
 /// The slots, each at the place that its hash expects or behind it, and repeated where there is room before it.
@@ -71,15 +74,17 @@ fn spread_out(alloc: Global, slots: &[Slot], spread: usize) -> Result<Vec<Slot>,
     Ok(placed)
 }
 
-/// The index of a catalogue's entries; none, where two of their keys have one hash.
-pub(crate) fn index_of(alloc: Global, image: &Image) -> Result<Option<Index>, AllocError>
-    ensures { IfOk result (λ index. IfSome index (λ index. IsIndex image.now index)) }
+/// The index of a catalogue's entries.
+pub(crate) fn index_of(alloc: Global, image: &Image) -> Result<Index, AllocError>
+    ensures { IfOk result (λ index. IsIndex image.now index) }
 {
     let slots = sort_slots(alloc, image)?;
-    if !have_own_hashes(&slots) {
-        return Ok(None);
-    }
+    let shared = shared_slots(alloc, &slots)?;
     let spread = slots.len() + slots.len() / 2;
     let placed = spread_out(alloc, &slots, spread)?;
-    Ok(Some(Index::new(placed, spread)))
+    let several = shared.len();
+    Ok(Index::new(
+        SlotTable::new(placed, spread),
+        SlotTable::new(shared, several),
+    ))
 }

@@ -6,6 +6,7 @@ mod find;
 mod index;
 mod index_slots;
 mod keys;
+mod slot_table;
 mod step_count;
 
 pub use entries::Entries;

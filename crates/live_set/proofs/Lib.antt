@@ -3,3 +3,4 @@ pub mod Finding
 pub mod Slotting
 pub mod Folding
 pub mod Listing
+pub mod Running

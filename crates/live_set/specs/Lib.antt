@@ -4,4 +4,5 @@ pub mod Languages
 pub mod Asks
 pub mod FirstFound
 pub mod Slots
+pub mod LoadRuns
 pub mod Sets

@@ -5,6 +5,7 @@ mod languages;
 mod load;
 mod name;
 mod query;
+mod runs;
 mod set;
 #[cfg(test)]
 mod tests;

@@ -1,12 +1,12 @@
 //! Sets of catalogues.
-ghost use Rattle.std.specs.Prelude.{◌≡◌, MatchResult, IfOk, IfErr, IfSome, OnOk, OnErr, find, option_map};
+ghost use Rattle.std.specs.Prelude.{◌≡◌, IfSome, OnOk, OnErr, find, option_map};
 ghost use Rattle.live_set.specs.Loads.{is_for};
 ghost use Rattle.live_set.specs.Names.{IsName};
 ghost use Rattle.live_set.specs.Sets.{no_loads, map_in, HasAbsorbed, absorbed};
 ghost use Rattle.live_set.specs.Asks.{HasAnswer, query_of, Plain, Context, Number, ContextNumber};
-ghost use Rattle.live_set.specs.Slots.{slotted, IsAt, IsGapFor};
 
 use crate::languages::{counted, first_form};
+use crate::runs::LoadRuns;
 use crate::{Ask, Load, Query};
 use catalogue::Catalogue;
 use std::alloc::{AllocError, Global};
@@ -19,18 +19,15 @@ use text_key::TextKey;
 pub struct CatalogueSet {
     version: u64,
     /// The last load of each domain and locale, in rising order of locale and domain.
-    held: Vec<Load>,
+    held: LoadRuns,
 }
 
 impl Model for CatalogueSet {
     ghost use Rattle.live_set.specs.Sets.{SetValue};
-    ghost use Rattle.live_set.specs.Slots.{Rises};
 
     ghost Value = { SetValue };
 
-    ghost view = { λ set. record { version = set.version; held = set.held.items } };
-
-    ghost invariant = { λ set. Rises set.held.items };
+    ghost view = { λ set. record { version = set.version; held = set.held } };
 }
 
 impl CatalogueSet {
@@ -40,7 +37,7 @@ impl CatalogueSet {
     {
         CatalogueSet {
             version: 0,
-            held: Vec::new(alloc),
+            held: LoadRuns::new(alloc),
         }
     }
 
@@ -51,39 +48,14 @@ impl CatalogueSet {
         self.version
     }
 
-    /// The slot of the load for this domain and locale, or the one that it would have.
-    fn slot(&self, domain: &TextKey<'_>, locale: &TextKey<'_>) -> Result<usize, usize>
-        ensures found { IfOk result (IsAt self.now.held domain.now locale.now) }
-        ensures absent { IfErr result (IsGapFor self.now.held domain.now locale.now) }
-    {
-        self.held
-            .binary_search_by(|load| load.compare(domain, locale))
-    }
-
     /// The catalogue for this domain and locale, if there is one.
     pub(crate) fn catalogue(&self, domain: &TextKey<'_>, locale: &str) -> Option<&Catalogue>
         ensures map { option_map (λ c. c.now) result ≡ option_map (λ l. l.map)
             (find (is_for domain.now locale.now) self.now.held) }
         ensures name { IfSome result (λ _. IsName locale.now) }
     {
-        match self.slot(domain, &TextKey::new(locale)) {
-            Ok(at) => Some(self.held[at].catalogue()),
-            Err(_) => None,
-        }
-    }
-
-    /// Puts a load in its slot, over the one for its domain and locale if there is one.
-    fn put(&mut self, load: Load) -> Result<(), AllocError>
-        ensures { MatchResult result (λ _. self.new ≡ record
-            { version = self.old.version; held = slotted self.old.held load }) (λ _. self.new ≡ self.old) }
-    {
-        match self.slot(&load.domain(), &load.locale()) {
-            Ok(at) => {
-                self.held[at] = load;
-                Ok(())
-            }
-            Err(at) => Ok(self.held.insert(at, load)?),
-        }
+        let load = self.held.get(domain, &TextKey::new(locale))?;
+        Some(load.catalogue())
     }
 
     /// Takes in a load: its catalogue takes the place of the one for its domain and locale, and the
@@ -95,7 +67,7 @@ impl CatalogueSet {
         // The value is the one that each set has after this load: two copies stay alike.
         ensures value { OnOk result (self.new ≡ absorbed self.old load.now) }
     {
-        self.put(load.try_clone()?)?;
+        self.held.put(load.try_clone()?)?;
         self.version = self.version.saturating_add(1);
         Ok(())
     }

@@ -49,18 +49,33 @@ fn plain(alloc: Global, domain: &str, languages: &str, id: &str) -> Result<Query
 #[test]
 fn takes_names(rt: HostRuntime) -> Result<(), Fail> {
     let letters = "abcdefghijklmnopqrstuvwxyzABCDEFGHIJKLMNOPQRSTUVWXYZ0123456789_-";
-    for good in [letters, "a", "fr_CA.UTF-8@euro", "c++", "0"] {
+    let only_letters = "abcdefghijklmnopqrstuvwxyzABCDEFGHIJKLMNOPQRSTUVWXYZabcdefghijkl";
+    for good in [letters, only_letters, "a", "fr_CA.UTF-8@euro", "c++", "0"] {
         let name = Name::new(rt.alloc(), good)?;
         assert_eq!(rt; name.as_str(), good);
         let again = name.try_clone()?;
         assert_eq!(rt; again.as_str(), good);
     }
     let long = "abcdefghijklmnopqrstuvwxyzABCDEFGHIJKLMNOPQRSTUVWXYZabcdefghijklm";
-    assert_eq!(rt; letters.len(), 64);
+    assert_eq!(rt; (letters.len(), only_letters.len()), (64, 64));
     assert_eq!(rt; long.len(), 65);
     for bad in ["", long, "a b", "a/b", "a\n", "a\0", "\u{e9}", "fr:de"] {
         let refused = matches!(Name::new(rt.alloc(), bad), Err(NameFault::BadName));
         assert!(rt; refused, "{bad}");
+    }
+    Ok(())
+}
+
+#[test]
+fn answers_from_the_first_load(rt: HostRuntime) -> Result<(), Fail> {
+    let alloc = rt.alloc();
+    let mut set = CatalogueSet::new(alloc);
+    assert_eq!(rt; set.version(), 0);
+    set.absorb(&load(alloc, "app", "fr", SALUT)?)?;
+    assert_eq!(rt; set.version(), 1);
+    for (languages, wanted) in [("fr", "salut"), ("sv", "hi")] {
+        let query = plain(alloc, "app", languages, "hi")?;
+        assert_eq!(rt; set.look(&query), wanted, "{languages}");
     }
     Ok(())
 }

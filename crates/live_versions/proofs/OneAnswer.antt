@@ -1,87 +1,101 @@
 -- A load has one answer, and none is without one.
-use Rattle.std.proofs.Common.{◌≡◌, ℕ, List, [], ◌∷◌, ◌++◌, refl, sym, ap, ◌∙◌, arith, inl, inr}
-use Rattle.std.proofs.lemmas.Bool.{cases_lt}
+use Rattle.std.proofs.Common.{◌≡◌, ℕ, List, length, refl, sym, ap, ◌∙◌, arith}
+use Rattle.catalogue.specs.Entry.{Entry}
 use Rattle.catalogue.specs.declared.Options.{Options}
-use Rattle.catalogue.specs.declared.Stats.{Stats}
 use Rattle.catalogue.specs.declared.Compiled.{Compiled}
-use Rattle.catalogue.specs.declared.LoadFault.{LoadFault}
-use Rattle.catalogue.specs.declared.LoadKind.{LoadKind}
-use Rattle.catalogue.proofs.OneMeaning.{meaning_one, refusal_one, means_or_refuses}
+use Rattle.catalogue.proofs.OneMeaning.{meaning_one}
 use Rattle.catalogue.proofs.SomeMeaning.{some_meaning}
-use Rattle.live_versions.specs.Store.{StoreValue, accepted, IsWithin, AreNames, Accepts}
-use Rattle.live_versions.specs.LoadAnswers.{HasReason}
-use Rattle.live_versions.specs.declared.fault.StoreFault.{StoreFault}
-use Rattle.live_versions.specs.declared.fault.StoreFault.TheVariants.{BadName, VersionsSpent, Refused, Memory}
+use Rattle.mo_file.specs.MoReading.{rank}
+use Rattle.mo_file.specs.declared.fault.MoFault.TheVariants as mo
+use Rattle.mo_file.proofs.OneMap.{unique_map}
+use Rattle.mo_file.proofs.SomeMap.{some_map}
+use Rattle.live_versions.specs.Store.{StoreValue, IsWithin, Accepts, AcceptsMo, IsTextFault, IsFileFault, IsRefused}
+use Rattle.live_versions.specs.Store.{IsRefusedMo}
+use Rattle.live_versions.specs.LoadAnswers.{HasOneOutcome, IsAcceptedOrRefused, HasSomeAnswer, TextsHaveOneAnswer}
+use Rattle.live_versions.specs.LoadAnswers.{FilesHaveOneAnswer}
+use Rattle.live_versions.specs.declared.fault.StoreFault.TheVariants.{Refused, RefusedMo}
+use Rattle.live_versions.proofs.Refusals.{with_load, adds_load, adds_one, reason_one, added_or_refused, is_read}
+use Rattle.live_versions.proofs.BytesFaults.{text_fault_one, no_text_fault, file_fault_one, no_file_fault}
 
--- the store after a load of this catalogue
-abbrev with_load : StoreValue → List ℕ → List ℕ → Compiled → StoreValue
-with_load s domain locale compiled = record s {
-  pending = s.pending ++ record { domain = domain; locale = locale; map = compiled.catalogue } ∷ [];
-}
+-- ---- PO texts
 
-pub outcome_one : (s : StoreValue) (domain locale text : List ℕ) (options : Options) (stats other : Stats)
-    (after other_after : StoreValue) → Accepts s domain locale text options stats after
-    → Accepts s domain locale text options other other_after → (stats ≡ other) × (after ≡ other_after)
-outcome_one s domain locale text options stats other after other_after p q =
+text_outcome : (s : StoreValue) (domain locale text : List ℕ) (options : Options)
+    → HasOneOutcome (Accepts s domain locale text options)
+text_outcome s domain locale text options stats other after other_after p q =
     let same : p.compiled ≡ q.compiled = meaning_one text options p.compiled q.compiled p.means q.means in (
       p.stats_are ∙ (ap (λ (c : Compiled). c.stats) same ∙ sym q.stats_are),
-      p.after_is ∙ (ap (with_load s domain locale) same ∙ sym q.after_is),
+      adds_one s after other_after domain locale p.compiled.catalogue q.compiled.catalogue
+          (ap (λ (c : Compiled). c.catalogue) same) p.adds q.adds,
     )
 
-same_fault : (f g : LoadFault) → f.kind ≡ g.kind → f.line ≡ g.line → f ≡ g
-same_fault f g kind line =
-    let of : LoadKind → ℕ → LoadFault = λ k n. record { kind = k; line = n } in
-    ap (λ (k : LoadKind). of k f.line) kind ∙ ap (of g.kind) line
+text_apart : (s : StoreValue) (domain locale text : List ℕ) (options : Options)
+    → IsAcceptedOrRefused (Accepts s domain locale text options) (IsRefused s domain locale text options)
+text_apart s domain locale text options stats after fault p why =
+    added_or_refused (IsTextFault text options) (no_text_fault text options p.compiled p.means) s after domain locale
+    p.compiled.catalogue fault p.adds why
 
-pub reason_one : (s : StoreValue) (domain locale text : List ℕ) (options : Options) (fault other : StoreFault)
-    → HasReason s domain locale text options fault → HasReason s domain locale text options other → fault ≡ other
-reason_one s domain locale text options BadName BadName p q = refl
-reason_one s domain locale text options BadName VersionsSpent p q = absurd (p.1 q.1.0)
-reason_one s domain locale text options BadName (Refused g) p q = absurd (p.1 q.1.0)
-reason_one s domain locale text options VersionsSpent BadName p q = absurd (q.1 p.1.0)
-reason_one s domain locale text options VersionsSpent VersionsSpent p q = refl
-reason_one s domain locale text options VersionsSpent (Refused g) p q = absurd (omega (arith, p.1.1, q.1.1))
-reason_one s domain locale text options (Refused f) BadName p q = absurd (q.1 p.1.0)
-reason_one s domain locale text options (Refused f) VersionsSpent p q = absurd (omega (arith, q.1.1, p.1.1))
-reason_one s domain locale text options (Refused f) (Refused g) p q =
-    let same = refusal_one text options f.kind g.kind f.line g.line p.1.2 q.1.2 in
-    ap Refused (same_fault f g same.0 same.1)
-reason_one s domain locale text options Memory other p q = absurd (p.0 refl)
-reason_one s domain locale text options fault Memory p q = absurd (q.0 refl)
+text_some : (s : StoreValue) (domain locale text : List ℕ) (options : Options) → IsWithin s
+    → HasSomeAnswer (Accepts s domain locale text options) (IsRefused s domain locale text options)
+text_some s domain locale text options within no_outcome no_reason =
+    is_read (IsTextFault text options) s domain locale within no_reason
+    (λ names room. some_meaning text options
+    (λ compiled means. no_outcome compiled.stats (with_load s domain locale compiled.catalogue) (record {
+      compiled = compiled;
+      means = means;
+      stats_are = refl;
+      adds = adds_load s domain locale compiled.catalogue names room;
+    }))
+    (λ refusal. no_reason (
+      Refused (record { kind = refusal.0; line = refusal.1 }),
+      ((λ is. absurd (cc is)), (names, room, refusal.2)),
+    )))
 
-pub accepted_or_refused : (s : StoreValue) (domain locale text : List ℕ) (options : Options) (stats : Stats)
-    (after : StoreValue) (fault : StoreFault) → Accepts s domain locale text options stats after
-    → HasReason s domain locale text options fault → ⊥
-accepted_or_refused s domain locale text options stats after BadName p q = q.1 p.names
-accepted_or_refused s domain locale text options stats after VersionsSpent p q = omega (arith, p.room, q.1.1)
-accepted_or_refused s domain locale text options stats after (Refused f) p q =
-    means_or_refuses text options p.compiled f.kind f.line p.means q.1.2
-accepted_or_refused s domain locale text options stats after Memory p q = q.0 refl
+pub texts_one : TextsHaveOneAnswer
+texts_one s domain locale text options = record {
+  outcome = text_outcome s domain locale text options;
+  reason = reason_one (IsTextFault text options) (text_fault_one text options) s domain locale;
+  apart = text_apart s domain locale text options;
+  some = text_some s domain locale text options;
+}
 
-pub some_answer : (s : StoreValue) (domain locale text : List ℕ) (options : Options) → IsWithin s
-    → ((stats : Stats) (after : StoreValue) → Accepts s domain locale text options stats after → ⊥)
-    → ((fault : StoreFault) × HasReason s domain locale text options fault → ⊥) → ⊥
-some_answer s domain locale text options within no_accept no_reason =
-    no_reason (
-      BadName,
+-- ---- MO files
+
+file_outcome : (s : StoreValue) (domain locale bytes : List ℕ) → HasOneOutcome (AcceptsMo s domain locale bytes)
+file_outcome s domain locale bytes entries other after other_after p q =
+    let same : p.map ≡ q.map = unique_map bytes p.map q.map p.is_file q.is_file in (
+      p.entries_are ∙ (ap (length {A = Entry}) same ∙ sym q.entries_are),
+      adds_one s after other_after domain locale p.map q.map same p.adds q.adds,
+    )
+
+file_apart : (s : StoreValue) (domain locale bytes : List ℕ)
+    → IsAcceptedOrRefused (AcceptsMo s domain locale bytes) (IsRefusedMo s domain locale bytes)
+file_apart s domain locale bytes entries after fault p why =
+    added_or_refused (IsFileFault bytes) (no_file_fault bytes p.map p.is_file) s after domain locale p.map fault p.adds
+    why
+
+file_some : (s : StoreValue) (domain locale bytes : List ℕ) → IsWithin s
+    → HasSomeAnswer (AcceptsMo s domain locale bytes) (IsRefusedMo s domain locale bytes)
+file_some s domain locale bytes within no_outcome no_reason =
+    is_read (IsFileFault bytes) s domain locale within no_reason
+    (λ names room. some_map bytes
+    (λ map is_file. no_outcome (length map) (with_load s domain locale map) (record {
+      map = map;
+      is_file = is_file;
+      entries_are = refl;
+      adds = adds_load s domain locale map names room;
+    }))
+    (λ refusal. no_reason (
+      RefusedMo refusal.0,
       (
         (λ is. absurd (cc is)),
-        λ (names : AreNames domain locale).
-            elim (cases_lt (accepted s) s.most) [
-              | inl room ↦ some_meaning text options
-                  (λ compiled means. no_accept compiled.stats (with_load s domain locale compiled) (record {
-                    compiled = compiled;
-                    names = names;
-                    room = room;
-                    means = means;
-                    stats_are = refl;
-                    after_is = refl;
-                  }))
-                  (λ refusal. no_reason (
-                    Refused (record { kind = refusal.0; line = refusal.1 }),
-                    ((λ is. absurd (cc is)), (names, room, refusal.2)),
-                  ))
-              | inr full ↦ no_reason (VersionsSpent, ((λ is. absurd (cc is)), (names, omega (arith, within, full))))
-            ],
+        (names, room, ((λ (is : refusal.0 ≡ mo.Memory). omega (arith, ap rank is, refusal.1)), refusal.2)),
       ),
-    )
+    )))
+
+pub files_one : FilesHaveOneAnswer
+files_one s domain locale bytes = record {
+  outcome = file_outcome s domain locale bytes;
+  reason = reason_one (IsFileFault bytes) (file_fault_one bytes) s domain locale;
+  apart = file_apart s domain locale bytes;
+  some = file_some s domain locale bytes;
+}

@@ -3,8 +3,8 @@ use Rattle.std.specs.Prelude.{◌≡◌, ⊤, ℕ, ◌+◌, ◌<◌, ◌≤◌, 
 use Rattle.live_set.specs.Loads.{LoadValue}
 use Rattle.live_versions.specs.Batches.{version_of, StartsWith, published}
 
--- a load is accepted or refused; the pending loads are published; a reader enters what is published, of this version,
--- or learns of what was, of this version
+-- a load of either kind is accepted or refused; the pending loads are published; a reader enters what is published,
+-- of this version, or learns of what was, of this version
 pub data Event : Type 0 where
   Accept : (load : LoadValue) → Event
   Refuse : Event

@@ -1,34 +1,52 @@
 -- The laws of what a load answers: one answer at each store, and never none.
 use Rattle.std.specs.Prelude.{◌≡◌, ◌≢◌, ℕ, List}
 use Rattle.catalogue.specs.declared.Options.{Options}
-use Rattle.catalogue.specs.declared.Stats.{Stats}
-use Rattle.live_versions.specs.Store.{StoreValue, IsWithin, Accepts, IsRefused}
+use Rattle.live_versions.specs.Store.{StoreValue, IsWithin, Accepts, AcceptsMo, IsRefused, IsRefusedMo}
 use Rattle.live_versions.specs.declared.fault.StoreFault.{StoreFault}
 use Rattle.live_versions.specs.declared.fault.StoreFault.TheVariants.{Memory}
 
--- the load is refused for this reason, which isn't want of memory
-abbrev pub HasReason : StoreValue → List ℕ → List ℕ → List ℕ → Options → StoreFault → Type 0
-HasReason s domain locale text options fault = (fault ≢ Memory) × IsRefused s domain locale text options fault
+-- ---- a load, by what it is answered where it is accepted, with the store then, and by what it is refused for
 
--- a load that is accepted has one outcome
-abbrev pub HasOneOutcome : Type 0
-HasOneOutcome = (s : StoreValue) (domain locale text : List ℕ) (options : Options) (stats other : Stats)
-    (after other_after : StoreValue) → Accepts s domain locale text options stats after
-    → Accepts s domain locale text options other other_after → (stats ≡ other) × (after ≡ other_after)
+-- it is refused for this reason, which isn't want of memory
+abbrev pub HasReason : (StoreFault → Type 0) → StoreFault → Type 0
+HasReason IsRefusal fault = (fault ≢ Memory) × IsRefusal fault
 
--- a load is refused for one reason
-abbrev pub HasOneReason : Type 0
-HasOneReason = (s : StoreValue) (domain locale text : List ℕ) (options : Options) (fault other : StoreFault)
-    → HasReason s domain locale text options fault → HasReason s domain locale text options other → fault ≡ other
+-- where it is accepted it has one outcome
+abbrev pub HasOneOutcome : {A : Type 0} → (A → StoreValue → Type 0) → Type 0
+HasOneOutcome {A} IsOutcome = (answer other : A) (after other_after : StoreValue) → IsOutcome answer after
+    → IsOutcome other other_after → (answer ≡ other) × (after ≡ other_after)
 
--- and one that is accepted isn't refused
-abbrev pub IsAcceptedOrRefused : Type 0
-IsAcceptedOrRefused = (s : StoreValue) (domain locale text : List ℕ) (options : Options) (stats : Stats)
-    (after : StoreValue) (fault : StoreFault) → Accepts s domain locale text options stats after
-    → ¬ HasReason s domain locale text options fault
+-- it is refused for one reason
+abbrev pub HasOneReason : (StoreFault → Type 0) → Type 0
+HasOneReason IsRefusal = (fault other : StoreFault) → HasReason IsRefusal fault → HasReason IsRefusal other
+    → fault ≡ other
 
--- no load is without an answer
-abbrev pub HasSomeAnswer : Type 0
-HasSomeAnswer = (s : StoreValue) (domain locale text : List ℕ) (options : Options) → IsWithin s
-    → ((stats : Stats) (after : StoreValue) → ¬ Accepts s domain locale text options stats after)
-    → ¬ ¬ ((fault : StoreFault) × HasReason s domain locale text options fault)
+-- where it is accepted it isn't refused
+abbrev pub IsAcceptedOrRefused : {A : Type 0} → (A → StoreValue → Type 0) → (StoreFault → Type 0) → Type 0
+IsAcceptedOrRefused {A} IsOutcome IsRefusal = (answer : A) (after : StoreValue) (fault : StoreFault)
+    → IsOutcome answer after → ¬ HasReason IsRefusal fault
+
+-- it isn't without an answer
+abbrev pub HasSomeAnswer : {A : Type 0} → (A → StoreValue → Type 0) → (StoreFault → Type 0) → Type 0
+HasSomeAnswer {A} IsOutcome IsRefusal = ((answer : A) (after : StoreValue) → ¬ IsOutcome answer after)
+    → ¬ ¬ ((fault : StoreFault) × HasReason IsRefusal fault)
+
+-- it has one answer in this store
+pub record HasOneAnswer {A : Type 0} (s : StoreValue) (IsOutcome : A → StoreValue → Type 0)
+    (IsRefusal : StoreFault → Type 0) : Type 0 where
+  pub outcome : HasOneOutcome IsOutcome
+  pub reason : HasOneReason IsRefusal
+  pub apart : IsAcceptedOrRefused IsOutcome IsRefusal
+  pub some : IsWithin s → HasSomeAnswer IsOutcome IsRefusal
+
+-- ---- the two kinds of loads
+
+-- each load of a PO text has one answer
+abbrev pub TextsHaveOneAnswer : Type 0
+TextsHaveOneAnswer = (s : StoreValue) (domain locale text : List ℕ) (options : Options)
+    → HasOneAnswer s (Accepts s domain locale text options) (IsRefused s domain locale text options)
+
+-- each load of an MO file has one answer
+abbrev pub FilesHaveOneAnswer : Type 0
+FilesHaveOneAnswer = (s : StoreValue) (domain locale bytes : List ℕ)
+    → HasOneAnswer s (AcceptsMo s domain locale bytes) (IsRefusedMo s domain locale bytes)

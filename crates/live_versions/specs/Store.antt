@@ -1,15 +1,19 @@
 -- What a publisher stands for, and what a load does to it.
-use Rattle.std.specs.Prelude.{◌≡◌, ⊤, ℕ, ◌+◌, ◌<◌, ◌≤◌, List, [], ◌∷◌, ◌++◌, length}
+use Rattle.std.specs.Prelude.{◌≡◌, ◌≢◌, ⊤, ℕ, ◌+◌, ◌<◌, ◌≤◌, List, [], ◌∷◌, ◌++◌, length}
+use Rattle.catalogue.specs.Entry.{Entry}
 use Rattle.catalogue.specs.Meaning.{Means, Refuses}
 use Rattle.catalogue.specs.declared.Options.{Options}
 use Rattle.catalogue.specs.declared.Stats.{Stats}
 use Rattle.catalogue.specs.declared.Compiled.{Compiled}
+use Rattle.mo_file.specs.MoReading.{Mo, Refused as IsRefusedFile}
+use Rattle.mo_file.specs.declared.fault.MoFault.TheVariants as mo_fault
 use Rattle.live_set.specs.Names.{IsName}
 use Rattle.live_set.specs.Loads.{LoadValue}
 use Rattle.live_versions.specs.Batches.{version_of}
 use Rattle.live_versions.specs.Seen.{SeenValue}
 use Rattle.live_versions.specs.declared.fault.StoreFault.{StoreFault}
-use Rattle.live_versions.specs.declared.fault.StoreFault.TheVariants.{BadName, VersionsSpent, Refused, Memory}
+use Rattle.live_versions.specs.declared.fault.StoreFault.TheVariants.{BadName, VersionsSpent, Refused, RefusedMo}
+use Rattle.live_versions.specs.declared.fault.StoreFault.TheVariants.{Memory}
 
 -- what is seen of the store, which is all that is published; the loads that are pending; how many loads it may accept
 pub record StoreValue : Type 0 where
@@ -34,21 +38,49 @@ pub record AreNames (domain locale : List ℕ) : Type 0 where
 abbrev pub HasRoom : StoreValue → Type 0
 HasRoom s = accepted s < s.most
 
--- the load is accepted: what the text means is the last of the pending loads
+-- a load of this map is accepted: its names are names, there is room, and it becomes the last of the pending loads
+pub record Adds (s : StoreValue) (domain locale : List ℕ) (map : List Entry) (after : StoreValue) : Type 0 where
+  pub names : AreNames domain locale
+  pub room : HasRoom s
+  pub after_is : after
+      ≡ record s { pending = s.pending ++ record { domain = domain; locale = locale; map = map } ∷ [] }
+
+-- the load of a PO text is accepted, with these counts: what the text means is added
 pub record Accepts (s : StoreValue) (domain locale text : List ℕ) (options : Options) (stats : Stats)
     (after : StoreValue) : Type 0 where
   pub compiled : Compiled
-  pub names : AreNames domain locale
-  pub room : HasRoom s
   pub means : Means text options compiled
   pub stats_are : stats ≡ compiled.stats
-  pub after_is : after
-      ≡ record s { pending = s.pending ++ record { domain = domain; locale = locale; map = compiled.catalogue } ∷ [] }
+  pub adds : Adds s domain locale compiled.catalogue after
 
--- the load is refused for this reason, and for none before it; want of memory says nothing
+-- the load of an MO file is accepted, with so many entries: the file's map is added
+pub record AcceptsMo (s : StoreValue) (domain locale bytes : List ℕ) (entries : ℕ) (after : StoreValue) : Type 0 where
+  pub map : List Entry
+  pub is_file : Mo bytes map
+  pub entries_are : entries ≡ length map
+  pub adds : Adds s domain locale map after
+
+-- a PO text is refused for this
+abbrev pub IsTextFault : List ℕ → Options → StoreFault → Type 0
+IsTextFault text options (Refused fault) = Refuses text options fault.kind fault.line
+IsTextFault text options _ = ⊥
+
+-- an MO file is refused for this
+abbrev pub IsFileFault : List ℕ → StoreFault → Type 0
+IsFileFault bytes (RefusedMo fault) = (fault ≢ mo_fault.Memory) × IsRefusedFile bytes fault
+IsFileFault bytes _ = ⊥
+
+-- a load whose bytes are refused so is refused for this reason, and for none before it; want of memory says nothing
+abbrev pub IsRefusedFor : (StoreFault → Type 0) → StoreValue → List ℕ → List ℕ → StoreFault → Type 0
+IsRefusedFor IsBytesFault s domain locale BadName = ¬ AreNames domain locale
+IsRefusedFor IsBytesFault s domain locale VersionsSpent = AreNames domain locale × (accepted s ≡ s.most)
+IsRefusedFor IsBytesFault s domain locale Memory = ⊤
+IsRefusedFor IsBytesFault s domain locale fault = AreNames domain locale × HasRoom s × IsBytesFault fault
+
+-- the load of a PO text is refused for this reason
 abbrev pub IsRefused : StoreValue → List ℕ → List ℕ → List ℕ → Options → StoreFault → Type 0
-IsRefused s domain locale text options BadName = ¬ AreNames domain locale
-IsRefused s domain locale text options VersionsSpent = AreNames domain locale × (accepted s ≡ s.most)
-IsRefused s domain locale text options (Refused fault) = AreNames domain locale × HasRoom s
-    × Refuses text options fault.kind fault.line
-IsRefused s domain locale text options Memory = ⊤
+IsRefused s domain locale text options = IsRefusedFor (IsTextFault text options) s domain locale
+
+-- the load of an MO file is
+abbrev pub IsRefusedMo : StoreValue → List ℕ → List ℕ → List ℕ → StoreFault → Type 0
+IsRefusedMo s domain locale bytes = IsRefusedFor (IsFileFault bytes) s domain locale

@@ -3,6 +3,7 @@ ghost use Rattle.std.specs.Prelude.{◌≡◌};
 ghost use Rattle.live_versions.specs.declared.fault.StoreFault.TheVariants.{Memory};
 
 use catalogue::LoadFault;
+use mo_file::MoFault;
 use std::alloc::{AllocError, AllocFailed};
 use thiserror::Error;
 
@@ -29,9 +30,12 @@ pub enum StoreFault {
     /// As many loads as the store takes were accepted.
     #[error("as many loads as the store takes")]
     VersionsSpent,
-    /// The text is refused, for this reason.
+    /// The PO text is refused, for this reason.
     #[error("the text is refused")]
     Refused(LoadFault),
+    /// The MO file is refused, for this reason, which isn't `MoFault::Memory`.
+    #[error("the MO file is refused: {0}")]
+    RefusedMo(MoFault),
     /// Memory was refused, which may stand in place of any other answer.
     #[error("out of memory")]
     Memory,

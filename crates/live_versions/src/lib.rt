@@ -1,14 +1,16 @@
 //! The live store of catalogues: one publisher, and readers that never wait for it.
 //!
-//! A load that is accepted is pending until it is published; all pending loads are published in one step,
-//! as one batch. A version is the number of loads that are published. A reader enters the store and looks
-//! up in one published version as long as it likes, while other versions are published; what it enters
-//! is never older than what it entered before, or learnt of from the publisher.
+//! A load, of a PO text or of an MO file, that is accepted is pending until it is published; all pending loads
+//! are published in one step, as one batch. A version is the number of loads that are published. A reader enters
+//! the store and looks up in one published version as long as it likes, while other versions are published; what
+//! it enters is never older than what it entered before, or learnt of from the publisher.
 #![tactic(auto)]
 
 mod answers;
 mod fault;
 mod law;
+mod load_mo;
+mod load_po;
 mod notice;
 mod pinned;
 mod publisher;

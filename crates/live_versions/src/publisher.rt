@@ -1,11 +1,10 @@
 //! The publisher.
-ghost use Rattle.std.specs.Prelude.{◌≡◌, [], length, drop, IfOk, IfErr, OnErr};
+ghost use Rattle.std.specs.Prelude.{◌≡◌, [], length, drop, IfOk, IfErr, OnOk, OnErr};
 ghost use Rattle.std.specs.Arc.{arc_value};
-ghost use Rattle.catalogue.specs.Meaning.{Means};
 ghost use Rattle.live_set.specs.Names.{IsName};
 ghost use Rattle.live_versions.specs.Batches.{version_of, published};
-ghost use Rattle.live_versions.specs.Loading.{NameFaultOf, TextFaultOf};
-ghost use Rattle.live_versions.specs.Store.{Accepts, IsRefused, IsWithin};
+ghost use Rattle.live_versions.specs.Loading.{NameFaultOf, IsUnread};
+ghost use Rattle.live_versions.specs.Store.{AreNames, HasRoom, IsWithin, Adds, IsRefusedFor};
 
 use crate::Version;
 use crate::fault::{PublishFault, StoreFault};
@@ -14,9 +13,9 @@ use crate::rule::Shown;
 use crate::seal::{Seal, Sealing, bundle_of};
 use crate::seen::Seen;
 use crate::writer::{StoreWriter, append_load, append_seal, just_shown, publish_at};
-use catalogue::{Compiled, LoadKind, Options, Stats, compile};
+use catalogue::Catalogue;
 use live_set::{Load, Name, NameFault};
-use std::alloc::Global;
+use std::alloc::{AllocError, Global};
 use std::marker::Model;
 use std::snapshot::Snapshot;
 use std::sync::{Arc, Wait};
@@ -61,20 +60,6 @@ fn name_of(alloc: Global, text: &str) -> Result<Name, StoreFault>
         Ok(name) => Ok(name),
         Err(NameFault::BadName) => Err(StoreFault::BadName),
         Err(NameFault::Memory) => Err(StoreFault::Memory),
-    }
-}
-
-/// What the text compiles to.
-fn compiled(alloc: Global, bytes: &[u8], options: Options) -> Result<Compiled, StoreFault>
-    ensures ok { IfOk result (Means bytes.now options) }
-    ensures err { IfErr result (TextFaultOf bytes.now options) }
-{
-    match compile(alloc, bytes, options) {
-        Ok(compiled) => Ok(compiled),
-        Err(fault) => match fault.kind {
-            LoadKind::Memory => Err(StoreFault::Memory),
-            _ => Err(StoreFault::Refused(fault)),
-        },
     }
 }
 
@@ -127,39 +112,39 @@ impl Publisher {
         Notice::new(&self.seen)
     }
 
-    /// Compiles a PO text for a domain and a locale (`catalogue::compile`), makes the catalogue's index, by which
-    /// look-ups are quick (`catalogue::Catalogue::index`), and puts it behind the pending loads.
-    ///
-    /// It is refused where the domain or the locale is no name (`live_set::Name::new`), else where the loads
-    /// that are published or pending are as many as the store takes, else for what the text is refused for.
-    /// Where memory is refused in the call, `Memory` may stand in place of any other answer. A refused load
-    /// changes nothing.
-    pub fn load(
-        &mut self,
+    /// The two names of a load, where both are names and one more load may be accepted.
+    pub(crate) fn admit(
+        &self,
         alloc: Global,
         domain: &str,
         locale: &str,
-        bytes: &[u8],
-        options: Options,
-    ) -> Result<Stats, StoreFault>
-        ensures ok { IfOk result (λ stats. Accepts self.old domain.now locale.now bytes.now options stats self.new) }
-        ensures err { IfErr result (IsRefused self.old domain.now locale.now bytes.now options) }
-        ensures unchanged { OnErr result (self.new ≡ self.old) }
-
-        // Its published batches stay in any case.
-        ensures seen { self.new.seen ≡ self.old.seen }
+    ) -> Result<(Name, Name), StoreFault>
+        ensures names { IfOk result (λ names. (names.0 ≡ domain.now) × (names.1 ≡ locale.now)) }
+        ensures ok { IfOk result (λ _. AreNames domain.now locale.now × HasRoom self.now) }
+        ensures err { IfErr result (IsRefusedFor IsUnread self.now domain.now locale.now) }
     {
         let domain = name_of(alloc, domain)?;
         let locale = name_of(alloc, locale)?;
         if self.most - self.seen.version() <= self.pending {
             return Err(StoreFault::VersionsSpent);
         }
-        let Compiled {
-            mut catalogue,
-            stats,
-            missing: _,
-            header_line: _,
-        } = compiled(alloc, bytes, options)?;
+        Ok((domain, locale))
+    }
+
+    /// Makes the catalogue's index, and puts the catalogue behind the pending loads.
+    pub(crate) fn append(
+        &mut self,
+        alloc: Global,
+        domain: Name,
+        locale: Name,
+        mut catalogue: Catalogue,
+    ) -> Result<(), AllocError>
+        requires names { AreNames domain locale }
+        requires room { HasRoom self.old }
+        ensures ok { OnOk result (Adds self.old domain locale catalogue self.new) }
+        ensures err { OnErr result (self.new ≡ self.old) }
+        ensures seen { self.new.seen ≡ self.old.seen }
+    {
         catalogue.index(alloc)?;
         let load = Load {
             domain,
@@ -168,7 +153,7 @@ impl Publisher {
         };
         append_load(&mut self.writer, load)?;
         self.pending += 1;
-        Ok(stats)
+        Ok(())
     }
 
     /// Publishes all pending loads in one step, as one batch, and answers the version. With nothing pending

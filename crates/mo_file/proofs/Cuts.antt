@@ -41,6 +41,15 @@ place_found byte text None none = position_or_len_is (is byte) text (length text
 place_found byte text (Some k) some = position_or_len_is (is byte) text k 0 (omega (arith, some.0.high))
     (λ i lt. not_true _ (some.0.before i (omega arith) lt)) (λ lt. some.1)
 
+-- the key of an original, by its first NUL
+pub key_found : (text : List ℕ) (k : ℕ) → IsFirstByte (is_byte 0) text (Some k) → take k text ≡ before_first (is 0) text
+key_found text k found = ap (λ n. take n text) (sym (place_found 0 text (Some k) found))
+
+pub key_whole : (text : List ℕ) → IsFirstByte (is_byte 0) text None → text ≡ before_first (is 0) text
+key_whole text none =
+    let at : place 0 text ≡ length text = place_found 0 text None none in
+    sym (take_all (place 0 text) text (omega (arith, at)))
+
 -- ---- where the byte is, and where it isn't
 
 byte_there : (byte : ℕ) (text : List ℕ) → place byte text < length text → get_or text (place byte text) 0 ≡ byte

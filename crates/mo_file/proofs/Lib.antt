@@ -8,3 +8,9 @@ pub mod ReadBack
 pub mod OneMap
 pub mod SomeMap
 pub mod Spelt
+pub mod PartLemmas
+pub mod GapLemmas
+pub mod RowSweeps
+pub mod KeyOrder
+pub mod TableRows
+pub mod SoundRows

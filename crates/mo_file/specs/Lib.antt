@@ -2,3 +2,6 @@ pub mod Tables
 pub mod MoReading
 pub mod Pairs
 pub mod Behind
+pub mod Rows
+pub mod FileParts
+pub mod Claims

@@ -1,12 +1,18 @@
 //! MO files: the one file that is written of a catalogue, and the reading of all of them.
 #![tactic(auto)]
 
+mod claims;
 mod fault;
+mod gap;
 mod laws;
 mod own;
 mod read;
 mod refusals;
+mod row_tests;
 mod rows;
+mod sound;
+mod stretch;
+mod strings;
 mod tables;
 mod texts;
 mod write;
@@ -23,5 +29,7 @@ mod tests;
 mod tests_callers;
 #[cfg(test)]
 mod tests_lookups;
+#[cfg(test)]
+mod tests_overlaps;
 #[cfg(test)]
 mod tests_sorted;

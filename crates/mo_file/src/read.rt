@@ -93,7 +93,7 @@ pub fn read_mo(alloc: Global, bytes: &[u8]) -> Result<Catalogue, MoFault>
     ensures ok { IfOk result (λ c. Mo bytes.now c) }
     ensures err { IfErr result (λ f. Refused bytes.now f) }
 {
-    check_all(bytes)?;
+    check_all(alloc, bytes)?;
     if !is_low_first(bytes) {
         return Ok(read_file::<BigEndian>(alloc, bytes)?);
     }

@@ -1,17 +1,19 @@
 //! The tests of bytes that are to be read as an MO file, one for each refusal. Each goes over the whole
 //! file, so that the first refusal in their order is found, and not the first place where one holds.
-ghost use Rattle.std.specs.Prelude.{◌≡◌, ◌≢◌, ◌↔◌, ◌≤◌, length, IsTrue, OnOk, IfErr};
+ghost use Rattle.std.specs.Prelude.{◌≡◌, ◌↔◌, ◌≤◌, length, IsTrue, OnOk, IfOk, IfErr};
 ghost use Rattle.byteorder.specs.Endian.{little_number};
+ghost use Rattle.mo_file.specs.Rows.{rows_in, AreSound};
 ghost use Rattle.mo_file.specs.MoReading.{file_by, file_of, Passes, PassesBelow, RefusedBy, Refused, IsMoFile};
 
+use crate::claims::{all_hold, in_order, read_claims};
 use crate::fault::MoFault;
-use crate::rows::word;
-use crate::tables::{
-    all_closed, fits, have_lawful_forms, have_lawful_headers, keys_rise, originals_are_text,
-    table_lies, translations_are_text,
-};
+use crate::row_tests::{have_forms, have_texts};
+use crate::rows::{Row, read_rows, word};
+use crate::sound::are_sound;
+use crate::tables::{all_closed, fits, have_lawful_headers, keys_rise, table_lies};
 use byteorder::{BigEndian, ByteOrder, LittleEndian};
 use mo_image::{COUNT_AT, HEADER_LEN, MAGIC, MAX_LEN, ORIGINALS_AT, REVISION_AT, TRANSLATIONS_AT};
+use std::alloc::{AllocError, Global};
 
 /// Whether both tables and their strings lie in the file.
 fn passes_bounds<T: ByteOrder>(bytes: &[u8]) -> bool
@@ -34,43 +36,74 @@ fn passes_closing<T: ByteOrder>(bytes: &[u8]) -> bool
         && all_closed::<T>(bytes, word::<T>(bytes, TRANSLATIONS_AT), n)
 }
 
-/// Whether the strings are lawful texts.
-fn passes_texts<T: ByteOrder>(bytes: &[u8]) -> bool
+/// The rows of both tables.
+fn rows_of<T: ByteOrder>(alloc: Global, bytes: &[u8]) -> Result<Vec<Row>, AllocError>
     requires long { 28 ≤ length bytes.now }
     requires lies { Passes (file_by T.number_of bytes.now) MoFault.Bounds }
-    ensures { IsTrue result ↔ Passes (file_by T.number_of bytes.now) MoFault.BadText }
+    ensures { IfOk result (λ v. v.items ≡ rows_in (file_by T.number_of bytes.now)) }
 {
     let n = word::<T>(bytes, COUNT_AT);
-    originals_are_text::<T>(bytes, word::<T>(bytes, ORIGINALS_AT), n)
-        && translations_are_text::<T>(bytes, word::<T>(bytes, TRANSLATIONS_AT), n)
+    let originals = word::<T>(bytes, ORIGINALS_AT);
+    let translations = word::<T>(bytes, TRANSLATIONS_AT);
+    read_rows::<T>(alloc, bytes, originals, translations, n)
+}
+
+/// Whether the strings are lawful texts.
+fn passes_texts<T: ByteOrder>(
+    alloc: Global,
+    bytes: &[u8],
+    overlap: bool,
+) -> Result<bool, AllocError>
+    requires long { 28 ≤ length bytes.now }
+    requires lies { Passes (file_by T.number_of bytes.now) MoFault.Bounds }
+    ensures { IfOk result (λ yes. IsTrue yes ↔ Passes (file_by T.number_of bytes.now) MoFault.BadText) }
+{
+    let rows = rows_of::<T>(alloc, bytes)?;
+    Ok(have_texts(bytes, rows, overlap))
 }
 
 /// Whether each entry has lawful forms.
-fn passes_forms<T: ByteOrder>(bytes: &[u8]) -> bool
+fn passes_forms<T: ByteOrder>(
+    alloc: Global,
+    bytes: &[u8],
+    overlap: bool,
+) -> Result<bool, AllocError>
     requires long { 28 ≤ length bytes.now }
     requires lies { Passes (file_by T.number_of bytes.now) MoFault.Bounds }
-    ensures { IsTrue result ↔ Passes (file_by T.number_of bytes.now) MoFault.Forms }
+    ensures { IfOk result (λ yes. IsTrue yes ↔ Passes (file_by T.number_of bytes.now) MoFault.Forms) }
 {
-    let n = word::<T>(bytes, COUNT_AT);
-    have_lawful_forms::<T>(
-        bytes,
-        word::<T>(bytes, ORIGINALS_AT),
-        word::<T>(bytes, TRANSLATIONS_AT),
-        n,
-    )
+    let rows = rows_of::<T>(alloc, bytes)?;
+    have_forms(alloc, bytes, rows, overlap)
+}
+
+/// Whether the keys rise, in a file whose strings overlap.
+fn passes_claims<T: ByteOrder>(alloc: Global, bytes: &[u8]) -> Result<bool, AllocError>
+    requires long { 28 ≤ length bytes.now }
+    requires lies { Passes (file_by T.number_of bytes.now) MoFault.Bounds }
+    requires closed { Passes (file_by T.number_of bytes.now) MoFault.NoNul }
+    ensures { IfOk result (λ yes. IsTrue yes ↔ Passes (file_by T.number_of bytes.now) MoFault.Order) }
+{
+    let rows = rows_of::<T>(alloc, bytes)?;
+    let claims = in_order(read_claims(alloc, &rows)?);
+    Ok(all_hold(bytes, &claims))
 }
 
 /// Whether the keys rise.
-fn passes_order<T: ByteOrder>(bytes: &[u8]) -> bool
+fn passes_order<T: ByteOrder>(
+    alloc: Global,
+    bytes: &[u8],
+    overlap: bool,
+) -> Result<bool, AllocError>
     requires long { 28 ≤ length bytes.now }
     requires lies { Passes (file_by T.number_of bytes.now) MoFault.Bounds }
-    ensures { IsTrue result ↔ Passes (file_by T.number_of bytes.now) MoFault.Order }
+    requires closed { Passes (file_by T.number_of bytes.now) MoFault.NoNul }
+    ensures { IfOk result (λ yes. IsTrue yes ↔ Passes (file_by T.number_of bytes.now) MoFault.Order) }
 {
-    keys_rise::<T>(
-        bytes,
-        word::<T>(bytes, ORIGINALS_AT),
-        word::<T>(bytes, COUNT_AT),
-    )
+    if overlap {
+        return passes_claims::<T>(alloc, bytes);
+    }
+    let originals = word::<T>(bytes, ORIGINALS_AT);
+    Ok(keys_rise::<T>(bytes, originals, word::<T>(bytes, COUNT_AT)))
 }
 
 /// Whether the header's charset is accepted.
@@ -89,6 +122,18 @@ fn passes_charset<T: ByteOrder>(bytes: &[u8]) -> bool
     )
 }
 
+/// Whether the strings are closed and pass all their tests, as far as one pass over the rows can tell.
+fn is_sound<T: ByteOrder>(bytes: &[u8]) -> bool
+    requires long { 28 ≤ length bytes.now }
+    requires lies { Passes (file_by T.number_of bytes.now) MoFault.Bounds }
+    ensures { let file = file_by T.number_of bytes.now in
+        IsTrue result → AreSound file.originals file.translations }
+{
+    let n = word::<T>(bytes, COUNT_AT);
+    let originals = word::<T>(bytes, ORIGINALS_AT);
+    are_sound::<T>(bytes, originals, word::<T>(bytes, TRANSLATIONS_AT), n)
+}
+
 /// Whether the file of the map isn't too large.
 fn passes_size<T: ByteOrder>(bytes: &[u8]) -> bool
     requires short { length bytes.now ≤ 268435456 }
@@ -105,14 +150,14 @@ fn passes_size<T: ByteOrder>(bytes: &[u8]) -> bool
     )
 }
 
-/// The tests of a file in this byte order, in the order of the refusals.
-fn check_file<T: ByteOrder>(bytes: &[u8]) -> Result<(), MoFault>
+/// The tests of a file in this byte order, in the order of the refusals. Strings that together are longer than a
+/// file may be overlap one another: they are looked at in an order in which each byte counts once.
+fn check_file<T: ByteOrder>(alloc: Global, bytes: &[u8]) -> Result<(), MoFault>
     requires short { length bytes.now ≤ 268435456 }
     requires long { 28 ≤ length bytes.now }
     requires passed { PassesBelow (file_by T.number_of bytes.now) 4 }
     ensures ok { OnOk result (PassesBelow (file_by T.number_of bytes.now) 12) }
     ensures err { IfErr result (λ f. RefusedBy (file_by T.number_of bytes.now) f) }
-    ensures tested { IfErr result (λ f. f ≢ MoFault.Memory) }
 {
     if word::<T>(bytes, REVISION_AT) != 0 {
         return Err(MoFault::Revision);
@@ -120,22 +165,26 @@ fn check_file<T: ByteOrder>(bytes: &[u8]) -> Result<(), MoFault>
     if !passes_bounds::<T>(bytes) {
         return Err(MoFault::Bounds);
     }
+    let overlap = !passes_size::<T>(bytes);
+    if !overlap && is_sound::<T>(bytes) {
+        return Ok(());
+    }
     if !passes_closing::<T>(bytes) {
         return Err(MoFault::NoNul);
     }
-    if !passes_texts::<T>(bytes) {
+    if !passes_texts::<T>(alloc, bytes, overlap)? {
         return Err(MoFault::BadText);
     }
-    if !passes_forms::<T>(bytes) {
+    if !passes_forms::<T>(alloc, bytes, overlap)? {
         return Err(MoFault::Forms);
     }
-    if !passes_order::<T>(bytes) {
+    if !passes_order::<T>(alloc, bytes, overlap)? {
         return Err(MoFault::Order);
     }
     if !passes_charset::<T>(bytes) {
         return Err(MoFault::Charset);
     }
-    if !passes_size::<T>(bytes) {
+    if overlap {
         return Err(MoFault::Swollen);
     }
     Ok(())
@@ -150,10 +199,9 @@ pub(crate) fn is_low_first(bytes: &[u8]) -> bool
 }
 
 /// The first refusal that holds, if there is one, in either byte order.
-pub(crate) fn check_all(bytes: &[u8]) -> Result<(), MoFault>
+pub(crate) fn check_all(alloc: Global, bytes: &[u8]) -> Result<(), MoFault>
     ensures ok { OnOk result (PassesBelow (file_of bytes.now) 12) }
     ensures err { IfErr result (λ f. Refused bytes.now f) }
-    ensures tested { IfErr result (λ f. f ≢ MoFault.Memory) }
 {
     if bytes.len() > MAX_LEN {
         return Err(MoFault::TooLarge);
@@ -162,20 +210,19 @@ pub(crate) fn check_all(bytes: &[u8]) -> Result<(), MoFault>
         return Err(MoFault::Short);
     }
     if is_low_first(bytes) {
-        return check_file::<LittleEndian>(bytes);
+        return check_file::<LittleEndian>(alloc, bytes);
     }
     if BigEndian::read_u32(bytes) != MAGIC {
         return Err(MoFault::Magic);
     }
-    check_file::<BigEndian>(bytes)
+    check_file::<BigEndian>(alloc, bytes)
 }
 
 /// Whether bytes are an MO file, in either byte order, wherever its strings lie; else the first refusal that
-/// holds. It takes no memory.
-pub fn check(bytes: &[u8]) -> Result<(), MoFault>
+/// holds, or want of memory.
+pub fn check(alloc: Global, bytes: &[u8]) -> Result<(), MoFault>
     ensures ok { OnOk result (IsMoFile bytes.now) }
     ensures err { IfErr result (λ f. Refused bytes.now f) }
-    ensures tested { IfErr result (λ f. f ≢ MoFault.Memory) }
 {
-    check_all(bytes)
+    check_all(alloc, bytes)
 }

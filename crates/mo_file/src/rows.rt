@@ -1,9 +1,12 @@
-//! A row of a table of strings, and the string that it names.
-ghost use Rattle.std.specs.Prelude.{◌≡◌, ◌↔◌, ◌+◌, ◌^◌, ◌<◌, ◌≤◌, length, IsTrue};
+//! The rows of a file's tables, and where the strings that they name lie.
+ghost use Rattle.std.specs.Prelude.{◌≡◌, ◌↔◌, ◌+◌, ◌^◌, ◌<◌, ◌≤◌, length, IsTrue, IfOk};
+ghost use Rattle.mo_file.specs.Rows.{rows, span_at};
 ghost use Rattle.mo_file.specs.Tables.{word_at, string_at};
-ghost use Rattle.mo_file.specs.MoReading.{StringLies, IsClosed};
+ghost use Rattle.mo_file.specs.MoReading.{table_at, StringLies, IsClosed, TableLies};
 
 use byteorder::ByteOrder;
+use mo_image::ROW_LEN;
+use std::alloc::{AllocError, Global};
 
 /// A word of 32 bits.
 pub(crate) fn word<T: ByteOrder>(bytes: &[u8], place: usize) -> usize
@@ -42,13 +45,65 @@ pub(crate) fn string<T: ByteOrder>(bytes: &[u8], place: usize) -> &[u8]
     &bytes[start..start + len]
 }
 
-/// Whether two rows say the same, and so name one string. Rows may share long strings, which are then
-/// looked at once.
-pub(crate) fn is_same_row<T: ByteOrder>(bytes: &[u8], first: usize, second: usize) -> bool
-    requires first { first + 8 ≤ length bytes.now }
-    requires second { second + 8 ≤ length bytes.now }
-    ensures { IsTrue result → string_at T.number_of bytes.now first ≡ string_at T.number_of bytes.now second }
+/// Where a string lies in a file.
+#[derive(Clone, Copy)]
+pub(crate) struct Span {
+    pub(crate) start: u32,
+    pub(crate) len: u32,
+}
+
+impl Span {
+    /// Where the string begins.
+    pub(crate) fn start(self) -> usize
+        ensures { result ≡ self.start }
+    {
+        self.start as usize
+    }
+
+    /// Where the string ends.
+    pub(crate) fn end(self) -> usize
+        ensures { result ≡ self.start + self.len }
+    {
+        self.start as usize + self.len as usize
+    }
+}
+
+/// An original and its translation.
+#[derive(Clone, Copy)]
+pub(crate) struct Row {
+    pub(crate) original: Span,
+    pub(crate) translation: Span,
+}
+
+/// Where the string of the row at this place lies.
+pub(crate) fn read_span<T: ByteOrder>(bytes: &[u8], place: usize) -> Span
+    requires { place + 8 ≤ length bytes.now }
+    ensures { result ≡ span_at T.number_of bytes.now place }
 {
-    word::<T>(bytes, first) == word::<T>(bytes, second)
-        && word::<T>(bytes, first + 4) == word::<T>(bytes, second + 4)
+    Span {
+        start: T::read_u32(&bytes[place + 4..]),
+        len: T::read_u32(&bytes[place..]),
+    }
+}
+
+/// The n rows of two tables, in their order.
+pub(crate) fn read_rows<T: ByteOrder>(
+    alloc: Global,
+    bytes: &[u8],
+    originals: usize,
+    translations: usize,
+    n: usize,
+) -> Result<Vec<Row>, AllocError>
+    requires originals { TableLies (table_at T.number_of bytes.now originals n) }
+    requires translations { TableLies (table_at T.number_of bytes.now translations n) }
+    ensures { IfOk result (λ v. v.items ≡ rows T.number_of bytes.now originals translations n) }
+{
+    let mut rows = Vec::with_capacity(alloc, n)?;
+    for i in 0..n {
+        rows.push(Row {
+            original: read_span::<T>(bytes, originals + ROW_LEN * i),
+            translation: read_span::<T>(bytes, translations + ROW_LEN * i),
+        })?;
+    }
+    Ok(rows)
 }

@@ -1,16 +1,12 @@
 //! The tests of a table of strings, or of two. Each goes over the whole table.
-ghost use Rattle.std.specs.Prelude.{◌-◌, ◌+◌, ◌≡◌, ◌↔◌, ◌^◌, ◌<◌, ◌≤◌, ◌==◌, ◌*◌, length, min, IsTrue, MatchOption};
-ghost use Rattle.std.specs.Prelude.{count_by};
+ghost use Rattle.std.specs.Prelude.{◌≡◌, ◌↔◌, ◌^◌, ◌<◌, ◌≤◌, ◌*◌, length, IsTrue};
 ghost use Rattle.catalogue.specs.MoFile.{pool};
-ghost use Rattle.mo_file.specs.Tables.{string_at, strings};
-ghost use Rattle.mo_file.specs.MoReading.{table_at, string_in, TableLies, AllClosed, AreOriginalTexts};
-ghost use Rattle.mo_file.specs.MoReading.{AreTranslationTexts, HaveLawfulForms, KeysRise, HaveLawfulHeaders, Fits};
+ghost use Rattle.mo_file.specs.Tables.{strings};
+ghost use Rattle.mo_file.specs.MoReading.{table_at, TableLies, AllClosed, AreTranslationTexts, KeysRise};
+ghost use Rattle.mo_file.specs.MoReading.{HaveLawfulHeaders, Fits};
 
-use crate::rows::{is_closed, is_same_row, string, string_lies, word};
-use crate::texts::{
-    are_lawful_counts, count_to_two, has_lawful_header, is_below, is_original_text,
-    is_translation_text,
-};
+use crate::rows::{is_closed, string, string_lies, word};
+use crate::texts::{before_nul, has_lawful_header, is_below};
 use byteorder::ByteOrder;
 use mo_image::{HEADER_LEN, MAX_LEN, ROW_LEN};
 
@@ -47,94 +43,6 @@ pub(crate) fn all_closed<T: ByteOrder>(bytes: &[u8], table: usize, n: usize) -> 
     true
 }
 
-/// The string of row i; none where the row before says the same. Rows may share a long string, which is then
-/// looked at once.
-fn new_string<T: ByteOrder>(bytes: &[u8], table: usize, n: usize, i: usize) -> Option<&[u8]>
-    requires lies { TableLies (table_at T.number_of bytes.now table n) }
-    requires within { i < n }
-    ensures { let rows = table_at T.number_of bytes.now table n in
-        MatchOption result ((0 < i) × (string_in rows (i - 1) ≡ string_in rows i))
-        (λ string. string.now ≡ string_in rows i) }
-{
-    let row = table + ROW_LEN * i;
-    if i > 0 {
-        if is_same_row::<T>(bytes, row - ROW_LEN, row) {
-            return None;
-        }
-    }
-    Some(string::<T>(bytes, row))
-}
-
-/// Whether the strings of a table are texts of originals.
-pub(crate) fn originals_are_text<T: ByteOrder>(bytes: &[u8], table: usize, n: usize) -> bool
-    requires { TableLies (table_at T.number_of bytes.now table n) }
-    ensures { IsTrue result ↔ AreOriginalTexts (table_at T.number_of bytes.now table n) }
-{
-    for i in 0..n {
-        let Some(original) = new_string::<T>(bytes, table, n, i) else {
-            continue;
-        };
-        if !is_original_text(original) {
-            return false;
-        }
-    }
-    true
-}
-
-/// Whether the strings of a table are texts of translations.
-pub(crate) fn translations_are_text<T: ByteOrder>(bytes: &[u8], table: usize, n: usize) -> bool
-    requires { TableLies (table_at T.number_of bytes.now table n) }
-    ensures { IsTrue result ↔ AreTranslationTexts (table_at T.number_of bytes.now table n) }
-{
-    for i in 0..n {
-        let Some(translation) = new_string::<T>(bytes, table, n, i) else {
-            continue;
-        };
-        if !is_translation_text(translation) {
-            return false;
-        }
-    }
-    true
-}
-
-/// How many NULs the string of row i has, where that of the row before has so many; 2 where there are more.
-fn nuls_at<T: ByteOrder>(bytes: &[u8], table: usize, n: usize, i: usize, before: usize) -> usize
-    requires lies { TableLies (table_at T.number_of bytes.now table n) }
-    requires within { i < n }
-    requires before { 0 < i → before ≡ min (count_by (λ b. b == 0)
-        (string_at T.number_of bytes.now (table + 8 * (i - 1)))) 2 }
-    ensures { result ≡ min (count_by (λ b. b == 0) (string_at T.number_of bytes.now (table + 8 * i))) 2 }
-{
-    match new_string::<T>(bytes, table, n, i) {
-        Some(string) => count_to_two(0, string),
-        None => before,
-    }
-}
-
-/// Whether the forms of each entry are lawful.
-pub(crate) fn have_lawful_forms<T: ByteOrder>(
-    bytes: &[u8],
-    originals: usize,
-    translations: usize,
-    n: usize,
-) -> bool
-    requires originals { TableLies (table_at T.number_of bytes.now originals n) }
-    requires translations { TableLies (table_at T.number_of bytes.now translations n) }
-    ensures { IsTrue result ↔ HaveLawfulForms (table_at T.number_of bytes.now originals n)
-        (table_at T.number_of bytes.now translations n) }
-{
-    let mut plurals = 0;
-    let mut forms = 0;
-    for i in 0..n {
-        plurals = nuls_at::<T>(bytes, originals, n, i, plurals);
-        forms = nuls_at::<T>(bytes, translations, n, i, forms);
-        if !are_lawful_counts(plurals, forms) {
-            return false;
-        }
-    }
-    true
-}
-
 /// Whether each key is above the one before.
 pub(crate) fn keys_rise<T: ByteOrder>(bytes: &[u8], table: usize, n: usize) -> bool
     requires { TableLies (table_at T.number_of bytes.now table n) }
@@ -143,12 +51,13 @@ pub(crate) fn keys_rise<T: ByteOrder>(bytes: &[u8], table: usize, n: usize) -> b
     if n == 0 {
         return true;
     }
-    for i in 0..n - 1 {
-        let first = string::<T>(bytes, table + ROW_LEN * i);
-        let second = string::<T>(bytes, table + ROW_LEN * (i + 1));
-        if !is_below(first, second) {
+    let mut key = before_nul(string::<T>(bytes, table));
+    for i in 1..n {
+        let next = before_nul(string::<T>(bytes, table + ROW_LEN * i));
+        if !is_below(key, next) {
             return false;
         }
+        key = next;
     }
     true
 }

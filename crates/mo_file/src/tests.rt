@@ -96,7 +96,7 @@ fn high_byte_first(rt: HostRuntime) -> Result<(), Fail> {
     assert_eq!(rt; file.as_slice(), WRITTEN.as_slice());
     let again = reread(alloc, &catalogue)?;
     assert!(rt; has(&again, 1, "ba", "xx"));
-    assert_eq!(rt; check(&BIG), Ok(()));
+    assert_eq!(rt; check(alloc, &BIG), Ok(()));
     Ok(())
 }
 
@@ -126,7 +126,7 @@ fn front_parts(rt: HostRuntime) {
         };
         if k < BIG.len() {
             assert_eq!(rt; refusal(alloc, &BIG[..k]), Some(wanted), "{k}");
-            assert_eq!(rt; check(&BIG[..k]), Err(wanted), "{k}");
+            assert_eq!(rt; check(alloc, &BIG[..k]), Err(wanted), "{k}");
         }
     }
 }
@@ -166,22 +166,52 @@ fn changed_rows(rt: HostRuntime) {
     equal[31] = 2;
     equal[35] = 0x48;
     assert_eq!(rt; refusal(alloc, &equal), Some(MoFault::Order));
-    // Two forms, and no plural.
-    let mut forms = BIG;
-    forms[55] = 5;
-    forms[59] = 0x48;
-    assert_eq!(rt; refusal(alloc, &forms), Some(MoFault::Forms));
-    // A sum that doesn't fit 32 bits.
-    let mut wraps = BIG;
-    for place in 28..36 {
-        wraps[place] = 0xff;
-    }
-    assert_eq!(rt; refusal(alloc, &wraps), Some(MoFault::Bounds));
     // A fault of the last string comes before an earlier one of a later kind.
     let mut both = BIG;
     both[72] = 0xff;
     both[77] = 1;
     assert_eq!(rt; refusal(alloc, &both), Some(MoFault::NoNul));
+}
+
+/// The file with other bytes from a place on.
+fn changed(place: usize, bytes: &[u8]) -> [u8; 78] {
+    let mut file = BIG;
+    for (slot, byte) in file.iter_mut().skip(place).zip(bytes) {
+        *slot = *byte;
+    }
+    file
+}
+
+#[test]
+fn changed_words(rt: HostRuntime) {
+    let alloc = rt.alloc();
+    let rows: [(usize, &[u8], MoFault); 13] = [
+        (0, b"\xff", MoFault::Magic),
+        (4, b"\0\0\0\x01", MoFault::Revision),
+        // The number of entries, and the places of the tables.
+        (8, b"\xff\xff\xff\xff", MoFault::Bounds),
+        (12, b"\xff\xff\xff\xf8", MoFault::Bounds),
+        (16, b"\xff\xff\xff\xf8", MoFault::Bounds),
+        // The length and the place of each original and each translation, whose sum takes more than 32 bits.
+        (28, &[0xff; 8], MoFault::Bounds),
+        (36, &[0xff; 8], MoFault::Bounds),
+        (44, &[0xff; 8], MoFault::Bounds),
+        (52, &[0xff; 8], MoFault::Bounds),
+        (74, b"\x63", MoFault::NoNul),
+        (73, b"\xff", MoFault::BadText),
+        // The second translation is two texts, and there is no plural.
+        (52, b"\0\0\0\x05\0\0\0\x48", MoFault::Forms),
+        // The rows of the originals are exchanged.
+        (
+            28,
+            b"\0\0\0\x02\0\0\0\x48\0\0\0\x01\0\0\0\x49",
+            MoFault::Order,
+        ),
+    ];
+    for (place, bytes, wanted) in rows {
+        let file = changed(place, bytes);
+        assert_eq!(rt; refusal(alloc, &file), Some(wanted), "{place}");
+    }
 }
 
 /// The file of one entry with the empty key.
@@ -230,9 +260,10 @@ fn charsets(rt: HostRuntime) -> Result<(), Fail> {
     Ok(())
 }
 
-/// 150 keys whose translations all lie on one text of 2,000,000 bytes.
-fn swollen_file(alloc: Global) -> Result<Vec<u8>, AllocError> {
-    let mut file = Vec::with_capacity(alloc, 2_002_879)?;
+/// A file of 150 keys of two bytes, whose translations end with one text of `x`: the last one is that text, of so many
+/// bytes, and each other one its end, of so many bytes.
+fn overlapping_file(alloc: Global, others: u32, last: u32) -> Result<Vec<u8>, AllocError> {
+    let mut file = Vec::new(alloc);
     for word in [0x950412de, 0, 150, 28, 1228, 0, 2428] {
         file.extend_from_slice(&u32::to_le_bytes(word))?;
     }
@@ -240,18 +271,18 @@ fn swollen_file(alloc: Global) -> Result<Vec<u8>, AllocError> {
         file.extend_from_slice(&u32::to_le_bytes(2))?;
         file.extend_from_slice(&u32::to_le_bytes(i.wrapping_mul(3).wrapping_add(2428)))?;
     }
-    for _i in 0..150u32 {
-        file.extend_from_slice(&u32::to_le_bytes(2_000_000))?;
-        file.extend_from_slice(&u32::to_le_bytes(2878))?;
+    for i in 0..150u32 {
+        let len = if i < 149 { others } else { last };
+        file.extend_from_slice(&u32::to_le_bytes(len))?;
+        file.extend_from_slice(&u32::to_le_bytes(last.wrapping_sub(len).wrapping_add(2878)))?;
     }
     for first in *b"abcdefghij" {
         for second in *b"abcdefghijklmno" {
             file.extend_from_slice(&[first, second, 0])?;
         }
     }
-    for _i in 0..2_000_000u32 {
-        file.push(b'x')?;
-    }
+    let text = vec![in alloc; b'x'; last as usize]?;
+    file.extend_from_slice(&text)?;
     file.push(0)?;
     Ok(file)
 }
@@ -259,9 +290,26 @@ fn swollen_file(alloc: Global) -> Result<Vec<u8>, AllocError> {
 #[test]
 fn swollen(rt: HostRuntime) -> Result<(), Fail> {
     let alloc = rt.alloc();
-    let file = swollen_file(alloc)?;
+    let file = overlapping_file(alloc, 2_000_000, 2_000_000)?;
     assert_eq!(rt; file.len(), 2_002_879);
     assert_eq!(rt; refusal(alloc, file.as_slice()), Some(MoFault::Swollen));
+    Ok(())
+}
+
+/// The written file has 28 bytes, 16 for each entry, and each string with a NUL behind it: here 3,028 bytes and the
+/// translations, 149 times 1,789,549 bytes and once 1,789,627. That makes 268,435,456, the limit.
+#[test]
+fn not_yet_swollen(rt: HostRuntime) -> Result<(), Fail> {
+    let alloc = rt.alloc();
+    let file = overlapping_file(alloc, 1_789_549, 1_789_627)?;
+    let catalogue = read_mo(alloc, file.as_slice())?;
+    assert_eq!(rt;
+        (catalogue.len(), catalogue.file().len()),
+        (150, 268_435_456)
+    );
+    assert_eq!(rt; catalogue.gettext("jo").len(), 1_789_627);
+    let longer = overlapping_file(alloc, 1_789_549, 1_789_628)?;
+    assert_eq!(rt; refusal(alloc, longer.as_slice()), Some(MoFault::Swollen));
     Ok(())
 }
 

@@ -17,17 +17,69 @@ const DIVIDED: &str = "msgid \"\"\nmsgstr \"nplurals=6; plural=5/n;\"\n\
 /// A plural with one form, and no header.
 const CAT: &str = "msgid \"cat\"\nmsgid_plural \"cats\"\nmsgstr[0] \"chat\"\n";
 
-/// The catalogue of a text; where it was asked for, written and read again.
-fn catalogue_of(alloc: Global, text: &str, again: bool) -> Result<Catalogue, Fail> {
+/// A fuzzy header, and a fuzzy message.
+const FUZZY: &str =
+    "#, fuzzy\nmsgid \"\"\nmsgstr \"Language: fr\\n\"\n#, fuzzy\nmsgid \"a\"\nmsgstr \"b\"\n";
+
+const POLISH: &str = "msgid \"\"\nmsgstr \"Plural-Forms: nplurals=3; plural=n==1 ? 0 : \
+    n%10>=2 && n%10<=4 && (n%100<10 || n%100>=20) ? 1 : 2;\\n\"\n\nmsgid \"file\"\nmsgid_plural \"files\"\n\
+    msgstr[0] \"plik\"\nmsgstr[1] \"pliki\"\nmsgstr[2] \"plikow\"\n";
+
+const CONTEXTS: &str = "msgctxt \"\"\nmsgid \"b\"\nmsgstr \"1\"\nmsgid \"b\"\nmsgstr \"2\"\n\
+    msgctxt \"k\"\nmsgid \"b\"\nmsgstr \"3\"\n";
+
+/// The catalogue of a text; where it was asked for, with its fuzzy messages, and written and read again.
+fn catalogue_with(
+    alloc: Global,
+    text: &str,
+    use_fuzzy: bool,
+    again: bool,
+) -> Result<Catalogue, Fail> {
     let options = Options {
         checked: false,
-        use_fuzzy: false,
+        use_fuzzy,
     };
     let compiled = compile(alloc, text.as_bytes(), options)?;
     if again {
         return Ok(reread(alloc, &compiled.catalogue)?);
     }
     Ok(compiled.catalogue)
+}
+
+/// The same without fuzzy messages.
+fn catalogue_of(alloc: Global, text: &str, again: bool) -> Result<Catalogue, Fail> {
+    catalogue_with(alloc, text, false, again)
+}
+
+#[test]
+fn a_fuzzy_header_is_kept(rt: HostRuntime) -> Result<(), Fail> {
+    for again in [false, true] {
+        for (use_fuzzy, entries, size, wanted) in [(false, 1, 59, "a"), (true, 2, 79, "b")] {
+            let catalogue = catalogue_with(rt.alloc(), FUZZY, use_fuzzy, again)?;
+            assert_eq!(rt; (catalogue.len(), catalogue.file().len()), (entries, size));
+            assert_eq!(rt; catalogue.gettext(""), "Language: fr\n");
+            assert_eq!(rt; catalogue.gettext("a"), wanted);
+        }
+    }
+    Ok(())
+}
+
+#[test]
+fn forms_by_the_rule_of_polish(rt: HostRuntime) -> Result<(), Fail> {
+    for again in [false, true] {
+        let catalogue = catalogue_of(rt.alloc(), POLISH, again)?;
+        for (n, wanted) in [
+            (0, "plikow"),
+            (1, "plik"),
+            (5, "plikow"),
+            (22, "pliki"),
+            (112, "plikow"),
+        ] {
+            assert_eq!(rt; catalogue.ngettext("file", "files", n), wanted, "{n}");
+        }
+        assert_eq!(rt; catalogue.gettext("file"), "plik");
+    }
+    Ok(())
 }
 
 #[test]
@@ -61,16 +113,18 @@ fn plurals_without_a_header(rt: HostRuntime) -> Result<(), Fail> {
 
 #[test]
 fn originals_with_contexts(rt: HostRuntime) -> Result<(), Fail> {
-    let text = "msgctxt \"\"\nmsgid \"b\"\nmsgstr \"1\"\nmsgid \"b\"\nmsgstr \"2\"\n\
-        msgctxt \"k\"\nmsgid \"b\"\nmsgstr \"3\"\n";
     for again in [false, true] {
-        let catalogue = catalogue_of(rt.alloc(), text, again)?;
+        let catalogue = catalogue_of(rt.alloc(), CONTEXTS, again)?;
         let keys = ["\u{4}b", "b", "k\u{4}b"];
         assert_eq!(rt; catalogue.len(), keys.len());
         for (i, key) in keys.iter().enumerate() {
             if i < catalogue.len() {
                 assert_eq!(rt; catalogue.entry(i).key(), *key);
             }
+        }
+        assert_eq!(rt; catalogue.gettext("b"), "2");
+        for (context, wanted) in [("", "1"), ("k", "3"), ("z", "b")] {
+            assert_eq!(rt; catalogue.pgettext(context, "b"), wanted, "{context}");
         }
         // A msgid that holds byte 4 is a key with a context.
         assert_eq!(rt; catalogue.gettext("k\u{4}b"), "3");

@@ -13,6 +13,12 @@ const WRITTEN: [u8; 70] = [
     0x00, 0x78, 0x00, 0x78, 0x78, 0x00,
 ];
 
+/// The file of the empty map.
+const EMPTY: [u8; 28] = [
+    0xde, 0x12, 0x04, 0x95, 0x00, 0x00, 0x00, 0x00, 0x00, 0x00, 0x00, 0x00, 0x1c, 0x00, 0x00, 0x00,
+    0x1c, 0x00, 0x00, 0x00, 0x00, 0x00, 0x00, 0x00, 0x1c, 0x00, 0x00, 0x00,
+];
+
 /// A message without context and plural.
 fn plain(alloc: Global, id: &str, form: &str) -> Result<Message, AllocError> {
     let mut forms = Vec::with_capacity(alloc, 1)?;
@@ -25,17 +31,29 @@ fn plain(alloc: Global, id: &str, form: &str) -> Result<Message, AllocError> {
     })
 }
 
+/// The file of a catalogue that is made of these messages; `None` where none can be made of them.
+fn file_of(alloc: Global, messages: Vec<Message>) -> Result<Option<Vec<u8>>, AllocError> {
+    if !Catalogue::accepts(messages.as_slice()) {
+        return Ok(None);
+    }
+    let catalogue = Catalogue::from_sorted(alloc, messages)?;
+    Ok(Some(write_mo(alloc, &catalogue)?))
+}
+
 #[test]
 fn file_of_sorted_messages(rt: HostRuntime) -> Result<(), Fail> {
     let alloc = rt.alloc();
     let mut messages = Vec::with_capacity(alloc, 2)?;
     messages.push(plain(alloc, "a", "x")?)?;
     messages.push(plain(alloc, "ba", "xx")?)?;
-    assert!(rt; Catalogue::accepts(messages.as_slice()));
-    if Catalogue::accepts(messages.as_slice()) {
-        let catalogue = Catalogue::from_sorted(alloc, messages)?;
-        let file = write_mo(alloc, &catalogue)?;
-        assert_eq!(rt; file.as_slice(), WRITTEN.as_slice());
-    }
+    let file = file_of(alloc, messages)?;
+    assert!(rt; file.is_some_and(|file| file.as_slice() == WRITTEN.as_slice()));
+    Ok(())
+}
+
+#[test]
+fn file_of_no_messages(rt: HostRuntime) -> Result<(), Fail> {
+    let file = file_of(rt.alloc(), Vec::new(rt.alloc()))?;
+    assert!(rt; file.is_some_and(|file| file.as_slice() == EMPTY.as_slice()));
     Ok(())
 }

@@ -2,7 +2,10 @@
 //! error output to `msgfmt_tool`, and ends with the exit status 0 or 1.
 #![tactic(auto)]
 
+mod beside;
 mod disk;
+mod replace;
+mod stream;
 
 use crate::disk::Disk;
 use devices::{Reading, Sink, Writing};

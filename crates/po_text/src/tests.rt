@@ -43,17 +43,20 @@ fn reads_each(rt: HostRuntime) -> Result<(), Fail> {
     Ok(())
 }
 
-/// 64 MiB, and one byte more.
+/// 64 MiB, and one byte more, which may be one that UTF-8 has not.
 #[test]
 fn bounds_texts(rt: HostRuntime) -> Result<(), Fail> {
     let mut text = vec![in rt.alloc(); b' '; 67_108_864]?;
     assert_eq!(rt; read_po(rt.alloc(), &text)?.len(), 0);
-    text.push(0xff)?;
     let too_large = PoFault {
         kind: PoKind::TooLarge,
         line: 0,
     };
-    assert_eq!(rt; read_po(rt.alloc(), &text).err(), Some(too_large));
+    for byte in [b' ', 0xff] {
+        text.push(byte)?;
+        assert_eq!(rt; read_po(rt.alloc(), &text).err(), Some(too_large));
+        text.pop();
+    }
     Ok(())
 }
 

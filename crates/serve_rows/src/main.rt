@@ -5,7 +5,7 @@
 ghost use Rattle.std.specs.Prelude.{◌≡◌, ◌≤◌, All, IfOk, vec_len};
 
 use catalogue::Options;
-use desks::{Answer, Desk, Gate, Job, Place, Served, serve};
+use desks::{Accepted, Answer, Desk, Gate, Job, Place, Served, Source, serve};
 use live_set::{Ask, Query};
 use live_versions::{Lookups, Publisher, Version, open_store};
 use std::alloc::{AllocError, Global};
@@ -83,8 +83,10 @@ fn jobs_of(alloc: Global) -> Result<Vec<Job>, AllocError> {
     jobs.push(Job {
         domain: String::from_str(alloc, "app")?,
         locale: String::from_str(alloc, "fr")?,
-        bytes,
-        options: PLAIN,
+        source: Source::Po {
+            bytes,
+            options: PLAIN,
+        },
     })?;
     Ok(jobs)
 }
@@ -114,7 +116,8 @@ fn print_served<R: Print>(
     println!(rt; "serve: {}", served.version)?;
     'outcomes: for outcome in served.outcomes.iter() {
         match outcome {
-            Ok(stats) => println!(rt; "  job: {} translated", stats.translated)?,
+            Ok(Accepted::Po(stats)) => println!(rt; "  job: {} translated", stats.translated)?,
+            Ok(Accepted::Mo(entries)) => println!(rt; "  job: {entries} entries")?,
             Err(fault) => println!(rt; "  job: {fault:?}")?,
         }
     }

@@ -6,7 +6,7 @@
 ghost use Rattle.std.specs.Prelude.{◌≡◌, ◌≤◌, All, IfOk, vec_len};
 
 use catalogue::Options;
-use desks::{Answer, Desk, Gate, Job, Place, Served, serve};
+use desks::{Answer, Desk, Gate, Job, Place, Served, Source, serve};
 use live_set::{Ask, Query};
 use live_versions::{Lookups, Publisher, Version, open_store};
 use std::alloc::{AllocError, Global};
@@ -109,8 +109,10 @@ fn jobs_of(alloc: Global, version: Version) -> Result<Vec<Job>, AllocError> {
         jobs.push(Job {
             domain: String::from_str(alloc, "app")?,
             locale: String::from_str(alloc, "fr")?,
-            bytes: text.into_bytes(),
-            options: PLAIN,
+            source: Source::Po {
+                bytes: text.into_bytes(),
+                options: PLAIN,
+            },
         })?;
     }
     Ok(jobs)

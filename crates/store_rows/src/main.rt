@@ -20,6 +20,11 @@ const SALUT: &str = "msgid \"hi\"\nmsgstr \"salut\"\n";
 
 const HALLO: &str = "msgid \"hi\"\nmsgstr \"hallo\"\n";
 
+/// An MO file of `hi` to `hej` and `yes` to `ja`.
+const HEJ: &[u8] = b"\xde\x12\x04\x95\0\0\0\0\x02\0\0\0\x1c\0\0\0\x2c\0\0\0\0\0\0\0\x3c\0\0\0\
+    \x02\0\0\0\x3c\0\0\0\x03\0\0\0\x3f\0\0\0\x03\0\0\0\x43\0\0\0\x02\0\0\0\x47\0\0\0\
+    hi\0yes\0hej\0ja\0";
+
 const TWICE: &str = "msgid \"a\"\nmsgstr \"x\"\n#, fuzzy\nmsgid \"a\"\nmsgstr \"y\"\n";
 
 /// Prints what the publisher has.
@@ -43,6 +48,21 @@ fn load<R: Print + AllocGlobal>(
             println!(rt; "load {locale}: {kind:?} at {line}")?;
         }
         Err(fault) => println!(rt; "load {locale}: {fault:?}")?,
+    }
+    print_state(rt, publisher)
+}
+
+/// Loads an MO file for a locale.
+fn load_mo<R: Print + AllocGlobal>(
+    rt: &R,
+    publisher: &mut Publisher,
+    locale: &str,
+    bytes: &[u8],
+) -> io::Result<()> {
+    match publisher.load_mo(rt.alloc(), "app", locale, bytes) {
+        Ok(entries) => println!(rt; "load_mo {locale}: {entries} entries")?,
+        Err(StoreFault::RefusedMo(fault)) => println!(rt; "load_mo {locale}: {fault:?}")?,
+        Err(fault) => println!(rt; "load_mo {locale}: {fault:?}")?,
     }
     print_state(rt, publisher)
 }
@@ -114,6 +134,21 @@ fn rows<R: Wait + Print + AllocGlobal>(
     load(rt, publisher, "fr", TWICE)?;
     publish(rt, publisher)?;
     load(rt, publisher, "sv", SALUT)?;
+    publish(rt, publisher)?;
+    enter(rt, reader)?;
+    file_rows(rt, publisher, reader)
+}
+
+/// An MO file, whole and without its last byte.
+fn file_rows<R: Wait + Print + AllocGlobal>(
+    rt: &R,
+    publisher: &mut Publisher,
+    reader: &mut Lookups,
+) -> io::Result<()> {
+    load_mo(rt, publisher, "sv", HEJ)?;
+    if let Some((_, cut)) = HEJ.split_last() {
+        load_mo(rt, publisher, "sv", cut)?;
+    }
     publish(rt, publisher)?;
     enter(rt, reader)
 }

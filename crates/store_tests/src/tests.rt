@@ -7,6 +7,7 @@ use live_versions::{
     Ahead, AskFault, Closed, Lookups, Notice, OpenFault, Pinned, Publisher, StoreFault, Version,
     one_answer, open_store, versions_never_fall,
 };
+use mo_file::MoFault;
 use std::alloc::{AllocError, Global};
 use std::sync::atomic::AtomicBool;
 use std::sync::atomic::Ordering::SeqCst;
@@ -27,6 +28,16 @@ const SALUT: &[u8] = b"msgid \"hi\"\nmsgstr \"salut\"\n";
 const HALLO: &[u8] = b"msgid \"hi\"\nmsgstr \"hallo\"\n";
 
 const TWICE: &[u8] = b"msgid \"a\"\nmsgstr \"x\"\n#, fuzzy\nmsgid \"a\"\nmsgstr \"y\"\n";
+
+/// An MO file of `hi` to `hej` and `yes` to `ja`.
+const HEJ: &[u8] = b"\xde\x12\x04\x95\0\0\0\0\x02\0\0\0\x1c\0\0\0\x2c\0\0\0\0\0\0\0\x3c\0\0\0\
+    \x02\0\0\0\x3c\0\0\0\x03\0\0\0\x3f\0\0\0\x03\0\0\0\x43\0\0\0\x02\0\0\0\x47\0\0\0\
+    hi\0yes\0hej\0ja\0";
+
+/// An MO file of `a` to `x` and `ba` to `xx`: high byte first, a hash table, and the strings end on one another.
+const BIG: &[u8] = b"\x95\x04\x12\xde\0\0\0\0\0\0\0\x02\0\0\0\x1c\0\0\0\x2c\0\0\0\x03\0\0\0\x3c\
+    \0\0\0\x01\0\0\0\x49\0\0\0\x02\0\0\0\x48\0\0\0\x01\0\0\0\x4c\0\0\0\x02\0\0\0\x4b\
+    \0\0\0\x02\0\0\0\x01\0\0\0\0ba\0xx\0";
 
 const COUNTED: &[u8] =
     b"msgctxt \"k\"\nmsgid \"file\"\nmsgid_plural \"files\"\nmsgstr[0] \"fichier\"\nmsgstr[1] \"fichiers\"\n";
@@ -278,6 +289,126 @@ fn loads_are_refused_in_order(rt: HostRuntime) -> Result<(), Fail> {
     assert!(rt; name == Err(StoreFault::BadName) && first == Ok(ONE));
     assert!(rt; second == Err(StoreFault::VersionsSpent) && empty == Err(StoreFault::BadName));
     assert!(rt; pending == 1 && shown == 1);
+    Ok(())
+}
+
+#[test]
+fn a_store_may_take_no_loads(rt: HostRuntime) -> Result<(), Fail> {
+    let (mut publisher, mut readers) = open_store(&rt, rt.alloc(), 1, 0)?;
+    let Some(mut reader) = readers.pop() else {
+        publisher.end(&rt);
+        return Ok(());
+    };
+    let text = publisher.load(rt.alloc(), "app", "fr", SALUT, PLAIN);
+    let file = publisher.load_mo(rt.alloc(), "app", "fr", HEJ);
+    let pending = publisher.pending();
+    let published = publisher.publish(&rt);
+    let shown = shows(&mut reader, 0, "hi", "hi", "hi");
+    publisher.end(&rt);
+    assert!(rt; text == Err(StoreFault::VersionsSpent));
+    assert!(rt; file == Err(StoreFault::VersionsSpent));
+    assert!(rt; (pending, published, shown) == (0, Ok(0), true));
+    Ok(())
+}
+
+/// Whether the store is closed to both calls, and the reader has still seen this version.
+fn finds_closed(reader: &mut Lookups, query: &Query, alloc: Global, seen: Version) -> bool {
+    let asked = reader.ask(alloc, query);
+    let seen_then = reader.seen();
+    let is_closed = match reader.enter() {
+        Ok(pinned) => {
+            pinned.leave();
+            false
+        }
+        Err(closed) => closed == Closed,
+    };
+    asked == Err(AskFault::Closed) && is_closed && (seen_then, reader.seen()) == (seen, seen)
+}
+
+#[test]
+fn a_closed_store_answers_nothing(rt: HostRuntime) -> Result<(), Fail> {
+    let query = query(rt.alloc(), "fr")?;
+    let (mut publisher, mut readers) = open_store(&rt, rt.alloc(), 2, 9)?;
+    let (Some(mut second), Some(mut first)) = (readers.pop(), readers.pop()) else {
+        publisher.end(&rt);
+        return Ok(());
+    };
+    let found = tell_two(&rt, rt.alloc(), &mut publisher, &mut first);
+    publisher.end(&rt);
+    assert!(rt; found.second == Some(2));
+    // (the second reader has seen nothing)
+    'turns: for _ in 0..2u32 {
+        assert!(rt; finds_closed(&mut first, &query, rt.alloc(), 2));
+        assert!(rt; finds_closed(&mut second, &query, rt.alloc(), 0));
+    }
+    Ok(())
+}
+
+type FileLoaded = Result<u64, StoreFault>;
+
+const BOUNDS: StoreFault = StoreFault::RefusedMo(MoFault::Bounds);
+
+/// The bytes but for the last one.
+fn cut(bytes: &[u8]) -> &[u8] {
+    match bytes.split_last() {
+        Some((_, front)) => front,
+        None => bytes,
+    }
+}
+
+/// Loads an MO file, whole and cut. Beside each answer stands what is pending then.
+fn load_file(alloc: Global, publisher: &mut Publisher, file: &[u8]) -> [(FileLoaded, u64); 2] {
+    let whole = publisher.load_mo(alloc, "app", "sv", file);
+    let one = publisher.pending();
+    let short = publisher.load_mo(alloc, "app", "sv", cut(file));
+    [(whole, one), (short, publisher.pending())]
+}
+
+#[test]
+fn files_are_loaded(rt: HostRuntime) -> Result<(), Fail> {
+    let (mut publisher, mut readers) = open_store(&rt, rt.alloc(), 1, 9)?;
+    let Some(mut reader) = readers.pop() else {
+        publisher.end(&rt);
+        return Ok(());
+    };
+    let big = load_file(rt.alloc(), &mut publisher, BIG);
+    let found = load_file(rt.alloc(), &mut publisher, HEJ);
+    let published = publisher.publish(&rt);
+    let shown = shows(&mut reader, 2, "hi", "hi", "hej");
+    publisher.end(&rt);
+    assert!(rt; big == [(Ok(2), 1), (Err(BOUNDS), 1)]);
+    assert!(rt; found == [(Ok(2), 2), (Err(BOUNDS), 2)]);
+    assert!(rt; published == Ok(2) && shown);
+    Ok(())
+}
+
+/// A name that is none, a file that is refused, one that is accepted, one too many, and names that are none again.
+fn load_five(alloc: Global, publisher: &mut Publisher) -> [FileLoaded; 5] {
+    [
+        publisher.load_mo(alloc, "a b", "fr", cut(HEJ)),
+        publisher.load_mo(alloc, "app", "fr", cut(HEJ)),
+        publisher.load_mo(alloc, "app", "fr", HEJ),
+        publisher.load_mo(alloc, "app", "fr", cut(HEJ)),
+        publisher.load_mo(alloc, "app", "", cut(HEJ)),
+    ]
+}
+
+#[test]
+fn files_are_refused_in_order(rt: HostRuntime) -> Result<(), Fail> {
+    let (mut publisher, _readers) = open_store(&rt, rt.alloc(), 1, 1)?;
+    let [name, short, first, second, empty] = load_five(rt.alloc(), &mut publisher);
+    let pending = publisher.pending();
+    publisher.end(&rt);
+    assert!(rt; name == Err(StoreFault::BadName) && short == Err(BOUNDS) && first == Ok(2));
+    assert!(rt; second == Err(StoreFault::VersionsSpent) && empty == Err(StoreFault::BadName));
+    assert!(rt; pending == 1);
+    Ok(())
+}
+
+#[test]
+fn refusals_are_told(rt: HostRuntime) -> Result<(), Fail> {
+    let told = format!(in rt.alloc(); "{BOUNDS}")?;
+    assert_eq!(rt; told.as_str(), "the MO file is refused: out of bounds");
     Ok(())
 }
 

@@ -1,4 +1,4 @@
-use Rattle.std.proofs.Common.{◌≡◌, ◌∙◌, ◌++◌, ◌∷◌, [], set, get_or, refl, sym, ap, arith}
+use Rattle.std.proofs.Common.{◌∙◌, ◌++◌, ◌∷◌, [], set, get_or, refl, sym, ap, arith}
 use Rattle.desks.specs.declared.desk.Desk.{Desk}
 use Rattle.catserve.proofs.Asked.{gives_so, gives_none}
 use Rattle.catserve.proofs.asking.give.Goals as goal

@@ -1,9 +1,8 @@
-use Rattle.std.proofs.Common.{◌≡◌, ◌≤◌, ◌∙◌, ◌+◌, ◌++◌, ◌∷◌, [], List, None, refl, sym, ap, subst, take, length}
-use Rattle.std.proofs.Common.{arith, rules}
+use Rattle.std.proofs.Common.{◌≡◌, ◌∙◌, ◌++◌, ◌∷◌, [], List, None, sym, ap, subst}
+use Rattle.std.proofs.Common.{arith}
 use Rattle.std.specs.Vec.Iter.{into_iter_items, into_iter_len}
 use Rattle.catserve.proofs.Turns.{takes_one, takes_all}
 use Rattle.std.proofs.lemmas.List.{map-append}
-use Rattle.live_versions.specs.Seen.{SeenValue}
 use Rattle.desks.specs.declared.desk.Desk.{Desk}
 use Rattle.catserve.specs.Asking.{readers_of, AreAsked}
 use Rattle.catserve.proofs.Asked.{opens_more}

@@ -1,6 +1,12 @@
-use Rattle.std.proofs.Common.{◌≡◌, ◌++◌, take}
+use Rattle.std.proofs.Common.{◌≡◌, ◌++◌}
+use Rattle.std.specs.Vec.Iter.{into_iter_items, into_iter_len}
 use Rattle.catserve.specs.Asking.{answer_lines}
+use Rattle.catserve.proofs.Turns.{HasTaken}
 use Rattle.catserve.proofs.asking.write_answers.Given as goal
 
 abbrev pub invariant-answers : goal.invariant-answers
-invariant-answers l = l.output.items ≡ l.fn.output.items ++ answer_lines l.worker (take l.answer-index l.answers)
+invariant-answers l = record {
+  taken : HasTaken (into_iter_items l.initial.answer-iterator) l.yielded (into_iter_items l.answer-iterator)
+      (into_iter_len l.answer-iterator);
+  written : l.output.items ≡ l.fn.output.items ++ answer_lines l.worker l.yielded;
+}

@@ -1,7 +1,8 @@
 use Rattle.std.proofs.Common.{[], ◌∷◌, refl, arith}
-use Rattle.catserve.specs.Script.{Ask, Go}
-use Rattle.catserve.specs.Commands.{Blank, Asks, Goes}
-use Rattle.catserve.proofs.Parsing.{takes_none, takes_text, few_go, few_ask}
+use Rattle.desks.specs.Jobs.{JobValue, Mo}
+use Rattle.catserve.specs.Script.{Load, Ask, Go}
+use Rattle.catserve.specs.Commands.{Blank, LoadsMo, Asks, Goes}
+use Rattle.catserve.proofs.Parsing.{takes_none, takes_text, few_go, few_ask, few_load}
 use Rattle.catserve.proofs.parse.take_in.Goals as goal
 
 pub returns-in-Blank-clause-ok : goal.returns-in-Blank-clause-ok
@@ -28,3 +29,14 @@ returns-in_ok-load-in-Loads-clause-ok c =
     rw c.in-Loads.is (takes_text c.args.rounds.now c.load.new.self c.in-Loads.domain.now c.in-Loads.locale.now
     c.in-Loads.options c.in-Loads.count c.args.behind.now c.args.number c.in-Some.text.now c.in-Some.rest.now
     c.in-Some.ensures c.in_ok-load-in-Loads.ensures)
+
+pub returns-in_ok-load-in-LoadsMo-clause-ok : goal.returns-in_ok-load-in-LoadsMo-clause-ok
+returns-in_ok-load-in-LoadsMo-clause-ok c =
+    let domain = c.in-LoadsMo.domain.now in
+    let locale = c.in-LoadsMo.locale.now in
+    let bytes = c.in-LoadsMo.bytes.items in
+    let load : JobValue = record { domain = domain; locale = locale; source = Mo bytes } in
+    let is = c.in_ok-load-in-LoadsMo.ensures in
+    let now = c.load-in-LoadsMo.new.self in
+    rw c.in-LoadsMo.is (takes_none c.args.rounds.now now (LoadsMo domain locale bytes) c.args.behind.now c.args.number
+    (Load load ∷ []) refl is (few_load c.args.rounds.now now load is) c.utf8.behind)

@@ -1,35 +1,35 @@
-use Rattle.std.proofs.Common.{Result, Ok, Err, OnOk, IfOk, subst}
-use Rattle.desks.specs.Jobs.{JobValue}
-use Rattle.catserve.specs.Running.{LoadsOne}
+use Rattle.std.proofs.Common.{refl}
+use Rattle.desks.specs.declared.job.Accepted.TheVariants as accepted
+use Rattle.catserve.specs.Rounds.{Refused, RefusedMo}
 use Rattle.catserve.proofs.Playing.{accepts_one, refuses_one, map_ok}
 use Rattle.catserve.proofs.round.make_load.Goals as goal
 
-pub returns-in-Ok-clause-ok : goal.returns-in-Ok-clause-ok
-returns-in-Ok-clause-ok c =
-    let load : JobValue = record {
-      domain = c.load.inside.domain.now;
-      locale = c.load.inside.locale.now;
-      options = c.load.inside.options;
-      text = c.load.inside.text.now;
-    } in
-    let P : JobValue → Type 0 = λ l. LoadsOne l c.args.publisher.now.pending c.load-2.new.self.pending
-    c.args.output.now.items c.write_accepted.new.output.items in
+pub returns-in-Ok-Po-clause-ok : goal.returns-in-Ok-Po-clause-ok
+returns-in-Ok-Po-clause-ok c =
+    let is = rw c.in-Ok-Po.field-0-is at c.in-Ok-Po.ensures.ok in
     map_ok c.write_accepted.result c.write_accepted.ensures (λ written.
-    subst P c.load.view_is (accepts_one load c.args.publisher.now c.load-2.new.self c.in-Ok.stats
-    c.args.output.now.items c.write_accepted.new.output.items c.in-Ok.ensures.ok written))
+    accepts_one c.args.load.now (accepted.Po c.in-Ok-Po.stats) c.args.publisher.now c.add_load.new.publisher
+    c.args.output.now.items c.write_accepted.new.output.items is written)
+
+pub returns-in-Ok-Mo-clause-ok : goal.returns-in-Ok-Mo-clause-ok
+returns-in-Ok-Mo-clause-ok c =
+    let is = rw c.in-Ok-Mo.field-0-is at c.in-Ok-Mo.ensures.ok in
+    map_ok c.write_accepted_mo.result c.write_accepted_mo.ensures (λ written.
+    accepts_one c.args.load.now (accepted.Mo c.in-Ok-Mo.entries) c.args.publisher.now c.add_load.new.publisher
+    c.args.output.now.items c.write_accepted_mo.new.output.items is written)
 
 pub returns-in-Err-Refused-clause-ok : goal.returns-in-Err-Refused-clause-ok
 returns-in-Err-Refused-clause-ok c =
-    let load : JobValue = record {
-      domain = c.load.inside.domain.now;
-      locale = c.load.inside.locale.now;
-      options = c.load.inside.options;
-      text = c.load.inside.text.now;
-    } in
-    let refused = rw c.in-Err-Refused.field-0-is at c.in-Err-Refused.ensures.err in
-    let P : JobValue → Type 0 = λ l. LoadsOne l c.args.publisher.now.pending c.load-2.new.self.pending
-    c.args.output.now.items c.write_refused.new.output.items in
+    let why = rw c.in-Err-Refused.field-0-is at c.in-Err-Refused.ensures.err in
     map_ok c.write_refused.result c.write_refused.ensures (λ written.
-    subst P c.load.view_is (refuses_one load c.args.publisher.now c.load-2.new.self c.in-Err-Refused.fault
-    c.args.output.now.items c.write_refused.new.output.items refused.0 refused.2 c.in-Err-Refused.ensures.unchanged
-    written))
+    refuses_one c.args.load.now (Refused c.in-Err-Refused.fault) c.args.publisher.now c.add_load.new.publisher
+    c.args.output.now.items c.write_refused.new.output.items (why.0, why.2) refl c.in-Err-Refused.ensures.unchanged
+    written)
+
+pub returns-in-Err-RefusedMo-clause-ok : goal.returns-in-Err-RefusedMo-clause-ok
+returns-in-Err-RefusedMo-clause-ok c =
+    let why = rw c.in-Err-RefusedMo.field-0-is at c.in-Err-RefusedMo.ensures.err in
+    map_ok c.write_refused_mo.result c.write_refused_mo.ensures (λ written.
+    refuses_one c.args.load.now (RefusedMo c.in-Err-RefusedMo.fault) c.args.publisher.now c.add_load.new.publisher
+    c.args.output.now.items c.write_refused_mo.new.output.items (why.0, why.2) refl
+    c.in-Err-RefusedMo.ensures.unchanged written)

@@ -1,8 +1,7 @@
-use Rattle.std.proofs.Common.{◌≡◌, ◌∙◌, ◌++◌, List, ℕ, All, [], refl, sym, ap, subst, take, drop, length, vec_len}
+use Rattle.std.proofs.Common.{◌≡◌, ◌∙◌, ◌++◌, List, ℕ, All, [], sym, ap, subst, take, drop, length, vec_len}
 use Rattle.std.proofs.Common.{arith}
 use Rattle.std.proofs.lemmas.Slice.Zip.{AllZip-long}
 use Rattle.std.specs.List.{AllZip}
-use Rattle.live_set.specs.Loads.{LoadValue}
 use Rattle.live_versions.specs.Batches.{joined, version_of}
 use Rattle.live_versions.specs.Store.{StoreValue}
 use Rattle.live_versions.specs.Seen.{SeenValue}

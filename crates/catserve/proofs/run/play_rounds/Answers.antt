@@ -1,6 +1,6 @@
-use Rattle.std.proofs.Common.{◌≡◌, ◌∙◌, ◌++◌, ◌∷◌, [], List, ℕ, refl, sym, ap, subst, length, vec_len, arith, rules}
+use Rattle.std.proofs.Common.{◌∙◌, ◌++◌, [], List, ℕ, refl, sym, ap, subst, vec_len, arith, rules}
 use Rattle.std.specs.Vec.Iter.{into_iter_items, into_iter_len}
-use Rattle.catserve.proofs.Turns.{HasTaken, takes_one, takes_all}
+use Rattle.catserve.proofs.Turns.{takes_one, takes_all}
 use Rattle.catserve.specs.Script.{RoundValue}
 use Rattle.catserve.specs.Running.{HasPlayed, PlaysOne}
 use Rattle.catserve.proofs.Playing.{plays_more, plays_all, plays_none, has_room_for}

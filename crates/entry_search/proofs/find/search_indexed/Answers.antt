@@ -7,7 +7,7 @@ use Rattle.entry_search.proofs.find.search_indexed.Goals as goal
 
 pub returns-in_err-slot_of-clause-found : goal.returns-in_err-slot_of-clause-found
 returns-in_err-slot_of-clause-found g c =
-    let none = subst (λ (t : ℕ). HasNoSlot c.args.index.now t) c.in-Some.ensures c.in_err-slot_of.ensures.none in
+    let none = subst (λ (t : ℕ). HasNoSlot c.args.index.now.slots t) c.in-Some.ensures c.in_err-slot_of.ensures.none in
     c.from_residual.ensures ∙ sym (absent_without_slot c.args.image.now c.args.index.now c.args.asked.now c.requires
     none)
 
@@ -35,6 +35,8 @@ returns-else-is_same-clause-found g c =
     ≡ false = ap (λ (k : List ℕ). bytes_eq k c.args.asked.now) (sym c.original.ensures) ∙ sym c.is_same.ensures.same
     ∙ c.if-is_same.false in
     sym (absent_by_slot c.args.image.now c.args.index.now c.args.asked.now slot entry.result c.requires
+    (subst (λ (t : ℕ). HasNoSlot c.args.index.now.shared t) c.in-Some.ensures
+    (c.is_shared.ensures c.if-is_shared.false))
     c.in_ok-slot_of.ensures.some hashed entry.ensures.entry other)
 
 pub returns-else-is_same-clause-cost : goal.returns-else-is_same-clause-cost

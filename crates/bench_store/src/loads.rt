@@ -1,0 +1,68 @@
+//! Loads of one large catalogue, by its PO text and by its MO file.
+use crate::messages::{PLAIN, po_text};
+use crate::print_time;
+use catalogue::compile;
+use live_versions::{Publisher, open_store};
+use mo_file::write_mo;
+use std::alloc::Global;
+use std::io;
+use std::rt::Clock;
+use std::sync::Wait;
+use std::time::{Duration, Instant};
+
+/// How many messages the catalogue has.
+const MESSAGES: u32 = 80_000;
+
+/// How often it is loaded in each way.
+const TURNS: u32 = 10;
+
+/// The MO file of a PO text, if that compiles.
+fn mo_file_of(alloc: Global, text: &str) -> Option<Vec<u8>> {
+    let Ok(compiled) = compile(alloc, text.as_bytes(), PLAIN) else {
+        return None;
+    };
+    write_mo(alloc, &compiled.catalogue).ok()
+}
+
+/// Times the loads, of the text and of the file in turn. Each is published, which isn't timed.
+fn run_loads<R: Print + Eprint + Clock + Wait + AllocGlobal>(
+    rt: &R,
+    publisher: &mut Publisher,
+    text: &str,
+    file: &[u8],
+) -> io::Result<()> {
+    let (mut by_text, mut by_file) = (Duration::from_millis(0), Duration::from_millis(0));
+    let mut wrong: u64 = 0;
+    'turns: for _ in 0..TURNS {
+        let start = Instant::now(rt)?;
+        let loaded = publisher.load(rt.alloc(), "app", "fr", text.as_bytes(), PLAIN);
+        by_text = by_text.saturating_add(start.elapsed(rt)?);
+        let published = publisher.publish(rt);
+        let start = Instant::now(rt)?;
+        let read = publisher.load_mo(rt.alloc(), "app", "fr", file);
+        by_file = by_file.saturating_add(start.elapsed(rt)?);
+        let again = publisher.publish(rt);
+        if loaded.is_err() || published.is_err() || read.is_err() || again.is_err() {
+            wrong = wrong.saturating_add(1);
+        }
+    }
+    let turns = u64::from(TURNS);
+    print_time(rt, "loads of a PO text", by_text, turns, wrong)?;
+    print_time(rt, "loads of its MO file", by_file, turns, wrong)
+}
+
+/// Loads of one large catalogue in both ways.
+pub fn time_loads<R: Print + Eprint + Clock + Wait + AllocGlobal>(rt: &R) -> io::Result<()> {
+    let Ok((mut publisher, _readers)) = open_store(rt, rt.alloc(), 1, u64::MAX) else {
+        return println!(rt; "no store");
+    };
+    let done = match po_text(rt.alloc(), 0, MESSAGES) {
+        Ok(text) => match mo_file_of(rt.alloc(), &text) {
+            Some(file) => run_loads(rt, &mut publisher, &text, &file),
+            None => println!(rt; "no catalogue"),
+        },
+        Err(_) => println!(rt; "out of memory"),
+    };
+    publisher.end(rt);
+    done
+}

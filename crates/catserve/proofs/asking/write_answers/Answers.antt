@@ -1,0 +1,37 @@
+use Rattle.std.proofs.Common.{◌∙◌, ◌++◌, ℕ, List, ap, append_assoc, sym, arith}
+use Rattle.std.specs.List.{flat_map}
+use Rattle.std.specs.Prelude.{string_bytes}
+use Rattle.std.specs.Vec.Iter.{into_iter_items, into_iter_len}
+use Rattle.desks.specs.declared.desk.Answer.{Answer}
+use Rattle.catserve.specs.Asking.{answer_lines}
+use Rattle.catserve.specs.Output.{answer_line}
+use Rattle.catserve.proofs.Batching.{flat_map-snoc}
+use Rattle.catserve.proofs.Turns.{takes_one, takes_all}
+use Rattle.catserve.proofs.asking.write_answers.Goals as goal
+
+pub answers-preserved : goal.answers-preserved
+answers-preserved c =
+    let at = c.answers in
+    let x = c.in-Some.answer in
+    let line = answer_line c.args.worker x.version (string_bytes x.text) in
+    record {
+      taken = takes_one (into_iter_items c.into_iter-answer-iterator.result) at.yielded
+          (into_iter_items at.answer-iterator) (into_iter_items c.next.new.self) (into_iter_len at.answer-iterator)
+          (into_iter_len c.next.new.self) x at.invariant.taken c.in-Some.ensures.steps.0
+          (omega (arith, c.in-Some.ensures.steps.1));
+      written = c.in_ok-write_answer.ensures
+          ∙ ap (λ (text : List ℕ). at.output.items ++ answer_line c.args.worker x.version text) c.as_str.ensures.value
+          ∙ ap (λ (out : List ℕ). out ++ line) at.invariant.written
+          ∙ append_assoc c.args.output.now.items (answer_lines c.args.worker at.yielded) line
+          ∙ ap (λ (out : List ℕ). c.args.output.now.items ++ out)
+          (sym (flat_map-snoc (λ (a : Answer). answer_line c.args.worker a.version (string_bytes a.text)) at.yielded
+          x));
+    }
+
+pub returns : goal.returns
+returns c =
+    let at = c.answers in
+    let all = takes_all (into_iter_items c.into_iter-answer-iterator.result) at.yielded
+    (into_iter_items at.answer-iterator) (into_iter_len at.answer-iterator) at.invariant.taken
+    c.in-None.ensures.steps.0 ∙ c.into_iter-answer-iterator.ensures.into_iter_gives.0 in
+    at.invariant.written ∙ ap (λ answers. c.args.output.now.items ++ answer_lines c.args.worker answers) all

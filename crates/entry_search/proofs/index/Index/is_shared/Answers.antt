@@ -1,0 +1,15 @@
+use Rattle.std.proofs.Common.{◌≡◌, false, Bor, Option, Some, None, sym, ◌∙◌, subst}
+use Rattle.std.specs.Option.{is_some}
+use Rattle.std.specs.Prelude.{IfNone}
+use Rattle.entry_search.specs.declared.slot_table.Slot.{Slot}
+use Rattle.entry_search.specs.Index.{IndexValue, HasNoSlot}
+use Rattle.entry_search.proofs.index.Index.is_shared.Goals as goal
+
+when_none : (o : Option (Bor Slot)) (P : Type 0) → is_some o ≡ false → IfNone o P → P
+when_none None P e none = none
+when_none (Some slot) P e none = absurd cc
+
+pub returns-then-not-is_empty : goal.returns-then-not-is_empty
+returns-then-not-is_empty c e =
+    subst (λ (v : IndexValue). HasNoSlot v.shared c.args.hash) c.self.view_is
+    (when_none c.slot_of.result _ (sym c.is_some.ensures ∙ e) c.slot_of.ensures.none)

@@ -1,0 +1,21 @@
+use Rattle.std.proofs.Common.{◌≡◌, ℕ, ◌<◌, List, length, ltb-true, ◌∙◌, sym, ap, subst}
+use Rattle.std.proofs.lemmas.List.{get_or_default}
+use Rattle.entry_search.specs.declared.slot_table.Slot.{Slot}
+use Rattle.entry_search.specs.Index.{Climbs, HasNoSlot, IsCut}
+use Rattle.entry_search.proofs.Slots.{no_slot}
+use Rattle.entry_search.proofs.slot_table.SlotTable.slot_at.Goals as goal
+
+pub returns-else-slot-hash-clause-none : goal.returns-else-slot-hash-clause-none
+returns-else-slot-hash-clause-none c =
+    let slots : List Slot = c.deref.result.now in
+    let t : ℕ = c.args.hash in
+    let place : ℕ = c.args.cut in
+    let same : slots ≡ c.args.self.now = c.deref.ensures.value ∙ c.self.view_is in
+    let lookup = c.in_ok-slot.ensures.lookup in
+    let within : place < length slots = ltb-true _ _ (sym lookup.0) in
+    let climbs : Climbs slots = subst (λ (r : List Slot). Climbs r) (sym c.deref.ensures.value) c.self.invariant in
+    let cut : IsCut slots t place = subst (λ (r : List Slot). IsCut r t place) (sym same) c.requires in
+    let none : HasNoSlot slots t = no_slot slots t place climbs cut within
+    (λ d e. c.if-slot-hash.false (ap (λ (r : Slot). r.hash)
+    (lookup.1 ∙ get_or_default slots place c.in_ok-slot.slot.now d within) ∙ e)) in
+    subst (λ (r : List Slot). HasNoSlot r t) same none

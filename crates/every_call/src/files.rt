@@ -1,0 +1,99 @@
+//! Calls of `write_mo` and `read_mo`.
+use crate::printing::{print_entries, print_hex};
+use crate::texts::{PLIK, SALUT};
+use catalogue::{Catalogue, Options, compile};
+use mo_file::{read_mo, write_mo};
+use std::io;
+
+/// A file of `a` to `x` and `ba` to `xx`, the first byte of each number first to last, with a hash table, and with
+/// strings that overlap.
+pub const SWAPPED: [u8; 78] =
+    *b"\x95\x04\x12\xde\0\0\0\0\0\0\0\x02\0\0\0\x1c\0\0\0\x2c\0\0\0\x03\0\0\0\x3c\
+    \0\0\0\x01\0\0\0\x49\0\0\0\x02\0\0\0\x48\0\0\0\x01\0\0\0\x4c\0\0\0\x02\0\0\0\x4b\
+    \0\0\0\x02\0\0\0\x01\0\0\0\0ba\0xx\0";
+
+/// A file without entries.
+const EMPTY: &[u8] = b"\xde\x12\x04\x95\0\0\0\0\0\0\0\0\x1c\0\0\0\x1c\0\0\0\0\0\0\0\x1c\0\0\0";
+
+/// A file of a header alone, which names a charset that isn't accepted.
+const KOI8: &[u8] = b"\xde\x12\x04\x95\0\0\0\0\x01\0\0\0\x1c\0\0\0\x24\0\0\0\0\0\0\0\x2c\0\0\0\
+    \0\0\0\0\x2c\0\0\0\x0e\0\0\0\x2d\0\0\0\0charset=KOI8-R\0";
+
+/// Changes of the first file: what each is called here, and which bytes are made what.
+const CHANGES: [(&str, usize, &[u8]); 6] = [
+    ("a wrong revision", 7, b"\x01"),
+    ("no magic number", 0, b"\xff"),
+    ("a string that isn't closed", 74, b"c"),
+    ("a string that isn't UTF-8", 73, b"\xff"),
+    ("two forms without a plural", 52, b"\0\0\0\x05\0\0\0\x48"),
+    (
+        "keys that fall",
+        28,
+        b"\0\0\0\x02\0\0\0\x48\0\0\0\x01\0\0\0\x49",
+    ),
+];
+
+/// Prints what a file is read as.
+fn read<R: Print + AllocGlobal>(rt: &R, label: &str, bytes: &[u8]) -> io::Result<()> {
+    print!(rt; "read_mo, {label}, gives ")?;
+    match read_mo(rt.alloc(), bytes) {
+        Ok(catalogue) => {
+            print!(rt; "Ok({}", catalogue.len())?;
+            print_entries(rt, &catalogue)?;
+            println!(rt; ")")
+        }
+        Err(fault) => println!(rt; "Err({fault:?})"),
+    }
+}
+
+pub fn read_all<R: Print + AllocGlobal>(rt: &R) -> io::Result<()> {
+    read(rt, "two messages", &SWAPPED)?;
+    read(rt, "nothing", EMPTY)?;
+    read(rt, "an unknown charset", KOI8)?;
+    read(rt, "without the last byte", &SWAPPED[..77])?;
+    read(rt, "27 bytes", &SWAPPED[..27])?;
+    for (label, at, bytes) in CHANGES {
+        let mut changed = SWAPPED;
+        for (place, byte) in changed.iter_mut().skip(at).zip(bytes) {
+            *place = *byte;
+        }
+        read(rt, label, &changed)?;
+    }
+    Ok(())
+}
+
+/// Prints a catalogue's file.
+fn write<R: Print + AllocGlobal>(rt: &R, catalogue: &Catalogue) -> io::Result<()> {
+    match write_mo(rt.alloc(), catalogue) {
+        Ok(bytes) => {
+            print!(rt; "gives Ok({} ", bytes.len())?;
+            print_hex(rt, &bytes)?;
+            println!(rt; ")")
+        }
+        Err(fault) => println!(rt; "gives Err({fault:?})"),
+    }
+}
+
+/// Prints the file of what a text compiles to.
+fn write_text<R: Print + AllocGlobal>(rt: &R, label: &str, text: &str) -> io::Result<()> {
+    print!(rt; "write_mo, {label}, ")?;
+    let options = Options {
+        checked: false,
+        use_fuzzy: false,
+    };
+    match compile(rt.alloc(), text.as_bytes(), options) {
+        Ok(compiled) => write(rt, &compiled.catalogue),
+        Err(_) => println!(rt; "isn't called: out of memory"),
+    }
+}
+
+pub fn write_all<R: Print + AllocGlobal>(rt: &R) -> io::Result<()> {
+    write_text(rt, "an entry", SALUT)?;
+    write_text(rt, "nothing", "")?;
+    write_text(rt, "three forms", PLIK)?;
+    print!(rt; "write_mo, two messages, ")?;
+    match read_mo(rt.alloc(), &SWAPPED) {
+        Ok(catalogue) => write(rt, &catalogue),
+        Err(_) => println!(rt; "isn't called: out of memory"),
+    }
+}

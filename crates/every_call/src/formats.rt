@@ -1,0 +1,26 @@
+//! Calls of `signature`.
+use c_signature::signature;
+use std::io;
+
+const FORMATS: [&str; 12] = [
+    "%d of %s",
+    "%2$s / %1$d",
+    "%u of %s",
+    "%5.2f %-*d %%",
+    "%lld",
+    "%qd",
+    "%1$d %3$d",
+    "%1$d %s",
+    "%1$d %1$s",
+    "100%",
+    "%<PRId64>",
+    "%<b>",
+];
+
+pub fn list_all<R: Print + AllocGlobal>(rt: &R) -> io::Result<()> {
+    for text in FORMATS {
+        let answer = signature(rt.alloc(), text);
+        println!(rt; "signature, {text}, gives {answer:?}")?;
+    }
+    Ok(())
+}

@@ -1,0 +1,71 @@
+//! Makes each call that takes memory, and prints the whole answer of each on a line of its own, and what it left.
+//! The tests refuse each of its requests for memory in turn. Printing takes none.
+//!
+//! A word names the calls that are made; without one all are.
+#![tactic(auto)]
+
+mod files;
+mod formats;
+mod headers;
+mod maps;
+mod printing;
+mod serving;
+mod sets;
+mod store;
+mod texts;
+
+use std::sync::Wait;
+use std::thread::Threads;
+use std::{env, io};
+
+/// The words, in the order in which all calls are made.
+const WORDS: [&str; 14] = [
+    "read_po",
+    "parse_expr",
+    "read_rule",
+    "signature",
+    "compile",
+    "from_sorted",
+    "write_mo",
+    "read_mo",
+    "name",
+    "absorb",
+    "open_store",
+    "publish",
+    "ask",
+    "serve",
+];
+
+/// Makes the calls that a word names.
+fn call<R: Threads + Wait + Print + AllocGlobal + Sync>(rt: &R, word: &str) -> io::Result<()> {
+    match word {
+        "read_po" => texts::read_all(rt),
+        "parse_expr" => headers::parse_all(rt),
+        "read_rule" => headers::read_all(rt),
+        "signature" => formats::list_all(rt),
+        "compile" => maps::compile_all(rt),
+        "from_sorted" => maps::sorted_all(rt),
+        "write_mo" => files::write_all(rt),
+        "read_mo" => files::read_all(rt),
+        "name" => sets::name_all(rt),
+        "absorb" => sets::absorb_all(rt),
+        "open_store" => store::open_all(rt),
+        "publish" => store::publish_all(rt),
+        "ask" => store::ask_all(rt),
+        "serve" => serving::serve_all(rt),
+        _ => println!(rt; "no calls have this name"),
+    }
+}
+
+fn main(rt: HostRuntime) -> io::Result<()> {
+    let Ok(mut words) = env::args(&rt) else {
+        return println!(rt; "words: out of memory");
+    };
+    if let Some(word) = words.nth(1) {
+        return call(&rt, word.as_str());
+    }
+    for word in WORDS {
+        call(&rt, word)?;
+    }
+    Ok(())
+}

@@ -1,0 +1,62 @@
+//! Calls of `read_po`.
+use po_text::read_po;
+use std::io;
+
+/// An entry for `hi`.
+pub const SALUT: &str = "msgid \"hi\"\nmsgstr \"salut\"\n";
+
+/// The same in German.
+pub const HALLO: &str = "msgid \"hi\"\nmsgstr \"hallo\"\n";
+
+/// One msgid twice.
+pub const TWICE: &str = "msgid \"a\"\nmsgstr \"x\"\n#, fuzzy\nmsgid \"a\"\nmsgstr \"y\"\n";
+
+/// A header with a plural rule, and an entry with three forms.
+pub const PLIK: &str = "msgid \"\"\n\
+    msgstr \"Plural-Forms: nplurals=3; plural=n==1 ? 0 : n%10>=2 && n%10<=4 && (n%100<10 || n%100>=20) ? 1 : 2;\\n\"\n\
+    \n\
+    msgid \"file\"\n\
+    msgid_plural \"files\"\n\
+    msgstr[0] \"plik\"\n\
+    msgstr[1] \"pliki\"\n\
+    msgstr[2] \"plikow\"\n";
+
+/// Texts, each behind what it is called here.
+const TEXTS: [(&str, &str); 9] = [
+    (
+        "three strings",
+        "msgid \"\"\n\"caf\\303\\251\"\n\"\\n\"\nmsgstr \"x\\n\"\n",
+    ),
+    (
+        "a character cut in two",
+        "msgid \"\"\n\"caf\\303\" \"\\251\"\n\"\\n\"\nmsgstr \"x\\n\"\n",
+    ),
+    (
+        "a comment between strings",
+        "msgid \"a\"\n# x\n\"b\"\nmsgstr \"c\"\n",
+    ),
+    (
+        "a late flag",
+        "msgid \"a\"\n#, fuzzy\nmsgstr \"b\"\nmsgid \"c\"\nmsgstr \"d\"\n",
+    ),
+    ("two flags", "#, c-format, fuzzy\nmsgid \"a\"msgstr \"b\"\n"),
+    (
+        "contexts",
+        "msgctxt \"\"\nmsgid \"b\"\nmsgstr \"1\"\nmsgid \"b\"\nmsgstr \"2\"\n\
+        msgctxt \"k\"\nmsgid \"b\"\nmsgstr \"3\"\n",
+    ),
+    ("three forms", PLIK),
+    (
+        "a skipped form",
+        "msgid \"a\"\nmsgid_plural \"b\"\nmsgstr[0] \"x\"\nmsgstr[2] \"y\"\n",
+    ),
+    ("an open string", "msgid \"a\nmsgstr \"b\"\n"),
+];
+
+pub fn read_all<R: Print + AllocGlobal>(rt: &R) -> io::Result<()> {
+    for (label, text) in TEXTS {
+        let answer = read_po(rt.alloc(), text.as_bytes());
+        println!(rt; "read_po, {label}, gives {answer:?}")?;
+    }
+    Ok(())
+}

@@ -1,0 +1,154 @@
+//! Loads in rising order, in runs of bounded length, so that a new one moves few others.
+ghost use Rattle.std.specs.Prelude.{◌≡◌, ◌<◌, true, false, [], ◌++◌, length, find, flat_map, option_map};
+ghost use Rattle.std.specs.Prelude.{MatchResult, IfOk, IfErr, IfSome};
+ghost use Rattle.std.specs.List.Sorted.{IsPartitionedBy, IsPartitionPoint};
+ghost use Rattle.live_set.specs.Loads.{is_for};
+ghost use Rattle.live_set.specs.Slots.{slotted, Rises, IsAt, IsGapFor};
+ghost use Rattle.live_set.specs.LoadRuns.{begins_by, begun};
+
+use crate::Load;
+use std::alloc::{AllocError, Global};
+use std::cmp::Ordering;
+use std::marker::Model;
+use text_key::TextKey;
+
+/// How many loads a run has before it is split.
+const RUN_LIMIT: usize = 128;
+
+/// Loads in rising order of locale and domain, in runs one behind the other. Contracts see it as the loads.
+#[derive(Drop)]
+pub(crate) struct LoadRuns {
+    first: Vec<Load>,
+    /// The runs behind the first one, each of a load at least.
+    later: Vec<Vec<Load>>,
+}
+
+impl Model for LoadRuns {
+    ghost use Rattle.std.specs.Prelude.{List, ◌++◌, ◌<◌, length, flat_map};
+    ghost use Rattle.std.specs.List.{AllByRecursion};
+    ghost use Rattle.live_set.specs.Loads.{LoadValue};
+    ghost use Rattle.live_set.specs.Slots.{Rises};
+
+    ghost Value = { List LoadValue };
+
+    ghost view = { λ runs. runs.first.items ++ flat_map (λ run. run.items) runs.later.items };
+
+    ghost invariant = { λ runs. Rises (runs.first.items ++ flat_map (λ run. run.items) runs.later.items)
+        × AllByRecursion (λ run. 0 < length run.items) runs.later.items };
+}
+
+/// Whether the run begins with a load that isn't behind one for this domain and locale.
+fn begins_by(run: &[Load], domain: &TextKey<'_>, locale: &TextKey<'_>) -> bool
+    ensures { result ≡ begins_by domain.now locale.now run.now }
+{
+    match run.first() {
+        Some(load) => load.compare(domain, locale).is_le(),
+        None => false,
+    }
+}
+
+/// The run behind the first one in which a load for this domain and locale has its place, or None where that is the
+/// first one.
+#[inline(always)]
+fn run_for(later: &[Vec<Load>], domain: &TextKey<'_>, locale: &TextKey<'_>) -> Option<usize>
+    ensures bound { IfSome result (λ at. at < length later.now) }
+    ensures parted { IsPartitionedBy (λ run. begins_by domain.now locale.now run.items) later.now
+        → IsPartitionPoint (λ run. begins_by domain.now locale.now run.items ≡ true)
+        (λ run. begins_by domain.now locale.now run.items ≡ false) later.now (begun result) }
+{
+    later
+        .partition_point(|run| begins_by(run, domain, locale))
+        .checked_sub(1)
+}
+
+/// The slot of the load for this domain and locale in a run, or the one that it would have.
+fn slot(run: &[Load], domain: &TextKey<'_>, locale: &TextKey<'_>) -> Result<usize, usize>
+    requires { Rises run.now }
+    ensures found { IfOk result (IsAt run.now domain.now locale.now) }
+    ensures absent { IfErr result (IsGapFor run.now domain.now locale.now) }
+{
+    run.binary_search_by(|load| load.compare(domain, locale))
+}
+
+/// The load for this domain and locale in a run.
+fn load_in<'a>(run: &'a [Load], domain: &TextKey<'_>, locale: &TextKey<'_>) -> Option<&'a Load>
+    requires { Rises run.now }
+    ensures { option_map (λ load. load.now) result ≡ find (is_for domain.now locale.now) run.now }
+{
+    match slot(run, domain, locale) {
+        Ok(at) => Some(&run[at]),
+        Err(_) => None,
+    }
+}
+
+/// Puts a load in its slot of a run, over the one for its domain and locale if there is one.
+fn put_in(run: &mut Vec<Load>, load: Load) -> Result<(), AllocError>
+    requires { Rises run.old.items }
+    ensures { MatchResult result (λ _. run.new.items ≡ slotted run.old.items load)
+        (λ _. run.new.items ≡ run.old.items) }
+{
+    match slot(run, &load.domain(), &load.locale()) {
+        Ok(at) => {
+            run[at] = load;
+            Ok(())
+        }
+        Err(at) => Ok(run.insert(at, load)?),
+    }
+}
+
+impl LoadRuns {
+    /// No loads.
+    pub(crate) fn new(alloc: Global) -> LoadRuns
+        ensures { result ≡ [] }
+    {
+        LoadRuns {
+            first: Vec::new(alloc),
+            later: Vec::new(alloc),
+        }
+    }
+
+    /// The load for this domain and locale, if there is one.
+    pub(crate) fn get(&self, domain: &TextKey<'_>, locale: &TextKey<'_>) -> Option<&Load>
+        ensures { option_map (λ load. load.now) result ≡ find (is_for domain.now locale.now) self.now }
+    {
+        match run_for(&self.later, domain, locale) {
+            None => load_in(&self.first, domain, locale),
+            Some(at) => load_in(&self.later[at], domain, locale),
+        }
+    }
+
+    /// Splits the run in which a load has its place, where it is full.
+    fn make_room(&mut self, load: &Load) -> Result<(), AllocError>
+        ensures { self.new ≡ self.old }
+    {
+        match run_for(&self.later, &load.domain(), &load.locale()) {
+            None => {
+                if self.first.len() >= RUN_LIMIT {
+                    self.later.reserve(1)?;
+                    let upper = self.first.split_off(RUN_LIMIT / 2)?;
+                    self.later.insert(0, upper)?;
+                }
+            }
+            Some(at) => {
+                if self.later[at].len() >= RUN_LIMIT {
+                    self.later.reserve(1)?;
+                    let upper = self.later[at].split_off(RUN_LIMIT / 2)?;
+                    self.later.insert(at + 1, upper)?;
+                }
+            }
+        }
+        Ok(())
+    }
+
+    /// Puts a load in its slot, over the one for its domain and locale if there is one. Answers AllocError where
+    /// memory is refused, and leaves the loads as they were.
+    pub(crate) fn put(&mut self, load: Load) -> Result<(), AllocError>
+        ensures { MatchResult result (λ _. self.new ≡ slotted self.old load) (λ _. self.new ≡ self.old) }
+    {
+        self.make_room(&load)?;
+        match run_for(&self.later, &load.domain(), &load.locale()) {
+            None => put_in(&mut self.first, load),
+            Some(at) => put_in(&mut self.later[at], load),
+        }
+    }
+}

@@ -1,0 +1,25 @@
+use Rattle.mo_file.specs.declared.claims.Claim.{Claim}
+use Rattle.std.proofs.Common.{◌≤◌, ℕ, List, length}
+use Rattle.mo_file.specs.Claims.{Holds, ClaimLies}
+use Rattle.mo_file.proofs.RowSweeps.{there, back}
+use Rattle.mo_file.proofs.TableRows.{claims_in, starts_in}
+use Rattle.mo_file.proofs.refusals.passes_claims.Goals as goal
+
+pub all_hold-requires : goal.all_hold-requires
+all_hold-requires g c =
+    let bytes = c.args.bytes.now in
+    let claims = rw (c.deref.ensures.value, c.in_ok-rows.ensures) at c.in_ok-read_claims.ensures in
+    rw c.deref-2.ensures.value (there (ClaimLies bytes) c.in_ok-read_claims.field-0.items c.in_order-claims.result.items
+    c.in_order-claims.ensures (rw claims (starts_in g.T.ByteOrder.number_of bytes c.requires.lies)))
+
+pub returns : goal.returns
+returns g c =
+    let bytes = c.args.bytes.now in
+    let claims = rw (c.deref.ensures.value, c.in_ok-rows.ensures) at c.in_ok-read_claims.ensures in
+    let says = rw c.deref-2.ensures.value at c.all_hold.ensures in
+    let same = claims_in g.T.ByteOrder.number_of bytes c.requires.lies c.requires.closed in
+    let listed = c.in_ok-read_claims.field-0.items in
+    let sorted = c.in_order-claims.result.items in (
+      λ e. same.0 (rw claims at (back (Holds bytes) listed sorted c.in_order-claims.ensures (says.0 e))),
+      λ rise. says.1 (there (Holds bytes) listed sorted c.in_order-claims.ensures (rw claims (same.1 rise))),
+    )

@@ -1,0 +1,55 @@
+-- Private: the order of keys, by where they begin.
+use Rattle.std.specs.Prelude.{◌≡◌, ◌≢◌, ℕ, ◌+◌, ◌<◌, ◌≤◌, List, length, drop}
+use Rattle.std.specs.Prelude.{slice_index, slice_index_or}
+use Rattle.std.specs.Ordering.{nat_cmp}
+use Rattle.std.specs.declared.cmp.Ordering.TheVariants.{Less}
+use Rattle.std.specs.Cmp.Lexicographic.{slice_cmp}
+use Rattle.mo_file.specs.MoReading.{before_nul}
+use Rattle.mo_file.specs.Rows.{listed}
+use Rattle.mo_file.specs.declared.rows.Row.{Row}
+use Rattle.mo_file.specs.declared.rows.Span.{Span}
+use Rattle.mo_file.specs.declared.claims.Claim.{Claim}
+use Rattle.mo_file.specs.declared.claims.Alike.{Alike}
+
+-- the key that begins at this place, and ends at the first NUL
+abbrev pub key_from : List ℕ → ℕ → List ℕ
+key_from bytes place = before_nul (drop place bytes)
+
+-- the claim holds: one key is below the other
+abbrev pub Holds : List ℕ → Claim → Type 0
+Holds bytes claim = slice_cmp nat_cmp (key_from bytes claim.lesser.start) (key_from bytes claim.greater.start) ≡ Less
+
+-- both keys begin in the file
+abbrev pub ClaimLies : List ℕ → Claim → Type 0
+ClaimLies bytes claim = (claim.lesser.start ≤ length bytes) × (claim.greater.start ≤ length bytes)
+
+-- nothing
+abbrev pub nowhere : Row
+nowhere = record { original = record { start = 0; len = 0 }; translation = record { start = 0; len = 0 } }
+
+-- the i-th original
+abbrev pub original_of : List Row → ℕ → Span
+original_of rows i = (slice_index_or rows i nowhere).original
+
+-- that the i-th key is below the next one
+abbrev pub claim_at : List Row → ℕ → Claim
+claim_at rows i = record { lesser = original_of rows i; greater = original_of rows (i + 1) }
+
+-- the first i of these claims
+abbrev pub claims_to : List Row → ℕ → List Claim
+claims_to rows i = listed (claim_at rows) i
+
+-- the first n bytes of both are the same, and none is NUL
+abbrev pub AreAlike : List ℕ → List ℕ → ℕ → Type 0
+AreAlike a b n = (i : ℕ) → i < n → (slice_index a i ≡ slice_index b i) × (slice_index a i ≢ 0)
+
+-- the part is alike to the one so far behind it, and holds no NUL
+pub record IsAlike (bytes : List ℕ) (a : Alike) : Type 0 where
+  pub rises : a.from ≤ a.to
+  pub within : a.to + a.distance ≤ length bytes
+  pub alike : (i : ℕ) → a.from ≤ i → i < a.to → (slice_index bytes i ≡ slice_index bytes (i + a.distance))
+      × (slice_index bytes i ≢ 0)
+
+-- where the part ends, both differ or both hold NUL
+abbrev pub EndsThere : List ℕ → Alike → Type 0
+EndsThere bytes a = slice_index bytes a.to ≡ slice_index bytes (a.to + a.distance) → slice_index bytes a.to ≡ 0

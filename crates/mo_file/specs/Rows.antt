@@ -1,0 +1,69 @@
+-- Private: the rows of two tables, and where their strings lie.
+use Rattle.std.specs.Prelude.{ℕ, zero, suc, ◌+◌, ◌*◌, ◌<◌, ◌++◌, ◌==◌, if◌then◌else◌, List, [], ◌∷◌, length, count_by}
+use Rattle.std.specs.Prelude.{Option, Some, None}
+use Rattle.mo_file.specs.Tables.{word_at}
+use Rattle.mo_file.specs.MoReading.{File, Table, IsOriginalText, IsTranslationText, HasLawfulForms}
+use Rattle.mo_file.specs.MoReading.{AllClosed, AreOriginalTexts, AreTranslationTexts, HaveLawfulForms, KeysRise}
+use Rattle.mo_file.specs.MoReading.{HaveLawfulHeaders}
+use Rattle.mo_file.specs.FileParts.{part}
+use Rattle.mo_file.specs.declared.rows.Span.{Span}
+use Rattle.mo_file.specs.declared.rows.Row.{Row}
+
+-- where the string of the row at this place lies
+abbrev pub span_at : (ℕ → List ℕ → ℕ) → List ℕ → ℕ → Span
+span_at number bytes place = record { start = word_at number bytes (place + 4); len = word_at number bytes place }
+
+-- the rows at these places of both tables
+abbrev pub row_at : (ℕ → List ℕ → ℕ) → List ℕ → ℕ → ℕ → Row
+row_at number bytes o t = record { original = span_at number bytes o; translation = span_at number bytes t }
+
+-- what a sequence begins with
+abbrev pub listed : {X : Type 0} → (ℕ → X) → ℕ → List X
+listed f zero = []
+listed f (suc n) = listed f n ++ f n ∷ []
+
+-- the n rows from these places on
+abbrev pub rows : (ℕ → List ℕ → ℕ) → List ℕ → ℕ → ℕ → ℕ → List Row
+rows number bytes o t n = listed (λ i. row_at number bytes (o + 8 * i) (t + 8 * i)) n
+
+-- the rows of a file
+abbrev pub rows_in : File → List Row
+rows_in file = rows file.number file.bytes file.originals.start file.translations.start file.originals.count
+
+-- the string that lies there
+abbrev pub text_in : List ℕ → Span → List ℕ
+text_in bytes span = part bytes span.start (span.start + span.len)
+
+-- it lies in the file, and a byte behind it
+abbrev pub LiesIn : List ℕ → Span → Type 0
+LiesIn bytes span = span.start + span.len < length bytes
+
+-- both strings of the row lie so
+abbrev pub RowLies : List ℕ → Row → Type 0
+RowLies bytes row = LiesIn bytes row.original × LiesIn bytes row.translation
+
+-- both are texts
+abbrev pub HasTexts : List ℕ → Row → Type 0
+HasTexts bytes row = IsOriginalText (text_in bytes row.original) × IsTranslationText (text_in bytes row.translation)
+
+-- both have lawful forms
+abbrev pub HasForms : List ℕ → Row → Type 0
+HasForms bytes row = HasLawfulForms (text_in bytes row.original) (text_in bytes row.translation)
+
+-- how many NULs a string holds
+abbrev pub nuls : List ℕ → ℕ
+nuls text = count_by (λ b. b == 0) text
+
+-- the translation of an original without a plural
+abbrev pub alone : List ℕ → Row → Option Span
+alone bytes row = if nuls (text_in bytes row.original) == 0 then Some row.translation else None
+
+-- the strings of both tables are closed and pass all their tests
+pub record AreSound (originals translations : Table) : Type 0 where
+  pub originals_closed : AllClosed originals
+  pub translations_closed : AllClosed translations
+  pub original_texts : AreOriginalTexts originals
+  pub translation_texts : AreTranslationTexts translations
+  pub forms : HaveLawfulForms originals translations
+  pub rise : KeysRise originals
+  pub headers : HaveLawfulHeaders originals translations

@@ -1,0 +1,328 @@
+//! The order of the keys of a file whose strings overlap. What keys share that stand at one distance is compared
+//! once.
+ghost use Rattle.std.specs.Prelude.{◌≡◌, ◌↔◌, ℕ, List, ◌+◌, ◌-◌, ◌<◌, ◌≤◌, length, slice_index, IsTrue, IfOk};
+ghost use Rattle.std.specs.Prelude.{IfSome, All};
+ghost use Rattle.std.specs.List.Sorted.{IsPermutation};
+ghost use Rattle.mo_file.specs.Claims.{claims_to, AreAlike, IsAlike, ClaimLies, EndsThere, Holds};
+
+use crate::rows::{Row, Span};
+use bstr::ByteSlice;
+use std::alloc::{AllocError, Global};
+
+/// Two originals, of which the first is to have the lesser key.
+#[derive(Clone, Copy)]
+pub(crate) struct Claim {
+    lesser: Span,
+    greater: Span,
+}
+
+impl Claim {
+    /// The place of a claim among others: first those on one text, and then those whose keys stand at one distance.
+    fn order(&self) -> (usize, usize, usize) {
+        let distance = self.lesser.start().abs_diff(self.greater.start());
+        let first = if self.lesser.start < self.greater.start {
+            self.lesser
+        } else {
+            self.greater
+        };
+        (first.end(), distance, first.start())
+    }
+}
+
+/// The claims that each key is below the next one.
+pub(crate) fn read_claims(alloc: Global, rows: &[Row]) -> Result<Vec<Claim>, AllocError>
+    ensures { IfOk result (λ claims. claims.items ≡ claims_to rows.now (length rows.now - 1)) }
+{
+    let n = rows.len().saturating_sub(1);
+    let mut claims = Vec::with_capacity(alloc, n)?;
+    for i in 0..n {
+        claims.push(Claim {
+            lesser: rows[i].original,
+            greater: rows[i + 1].original,
+        })?;
+    }
+    Ok(claims)
+}
+
+/// The claims in an order in which what keys share is compared once.
+pub(crate) fn in_order(mut claims: Vec<Claim>) -> Vec<Claim>
+    ensures { IsPermutation claims.items result.items }
+{
+    claims.sort_unstable_by_key(|claim| claim.order());
+    claims
+}
+
+/// How many bytes are compared at once.
+const BLOCK: usize = 256;
+
+/// How many bytes of whole blocks both begin with alike, none of them NUL.
+fn alike_blocks(a: &[u8], b: &[u8]) -> usize
+    ensures within { (result ≤ length a.now) × (result ≤ length b.now) }
+    ensures alike { AreAlike a.now b.now result }
+{
+    let blocks = a.len().min(b.len()) / BLOCK;
+    for i in 0..blocks {
+        let start = i * BLOCK;
+        let block = &a[start..start + BLOCK];
+        let other = &b[start..start + BLOCK];
+        if block != other {
+            return start;
+        }
+        let None = block.find_byte(0) else {
+            return start;
+        };
+    }
+    blocks * BLOCK
+}
+
+/// How many bytes both begin with alike, none of them NUL.
+fn alike_len(a: &[u8], b: &[u8]) -> usize
+    ensures within { (result ≤ length a.now) × (result ≤ length b.now) }
+    ensures alike { AreAlike a.now b.now result }
+    ensures ends { slice_index a.now result ≡ slice_index b.now result → slice_index a.now result ≡ 0 }
+{
+    let n = a.len().min(b.len());
+    for i in alike_blocks(a, b)..n {
+        if a[i] != b[i] || a[i] == 0 {
+            return i;
+        }
+    }
+    n
+}
+
+/// The greatest number that divides both.
+fn greatest_common_divisor(a: usize, b: usize) -> usize
+    requires { 0 < b }
+    ensures { result ≤ b }
+{
+    let mut divisor = b;
+    let mut rest = a % b;
+    'steps: while rest != 0 {
+        let next = divisor % rest;
+        divisor = rest;
+        rest = next;
+    }
+    divisor
+}
+
+/// A part of a file that stands in it again so far behind, and holds no NUL.
+#[derive(Clone, Copy)]
+struct Alike {
+    distance: usize,
+    from: usize,
+    to: usize,
+}
+
+impl Alike {
+    /// Nothing is known.
+    fn new() -> Alike
+        ensures { result ≡ record { distance = 0; from = 0; to = 0 } }
+    {
+        Alike {
+            distance: 0,
+            from: 0,
+            to: 0,
+        }
+    }
+
+    /// What is known of the bytes at this place and so far behind it.
+    fn around(self, place: usize, distance: usize) -> Alike
+        ensures distance { result.distance ≡ distance }
+        ensures around { (result.from ≤ place) × (place ≤ result.to) }
+        ensures known { (bytes : List ℕ) → IsAlike bytes self → place + distance ≤ length bytes → IsAlike bytes result }
+    {
+        if self.distance == distance && self.from <= place && place <= self.to {
+            return self;
+        }
+        Alike {
+            distance,
+            from: place,
+            to: place,
+        }
+    }
+
+    /// The part once more of it is compared, up to this place or where it ends.
+    fn grown(self, bytes: &[u8], limit: usize) -> Alike
+        requires alike { IsAlike bytes.now self }
+        requires limit { (self.to ≤ limit) × (limit ≤ length bytes.now) }
+        ensures alike { IsAlike bytes.now result }
+        ensures same { (result.distance ≡ self.distance) × (result.from ≡ self.from) × (self.to ≤ result.to) }
+        ensures ends { limit ≡ length bytes.now → EndsThere bytes.now result }
+    {
+        let more = alike_len(&bytes[self.to..limit], &bytes[self.to + self.distance..]);
+        Alike {
+            to: self.to + more,
+            ..self
+        }
+    }
+
+    /// The same part at a distance that is a multiple of its own: where a text repeats itself at one distance, it
+    /// does so at each multiple.
+    fn at_multiple(self, distance: usize) -> Option<Alike>
+        ensures { (bytes : List ℕ) → IsAlike bytes self
+            → IfSome result (λ a. IsAlike bytes a × (a.distance ≡ distance)) }
+    {
+        if self.distance == 0 || distance % self.distance != 0 {
+            return None;
+        }
+        let to = self.to.checked_sub(distance.checked_sub(self.distance)?)?;
+        if to < self.from {
+            return None;
+        }
+        Some(Alike {
+            distance,
+            from: self.from,
+            to,
+        })
+    }
+
+    /// The part at a greater distance: where a text repeats itself, what stands behind it does so too.
+    fn shifted(self, period: Alike, distance: usize) -> Option<Alike>
+        ensures { (bytes : List ℕ) → IsAlike bytes self → IsAlike bytes period
+            → IfSome result (λ a. IsAlike bytes a × (a.distance ≡ distance)) }
+    {
+        let more = distance.checked_sub(self.distance)?;
+        let repeated = period.at_multiple(more)?;
+        let from = repeated.from.max(self.from.saturating_sub(more));
+        let to = repeated.to.min(self.to.checked_sub(more)?);
+        if to < from {
+            return None;
+        }
+        Some(Alike { distance, from, to })
+    }
+
+    /// How a text repeats itself that is alike to one place, and to another one at a lesser distance.
+    fn repeated(self, nearer: Alike) -> Option<Alike>
+        ensures { (bytes : List ℕ) → IsAlike bytes self → IsAlike bytes nearer → IfSome result (IsAlike bytes) }
+    {
+        let distance = self.distance.checked_sub(nearer.distance)?;
+        let from = self.from.max(nearer.from.saturating_sub(distance));
+        let to = self.to.min(nearer.to.checked_sub(distance)?);
+        if to < from {
+            return None;
+        }
+        Some(Alike { distance, from, to })
+    }
+
+    /// The part with another one at its distance, if it grows that far.
+    fn joined(self, bytes: &[u8], other: Alike) -> Alike
+        requires alike { IsAlike bytes.now self }
+        requires other { IsAlike bytes.now other }
+        requires distance { other.distance ≡ self.distance }
+        ensures alike { IsAlike bytes.now result }
+        ensures same { (result.distance ≡ self.distance) × (result.from ≤ self.from) × (self.to ≤ result.to) }
+    {
+        if other.to <= self.to {
+            return self;
+        }
+        if other.from <= self.from {
+            return other;
+        }
+        let near = if self.to < other.from {
+            self.grown(bytes, other.from)
+        } else {
+            self
+        };
+        if near.to < other.from {
+            return near;
+        }
+        Alike {
+            to: other.to,
+            ..near
+        }
+    }
+
+    /// The part once the key at this place is compared with the one so far behind: it ends where they differ, or
+    /// both end. What is known of a text that repeats itself is not compared again.
+    fn compared(self, bytes: &[u8], period: Alike, place: usize, distance: usize) -> Alike
+        requires alike { IsAlike bytes.now self }
+        requires period { IsAlike bytes.now period }
+        requires within { place + distance ≤ length bytes.now }
+        ensures alike { IsAlike bytes.now result }
+        ensures distance { result.distance ≡ distance }
+        ensures around { (result.from ≤ place) × (place ≤ result.to) }
+        ensures ends { EndsThere bytes.now result }
+    {
+        let mut known = self.around(place, distance);
+        if let Some(other) = period.at_multiple(distance) {
+            known = known.joined(bytes, other);
+        }
+        if let Some(other) = self.shifted(period, distance) {
+            known = known.joined(bytes, other);
+        }
+        known.grown(bytes, bytes.len())
+    }
+
+    /// What is known of a text that repeats itself, once keys at this place were compared.
+    fn after(self, bytes: &[u8], compared: Alike, place: usize) -> Alike
+        requires alike { IsAlike bytes.now self }
+        requires compared { IsAlike bytes.now compared }
+        requires place { place ≤ compared.to }
+        ensures { IsAlike bytes.now result }
+    {
+        let distance = compared.distance;
+        if distance == 0 || compared.to - place < distance {
+            return self;
+        }
+        if self.to <= place || compared.to <= self.from {
+            return compared;
+        }
+        let period = greatest_common_divisor(self.distance, distance);
+        if period == self.distance && self.from <= place {
+            return self;
+        }
+        let whole = Alike::new().compared(bytes, self, place, period);
+        if whole.to + period < compared.to + distance {
+            return compared;
+        }
+        whole
+    }
+
+    /// What is known of a text that repeats itself, once keys at this place were compared, and others before them that
+    /// stand nearer to one another.
+    fn learnt(self, bytes: &[u8], compared: Alike, nearer: Alike, place: usize) -> Alike
+        requires alike { IsAlike bytes.now self }
+        requires compared { IsAlike bytes.now compared }
+        requires nearer { IsAlike bytes.now nearer }
+        requires place { place ≤ compared.to }
+        ensures { IsAlike bytes.now result }
+    {
+        let period = self.after(bytes, compared, place);
+        match compared.repeated(nearer) {
+            Some(repeated) => period.after(bytes, repeated, repeated.from),
+            None => period,
+        }
+    }
+}
+
+/// The byte at a place; 0 behind the end.
+fn byte_at(bytes: &[u8], place: usize) -> u8
+    ensures { result ≡ slice_index bytes.now place }
+{
+    match bytes.get(place) {
+        Some(byte) => *byte,
+        None => 0,
+    }
+}
+
+/// Whether all claims hold.
+pub(crate) fn all_hold(bytes: &[u8], claims: &[Claim]) -> bool
+    requires { All (ClaimLies bytes.now) claims.now }
+    ensures { IsTrue result ↔ All (Holds bytes.now) claims.now }
+{
+    let mut alike = Alike::new();
+    let mut period = Alike::new();
+    'claims: for claim in claims {
+        let lesser = claim.lesser.start();
+        let greater = claim.greater.start();
+        let place = lesser.min(greater);
+        let nearer = alike;
+        alike = alike.compared(bytes, period, place, lesser.abs_diff(greater));
+        let shared = alike.to - place;
+        if byte_at(bytes, greater + shared) <= byte_at(bytes, lesser + shared) {
+            return false;
+        }
+        period = period.learnt(bytes, alike, nearer, place);
+    }
+    true
+}

@@ -1,0 +1,168 @@
+//! How a file gets its bytes.
+//!
+//! A regular file is written beside its place and then renamed, so that whoever reads it meanwhile has the whole old
+//! file or the whole new one, and a failure leaves the old one as it was. Others are written straight.
+
+use crate::beside::Beside;
+use crate::stream::{Stream, is_descriptor, stream_named};
+use std::alloc::Global;
+use std::fs::{File, Metadata, OpenFile, OpenOptions};
+use std::io::{ErrorKind, Write};
+use std::os::unix::fs::{MetadataExt, fchown};
+use std::{fs, io};
+
+/// Makes these the bytes of the file at a path. A regular file is replaced, and keeps its owner, group and mode; a new
+/// one is made; a symbolic link is followed; a device or a pipe is written straight, and so is an open descriptor.
+pub(crate) fn write_file(
+    rt: &HostRuntime,
+    alloc: Global,
+    path: &str,
+    bytes: &[u8],
+) -> io::Result<()> {
+    match stream_named(path) {
+        Some(Stream::Output) => return write_whole(&mut rt.stdout(), bytes),
+        Some(Stream::Errors) => return write_whole(&mut rt.stderr(), bytes),
+        None => {}
+    }
+    // (a file that may not be written is not replaced either, so it is opened first)
+    let mut there = match OpenOptions::new().write(true).open(rt, path) {
+        Ok(there) => there,
+        Err(error) if error.kind() == ErrorKind::NotFound => {
+            return write_new(rt, alloc, path, bytes);
+        }
+        Err(error) => return Err(error),
+    };
+    let old = there.metadata()?;
+    if !old.is_file() {
+        return write_straight(there, bytes);
+    }
+    if is_descriptor(path) {
+        there.set_len(0)?;
+        return write_straight(there, bytes);
+    }
+    match replace_target(rt, alloc, path, bytes, &old) {
+        Ok(()) => Ok(()),
+        Err(error) => {
+            if !is_refused(&error) {
+                return Err(error);
+            }
+            there.set_len(0)?;
+            write_straight(there, bytes)
+        }
+    }
+}
+
+/// Replaces a file, or the one that a symbolic link names.
+fn replace_target(
+    rt: &HostRuntime,
+    alloc: Global,
+    path: &str,
+    bytes: &[u8],
+    old: &Metadata,
+) -> io::Result<()> {
+    if fs::symlink_metadata(rt, path)?.is_symlink() {
+        let target = fs::canonicalize(rt, path)?;
+        replace(rt, alloc, target.as_str(), bytes, Some(old))
+    } else {
+        replace(rt, alloc, path, bytes, Some(old))
+    }
+}
+
+/// Writes where no file is. A symbolic link to nothing is written through.
+fn write_new(rt: &HostRuntime, alloc: Global, path: &str, bytes: &[u8]) -> io::Result<()> {
+    if fs::symlink_metadata(rt, path).is_ok() {
+        return write_straight(File::create(rt, path)?, bytes);
+    }
+    match replace(rt, alloc, path, bytes, None) {
+        Err(error) if is_refused(&error) => write_straight(File::create(rt, path)?, bytes),
+        replaced => replaced,
+    }
+}
+
+/// Writes to a file that is read by its own name.
+fn write_straight(mut file: File, bytes: &[u8]) -> io::Result<()> {
+    write_whole(&mut file, bytes)
+}
+
+/// Writes all the bytes. Its failure is never want of memory, after which nothing is written.
+fn write_whole<W: Write>(writer: &mut W, bytes: &[u8]) -> io::Result<()> {
+    match write_through(writer, bytes) {
+        Ok(()) => Ok(()),
+        Err(_) => Err(io::Error::from(ErrorKind::Other)),
+    }
+}
+
+/// Writes all the bytes and hands on what a buffer holds back.
+fn write_through<W: Write>(writer: &mut W, bytes: &[u8]) -> io::Result<()> {
+    writer.write_all(bytes)?;
+    writer.flush()
+}
+
+/// Whether the folder of a file refuses a file beside it or its renaming, or the system the owner of the old file:
+/// then the file is written straight.
+fn is_refused(error: &io::Error) -> bool {
+    match error.kind() {
+        ErrorKind::PermissionDenied
+        | ErrorKind::ReadOnlyFilesystem
+        | ErrorKind::ResourceBusy
+        | ErrorKind::CrossesDevices
+        | ErrorKind::InvalidFilename => true,
+        _ => false,
+    }
+}
+
+/// Writes a file beside a path and renames it to the path. After a failure no file is left beside it.
+fn replace(
+    rt: &HostRuntime,
+    alloc: Global,
+    path: &str,
+    bytes: &[u8],
+    old: Option<&Metadata>,
+) -> io::Result<()> {
+    let mut beside = Beside::new(rt, alloc, path, old.is_some())?;
+    let moved = match fill(rt, alloc, path, &mut beside, bytes, old) {
+        Ok(()) => fs::rename(rt, beside.name(), path),
+        Err(error) => Err(error),
+    };
+    if moved.is_err() {
+        let _removed = fs::remove_file(rt, beside.name());
+    }
+    moved
+}
+
+/// Gives the file beside a path the owner and group of the old file, its bytes, and then the old mode.
+fn fill(
+    rt: &HostRuntime,
+    alloc: Global,
+    path: &str,
+    beside: &mut Beside,
+    bytes: &[u8],
+    old: Option<&Metadata>,
+) -> io::Result<()> {
+    beside.remove_stale(rt, alloc, path, old)?;
+    let file = beside.file();
+    if let Some(old) = old {
+        keep_owner(file, old)?;
+    }
+    file.write_all(bytes)?;
+    if let Some(old) = old {
+        file.set_permissions(old.permissions())?;
+    }
+    Ok(())
+}
+
+/// Gives a file the owner and the group of the old one. A system that doesn't let us refuses, whatever it answers.
+fn keep_owner(file: &File, old: &Metadata) -> io::Result<()> {
+    if is_owned_as(&file.metadata()?, old) {
+        return Ok(());
+    }
+    let given = fchown(file, Some(old.uid()), Some(old.gid()));
+    if given.is_ok() && is_owned_as(&file.metadata()?, old) {
+        return Ok(());
+    }
+    Err(io::Error::from(ErrorKind::PermissionDenied))
+}
+
+fn is_owned_as(found: &Metadata, old: &Metadata) -> bool {
+    found.uid() == old.uid() && found.gid() == old.gid()
+}
