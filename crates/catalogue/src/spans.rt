@@ -46,7 +46,11 @@ impl Model for Span {
     ghost Value = { SpanValue };
 
     ghost view = { λ s. record {
-        key = s.key; kept = kept_by s.share s.plural s.translation; line = s.line; standing = s.standing } };
+      key = s.key;
+      kept = kept_by s.share s.plural s.translation;
+      line = s.line;
+      standing = s.standing;
+    } };
 }
 
 impl Span {
@@ -56,14 +60,18 @@ impl Span {
     {
         let (share, plural, translation) = match kept {
             None => (Share::Dropped, 0, 0),
-            Some(KeptSpan {
-                plural: None,
-                translation,
-            }) => (Share::Plain, 0, translation),
-            Some(KeptSpan {
-                plural: Some(plural),
-                translation,
-            }) => (Share::Plural, plural, translation),
+            Some(
+                KeptSpan {
+                    plural: None,
+                    translation,
+                },
+            ) => (Share::Plain, 0, translation),
+            Some(
+                KeptSpan {
+                    plural: Some(plural),
+                    translation,
+                },
+            ) => (Share::Plural, plural, translation),
         };
         Span {
             key,
