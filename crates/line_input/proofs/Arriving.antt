@@ -1,6 +1,6 @@
 -- What several reads add up to.
 use Rattle.std.proofs.Common.{◌≡◌, ◌∙◌, refl, sym, ap, ℕ, ◌+◌, ◌≤◌, Bool, true, false, List, [], ◌++◌, length, arith}
-use Rattle.std.proofs.Common.{inl, inr, append_assoc, Option, Some, None, Result, Ok, Err}
+use Rattle.std.proofs.Common.{inl, inr, append_assoc, Option, Some, None, Result, Ok, Err, IsErrOf}
 use Rattle.std.proofs.lemmas.List.{append-nil}
 use Rattle.std.specs.Io.KnownBytes.{Consumes, IsAtEnd, Keeps}
 use Rattle.devices.specs.Devices.{RisesBy}
@@ -106,6 +106,20 @@ comes_then a b c x y z (Ok v) first second = adds_then a b c x y z first second
 comes_then a b c x y z (Err TooLong) first second = adds_then a b c x y z first second
 comes_then a b c x y z (Err Unreadable) first second = adds_some_then a b c x y z first second
 comes_then a b c x y z (Err Memory) first second = adds_some_then a b c x y z first second
+
+-- a fault as an outcome
+abbrev pub failed : (T : Type 0) → LineInputFault → Result T LineInputFault
+failed T fault = Err fault
+
+-- a read that fails behind what came
+pub comes_lost : (S T : Type 0) (a b c : Option (List ℕ)) (x y z : Incoming) (fault : LineInputFault) → Adds a b x y
+    → y.ended ≡ false → LosesBytes b c y.left z.left × (z.ended ≡ y.ended)
+    → (IsErrOf (failed S fault) TooLong → ⊥) → Comes a c x z (failed T fault)
+comes_lost S T a b c x y z TooLong first going read short = absurd (short refl)
+comes_lost S T a b c x y z Unreadable first going read short = adds_some_then a b c x y z first
+    (adds_lost b c y z going read.0 read.1)
+comes_lost S T a b c x y z Memory first going read short = adds_some_then a b c x y z first
+    (adds_lost b c y z going read.0 read.1)
 
 -- ---- counts
 

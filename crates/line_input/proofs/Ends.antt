@@ -42,7 +42,7 @@ line_at input from place low high lacks ends =
     let past : place + 1 - from ≡ suc n = omega arith in
     let far : from + suc n ≡ place + 1 = omega arith in
     let there : is_line_end (get_or (drop from input.left) n 0) ≡ true = rw (get_or-drop from input.left n 0, here)
-        ends in
+    ends in
     record {
       some = omega arith;
       within = omega arith;
@@ -68,6 +68,10 @@ line_last input from some lacks ended = record {
 }
 
 -- ---- a search for an LF behind the bytes that were searched before
+
+-- what is behind a place, as a part of a text that reaches to its end
+pub rest_is : (xs : List ℕ) (from : ℕ) → take (length xs - from) (drop from xs) ≡ drop from xs
+rest_is xs from = take_all (length xs - from) (drop from xs) (omega (arith, length-drop from xs))
 
 abbrev Finds : Incoming → ℕ → Option ℕ → Type 0
 Finds input searched found = IsFirstByte is_line_end (drop searched input.left) found

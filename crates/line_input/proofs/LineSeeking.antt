@@ -1,6 +1,6 @@
 -- What stands after some reads while the end of a line is looked for.
 use Rattle.std.proofs.Common.{◌≡◌, ◌∙◌, refl, sym, ap, ℕ, ◌+◌, ◌<◌, ◌≤◌, Bool, true, false, List, length, arith}
-use Rattle.std.proofs.Common.{inl, inr, append-nil, length-append, Option, Some, None, get_or, ◌++◌}
+use Rattle.std.proofs.Common.{inl, inr, append-nil, length-append, Option, Some, None, get_or, ◌++◌, subst}
 use Rattle.std.proofs.lemmas.List.{get_or_append_left}
 use Rattle.std.specs.List.{slice_index}
 use Rattle.std.specs.Io.KnownBytes.{IsAtEnd}
@@ -59,3 +59,6 @@ lacks_known input from end most known below k low high = known.lacks k low (omeg
 pub lacks_none : (input : Incoming) (from most : ℕ) → HasNoEnd input from → most < length input.left
     → LacksEnd input.left from most
 lacks_none input from most none below k low high = none.lacks k low (omega arith)
+
+pub no_end_of : (old new : Incoming) (from : ℕ) → new ≡ old → HasNoEnd new from → HasEnd old from → ⊥
+no_end_of old new from same none has = no_end old from (subst (λ v. HasNoEnd v from) same none) has

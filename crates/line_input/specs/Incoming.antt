@@ -54,3 +54,7 @@ pub record EndsLines (count : ℕ) (input : Incoming) (from end : ℕ) : Type 0 
 pub record LacksLines (count : ℕ) (input : Incoming) (from : ℕ) : Type 0 where
   pub ended : input.ended ≡ true
   pub fewer : length (lines (drop from input.left)) < count
+
+-- the ends are there of so many lines that begin at `from`
+abbrev pub HasEnds : ℕ → Incoming → ℕ → Type 0
+HasEnds count input from = (input.ended ≡ true) ⊎ ((end : ℕ) × EndsLines count input from end)

@@ -3,7 +3,7 @@ ghost use Rattle.std.specs.Prelude.{◌≡◌, ◌⊎◌, ◌<◌, ◌≤◌, []
 ghost use Rattle.std.specs.Prelude.{drop, false, length, true, vec_len};
 ghost use Rattle.std.specs.Io.KnownBytes.{IsAtEnd};
 ghost use Rattle.devices.specs.Devices.{RisesBy};
-ghost use Rattle.line_input.specs.Incoming.{HasEnd, EndsLine, EndsLines, LacksLines, LacksEnd};
+ghost use Rattle.line_input.specs.Incoming.{HasEnd, HasEnds, EndsLine, EndsLines, LacksLines, LacksEnd};
 ghost use Rattle.line_input.specs.Arrivals.{Comes};
 ghost use Rattle.line_input.specs.Seeking.{AddsBytes, LosesBytes, Reads, IsKnownEnd, HasNoEnd};
 
@@ -220,9 +220,10 @@ impl LineInput {
             → RisesBy 1 (R.failures reader.old) (R.failures reader.new)
             ⊎ RisesBy MOST_READS (R.reads reader.old) (R.reads reader.new) }
 
-        // How the reader is used.
+        // How the reader is used: not at all where the ends of the lines are there.
         ensures later { R.failures reader.old ≤ R.failures reader.new }
         ensures reads { RisesBy 0 (R.reads reader.old) (R.reads reader.new) }
+        ensures lazy { HasEnds count self.old from → (reader.new ≡ reader.old) × (self.new ≡ self.old) }
     {
         let mut end = from;
         'lines: for counted in 0..count {
