@@ -1,7 +1,8 @@
 -- How many lines end, one after another.
-use Rattle.std.proofs.Common.{◌≡◌, ◌∙◌, refl, sym, ap, subst, ℕ, zero, suc, ◌+◌, ◌-◌, ◌<◌, ◌≤◌, Bool, true, false, List, []}
+use Rattle.std.proofs.Common.{◌≡◌, ◌∙◌, refl, sym, ap, subst, ℕ, zero, suc, ◌+◌, ◌-◌, ◌<◌, ◌≤◌, true, false}
+use Rattle.std.proofs.Common.{List, []}
 use Rattle.std.proofs.Common.{◌∷◌, ◌++◌, length, get_or, take, drop, arith, add-one, append_assoc, length-append}
-use Rattle.std.proofs.Common.{length-drop, inl, inr, Option}
+use Rattle.std.proofs.Common.{length-drop, inl, inr, Option, IsErrOf}
 use Rattle.std.proofs.Math.Seq.{take-add}
 use Rattle.std.proofs.lemmas.Bool.{cases_Bool, cases_lt}
 use Rattle.std.proofs.lemmas.List.{append-nil, drop-append-le, take-append-le, drop-drop, drop_all, get_or-drop}
@@ -11,9 +12,11 @@ use Rattle.std.specs.List.{concat, onto_first, position_or_len, slice_index}
 use Rattle.devices.specs.Devices.{RisesBy}
 use Rattle.line_input.specs.Lines.{is_line_end, lines}
 use Rattle.line_input.specs.Incoming.{Incoming, MayCome, HasLineEnd, HasEnd, HasEnds, EndsLine, EndsLines, CutsLines}
-use Rattle.line_input.specs.Incoming.{LacksLines}
-use Rattle.line_input.specs.Arrivals.{Adds}
-use Rattle.line_input.proofs.Arriving.{adds_none, adds_then, both, rises_both, rises_none}
+use Rattle.line_input.specs.Incoming.{EndsFewer, LacksEnd, LacksLines}
+use Rattle.line_input.specs.declared.fault.LineInputFault.{LineInputFault}
+use Rattle.line_input.specs.declared.fault.LineInputFault.TheVariants.{TooLong, Unreadable, Memory}
+use Rattle.line_input.specs.Arrivals.{Adds, Comes}
+use Rattle.line_input.proofs.Arriving.{adds_none, adds_then, both, failed, rises_both, rises_none}
 use Rattle.line_input.proofs.Ends.{one_line}
 
 -- ---- lists of lines
@@ -100,9 +103,6 @@ ends_more count input from end behind had line = record {
   cut = λ text may. cut_of text (had.cut text may) (line.cut text may);
 }
   where
-    middle : List ℕ
-    middle = take (behind - end) (drop end input.left)
-
     cut_of : (text : List ℕ)
         → CutsLines count (drop from input.left ++ text) (take (end - from) (drop from input.left))
         (drop end input.left ++ text)
@@ -183,7 +183,8 @@ not_last count n input from here end below going had whole none =
     (omega (arith, length-append left text_more)) (lacks_more left none) in
     let all : List (List ℕ) = lines (drop from input.left ++ text_more) in
     let size : length all ≡ n + 1 = one_left n all (left ++ text_more) (sym first.rest_is ∙ alone) in
-    let some = some_line (drop end input.left ++ text_more) (omega (arith, length-append (drop end input.left) text_more)) in
+    let rest : List ℕ = drop end input.left in
+    let some = some_line (rest ++ text_more) (omega (arith, length-append rest text_more)) in
     absurd (omega (arith, size, last.enough, ap length last.rest_is, length-drop count all, some))
 
 line_end_there : (input : Incoming) (here : ℕ)
@@ -202,12 +203,15 @@ pub has_end : (count n : ℕ) (input : Incoming) (from here : ℕ) → n < count
 has_end count n input from here below had (inl ended) = inl ended
 has_end count n input from here below had (inr whole) = elim (cases_Bool input.ended) [
   | inl ended ↦ inl ended
-  | inr going ↦ inr (elim (cases_lt (position_or_len is_line_end (drop here input.left)) (length (drop here input.left))) [
+  | inr going ↦ inr (elim (cases_lt place (length (drop here input.left))) [
     | inl lt ↦ line_end_there input here lt
     | inr le ↦ absurd (not_last count n input from here whole.0 below going had whole.1
         (omega (arith, position_or_len-le (drop here input.left))))
   ])
 ]
+  where
+    abbrev place : ℕ
+    place = position_or_len is_line_end (drop here input.left)
 
 -- ---- the loop
 
@@ -258,3 +262,20 @@ lazy_more count n a a' a'' x y z from here below had before one all =
     (subst (λ v. HasEnds count v from) (sym first.1) all) in
     let second = one there in
     (second.0 ∙ first.0, second.1 ∙ first.1)
+
+-- the line behind those that end is too long
+pub ends_fewer : (T : Type 0) (a b c : Option (List ℕ)) (f f' r r' n count : ℕ) (x y z : Incoming)
+    (from end most : ℕ) (fault : LineInputFault) → HasCounted a b f f' r r' n x y from end most → n < count
+    → Comes b c y z (failed T fault)
+    → (IsErrOf (failed T fault) TooLong → (most < length z.left) × LacksEnd z.left end most)
+    → IsErrOf (failed T fault) TooLong → EndsFewer count z from most
+ends_fewer T a b c f f' r r' n count x y z from end most TooLong had below adds long is = record {
+  ended = n;
+  fewer = below;
+  end = end;
+  ends = ends_later n b c y z from end adds had.ends;
+  lacks = (long is).1;
+  over = (long is).0;
+}
+ends_fewer T a b c f f' r r' n count x y z from end most Unreadable had below comes long is = absurd (cc)
+ends_fewer T a b c f f' r r' n count x y z from end most Memory had below comes long is = absurd (cc)

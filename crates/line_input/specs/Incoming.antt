@@ -58,3 +58,12 @@ pub record LacksLines (count : ℕ) (input : Incoming) (from : ℕ) : Type 0 whe
 -- the ends are there of so many lines that begin at `from`
 abbrev pub HasEnds : ℕ → Incoming → ℕ → Type 0
 HasEnds count input from = (input.ended ≡ true) ⊎ ((end : ℕ) × EndsLines count input from end)
+
+-- fewer lines that begin at `from` end within the first `most` bytes, and there are more bytes
+pub record EndsFewer (count : ℕ) (input : Incoming) (from most : ℕ) : Type 0 where
+  pub ended : ℕ
+  pub fewer : ended < count
+  pub end : ℕ
+  pub ends : EndsLines ended input from end
+  pub lacks : LacksEnd input.left end most
+  pub over : most < length input.left

@@ -3,7 +3,8 @@ ghost use Rattle.std.specs.Prelude.{◌≡◌, ◌⊎◌, ◌<◌, ◌≤◌, []
 ghost use Rattle.std.specs.Prelude.{drop, false, length, true, vec_len};
 ghost use Rattle.std.specs.Io.KnownBytes.{IsAtEnd};
 ghost use Rattle.devices.specs.Devices.{RisesBy};
-ghost use Rattle.line_input.specs.Incoming.{HasEnd, HasEnds, EndsLine, EndsLines, LacksLines, LacksEnd};
+ghost use Rattle.line_input.specs.Incoming.{HasEnd, HasEnds, EndsFewer, EndsLine, EndsLines, LacksEnd};
+ghost use Rattle.line_input.specs.Incoming.{LacksLines};
 ghost use Rattle.line_input.specs.Arrivals.{Comes};
 ghost use Rattle.line_input.specs.Seeking.{AddsBytes, LosesBytes, Reads, IsKnownEnd, HasNoEnd};
 
@@ -215,7 +216,7 @@ impl LineInput {
         ensures lines { IfOk result (λ found. IfSome found (λ end. EndsLines count self.new from end)) }
         ensures within { IfOk result (λ found. IfSome found (λ end. 0 < count → end ≤ most)) }
         ensures none { IfOk result (λ found. IfNone found (LacksLines count self.new from)) }
-        ensures long { IsErrOf result LineInputFault.TooLong → most < length self.new.left }
+        ensures long { IsErrOf result LineInputFault.TooLong → EndsFewer count self.new from most }
         ensures cause { IsErrOf result LineInputFault.Unreadable
             → RisesBy 1 (R.failures reader.old) (R.failures reader.new)
             ⊎ RisesBy MOST_READS (R.reads reader.old) (R.reads reader.new) }

@@ -1,7 +1,7 @@
 use Rattle.std.proofs.Common.{ℕ, Option, arith}
 use Rattle.std.proofs.lemmas.Result.{err_from_is_err_and}
 use Rattle.line_input.proofs.Arriving.{comes_then, failed}
-use Rattle.line_input.proofs.LineCounting.{counted_more, counted_all, lazy_more}
+use Rattle.line_input.proofs.LineCounting.{counted_more, counted_all, ends_fewer, lazy_more}
 use Rattle.line_input.proofs.incoming.LineInput.lines_end.Goals as goal
 
 pub returns-in_err-behind-clause-comes : goal.returns-in_err-behind-clause-comes
@@ -9,6 +9,13 @@ returns-in_err-behind-clause-comes g c =
     let p = err_from_is_err_and c.from_residual.result c.from_residual.ensures.1 in
     rw (p.1, p.2) (comes_then _ _ _ c.args.self.now c.lines.self c.line_end.new.self
     (failed (Option ℕ) c.in_err-behind.field-0.0) c.lines.invariant.0.came c.in_err-behind.ensures.comes)
+
+pub returns-in_err-behind-clause-long : goal.returns-in_err-behind-clause-long
+returns-in_err-behind-clause-long g c =
+    let p = err_from_is_err_and c.from_residual.result c.from_residual.ensures.1 in
+    rw (p.1, p.2) (ends_fewer (Option ℕ) _ _ _ _ _ _ _ _ _ c.args.self.now c.lines.self c.line_end.new.self _ _ _
+    c.in_err-behind.field-0.0 c.lines.invariant.0 (omega arith) c.in_err-behind.ensures.comes
+    c.in_err-behind.ensures.long)
 
 pub returns-in_err-behind-clause-lazy : goal.returns-in_err-behind-clause-lazy
 returns-in_err-behind-clause-lazy g c = lazy_more _ _ _ _ _ _ _ _ _ _ (omega arith) c.lines.invariant.0.ends
