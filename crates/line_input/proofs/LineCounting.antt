@@ -147,6 +147,10 @@ lacks_lines count n input from end fewer had ended whole =
 
 -- ---- the end of each line is there, where the ends of all are
 
+-- where the first LF of a text stands; its length, where it has none
+abbrev first_end : List ℕ → ℕ
+first_end text = position_or_len is_line_end text
+
 -- a byte that is no LF
 abbrev text_more : List ℕ
 text_more = 65 ∷ []
@@ -203,15 +207,12 @@ pub has_end : (count n : ℕ) (input : Incoming) (from here : ℕ) → n < count
 has_end count n input from here below had (inl ended) = inl ended
 has_end count n input from here below had (inr whole) = elim (cases_Bool input.ended) [
   | inl ended ↦ inl ended
-  | inr going ↦ inr (elim (cases_lt place (length (drop here input.left))) [
+  | inr going ↦ inr (elim (cases_lt (first_end (drop here input.left)) (length (drop here input.left))) [
     | inl lt ↦ line_end_there input here lt
     | inr le ↦ absurd (not_last count n input from here whole.0 below going had whole.1
         (omega (arith, position_or_len-le (drop here input.left))))
   ])
 ]
-  where
-    abbrev place : ℕ
-    place = position_or_len is_line_end (drop here input.left)
 
 -- ---- the loop
 
