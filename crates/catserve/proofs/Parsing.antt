@@ -10,7 +10,8 @@ use Rattle.std.proofs.lemmas.List.Sums.{sum_by-append}
 use Rattle.std.proofs.lemmas.Bool.{le-leb, lt-leb}
 use Rattle.catalogue.specs.declared.Options.{Options}
 use Rattle.live_set.specs.Asks.{QueryValue}
-use Rattle.catserve.specs.Lines.{lines, pieces, without_end, fields}
+use Rattle.line_input.specs.Lines.{lines, pieces, without_end}
+use Rattle.catserve.specs.LineFields.{fields}
 use Rattle.catserve.specs.Commands.{Line, Loads, is_blank, line_of, workers_line}
 use Rattle.desks.specs.Jobs.{JobValue, Po}
 use Rattle.catserve.specs.Script.{Command, Load, Ask, Go, RoundValue, round_of, rounds_of, is_go, Says}

@@ -3,7 +3,7 @@ use Rattle.std.proofs.Common.{◌≡◌, ◌∙◌, refl, sym, ap, ℕ, zero, su
 use Rattle.std.proofs.Common.{drop, arith, add-one, append_assoc, length-append, length-drop}
 use Rattle.std.proofs.lemmas.List.{append-nil}
 use Rattle.std.specs.List.{concat}
-use Rattle.catserve.specs.Lines.{lines}
+use Rattle.line_input.specs.Lines.{lines}
 use Rattle.catserve.specs.Scanning.{IsFirstLine, HasTaken}
 
 -- behind place i of a list stand y and ys

@@ -3,7 +3,7 @@ use Rattle.std.specs.Prelude.{ℕ, ◌==◌, Bool, true, if◌then◌else◌, Li
 use Rattle.std.specs.Str.{bytes_eq}
 use Rattle.catalogue.specs.declared.Options.{Options}
 use Rattle.live_set.specs.Asks.{AskValue, QueryValue, Plain, Context, Number, ContextNumber}
-use Rattle.catserve.specs.Lines.{fields}
+use Rattle.catserve.specs.LineFields.{fields}
 use Rattle.catserve.specs.ScriptFields.{number, unescaped, options_of, hex_bytes, worker_of, worker_count, ◌>>=◌}
 
 -- an empty line or a comment; a load of the next lines, of which it counts so many; a load of an MO file with these

@@ -4,7 +4,7 @@ use Rattle.std.specs.Prelude.{drop}
 use Rattle.std.specs.List.{sum_by}
 use Rattle.std.specs.Prelude.{fold, Some, Result, Ok, Err}
 use Rattle.std.specs.Str.{IsUtf8}
-use Rattle.catserve.specs.Lines.{lines}
+use Rattle.line_input.specs.Lines.{lines}
 use Rattle.catserve.specs.Commands.{Line}
 use Rattle.catserve.specs.Script.{Command, Load, Ask, Go, RoundValue, round_of, rounds_of, Says, saying, commands_from}
 use Rattle.catserve.specs.Script.{ScriptValue, script_from, script_of, script}

@@ -1,4 +1,4 @@
-pub mod Lines
+pub mod LineFields
 pub mod ScriptFields
 pub mod Commands
 pub mod Script

@@ -10,7 +10,8 @@ use Rattle.catserve.specs.declared.fault.ScriptKind.{ScriptKind}
 use Rattle.catserve.specs.declared.fault.ScriptKind.TheVariants as kind
 use Rattle.catserve.specs.Script.{ScriptValue}
 use Rattle.catserve.specs.Texts.{IsRefused}
-use Rattle.catserve.specs.Lines.{lines, without_end, fields}
+use Rattle.line_input.specs.Lines.{lines, without_end}
+use Rattle.catserve.specs.LineFields.{fields}
 use Rattle.std.specs.Str.{IsUtf8}
 use Rattle.std.specs.Option.{option_map}
 use Rattle.catserve.specs.ScriptFields.{escaped_byte, unescaped}

@@ -4,7 +4,8 @@ use Rattle.std.specs.Prelude.{length, map, take, Option, Some, None, Result, Ok,
 use Rattle.std.specs.List.{concat, filter_map}
 use Rattle.live_set.specs.Asks.{QueryValue}
 use Rattle.desks.specs.Jobs.{JobValue, Po, Mo}
-use Rattle.catserve.specs.Lines.{pieces, lines, without_end, fields}
+use Rattle.line_input.specs.Lines.{pieces, lines, without_end}
+use Rattle.catserve.specs.LineFields.{fields}
 use Rattle.catserve.specs.Commands.{Line, Blank, Loads, LoadsMo, Asks, Goes, is_blank, line_of, workers_line}
 
 -- ---- commands

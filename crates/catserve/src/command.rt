@@ -3,7 +3,7 @@ ghost use Rattle.std.specs.Prelude.{◌≡◌, IfErr};
 ghost use Rattle.catserve.specs.Commands.{plain_call, context_call, number_call, context_number_call, call_of};
 ghost use Rattle.catserve.specs.Commands.{load_line, load_mo_line, ask_line, go_line, command_line};
 ghost use Rattle.catserve.specs.Commands.{is_blank, line_of, workers_line};
-ghost use Rattle.catserve.specs.Lines.{fields};
+ghost use Rattle.catserve.specs.LineFields.{fields};
 ghost use Rattle.catserve.specs.Scanning.{Reads};
 ghost use Rattle.catserve.specs.LineValues.{line_value};
 ghost use Rattle.live_set.specs.Asks.{ask_value};

@@ -1,7 +1,7 @@
 //! The fields of a line, one after another.
 ghost use Rattle.std.specs.Prelude.{◌≡◌, ◌≢◌, [], ◌∷◌, MatchResult};
 ghost use Rattle.std.specs.Option.{option_copied};
-ghost use Rattle.catserve.specs.Lines.{fields};
+ghost use Rattle.catserve.specs.LineFields.{fields};
 ghost use Rattle.catserve.specs.Scanning.{fields_left};
 
 use crate::fault::LineFault;

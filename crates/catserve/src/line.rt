@@ -1,6 +1,6 @@
 //! Lines of a text.
 ghost use Rattle.std.specs.Prelude.{◌≡◌, ◌<◌, [], MatchOption, length};
-ghost use Rattle.catserve.specs.Lines.{lines};
+ghost use Rattle.line_input.specs.Lines.{lines};
 ghost use Rattle.catserve.specs.Scanning.{IsFirstLine, TakesLines};
 
 use text_cut::split_at_byte;

@@ -1,6 +1,6 @@
 //! Reading a script whole.
 ghost use Rattle.std.specs.Prelude.{◌≡◌, ◌<◌, ◌≤◌, ◌+◌, ◌^◌, IfOk, IfErr, Some, Ok, length};
-ghost use Rattle.catserve.specs.Lines.{lines};
+ghost use Rattle.line_input.specs.Lines.{lines};
 ghost use Rattle.catserve.specs.Script.{script, saying, IsBad};
 ghost use Rattle.catserve.specs.Texts.{IsScript};
 ghost use Rattle.catserve.specs.LineValues.{line_value};

@@ -1,0 +1,4 @@
+pub mod Ends
+pub mod Arriving
+pub mod LineSeeking
+pub mod LineCounting

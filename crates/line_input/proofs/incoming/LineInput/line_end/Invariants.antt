@@ -1,0 +1,10 @@
+use Rattle.std.proofs.Common.{◌≡◌}
+use Rattle.line_input.specs.Incoming.{HasEnd}
+use Rattle.line_input.proofs.LineSeeking.{HasSearched}
+use Rattle.line_input.proofs.incoming.LineInput.line_end.Given as goal
+
+abbrev pub invariant-loop-turn : goal.invariant-loop-turn
+invariant-loop-turn g l = HasSearched (g.R.Source.remaining l.fn.reader) (g.R.Source.remaining l.reader)
+    (g.R.Source.failures l.fn.reader) (g.R.Source.failures l.reader) (g.R.Source.reads l.fn.reader)
+    (g.R.Source.reads l.reader) l.turn l.fn.self l.self l.from l.searched
+    × (HasEnd l.fn.self l.from → (l.reader ≡ l.fn.reader) × (l.self ≡ l.fn.self))

@@ -1,0 +1,10 @@
+use Rattle.std.proofs.Common.{◌≡◌}
+use Rattle.line_input.specs.Incoming.{HasEnds}
+use Rattle.line_input.proofs.LineCounting.{HasCounted}
+use Rattle.line_input.proofs.incoming.LineInput.lines_end.Given as goal
+
+abbrev pub invariant-lines : goal.invariant-lines
+invariant-lines g l = HasCounted (g.R.Source.remaining l.fn.reader) (g.R.Source.remaining l.reader)
+    (g.R.Source.failures l.fn.reader) (g.R.Source.failures l.reader) (g.R.Source.reads l.fn.reader)
+    (g.R.Source.reads l.reader) l.counted l.fn.self l.self l.from l.end l.most
+    × (HasEnds l.count l.fn.self l.from → (l.reader ≡ l.fn.reader) × (l.self ≡ l.fn.self))

@@ -1,0 +1,4 @@
+pub mod Lines
+pub mod Incoming
+pub mod Arrivals
+pub mod Seeking
