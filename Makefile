@@ -55,7 +55,8 @@ bench: programs
 
 # (the pages and the completions name the programs and the documents as they are installed; without a program `strip`
 # the programs keep their symbols)
-in_place = sed -e 's|/usr/local|$(PREFIX)|g' -e '/^\.TH /s|TH |TH $(PROGRAM_PREFIX)|'
+capitals = $$(printf %s '$(PROGRAM_PREFIX)' | tr '[:lower:]' '[:upper:]')
+in_place = sed -e 's|/usr/local|$(PREFIX)|g' -e "/^\.TH /s|TH |TH $(capitals)|"
 completions = sed 's|@PREFIX@|$(PROGRAM_PREFIX)|g' tools/completion
 
 install: $(PROGRAMS:%=bin/%)
