@@ -1,7 +1,7 @@
 #!/usr/bin/env bash
-# Builds three small projects with bin/msgfmt in place of GNU msgfmt: one of CMake (FindGettext), one of Meson
-# (i18n.gettext) and one of the GNU build system (po/Makefile.in.in), as the README says. Each must call it, and make the
-# MO file that it makes by itself. A build system that is not here, and can't be installed, is skipped.
+# Builds three small projects by bin/msgfmt in place of GNU msgfmt, as the README says: one of CMake (FindGettext), one
+# of Meson (i18n.gettext) and one of the GNU build system (po/Makefile.in.in). Each must call it, and make the MO file
+# that it makes by itself. A build system that is not here, and can't be installed, is skipped.
 . "$(dirname "$0")/common"
 . tests/projects
 
@@ -34,7 +34,8 @@ top=$PWD
 
 cmake_project() {
   project cmake
-  if cmake -S . -B build -DGETTEXT_MSGFMT_EXECUTABLE="$room/bin/msgfmt" > log 2>&1 && cmake --build build >> log 2>&1; then
+  if cmake -S . -B build -DGETTEXT_MSGFMT_EXECUTABLE="$room/bin/msgfmt" > log 2>&1 &&
+    cmake --build build >> log 2>&1; then
     built CMake log build/fr.gmo
   else
     failed CMake "the build ended so: '$(tail -c 400 log)'"
@@ -72,7 +73,8 @@ gnu_project() {
   project gnu
   if ! gnu_files fr; then
     failed "$1" "autoreconf ended so: '$(tail -c 400 log)'"
-  elif ! ./configure MSGFMT="$room/bin/msgfmt" GMSGFMT="$room/bin/msgfmt" > log 2>&1 || ! make -C po fr.gmo > log 2>&1; then
+  elif ! ./configure MSGFMT="$room/bin/msgfmt" GMSGFMT="$room/bin/msgfmt" > log 2>&1 ||
+    ! make -C po fr.gmo > log 2>&1; then
     failed "$1" "the build ended so: '$(tail -c 400 log)'"
   else
     # (msgmerge has put its own fields and comments into the text that was compiled)

@@ -28,8 +28,8 @@ def read(name):
 
 def page(name):
     """A man page as plain words: without requests, fonts and line ends."""
-    text = re.sub(r'^\.[A-Z]+ ?', "", read(name), flags=re.M)
-    return " ".join(re.sub(r"\\f[A-Z]|\\-", lambda found: "-" if found[0] == "\\-" else "", text).replace('"', "").split())
+    text = re.sub(r'^\.[A-Z]+ ?', "", read(name), flags=re.M).replace("\\-", "-")
+    return " ".join(re.sub(r'\\f[A-Z]|"', "", text).split())
 
 
 def section(name, title):
@@ -52,7 +52,8 @@ def kinds(path, enum):
 
 def rows(text):
     """The cells of each row of the tables in a text of Markdown."""
-    return [[cell.strip() for cell in line.strip("|").split(" | ")] for line in text.splitlines() if line.startswith("|")]
+    lines = [line for line in text.splitlines() if line.startswith("|")]
+    return [[cell.strip() for cell in line.strip("|").split(" | ")] for line in lines]
 
 
 def differences(what, found, wanted):
@@ -124,7 +125,8 @@ def texts_of_the_driver():
     taken = set(re.findall(r"echo '([^']*)'", case))
     matched = set(re.findall(r"(?:: |msgfmt: )([^':]+)'\) echo", case))
     named = {text for text in known if text in page(DRIVER_PAGE).split("ENVIRONMENT")[0]}
-    heads = {text for text in known if text in " ".join(re.sub(r"^# ?", "", read(DRIVER).split("set -u")[0], flags=re.M).split())}
+    head = re.sub(r"^# ?", "", read(DRIVER).split("set -u")[0], flags=re.M)
+    heads = {text for text in known if text in " ".join(head.split())}
     readme = {text for text in known if f"`{text}`" in " ".join(section("README.md", "Using msgfmt").split())}
     return (
         differences(f"{DRIVER}, its cases", matched, taken)
@@ -148,7 +150,8 @@ def lines_of_the_command():
 
 def fields_of_a_header():
     """the fields that a header is expected to have"""
-    wanted = re.findall(r'"([\w-]+)"', re.search(r"FIELD_NAMES.*?=(.*?);", read("crates/po_header/src/fields.rt"), re.S)[1])
+    names = re.search(r"FIELD_NAMES.*?=(.*?);", read("crates/po_header/src/fields.rt"), re.S)[1]
+    wanted = re.findall(r'"([\w-]+)"', names)
     listed = re.search(r"expected to have are, in this order:(.*?)\.\n", read(FORMATS), re.S)[1]
     return differences(FORMATS, re.findall(r"`([\w-]+)`", listed), wanted)
 
@@ -200,8 +203,10 @@ def constant(path, name):
 
 def limits():
     """the limits"""
-    text, file = constant("crates/po_text/src/open.rt", "MAX_TEXT"), constant("crates/mo_image/src/layout.rt", "MAX_LEN")
-    rule, name = constant("crates/po_header/src/lib.rt", "EXPRESSION_LIMIT"), constant("crates/live_set/src/name.rt", "NAME_LIMIT")
+    text = constant("crates/po_text/src/open.rt", "MAX_TEXT")
+    file = constant("crates/mo_image/src/layout.rt", "MAX_LEN")
+    rule = constant("crates/po_header/src/lib.rt", "EXPRESSION_LIMIT")
+    name = constant("crates/live_set/src/name.rt", "NAME_LIMIT")
     readers = constant("crates/live_versions/src/store.rt", "MOST_READERS")
     workers = constant("crates/catserve/src/field.rt", "MOST_WORKERS")
     places = (
@@ -216,7 +221,8 @@ def limits():
         (MSGFMT_PAGE, f"an MO file;{file:,} bytes"),
         (MSGFMT_PAGE, f"expression;{rule:,} bytes"),
         (CATSERVE_PAGE, f"A script is UTF-8 and has at most {text:,} bytes"),
-        (CATSERVE_PAGE, f"A script has at most {text:,} bytes, an MO file {file:,}, a name of a domain or locale {name} letters"),
+        (CATSERVE_PAGE, f"A script has at most {text:,} bytes, an MO file {file:,}, a name"),
+        (CATSERVE_PAGE, f"a name of a domain or locale {name} letters"),
         (CATSERVE_PAGE, f"So many workers answer, 1 to {workers}:"),
         (CATSERVE_PAGE, f"There are 1 to {workers} workers"),
         ("docs/LIVE.md", f"one publisher and 1 to {readers} readers"),
@@ -254,7 +260,10 @@ def main():
             wrong = rule()
         except (TypeError, AttributeError, KeyError) as error:
             wrong = [f"a place that it looks for is not there ({error!r})"]
-        print(f"FAILED documents: {rule.__doc__}: {'; '.join(wrong)[:400]}" if wrong else f"ok documents: {rule.__doc__}")
+        if wrong:
+            print(f"FAILED documents: {rule.__doc__}: {'; '.join(wrong)[:400]}")
+        else:
+            print(f"ok documents: {rule.__doc__}")
 
 
 if __name__ == "__main__":

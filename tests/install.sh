@@ -23,7 +23,11 @@ pages() {
   for page in msgfmt catserve msgfmt-or-gnu; do
     [ -s "$at/$2$page.1" ] || wrong+="no page of $page; "
   done
-  if tests/needs mandoc mandoc; then wrong+=$(mandoc -T lint "$at/$2"*.1 2>&1 | head -n 2); else skipped "$1, lint" 'no mandoc'; fi
+  if tests/needs mandoc mandoc; then
+    wrong+=$(mandoc -T lint "$at/$2"*.1 2>&1 | head -n 2)
+  else
+    skipped "$1, lint" 'no mandoc'
+  fi
   documents=$(grep -o "$room/usr/[^ ]*FORMATS.md" "$at/$2msgfmt.1" | head -n 1)
   [ -n "$documents" ] && [ -s "$room/image$documents" ] || wrong+='no FORMATS.md where msgfmt(1) names it'
   if [ -z "$wrong" ]; then ok "$1"; else failed "$1" "$wrong"; fi
@@ -43,6 +47,8 @@ completes() {
   if [ "$answer" = "$2" ]; then ok "$1"; else failed "$1" "'$answer' and not '$2'"; fi
 }
 
+options='--check --help --no-hash --output-file= --statistics --use-fuzzy --verbose -c -f -h -o -v'
+
 # installed PREFIX: everything about an installation with this prefix
 installed() {
   local as="install ${1:-without a prefix}" bin=$room/image$room/usr/bin left
@@ -50,22 +56,25 @@ installed() {
     failed "$as" "$(tail -n 2 "$room/log")"
     return
   fi
-  if printf 'msgid "hi"\nmsgstr "salut"\n' | "$bin/$1msgfmt" -o - - | cmp -s - crates/msgfmt/stdout &&
+  if "$bin/$1msgfmt" -o - - < crates/msgfmt/stdin | cmp -s - crates/msgfmt/stdout &&
     [ "$(echo go | "$bin/$1catserve")" = "$(printf 'version\t0')" ]; then
     ok "$as: the programs run"
   else
     failed "$as: the programs run" 'they answer otherwise'
   fi
-  if printf 'msgid "hi"\nmsgstr "salut"\n' | "$bin/$1msgfmt-or-gnu" -o - - 2> "$room/err" | cmp -s - crates/msgfmt/stdout; then
+  if "$bin/$1msgfmt-or-gnu" -o - - < crates/msgfmt/stdin 2> "$room/err" | cmp -s - crates/msgfmt/stdout; then
     ok "$as: msgfmt-or-gnu finds the program beside it"
   else
     failed "$as: msgfmt-or-gnu finds the program beside it" "$(cat "$room/err")"
   fi
-  if ! command -v strip > /dev/null || [ "$(wc -c < "$bin/$1msgfmt")" -le "$(wc -c < "$program")" ]; then ok "$as: stripped"
-  else failed "$as: stripped" 'it is larger than before'; fi
+  if ! command -v strip > /dev/null || [ "$(wc -c < "$bin/$1msgfmt")" -le "$(wc -c < "$program")" ]; then
+    ok "$as: stripped"
+  else
+    failed "$as: stripped" 'it is larger than before'
+  fi
   pages "$as: man pages" "$1"
   completes "$as: an option" '--statistics' "$1" --st
-  completes "$as: options" '--check --help --no-hash --output-file= --statistics --use-fuzzy --verbose -c -f -h -o -v' "$1" -
+  completes "$as: options" "$options" "$1" -
   completes "$as: PO files and folders" 'a.po folder' "$1" ''
   completes "$as: any FILE" 'a.mo a.po' "$1" -co a
   made "$1" uninstall

@@ -96,7 +96,8 @@ who_compiles() {
   is_of "${as}--check-format" 'GNU\t0\t--check-format\tours.po' $none "$gnu" --check-format -o x.mo ours.po
   is_of "${as}standard input, ours" 'ours\t0\t-\t-' ours.po "$program" -o - -
   is_of "${as}standard input, GNU's" 'GNU\t0\tunsupported charset\t-' charset.po "$gnu" -o - -
-  is_of "${as}standard input by its name" 'GNU\t0\tunsupported charset\t/dev/stdin' charset.po "$gnu" -co x.mo /dev/stdin
+  is_of "${as}standard input by its name" 'GNU\t0\tunsupported charset\t/dev/stdin' charset.po \
+    "$gnu" -co x.mo /dev/stdin
 }
 
 for name in dash 'bash --posix' 'busybox sh'; do
@@ -182,7 +183,8 @@ export KOBDZILA_MSGFMT=$program
 export MSGFMT_OR_GNU_LOG=$room/none/log
 "$driver" -o x.mo ours.po 2> err
 status=$?
-if [ $status = 0 ] && grep -qx "msgfmt-or-gnu: cannot write $MSGFMT_OR_GNU_LOG" err; then ok 'driver, no log can be written'
+if [ $status = 0 ] && grep -qx "msgfmt-or-gnu: cannot write $MSGFMT_OR_GNU_LOG" err; then
+  ok 'driver, no log can be written'
 else failed 'driver, no log can be written' "status $status, '$(cat err)'"; fi
 export MSGFMT_OR_GNU_LOG=$room/log
 
@@ -204,13 +206,15 @@ german() {
     -e 's/^msgstr "Salut"/msgstr "Gr\xfc\xdfe"/' po/fr.po > po/de.po
 }
 
+# hash_size MO: the size of its hash table, which GNU msgfmt's file has, and ours not
+hash_size() { head -c 24 "$1" | tail -c 4 | hex; }
+
 # built NAME FR DE: both MO files are there, the French one of ours and the German one of GNU's, and so says the log
 built() {
   local name=$1 fr=$2 de=$3
   if [ ! -f "$fr" ] || [ ! -f "$de" ]; then
     failed "$name" "no MO files; the build said '$(tail -c 400 log)'"
-  elif [ "$(head -c 24 "$fr" | tail -c 4 | hex)" != 00000000 ] || [ "$(head -c 24 "$de" | tail -c 4 | hex)" = 00000000 ]; then
-    # (GNU msgfmt's file has a hash table, ours none: word 5 is its size)
+  elif [ "$(hash_size "$fr")" != 00000000 ] || [ "$(hash_size "$de")" = 00000000 ]; then
     failed "$name" 'one of the two is of the other program'
   elif ! grep -q '^ours.0.-.*fr\.g\?po$' "$MSGFMT_OR_GNU_LOG" ||
     ! grep -q '^GNU.0.not UTF-8.*de\.g\?po$' "$MSGFMT_OR_GNU_LOG"; then
@@ -228,7 +232,8 @@ begin() {
 
 if has_cmake; then
   begin cmake
-  cmake -S . -B build -DLANGUAGES='fr;de' -DGETTEXT_MSGFMT_EXECUTABLE="$driver" > log 2>&1 && cmake --build build >> log 2>&1
+  cmake -S . -B build -DLANGUAGES='fr;de' -DGETTEXT_MSGFMT_EXECUTABLE="$driver" > log 2>&1 &&
+    cmake --build build >> log 2>&1
   built 'driver, CMake' build/fr.gmo build/de.gmo
 else
   skipped 'driver, CMake' 'it is not here, and could not be installed'

@@ -1,7 +1,7 @@
 #!/usr/bin/env bash
 # Compiles the PO files of real packages by bin/msgfmt and by GNU msgfmt, with -c and without, and sorts each difference
-# by its reason; a difference without a known reason (tests/packages/reasons) is a failure. Then the po/ folders of two of
-# the packages are built through tools/msgfmt-or-gnu, to the end.
+# by its reason; a difference without a known reason (tests/packages/reasons) is a failure. Then the po/ folders of two
+# of the packages are built through tools/msgfmt-or-gnu, to the end.
 #
 #   tests/packages.sh           the packages of tests/packages/list, which apt-get fetches once into build/packages
 #   tests/packages.sh FOLDER    the PO files below FOLDER, and no builds
@@ -54,7 +54,9 @@ if [ ${#lacking[@]} != 0 ]; then
   done
 fi
 for it in "${packages[@]}"; do
-  [ -z "$(archive "$it")" ] || { mkdir -p "$room/po/$it" && tar xf "$(archive "$it")" -C "$room/po/$it" --wildcards '*.po'; }
+  if [ -n "$(archive "$it")" ]; then
+    mkdir -p "$room/po/$it" && tar xf "$(archive "$it")" -C "$room/po/$it" --wildcards '*.po'
+  fi
 done
 if [ -d "$room/po" ]; then compares "$room/po"; else skipped packages 'no package is here'; fi
 
@@ -76,7 +78,8 @@ whole() {
   local ours gnu
   ours=$(grep -c '^ours.0.*\.po$' "$MSGFMT_OR_GNU_LOG")
   gnu=$(grep -c '^GNU.0.*\.po$' "$MSGFMT_OR_GNU_LOG")
-  if [ "$2" = "$3" ] && [ $((ours + gnu)) = "$3" ] && [ "$3" != 0 ] && ! cut -f 2 "$MSGFMT_OR_GNU_LOG" | grep -qv '^0$'; then
+  if [ "$2" = "$3" ] && [ $((ours + gnu)) = "$3" ] && [ "$3" != 0 ] &&
+    ! cut -f 2 "$MSGFMT_OR_GNU_LOG" | grep -qv '^0$'; then
     ok "$1: all $3 catalogues, $ours ours and $gnu GNU's"
   else
     failed "$1" "$2 of $3 catalogues, $ours ours and $gnu GNU's; the build said '$(tail -c 400 log)'"

@@ -3,9 +3,9 @@
 
     compare.py OURS GNU FOLDER REASONS SUMMARY
 
-OURS and GNU are the paths of the two programs. REASONS is the table of known reasons; the head of tests/packages/reasons
-says what its columns are. Prints a line `ok` or `FAILED` for each level, one `FAILED` for each difference that has no
-known reason, and writes SUMMARY, a table of Markdown.
+OURS and GNU are the paths of the two programs. REASONS is the table of known reasons; the head of
+tests/packages/reasons says what its columns are. Prints a line `ok` or `FAILED` for each level, one `FAILED` for each
+difference that has no known reason, and writes SUMMARY, a table of Markdown.
 """
 import os
 import re
@@ -19,6 +19,8 @@ DATE = re.compile(rb'^"POT-Creation-Date:(?:[^"\\]|\\[^n])*\\n"\n', re.M)
 REFUSAL = re.compile(r":\d+: (?!warning: )(.*)\Z", re.S)
 NUMBER = re.compile(r"(?<=fails at )\d+")
 REVISION = slice(4, 8)  # where an MO file has it
+COUNT = slice(8, 12)  # and the number of its entries
+REFUSES = "refuses: "
 LEVELS = ("", "-c")
 NAMED = 20  # unknown differences that are printed
 SAME = "the same bytes"
@@ -42,10 +44,10 @@ def our_answer(program, level, text):
 
 
 def gnu_answer(program, level, text):
-    """`compiles` and the MO file, `writes nothing` or `refuses`."""
-    status, made, _ = run(program, level, text)
+    """`compiles` and the MO file, `writes nothing`, or `refuses: ` with what it says."""
+    status, made, said = run(program, level, text)
     if status != 0:
-        return "refuses", b""
+        return REFUSES + said, b""
     return ("compiles" if made else "writes nothing"), made
 
 
@@ -62,8 +64,8 @@ def compare(ours, gnu, level, text):
             answer = "other bytes"
     elif answer == other == "compiles":
         return None
-    elif other == "refuses" and answer != "compiles":
-        answer = "refuses"
+    elif answer == "compiles" and made[COUNT] == bytes(4):
+        answer = "empty"
     return answer, other
 
 
@@ -81,12 +83,20 @@ def reason_of(answers, text, rows):
     """How the summary names a file's answers; None where no reason is known."""
     if answers is None:
         return SAME
-    if answers == ("refuses", "refuses"):
+    answer, other = answers
+    if other.startswith(REFUSES) and answer not in ("compiles", "empty"):
         return BOTH_REFUSE
     for ours, gnu, pattern, reason in rows:
-        if answers == (ours, gnu) and pattern.search(text):
+        if answer == ours and is_said(gnu, other) and pattern.search(text):
             return reason
     return None
+
+
+def is_said(gnu, other):
+    """An answer of GNU msgfmt is the one of a row."""
+    if gnu.startswith(REFUSES):
+        return other.startswith(REFUSES) and re.search(gnu[len(REFUSES) :], other[len(REFUSES) :]) is not None
+    return gnu == other
 
 
 def look_at(ours, gnu, path, rows):
@@ -105,7 +115,7 @@ def judge(level, column, folder, looked):
     counts = Counter(found[column][1] or "unknown" for _, found in looked)
     unknown = [(path, found[column][0]) for path, found in looked if found[column][1] is None]
     for path, (answer, other) in unknown[:NAMED]:
-        print(f"FAILED {name}, {path.relative_to(folder)}: ours: {answer}; GNU's: {other}")
+        print(f"FAILED {name}, {path.relative_to(folder)}: ours: {answer}; GNU's: {other[:200]!r}")
     if len(unknown) > NAMED:
         print(f"FAILED {name}: {len(unknown) - NAMED} more without a known reason")
     if not unknown:
@@ -117,8 +127,8 @@ def table(folder, looked, counts):
     """The summary, as a table of Markdown."""
     reasons = sorted(set().union(*counts), key=lambda it: (it != SAME, -counts[0][it], it))
     packages = {path.relative_to(folder).parts[0] for path, _ in looked}
-    lines = [f"{len(looked)} PO files of {len(packages)} packages.", "", "| Beside GNU msgfmt | without `-c` | with `-c` |"]
-    lines += ["| --- | --- | --- |"]
+    lines = [f"{len(looked)} PO files of {len(packages)} packages.", ""]
+    lines += ["| Beside GNU msgfmt | without `-c` | with `-c` |", "| --- | --- | --- |"]
     lines += [f"| {it} | {' | '.join(str(count[it]) for count in counts)} |" for it in reasons]
     return "\n".join(lines) + "\n"
 
