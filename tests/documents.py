@@ -240,6 +240,18 @@ def plain(name):
     return page(name) if name.endswith(".1") else " ".join(read(name).split())
 
 
+def places():
+    """each link, and each path in backquotes, leads to something"""
+    wrong = []
+    for path in sorted([*TOP.glob("*.md"), *TOP.glob("docs/*.md")]):
+        text = path.read_text(encoding="utf-8")
+        links = [path.parent / it.split("#")[0] for it in re.findall(r"\]\(([^):]+)\)", text) if not it.startswith("#")]
+        named = [TOP / it for it in re.findall(r"`((?:crates|tests|tools|examples|bench|docs)/[\w./-]+)`", text)]
+        missing = [it.relative_to(TOP) for it in links + named if not it.exists()]
+        wrong += [f"{path.name}: {it}" for it in missing if not {"NAME", "out"} & set(it.parts)]
+    return wrong
+
+
 RULES = (
     kinds_of_texts,
     kinds_of_files,
@@ -251,6 +263,7 @@ RULES = (
     options,
     words_of_scripts,
     limits,
+    places,
 )
 
 

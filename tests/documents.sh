@@ -7,7 +7,11 @@ python3 -B tests/documents.py . "$program"
 
 top=$room/repo
 mkdir -p "$top"
-tar cf - README.md docs tools crates/*/src | tar xf - -C "$top"
+tar cf - --exclude out ./*.md docs tools tests examples bench crates | tar xf - -C "$top"
+if python3 -B tests/documents.py "$top" | grep -q '^FAILED'; then
+  failed 'documents, changes' 'a copy of the repository is not as the rules say'
+  exit 0
+fi
 
 # changes FILE FROM TO: this change in that file alone, of the first FROM there, is found
 changes() {
@@ -61,4 +65,5 @@ docs/man/msgfmt-or-gnu.1^not UTF\-8^not in UTF\-8
 tools/completion^--use-fuzzy^--fuzzy
 tools/msgfmt-or-gnu^': unsupported charset'^': charset'
 README.md^`unsupported charset`^`charset`
+README.md^(docs/LIVE.md)^(docs/ALIVE.md)
 END
