@@ -1,6 +1,7 @@
 #!/usr/bin/env bash
 # Checks that docs/CALLERS.md quotes what stands in the sources: each code block, and each clause of its tables; and so
 # each clause by which docs/PROVED.md says that a phrase of the promise is proved.
+no_program=1
 . "$(dirname "$0")/common"
 
 python3 - <<'END'
