@@ -1,6 +1,7 @@
 #!/usr/bin/env bash
 # Checks that docs/CALLERS.md quotes what stands in the sources: each code block, and each clause of its tables; and so
-# each clause by which docs/PROVED.md says that a phrase of the promise is proved.
+# each clause by which docs/PROVED.md says that a phrase of the promise is proved, and the program of docs/LIVE.md that
+# stands in a crate.
 no_program=1
 . "$(dirname "$0")/common"
 
@@ -31,6 +32,10 @@ for name, clause in promise:
         missing.append(f"{name}: {clause}")
 if not promise:
     missing.append("the clauses of docs/PROVED.md")
+live = pathlib.Path("docs/LIVE.md").read_text()
+for path, block in re.findall(r"`(crates/[\w/.]+\.rt)`, a proved program:\n\n```rust\n(.*?)```", live, re.S):
+    if block not in pathlib.Path(path).read_text():
+        missing.append(f"{path}: {block.splitlines()[0]}")
 for what in missing:
     print(f"FAILED callers: not in the sources: {what}")
 if not missing:
