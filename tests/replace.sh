@@ -126,6 +126,28 @@ if [ -n "$can_trouble" ]; then
     judge "$name" 1 'msgfmt: cannot write out.mo' && there "$name" out.mo && is "$name" "$(cat out.mo)" old && ok "$name"
   done
 
+  # (what only a close tells on a network's disk is told by fsync before: close(2))
+  in_folder
+  echo old > out.mo
+  under=(env TROUBLE=fsync NETWORK=1 FILE_HAS=.msgfmt- "LD_PRELOAD=$room/trouble.so")
+  to_file -o out.mo "$room/in.po"
+  name="where a network's disk has no room for what was written, the old file stays, and no other is left"
+  judge "$name" 1 'msgfmt: cannot write out.mo' && there "$name" out.mo && is "$name" "$(cat out.mo)" old && ok "$name"
+  ln out.mo other.mo
+  chmod 555 .
+  [ -z "$can_switch" ] || chown $user out.mo
+  under=(env TROUBLE=fsync NETWORK=1 FILE_HAS=out.mo "LD_PRELOAD=$room/trouble.so")
+  [ -z "$can_switch" ] || under=(setpriv --reuid=$user --regid=$user --clear-groups "${under[@]}")
+  to_file -o out.mo "$room/in.po"
+  name="where a network's disk has no room for a file that is written straight, that is said"
+  judge "$name" 1 'msgfmt: cannot write out.mo' && there "$name" other.mo out.mo && ok "$name"
+  chmod 755 .
+  in_folder
+  under=(env TROUBLE=fsync FILE_HAS=.msgfmt- "LD_PRELOAD=$room/trouble.so")
+  to_file -o out.mo "$room/in.po"
+  name='a file on a disk of this machine is not waited for'
+  whole "$name" out.mo && there "$name" out.mo && ok "$name"
+
   in_folder
   under=(env TROUBLE=flock FILE_HAS=.msgfmt- "LD_PRELOAD=$room/trouble.so")
   to_file -o out.mo "$room/in.po"

@@ -2,6 +2,7 @@
 # Compiles large PO texts of unusual shapes (tests/make_shape.py): millions of empty strings, of escapes, of plural
 # forms, keys in falling order and others. Each must give its MO file within 20 seconds, so that no work grows with
 # the square of the text.
+# 64 MiB of the shortest entries there are must be refused as what they are, duplicates, within 600 MiB of memory.
 # A script of bin/catserve (CATSERVE=PATH: another program) loads catalogues for 100,000 pairs of a domain and a
 # locale in falling order and asks for the message of each: that must take no more than 5 seconds of processor time.
 catserve=${CATSERVE:+$(realpath "$CATSERVE")}
@@ -26,6 +27,25 @@ for shape in $(python3 tests/make_shape.py); do
     failed "$name" "another MO file: $why"
   fi
 done
+
+name='64 MiB of the shortest entries take 600 MiB at most'
+awk 'BEGIN { for (i = 0; i < 4473924; i++) printf "msgid\"\"msgstr\"\"" }' > "$room/in"
+peak=$(python3 - "$program" "$room/in" "$room/err" << 'END'
+import resource, subprocess, sys
+program, text, errors = sys.argv[1:]
+with open(text) as given, open(errors, "w") as said:
+    status = subprocess.run([program, "-o", "/dev/null", "-"], stdin=given, stderr=said, timeout=60).returncode
+print(status, resource.getrusage(resource.RUSAGE_CHILDREN).ru_maxrss // 1024)
+END
+)
+read -r status mebibytes <<< "$peak"
+if [ "$status" != 1 ] || [ "$(cat "$room/err")" != '-:1: duplicate message' ]; then
+  failed "$name" "status $status; it said '$(head -c 300 "$room/err")'"
+elif [ "$mebibytes" -gt 600 ]; then
+  failed "$name" "it took $mebibytes MiB"
+else
+  ok "$name"
+fi
 
 catserve=${catserve:-$PWD/bin/catserve}
 name='loads for 100,000 pairs in falling order'

@@ -4,9 +4,11 @@
      TROUBLE=close FILE_HAS=.msgfmt- LD_PRELOAD=$PWD/trouble.so PROGRAM WORD..
      TROUBLE=rename SIGNAL=9 FILE_HAS=.msgfmt- LD_PRELOAD=$PWD/trouble.so PROGRAM WORD..
 
-   TROUBLE names the call: flock, write, fchown, fchmod, close or rename (then of the old name). It is troubled where
-   the file's path has FILE_HAS in it and the file is open for writing: the program gets the signal SIGNAL in front of
-   the call, or, where there is none, the call fails and says that the quota is full. (A file is closed all the same.) */
+   TROUBLE names the call: flock, write, fchown, fchmod, fsync, close or rename (then of the old name). It is troubled
+   where the file's path has FILE_HAS in it and the file is open for writing: the program gets the signal SIGNAL in front
+   of the call, or, where there is none, the call fails and says that the quota is full. (A file is closed all the same.)
+
+   Where NETWORK is set, each file says that it stands on a file system without a device, as a network's does. */
 #define _GNU_SOURCE
 #include <dlfcn.h>
 #include <errno.h>
@@ -16,6 +18,7 @@
 #include <stdio.h>
 #include <stdlib.h>
 #include <string.h>
+#include <sys/stat.h>
 #include <sys/types.h>
 #include <unistd.h>
 
@@ -59,6 +62,17 @@ int fchown(int fd, uid_t owner, gid_t group) {
 
 int fchmod(int fd, mode_t mode) {
   return is_troubled_at("fchmod", fd) ? -1 : NEXT("fchmod", int, mode_t)(fd, mode);
+}
+
+int fsync(int fd) { return is_troubled_at("fsync", fd) ? -1 : NEXT("fsync", int)(fd); }
+
+int statx(int folder, const char *path, int flags, unsigned mask, struct statx *found) {
+  int status = NEXT("statx", int, const char *, int, unsigned, struct statx *)(folder, path, flags, mask, found);
+  if (status == 0 && getenv("NETWORK") != NULL) {
+    found->stx_dev_major = 0;
+    found->stx_dev_minor = 4000;
+  }
+  return status;
 }
 
 int close(int fd) {

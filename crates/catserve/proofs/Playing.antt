@@ -25,6 +25,10 @@ pub map_ok : {T E A B : Type 0} (r : Result T E) → OnOk r A → (A → B) → 
 map_ok (Ok x) a f = f a
 map_ok (Err x) a f = tt
 
+pub map_if_ok : {T E A B : Type 0} (r : Result T E) → IfOk r (λ _. A) → (A → B) → IfOk r (λ _. B)
+map_if_ok (Ok x) a f = f a
+map_if_ok (Err x) a f = tt
+
 -- the load is accepted, with the map that its source brings
 pub accepts_one : (load : JobValue) (answer : job.Accepted) (s s' : StoreValue) (before after : List ℕ)
     → (is : IsAccepted s load answer s') → after ≡ before

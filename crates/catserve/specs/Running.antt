@@ -25,9 +25,13 @@ kind_of fault.Ahead = Closed
 kind_of fault.Join = Join
 kind_of fault.Closed = Closed
 
+-- the desks' readers are those of a store
+abbrev pub HaveBook : SeenValue → List Desk → Type 0
+HaveBook seen desks = All (λ (reader : SeenValue). reader.book ≡ seen.book) (readers_of desks)
+
 -- the desks of a store's readers, which are asked nothing
 pub record AreReady (seen : SeenValue) (desks : List Desk) : Type 0 where
-  pub book : All (λ (reader : SeenValue). reader.book ≡ seen.book) (readers_of desks)
+  pub book : HaveBook seen desks
   pub free : AreAsked 0 [] desks
 
 -- a store has room for so many loads more
@@ -61,6 +65,13 @@ pub record PlaysOne (workers : ℕ) (round : RoundValue) (was now : StoreValue) 
   pub none_pending : now.pending ≡ []
   pub most : now.most ≡ was.most
   pub written : after ≡ before ++ output
+
+-- the round is finished whose loads were made behind a store and whose questions the desks have
+abbrev pub Finishes : (workers : ℕ) (loaded : StoreValue) (asked : List Desk) (loads_are : List ℕ) (now : StoreValue)
+    (after : List ℕ) → Type 0
+Finishes workers loaded asked loads_are now after = (round : RoundValue) (was : StoreValue) (before : List ℕ)
+    → was.pending ≡ [] → HasLoaded round.loads was loaded before loads_are → AreAsked 0 round.questions asked
+    → PlaysOne workers round was now before after
 
 -- these rounds were played behind a store's loads: what comes behind them in a script goes on from here
 pub record HasPlayed (workers : ℕ) (rounds : List RoundValue) (was now : StoreValue) (output : List ℕ) : Type 0 where

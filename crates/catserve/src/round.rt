@@ -2,7 +2,8 @@
 ghost use Rattle.std.specs.Prelude.{◌≡◌, ◌+◌, ◌≤◌, [], IfOk, IfErr, OnOk, OnErr, length, vec_len};
 ghost use Rattle.live_versions.specs.Store.{HasRoom};
 ghost use Rattle.desks.specs.Jobs.{IsAccepted, IsRefused};
-ghost use Rattle.catserve.specs.Running.{AreReady, HasRoomFor, IsPlayFault, LoadsOne, LoadsAll, PlaysOne};
+ghost use Rattle.catserve.specs.Running.{AreReady, HaveBook, HasRoomFor, IsPlayFault, LoadsOne, LoadsAll};
+ghost use Rattle.catserve.specs.Running.{Finishes, PlaysOne};
 
 use crate::asking::{give_all, write_all};
 use crate::fault::ScriptKind;
@@ -49,7 +50,7 @@ fn add_load(
 }
 
 /// Makes a load, and writes its line.
-fn make_load(
+pub(crate) fn make_load(
     alloc: Global,
     publisher: &mut Publisher,
     load: &ScriptLoad<'_>,
@@ -91,6 +92,31 @@ fn make_loads(
     Ok(())
 }
 
+/// Publishes the loads that a round has made, and answers what its workers are asked; writes the lines of both.
+pub(crate) fn finish<R: Threads + Wait + Sync>(
+    rt: &R,
+    alloc: Global,
+    publisher: &mut Publisher,
+    desks: &mut Vec<Desk>,
+    output: &mut Vec<u8>,
+) -> Result<(), ScriptKind>
+    requires book { HaveBook publisher.old.seen desks.old.items }
+    requires count { (1 ≤ vec_len desks.old) × (vec_len desks.old ≤ 16) }
+    ensures ok { IfOk result (λ _. Finishes (length desks.old.items) publisher.old desks.old.items output.old.items
+        publisher.new output.new.items) }
+    ensures ready { OnOk result (AreReady publisher.new.seen desks.new.items) }
+    ensures count { OnOk result (vec_len desks.new ≡ vec_len desks.old) }
+    ensures fault { IsPlayFault result }
+{
+    let Ok(version) = publisher.publish(rt) else {
+        return Err(ScriptKind::Memory);
+    };
+    write_version(alloc, output, version)?;
+    serve(rt, alloc, publisher, desks, Vec::new(alloc), &OpenGate)?;
+    write_all(alloc, 0, desks.as_mut_slice(), output)?;
+    Ok(())
+}
+
 /// Runs a round, and writes its lines behind the output so far.
 pub(crate) fn play<R: Threads + Wait + Sync>(
     rt: &R,
@@ -112,12 +138,6 @@ pub(crate) fn play<R: Threads + Wait + Sync>(
 {
     let Round { loads, questions } = round;
     make_loads(alloc, publisher, loads.as_slice(), output)?;
-    let Ok(version) = publisher.publish(rt) else {
-        return Err(ScriptKind::Memory);
-    };
-    write_version(alloc, output, version)?;
     give_all(desks.as_mut_slice(), questions)?;
-    serve(rt, alloc, publisher, desks, Vec::new(alloc), &OpenGate)?;
-    write_all(alloc, 0, desks.as_mut_slice(), output)?;
-    Ok(())
+    finish(rt, alloc, publisher, desks, output)
 }

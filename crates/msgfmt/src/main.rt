@@ -5,6 +5,7 @@
 mod beside;
 mod disk;
 mod replace;
+mod settle;
 mod stream;
 
 use crate::disk::Disk;

@@ -4,6 +4,7 @@
 //! file or the whole new one, and a failure leaves the old one as it was. Others are written straight.
 
 use crate::beside::Beside;
+use crate::settle::settle;
 use crate::stream::{Stream, is_descriptor, stream_named};
 use std::alloc::Global;
 use std::fs::{File, Metadata, OpenFile, OpenOptions};
@@ -38,7 +39,7 @@ pub(crate) fn write_file(
     }
     if is_descriptor(path) {
         there.set_len(0)?;
-        return write_straight(there, bytes);
+        return write_settled(rt, alloc, there, bytes);
     }
     match replace_target(rt, alloc, path, bytes, &old) {
         Ok(()) => Ok(()),
@@ -47,7 +48,7 @@ pub(crate) fn write_file(
                 return Err(error);
             }
             there.set_len(0)?;
-            write_straight(there, bytes)
+            write_settled(rt, alloc, there, bytes)
         }
     }
 }
@@ -71,25 +72,41 @@ fn replace_target(
 /// Writes where no file is. A symbolic link to nothing is written through.
 fn write_new(rt: &HostRuntime, alloc: Global, path: &str, bytes: &[u8]) -> io::Result<()> {
     if fs::symlink_metadata(rt, path).is_ok() {
-        return write_straight(File::create(rt, path)?, bytes);
+        return write_settled(rt, alloc, File::create(rt, path)?, bytes);
     }
     match replace(rt, alloc, path, bytes, None) {
-        Err(error) if is_refused(&error) => write_straight(File::create(rt, path)?, bytes),
+        Err(error) if is_refused(&error) => write_settled(
+            rt,
+            alloc,
+            File::create(rt, path)?,
+            bytes,
+        ),
         replaced => replaced,
     }
 }
 
-/// Writes to a file that is read by its own name.
+/// Writes to a device or a pipe.
 fn write_straight(mut file: File, bytes: &[u8]) -> io::Result<()> {
     write_whole(&mut file, bytes)
 }
 
-/// Writes all the bytes. Its failure is never want of memory, after which nothing is written.
-fn write_whole<W: Write>(writer: &mut W, bytes: &[u8]) -> io::Result<()> {
-    match write_through(writer, bytes) {
+/// Writes to a file that is read by its own name.
+fn write_settled(rt: &HostRuntime, alloc: Global, mut file: File, bytes: &[u8]) -> io::Result<()> {
+    write_whole(&mut file, bytes)?;
+    begun(settle(rt, alloc, &file))
+}
+
+/// What came of a write that was begun. Its failure is never want of memory, after which nothing is written.
+fn begun(written: io::Result<()>) -> io::Result<()> {
+    match written {
         Ok(()) => Ok(()),
         Err(_) => Err(io::Error::from(ErrorKind::Other)),
     }
+}
+
+/// Writes all the bytes.
+fn write_whole<W: Write>(writer: &mut W, bytes: &[u8]) -> io::Result<()> {
+    begun(write_through(writer, bytes))
 }
 
 /// Writes all the bytes and hands on what a buffer holds back.
@@ -148,7 +165,7 @@ fn fill(
     if let Some(old) = old {
         file.set_permissions(old.permissions())?;
     }
-    Ok(())
+    settle(rt, alloc, file)
 }
 
 /// Gives a file the owner and the group of the old one. A system that doesn't let us refuses, whatever it answers.

@@ -1,0 +1,63 @@
+//! Errors that a file system may keep until a file is closed.
+//!
+//! A network's file system tells some errors of writes, as that of a full quota, only when the file is closed, and `File`
+//! can't hand on what the close says. `sync_all` is told them in time. It costs milliseconds on a disk, where errors are
+//! told by the writes themselves, so only files without a disk of this machine are settled.
+
+use std::alloc::Global;
+use std::fs::File;
+use std::io::ErrorKind;
+use std::os::unix::fs::MetadataExt;
+use std::{fs, io};
+
+/// The mounts of this process, a line for each: the third word is the device's number, and behind a word `-` stands the
+/// kind of the file system (proc(5)).
+const MOUNTS: &str = "/proc/self/mountinfo";
+
+/// Kinds of file systems that have no device of their own, but whose writes tell all errors.
+const TELLING: [&str; 5] = ["btrfs", "overlay", "ramfs", "tmpfs", "zfs"];
+
+/// Has an error of the writes to a file told that else only its close would tell.
+pub(crate) fn settle(rt: &HostRuntime, alloc: Global, file: &File) -> io::Result<()> {
+    let device = file.metadata()?.dev();
+    if major(device) != 0 || is_telling(rt, alloc, device)? {
+        return Ok(());
+    }
+    match file.sync_all() {
+        // (what can't be settled has kept nothing back)
+        Err(error) if error.kind() == ErrorKind::InvalidInput => Ok(()),
+        settled => settled,
+    }
+}
+
+/// Whether a device's file system is of a kind that tells all errors at the write.
+fn is_telling(rt: &HostRuntime, alloc: Global, device: u64) -> io::Result<bool> {
+    let Ok(mounts) = fs::read_to_string(rt, MOUNTS) else {
+        return Ok(false);
+    };
+    let (major, minor) = (major(device), minor(device));
+    let number = format!(in alloc; "{major}:{minor}")?;
+    Ok(mounts.lines().any(|line| is_mounted(line, number.as_str())))
+}
+
+/// Whether a line of the mounts has a device, and a kind that tells all errors at the write.
+fn is_mounted(line: &str, number: &str) -> bool {
+    let mut words = line.split(' ');
+    if words.nth(2) != Some(number) {
+        return false;
+    }
+    match words.skip_while(|word| *word != "-").nth(1) {
+        Some(kind) => TELLING.contains(&kind),
+        None => false,
+    }
+}
+
+/// The major number of a device; it is 0 for all that are no device of this machine.
+fn major(device: u64) -> u64 {
+    device >> 8 & 0xfff | device >> 32 & 0xffff_f000
+}
+
+/// The minor number of a device.
+fn minor(device: u64) -> u64 {
+    device & 0xff | device >> 12 & 0xffff_ff00
+}
