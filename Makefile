@@ -3,7 +3,9 @@
 #   make            builds the programs into bin/ and compiles the PO files of examples/ with them
 #   make check      every check: the proofs and tests of the gate (rt ci), then the scripts of tests/
 #   make bench      times bin/msgfmt beside GNU msgfmt; N=7 says how many rounds
-#   make install    installs the programs and their man pages under PREFIX (/usr/local), below DESTDIR where it is given
+#   make install    installs the programs, their man pages and completions under PREFIX (/usr/local), below DESTDIR
+#                   where it is given. PROGRAM_PREFIX=kob- names them kob-msgfmt and so on, beside GNU's
+#   make uninstall  removes what `make install` with the same variables has put there
 #   make clean      removes what was built, and what the prover kept (crates/*/out)
 #
 # Beside the Rattle toolchain (the command rt) it needs make, bash and Python 3. The checks and the bench also
@@ -11,13 +13,23 @@
 
 PREFIX = /usr/local
 DESTDIR =
+PROGRAM_PREFIX =
+STRIP = strip
 N = 7
 RT = rt
 export RT
 
 EXAMPLES = fr pl
+PROGRAMS = msgfmt catserve
+SCRIPTS = msgfmt-or-gnu
+PAGES = $(PROGRAMS) $(SCRIPTS)
 
-.PHONY: all programs examples check bench install clean
+bindir = $(DESTDIR)$(PREFIX)/bin
+mandir = $(DESTDIR)$(PREFIX)/share/man/man1
+docdir = $(DESTDIR)$(PREFIX)/share/doc/kobdzila
+completiondir = $(DESTDIR)$(PREFIX)/share/bash-completion/completions
+
+.PHONY: all programs examples check bench install uninstall clean
 
 all: examples
 
@@ -31,7 +43,7 @@ examples: programs
 	  echo "build/examples/$$name.mo: $$(wc -c < build/examples/$$name.mo) bytes, compiled from examples/$$name.po"; \
 	done
 
-bin/msgfmt bin/catserve:
+$(PROGRAMS:%=bin/%):
 	@tools/build
 
 check:
@@ -41,13 +53,32 @@ bench: programs
 	@bench/run --rounds $(N)
 	@bench/scripts/run $(N)
 
-install: bin/msgfmt bin/catserve
-	install -d "$(DESTDIR)$(PREFIX)/bin"
-	install -m 755 bin/msgfmt "$(DESTDIR)$(PREFIX)/bin/msgfmt"
-	install -m 755 bin/catserve "$(DESTDIR)$(PREFIX)/bin/catserve"
-	install -d "$(DESTDIR)$(PREFIX)/share/man/man1"
-	install -m 644 docs/man/msgfmt.1 "$(DESTDIR)$(PREFIX)/share/man/man1/msgfmt.1"
-	install -m 644 docs/man/catserve.1 "$(DESTDIR)$(PREFIX)/share/man/man1/catserve.1"
+# (the pages and the completions name the programs and the documents as they are installed; without a program `strip`
+# the programs keep their symbols)
+capitals = $$(printf %s '$(PROGRAM_PREFIX)' | tr '[:lower:]' '[:upper:]')
+in_place = sed -e 's|/usr/local|$(PREFIX)|g' -e "/^\.TH /s|TH |TH $(capitals)|"
+completions = sed 's|@PREFIX@|$(PROGRAM_PREFIX)|g' tools/completion
+
+install: $(PROGRAMS:%=bin/%)
+	install -d "$(bindir)" "$(mandir)" "$(docdir)" "$(completiondir)"
+	for name in $(PROGRAMS); do \
+	  install -m 755 bin/$$name "$(bindir)/$(PROGRAM_PREFIX)$$name" || exit 1; \
+	  ! command -v $(STRIP) > /dev/null || $(STRIP) "$(bindir)/$(PROGRAM_PREFIX)$$name" || exit 1; \
+	done
+	for name in $(SCRIPTS); do install -m 755 tools/$$name "$(bindir)/$(PROGRAM_PREFIX)$$name" || exit 1; done
+	for name in $(PAGES); do \
+	  $(in_place) docs/man/$$name.1 > "$(mandir)/$(PROGRAM_PREFIX)$$name.1" || exit 1; \
+	  chmod 644 "$(mandir)/$(PROGRAM_PREFIX)$$name.1" || exit 1; \
+	done
+	install -m 644 docs/FORMATS.md "$(docdir)/FORMATS.md"
+	$(completions) > "$(completiondir)/$(PROGRAM_PREFIX)msgfmt"
+	chmod 644 "$(completiondir)/$(PROGRAM_PREFIX)msgfmt"
+
+uninstall:
+	for name in $(PROGRAMS) $(SCRIPTS); do rm -f "$(bindir)/$(PROGRAM_PREFIX)$$name"; done
+	for name in $(PAGES); do rm -f "$(mandir)/$(PROGRAM_PREFIX)$$name.1"; done
+	rm -f "$(docdir)/FORMATS.md" "$(completiondir)/$(PROGRAM_PREFIX)msgfmt"
+	-rmdir "$(docdir)" 2> /dev/null
 
 clean:
 	rm -rf bin build crates/*/out

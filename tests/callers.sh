@@ -1,5 +1,8 @@
 #!/usr/bin/env bash
-# Checks that docs/CALLERS.md quotes what stands in the sources: each code block, and each clause of its tables.
+# Checks that docs/CALLERS.md quotes what stands in the sources: each code block, and each clause of its tables; and so
+# each clause by which docs/PROVED.md says that a phrase of the promise is proved, and the program of docs/LIVE.md that
+# stands in a crate.
+no_program=1
 . "$(dirname "$0")/common"
 
 python3 - <<'END'
@@ -21,6 +24,18 @@ missing = [block.split("\n")[0] for block in re.findall(r"```rust\n(.*?)```", pa
 for name, clause in re.findall(r"^\| `(\w+)` \| `([^`]*)`", page, re.M):
     if not any(clause in head for text in sources.values() for head in contract(name, text)):
         missing.append(f"{name}: {clause}")
+proved = pathlib.Path("docs/PROVED.md").read_text()
+promise = re.findall(r"^\| [^|]* \| `(\w+)` \| `([^`]*)`", proved, re.M)
+sources = [path.read_text() for path in pathlib.Path("crates").glob("*/src/*.rt")]
+for name, clause in promise:
+    if not any(clause in head for text in sources for head in contract(name, text)):
+        missing.append(f"{name}: {clause}")
+if not promise:
+    missing.append("the clauses of docs/PROVED.md")
+live = pathlib.Path("docs/LIVE.md").read_text()
+for path, block in re.findall(r"`(crates/[\w/.]+\.rt)`, a proved program:\n\n```rust\n(.*?)```", live, re.S):
+    if block not in pathlib.Path(path).read_text():
+        missing.append(f"{path}: {block.splitlines()[0]}")
 for what in missing:
     print(f"FAILED callers: not in the sources: {what}")
 if not missing:

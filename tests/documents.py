@@ -1,0 +1,283 @@
+#!/usr/bin/env python3
+"""Compares what the documents, the man pages, the completions and the help say of kinds, numbers, texts, options and
+limits with the code. Prints a line `ok documents: NAME` or `FAILED documents: NAME: WHY` for each rule.
+
+    tests/documents.py [FOLDER [MSGFMT]]
+
+FOLDER is the top of the repository. MSGFMT is the built program, whose help is then looked at, too.
+"""
+import re
+import subprocess
+import sys
+from pathlib import Path
+
+TOP = Path(sys.argv[1] if len(sys.argv) > 1 else ".")
+PROGRAM = sys.argv[2] if len(sys.argv) > 2 else None
+FORMATS = "docs/FORMATS.md"
+MSGFMT_PAGE = "docs/man/msgfmt.1"
+CATSERVE_PAGE = "docs/man/catserve.1"
+DRIVER_PAGE = "docs/man/msgfmt-or-gnu.1"
+DRIVER = "tools/msgfmt-or-gnu"
+COMPLETION = "tools/completion"
+LEAST_LIMIT = 10_000_000  # a number of the documents from here on is one of the limits
+
+
+def read(name):
+    return (TOP / name).read_text(encoding="utf-8")
+
+
+def page(name):
+    """A man page as plain words: without requests, fonts and line ends."""
+    text = re.sub(r'^\.[A-Z]+ ?', "", read(name), flags=re.M).replace("\\-", "-")
+    return " ".join(re.sub(r'\\f[A-Z]|"', "", text).split())
+
+
+def section(name, title):
+    """A part of a page of Markdown, from its heading to the next one."""
+    found = re.search(rf"^## {re.escape(title)}$(.*?)(?=^## |\Z)", read(name), re.M | re.S)
+    return found[1] if found else ""
+
+
+def variants(path, enum):
+    """The variants of an enum of faults: each name with its text."""
+    body = re.search(rf"pub enum {enum} \{{(.*?)^\}}", read(path), re.M | re.S)[1]
+    return re.findall(r'#\[error\("([^"]*)"\)\]\s*(\w+)', body)
+
+
+def kinds(path, enum):
+    """The same with their numbers, from 1, without want of memory: {number: (name, text)}."""
+    found = [(name, text) for text, name in variants(path, enum) if name != "Memory"]
+    return dict(enumerate(found, 1))
+
+
+def rows(text):
+    """The cells of each row of the tables in a text of Markdown."""
+    lines = [line for line in text.splitlines() if line.startswith("|")]
+    return [[cell.strip() for cell in line.strip("|").split(" | ")] for line in lines]
+
+
+def differences(what, found, wanted):
+    """Nothing where two sets or lists are the same, else why not."""
+    if found == wanted:
+        return []
+    if isinstance(found, (set, frozenset)):
+        return [f"{what}: too many {sorted(found - wanted)}, missing {sorted(wanted - found)}"]
+    return [f"{what}: {found}, and the code has {wanted}"]
+
+
+LOADS = ("crates/po_checks/src/fault.rt", "LoadKind")
+TEXTS = ("crates/po_text/src/fault.rt", "PoKind")
+FILES = ("crates/mo_file/src/fault.rt", "MoFault")
+SCRIPTS = ("crates/catserve/src/fault.rt", "ScriptKind")
+
+
+def numbered(text):
+    """The rows of a table of refusals: each number with its kind, in the order of the page, each once."""
+    found = [(int(row[0]), row[1].split("(")[0]) for row in rows(text) if row[0].strip().isdigit()]
+    return list(dict.fromkeys(found))
+
+
+def kinds_of_texts():
+    """the kinds of refusal of a PO text, with their numbers"""
+    wanted = [(number, name) for number, (name, _) in kinds(*LOADS).items()]
+    here = numbered(section(FORMATS, "PO texts")) + numbered(section(FORMATS, "What compile keeps and refuses"))
+    first = [(number, name) for number, (name, _) in kinds(*TEXTS).items()]
+    return differences(FORMATS, here, wanted) + differences(TEXTS[0], wanted[: len(first)], first)
+
+
+def kinds_of_files():
+    """the kinds of refusal of an MO file, with their numbers"""
+    wanted = [(number, name) for number, (name, _) in kinds(*FILES).items()]
+    return differences(FORMATS, numbered(section(FORMATS, "MO files")), wanted)
+
+
+def kinds_of_scripts():
+    """the kinds of fault of a script, with their numbers and texts"""
+    wanted = {number: text for number, (_, text) in kinds(*SCRIPTS).items()}
+    wanted[len(wanted) + 1] = dict((name, text) for text, name in variants(*SCRIPTS))["Memory"]
+    table = [row for row in rows(section(FORMATS, "Scripts of loads and look-ups")) if row[0].isdigit()]
+    found = {int(row[k]): row[k + 1] for row in table for k in range(0, len(row) - 1, 2) if row[k].isdigit()}
+    missing = [f"{number} {text}" for number, text in wanted.items() if not says(page(CATSERVE_PAGE), number, text)]
+    return differences(FORMATS, found, wanted) + ([f"{CATSERVE_PAGE} has not: {missing}"] if missing else [])
+
+
+def says(text, number, words):
+    """A page has this number with these words, in a list or a table."""
+    return re.search(rf"(?<![\w,]){number}[ ;:]\s*{re.escape(words)}", text) is not None
+
+
+def texts_of_kinds():
+    """the texts of the kinds of refusal"""
+    wanted = {name: re.sub(r"\{0\}", "N", text) for name, text in kinds(*LOADS).values()}
+    found = {}
+    for row in rows(section(FORMATS, "The command")):
+        for name, text in zip(row[::2], row[1::2]):
+            if text.startswith("`"):
+                found[name.split("(")[0]] = text.strip("`")
+    first = dict(kinds(*TEXTS).values())
+    return differences(FORMATS, found, wanted) + differences(TEXTS[0], first, {name: wanted[name] for name in first})
+
+
+def texts_of_the_driver():
+    """the texts by which the driver takes GNU msgfmt"""
+    known = {text for _, text in kinds(*LOADS).values()} | {"bad command line"}
+    case = re.search(r"^reason\(\) \{(.*?)^\}", read(DRIVER), re.M | re.S)[1]
+    taken = set(re.findall(r"echo '([^']*)'", case))
+    matched = set(re.findall(r"(?:: |msgfmt: )([^':]+)'\) echo", case))
+    named = {text for text in known if text in page(DRIVER_PAGE).split("ENVIRONMENT")[0]}
+    head = re.sub(r"^# ?", "", read(DRIVER).split("set -u")[0], flags=re.M)
+    heads = {text for text in known if text in " ".join(head.split())}
+    readme = {text for text in known if f"`{text}`" in " ".join(section("README.md", "Using msgfmt").split())}
+    return (
+        differences(f"{DRIVER}, its cases", matched, taken)
+        + [f"{DRIVER}: no text of msgfmt: {text}" for text in sorted(taken - known)]
+        + differences(DRIVER_PAGE, named, taken)
+        + differences(f"{DRIVER}, its head", heads, taken)
+        + differences("README.md", readme, taken)
+    )
+
+
+def lines_of_the_command():
+    """the lines of the error output"""
+    source = read("crates/msgfmt_tool/src/texts.rt") + read("crates/msgfmt_tool/src/steps.rt")
+    lines = {re.sub(r" \{\w+\}", "", text) for text in re.findall(r'"(msgfmt: [^"]*)"', source)}
+    here = " ".join(read(FORMATS).split())
+    found = {re.sub(r" (NAME|FILE|-)$", "", text) for text in re.findall(r"`(msgfmt: [^`]*)`", here)}
+    warning = re.search(r"(warning: header field '\{field\}' missing)", source)[1].replace("{field}", "FIELD")
+    lacking = [name for name, text in ((FORMATS, here), (MSGFMT_PAGE, page(MSGFMT_PAGE))) if warning not in text]
+    return differences(FORMATS, found, lines) + [f"{name} has not: {warning}" for name in lacking]
+
+
+def fields_of_a_header():
+    """the fields that a header is expected to have"""
+    names = re.search(r"FIELD_NAMES.*?=(.*?);", read("crates/po_header/src/fields.rt"), re.S)[1]
+    wanted = re.findall(r'"([\w-]+)"', names)
+    listed = re.search(r"expected to have are, in this order:(.*?)\.\n", read(FORMATS), re.S)[1]
+    return differences(FORMATS, re.findall(r"`([\w-]+)`", listed), wanted)
+
+
+def options_of_the_code():
+    """The options: their long names with their letters, and help's."""
+    source = read("crates/msgfmt_tool/src/words.rt")
+    found = {name: letter for name, letter in re.findall(r'letter_flag\(\s*alloc,\s*"([\w-]+)",\s*\'(\w)\'', source)}
+    found |= {name: "" for name in re.findall(r'(?<!letter_)flag\(\s*alloc,\s*"([\w-]+)"', source)}
+    found |= {name: letter for letter, name in re.findall(r"\.short\('(\w)'\)\s*\.long\(\"([\w-]+)\"\)", source)}
+    return {f"--{name}" for name in found} | {f"-{letter}" for letter in found.values() if letter} | {"--help", "-h"}
+
+
+def options_in(text):
+    return set(re.findall(r"(?<![\w-])(--?[a-z][\w-]*)", text))
+
+
+def options():
+    """the options of msgfmt: rules, man page, completions, help"""
+    wanted = options_of_the_code()
+    usage = re.search(r"((?:^    .*\n)+)", section(FORMATS, "The command"), re.M)[1]
+    manual = re.search(r"^\.SH OPTIONS\n(.*?)^\.PP\nOptions may", read(MSGFMT_PAGE), re.M | re.S)[1].replace("\\-", "-")
+    heads = " ".join(re.findall(r"^\.TP\n\.BR? (.*)$", manual, re.M))
+    completed = re.search(r"local options='([^']*)'", read(COMPLETION))[1]
+    found = [(FORMATS, usage), (MSGFMT_PAGE, heads), (COMPLETION, completed)]
+    if PROGRAM:
+        told = subprocess.run([PROGRAM, "--help"], capture_output=True, text=True, check=False).stdout
+        found.append(("the help", " ".join(re.findall(r"^ +(-.*?)(?:  |$)", told, re.M))))
+    short = re.search(r"^\.SH SYNOPSIS\n(.*?)^\.SH", read(MSGFMT_PAGE), re.M | re.S)[1].replace("\\-", "-")
+    strange = sorted(options_in(short) - wanted)
+    return [why for name, text in found for why in differences(name, options_in(text), wanted)] + (
+        [f"{MSGFMT_PAGE}, its synopsis: {strange}"] if strange else []
+    )
+
+
+def words_of_scripts():
+    """the words that begin a line of a script"""
+    wanted = set(re.findall(r'^\s*"(\w+)" => read_\w+\(', read("crates/catserve/src/command.rt"), re.M))
+    wanted -= {"gettext", "pgettext", "ngettext", "npgettext"}
+    table = rows(section(FORMATS, "Scripts of loads and look-ups"))
+    found = {row[0].split("`")[1] for row in table if row[0].startswith("`")}
+    manual = set(re.findall(r"^\.TP\n\.B (\w+)", read(CATSERVE_PAGE).split(".SH EXIT")[0], re.M))
+    return differences(FORMATS, found, wanted) + differences(CATSERVE_PAGE, manual, wanted)
+
+
+def constant(path, name):
+    return int(re.search(rf"const {name}: \w+ = ([\d_]+);", read(path))[1].replace("_", ""))
+
+
+def limits():
+    """the limits"""
+    text = constant("crates/po_text/src/open.rt", "MAX_TEXT")
+    file = constant("crates/mo_image/src/layout.rt", "MAX_LEN")
+    rule = constant("crates/po_header/src/lib.rt", "EXPRESSION_LIMIT")
+    name = constant("crates/live_set/src/name.rt", "NAME_LIMIT")
+    readers = constant("crates/live_versions/src/store.rt", "MOST_READERS")
+    workers = constant("crates/catserve/src/field.rt", "MOST_WORKERS")
+    places = (
+        (FORMATS, f"A text has at most {text:,} bytes"),
+        (FORMATS, f"At most {text + 1:,} bytes are read"),
+        (FORMATS, f"A script is UTF-8, has at most {text:,} bytes"),
+        (FORMATS, f"and it has at most {file:,} bytes"),
+        (FORMATS, f"and has at most {rule:,} bytes. Its tokens"),
+        (FORMATS, f"has 1 to {name} bytes, each an ASCII letter"),
+        (FORMATS, f"so many workers answer, 1 to {workers};"),
+        (MSGFMT_PAGE, f"a PO text;{text:,} bytes"),
+        (MSGFMT_PAGE, f"an MO file;{file:,} bytes"),
+        (MSGFMT_PAGE, f"expression;{rule:,} bytes"),
+        (CATSERVE_PAGE, f"A script is UTF-8 and has at most {text:,} bytes"),
+        (CATSERVE_PAGE, f"A script has at most {text:,} bytes, an MO file {file:,}, a name"),
+        (CATSERVE_PAGE, f"a name of a domain or locale {name} letters"),
+        (CATSERVE_PAGE, f"So many workers answer, 1 to {workers}:"),
+        (CATSERVE_PAGE, f"There are 1 to {workers} workers"),
+        ("docs/LIVE.md", f"one publisher and 1 to {readers} readers"),
+        ("README.md", f"from 1 to {readers} threads"),
+    )
+    wrong = [f"{place} has not: {words}" for place, words in places if words not in plain(place)]
+    allowed = {text, text + 1, file}
+    for place in (FORMATS, MSGFMT_PAGE, CATSERVE_PAGE, DRIVER_PAGE):
+        numbers = {int(it.replace(",", "")) for it in re.findall(r"\d{1,3}(?:,\d{3})+", plain(place))}
+        wrong += [f"{place}: {it:,} is no limit" for it in sorted(numbers) if it >= LEAST_LIMIT and it not in allowed]
+    return wrong
+
+
+def plain(name):
+    return page(name) if name.endswith(".1") else " ".join(read(name).split())
+
+
+def places():
+    """each link, and each path in backquotes, leads to something"""
+    wrong = []
+    for path in sorted([*TOP.glob("*.md"), *TOP.glob("docs/*.md")]):
+        text = path.read_text(encoding="utf-8")
+        links = [path.parent / it.split("#")[0] for it in re.findall(r"\]\(([^):]+)\)", text) if not it.startswith("#")]
+        named = [TOP / it for it in re.findall(r"`((?:crates|tests|tools|examples|bench|docs)/[\w./-]+)`", text)]
+        missing = [it.relative_to(TOP) for it in links + named if not it.exists()]
+        wrong += [f"{path.name}: {it}" for it in missing if not {"NAME", "out"} & set(it.parts)]
+    return wrong
+
+
+RULES = (
+    kinds_of_texts,
+    kinds_of_files,
+    kinds_of_scripts,
+    texts_of_kinds,
+    texts_of_the_driver,
+    lines_of_the_command,
+    fields_of_a_header,
+    options,
+    words_of_scripts,
+    limits,
+    places,
+)
+
+
+def main():
+    for rule in RULES:
+        try:
+            wrong = rule()
+        except (TypeError, AttributeError, KeyError) as error:
+            wrong = [f"a place that it looks for is not there ({error!r})"]
+        if wrong:
+            print(f"FAILED documents: {rule.__doc__}: {'; '.join(wrong)[:400]}")
+        else:
+            print(f"ok documents: {rule.__doc__}")
+
+
+if __name__ == "__main__":
+    main()

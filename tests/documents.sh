@@ -1,0 +1,69 @@
+#!/usr/bin/env bash
+# Compares what the documents, man pages, completions and the help say of kinds, numbers, texts, options and limits with
+# the code (tests/documents.py), and sees that a change in one place alone is found: each line below is such a change.
+. "$(dirname "$0")/common"
+
+python3 -B tests/documents.py . "$program"
+
+top=$room/repo
+mkdir -p "$top"
+tar cf - --exclude out ./*.md docs tools tests examples bench crates | tar xf - -C "$top"
+if python3 -B tests/documents.py "$top" | grep -q '^FAILED'; then
+  failed 'documents, changes' 'a copy of the repository is not as the rules say'
+  exit 0
+fi
+
+# changes FILE FROM TO: this change in that file alone, of the first FROM there, is found
+changes() {
+  local name="documents, $1: $2" found
+  cp "$top/$1" "$room/whole"
+  python3 -c 'import sys
+text = open(sys.argv[1]).read()
+assert sys.argv[2] in text, "no such text"
+open(sys.argv[1], "w").write(text.replace(sys.argv[2], sys.argv[3], 1))' "$top/$1" "$2" "$3" 2> "$room/err" || {
+    failed "$name" "$(tail -n 1 "$room/err")"
+    return
+  }
+  found=$(python3 -B tests/documents.py "$top" | grep -c '^FAILED')
+  if [ "$found" != 0 ]; then ok "$name"; else failed "$name" 'the change was not found'; fi
+  cp "$room/whole" "$top/$1"
+}
+
+while IFS='^' read -r file from to; do
+  changes "$file" "$from" "$to"
+done << 'END'
+crates/po_checks/src/fault.rt^#[error("duplicate message")]^#[error("message twice")]
+crates/po_checks/src/fault.rt^    FormCount,^    FormNumber,
+crates/po_text/src/fault.rt^#[error("bad escape")]^#[error("escape")]
+crates/mo_file/src/fault.rt^    NoNul,^    NotClosed,
+crates/catserve/src/fault.rt^#[error("no thread")]^#[error("no threads")]
+crates/msgfmt_tool/src/texts.rt^no input file given^no INPUT
+crates/msgfmt_tool/src/words.rt^.long("output-file")^.long("output")
+crates/msgfmt_tool/src/words.rt^"use-fuzzy", 'f'^"use-fuzzy", 'z'
+crates/msgfmt_tool/src/steps.rt^warning: header field^warning: field
+crates/po_header/src/fields.rt^"MIME-Version"^"Mime-Version"
+crates/po_text/src/open.rt^67_108_864^67_108_865
+crates/mo_image/src/layout.rt^268_435_456^268_435_457
+crates/po_header/src/lib.rt^EXPRESSION_LIMIT: usize = 1000^EXPRESSION_LIMIT: usize = 2000
+crates/live_set/src/name.rt^NAME_LIMIT: usize = 64^NAME_LIMIT: usize = 65
+crates/live_versions/src/store.rt^MOST_READERS: u32 = 16^MOST_READERS: u32 = 32
+crates/catserve/src/field.rt^MOST_WORKERS: u64 = 16^MOST_WORKERS: u64 = 32
+crates/catserve/src/command.rt^"loadmo" => ^"load_mo" => 
+docs/FORMATS.md^| 9 | Duplicate ^| 10 | Duplicate 
+docs/FORMATS.md^`newlines differ`^`newline differs`
+docs/FORMATS.md^| 10 | Charset | the kept^| 9 | Charset | the kept
+docs/FORMATS.md^--statistics^--stats
+docs/FORMATS.md^67,108,864^67,108,863
+docs/FORMATS.md^no place for a reader^no room for a reader
+docs/man/msgfmt.1^\-\-no\-hash ]^\-\-nohash ]
+docs/man/msgfmt.1^\-\-verbose^\-\-loud
+docs/man/msgfmt.1^1,000 bytes^1,001 bytes
+docs/man/catserve.1^.B loadmo^.B loadMO
+docs/man/catserve.1^8;no thread^7;no thread
+docs/man/catserve.1^16 workers^17 workers
+docs/man/msgfmt-or-gnu.1^not UTF\-8^not in UTF\-8
+tools/completion^--use-fuzzy^--fuzzy
+tools/msgfmt-or-gnu^': unsupported charset'^': charset'
+README.md^`unsupported charset`^`charset`
+README.md^(docs/LIVE.md)^(docs/ALIVE.md)
+END
