@@ -1,8 +1,8 @@
 //! Errors that a file system may keep until a file is closed.
 //!
-//! A network's file system tells some errors of writes, as that of a full quota, only when the file is closed, and `File`
-//! can't hand on what the close says. `sync_all` is told them in time. It costs milliseconds on a disk, where errors are
-//! told by the writes themselves, so only files without a disk of this machine are settled.
+//! A network's file system tells some errors of writes, as that of a full quota, only when the file is closed, and
+//! `File` can't hand on what the close says. `sync_all` is told them in time. It costs milliseconds on a disk, where
+//! errors are told by the writes themselves, so only files without a disk of this machine are settled.
 
 use std::alloc::Global;
 use std::fs::File;
