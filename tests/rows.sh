@@ -250,10 +250,10 @@ Arguments:
 Options:
   -c, --check               Check header, plural forms, C formats and newlines
   -f, --use-fuzzy           Keep fuzzy entries
-      --statistics          Print how many messages are translated, fuzzy, untranslated
+      --statistics          Print how many messages are translated
   -v, --verbose             Accepted, and changes nothing
       --no-hash             Accepted, and changes nothing
-  -o, --output-file <FILE>  MO file to write, or - for standard output [messages.mo]
+  -o, --output-file <FILE>  MO file, or - for standard output [messages.mo]
   -h, --help                Print help
 
 Examples:

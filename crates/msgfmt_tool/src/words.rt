@@ -67,7 +67,7 @@ fn output<'a>(alloc: Global) -> Arg<'a>
         .short('o')
         .long("output-file")
         .value_name("FILE")
-        .help("MO file to write, or - for standard output [messages.mo]")
+        .help("MO file, or - for standard output [messages.mo]")
         .action(ArgAction::Set)
 }
 
@@ -103,7 +103,7 @@ fn flags<'a>(alloc: Global) -> Result<Command<'a>, AllocError>
         .arg(flag(
             alloc,
             "statistics",
-            "Print how many messages are translated, fuzzy, untranslated",
+            "Print how many messages are translated",
         ))
 }
 
