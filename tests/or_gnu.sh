@@ -162,7 +162,7 @@ found() {
   status=$?
   judge "$name" "$wanted" "$said" && ok "$name"
 }
-path=$room/links:$PATH
+path=$room/links:$PATH:$(dirname "$gnu")
 found 'driver, found as msgfmt before GNU msgfmt' 0 '' -o x.mo charset.po
 path=$room/links:$room/nothing
 missing='msgfmt-or-gnu: no GNU msgfmt on the PATH to run in its place'
