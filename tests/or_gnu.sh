@@ -10,6 +10,7 @@ if ! tests/needs tools/gnu-msgfmt gettext; then
   exit 0
 fi
 gnu=$(tools/gnu-msgfmt)
+PATH=$PATH:$(dirname "$gnu")
 driver=$PWD/tools/msgfmt-or-gnu
 top=$PWD
 mkdir "$room/tmp" "$room/nothing"
@@ -162,7 +163,7 @@ found() {
   status=$?
   judge "$name" "$wanted" "$said" && ok "$name"
 }
-path=$room/links:$PATH:$(dirname "$gnu")
+path=$room/links:$PATH
 found 'driver, found as msgfmt before GNU msgfmt' 0 '' -o x.mo charset.po
 path=$room/links:$room/nothing
 missing='msgfmt-or-gnu: no GNU msgfmt on the PATH to run in its place'
