@@ -4,10 +4,10 @@ ghost use Rattle.std.specs.List.{AllZip};
 ghost use Rattle.catserve.specs.Asking.{readers_of, AreAsked, GivesOne, answer_lines, desk_lines, IsFreed};
 
 use crate::output::write_answer;
-use crate::rounds::Question;
 use desks::{Answer, Desk};
 use live_set::Query;
 use live_versions::Lookups;
+use script_text::Question;
 use std::alloc::{AllocError, Global};
 use std::mem;
 
