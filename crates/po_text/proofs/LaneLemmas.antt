@@ -1,12 +1,12 @@
 -- From the mask of a vector to the bytes at the front that pass a test.
-use Rattle.std.proofs.Common.{◌≡◌, ℕ, ◌+◌, ◌%◌, ◌^◌, ◌<◌, ◌≤◌, eqb, Bool, true, false, not, cond, List, [], ◌∷◌, map}
-use Rattle.std.proofs.Common.{length, drop, get_or, Fits, w8, refl, sym, ap, ap₂, ◌∙◌, arith, inl, inr}
+use Rattle.std.proofs.Common.{◌≡◌, ℕ, ◌+◌, ◌%◌, ◌^◌, ◌<◌, ◌≤◌, eqb, Bool, true, not, cond, List, [], ◌∷◌, map}
+use Rattle.std.proofs.Common.{◌-◌, subst, length, drop, get_or, Fits, w8, refl, sym, ap, ap₂, ◌∙◌, arith, inl, inr}
 use Rattle.std.proofs.lemmas.Bool.{agree_below, agree_below_at, eq-eqb, ne_eqb, cases_eq, cond-true, cond-false}
 use Rattle.std.proofs.lemmas.Simd.{map-map, mask_l-mod, length-chunk, chunk-drop, chunk-fits, leading_from_mask_l}
-use Rattle.std.proofs.lemmas.Simd.{trailing_mask_l}
+use Rattle.std.proofs.lemmas.Simd.{trailing_mask_l, get_or-chunk}
 use Rattle.std.proofs.lemmas.List.{length-map}
 use Rattle.std.proofs.lemmas.List.Folds.{prefix_len-append}
-use Rattle.std.proofs.lemmas.List.Sums.{prefix_len-le-length}
+use Rattle.std.proofs.lemmas.List.Sums.{prefix_len-le-length, prefix_len_passes}
 use Rattle.std.specs.List.{prefix_len}
 use lib.Bits.{bit_or}
 use lib.Lanes.{chunk, zip2, mask_l, top, Each1}
@@ -70,3 +70,11 @@ run_stops q d i n room part =
 
 pub run_bound : (q : ℕ → Bool) (d : List ℕ) (i n : ℕ) → i + n ≤ length d → prefix_len q (chunk i n d) ≤ n
 run_bound q d i n room = omega (arith, prefix_len-le-length q (chunk i n d), length-chunk i n d room)
+
+-- all n bytes at i pass, one by one
+pub chunk_passes : (q : ℕ → Bool) (d : List ℕ) (i n : ℕ) → prefix_len q (chunk i n d) ≡ n → (k : ℕ) → i ≤ k
+    → k < i + n → q (get_or d k 0) ≡ true
+chunk_passes q d i n whole k from to =
+    let there : i + (k - i) ≡ k = omega arith in
+    let at = get_or-chunk i n d (k - i) 0 (omega arith) ∙ ap (λ j. get_or d j 0) there in
+    subst (λ x. q x ≡ true) at (prefix_len_passes q (chunk i n d) (k - i) 0 (omega (arith, whole)))

@@ -1,9 +1,9 @@
 // The plain bytes at the front of a string, a vector at a time: most strings end within a few vectors, where a call
 // to a search costs more than the bytes.
-ghost use Rattle.std.specs.Prelude.{◌≡◌, ◌+◌, ◌≤◌, drop, length, take};
+ghost use Rattle.std.specs.Prelude.{◌≡◌, ◌+◌, ◌≤◌, drop, length, take, IsTrue};
 ghost use Rattle.std.specs.List.{prefix_len};
-ghost use Rattle.po_text.specs.Lexing.{first_set};
-ghost use Rattle.po_text.specs.Spelling.{is_plain};
+ghost use Rattle.po_text.specs.Lexing.{first_set, is_simple};
+ghost use Rattle.po_text.specs.Spelling.{is_plain, IsLawful};
 
 use std::simd::prelude::*;
 
@@ -67,4 +67,53 @@ pub(crate) fn plain_len(text: &[u8]) -> usize
         }
     }
     len + plain_bytes(&text[len..])
+}
+
+fn is_simple_byte(byte: u8) -> bool
+    ensures { result ≡ is_simple byte }
+{
+    1 <= byte && byte < 128
+}
+
+/// How many simple bytes stand at the front of a vector's bytes.
+#[inline(always)]
+fn simple_lanes(text: &[u8], at: usize) -> usize
+    requires { at + LANES ≤ length text.now }
+    ensures { result ≡ prefix_len is_simple (take LANES (drop at text.now)) }
+{
+    let bytes = u8x16::from_slice(&text[at..]);
+    let stops = bytes.simd_eq(u8x16::splat(0)) | bytes.simd_ge(u8x16::splat(128));
+    first_set(stops.to_bitmask())
+}
+
+/// How many simple bytes stand at the front, a byte at a time.
+#[tactic(auto, using(std::proofs::lemmas::List::Sums::prefix_len_is))]
+fn simple_bytes(text: &[u8]) -> usize
+    ensures { result ≡ prefix_len is_simple text.now }
+{
+    for (i, byte) in text.iter().enumerate() {
+        if !is_simple_byte(*byte) {
+            return i;
+        }
+    }
+    text.len()
+}
+
+/// Whether all bytes are ASCII and not NUL: then they are lawful, and no search and no decoder has to look at them.
+/// The last vector may overlap the one before it.
+pub(crate) fn are_simple(bytes: &[u8]) -> bool
+    ensures { IsTrue result → IsLawful bytes.now }
+{
+    if bytes.len() < LANES {
+        return simple_bytes(bytes) == bytes.len();
+    }
+    let last = bytes.len() - LANES;
+    let mut at = 0;
+    'vectors: while at < last {
+        if simple_lanes(bytes, at) < LANES {
+            return false;
+        }
+        at += LANES;
+    }
+    simple_lanes(bytes, last) == LANES
 }
