@@ -1,4 +1,5 @@
 pub mod Chains
+pub mod LaneLemmas
 pub mod UnitLemmas
 pub mod Unique
 pub mod FlagLemmas

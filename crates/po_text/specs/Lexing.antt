@@ -1,5 +1,7 @@
 -- Private: what the lexer takes of a text.
 use Rattle.std.specs.Prelude.{◌≡◌, ◌≢◌, ℕ, ◌<◌, ◌≤◌, Bool, false, not, List, [], ◌∷◌, ◌++◌, length, Option, Some, ◌+◌}
+use Rattle.std.specs.Prelude.{if◌then◌else◌, ◌==◌, ◌&&◌, nat_le, nat_lt}
+use Rattle.std.specs.Int.{w64, trailing_zeros}
 use Rattle.po_text.specs.declared.fault.PoKind.{PoKind}
 use Rattle.po_text.specs.declared.fault.PoKind.TheVariants.{BadEscape, OpenString, Memory}
 use Rattle.std.specs.Option.{option_map}
@@ -16,6 +18,14 @@ use Rattle.po_text.specs.Spelling.{UnitsAt, unit_value, IsBadEscape, IsOpenEnd, 
 
 abbrev pub is_no_separator : ℕ → Bool
 is_no_separator b = not (is_separator b)
+
+-- the place of the lowest bit that is set, or how many there are
+abbrev pub first_set : ℕ → ℕ → ℕ
+first_set mask lanes = if mask == 0 then lanes else trailing_zeros w64 mask
+
+-- ASCII, and not NUL
+abbrev pub is_simple : ℕ → Bool
+is_simple b = nat_le 1 b && nat_lt b 128
 
 -- no plain byte stands at the front
 abbrev pub StopsPlain : List ℕ → Type 0

@@ -15,6 +15,7 @@ ghost use Rattle.po_text.specs.declared.fault.PoKind.TheVariants.{BadWord, Memor
 
 use crate::fault::{PoFault, PoKind};
 use crate::flags::{Flags, comment_flags};
+use crate::plain::are_simple;
 use crate::scan::{is_white_byte, split_byte, split_line};
 use crate::units::read_units;
 use simdutf8::is_utf8;
@@ -97,7 +98,7 @@ fn token_of(word: &[u8]) -> Option<Token>
 fn is_lawful(bytes: &[u8]) -> bool
     ensures { IsTrue result ↔ IsLawful bytes.now }
 {
-    !bytes.contains(&0) && is_utf8(bytes)
+    are_simple(bytes) || (!bytes.contains(&0) && is_utf8(bytes))
 }
 
 /// Reads the word at the front.

@@ -12,6 +12,7 @@ mod lexer;
 mod open;
 mod parser;
 mod places;
+mod plain;
 mod read;
 mod reader;
 mod scan;

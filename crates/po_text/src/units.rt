@@ -7,8 +7,8 @@ ghost use Rattle.po_text.specs.Spelling.{escaped, is_octal, octal_run, octal_val
 ghost use Rattle.po_text.specs.Lexing.{StopsPlain, ReadsUnit, StopsBadly, UnitsFail, TakesUnits};
 
 use crate::fault::PoKind;
+use crate::plain::plain_len;
 use crate::scan::split_byte;
-use bstr::ByteSlice;
 
 /// The byte that a backslash and this letter stand for.
 fn escape_value(letter: u8) -> Option<u8>
@@ -40,8 +40,7 @@ fn plain_run(text: &[u8]) -> (&[u8], &[u8])
     ensures stops { StopsPlain result.1.now }
     ensures shorter { length result.1.now ≤ length text.now }
 {
-    let len = text.find_byteset(b"\"\\\n").unwrap_or(text.len());
-    text.split_at(len)
+    text.split_at(plain_len(text))
 }
 
 /// How many octal digits stand at the front.

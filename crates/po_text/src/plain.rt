@@ -1,0 +1,119 @@
+// The plain bytes at the front of a string, a vector at a time: most strings end within a few vectors, where a call
+// to a search costs more than the bytes.
+ghost use Rattle.std.specs.Prelude.{◌≡◌, ◌+◌, ◌≤◌, drop, length, take, IsTrue};
+ghost use Rattle.std.specs.List.{prefix_len};
+ghost use Rattle.po_text.specs.Lexing.{first_set, is_simple};
+ghost use Rattle.po_text.specs.Spelling.{is_plain, IsLawful};
+
+use std::simd::prelude::*;
+
+/// How many bytes a vector has.
+const LANES: usize = 16;
+
+fn is_plain_byte(byte: u8) -> bool
+    ensures { result ≡ is_plain byte }
+{
+    byte != b'"' && byte != b'\\' && byte != b'\n'
+}
+
+/// The place of the lowest bit that is set, or the number of lanes.
+#[inline(always)]
+fn first_set(mask: u64) -> usize
+    ensures { result ≡ first_set mask LANES }
+{
+    if mask == 0 {
+        LANES
+    } else {
+        mask.trailing_zeros() as usize
+    }
+}
+
+/// How many plain bytes stand at the front of a vector's bytes.
+#[inline(always)]
+fn plain_lanes(text: &[u8], at: usize) -> usize
+    requires { at + LANES ≤ length text.now }
+    ensures { result ≡ prefix_len is_plain (take LANES (drop at text.now)) }
+{
+    let bytes = u8x16::from_slice(&text[at..]);
+    let stops = bytes.simd_eq(u8x16::splat(b'"'))
+        | bytes.simd_eq(u8x16::splat(b'\\'))
+        | bytes.simd_eq(u8x16::splat(b'\n'));
+    first_set(stops.to_bitmask())
+}
+
+/// How many plain bytes stand at the front, a byte at a time.
+#[tactic(auto, using(std::proofs::lemmas::List::Sums::prefix_len_is))]
+fn plain_bytes(text: &[u8]) -> usize
+    ensures { result ≡ prefix_len is_plain text.now }
+{
+    for (i, byte) in text.iter().enumerate() {
+        if !is_plain_byte(*byte) {
+            return i;
+        }
+    }
+    text.len()
+}
+
+/// How many plain bytes stand at the front.
+pub(crate) fn plain_len(text: &[u8]) -> usize
+    ensures { result ≡ prefix_len is_plain text.now }
+{
+    let mut len = 0;
+    'vectors: while LANES <= text.len() - len {
+        let run = plain_lanes(text, len);
+        len += run;
+        if run < LANES {
+            return len;
+        }
+    }
+    len + plain_bytes(&text[len..])
+}
+
+fn is_simple_byte(byte: u8) -> bool
+    ensures { result ≡ is_simple byte }
+{
+    1 <= byte && byte < 128
+}
+
+/// How many simple bytes stand at the front of a vector's bytes.
+#[inline(always)]
+fn simple_lanes(text: &[u8], at: usize) -> usize
+    requires { at + LANES ≤ length text.now }
+    ensures { result ≡ prefix_len is_simple (take LANES (drop at text.now)) }
+{
+    let bytes = u8x16::from_slice(&text[at..]);
+    let stops = bytes.simd_eq(u8x16::splat(0)) | bytes.simd_ge(u8x16::splat(128));
+    first_set(stops.to_bitmask())
+}
+
+/// How many simple bytes stand at the front, a byte at a time.
+#[tactic(auto, using(std::proofs::lemmas::List::Sums::prefix_len_is))]
+fn simple_bytes(text: &[u8]) -> usize
+    ensures { result ≡ prefix_len is_simple text.now }
+{
+    for (i, byte) in text.iter().enumerate() {
+        if !is_simple_byte(*byte) {
+            return i;
+        }
+    }
+    text.len()
+}
+
+/// Whether all bytes are ASCII and not NUL: then they are lawful, and no search and no decoder has to look at them.
+/// The last vector may overlap the one before it.
+pub(crate) fn are_simple(bytes: &[u8]) -> bool
+    ensures { IsTrue result → IsLawful bytes.now }
+{
+    if bytes.len() < LANES {
+        return simple_bytes(bytes) == bytes.len();
+    }
+    let last = bytes.len() - LANES;
+    let mut at = 0;
+    'vectors: while at < last {
+        if simple_lanes(bytes, at) < LANES {
+            return false;
+        }
+        at += LANES;
+    }
+    simple_lanes(bytes, last) == LANES
+}
