@@ -34,3 +34,14 @@ IsCounted m (Some e) n other text = IsMapFormFor m n e.forms text
 -- the msgid for 1, the plural for other numbers
 abbrev pub text_by : ℕ → List ℕ → List ℕ → List ℕ
 text_by n id plural = if n == 1 then id else plural
+
+-- the form of an entry that is asked for: the first one, or that of a number
+abbrev pub IsAskedForm : List Entry → Option ℕ → List (List ℕ) → List ℕ → Type 0
+IsAskedForm m None forms text = slice_get forms 0 ≡ Some text
+IsAskedForm m (Some n) forms text = IsMapFormFor m n forms text
+
+-- the form of the entry that was found, and none where there is no entry
+abbrev pub IsTranslated : List Entry → Option Entry → Option ℕ → Option (List ℕ) → Type 0
+IsTranslated m None n text = text ≡ None
+IsTranslated m (Some e) n None = ⊥
+IsTranslated m (Some e) n (Some text) = IsAskedForm m n e.forms text

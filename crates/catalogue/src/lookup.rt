@@ -1,8 +1,9 @@
 //! The look-ups of gettext. They take no memory, and lend their answer from the catalogue or from an argument.
-ghost use Rattle.std.specs.Prelude.{◌≡◌, Some, None};
+ghost use Rattle.std.specs.Prelude.{◌≡◌, Some, None, option_map};
 ghost use Rattle.mo_image.specs.Entry.{key_bytes};
 ghost use Rattle.mo_image.specs.Map.{entry_at};
-ghost use Rattle.catalogue.specs.Value.{IsCounted, IsFirstForm, IsFormFor, IsMapFormFor, text_by};
+ghost use Rattle.catalogue.specs.Value.{IsAskedForm, IsCounted, IsFirstForm, IsFormFor, IsMapFormFor, IsTranslated};
+ghost use Rattle.catalogue.specs.Value.{text_by};
 ghost use Rattle.po_header.specs.Rules.{rule_of};
 
 use crate::Catalogue;
@@ -94,5 +95,25 @@ impl Catalogue {
             (text_by n id.now plural.now) result.now }
     {
         self.counted(self.find(Some(context), id), id, plural, n)
+    }
+
+    /// The first form of an entry of this catalogue, or the form that a number takes.
+    fn asked_form<'a>(&self, entry: EntryRef<'a>, n: Option<u64>) -> &'a str
+        ensures { IsAskedForm self.now n entry.entry.forms result.now }
+    {
+        match n {
+            Some(n) => self.form_for(&entry, n),
+            None => entry.form(0),
+        }
+    }
+
+    /// The text of a message in a context, or in none: the first form of its entry, or with a number the form that it
+    /// takes, as in `npgettext`. None exactly where there is no such entry; the text is lent from the catalogue alone.
+    pub fn translated(&self, context: Option<&str>, id: &str, n: Option<u64>) -> Option<&str>
+        ensures { IsTranslated self.now (entry_at self.now (key_bytes (option_map (λ s. s.now) context.entry) id.now))
+            n (option_map (λ s. s.now) result) }
+    {
+        let entry = self.find(context, id)?;
+        Some(self.asked_form(entry, n))
     }
 }
