@@ -4,6 +4,7 @@ use Rattle.po_header.specs.Rule.{Rule, place}
 pub use Rattle.po_header.specs.Rule.{HasRuleIn}
 use Rattle.mo_image.specs.Entry.{Entry}
 use Rattle.mo_image.specs.Map.{header_text}
+use Rattle.mo_image.specs.MoFile.{closed}
 
 -- the first form of the entry that was found, or the msgid
 abbrev pub IsFirstForm : Option Entry → List ℕ → List ℕ → Type 0
@@ -45,3 +46,9 @@ abbrev pub IsTranslated : List Entry → Option Entry → Option ℕ → Option 
 IsTranslated m None n text = text ≡ None
 IsTranslated m (Some e) n None = ⊥
 IsTranslated m (Some e) n (Some text) = IsAskedForm m n e.forms text
+
+-- the same, as a string of C: the form and the NUL behind it
+abbrev pub IsTranslatedClosed : List Entry → Option Entry → Option ℕ → Option (List ℕ) → Type 0
+IsTranslatedClosed m None n bytes = bytes ≡ None
+IsTranslatedClosed m (Some e) n None = ⊥
+IsTranslatedClosed m (Some e) n (Some bytes) = (text : List ℕ) × IsAskedForm m n e.forms text × (bytes ≡ closed text)
