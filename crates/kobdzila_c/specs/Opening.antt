@@ -1,5 +1,5 @@
 -- What C holds of bytes that were opened: their catalogue, or the number of their refusal, and its line.
-use Rattle.std.specs.Prelude.{◌≡◌, ◌⊎◌, ℕ, ◌+◌, nat_lt, List, Option, Some, None, MatchOption}
+use Rattle.std.specs.Prelude.{◌≡◌, ◌⊎◌, ℕ, ◌+◌, nat_lt, List, None, MatchOption}
 use Rattle.std.specs.Arc.{arc_value}
 use Rattle.mo_image.specs.Entry.{Entry}
 use Rattle.mo_file.specs.MoReading.{Mo, Refused, rank as mo_number}

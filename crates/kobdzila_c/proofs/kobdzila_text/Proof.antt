@@ -22,7 +22,7 @@ use denote.RattleType.{owns}
 use denote.RawPtr.{Ptr, RawPtr, InBlock, block_ptr, ptr_val, block_of, count_of, at_block, in_a_block, room_at, lies_at, rawptr_vals, rawptr_Tells, rawptr_Lawful}
 use denote.Ref.{Bor}
 use denote.Signature.{plain}
-use denote.Slice.{ShrSlice, shr_slice_Lawful}
+use denote.Slice.{shr_slice_Lawful}
 use denote.Steps.{nothing, heard, peeks}
 use denote.Struct.Lending.{in_block_says}
 use denote.Triple.Call.{calls_at}
