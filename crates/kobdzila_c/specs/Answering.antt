@@ -42,8 +42,8 @@ some_of (b ∷ bs) = Some (b ∷ bs)
 
 -- the text of the entry that is asked for with the NUL behind it, and nothing where there is no such entry
 abbrev pub IsAnswered : List Entry → Question → List ℕ → Type 0
-IsAnswered m q text = IsTranslatedClosed m (entry_at m (key_bytes (context_of q.call q.context) q.id)) (number_of q.call q.n)
-    (some_of text)
+IsAnswered m q text = IsTranslatedClosed m (entry_at m (key_bytes (context_of q.call q.context) q.id))
+    (number_of q.call q.n) (some_of text)
 
 -- what a question is answered; nothing where it is no text
 pub record IsAnswer (m : List Entry) (q : Question) (text : List ℕ) : Type 0 where

@@ -54,9 +54,7 @@ pub(crate) fn answer<'k>(
     let Ok(context) = from_utf8(context) else {
         return &[]
     };
-    let Ok(id) = from_utf8(id) else {
-        return &[]
-    };
+    let Ok(id) = from_utf8(id) else { return &[] };
     match catalogue.translated_closed(context_in(call, context), id, number_in(call, n)) {
         Some(text) => text,
         None => &[],

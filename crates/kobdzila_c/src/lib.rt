@@ -19,7 +19,6 @@ mod answers;
 mod opened;
 
 pub use opened::Opened;
-
 use std::alloc::Global;
 
 /// What C holds a pointer to. Its bytes are not C's to read.
