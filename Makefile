@@ -90,6 +90,7 @@ install_library:
 	install -m 644 build/lib/libkobdzila.a "$(libdir)/libkobdzila.a"
 	install -m 755 build/lib/$(SHARED) "$(libdir)/$(SHARED)"
 	ln -sf $(SHARED) "$(libdir)/libkobdzila.so"
+	install -m 755 build/lib/libkobdzila-intl.so "$(libdir)/libkobdzila-intl.so"
 	install -m 644 include/kobdzila.h "$(includedir)/kobdzila.h"
 	sed 's|@PREFIX@|$(PREFIX)|g' c/kobdzila.pc.in > "$(libdir)/pkgconfig/kobdzila.pc"
 	chmod 644 "$(libdir)/pkgconfig/kobdzila.pc"
@@ -97,7 +98,7 @@ install_library:
 
 uninstall_library:
 	rm -f "$(libdir)/libkobdzila.a" "$(libdir)/$(SHARED)" "$(libdir)/libkobdzila.so" "$(includedir)/kobdzila.h"
-	rm -f "$(libdir)/pkgconfig/kobdzila.pc" "$(callsdir)/kobdzila.3"
+	rm -f "$(libdir)/pkgconfig/kobdzila.pc" "$(libdir)/libkobdzila-intl.so" "$(callsdir)/kobdzila.3"
 
 uninstall: uninstall_library
 	for name in $(PROGRAMS) $(SCRIPTS); do rm -f "$(bindir)/$(PROGRAM_PREFIX)$$name"; done

@@ -96,6 +96,28 @@ else
   skipped 'the C library from Python' 'no python3'
 fi
 
+# a program that was compiled for the C library's gettext prints the same by libkobdzila-intl.so
+preloaded() { LD_PRELOAD=$PWD/$library/libkobdzila-intl.so LC_ALL=C.UTF-8 LANGUAGE=$1 "${@:2}" 2>&1; }
+name='the C library, gettext of other programs'
+bound=$(LD_DEBUG=bindings preloaded fr env ls --help | grep -c 'libkobdzila-intl.so .*dcgettext')
+count=0 wrong=''
+for language in fr de pl ja pt_BR; do
+  [ -f "/usr/share/locale/$language/LC_MESSAGES/coreutils.mo" ] || continue
+  for command in 'ls --help' 'ls /no/such/file' 'date --no-such-option' 'sort --help'; do
+    read -r -a words <<< "$command"
+    count=$((count + 1))
+    [ "$(preloaded "$language" env "${words[@]}")" = "$(LC_ALL=C.UTF-8 LANGUAGE=$language "${words[@]}" 2>&1)" ] ||
+      wrong+="$language: $command; "
+  done
+done
+if [ "$count" = 0 ] || [ "$bound" = 0 ]; then
+  skipped "$name" 'no translated program is installed that could be taken'
+elif [ -z "$wrong" ]; then
+  ok "$name: $count outputs as without it"
+else
+  failed "$name" "$wrong"
+fi
+
 # as a new user has it: installed into a folder, and found by pkg-config
 name='the C library, installed'
 cat > "$room/user.c" <<'END'
