@@ -81,6 +81,7 @@ class Translations(gettext.NullTranslations):
         if not self._catalogue:
             raise Refused(refusal)
         self._charset = "utf-8"
+        self._known = {}  # what was found: a call through ctypes takes microseconds
         for line in (self._found(None, "", None) or "").splitlines():
             name, colon, value = line.partition(":")
             if colon:
@@ -98,8 +99,17 @@ class Translations(gettext.NullTranslations):
         number = None if n is None else byref(c_ulonglong(n))
         return _find(self._catalogue, context_text, id_text, number).text()
 
+    def _plain(self, context, message):
+        key = message if context is None else (context, message)
+        found = self._found(context, message, None)
+        if found is not None:
+            self._known[key] = found
+        return found
+
     def gettext(self, message):
-        found = self._found(None, message, None)
+        found = self._known.get(message)
+        if found is None:
+            found = self._plain(None, message)
         return found if found is not None else super().gettext(message)
 
     def ngettext(self, msgid1, msgid2, n):
@@ -107,7 +117,9 @@ class Translations(gettext.NullTranslations):
         return found if found is not None else super().ngettext(msgid1, msgid2, n)
 
     def pgettext(self, context, message):
-        found = self._found(context, message, None)
+        found = self._known.get((context, message))
+        if found is None:
+            found = self._plain(context, message)
         return found if found is not None else super().pgettext(context, message)
 
     def npgettext(self, context, msgid1, msgid2, n):
