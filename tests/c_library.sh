@@ -11,7 +11,9 @@ if ! tests/needs cc gcc libc6-dev; then
   skipped 'the C library' 'no C compiler, and it could not be installed'
   exit 0
 fi
-if ! tools/build_library --made > "$room/log" 2>&1; then
+made=()
+[ ! -f crates/kobdzila_c/out/libkobdzila_c.a ] || made=(--made)
+if ! tools/build_library "${made[@]}" > "$room/log" 2>&1; then
   failed 'the C library' "$(tail -n 2 "$room/log")"
   exit 1
 fi
