@@ -3,8 +3,10 @@
 #   make            builds the programs into bin/ and compiles the PO files of examples/ with them
 #   make check      every check: the proofs and tests of the gate (rt ci), then the scripts of tests/
 #   make bench      times bin/msgfmt beside GNU msgfmt; N=7 says how many rounds
+#   make library    builds libkobdzila, the look-ups for C, into build/lib, where there is a C compiler; `make` does too
 #   make install    installs the programs, their man pages and completions under PREFIX (/usr/local), below DESTDIR
-#                   where it is given. PROGRAM_PREFIX=kob- names them kob-msgfmt and so on, beside GNU's
+#                   where it is given. PROGRAM_PREFIX=kob- names them kob-msgfmt and so on, beside GNU's. The library is
+#                   installed, too, where it was built; `make install_library` installs it alone
 #   make uninstall  removes what `make install` with the same variables has put there
 #   make clean      removes what was built, and what the prover kept (crates/*/out)
 #
@@ -29,9 +31,14 @@ mandir = $(DESTDIR)$(PREFIX)/share/man/man1
 docdir = $(DESTDIR)$(PREFIX)/share/doc/kobdzila
 completiondir = $(DESTDIR)$(PREFIX)/share/bash-completion/completions
 
-.PHONY: all programs examples check bench install uninstall clean
+libdir = $(DESTDIR)$(PREFIX)/lib
+includedir = $(DESTDIR)$(PREFIX)/include
+callsdir = $(DESTDIR)$(PREFIX)/share/man/man3
+SHARED = libkobdzila.so.0
 
-all: examples
+.PHONY: all programs examples library check bench install install_library uninstall uninstall_library clean
+
+all: examples library
 
 programs:
 	@tools/build
@@ -45,6 +52,9 @@ examples: programs
 
 $(PROGRAMS:%=bin/%):
 	@tools/build
+
+library:
+	@tools/build_library
 
 check:
 	@tests/run --gate
@@ -73,8 +83,24 @@ install: $(PROGRAMS:%=bin/%)
 	install -m 644 docs/FORMATS.md "$(docdir)/FORMATS.md"
 	$(completions) > "$(completiondir)/$(PROGRAM_PREFIX)msgfmt"
 	chmod 644 "$(completiondir)/$(PROGRAM_PREFIX)msgfmt"
+	if [ -f build/lib/$(SHARED) ]; then $(MAKE) -s install_library; fi
 
-uninstall:
+install_library:
+	install -d "$(libdir)/pkgconfig" "$(includedir)" "$(callsdir)"
+	install -m 644 build/lib/libkobdzila.a "$(libdir)/libkobdzila.a"
+	install -m 755 build/lib/$(SHARED) "$(libdir)/$(SHARED)"
+	ln -sf $(SHARED) "$(libdir)/libkobdzila.so"
+	install -m 755 build/lib/libkobdzila-intl.so "$(libdir)/libkobdzila-intl.so"
+	install -m 644 include/kobdzila.h "$(includedir)/kobdzila.h"
+	sed 's|@PREFIX@|$(PREFIX)|g' c/kobdzila.pc.in > "$(libdir)/pkgconfig/kobdzila.pc"
+	chmod 644 "$(libdir)/pkgconfig/kobdzila.pc"
+	install -m 644 docs/man/kobdzila.3 "$(callsdir)/kobdzila.3"
+
+uninstall_library:
+	rm -f "$(libdir)/libkobdzila.a" "$(libdir)/$(SHARED)" "$(libdir)/libkobdzila.so" "$(includedir)/kobdzila.h"
+	rm -f "$(libdir)/pkgconfig/kobdzila.pc" "$(libdir)/libkobdzila-intl.so" "$(callsdir)/kobdzila.3"
+
+uninstall: uninstall_library
 	for name in $(PROGRAMS) $(SCRIPTS); do rm -f "$(bindir)/$(PROGRAM_PREFIX)$$name"; done
 	for name in $(PAGES); do rm -f "$(mandir)/$(PROGRAM_PREFIX)$$name.1"; done
 	rm -f "$(docdir)/FORMATS.md" "$(completiondir)/$(PROGRAM_PREFIX)msgfmt"

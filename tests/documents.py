@@ -18,6 +18,7 @@ MSGFMT_PAGE = "docs/man/msgfmt.1"
 CATSERVE_PAGE = "docs/man/catserve.1"
 DRIVER_PAGE = "docs/man/msgfmt-or-gnu.1"
 DRIVER = "tools/msgfmt-or-gnu"
+HEADER = "include/kobdzila.h"
 COMPLETION = "tools/completion"
 LEAST_LIMIT = 10_000_000  # a number of the documents from here on is one of the limits
 
@@ -116,6 +117,21 @@ def texts_of_kinds():
                 found[name.split("(")[0]] = text.strip("`")
     first = dict(kinds(*TEXTS).values())
     return differences(FORMATS, found, wanted) + differences(TEXTS[0], first, {name: wanted[name] for name in first})
+
+
+def faults_of_the_header():
+    """the faults of the C library, with their numbers and texts"""
+    wanted = {}
+    for front, first, faults in (("MO", 0, kinds(*FILES)), ("PO", 100, kinds(*LOADS))):
+        for number, (name, text) in faults.items():
+            constant = re.sub(r"(?<!^)(?=[A-Z])", "_", name.split("(")[0]).upper().replace("U_T_F", "UTF")
+            wanted[f"KOB_{front}_{constant}"] = (first + number, re.sub(r" at \{0\}", "", text))
+    found = {name: int(number) for name, number in re.findall(r"(KOB_[MP]O_\w+) = (\d+)", read(HEADER))}
+    lists = re.findall(r"const (?:mo|po)\[\] = \{(.*?)\};", read("c/kobdzila.c"), re.S)
+    texts = [text for words in lists for text in re.findall(r'"([^"]*)"', words)]
+    told = [text for _, text in wanted.values()]
+    return differences(HEADER, found, {name: number for name, (number, _) in wanted.items()}) + differences(
+        "c/kobdzila.c", [text for text in texts if text not in ("no fault", "out of memory")], told)
 
 
 def texts_of_the_driver():
@@ -257,6 +273,7 @@ RULES = (
     kinds_of_files,
     kinds_of_scripts,
     texts_of_kinds,
+    faults_of_the_header,
     texts_of_the_driver,
     lines_of_the_command,
     fields_of_a_header,

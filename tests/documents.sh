@@ -7,7 +7,7 @@ python3 -B tests/documents.py . "$program"
 
 top=$room/repo
 mkdir -p "$top"
-tar cf - --exclude out ./*.md docs tools tests examples bench crates | tar xf - -C "$top"
+tar cf - --exclude out ./*.md docs tools tests examples bench include c crates | tar xf - -C "$top"
 if python3 -B tests/documents.py "$top" | grep -q '^FAILED'; then
   failed 'documents, changes' 'a copy of the repository is not as the rules say'
   exit 0
@@ -63,6 +63,8 @@ docs/man/catserve.1^8;no thread^7;no thread
 docs/man/catserve.1^16 workers^17 workers
 docs/man/msgfmt-or-gnu.1^not UTF\-8^not in UTF\-8
 tools/completion^--use-fuzzy^--fuzzy
+include/kobdzila.h^KOB_MO_ORDER = 9^KOB_MO_ORDER = 8
+c/kobdzila.c^"newlines differ"^"lines differ"
 tools/msgfmt-or-gnu^': unsupported charset'^': charset'
 README.md^`unsupported charset`^`charset`
 README.md^(docs/LIVE.md)^(docs/ALIVE.md)

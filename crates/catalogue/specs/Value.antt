@@ -4,6 +4,7 @@ use Rattle.po_header.specs.Rule.{Rule, place}
 pub use Rattle.po_header.specs.Rule.{HasRuleIn}
 use Rattle.mo_image.specs.Entry.{Entry}
 use Rattle.mo_image.specs.Map.{header_text}
+use Rattle.mo_image.specs.MoFile.{closed}
 
 -- the first form of the entry that was found, or the msgid
 abbrev pub IsFirstForm : Option Entry → List ℕ → List ℕ → Type 0
@@ -34,3 +35,20 @@ IsCounted m (Some e) n other text = IsMapFormFor m n e.forms text
 -- the msgid for 1, the plural for other numbers
 abbrev pub text_by : ℕ → List ℕ → List ℕ → List ℕ
 text_by n id plural = if n == 1 then id else plural
+
+-- the form of an entry that is asked for: the first one, or that of a number
+abbrev pub IsAskedForm : List Entry → Option ℕ → List (List ℕ) → List ℕ → Type 0
+IsAskedForm m None forms text = slice_get forms 0 ≡ Some text
+IsAskedForm m (Some n) forms text = IsMapFormFor m n forms text
+
+-- the form of the entry that was found, and none where there is no entry
+abbrev pub IsTranslated : List Entry → Option Entry → Option ℕ → Option (List ℕ) → Type 0
+IsTranslated m None n text = text ≡ None
+IsTranslated m (Some e) n None = ⊥
+IsTranslated m (Some e) n (Some text) = IsAskedForm m n e.forms text
+
+-- the same, as a string of C: the form and the NUL behind it
+abbrev pub IsTranslatedClosed : List Entry → Option Entry → Option ℕ → Option (List ℕ) → Type 0
+IsTranslatedClosed m None n bytes = bytes ≡ None
+IsTranslatedClosed m (Some e) n None = ⊥
+IsTranslatedClosed m (Some e) n (Some bytes) = (text : List ℕ) × IsAskedForm m n e.forms text × (bytes ≡ closed text)

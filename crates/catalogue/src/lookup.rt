@@ -1,23 +1,26 @@
 //! The look-ups of gettext. They take no memory, and lend their answer from the catalogue or from an argument.
-ghost use Rattle.std.specs.Prelude.{◌≡◌, Some, None};
+ghost use Rattle.std.specs.Prelude.{◌≡◌, ◌<◌, ℕ, List, length, slice_get, Some, None, option_map};
 ghost use Rattle.mo_image.specs.Entry.{key_bytes};
 ghost use Rattle.mo_image.specs.Map.{entry_at};
-ghost use Rattle.catalogue.specs.Value.{IsCounted, IsFirstForm, IsFormFor, IsMapFormFor, text_by};
+ghost use Rattle.catalogue.specs.Value.{IsAskedForm, IsCounted, IsFirstForm, IsFormFor, IsMapFormFor, IsTranslated};
+ghost use Rattle.catalogue.specs.Value.{IsTranslatedClosed, text_by};
 ghost use Rattle.po_header.specs.Rules.{rule_of};
 
 use crate::Catalogue;
 use mo_image::EntryRef;
 use po_header::RuleRead;
 
-/// The form that a number takes by this rule; the first one, where the entry has no such form.
-fn form_by<'a>(entry: &EntryRef<'a>, rule: &RuleRead, n: u64) -> &'a str
-    ensures { IsFormFor (rule_of rule.now) n entry.now.forms result.now }
+/// The place of the form that a number takes by this rule; that of the first one, where the entry has no such form.
+fn place_by(entry: &EntryRef<'_>, rule: &RuleRead, n: u64) -> usize
+    ensures within { result < length entry.now.forms }
+    ensures form { (text : List ℕ) → slice_get entry.now.forms result ≡ Some text
+        → IsFormFor (rule_of rule.now) n entry.now.forms text }
 {
     let k = rule.form_index(n);
     if k < entry.form_count() as u64 {
-        entry.form(k as usize)
+        k as usize
     } else {
-        entry.form(0)
+        0
     }
 }
 
@@ -45,7 +48,7 @@ impl Catalogue {
     pub fn form_for<'a>(&self, entry: &EntryRef<'a>, n: u64) -> &'a str
         ensures { IsMapFormFor self.now n entry.now.forms result.now }
     {
-        form_by(entry, self.rule(), n)
+        entry.form(place_by(entry, self.rule(), n))
     }
 
     /// The form of the entry that was found, or one of the texts.
@@ -94,5 +97,43 @@ impl Catalogue {
             (text_by n id.now plural.now) result.now }
     {
         self.counted(self.find(Some(context), id), id, plural, n)
+    }
+
+    /// The place of the form of an entry of this catalogue that is asked for: the first, or that of a number.
+    fn asked_place(&self, entry: &EntryRef<'_>, n: Option<u64>) -> usize
+        requires { 0 < length entry.now.forms }
+        ensures within { result < length entry.now.forms }
+        ensures form { (text : List ℕ) → slice_get entry.now.forms result ≡ Some text
+            → IsAskedForm self.now n entry.now.forms text }
+    {
+        match n {
+            Some(n) => place_by(entry, self.rule(), n),
+            None => 0,
+        }
+    }
+
+    /// The text of a message in a context, or in none: the first form of its entry, or with a number the form that it
+    /// takes, as in `npgettext`. None exactly where there is no such entry; the text is lent from the catalogue alone.
+    pub fn translated(&self, context: Option<&str>, id: &str, n: Option<u64>) -> Option<&str>
+        ensures { IsTranslated self.now (entry_at self.now (key_bytes (option_map (λ s. s.now) context.entry) id.now))
+            n (option_map (λ s. s.now) result) }
+    {
+        let entry = self.find(context, id)?;
+        Some(entry.form(self.asked_place(&entry, n)))
+    }
+
+    /// The same, with one NUL behind the text, which is C's string then: so an empty text differs from none.
+    pub fn translated_closed(
+        &self,
+        context: Option<&str>,
+        id: &str,
+        n: Option<u64>,
+    ) -> Option<&[u8]>
+        ensures { IsTranslatedClosed self.now
+            (entry_at self.now (key_bytes (option_map (λ s. s.now) context.entry) id.now))
+            n (option_map (λ s. s.now) result) }
+    {
+        let entry = self.find(context, id)?;
+        Some(entry.closed_form(self.asked_place(&entry, n)))
     }
 }

@@ -1,14 +1,14 @@
 -- What stands in the MO file of a lawful map.
 use Rattle.std.proofs.Common.{◌≡◌, ℕ, zero, suc, ◌+◌, ◌*◌, ◌<◌, ◌≤◌, List, [], ◌∷◌, length, map, Some, slice_get, refl}
 use Rattle.std.proofs.Common.{sym, ap, ◌∙◌, subst, arith}
-use Rattle.std.specs.Prelude.{IfSome, Option}
+use Rattle.std.specs.Prelude.{IfSome, Option, slice_index}
 use Rattle.std.specs.Str.{IsUtf8}
 use Rattle.std.proofs.lemmas.List.{length-map}
 use Rattle.byteorder.specs.Endian.{little_number}
 use Rattle.mo_image.specs.Entry.{Entry, key, original, translation, IsLawfulEntry}
 use Rattle.mo_image.specs.Map.{IsFileOf, IsLawful}
 use Rattle.mo_image.specs.MoFile.{spelling}
-use Rattle.mo_image.specs.Tables.{string_at, strings}
+use Rattle.mo_image.specs.Tables.{word_at, string_at, strings}
 use Rattle.mo_image.specs.Pairs.{key_part, entry_of}
 use Rattle.mo_image.specs.Image.{listing, IsImage, NamesText}
 use Rattle.mo_image.proofs.Lists.{slice_get-map, at_place}
@@ -38,6 +38,8 @@ pub record EntryFacts (bytes : List ℕ) (n i : ℕ) : Type 0 where
   pub small : 28 + 8 * n + 8 * i + 8 ≤ length bytes
   pub original : NamesText bytes (28 + 8 * i)
   pub translation : NamesText bytes (28 + 8 * n + 8 * i)
+  pub closed : slice_index bytes (word_at little_number bytes (28 + 8 * n + 8 * i + 4) + word_at little_number bytes (28
+      + 8 * n + 8 * i)) ≡ 0
   pub found : slice_get (listing bytes) i ≡ Some (entry_of (string_at little_number bytes (28 + 8 * i))
       (string_at little_number bytes (28 + 8 * n + 8 * i)))
   pub lawful : IsLawfulEntry (entry_of (string_at little_number bytes (28 + 8 * i))
@@ -59,6 +61,7 @@ facts_of bytes i e image here =
       small = t.row;
       original = text_named bytes (28 + 8 * i) (original e) o (original_utf8 e lawful);
       translation = text_named bytes (28 + 8 * n + 8 * i) (translation e) t (translation_utf8 e lawful);
+      closed = t.closed;
       found = here ∙ ap (λ x. Some x) (sym same);
       lawful = subst IsLawfulEntry (sym same) lawful;
     }

@@ -10,3 +10,4 @@ pub mod Writing
 pub mod Extents
 pub mod ImageFacts
 pub mod Joining
+pub mod Closing

@@ -111,7 +111,7 @@ translation_is o t = join_with_byte-slice_split 0 t
 byte_utf8 : (b : ℕ) (text : List ℕ) → IsUtf8 (b ∷ []) → IsUtf8 text → IsUtf8 (b ∷ text)
 byte_utf8 b text u v = IsUtf8-append (b ∷ []) text u v
 
-nul_utf8 : IsUtf8 (0 ∷ [])
+pub nul_utf8 : IsUtf8 (0 ∷ [])
 unfolding lib.Utf8.encode
 nul_utf8 = (0 ∷ [], (refl, refl))
 

@@ -1,5 +1,5 @@
 -- Where the strings of an entry lie in an MO file.
-use Rattle.std.specs.Prelude.{◌≡◌, ℕ, ◌+◌, ◌*◌, ◌<◌, ◌≤◌, List, length, take, drop}
+use Rattle.std.specs.Prelude.{◌≡◌, ℕ, ◌+◌, ◌*◌, ◌<◌, ◌≤◌, List, length, take, drop, slice_index}
 use Rattle.std.specs.Str.{IsUtf8}
 use Rattle.byteorder.specs.Endian.{little_number}
 use Rattle.mo_image.specs.Tables.{word_at}
@@ -13,6 +13,12 @@ piece bytes extent = take extent.len (drop extent.start bytes)
 pub record HoldsPiece (bytes : List ℕ) (extent : Extent) : Type 0 where
   pub room : extent.start + extent.len ≤ length bytes
   pub utf8 : IsUtf8 (piece bytes extent)
+
+-- a NUL stands behind the bytes of an extent
+pub record HoldsClosed (bytes : List ℕ) (extent : Extent) : Type 0 where
+  pub piece : HoldsPiece bytes extent
+  pub room : extent.start + extent.len < length bytes
+  pub nul : slice_index bytes (extent.start + extent.len) ≡ 0
 
 -- an extent is what the row of a table at this place says
 pub record IsNamedAt (bytes : List ℕ) (place : ℕ) (extent : Extent) : Type 0 where

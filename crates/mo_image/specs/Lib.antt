@@ -8,3 +8,4 @@ pub mod Image
 pub mod Extents
 pub mod Strings
 pub mod Stored
+pub mod Lent

@@ -1,10 +1,12 @@
 //! One entry of a catalogue, whose texts are lent.
-ghost use Rattle.std.specs.Prelude.{◌≡◌, ◌<◌, ◌==◌, ◌∷◌, length, slice_get, Some, option_map};
+ghost use Rattle.std.specs.Prelude.{◌≡◌, ◌<◌, ◌==◌, ◌∷◌, length, slice_get, Some, IfSome, option_map};
 ghost use Rattle.std.specs.List.{count_by, slice_split};
 ghost use Rattle.mo_image.specs.Entry.{IsLawfulEntry, key, translation};
+ghost use Rattle.mo_image.specs.MoFile.{closed};
 ghost use Rattle.text_cut.specs.Cut.{cut};
 ghost use Rattle.mo_image.specs.Parts.{forms_left};
 ghost use Rattle.mo_image.specs.Pairs.{key_part, plural_part};
+ghost use Rattle.mo_image.specs.Lent.{IsClosedCut, IsLent};
 
 use std::marker::Model;
 use text_cut::split_at_byte;
@@ -29,6 +31,16 @@ pub fn split_form(text: &str) -> (&str, Option<&str>)
     match split_at_byte(text, NUL) {
         Some((form, others)) => (form, Some(others)),
         None => (text, None),
+    }
+}
+
+/// The first of some forms, a NUL behind each, with its NUL, and the others.
+fn split_closed(forms: &str) -> (&[u8], &str)
+    ensures { IfSome (cut 0 forms.now) (λ parts. IsClosedCut parts result.0.now result.1.now) }
+{
+    match split_at_byte(forms, NUL) {
+        Some((form, others)) => (&forms.as_bytes()[..=form.len()], others),
+        None => (forms.as_bytes(), ""),
     }
 }
 
@@ -97,6 +109,8 @@ pub struct EntryRef<'a> {
     original: &'a str,
     /// The forms, with NUL between them.
     translation: &'a str,
+    /// The same, and a NUL behind the last one.
+    closed: &'a str,
 }
 
 impl<'a> Model for EntryRef<'a> {
@@ -104,25 +118,26 @@ impl<'a> Model for EntryRef<'a> {
 
     ghost Value = { Entry };
 
-    ghost use Rattle.mo_image.specs.Entry.{IsLawfulEntry};
     ghost use Rattle.mo_image.specs.Pairs.{entry_of};
+    ghost use Rattle.mo_image.specs.Lent.{IsLent};
 
     ghost view = { λ e. entry_of e.original.now e.translation.now };
 
-    ghost invariant = { λ e. IsLawfulEntry (entry_of e.original.now e.translation.now) };
+    ghost invariant = { λ e. IsLent e.original.now e.translation.now e.closed.now };
 }
 
 impl<'a> EntryRef<'a> {
     ghost use Rattle.mo_image.specs.Pairs.{entry_of};
 
-    /// The entry of an original and a translation.
-    pub(crate) fn new(original: &'a str, translation: &'a str) -> EntryRef<'a>
-        requires { IsLawfulEntry (entry_of original.now translation.now) }
+    /// The entry of an original and a translation, which is there with its NUL, too.
+    pub(crate) fn new(original: &'a str, translation: &'a str, closed: &'a str) -> EntryRef<'a>
+        requires { IsLent original.now translation.now closed.now }
         ensures { result ≡ entry_of original.now translation.now }
     {
         EntryRef {
             original,
             translation,
+            closed,
         }
     }
 
@@ -210,6 +225,20 @@ impl<'a> EntryRef<'a> {
         let Some(form) = forms.next() else {
             unreachable!()
         };
+        form
+    }
+
+    /// The form with this index, and one NUL behind it: a string of C. It is found by going over the forms before it.
+    pub fn closed_form(&self, k: usize) -> &'a [u8]
+        requires { k < length self.now.forms }
+        ensures { IfSome (slice_get self.now.forms k) (λ form. result.now ≡ closed form) }
+    {
+        let mut left = self.closed;
+        'skipped: for _i in 0..k {
+            let (_, others) = split_closed(left);
+            left = others;
+        }
+        let (form, _) = split_closed(left);
         form
     }
 }

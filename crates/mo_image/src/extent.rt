@@ -2,7 +2,8 @@
 ghost use Rattle.std.specs.Prelude.{◌≡◌, ◌+◌, ◌≤◌, length};
 ghost use Rattle.byteorder.specs.Endian.{little_number};
 ghost use Rattle.mo_image.specs.Tables.{word_at};
-ghost use Rattle.mo_image.specs.Extents.{piece, HoldsPiece, IsNamedAt};
+ghost use Rattle.mo_image.specs.Extents.{piece, HoldsClosed, HoldsPiece, IsNamedAt};
+ghost use Rattle.mo_image.specs.MoFile.{closed};
 
 use byteorder::{ByteOrder, LittleEndian};
 
@@ -39,4 +40,14 @@ pub(crate) fn text_in(bytes: &[u8], extent: Extent) -> &str
     let start = extent.start as usize;
     let end = start + extent.len as usize;
     unsafe { str::from_utf8_unchecked(&bytes[start..end]) }
+}
+
+/// The text that lies there, with the NUL behind it.
+pub(crate) fn closed_in(bytes: &[u8], extent: Extent) -> &str
+    requires { HoldsClosed bytes.now extent }
+    ensures { result.now ≡ closed (piece bytes.now extent) }
+{
+    let start = extent.start as usize;
+    let end = start + extent.len as usize;
+    unsafe { str::from_utf8_unchecked(&bytes[start..=end]) }
 }

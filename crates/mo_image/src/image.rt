@@ -11,7 +11,7 @@ ghost use Rattle.mo_image.specs.Image.{listing, IsImage, NamesText};
 ghost use Rattle.mo_image.specs.Extents.{AreExtents, AreExtentsOf};
 
 use crate::EntryRef;
-use crate::extent::{EntryExtents, extent_at, text_in};
+use crate::extent::{EntryExtents, closed_in, extent_at, text_in};
 use crate::layout::{COUNT_AT, HEADER_LEN, ROW_LEN};
 use crate::writer::{EntryList, spell};
 use byteorder::{ByteOrder, LittleEndian};
@@ -74,24 +74,6 @@ fn original_of(bytes: &[u8], i: usize) -> &str
     text(bytes, HEADER_LEN + ROW_LEN * i)
 }
 
-/// The translation of the i-th entry.
-fn translation_of(bytes: &[u8], i: usize) -> &str
-    requires image { IsImage bytes.now }
-    requires within { i < length (listing bytes.now) }
-    ensures { result.now ≡ string_at little_number bytes.now (28 + 8 * length (listing bytes.now) + 8 * i) }
-{
-    let translations = HEADER_LEN + ROW_LEN * count_of(bytes);
-    text(bytes, translations + ROW_LEN * i)
-}
-
-fn entry_of(bytes: &[u8], i: usize) -> EntryRef<'_>
-    requires image { IsImage bytes.now }
-    requires within { i < length (listing bytes.now) }
-    ensures { slice_get (listing bytes.now) i ≡ Some result }
-{
-    EntryRef::new(original_of(bytes, i), translation_of(bytes, i))
-}
-
 /// Where the strings of the i-th entry lie.
 fn extents_of(bytes: &[u8], i: usize) -> EntryExtents
     requires image { IsImage bytes.now }
@@ -116,6 +98,7 @@ fn entry_in<'a>(bytes: &'a [u8], extents: &EntryExtents) -> EntryRef<'a>
     EntryRef::new(
         text_in(bytes, extents.original),
         text_in(bytes, extents.translation),
+        closed_in(bytes, extents.translation),
     )
 }
 
@@ -159,7 +142,7 @@ impl Image {
         requires { i < length self.now }
         ensures { slice_get self.now i ≡ Some result }
     {
-        entry_of(&self.bytes, i)
+        entry_in(&self.bytes, &extents_of(&self.bytes, i))
     }
 
     /// The original of the i-th entry: its key, and its plural behind NUL.

@@ -1,0 +1,217 @@
+/* The library's functions in C: memory, counts of holders, and files. What a catalogue is and what it answers stands in
+ * crates/kobdzila_c, whose exports are declared here as Rattle gives them. */
+#include "kobdzila.h"
+
+#include <errno.h>
+#include <stdalign.h>
+#include <stdatomic.h>
+#include <stdint.h>
+#include <stdio.h>
+#include <stdlib.h>
+#include <string.h>
+
+/* What an export holds, and the bytes that it lends. */
+struct held;
+struct lent {
+    const unsigned char *at;
+    size_t len;
+};
+
+size_t kobdzila_size(void);
+void kobdzila_open_mo(const unsigned char *bytes, size_t len, struct held *out);
+void kobdzila_open_po(const unsigned char *bytes, size_t len, uint32_t checked, uint32_t use_fuzzy, struct held *out);
+void kobdzila_close(struct held *held);
+uint64_t kobdzila_number(const struct held *held, uint32_t which, uint64_t place);
+void kobdzila_text(const struct held *held, uint32_t part, uint64_t place, uint64_t form, struct lent *out);
+void kobdzila_answer(const struct held *held, const unsigned char *context, size_t context_len, const unsigned char *msgid,
+                     size_t msgid_len, uint32_t call, uint64_t n, struct lent *out);
+
+enum { FAULT, LINE, COUNT, FORMS, HAS_CONTEXT, HAS_PLURAL };            /* numbers */
+enum { FILE_BYTES, CONTEXT, MSGID, PLURAL, FORM };                      /* texts */
+enum { GETTEXT = 0, IN_CONTEXT = 1, WITH_NUMBER = 2 };                  /* calls; both are npgettext */
+
+#define MOST_MO 268435456
+#define MOST_PO 67108864
+
+struct kob_catalogue {
+    atomic_size_t holders;
+    alignas(max_align_t) unsigned char held[];
+};
+
+static struct held *held_by(kob_catalogue *c) { return (struct held *)(void *)c->held; }
+
+static const struct held *read_by(const kob_catalogue *c) { return (const struct held *)(const void *)c->held; }
+
+static kob_catalogue *refuse(kob_refusal *why, enum kob_fault fault, unsigned line) {
+    if (why)
+        *why = (kob_refusal){ fault, line };
+    return NULL;
+}
+
+static kob_catalogue *room_for_one(void) {
+    kob_catalogue *c = malloc(sizeof *c + kobdzila_size());
+    if (c)
+        atomic_init(&c->holders, 1);
+    return c;
+}
+
+/* The catalogue that was opened, or NULL and its refusal. */
+static kob_catalogue *opened(kob_catalogue *c, kob_refusal *why) {
+    enum kob_fault fault = (enum kob_fault)kobdzila_number(read_by(c), FAULT, 0);
+    unsigned line = (unsigned)kobdzila_number(read_by(c), LINE, 0);
+    refuse(why, fault, line);
+    if (fault == KOB_NO_FAULT)
+        return c;
+    kob_release(c);
+    return NULL;
+}
+
+kob_catalogue *kob_open_mo(const void *bytes, size_t len, kob_refusal *why) {
+    if (len > MOST_MO)
+        return refuse(why, KOB_MO_TOO_LARGE, 0);
+    kob_catalogue *c = room_for_one();
+    if (!c)
+        return refuse(why, KOB_MEMORY, 0);
+    kobdzila_open_mo(len ? bytes : "", len, held_by(c));
+    return opened(c, why);
+}
+
+kob_catalogue *kob_open_po(const void *bytes, size_t len, unsigned options, kob_refusal *why) {
+    if (len > MOST_PO)
+        return refuse(why, KOB_PO_TOO_LARGE, 0);
+    kob_catalogue *c = room_for_one();
+    if (!c)
+        return refuse(why, KOB_MEMORY, 0);
+    kobdzila_open_po(len ? bytes : "", len, options & KOB_CHECKED, options & KOB_USE_FUZZY, held_by(c));
+    return opened(c, why);
+}
+
+/* The bytes of a file, at most `most` and one more; NULL where it can't be read or there is no memory. */
+static unsigned char *read_file(FILE *file, size_t most, size_t *len) {
+    size_t room = 65536;
+    unsigned char *bytes = malloc(room);
+    for (*len = 0; bytes;) {
+        *len += fread(bytes + *len, 1, room - *len, file);
+        if (ferror(file)) {
+            free(bytes);
+            return NULL;
+        }
+        if (*len < room || *len > most)
+            return bytes;
+        unsigned char *more = realloc(bytes, room *= 2);
+        if (!more)
+            free(bytes);
+        bytes = more;
+    }
+    errno = ENOMEM;
+    return NULL;
+}
+
+kob_catalogue *kob_open_file(const char *name, enum kob_kind kind, unsigned options, kob_refusal *why) {
+    FILE *file = fopen(name, "rb");
+    if (!file)
+        return refuse(why, KOB_UNREADABLE, 0);
+    size_t len;
+    unsigned char *bytes = read_file(file, kind == KOB_PO ? MOST_PO : MOST_MO, &len);
+    int cause = errno;
+    fclose(file);
+    errno = cause;
+    if (!bytes)
+        return refuse(why, errno == ENOMEM ? KOB_MEMORY : KOB_UNREADABLE, 0);
+    kob_catalogue *c = kind == KOB_PO ? kob_open_po(bytes, len, options, why) : kob_open_mo(bytes, len, why);
+    free(bytes);
+    return c;
+}
+
+kob_catalogue *kob_retain(kob_catalogue *c) {
+    atomic_fetch_add(&c->holders, 1);
+    return c;
+}
+
+void kob_release(kob_catalogue *c) {
+    if (!c || atomic_fetch_sub(&c->holders, 1) != 1)
+        return;
+    kobdzila_close(held_by(c));
+    free(c);
+}
+
+static struct lent ask(const kob_catalogue *c, kob_text context, kob_text msgid, uint32_t call, uint64_t n) {
+    struct lent out;
+    kobdzila_answer(read_by(c), (const unsigned char *)context.at, context.len, (const unsigned char *)msgid.at, msgid.len,
+                    call, n, &out);
+    return out;
+}
+
+/* A string as a text; a string that is missing is the empty one. */
+static kob_text text_of(const char *string) {
+    return string ? (kob_text){ string, strlen(string) } : (kob_text){ "", 0 };
+}
+
+/* What is found has its NUL, and so a byte at least. */
+static const char *found_or(struct lent found, const char *other) { return found.len ? (const char *)found.at : other; }
+
+const char *kob_gettext(const kob_catalogue *c, const char *msgid) {
+    return found_or(ask(c, text_of(""), text_of(msgid), GETTEXT, 0), msgid);
+}
+
+const char *kob_pgettext(const kob_catalogue *c, const char *context, const char *msgid) {
+    return found_or(ask(c, text_of(context), text_of(msgid), IN_CONTEXT, 0), msgid);
+}
+
+const char *kob_ngettext(const kob_catalogue *c, const char *msgid, const char *plural, unsigned long long n) {
+    return found_or(ask(c, text_of(""), text_of(msgid), WITH_NUMBER, n), n == 1 ? msgid : plural);
+}
+
+const char *kob_npgettext(const kob_catalogue *c, const char *context, const char *msgid, const char *plural,
+                          unsigned long long n) {
+    return found_or(ask(c, text_of(context), text_of(msgid), IN_CONTEXT | WITH_NUMBER, n), n == 1 ? msgid : plural);
+}
+
+kob_text kob_find(const kob_catalogue *c, kob_text context, kob_text msgid, const unsigned long long *n) {
+    uint32_t call = (context.at ? IN_CONTEXT : GETTEXT) | (n ? WITH_NUMBER : GETTEXT);
+    kob_text none = { "", 0 };
+    struct lent found = ask(c, context.at ? context : none, msgid.at ? msgid : none, call, n ? *n : 0);
+    return found.len ? (kob_text){ (const char *)found.at, found.len - 1 } : (kob_text){ NULL, 0 };
+}
+
+size_t kob_count(const kob_catalogue *c) { return (size_t)kobdzila_number(read_by(c), COUNT, 0); }
+
+static kob_text text_at(const kob_catalogue *c, uint32_t part, size_t place, size_t form) {
+    struct lent out;
+    kobdzila_text(read_by(c), part, place, form, &out);
+    return (kob_text){ (const char *)out.at, out.len };
+}
+
+int kob_entry_at(const kob_catalogue *c, size_t place, kob_entry *entry) {
+    const kob_text none = { NULL, 0 };
+    if (place >= kob_count(c))
+        return 0;
+    entry->context = kobdzila_number(read_by(c), HAS_CONTEXT, place) ? text_at(c, CONTEXT, place, 0) : none;
+    entry->msgid = text_at(c, MSGID, place, 0);
+    entry->plural = kobdzila_number(read_by(c), HAS_PLURAL, place) ? text_at(c, PLURAL, place, 0) : none;
+    entry->forms = (size_t)kobdzila_number(read_by(c), FORMS, place);
+    return 1;
+}
+
+kob_text kob_form_at(const kob_catalogue *c, size_t place, size_t form) {
+    if (form >= kobdzila_number(read_by(c), FORMS, place))
+        return (kob_text){ NULL, 0 };
+    return text_at(c, FORM, place, form);
+}
+
+kob_text kob_mo_file(const kob_catalogue *c) { return text_at(c, FILE_BYTES, 0, 0); }
+
+const char *kob_fault_text(enum kob_fault fault) {
+    static const char *const mo[] = { "no fault", "file too large", "file too short", "not an MO file",
+        "unknown revision", "out of bounds", "string not closed", "bad text", "wrong plural forms",
+        "keys out of order", "unsupported charset", "map too large", "out of memory" };
+    static const char *const po[] = { "file too large", "not UTF-8", "bad escape", "string not closed", "unknown word",
+        "bad text", "out of order", "wrong plural index", "duplicate message", "unsupported charset",
+        "system-dependent format", "plural message without a rule", "unreadable plural rule",
+        "wrong number of plural forms", "plural rule fails", "format arguments differ", "newlines differ" };
+    if (fault >= KOB_NO_FAULT && fault <= KOB_MEMORY)
+        return mo[fault];
+    if (fault >= KOB_PO_TOO_LARGE && fault <= KOB_PO_NEWLINE_MISMATCH)
+        return po[fault - KOB_PO_TOO_LARGE];
+    return fault == KOB_UNREADABLE ? "file not readable" : "unknown fault";
+}

@@ -1,0 +1,5 @@
+use Rattle.kobdzila_c.proofs.Keeping.{kept_mo}
+use Rattle.kobdzila_c.proofs.opened.open_mo.Goals as goal
+
+pub returns-in-Ok : goal.returns-in-Ok
+returns-in-Ok c = kept_mo c.args.bytes.now c.in-Ok.catalogue c.kept.result c.in-Ok.ensures.ok c.kept.ensures

@@ -1,0 +1,52 @@
+-- What C asks of a catalogue that it holds, and what it is answered.
+use Rattle.std.specs.Prelude.{◌≡◌, ℕ, ◌==◌, ◌||◌, if◌then◌else◌, List, [], ◌∷◌, Bool, Option, Some, None}
+use Rattle.std.specs.Option.{option_map_or}
+use Rattle.std.specs.Str.{IsUtf8}
+use Rattle.std.specs.Arc.{arc_value}
+use Rattle.mo_image.specs.Entry.{Entry, key_bytes}
+use Rattle.mo_image.specs.Map.{entry_at}
+use Rattle.catalogue.specs.Value.{IsTranslatedClosed}
+use Rattle.kobdzila_c.specs.declared.opened.Opened.{Opened}
+
+-- the map of what was opened; the empty one where it was refused
+abbrev pub map_of : Opened → List Entry
+map_of c = option_map_or (λ shared. arc_value shared) c.catalogue []
+
+-- the calls: gettext is 0, pgettext 1, ngettext 2, npgettext 3
+abbrev pub has_context : ℕ → Bool
+has_context call = call == 1 || call == 3
+
+abbrev pub has_number : ℕ → Bool
+has_number call = call == 2 || call == 3
+
+abbrev pub context_of : ℕ → List ℕ → Option (List ℕ)
+context_of call context = if has_context call then Some context else None
+
+abbrev pub number_of : ℕ → ℕ → Option ℕ
+number_of call n = if has_number call then Some n else None
+
+-- a call with its texts and its number, of which those count that the call has
+pub record Question : Type 0 where
+  pub call : ℕ
+  pub context : List ℕ
+  pub id : List ℕ
+  pub n : ℕ
+
+abbrev pub question : ℕ → List ℕ → List ℕ → ℕ → Question
+question call context id n = record { call = call; context = context; id = id; n = n }
+
+-- nothing for none
+abbrev pub some_of : List ℕ → Option (List ℕ)
+some_of [] = None
+some_of (b ∷ bs) = Some (b ∷ bs)
+
+-- the text of the entry that is asked for with the NUL behind it, and nothing where there is no such entry
+abbrev pub IsAnswered : List Entry → Question → List ℕ → Type 0
+IsAnswered m q text = IsTranslatedClosed m (entry_at m (key_bytes (context_of q.call q.context) q.id))
+    (number_of q.call q.n) (some_of text)
+
+-- what a question is answered; nothing where it is no text
+pub record IsAnswer (m : List Entry) (q : Question) (text : List ℕ) : Type 0 where
+  pub asked : IsUtf8 q.context → IsUtf8 q.id → IsAnswered m q text
+  pub no_context : ¬ IsUtf8 q.context → text ≡ []
+  pub no_id : ¬ IsUtf8 q.id → text ≡ []

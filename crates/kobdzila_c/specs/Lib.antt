@@ -1,0 +1,4 @@
+pub mod Opening
+pub mod Answering
+pub mod Listing
+pub mod Shared

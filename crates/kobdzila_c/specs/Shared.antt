@@ -1,0 +1,47 @@
+-- Which memory is whose between C and this library, for how long, and what lies in it.
+use Rattle.std.specs.Prelude.{◌≡◌, ℕ, List}
+use base.Fraction.{full_share}
+use base.Fml.{Lft, Share, Fml, fsep, fex, flft}
+use mir.Syntax.{erased}
+use denote.Builtin.{u8}
+use denote.Ref.{Bor}
+use denote.RawPtr.{Ptr, lies_at}
+use denote.RattleType.{RattleType}
+use denote.Slice.{ShrSlice}
+use denote.Struct.Lending.{lent_at}
+use Rattle.po_checks.specs.declared.options.Options.{Options}
+use Rattle.kobdzila_c.specs.declared.opened.Opened.{Opened}
+use Rattle.kobdzila_c.specs.contracts.opened.Opened.{the_row}
+use Rattle.kobdzila_c.specs.Answering.{IsAnswer, Question, map_of}
+use Rattle.kobdzila_c.specs.Listing.{text}
+use Rattle.kobdzila_c.specs.Opening.{IsOpenedMo, IsOpenedPo}
+
+-- what was opened lies at p, and is its holder's alone
+abbrev pub holds : Ptr → Opened → Fml
+holds p c = lies_at the_row full_share p c
+
+-- at out lies the catalogue of an MO file, or its refusal
+abbrev pub mo_opened_at : Ptr → List ℕ → Fml
+mo_opened_at out bytes = fex Opened (λ c. fex (IsOpenedMo bytes c) (λ _. holds out c))
+
+-- at out lies the catalogue of a PO text, or its refusal
+abbrev pub po_opened_at : Ptr → List ℕ → Options → Fml
+po_opened_at out bytes options = fex Opened (λ c. fex (IsOpenedPo bytes options c) (λ _. holds out c))
+
+-- who may ask: c is shared at p for the lifetime κ, and a share q of κ's token shows that κ lasts
+abbrev pub reads : Lft → Share → Ptr → Opened → Fml
+reads κ q p c = fsep (lent_at the_row p c κ) (flft κ q)
+
+-- bytes that last as long as κ, by their place and their number
+abbrev pub Text : Lft → RattleType
+Text κ = ShrSlice erased κ u8
+
+-- at out lies the answer to a question, shared for as long as κ
+abbrev pub answered : Lft → Ptr → Opened → Question → Fml
+answered κ out c q = fex (Bor (List ℕ)) (λ r. fex (IsAnswer (map_of c) q r.now)
+    (λ _. lies_at (Text κ) full_share out r))
+
+-- at out lies a text of what is listed, shared for as long as κ
+abbrev pub listed : Lft → Ptr → Opened → ℕ → ℕ → ℕ → Fml
+listed κ out c part i k = fex (Bor (List ℕ)) (λ r. fex (r.now ≡ text c part i k)
+    (λ _. lies_at (Text κ) full_share out r))

@@ -1,0 +1,151 @@
+//! What a catalogue that C holds is asked, and what it answers.
+ghost use Rattle.std.specs.Prelude.{◌≡◌, length, option_map, slice_get};
+ghost use Rattle.std.specs.Arc.{arc_value};
+ghost use Rattle.kobdzila_c.specs.Answering.{IsAnswer, context_of, map_of, number_of, question};
+ghost use Rattle.kobdzila_c.specs.Listing.{entry_number, entry_text, form_at, number, text};
+
+use crate::Opened;
+use catalogue::{Catalogue, EntryRef};
+use std::str::from_utf8;
+
+/// The catalogue, where the bytes were not refused.
+fn catalogue_of(opened: &Opened) -> Option<&Catalogue>
+    ensures { option_map (λ c. c.now) result ≡ option_map (λ shared. arc_value shared) opened.now.catalogue }
+{
+    match &opened.catalogue {
+        Some(catalogue) => Some(&**catalogue),
+        None => None,
+    }
+}
+
+/// The context, where the call has one.
+fn context_in(call: u32, context: &str) -> Option<&str>
+    ensures { option_map (λ s. s.now) result ≡ context_of call context.now }
+{
+    match call {
+        1 | 3 => Some(context),
+        _ => None,
+    }
+}
+
+/// The number, where the call has one.
+fn number_in(call: u32, n: u64) -> Option<u64>
+    ensures { result ≡ number_of call n }
+{
+    match call {
+        2 | 3 => Some(n),
+        _ => None,
+    }
+}
+
+/// The text that answers a question, with its closing NUL; nothing where there is none.
+pub(crate) fn answer<'k>(
+    opened: &'k Opened,
+    context: &[u8],
+    id: &[u8],
+    call: u32,
+    n: u64,
+) -> &'k [u8]
+    ensures { IsAnswer (map_of opened.now) (question call context.now id.now n) result.now }
+{
+    let Some(catalogue) = catalogue_of(opened) else {
+        return &[]
+    };
+    let Ok(context) = from_utf8(context) else {
+        return &[]
+    };
+    let Ok(id) = from_utf8(id) else { return &[] };
+    match catalogue.translated_closed(context_in(call, context), id, number_in(call, n)) {
+        Some(text) => text,
+        None => &[],
+    }
+}
+
+/// The entry at this place of a catalogue, if there is one.
+fn entry_at<'k>(opened: &'k Opened, i: u64) -> Option<EntryRef<'k>>
+    ensures { result ≡ slice_get (map_of opened.now) i }
+{
+    let catalogue = catalogue_of(opened)?;
+    if i < catalogue.len() as u64 {
+        Some(catalogue.entry(i as usize))
+    } else {
+        None
+    }
+}
+
+/// How many entries there are.
+fn count(opened: &Opened) -> u64
+    ensures { result ≡ length (map_of opened.now) }
+{
+    match catalogue_of(opened) {
+        Some(catalogue) => catalogue.len() as u64,
+        None => 0,
+    }
+}
+
+/// A number of an entry: how many forms it has, whether it has a context, whether it has a plural.
+fn entry_number(entry: &EntryRef<'_>, which: u32) -> u64
+    ensures { result ≡ entry_number entry.now which }
+{
+    match which {
+        3 => entry.form_count() as u64,
+        4 => u64::from(entry.context().is_some()),
+        5 => u64::from(entry.plural().is_some()),
+        _ => 0,
+    }
+}
+
+/// A number of what was opened: its refusal, the line of it, how many entries it has; or a number of an entry.
+pub(crate) fn number(opened: &Opened, which: u32, i: u64) -> u64
+    ensures { result ≡ number opened.now which i }
+{
+    match which {
+        0 => u64::from(opened.fault),
+        1 => u64::from(opened.line),
+        2 => count(opened),
+        _ => match entry_at(opened, i) {
+            Some(entry) => entry_number(&entry, which),
+            None => 0,
+        },
+    }
+}
+
+/// A form of an entry; nothing where there is no such form.
+fn form_of<'k>(entry: &EntryRef<'k>, k: u64) -> &'k str
+    ensures { result.now ≡ form_at entry.now k }
+{
+    if k < entry.form_count() as u64 {
+        entry.form(k as usize)
+    } else {
+        ""
+    }
+}
+
+/// A text of an entry: its context, its msgid, its plural, or one of its forms.
+fn entry_text<'k>(entry: &EntryRef<'k>, part: u32, k: u64) -> &'k str
+    ensures { result.now ≡ entry_text entry.now part k }
+{
+    match part {
+        1 => entry.context().unwrap_or(""),
+        2 => entry.id(),
+        3 => entry.plural().unwrap_or(""),
+        4 => form_of(entry, k),
+        _ => "",
+    }
+}
+
+/// The MO file of what was opened, or a text of an entry.
+pub(crate) fn text<'k>(opened: &'k Opened, part: u32, i: u64, k: u64) -> &'k [u8]
+    ensures { result.now ≡ text opened.now part i k }
+{
+    if part == 0 {
+        return match catalogue_of(opened) {
+            Some(catalogue) => catalogue.file(),
+            None => &[],
+        };
+    }
+    match entry_at(opened, i) {
+        Some(entry) => entry_text(&entry, part, k).as_bytes(),
+        None => &[],
+    }
+}

@@ -1,0 +1,117 @@
+-- Texts with the NUL behind them: in a file, and the forms of an entry.
+use Rattle.std.proofs.Common.{◌≡◌, ℕ, zero, suc, ◌+◌, ◌-◌, ◌<◌, List, [], ◌∷◌, ◌++◌, length, take, drop, get_or, eqb}
+use Rattle.std.proofs.Common.{Option, Some, slice_get, refl, sym, ap, ◌∙◌, subst, arith, append_assoc}
+use Rattle.std.specs.Prelude.{IfSome, slice_index, ◌==◌}
+use Rattle.std.specs.List.{AllByRecursion, join_with_byte, slice_split}
+use Rattle.std.specs.Str.{IsUtf8}
+use Rattle.std.proofs.lemmas.Bool.{eqb-true}
+use Rattle.std.proofs.lemmas.List.{take_more, get_or-drop, length-drop, length-take-le}
+use Rattle.std.proofs.lemmas.List.Splits.{join_with_byte-slice_split, length-slice_split}
+use Rattle.std.proofs.lemmas.List.Sums.{passes_at_first}
+use Rattle.std.proofs.lemmas.Str.{IsUtf8-append}
+use Rattle.byteorder.specs.Endian.{little_number}
+use Rattle.text_cut.specs.Cut.{cut, place_of, IsCut}
+use Rattle.mo_image.specs.Entry.{Entry, IsLawfulEntry, Lacks}
+use Rattle.mo_image.specs.Extents.{piece, HoldsClosed, IsNamedAt}
+use Rattle.mo_image.specs.Image.{NamesText}
+use Rattle.mo_image.specs.Lent.{IsClosedCut, IsLent}
+use Rattle.mo_image.specs.MoFile.{closed, pool}
+use Rattle.mo_image.specs.Pairs.{entry_of}
+use Rattle.mo_image.specs.Tables.{word_at}
+use Rattle.mo_image.specs.declared.extent.Extent.{Extent}
+use Rattle.mo_image.proofs.EntryParts.{cut-some, lack_nul}
+use Rattle.mo_image.proofs.Extents.{piece_held}
+use Rattle.mo_image.proofs.Originals.{nul_utf8}
+
+-- what is read of a file to and with the NUL
+pub closed_piece : (bytes : List ℕ) (extent : Extent) → HoldsClosed bytes extent
+    → take (extent.start + extent.len + 1 - extent.start) (drop extent.start bytes) ≡ closed (piece bytes extent)
+closed_piece bytes extent h =
+    let behind : List ℕ = drop extent.start bytes in
+    let count : extent.start + extent.len + 1 - extent.start ≡ extent.len + 1 = omega arith in
+    let inside : extent.len < length behind = omega (arith, length-drop extent.start bytes, h.room) in
+    let nul : get_or behind extent.len 0 ≡ 0 = get_or-drop extent.start bytes extent.len 0 ∙ h.nul in
+    ap (λ (n : ℕ). take n behind) count ∙ take_more behind extent.len 0 inside
+    ∙ ap (λ (b : ℕ). piece bytes extent ++ (b ∷ [])) nul
+
+pub closed_utf8 : (bytes : List ℕ) (extent : Extent) → HoldsClosed bytes extent
+    → IsUtf8 (take (extent.start + extent.len + 1 - extent.start) (drop extent.start bytes))
+closed_utf8 bytes extent h = subst IsUtf8 (sym (closed_piece bytes extent h))
+    (IsUtf8-append (piece bytes extent) (0 ∷ []) h.piece.utf8 nul_utf8)
+
+pub closed_held : (bytes : List ℕ) (place : ℕ) (extent : Extent) → IsNamedAt bytes place extent
+    → NamesText bytes place
+    → slice_index bytes (word_at little_number bytes (place + 4) + word_at little_number bytes place) ≡ 0
+    → HoldsClosed bytes extent
+closed_held bytes place extent h text nul = record {
+  piece = piece_held bytes place extent h text;
+  room = omega (arith, h.len, h.start, text.room);
+  nul = rw (h.len, h.start) nul;
+}
+
+-- a form, and the NUL where it is cut
+pub closed_front : (text form others : List ℕ) → IsCut 0 text form others → take (length form + 1) text ≡ closed form
+closed_front text form others at =
+    let p : ℕ = place_of 0 text in
+    let len : length form ≡ p = ap length at.front_is ∙ length-take-le p text (omega (arith, at.within)) in
+    let nul : get_or text p 0 ≡ 0 = eqb-true _ _ (passes_at_first (λ b. eqb b 0) text 0 at.within) in
+    ap (λ (n : ℕ). take (n + 1) text) len ∙ take_more text p 0 at.within
+    ∙ ap (λ (b : ℕ). take p text ++ (b ∷ [])) nul ∙ ap closed (sym at.front_is)
+
+-- forms with NUL between them and one behind are forms with a NUL behind each
+closed_joined : (forms : List (List ℕ)) → 0 < length forms → closed (join_with_byte 0 forms) ≡ pool forms
+closed_joined [] some = absurd (omega arith)
+closed_joined (f ∷ []) some = sym (append-nil-of (closed f))
+  where
+    append-nil-of : (xs : List ℕ) → xs ++ [] ≡ xs
+    append-nil-of [] = refl
+    append-nil-of (x ∷ xs) = ap (λ (ys : List ℕ). x ∷ ys) (append-nil-of xs)
+closed_joined (f ∷ g ∷ fs) some =
+    append_assoc f (0 ∷ join_with_byte 0 (g ∷ fs)) (0 ∷ [])
+    ∙ ap (λ (rest : List ℕ). f ++ (0 ∷ rest)) (closed_joined (g ∷ fs) (omega arith))
+    ∙ sym (append_assoc f (0 ∷ []) (pool (g ∷ fs)))
+
+pub closed_forms : (t : List ℕ) → closed t ≡ pool (slice_split (λ b. b == 0) t)
+closed_forms t = ap closed (sym (join_with_byte-slice_split 0 t))
+    ∙ closed_joined (slice_split (λ b. eqb b 0) t) (omega (arith, length-slice_split (λ b. eqb b 0) t))
+
+-- the form at k, cut from what is left when those before it were taken
+pub record IsCutAt (forms : List (List ℕ)) (k : ℕ) (form : List ℕ) : Type 0 where
+  pub found : slice_get forms k ≡ Some form
+  pub split : cut 0 (pool (drop k forms)) ≡ Some (form, pool (drop (k + 1) forms))
+
+pub cut_at : (forms : List (List ℕ)) (k : ℕ) → AllByRecursion (Lacks 0) forms → k < length forms
+    → (form : List ℕ) × IsCutAt forms k form
+cut_at [] k lack lt = absurd (omega arith)
+cut_at (f ∷ fs) zero lack lt = (
+  f,
+  record { found = refl; split = ap (cut 0) (append_assoc f (0 ∷ []) (pool fs)) ∙ cut-some 0 f (pool fs) lack.0 },
+)
+cut_at (f ∷ fs) (suc k) lack lt =
+    let at = cut_at fs k lack.1 (omega arith) in
+    let on : suc k + 1 ≡ suc (k + 1) = omega arith in (
+      at.0,
+      record {
+        found = at.1.found;
+        split = at.1.split ∙ ap (λ (n : ℕ). Some (at.0, pool (drop n (f ∷ fs)))) (sym on);
+      },
+    )
+
+-- what is left of the forms of an entry at first, and when one more was cut off
+pub closed_at_first : (o t c : List ℕ) (e : Entry) → IsLent o t c → entry_of o t ≡ e → c ≡ pool (drop 0 e.forms)
+closed_at_first o t c e lent view = lent.closed ∙ closed_forms t
+    ∙ ap (λ (x : Entry). pool (drop 0 x.forms)) view
+
+pub lent_cut : (o t c : List ℕ) (e : Entry) (k : ℕ) → IsLent o t c → entry_of o t ≡ e → k < length e.forms
+    → (form : List ℕ) × IsCutAt e.forms k form
+lent_cut o t c e k lent view lt = cut_at e.forms k
+    (lack_nul e.forms (subst IsLawfulEntry view lent.lawful).forms) lt
+
+pub cut_told : (forms : List (List ℕ)) (k : ℕ) (left front behind : List ℕ) → (form : List ℕ) × IsCutAt forms k form
+    → left ≡ pool (drop k forms) → IfSome (cut 0 left) (λ parts. IsClosedCut parts front behind)
+    → IfSome (slice_get forms k) (λ form. front ≡ closed form) × (behind ≡ pool (drop (k + 1) forms))
+cut_told forms k left front behind at are told =
+    let P : Option (List ℕ × List ℕ) → Type 0 = λ parts. IfSome parts (λ p. IsClosedCut p front behind) in
+    let so : IsClosedCut (at.0, pool (drop (k + 1) forms)) front behind = subst P
+    (ap (cut 0) are ∙ at.1.split) told in
+    (rw at.1.found so.form, so.others)

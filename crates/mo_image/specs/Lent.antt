@@ -1,0 +1,15 @@
+-- Private: the strings that an entry lends, and its translation with the NUL behind it.
+use Rattle.std.specs.Prelude.{◌≡◌, ℕ, List}
+use Rattle.mo_image.specs.Entry.{IsLawfulEntry}
+use Rattle.mo_image.specs.MoFile.{closed}
+use Rattle.mo_image.specs.Pairs.{entry_of}
+
+-- an original, a translation, and the same with its NUL
+pub record IsLent (o t c : List ℕ) : Type 0 where
+  pub lawful : IsLawfulEntry (entry_of o t)
+  pub closed : c ≡ closed t
+
+-- a form with its NUL, and what is behind it
+pub record IsClosedCut (parts : List ℕ × List ℕ) (front behind : List ℕ) : Type 0 where
+  pub form : front ≡ closed parts.0
+  pub others : behind ≡ parts.1

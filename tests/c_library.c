@@ -1,0 +1,356 @@
+/* Calls libkobdzila. Run by tests/c_library.sh.
+ *
+ *   c_library calls            each function, and each refusal
+ *   c_library threads          4 threads ask while the catalogue is swapped 10,000 times, and the old one released
+ *   c_library refusals MO..    opens each file, with no memory behind its last byte, and prints its refusal's number
+ */
+#define _GNU_SOURCE
+#include "kobdzila.h"
+
+#include <pthread.h>
+#include <stdatomic.h>
+#include <stdint.h>
+#include <stdio.h>
+#include <stdlib.h>
+#include <string.h>
+#include <sys/mman.h>
+#include <unistd.h>
+
+static int wrong;
+
+static void is(const char *what, int holds) {
+    if (!holds) {
+        printf("wrong: %s\n", what);
+        wrong = 1;
+    }
+}
+
+static int same(kob_text text, const char *string) {
+    return text.at && text.len == strlen(string) && !memcmp(text.at, string, text.len);
+}
+
+/* ---- each function */
+
+static const char po[] = "msgid \"\"\nmsgstr \"Plural-Forms: nplurals=2; plural=n>1;\\n\"\n"
+                         "msgid \"file\"\nmsgid_plural \"files\"\nmsgstr[0] \"fichier\"\nmsgstr[1] \"fichiers\"\n"
+                         "msgctxt \"menu\"\nmsgid \"Open\"\nmsgstr \"Ouvrir\"\n"
+                         "msgctxt \"disk\"\nmsgid \"file\"\nmsgid_plural \"files\"\nmsgstr[0] \"fiche\"\nmsgstr[1] \"fiches\"\n"
+                         "#, fuzzy\nmsgid \"hi\"\nmsgstr \"salut\"\n";
+
+static kob_text text(const char *string) { return (kob_text){ string, strlen(string) }; }
+
+static void look_ups(const kob_catalogue *c) {
+    const char *missing = "no such message";
+    is("gettext", !strcmp(kob_gettext(c, "file"), "fichier"));
+    is("gettext of none", kob_gettext(c, missing) == missing);
+    is("gettext of no text", !strcmp(kob_gettext(c, "\xff"), "\xff"));
+    is("gettext in no context", !strcmp(kob_gettext(c, "Open"), "Open"));
+    is("pgettext", !strcmp(kob_pgettext(c, "menu", "Open"), "Ouvrir"));
+    is("pgettext of none", kob_pgettext(c, "other", missing) == missing);
+    is("ngettext of 1", !strcmp(kob_ngettext(c, "file", "files", 1), "fichier"));
+    is("ngettext of 2", !strcmp(kob_ngettext(c, "file", "files", 2), "fichiers"));
+    is("ngettext of none, 1", !strcmp(kob_ngettext(c, "x", "y", 1), "x"));
+    is("ngettext of none, 0", !strcmp(kob_ngettext(c, "x", "y", 0), "y"));
+    is("npgettext", !strcmp(kob_npgettext(c, "disk", "file", "files", 2), "fiches"));
+    is("npgettext of none", !strcmp(kob_npgettext(c, "menu", "file", "files", 2), "files"));
+}
+
+static void texts(const kob_catalogue *c) {
+    const kob_text none = { NULL, 0 };
+    unsigned long long two = 2;
+    kob_text found = kob_find(c, none, text("file"), &two);
+    is("find", same(found, "fichiers") && found.at[found.len] == 0);
+    is("find in a context", same(kob_find(c, text("menu"), text("Open"), NULL), "Ouvrir"));
+    is("find of none", !kob_find(c, none, text("Open"), NULL).at);
+    kob_entry e;
+    is("count", kob_count(c) == 4);
+    is("the header", kob_entry_at(c, 0, &e) && same(e.msgid, "") && !e.context.at && !e.plural.at && e.forms == 1);
+    is("an entry in a context", kob_entry_at(c, 1, &e) && same(e.context, "disk") && same(e.msgid, "file"));
+    is("its plural", same(e.plural, "files") && e.forms == 2);
+    is("its form", same(kob_form_at(c, 1, 1), "fiches"));
+    is("a form too many", !kob_form_at(c, 1, 2).at && !kob_form_at(c, 9, 0).at);
+    is("an entry too many", !kob_entry_at(c, 4, &e));
+}
+
+static void files(const kob_catalogue *c, const char *name) {
+    kob_text file = kob_mo_file(c);
+    kob_refusal why;
+    kob_catalogue *again = kob_open_mo(file.at, file.len, &why);
+    is("the MO file reads back", again && why.fault == KOB_NO_FAULT && kob_count(again) == kob_count(c));
+    look_ups(again);
+    texts(again);
+    FILE *f = fopen(name, "wb");
+    is("a file is written", f && fwrite(file.at, 1, file.len, f) == file.len && !fclose(f));
+    kob_catalogue *read = kob_open_file(name, KOB_MO, 0, NULL);
+    is("a file is opened", read && kob_count(read) == 4);
+    kob_release(read);
+    is("a file is no PO text", !kob_open_file(name, KOB_PO, 0, &why) && why.fault != KOB_NO_FAULT);
+    unlink(name);
+    is("no file", !kob_open_file(name, KOB_MO, 0, &why) && why.fault == KOB_UNREADABLE);
+    is("a folder", !kob_open_file("/", KOB_MO, 0, &why) && why.fault == KOB_UNREADABLE);
+    kob_release(again);
+}
+
+/* ---- each refusal */
+
+static void refuses_po(const char *bytes, size_t len, enum kob_fault fault, unsigned line) {
+    kob_refusal why = { KOB_NO_FAULT, 0 };
+    kob_catalogue *c = kob_open_po(bytes, len, KOB_CHECKED, &why);
+    if (c || why.fault != fault || why.line != line) {
+        printf("wrong: a PO text is refused %d at line %u, and not %d at line %u (%s)\n", why.fault, why.line, fault, line,
+               kob_fault_text(fault));
+        wrong = 1;
+        kob_release(c);
+    }
+}
+
+#define HEADER(rule) "msgid \"\"\nmsgstr \"Plural-Forms: " rule "\\n\"\n"
+#define PLURAL "msgid \"a\"\nmsgid_plural \"b\"\nmsgstr[0] \"c\"\n"
+
+static void po_refusals(void) {
+    static const struct {
+        enum kob_fault fault;
+        unsigned line;
+        const char *bytes;
+    } all[] = {
+        { KOB_PO_NOT_UTF8, 1, "\xff" },
+        { KOB_PO_BAD_ESCAPE, 2, "msgid \"a\"\nmsgstr \"\\q\"\n" },
+        { KOB_PO_OPEN_STRING, 1, "msgid \"a\nmsgstr \"x\"\n" },
+        { KOB_PO_BAD_WORD, 1, "word\n" },
+        { KOB_PO_BAD_TEXT, 1, "msgid \"\\004\"\nmsgstr \"x\"\n" },
+        { KOB_PO_BAD_ORDER, 1, "msgstr \"x\"\n" },
+        { KOB_PO_BAD_INDEX, 3, "msgid \"a\"\nmsgid_plural \"b\"\nmsgstr[1] \"x\"\n" },
+        { KOB_PO_DUPLICATE, 3, "msgid \"a\"\nmsgstr \"x\"\nmsgid \"a\"\nmsgstr \"y\"\n" },
+        { KOB_PO_CHARSET, 1, "msgid \"\"\nmsgstr \"Content-Type: text/plain; charset=KOI8-R\\n\"\n" },
+        { KOB_PO_SYSTEM_DEPENDENT, 2, "#, c-format\nmsgid \"%<PRId64>\"\nmsgstr \"%<PRId64>\"\n" },
+        { KOB_PO_NO_RULE, 1, PLURAL },
+        { KOB_PO_BAD_RULE, 1, HEADER("nplurals=1; plural=;") PLURAL },
+        { KOB_PO_FORM_COUNT, 3, HEADER("nplurals=2; plural=n>1;") PLURAL },
+        { KOB_PO_PLURAL_RANGE, 1, HEADER("nplurals=1; plural=n>1;") PLURAL },
+        { KOB_PO_FORMAT_MISMATCH, 2, "#, c-format\nmsgid \"%d\"\nmsgstr \"%s\"\n" },
+        { KOB_PO_NEWLINE_MISMATCH, 1, "msgid \"a\\n\"\nmsgstr \"b\"\n" },
+    };
+    for (size_t i = 0; i < sizeof all / sizeof *all; i++)
+        refuses_po(all[i].bytes, strlen(all[i].bytes), all[i].fault, all[i].line);
+    size_t large = 67108865;
+    char *blank = calloc(large, 1);
+    if (blank)
+        refuses_po(blank, large, KOB_PO_TOO_LARGE, 0);
+    free(blank);
+}
+
+static void put(unsigned char *at, uint32_t word) {
+    for (int i = 0; i < 4; i++)
+        at[i] = (unsigned char)(word >> 8 * i);
+}
+
+/* An MO file of so many entries with these strings. */
+struct string {
+    const char *at;
+    uint32_t len;
+};
+
+static unsigned char *mo_of(const struct string *originals, const struct string *translations, uint32_t n, size_t *len) {
+    uint32_t at = 28 + 16 * n;
+    *len = at;
+    for (uint32_t i = 0; i < n; i++)
+        *len += originals[i].len + translations[i].len + 2;
+    unsigned char *file = calloc(1, *len);
+    const uint32_t words[] = { 0x950412de, 0, n, 28, 28 + 8 * n, 0, at };
+    for (int i = 0; i < 7; i++)
+        put(file + 4 * i, words[i]);
+    for (uint32_t i = 0; i < 2 * n; i++) {
+        struct string s = i < n ? originals[i] : translations[i - n];
+        put(file + 28 + 8 * i, s.len);
+        put(file + 32 + 8 * i, at);
+        memcpy(file + at, s.at, s.len);
+        at += s.len + 1;
+    }
+    return file;
+}
+
+static void refuses_mo(const unsigned char *file, size_t len, enum kob_fault fault) {
+    kob_refusal why = { KOB_NO_FAULT, 0 };
+    kob_catalogue *c = kob_open_mo(file, len, &why);
+    if (c || why.fault != fault || why.line != 0) {
+        printf("wrong: an MO file is refused %d, and not %d (%s)\n", why.fault, fault, kob_fault_text(fault));
+        wrong = 1;
+        kob_release(c);
+    }
+}
+
+static void refuses_strings(struct string o, struct string t, enum kob_fault fault) {
+    size_t len;
+    unsigned char *file = mo_of(&o, &t, 1, &len);
+    refuses_mo(file, len, fault);
+    free(file);
+}
+
+/* The bytes of one entry, with one word or byte of the file changed. */
+static void refuses_changed(size_t place, uint32_t word, enum kob_fault fault) {
+    const struct string o = { "a", 1 }, t = { "b", 1 };
+    size_t len;
+    unsigned char *file = mo_of(&o, &t, 1, &len);
+    put(file + place, word);
+    refuses_mo(file, len, fault);
+    free(file);
+}
+
+/* 300 entries that share one translation of a million bytes. */
+static void refuses_swollen(void) {
+    const uint32_t n = 300, long_one = 1000000, at = 28 + 16 * n;
+    size_t len = at + 4 * n + long_one + 1;
+    unsigned char *file = calloc(1, len);
+    const uint32_t words[] = { 0x950412de, 0, n, 28, 28 + 8 * n, 0, at };
+    for (int i = 0; i < 7; i++)
+        put(file + 4 * i, words[i]);
+    for (uint32_t i = 0; i < n; i++) {
+        put(file + 28 + 8 * i, 3);
+        put(file + 32 + 8 * i, at + 4 * i);
+        snprintf((char *)file + at + 4 * i, 4, "%03u", i);
+        put(file + 28 + 8 * (n + i), long_one);
+        put(file + 32 + 8 * (n + i), at + 4 * n);
+    }
+    memset(file + at + 4 * n, 'x', long_one);
+    refuses_mo(file, len, KOB_MO_SWOLLEN);
+    free(file);
+}
+
+static void mo_refusals(void) {
+    const struct string falling[] = { { "b", 1 }, { "a", 1 } }, two[] = { { "c", 1 }, { "d", 1 } };
+    size_t len;
+    refuses_mo((const unsigned char *)"", 268435457, KOB_MO_TOO_LARGE);
+    refuses_mo(NULL, 0, KOB_MO_SHORT);
+    refuses_changed(0, 1, KOB_MO_MAGIC);
+    refuses_changed(4, 1, KOB_MO_REVISION);
+    refuses_changed(32, 1000, KOB_MO_BOUNDS);
+    refuses_changed(28, 0, KOB_MO_NO_NUL);
+    refuses_strings((struct string){ "\xff", 1 }, (struct string){ "b", 1 }, KOB_MO_BAD_TEXT);
+    refuses_strings((struct string){ "a", 1 }, (struct string){ "b\0c", 3 }, KOB_MO_FORMS);
+    unsigned char *file = mo_of(falling, two, 2, &len);
+    refuses_mo(file, len, KOB_MO_ORDER);
+    free(file);
+    refuses_strings((struct string){ "", 0 }, (struct string){ "charset=KOI8-R\n", 15 }, KOB_MO_CHARSET);
+    refuses_swollen();
+}
+
+static void fault_texts(void) {
+    for (int fault = KOB_NO_FAULT; fault <= KOB_UNREADABLE; fault++) {
+        int known = fault <= KOB_MEMORY || (fault >= KOB_PO_TOO_LARGE && fault <= KOB_PO_NEWLINE_MISMATCH) ||
+                    fault == KOB_UNREADABLE;
+        is("a fault has a text", known == (strcmp(kob_fault_text((enum kob_fault)fault), "unknown fault") != 0));
+    }
+}
+
+static void calls(void) {
+    kob_catalogue *c = kob_open_po(po, strlen(po), KOB_CHECKED, NULL);
+    is("a PO text is opened", c != NULL);
+    look_ups(c);
+    texts(c);
+    files(c, "c_library.mo");
+    is("retain", kob_retain(c) == c);
+    kob_release(c);
+    is("one holder is left", !strcmp(kob_gettext(c, "hi"), "hi"));
+    kob_release(c);
+    kob_release(NULL);
+    c = kob_open_po(po, strlen(po), KOB_USE_FUZZY, NULL);
+    is("fuzzy messages", !strcmp(kob_gettext(c, "hi"), "salut"));
+    kob_release(c);
+    po_refusals();
+    mo_refusals();
+    fault_texts();
+}
+
+/* ---- threads */
+
+#define THREADS 4
+#define SWAPS 10000
+
+static pthread_mutex_t lock = PTHREAD_MUTEX_INITIALIZER;
+static kob_catalogue *shown;
+static atomic_int ended;
+
+static kob_catalogue *hold(void) {
+    pthread_mutex_lock(&lock);
+    kob_catalogue *c = kob_retain(shown);
+    pthread_mutex_unlock(&lock);
+    return c;
+}
+
+static void *ask(void *arg) {
+    size_t *asked = arg;
+    while (!atomic_load(&ended)) {
+        kob_catalogue *c = hold();
+        const char *a = kob_gettext(c, "a"), *b = kob_gettext(c, "b");
+        if ((strcmp(a, "one") || strcmp(b, "one")) && (strcmp(a, "two") || strcmp(b, "two")))
+            atomic_store(&ended, 2);
+        kob_release(c);
+        ++*asked;
+    }
+    return NULL;
+}
+
+static kob_catalogue *of_text(const char *all) {
+    char bytes[100];
+    int len = snprintf(bytes, sizeof bytes, "msgid \"a\"\nmsgstr \"%s\"\nmsgid \"b\"\nmsgstr \"%s\"\n", all, all);
+    return kob_open_po(bytes, (size_t)len, 0, NULL);
+}
+
+static void threads(void) {
+    pthread_t ids[THREADS];
+    size_t asked[THREADS] = { 0 };
+    shown = of_text("one");
+    for (int i = 0; i < THREADS; i++)
+        pthread_create(&ids[i], NULL, ask, &asked[i]);
+    for (int i = 0; i < SWAPS && !atomic_load(&ended); i++) {
+        kob_catalogue *next = of_text(i % 2 ? "one" : "two");
+        pthread_mutex_lock(&lock);
+        kob_catalogue *last = shown;
+        shown = next;
+        pthread_mutex_unlock(&lock);
+        kob_release(last);
+    }
+    int none = 0;
+    is("each thread saw whole catalogues", atomic_compare_exchange_strong(&ended, &none, 1));
+    for (int i = 0; i < THREADS; i++) {
+        pthread_join(ids[i], NULL);
+        is("each thread asked", asked[i] > 0);
+    }
+    kob_release(shown);
+}
+
+/* ---- files with no memory behind them */
+
+static void print_refusal(const char *name) {
+    FILE *f = fopen(name, "rb");
+    if (!f)
+        exit(2);
+    fseek(f, 0, SEEK_END);
+    size_t len = (size_t)ftell(f), page = (size_t)sysconf(_SC_PAGESIZE), whole = (len + page - 1) / page * page;
+    rewind(f);
+    unsigned char *room = mmap(NULL, whole + page, PROT_READ | PROT_WRITE, MAP_PRIVATE | MAP_ANONYMOUS, -1, 0);
+    unsigned char *bytes = room + whole - len;
+    if (room == MAP_FAILED || fread(bytes, 1, len, f) != len || mprotect(room + whole, page, PROT_NONE))
+        exit(2);
+    fclose(f);
+    kob_refusal why;
+    kob_catalogue *c = kob_open_mo(bytes, len, &why);
+    munmap(room, whole + page);
+    if (c)
+        printf("accepted %zu\n", kob_count(c));
+    else
+        printf("refused %d\n", why.fault);
+    kob_release(c);
+}
+
+int main(int argc, char **argv) {
+    const char *what = argc > 1 ? argv[1] : "";
+    if (!strcmp(what, "calls"))
+        calls();
+    else if (!strcmp(what, "threads"))
+        threads();
+    else
+        for (int i = 2; i < argc; i++)
+            print_refusal(argv[i]);
+    return wrong;
+}
