@@ -19,13 +19,13 @@ use Rattle.desks.specs.Answers.{Answered}
 use Rattle.desks.specs.Desks.{IsServed}
 use Rattle.desks.specs.declared.desk.Answer.{Answer}
 use Rattle.desks.specs.declared.desk.Desk.{Desk}
-use Rattle.catserve.specs.Script.{QuestionValue, query_for, queries_for}
+use Rattle.script_text.specs.Script.{QuestionValue, query_for, queries_for}
 use Rattle.catserve.specs.Output.{answer_line}
 use Rattle.catserve.specs.Rounds.{Answers, AnswersInTurn}
 use Rattle.catserve.specs.Asking.{readers_of, AreAsked, GivesOne, answer_lines, desk_lines, IsFreed}
 use Rattle.catserve.specs.Running.{AreReady, HaveBook}
 use Rattle.catserve.proofs.Batching.{joined-append}
-use Rattle.catserve.proofs.Cutting.{take-all}
+use Rattle.script_text.proofs.Cutting.{take-all}
 
 -- ---- questions
 

@@ -1,8 +1,4 @@
-pub mod Cutting
-pub mod Numerals
-pub mod Escapes
-pub mod Taking
-pub mod Parsing
+pub mod Writing
 pub mod Batching
 pub mod Turns
 pub mod Asked
@@ -10,3 +6,6 @@ pub mod Playing
 pub mod Sources
 pub mod OneOutput
 pub mod SomeOutput
+pub mod LinesTaken
+pub mod SessionLines
+pub mod SessionTalk

@@ -12,7 +12,7 @@ use Rattle.live_set.specs.Asks.{AskValue, Plain, Context, Number, ContextNumber,
 use Rattle.live_set.specs.Asks.{answering}
 use Rattle.live_versions.specs.declared.fault.StoreFault.TheVariants as store_fault
 use Rattle.desks.specs.Jobs.{JobValue}
-use Rattle.catserve.specs.Script.{QuestionValue, RoundValue, ScriptValue, queries_for, script}
+use Rattle.script_text.specs.Script.{QuestionValue, RoundValue, ScriptValue, queries_for, script}
 use Rattle.catserve.specs.Output.{answer_line, version_line}
 use Rattle.catserve.specs.Rounds.{Outcome, Accepted, Refused, RefusedMo, Unnamed, IsOutcome, outcome_line}
 use Rattle.catserve.specs.Rounds.{accepted_load, Answers, AnswersInTurn, Plays, PlaysAll}

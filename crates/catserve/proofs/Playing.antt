@@ -13,11 +13,11 @@ use Rattle.live_versions.specs.Store.{StoreValue, HasRoom}
 use Rattle.live_versions.specs.Seen.{SeenValue}
 use Rattle.desks.specs.Jobs.{JobValue, IsAccepted}
 use Rattle.desks.specs.declared.job.Accepted as job
-use Rattle.catserve.specs.Script.{RoundValue}
+use Rattle.script_text.specs.Script.{RoundValue}
 use Rattle.catserve.specs.Output.{version_line}
 use Rattle.catserve.specs.Rounds.{Outcome, Accepted, Refused, RefusedMo, Unnamed, IsOutcome, outcome_line}
 use Rattle.catserve.specs.Rounds.{accepted_load, AnswersInTurn, PlaysAll}
-use Rattle.catserve.specs.Gathering.{load_count}
+use Rattle.script_text.specs.Script.{load_count}
 use Rattle.catserve.specs.Running.{LoadsOne, LoadsAll, HasLoaded, HasRoomFor, PlaysOne, HasPlayed}
 use Rattle.catserve.proofs.Batching.{AllZip-snoc, flat_map-snoc, joined-append}
 
@@ -78,7 +78,7 @@ few_accepted (Refused fault ∷ outcomes) = omega (arith, few_accepted outcomes)
 few_accepted (RefusedMo fault ∷ outcomes) = omega (arith, few_accepted outcomes)
 few_accepted (Unnamed ∷ outcomes) = omega (arith, few_accepted outcomes)
 
-few_outcomes : (loads : List JobValue) (outcomes : List Outcome) → AllZip IsOutcome loads outcomes
+pub few_outcomes : (loads : List JobValue) (outcomes : List Outcome) → AllZip IsOutcome loads outcomes
     → length (filter_map accepted_load outcomes) ≤ length loads
 few_outcomes loads outcomes each = omega (arith, few_accepted outcomes, AllZip-long IsOutcome loads outcomes each)
 

@@ -19,9 +19,9 @@ use Rattle.live_set.specs.Asks.{answering, first_with, has_key, key_of}
 use Rattle.live_set.specs.Languages.{named}
 use Rattle.std.specs.Option.{option_map_or}
 use Rattle.desks.specs.Jobs.{JobValue}
-use Rattle.catserve.specs.Script.{QuestionValue, RoundValue, ScriptValue, queries_for, script}
+use Rattle.script_text.specs.Script.{QuestionValue, RoundValue, ScriptValue, queries_for, script}
 use Rattle.catserve.specs.Output.{answer_line, version_line}
-use Rattle.catserve.specs.Texts.{IsReadable}
+use Rattle.script_text.specs.Texts.{IsReadable}
 use Rattle.catserve.specs.Rounds.{Outcome, Accepted, Refused, RefusedMo, Unnamed, IsOutcome, outcome_line}
 use Rattle.catserve.specs.Rounds.{accepted_load, Answers, AnswersInTurn, Plays, PlaysAll}
 use Rattle.catserve.specs.Laws.{HasSomeOutput}

@@ -7,7 +7,7 @@ use Rattle.live_versions.specs.Seen.{SeenValue}
 use Rattle.desks.specs.declared.desk.Answer.{Answer}
 use Rattle.desks.specs.declared.desk.Desk.{Desk}
 use Rattle.catserve.specs.Output.{answer_line}
-use Rattle.catserve.specs.Script.{QuestionValue, queries_for}
+use Rattle.script_text.specs.Script.{QuestionValue, queries_for}
 
 -- the readers of some desks
 abbrev pub readers_of : List Desk → List SeenValue

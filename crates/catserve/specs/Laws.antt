@@ -1,6 +1,6 @@
 -- The laws of the words above: a text has one output, or a fault.
 use Rattle.std.specs.Prelude.{◌≡◌, ◌⊎◌, ℕ, ◌<◌, List, length}
-use Rattle.catserve.specs.Texts.{most_script, IsUndecodable, HasBadLine}
+use Rattle.script_text.specs.Texts.{most_script, IsUndecodable, HasBadLine}
 use Rattle.catserve.specs.Rounds.{HasOutput}
 
 -- a text has one output at most

@@ -1,14 +1,9 @@
-pub mod LineFields
-pub mod ScriptFields
-pub mod Commands
-pub mod Script
-pub mod Texts
 pub mod Output
 pub mod Rounds
 pub mod Laws
 pub mod Run
+pub mod Session
 pub mod Asking
 pub mod Running
-pub mod Scanning
-pub mod LineValues
-pub mod Gathering
+pub mod Hearing
+pub mod Talking

@@ -10,8 +10,8 @@ use Rattle.live_versions.specs.declared.fault.StoreFault.TheVariants as store_fa
 use Rattle.desks.specs.Jobs.{JobValue, Brings, IsSourceFault}
 use Rattle.desks.specs.declared.job.Accepted as job
 use Rattle.desks.specs.declared.job.Accepted.TheVariants as accepted
-use Rattle.catserve.specs.Script.{QuestionValue, RoundValue, ScriptValue, queries_for}
-use Rattle.catserve.specs.Texts.{IsScript}
+use Rattle.script_text.specs.Script.{QuestionValue, RoundValue, ScriptValue, queries_for}
+use Rattle.script_text.specs.Texts.{IsScript}
 use Rattle.catserve.specs.Output.{accepted_line, accepted_mo_line, refused_line, refused_mo_line, unnamed_line}
 use Rattle.catserve.specs.Output.{version_line, answer_line}
 

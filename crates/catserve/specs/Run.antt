@@ -2,10 +2,10 @@
 use Rattle.std.specs.Prelude.{◌≡◌, ◌⊎◌, ℕ, List, Option, IfSome, take, Result, Ok, Err}
 use Rattle.std.specs.Io.KnownBytes.{Appends, Consumes}
 use Rattle.devices.specs.Devices.{RisesBy}
-use Rattle.catserve.specs.declared.fault.ScriptFault.{ScriptFault}
-use Rattle.catserve.specs.declared.fault.ScriptKind.{ScriptKind}
-use Rattle.catserve.specs.declared.fault.ScriptKind.TheVariants.{TooLarge, NotUtf8, BadLine, ReadFault, WriteFault}
-use Rattle.catserve.specs.Texts.{IsRefused}
+use Rattle.script_text.specs.declared.fault.ScriptFault.{ScriptFault}
+use Rattle.script_text.specs.declared.fault.ScriptKind.{ScriptKind}
+use Rattle.script_text.specs.declared.fault.ScriptKind.TheVariants.{TooLarge, NotUtf8, BadLine, ReadFault, WriteFault}
+use Rattle.script_text.specs.Texts.{IsRefused}
 use Rattle.catserve.specs.Rounds.{HasOutput}
 
 -- what is known of a reader: the bytes still to be read, where they are told, and the counts of reads and failures

@@ -2,28 +2,19 @@
 use Rattle.std.specs.Prelude.{◌≡◌, ⊤, ℕ, ◌+◌, ◌≤◌, List, [], ◌∷◌, ◌++◌, All, Result, Ok, Err}
 use Rattle.std.specs.List.{AllZip, filter_map, flat_map}
 use Rattle.live_set.specs.Loads.{LoadValue}
-use Rattle.catserve.specs.declared.fault.ScriptKind.{ScriptKind}
-use Rattle.catserve.specs.declared.fault.ScriptKind.TheVariants.{ReadFault, WriteFault, NoPlace, Closed, Join, Memory}
+use Rattle.script_text.specs.declared.fault.ScriptKind.{ScriptKind}
+use Rattle.script_text.specs.declared.fault.ScriptKind.TheVariants.{ReadFault, WriteFault, NoPlace, Closed, Join, Memory}
 use Rattle.live_versions.specs.Batches.{joined, version_of}
 use Rattle.live_versions.specs.Seen.{SeenValue}
 use Rattle.live_versions.specs.Store.{StoreValue, accepted}
 use Rattle.desks.specs.declared.desk.Desk.{Desk}
-use Rattle.desks.specs.declared.desk.ServeFault.{ServeFault}
-use Rattle.desks.specs.declared.desk.ServeFault.TheVariants as fault
 use Rattle.catserve.specs.Asking.{readers_of, AreAsked}
-use Rattle.catserve.specs.Gathering.{load_count}
+use Rattle.script_text.specs.Script.{load_count}
 use Rattle.desks.specs.Jobs.{JobValue}
-use Rattle.catserve.specs.Script.{RoundValue}
+use Rattle.script_text.specs.Script.{RoundValue}
 use Rattle.catserve.specs.Rounds.{Outcome, IsOutcome, outcome_line, accepted_load, Plays, PlaysAll}
-use Rattle.catserve.specs.Texts.{IsRefused}
+use Rattle.script_text.specs.Texts.{IsRefused}
 use Rattle.catserve.specs.Run.{InputSeen, FailsToRead}
-
--- the kind of a service's fault
-abbrev pub kind_of : ServeFault → ScriptKind
-kind_of fault.Memory = Memory
-kind_of fault.Ahead = Closed
-kind_of fault.Join = Join
-kind_of fault.Closed = Closed
 
 -- the desks' readers are those of a store
 abbrev pub HaveBook : SeenValue → List Desk → Type 0

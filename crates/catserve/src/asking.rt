@@ -4,10 +4,10 @@ ghost use Rattle.std.specs.List.{AllZip};
 ghost use Rattle.catserve.specs.Asking.{readers_of, AreAsked, GivesOne, answer_lines, desk_lines, IsFreed};
 
 use crate::output::write_answer;
-use crate::rounds::Question;
 use desks::{Answer, Desk};
 use live_set::Query;
 use live_versions::Lookups;
+use script_text::Question;
 use std::alloc::{AllocError, Global};
 use std::mem;
 
@@ -28,7 +28,7 @@ pub(crate) fn open_desks(alloc: Global, readers: Vec<Lookups>) -> Result<Vec<Des
 }
 
 /// Gives a query to a worker's desk, behind those that it has. Where there is no such worker, nobody is asked.
-fn give(desks: &mut [Desk], worker: u32, query: Query) -> Result<(), AllocError>
+pub(crate) fn give(desks: &mut [Desk], worker: u32, query: Query) -> Result<(), AllocError>
     ensures { OnOk result (GivesOne desks.old worker query desks.new) }
 {
     let index = worker as usize;

@@ -6,14 +6,13 @@ ghost use Rattle.catserve.specs.Running.{AreReady, HaveBook, HasRoomFor, IsPlayF
 ghost use Rattle.catserve.specs.Running.{Finishes, PlaysOne};
 
 use crate::asking::{give_all, write_all};
-use crate::fault::ScriptKind;
 use crate::output::{
     write_accepted, write_accepted_mo, write_refused, write_refused_mo, write_unnamed,
     write_version,
 };
-use crate::rounds::{LoadSource, Round, ScriptLoad};
 use desks::{Accepted, Desk, Gate, Place, serve};
 use live_versions::{Publisher, StoreFault};
+use script_text::{LoadSource, Round, ScriptKind, ScriptLoad};
 use std::alloc::{AllocError, Global};
 use std::sync::Wait;
 use std::thread::Threads;

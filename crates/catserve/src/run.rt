@@ -3,17 +3,15 @@ ghost use Rattle.std.specs.Prelude.{◌≡◌, ◌≤◌, [], All, IfOk, IfErr, 
 ghost use Rattle.live_versions.specs.Batches.{joined};
 ghost use Rattle.catserve.specs.Rounds.{HasOutput, PlaysAll};
 ghost use Rattle.catserve.specs.Run.{ReadsText, Runs, input_seen, output_seen};
-ghost use Rattle.catserve.specs.Gathering.{load_count};
+ghost use Rattle.script_text.specs.Script.{load_count};
 ghost use Rattle.catserve.specs.Running.{AreReady, EndsPlaying, EndsReading, HasRoomFor, IsPlayFault};
 
 use crate::asking::open_desks;
-use crate::fault::{ScriptFault, ScriptKind};
-use crate::parse::{MOST_SCRIPT, read_script};
 use crate::round::play;
-use crate::rounds::{Round, Script};
 use desks::Desk;
 use devices::{InputFault, Sink, Source, read_all};
 use live_versions::{Lookups, OpenFault, Publisher, open_store};
+use script_text::{MOST_SCRIPT, Round, Script, ScriptFault, ScriptKind, read_script};
 use std::alloc::Global;
 use std::sync::Wait;
 use std::thread::Threads;

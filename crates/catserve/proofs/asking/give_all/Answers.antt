@@ -2,7 +2,7 @@ use Rattle.std.proofs.Common.{◌∙◌, ◌++◌, ◌∷◌, [], List, subst, a
 use Rattle.std.specs.Vec.Iter.{into_iter_items, into_iter_len}
 use Rattle.catserve.proofs.Turns.{takes_one, takes_all}
 use Rattle.catserve.specs.Asking.{AreAsked}
-use Rattle.catserve.specs.Script.{QuestionValue}
+use Rattle.script_text.specs.Script.{QuestionValue}
 use Rattle.catserve.proofs.Asked.{asked_more, readers-given}
 use Rattle.catserve.proofs.asking.give_all.Goals as goal
 

@@ -1,6 +1,6 @@
 use Rattle.std.proofs.Common.{◌++◌}
 use Rattle.catserve.specs.Output.{escaped}
-use Rattle.catserve.proofs.Escapes.{writes_more, writes_all}
+use Rattle.catserve.proofs.Writing.{writes_more, writes_all}
 use Rattle.catserve.proofs.output.write_escaped.Goals as goal
 
 pub runs-preserved : goal.runs-preserved

@@ -2,7 +2,7 @@ use Rattle.std.proofs.Common.{List, ℕ, sym, refl, ap, subst, rules}
 use Rattle.live_versions.specs.Store.{IsRefusedMo}
 use Rattle.desks.specs.Jobs.{JobValue, SourceValue, IsAccepted, IsRefused}
 use Rattle.desks.specs.declared.job.Accepted.TheVariants as accepted
-use Rattle.catserve.specs.LineValues.{source_value}
+use Rattle.script_text.specs.LineValues.{source_value}
 use Rattle.catserve.proofs.round.add_load.Goals as goal
 
 pub returns-in_ok-stats-in-Po-clause-ok : goal.returns-in_ok-stats-in-Po-clause-ok

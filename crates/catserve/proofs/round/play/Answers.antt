@@ -1,7 +1,7 @@
 use Rattle.std.proofs.Common.{◌≡◌, ◌∙◌, ℕ, List, [], sym, ap, subst, length, arith}
 use Rattle.desks.specs.Jobs.{JobValue}
 use Rattle.desks.specs.declared.desk.Desk.{Desk}
-use Rattle.catserve.specs.Script.{RoundValue, QuestionValue}
+use Rattle.script_text.specs.Script.{RoundValue, QuestionValue}
 use Rattle.catserve.specs.Asking.{readers_of, AreAsked}
 use Rattle.catserve.specs.Running.{HaveBook, LoadsAll, PlaysOne}
 use Rattle.catserve.proofs.Asked.{whole_of, readers_kept}

@@ -1,7 +1,7 @@
 use Rattle.std.proofs.Common.{◌∙◌, ◌++◌, [], List, ℕ, refl, sym, ap, subst, vec_len, arith, rules}
 use Rattle.std.specs.Vec.Iter.{into_iter_items, into_iter_len}
 use Rattle.catserve.proofs.Turns.{takes_one, takes_all}
-use Rattle.catserve.specs.Script.{RoundValue}
+use Rattle.script_text.specs.Script.{RoundValue}
 use Rattle.catserve.specs.Running.{HasPlayed, PlaysOne}
 use Rattle.catserve.proofs.Playing.{plays_more, plays_all, plays_none, has_room_for}
 use Rattle.catserve.proofs.run.play_rounds.Goals as goal

@@ -1,0 +1,5 @@
+pub mod Cutting
+pub mod Numerals
+pub mod Escapes
+pub mod Taking
+pub mod Parsing

@@ -1,0 +1,43 @@
+-- What `parse` reads of a text of digits.
+use Rattle.std.proofs.Common.{◌≡◌, refl, sym, ap, ℕ, ◌<◌, ◌^◌, true, false, ltb, List, length, Some, None, Result, Ok}
+use Rattle.std.proofs.Common.{Err, subst, rules, inl, inr}
+use Rattle.std.specs.List.{list_all}
+use Rattle.std.specs.Char.{is_ascii_digit}
+use Rattle.std.specs.Result.{OkIff}
+use Rattle.std.specs.Str.Parse.{digits_value, digits_value_after, ParsesUnsigned}
+use Rattle.std.proofs.lemmas.Bool.{cases_Bool, lt-ltb, ltb-true}
+use Rattle.std.proofs.lemmas.Str.Parse.{IsNumeralModel, numerals_by_fold, parse_digits}
+use Rattle.script_text.specs.ScriptFields.{number}
+
+own : IsNumeralModel (λ ds. list_all is_ascii_digit ds ≡ true) (digits_value 10)
+own = numerals_by_fold (λ ds. list_all is_ascii_digit ds ≡ true) (search rules) (digits_value_after 10) (search rules)
+
+-- a text with another byte is no number
+pub no_digits : (text : List ℕ) → list_all is_ascii_digit text ≡ false → number text ≡ None
+no_digits text other = rw other refl
+
+-- digits of which `parse` makes a number are that number
+pub some_number : {E : Type 0} (text : List ℕ) (r : Result ℕ E) (n : ℕ) → list_all is_ascii_digit text ≡ true
+    → ParsesUnsigned 64 10 text r → r ≡ Ok n → number text ≡ Some n
+some_number {E} text r n digits parsed e =
+    let P : Result ℕ E → Type 0 = λ r. OkIff r ((0 < length text) × (digits_value 10 text < 2 ^ 64))
+    (digits_value 10 text) in
+    let h : ((0 < length text) × (digits_value 10 text < 2 ^ 64))
+    × (n ≡ digits_value 10 text) = subst P e (parse_digits own 64 text r parsed digits) in
+    rw (digits, lt-ltb 0 (length text) h.0.0, lt-ltb (digits_value 10 text) (2 ^ 64) h.0.1) (ap (λ m. Some m) (sym h.1))
+
+-- and digits of which it makes none are no number
+pub no_number : {E : Type 0} (text : List ℕ) (r : Result ℕ E) (fault : E) → list_all is_ascii_digit text ≡ true
+    → ParsesUnsigned 64 10 text r → r ≡ Err fault → number text ≡ None
+no_number {E} text r fault digits parsed e =
+    let P : Result ℕ E → Type 0 = λ r. OkIff r ((0 < length text) × (digits_value 10 text < 2 ^ 64))
+    (digits_value 10 text) in
+    let h : ¬ ((0 < length text) × (digits_value 10 text < 2 ^ 64)) = subst P e
+    (parse_digits own 64 text r parsed digits) in
+    elim (cases_Bool (ltb 0 (length text))) [
+      | inr none ↦ rw (digits, none) refl
+      | inl some ↦ elim (cases_Bool (ltb (digits_value 10 text) (2 ^ 64))) [
+        | inr great ↦ rw (digits, some, great) refl
+        | inl small ↦ absurd (h (ltb-true 0 (length text) some, ltb-true (digits_value 10 text) (2 ^ 64) small))
+      ]
+    ]

@@ -1,0 +1,297 @@
+-- A script read line by line.
+use Rattle.std.proofs.Common.{◌≡◌, ◌∙◌, refl, sym, ap, subst, ℕ, zero, suc, ◌+◌, ◌<◌, ◌≤◌, Bool, true, false, cond}
+use Rattle.std.proofs.Common.{List, [], ◌∷◌}
+use Rattle.std.proofs.Common.{◌++◌, length, map, drop, fold, Option, Some, None, Result, Ok, Err, arith, append_assoc}
+use Rattle.std.proofs.Common.{length-append}
+use Rattle.std.specs.List.{onto_first}
+use Rattle.std.specs.Str.{IsUtf8}
+use Rattle.std.proofs.lemmas.List.{append-nil}
+use Rattle.std.proofs.lemmas.List.Sums.{sum_by-append}
+use Rattle.std.proofs.lemmas.Bool.{le-leb, lt-leb}
+use Rattle.catalogue.specs.declared.Options.{Options}
+use Rattle.live_set.specs.Asks.{QueryValue}
+use Rattle.line_input.specs.Lines.{lines, pieces, without_end}
+use Rattle.script_text.specs.LineFields.{fields}
+use Rattle.script_text.specs.Commands.{Line, Loads, is_blank, line_of, workers_line}
+use Rattle.desks.specs.Jobs.{JobValue, Po}
+use Rattle.script_text.specs.Script.{Command, Load, Ask, Go, RoundValue, round_of, rounds_of, is_go, Says}
+use Rattle.script_text.specs.Script.{IsBad, saying, and_then, commands_from, load_count, script_of, script_from, script}
+use Rattle.script_text.specs.Gathering.{Gathered, empty_round, nothing, both, gathered, onto_open, all_rounds, going_on}
+use Rattle.script_text.specs.Gathering.{loads_so_far, TakesIn, HasSkipped, HasBegun, HasParsed}
+use Rattle.script_text.specs.Scanning.{IsFirstLine, TakesLines}
+
+-- ---- lines that are a load's text
+
+pub skips : (workers text number : ℕ) (ls : List (List ℕ)) → text ≤ length ls → commands_from workers number text ls
+    ≡ commands_from workers (number + text) 0 (drop text ls)
+skips workers zero number ls enough = ap (λ n. commands_from workers n 0 ls) (omega arith)
+skips workers (suc text) number [] enough = absurd (omega arith)
+skips workers (suc text) number (l ∷ ls) enough = skips workers text (number + 1) ls (omega arith)
+    ∙ ap (λ n. commands_from workers n 0 (drop text ls)) (omega arith)
+
+-- ---- rounds
+
+both_assoc : (a b c : RoundValue) → both (both a b) c ≡ both a (both b c)
+both_assoc a b c = rw (
+  append_assoc a.loads b.loads c.loads,
+  append_assoc a.questions b.questions c.questions,
+) refl
+
+both_empty : (a : RoundValue) → both a empty_round ≡ a
+both_empty a = rw (append-nil a.loads, append-nil a.questions) refl
+
+-- one command that isn't `go`, in front of others
+onto_round : (g : Gathered) (c : Command) (cs : List Command) → is_go c ≡ false → gathered g c
+    ≡ record { ended = g.ended; current = both g.current (round_of (c ∷ [])); begun = true }
+    → ((p : List Command) → round_of (c ∷ p) ≡ both (round_of (c ∷ [])) (round_of p)) → onto_open g (rounds_of (c ∷ cs))
+    ≡ onto_open (gathered g c) (rounds_of cs)
+onto_round g c cs other is joins = rw (is, other) (by_pieces (pieces is_go cs)) where
+  by_pieces : (ps : List (List Command)) → onto_open g (map round_of (onto_first c ps))
+      ≡ onto_open (record { ended = g.ended; current = both g.current (round_of (c ∷ [])); begun = true })
+      (map round_of ps)
+  by_pieces [] = refl
+  by_pieces (p ∷ ps) = ap (λ r. both g.current r ∷ map round_of ps) (joins p)
+      ∙ ap (λ r. r ∷ map round_of ps) (sym (both_assoc g.current (round_of (c ∷ [])) (round_of p)))
+
+-- one more command
+one_more : (g : Gathered) (c : Command) (cs : List Command) → g.ended ++ onto_open g (rounds_of (c ∷ cs))
+    ≡ (gathered g c).ended ++ onto_open (gathered g c) (rounds_of cs)
+one_more g (Load load) cs = ap (λ rs. g.ended ++ rs) (onto_round g (Load load) cs refl refl (λ p. refl))
+one_more g (Ask worker query) cs = ap (λ rs. g.ended ++ rs) (onto_round g (Ask worker query) cs refl refl (λ p. refl))
+one_more g Go cs = ap (λ r. g.ended ++ (r ∷ rounds_of cs)) (both_empty g.current)
+    ∙ sym (append_assoc g.ended (g.current ∷ []) (rounds_of cs))
+    ∙ ap (λ rs. (g.ended ++ g.current ∷ []) ++ rs) (sym (onto_none (rounds_of cs))) where
+      onto_none : (rs : List RoundValue) → onto_open (record {
+        ended = g.ended ++ g.current
+            ∷ [];
+        current = empty_round;
+        begun = false;
+      }) rs ≡ rs
+      onto_none [] = refl
+      onto_none (r ∷ rs) = refl
+
+more : (commands : List Command) (g : Gathered) (cs : List Command) → g.ended
+    ++ onto_open g (rounds_of (commands ++ cs)) ≡ (fold gathered g commands).ended
+    ++ onto_open (fold gathered g commands) (rounds_of cs)
+more [] g cs = refl
+more (c ∷ commands) g cs = one_more g c (commands ++ cs) ∙ more commands (gathered g c) cs
+
+-- ---- one line taken in
+
+-- a line without a text
+pub takes_none : (old new : Gathered) (line : Line) (behind : List ℕ) (number : ℕ) (commands : List Command)
+    → saying (Some line) (lines behind) ≡ Says commands 0 → new ≡ fold gathered old commands
+    → loads_so_far new ≤ loads_so_far old + 1 → IsUtf8 behind → TakesIn old new line behind number behind (number + 1)
+takes_none old new line behind number commands says is few utf8 = record {
+  commands = commands;
+  text = 0;
+  says = says;
+  gathered_are = is;
+  few = few;
+  behind_text = refl;
+  enough = omega arith;
+  next_is = omega arith;
+  shorter = omega arith;
+  utf8 = utf8;
+}
+
+-- one command more is at most one load more
+pub few_go : (old new : Gathered) → new ≡ gathered old Go → loads_so_far new ≤ loads_so_far old + 1
+few_go old new is = omega (
+  arith,
+  ap loads_so_far is,
+  sum_by-append (λ (round : RoundValue). length round.loads) old.ended (old.current ∷ []),
+)
+
+pub few_ask : (old new : Gathered) (worker : ℕ) (query : QueryValue) → new ≡ gathered old (Ask worker query)
+    → loads_so_far new ≤ loads_so_far old + 1
+few_ask old new worker query is = omega (arith, ap loads_so_far is, ap length (append-nil old.current.loads))
+
+pub few_load : (old new : Gathered) (load : JobValue) → new ≡ gathered old (Load load)
+    → loads_so_far new ≤ loads_so_far old + 1
+few_load old new load is = omega (arith, ap loads_so_far is, length-append old.current.loads (load ∷ []))
+
+-- a load with its PO text
+pub takes_text : (old new : Gathered) (domain locale : List ℕ) (options : Options) (count : ℕ) (behind : List ℕ)
+    (number : ℕ) (text rest : List ℕ) → TakesLines count behind text rest → new
+    ≡ gathered old (Load (record { domain = domain; locale = locale; source = Po text options }))
+    → TakesIn old new (Loads domain locale options count) behind number rest (number + 1 + count)
+takes_text old new domain locale options count behind number text rest taken is = record {
+  commands = Load (record { domain = domain; locale = locale; source = Po text options }) ∷ [];
+  text = count;
+  says = rw (le-leb count (length (lines behind)) taken.enough, taken.taken_is) refl;
+  gathered_are = is;
+  few = few_load old new (record { domain = domain; locale = locale; source = Po text options }) is;
+  behind_text = taken.rest_is;
+  enough = taken.enough;
+  next_is = refl;
+  shorter = taken.shorter;
+  utf8 = taken.utf8;
+}
+
+-- a load that counts more lines than are left
+pub too_long : (domain locale : List ℕ) (options : Options) (count : ℕ) (behind : List ℕ)
+    → length (lines behind) < count → saying (Some (Loads domain locale options count)) (lines behind) ≡ IsBad
+too_long domain locale options count behind few = rw (lt-leb count (length (lines behind)) few) refl
+
+-- ---- the front of a script
+
+pub starts : (text : List ℕ) → length text ≤ 67108864 → IsUtf8 text → HasSkipped text text 1
+starts text small utf8 = record { going = refl; some = omega arith; bounded = omega arith; utf8 = utf8 }
+
+-- a line that says nothing
+pub skips_one : (text rest line behind : List ℕ) (number : ℕ) → HasSkipped text rest number
+    → IsFirstLine rest line behind → is_blank line ≡ true → HasSkipped text behind (number + 1)
+skips_one text rest line behind number skipped first blank = record {
+  going = skipped.going ∙ ap (λ ls. script_from number ls) first.cut
+      ∙ rw (ap is_blank first.said ∙ blank) refl;
+  some = omega arith;
+  bounded = omega (arith, skipped.bounded, first.some, ap length first.whole, length-append first.raw behind);
+  utf8 = first.utf8;
+}
+
+-- the line that gives the number of workers
+pub begins_so : (text rest line behind : List ℕ) (number workers : ℕ) → HasSkipped text rest number
+    → IsFirstLine rest line behind → is_blank line ≡ false → workers_line (fields line) ≡ Some workers
+    → HasBegun text workers behind (number + 1)
+begins_so text rest line behind number workers skipped first other is = record {
+  going = skipped.going ∙ ap (λ ls. script_from number ls) first.cut
+      ∙ rw (ap is_blank first.said ∙ other, ap (λ l. workers_line (fields l)) first.said ∙ is) refl;
+  some = omega arith;
+  bounded = omega (arith, skipped.bounded, first.some, ap length first.whole, length-append first.raw behind);
+  utf8 = first.utf8;
+}
+
+-- another line
+pub begins_else : (text rest line behind : List ℕ) (number : ℕ) → HasSkipped text rest number
+    → IsFirstLine rest line behind → is_blank line ≡ false → workers_line (fields line) ≡ None
+    → HasBegun text 2 rest number
+begins_else text rest line behind number skipped first other none =
+    let said : is_blank (without_end first.raw) ≡ false = ap is_blank first.said ∙ other in
+    record {
+      going = skipped.going ∙ ap (λ ls. script_from number ls) first.cut
+          ∙ rw (said, ap (λ l. workers_line (fields l)) first.said ∙ none, said) refl
+          ∙ ap (λ ls. script_of 2 (commands_from 2 number 0 ls)) (sym first.cut);
+      some = skipped.some;
+      bounded = skipped.bounded;
+      utf8 = skipped.utf8;
+    }
+
+-- no line at all
+pub begins_none : (text rest : List ℕ) (number : ℕ) → HasSkipped text rest number → rest ≡ []
+    → HasBegun text 2 rest number
+begins_none text rest number skipped none = record {
+  going = skipped.going ∙ ap (λ t. script_from number (lines t)) none
+      ∙ ap (λ t. script_of 2 (commands_from 2 number 0 (lines t))) (sym none);
+  some = skipped.some;
+  bounded = skipped.bounded;
+  utf8 = skipped.utf8;
+}
+
+-- the commands follow
+pub begins_with : (workers : ℕ) (found : Result (List Command) ℕ) → script_of workers found
+    ≡ going_on workers nothing found
+begins_with workers (Ok cs) = ap (λ rs. Ok (record { workers = workers; rounds = rs })) (by_rounds (rounds_of cs)) where
+  by_rounds : (rs : List RoundValue) → rs ≡ onto_open nothing rs
+  by_rounds [] = refl
+  by_rounds (r ∷ rs) = refl
+begins_with workers (Err bad) = refl
+
+pub parses_none : (text : List ℕ) (workers : ℕ) (rest : List ℕ) (number : ℕ) → HasBegun text workers rest number
+    → HasParsed text workers nothing rest number
+parses_none text workers rest number begun = record {
+  going = begun.going ∙ begins_with workers (commands_from workers number 0 (lines rest));
+  few = omega (arith, begun.some);
+  bounded = begun.bounded;
+  utf8 = begun.utf8;
+}
+
+-- ---- the whole script
+
+read_first : (text : List ℕ) (workers : ℕ) (rest line behind : List ℕ) (rounds : Gathered) (number : ℕ)
+    (saw : Option Line)
+    → HasParsed text workers rounds rest number → IsFirstLine rest line behind → line_of workers line ≡ saw
+    → script text
+    ≡ going_on workers rounds (and_then (saying saw (lines behind)) number (λ n. commands_from workers
+    (number + 1) n (lines behind)))
+read_first text workers rest line behind rounds number saw parsed first is =
+    let F : List (List ℕ) → Type 0 = λ ls. script text ≡ going_on workers rounds (commands_from workers number 0 ls) in
+    let cut : F (first.raw ∷ lines behind) = subst F first.cut parsed.going in
+    let G : List ℕ → Type 0 = λ l. script text ≡ going_on workers rounds
+    (and_then (saying (line_of workers l) (lines behind)) number (λ n. commands_from workers (number + 1) n
+    (lines behind))) in
+    let said : G line = subst G first.said cut in
+    let H : Option Line → Type 0 = λ o. script text ≡ going_on workers rounds
+    (and_then (saying o (lines behind)) number (λ n. commands_from workers (number + 1) n (lines behind))) in
+    subst H is said
+
+pub bad_line : (text : List ℕ) (workers : ℕ) (rest line behind : List ℕ) (rounds : Gathered) (number : ℕ)
+    → HasParsed text workers rounds rest number
+    → IsFirstLine rest line behind → line_of workers line ≡ None → script text ≡ Err number
+bad_line text workers rest line behind rounds number parsed first none =
+    read_first text workers rest line behind rounds number None
+    parsed first none
+
+pub bad_text : (text : List ℕ) (workers : ℕ) (rest line behind : List ℕ) (rounds : Gathered) (number : ℕ) (saw : Line)
+    → HasParsed text workers rounds rest number → IsFirstLine rest line behind → line_of workers line ≡ Some saw
+    → saying (Some saw) (lines behind) ≡ IsBad → script text ≡ Err number
+bad_text text workers rest line behind rounds number saw parsed first is bad =
+    read_first text workers rest line behind rounds number (Some saw) parsed first is
+    ∙ ap (λ s. going_on workers rounds (and_then s number (λ n. commands_from workers (number + 1) n
+    (lines behind)))) bad
+
+-- commands in front of others
+pub gathers : (workers number : ℕ) (g : Gathered) (commands : List Command) (found : Result (List Command) ℕ)
+    → going_on workers g (and_then (Says commands 0) number (λ n. found))
+    ≡ going_on workers (fold gathered g commands) found
+gathers workers number g commands (Ok cs) = ap (λ rs. Ok (record { workers = workers; rounds = rs })) (more commands g cs)
+gathers workers number g commands (Err bad) = refl
+
+pub goes_on : (text : List ℕ) (workers : ℕ) (rest line behind : List ℕ) (old new : Gathered) (number : ℕ)
+    (saw : Line) (after : List ℕ)
+    (next : ℕ) → HasParsed text workers old rest number → IsFirstLine rest line behind → line_of workers line ≡ Some saw
+    → TakesIn old new saw behind number after next → HasParsed text workers new after next
+goes_on text workers rest line behind old new number saw after next parsed first is taken = record {
+  going = read_first text workers rest line behind old number (Some saw) parsed first is
+      ∙ ap (λ s. going_on workers old (and_then s number (λ n. commands_from workers (number + 1) n
+      (lines behind)))) taken.says
+      ∙ ap (λ found. going_on workers old (and_then (Says taken.commands taken.text) number (λ n. found)))
+      (skips workers taken.text (number + 1) (lines behind) taken.enough
+      ∙ ap (λ ls. commands_from workers (number + 1 + taken.text) 0 ls) (sym taken.behind_text)
+      ∙ ap (λ n. commands_from workers n 0 (lines after)) (sym taken.next_is))
+      ∙ gathers workers number old taken.commands (commands_from workers next 0 (lines after))
+      ∙ ap (λ g. going_on workers g (commands_from workers next 0 (lines after))) (sym taken.gathered_are);
+  few = omega (arith, taken.few, taken.next_is, parsed.few);
+  bounded = omega (
+    arith,
+    taken.shorter,
+    taken.next_is,
+    parsed.bounded,
+    first.some,
+    ap length first.whole,
+    length-append
+        first.raw behind,
+  );
+  utf8 = taken.utf8;
+}
+
+pub ends : (text : List ℕ) (workers : ℕ) (rest : List ℕ) (rounds : Gathered) (number : ℕ)
+    → HasParsed text workers rounds rest number → rest ≡ []
+    → script text ≡ Ok (record { workers = workers; rounds = all_rounds rounds })
+ends text workers rest rounds number parsed none = parsed.going
+    ∙ ap (λ t. going_on workers rounds (commands_from workers number 0 (lines t)))
+    none
+
+-- there are fewer loads than lines
+pub ends_few : (text : List ℕ) (workers : ℕ) (rest : List ℕ) (rounds : Gathered) (number : ℕ)
+    → HasParsed text workers rounds rest number → load_count (all_rounds rounds) ≤ 67108864
+ends_few text workers rest rounds number parsed = omega (arith, parsed.few, parsed.bounded, fewer rounds) where
+  fewer : (g : Gathered) → load_count (all_rounds g) ≤ loads_so_far g
+  fewer g = omega (
+    arith,
+    sum_by-append (λ (round : RoundValue). length round.loads) g.ended (onto_open g []),
+    last g.begun,
+  ) where
+    last : (begun : Bool) → load_count (cond begun (g.current ∷ []) []) ≤ length g.current.loads
+    last true = omega arith
+    last false = omega arith

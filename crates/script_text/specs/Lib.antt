@@ -1,0 +1,9 @@
+pub mod LineFields
+pub mod ScriptFields
+pub mod Commands
+pub mod LineValues
+pub mod Script
+pub mod Texts
+pub mod Kinds
+pub mod Scanning
+pub mod Gathering

@@ -1,0 +1,29 @@
+-- What a line is, as the code has it, where the catalogue of a load comes from, and what reading a part answers.
+use Rattle.std.specs.Prelude.{◌≡◌, ⊤, Option, Some, None, Result, Ok, Err}
+use Rattle.script_text.specs.declared.fault.LineFault.{LineFault}
+use Rattle.script_text.specs.declared.fault.LineFault.TheVariants.{Bad, Memory}
+use Rattle.script_text.specs.declared.command.Line as code
+use Rattle.script_text.specs.declared.command.Line.TheVariants as code_line
+use Rattle.script_text.specs.declared.rounds.LoadSource.{LoadSource}
+use Rattle.script_text.specs.declared.rounds.LoadSource.TheVariants as code_source
+use Rattle.desks.specs.Jobs.{SourceValue, Po, Mo}
+use Rattle.script_text.specs.Commands.{Line, Blank, Loads, LoadsMo, Asks, Goes}
+
+-- what such a line says
+abbrev pub line_value : code.Line → Line
+line_value code_line.Blank = Blank
+line_value (code_line.Loads domain locale options count) = Loads domain.now locale.now options count
+line_value (code_line.LoadsMo domain locale bytes) = LoadsMo domain.now locale.now bytes.items
+line_value (code_line.Asks worker query) = Asks worker query
+line_value code_line.Goes = Goes
+
+-- what such a source is
+abbrev pub source_value : LoadSource → SourceValue
+source_value (code_source.Po text options) = Po text.now options
+source_value (code_source.Mo bytes) = Mo bytes.items
+
+-- what was read is what there is to read: there is nothing where it is bad, and want of memory says nothing
+abbrev pub Reads : {T V : Type 0} → (T → V) → Result T LineFault → Option V → Type 0
+Reads value (Ok x) meant = meant ≡ Some (value x)
+Reads value (Err Bad) meant = meant ≡ None
+Reads value (Err Memory) meant = ⊤

@@ -1,0 +1,212 @@
+//! What a line of a script says.
+ghost use Rattle.std.specs.Prelude.{◌≡◌, IfErr};
+ghost use Rattle.script_text.specs.Commands.{plain_call, context_call, number_call, context_number_call, call_of};
+ghost use Rattle.script_text.specs.Commands.{load_line, load_mo_line, ask_line, go_line, command_line};
+ghost use Rattle.script_text.specs.Commands.{is_blank, line_of, workers_line};
+ghost use Rattle.script_text.specs.LineFields.{fields};
+ghost use Rattle.script_text.specs.LineValues.{Reads, line_value};
+ghost use Rattle.live_set.specs.Asks.{ask_value};
+
+use crate::fault::LineFault;
+use crate::field::{
+    read_hex, read_number, read_options, read_text, read_worker, read_worker_count,
+};
+use crate::fields::Fields;
+use catalogue::Options;
+use live_set::{Ask, Query};
+use std::alloc::Global;
+
+/// What a line says.
+#[derive(Drop)]
+pub enum Line<'a> {
+    /// Nothing.
+    Blank,
+    /// The next `count` lines are a PO text.
+    Loads {
+        domain: &'a str,
+        locale: &'a str,
+        options: Options,
+        count: u64,
+    },
+    /// An MO file.
+    LoadsMo {
+        domain: &'a str,
+        locale: &'a str,
+        bytes: Vec<u8>,
+    },
+    /// A worker is asked.
+    Asks {
+        worker: u32,
+        query: Query,
+    },
+    /// The round ends.
+    Goes,
+}
+
+/// The texts of a call of gettext.
+fn read_plain(alloc: Global, mut texts: Fields<'_>) -> Result<Ask, LineFault>
+    ensures { Reads ask_value result (plain_call texts.entry) }
+{
+    let id = read_text(alloc, texts.next()?)?;
+    texts.end()?;
+    Ok(Ask::Plain { id })
+}
+
+/// The texts of a call of pgettext.
+fn read_context(alloc: Global, mut texts: Fields<'_>) -> Result<Ask, LineFault>
+    ensures { Reads ask_value result (context_call texts.entry) }
+{
+    let context = read_text(alloc, texts.next()?)?;
+    let id = read_text(alloc, texts.next()?)?;
+    texts.end()?;
+    Ok(Ask::Context { context, id })
+}
+
+/// The texts of a call of ngettext.
+fn read_plural(alloc: Global, mut texts: Fields<'_>) -> Result<Ask, LineFault>
+    ensures { Reads ask_value result (number_call texts.entry) }
+{
+    let id = read_text(alloc, texts.next()?)?;
+    let plural = read_text(alloc, texts.next()?)?;
+    let n = read_number(texts.next()?)?;
+    texts.end()?;
+    Ok(Ask::Number { id, plural, n })
+}
+
+/// The texts of a call of npgettext.
+fn read_context_plural(alloc: Global, mut texts: Fields<'_>) -> Result<Ask, LineFault>
+    ensures { Reads ask_value result (context_number_call texts.entry) }
+{
+    let context = read_text(alloc, texts.next()?)?;
+    let id = read_text(alloc, texts.next()?)?;
+    let plural = read_text(alloc, texts.next()?)?;
+    let n = read_number(texts.next()?)?;
+    texts.end()?;
+    Ok(Ask::ContextNumber {
+        context,
+        id,
+        plural,
+        n,
+    })
+}
+
+/// A call by its name and its texts.
+fn read_call(alloc: Global, name: &str, texts: Fields<'_>) -> Result<Ask, LineFault>
+    ensures { Reads ask_value result (call_of name.now texts.entry) }
+{
+    match name {
+        "gettext" => read_plain(alloc, texts),
+        "pgettext" => read_context(alloc, texts),
+        "ngettext" => read_plural(alloc, texts),
+        "npgettext" => read_context_plural(alloc, texts),
+        _ => Err(LineFault::Bad),
+    }
+}
+
+/// What stands behind `load`.
+fn read_load(mut fields: Fields<'_>) -> Result<Line<'_>, LineFault>
+    ensures { Reads line_value result (load_line fields.entry) }
+{
+    let domain = fields.next()?;
+    let locale = fields.next()?;
+    let options = read_options(fields.next()?)?;
+    let count = read_number(fields.next()?)?;
+    fields.end()?;
+    Ok(Line::Loads {
+        domain,
+        locale,
+        options,
+        count,
+    })
+}
+
+/// What stands behind `loadmo`.
+fn read_load_mo(alloc: Global, mut fields: Fields<'_>) -> Result<Line<'_>, LineFault>
+    ensures { Reads line_value result (load_mo_line fields.entry) }
+{
+    let domain = fields.next()?;
+    let locale = fields.next()?;
+    let digits = fields.next()?;
+    fields.end()?;
+    let bytes = read_hex(alloc, digits)?;
+    Ok(Line::LoadsMo {
+        domain,
+        locale,
+        bytes,
+    })
+}
+
+/// What stands behind `ask`, where there are so many workers.
+fn read_ask<'a>(alloc: Global, workers: u32, mut fields: Fields<'a>) -> Result<Line<'a>, LineFault>
+    ensures { Reads line_value result (ask_line workers fields.entry) }
+{
+    let worker = read_worker(workers, fields.next()?)?;
+    let domain = fields.next()?;
+    let languages = fields.next()?;
+    let name = fields.next()?;
+    let ask = read_call(alloc, name, fields)?;
+    let query = Query {
+        domain: String::from_str(alloc, domain)?,
+        languages: String::from_str(alloc, languages)?,
+        ask,
+    };
+    Ok(Line::Asks { worker, query })
+}
+
+/// What stands behind `go`: nothing.
+fn read_go<'a>(fields: Fields<'a>) -> Result<Line<'a>, LineFault>
+    ensures { Reads line_value result (go_line fields.entry) }
+{
+    fields.end()?;
+    Ok(Line::Goes)
+}
+
+/// What a line says, by its first field.
+fn read_command<'a>(
+    alloc: Global,
+    workers: u32,
+    mut fields: Fields<'a>,
+) -> Result<Line<'a>, LineFault>
+    ensures { Reads line_value result (command_line workers fields.entry) }
+{
+    match fields.next()? {
+        "load" => read_load(fields),
+        "loadmo" => read_load_mo(alloc, fields),
+        "ask" => read_ask(alloc, workers, fields),
+        "go" => read_go(fields),
+        _ => Err(LineFault::Bad),
+    }
+}
+
+/// Whether a line, which is given without its LF, says nothing: it is empty, or a comment.
+pub fn says_nothing(text: &str) -> bool
+    ensures { result ≡ is_blank text.now }
+{
+    text.is_empty() || text.starts_with('#')
+}
+
+/// How many workers a line gives a script. `Bad` where it is no such line.
+pub fn read_workers(text: &str) -> Result<u32, LineFault>
+    ensures reads { Reads (λ n. n) result (workers_line (fields text.now)) }
+    ensures bad { IfErr result (λ fault. fault ≡ LineFault.Bad) }
+{
+    let mut fields = Fields::new(text);
+    let word = fields.next()?;
+    let count = fields.next()?;
+    fields.end()?;
+    match word {
+        "workers" => read_worker_count(count),
+        _ => Err(LineFault::Bad),
+    }
+}
+
+/// What a line says in a script of so many workers. The line is given without its LF. `Bad` where it is none that such
+/// a script may have.
+pub fn read_line(alloc: Global, workers: u32, text: &str) -> Result<Line<'_>, LineFault>
+    ensures { Reads line_value result (line_of workers text.now) }
+{
+    if says_nothing(text) {
+        return Ok(Line::Blank);
+    }
+    read_command(alloc, workers, Fields::new(text))
+}

@@ -1,0 +1,179 @@
+//! Reading a script whole.
+ghost use Rattle.std.specs.Prelude.{◌≡◌, ◌<◌, ◌≤◌, ◌+◌, ◌^◌, IfOk, IfErr, Some, Ok, length};
+ghost use Rattle.line_input.specs.Lines.{lines};
+ghost use Rattle.script_text.specs.Script.{load_count, script, saying, IsBad};
+ghost use Rattle.script_text.specs.Texts.{IsScript, IsTextFault};
+ghost use Rattle.script_text.specs.LineValues.{line_value};
+ghost use Rattle.script_text.specs.Gathering.{HasBegun, TakesIn};
+ghost use Rattle.script_text.specs.Scanning.{IsLineFault, ParseFails};
+
+use crate::command::{Line, read_line, read_workers, says_nothing};
+use crate::fault::{LineFault, ScriptFault, ScriptKind};
+use crate::line::{split_line, take_lines};
+use crate::rounds::{LoadSource, Rounds, Script, ScriptLoad};
+use catalogue::MAX_TEXT;
+use simdutf8::compat::from_utf8;
+use std::alloc::Global;
+
+/// The most bytes that a script may have: as many as a PO text.
+pub const MOST_SCRIPT: usize = MAX_TEXT;
+
+/// How many workers a script has that doesn't say it.
+pub const DEFAULT_WORKERS: u32 = 2;
+
+/// The fault of a line.
+fn fault_at(fault: LineFault, line: u32) -> ScriptFault
+    ensures { IsLineFault fault line result }
+{
+    match fault {
+        LineFault::Bad => ScriptFault {
+            kind: ScriptKind::BadLine,
+            line,
+        },
+        LineFault::Memory => ScriptFault::from(ScriptKind::Memory),
+    }
+}
+
+/// Takes in a line, of which `behind` follows and which has this number, with the text of its load.
+/// Answers what follows the text, and the number of the next line.
+fn take_in<'a>(
+    alloc: Global,
+    rounds: &mut Rounds<'a>,
+    line: Line<'a>,
+    behind: &'a str,
+    number: u32,
+) -> Result<(&'a str, u32), LineFault>
+    requires { number + length behind.now + 1 < 2 ^ 32 }
+    ensures ok { IfOk result (λ next.
+        TakesIn rounds.old rounds.new (line_value line.entry) behind.now number next.0.now next.1) }
+    ensures bad { IfErr result (λ fault.
+        fault ≡ LineFault.Bad → saying (Some (line_value line.entry)) (lines behind.now) ≡ IsBad) }
+{
+    match line {
+        Line::Blank => Ok((behind, number + 1)),
+        Line::Goes => {
+            rounds.go(alloc)?;
+            Ok((behind, number + 1))
+        }
+        Line::Asks { worker, query } => {
+            rounds.ask(worker, query)?;
+            Ok((behind, number + 1))
+        }
+        Line::Loads {
+            domain,
+            locale,
+            options,
+            count,
+        } => {
+            let Some((text, rest)) = take_lines(behind, count) else {
+                return Err(LineFault::Bad);
+            };
+            let source = LoadSource::Po { text, options };
+            rounds.load(ScriptLoad {
+                domain,
+                locale,
+                source,
+            })?;
+            Ok((rest, number + 1 + count as u32))
+        }
+        Line::LoadsMo {
+            domain,
+            locale,
+            bytes,
+        } => {
+            let source = LoadSource::Mo { bytes };
+            rounds.load(ScriptLoad {
+                domain,
+                locale,
+                source,
+            })?;
+            Ok((behind, number + 1))
+        }
+    }
+}
+
+/// The front of a script: how many workers it has. The commands are in the lines from `number` on.
+struct Front<'a> {
+    workers: u32,
+    rest: &'a str,
+    number: u32,
+}
+
+/// The front of a text. Without a line `workers` there are two.
+fn read_front(text: &str) -> Front<'_>
+    requires { length text.now ≤ MOST_SCRIPT }
+    ensures { HasBegun text.now result.workers result.rest.now result.number }
+{
+    let mut rest = text;
+    let mut number = 1;
+    'front: while let Some((line, behind)) = split_line(rest) {
+        if !says_nothing(line) {
+            return match read_workers(line) {
+                Ok(workers) => Front {
+                    workers,
+                    rest: behind,
+                    number: number + 1,
+                },
+                Err(_) => Front {
+                    workers: DEFAULT_WORKERS,
+                    rest,
+                    number,
+                },
+            };
+        }
+        rest = behind;
+        number += 1;
+    }
+    Front {
+        workers: DEFAULT_WORKERS,
+        rest,
+        number,
+    }
+}
+
+/// What a text says.
+fn parse(alloc: Global, text: &str) -> Result<Script<'_>, ScriptFault>
+    requires { length text.now ≤ MOST_SCRIPT }
+    ensures ok { IfOk result (λ value. script text.now ≡ Ok value) }
+    ensures few { IfOk result (λ value. load_count value.rounds ≤ MOST_SCRIPT) }
+    ensures err { IfErr result (λ fault. ParseFails (script text.now) fault) }
+{
+    let Front {
+        workers,
+        mut rest,
+        mut number,
+    } = read_front(text);
+    let mut rounds = Rounds::new(alloc);
+    'lines: while let Some((line, behind)) = split_line(rest) {
+        let said = match read_line(alloc, workers, line) {
+            Ok(said) => said,
+            Err(fault) => return Err(fault_at(fault, number)),
+        };
+        match take_in(alloc, &mut rounds, said, behind, number) {
+            Ok((next, next_number)) => {
+                rest = next;
+                number = next_number;
+            }
+            Err(fault) => return Err(fault_at(fault, number)),
+        }
+    }
+    Ok(Script {
+        workers,
+        rounds: rounds.all()?,
+    })
+}
+
+/// What the text of a script says, which is read whole.
+pub fn read_script(alloc: Global, bytes: &[u8]) -> Result<Script<'_>, ScriptFault>
+    ensures ok { IfOk result (λ value. IsScript bytes.now value) }
+    ensures few { IfOk result (λ value. load_count value.rounds ≤ MOST_SCRIPT) }
+    ensures err { IfErr result (λ fault. IsTextFault bytes.now fault) }
+{
+    if bytes.len() > MOST_SCRIPT {
+        return Err(ScriptFault::from(ScriptKind::TooLarge));
+    }
+    match from_utf8(bytes) {
+        Ok(text) => parse(alloc, text),
+        Err(_) => Err(ScriptFault::from(ScriptKind::NotUtf8)),
+    }
+}

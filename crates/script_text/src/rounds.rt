@@ -1,0 +1,165 @@
+//! The rounds of a script.
+ghost use Rattle.std.specs.Prelude.{◌≡◌, [], ◌∷◌, ◌++◌, false, true, OnOk, IfOk};
+ghost use Rattle.script_text.specs.Script.{Load, Ask, Go};
+ghost use Rattle.script_text.specs.Gathering.{empty_round, nothing, gathered, all_rounds};
+
+use catalogue::Options;
+use live_set::Query;
+use std::alloc::{AllocError, Global};
+use std::marker::Model;
+use std::mem;
+
+/// Where the catalogue of a load comes from.
+#[derive(Drop)]
+pub enum LoadSource<'a> {
+    /// A PO text, and how it is compiled.
+    Po { text: &'a [u8], options: Options },
+    /// An MO file.
+    Mo { bytes: Vec<u8> },
+}
+
+/// A load for a domain and a locale.
+#[derive(Drop)]
+pub struct ScriptLoad<'a> {
+    pub domain: &'a str,
+    pub locale: &'a str,
+    pub source: LoadSource<'a>,
+}
+
+impl<'a> Model for ScriptLoad<'a> {
+    ghost use Rattle.desks.specs.Jobs.{JobValue};
+    ghost use Rattle.script_text.specs.LineValues.{source_value};
+
+    ghost Value = { JobValue };
+
+    ghost view = { λ l. record { domain = l.domain.now; locale = l.locale.now; source = source_value l.source } };
+}
+
+/// A question, and the number of the worker that is asked.
+#[derive(Drop)]
+pub struct Question {
+    pub worker: u32,
+    pub query: Query,
+}
+
+impl Model for Question {
+    ghost use Rattle.script_text.specs.Script.{QuestionValue};
+
+    ghost Value = { QuestionValue };
+
+    ghost view = { λ q. record { worker = q.worker; query = q.query } };
+}
+
+/// A round: its loads, and its questions.
+#[derive(Drop)]
+pub struct Round<'a> {
+    pub loads: Vec<ScriptLoad<'a>>,
+    pub questions: Vec<Question>,
+}
+
+impl<'a> Model for Round<'a> {
+    ghost use Rattle.script_text.specs.Script.{RoundValue};
+
+    ghost Value = { RoundValue };
+
+    ghost view = { λ r. record { loads = r.loads.items; questions = r.questions.items } };
+}
+
+impl Round<'_> {
+    fn new<'a>(alloc: Global) -> Round<'a>
+        ensures { result ≡ empty_round }
+    {
+        Round {
+            loads: Vec::new(alloc),
+            questions: Vec::new(alloc),
+        }
+    }
+}
+
+/// A script that was read: how many workers it has, and its rounds.
+#[derive(Drop)]
+pub struct Script<'a> {
+    pub workers: u32,
+    pub rounds: Vec<Round<'a>>,
+}
+
+impl<'a> Model for Script<'a> {
+    ghost use Rattle.script_text.specs.Script.{ScriptValue};
+
+    ghost Value = { ScriptValue };
+
+    ghost view = { λ s. record { workers = s.workers; rounds = s.rounds.items } };
+}
+
+/// The rounds that are read so far. Contracts see the rounds that have ended, the one that is current, and
+/// whether something stands in it.
+#[derive(Drop)]
+pub(crate) struct Rounds<'a> {
+    ended: Vec<Round<'a>>,
+    current: Round<'a>,
+    begun: bool,
+}
+
+impl<'a> Model for Rounds<'a> {
+    ghost use Rattle.script_text.specs.Gathering.{Gathered};
+
+    ghost Value = { Gathered };
+
+    ghost view = { λ r. record { ended = r.ended.items; current = r.current; begun = r.begun } };
+}
+
+impl<'a> Rounds<'a> {
+    /// No rounds.
+    pub(crate) fn new(alloc: Global) -> Rounds<'a>
+        ensures { result ≡ nothing }
+    {
+        Rounds {
+            ended: Vec::new(alloc),
+            current: Round::new(alloc),
+            begun: false,
+        }
+    }
+
+    /// One more load in the current round.
+    pub(crate) fn load(&mut self, load: ScriptLoad<'a>) -> Result<(), AllocError>
+        ensures { OnOk result (self.new ≡ gathered self.old (Load load.entry)) }
+    {
+        self.begun = true;
+        self.current.loads.push(load)?;
+        Ok(())
+    }
+
+    /// One more question in the current round.
+    pub(crate) fn ask(&mut self, worker: u32, query: Query) -> Result<(), AllocError>
+        ensures { OnOk result (self.new ≡ gathered self.old (Ask worker query)) }
+    {
+        self.begun = true;
+        self.current.questions.push(Question { worker, query })?;
+        Ok(())
+    }
+
+    /// The current round ends, and a new one is current.
+    pub(crate) fn go(&mut self, alloc: Global) -> Result<(), AllocError>
+        ensures { OnOk result (self.new ≡ gathered self.old Go) }
+    {
+        let round = mem::replace(&mut self.current, Round::new(alloc));
+        self.ended.push(round)?;
+        self.begun = false;
+        Ok(())
+    }
+
+    /// All rounds: the current one too, if something stands in it.
+    pub(crate) fn all(self) -> Result<Vec<Round<'a>>, AllocError>
+        ensures { IfOk result (λ rounds. rounds.items ≡ all_rounds self.entry) }
+    {
+        let Rounds {
+            mut ended,
+            current,
+            begun,
+        } = self;
+        if begun {
+            ended.push(current)?;
+        }
+        Ok(ended)
+    }
+}
