@@ -8,4 +8,5 @@ pub mod OneOutput
 pub mod SomeOutput
 pub mod LinesTaken
 pub mod SessionLines
+pub mod SessionHears
 pub mod SessionTalk

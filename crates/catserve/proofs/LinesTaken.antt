@@ -1,6 +1,6 @@
 -- Lines that are taken off an input.
 use Rattle.std.proofs.Common.{◌≡◌, ◌∙◌, refl, sym, ap, subst, ℕ, zero, suc, ◌+◌, ◌-◌, ◌<◌, ◌≤◌, Bool, true, false}
-use Rattle.std.proofs.Common.{List, [], ◌∷◌, ◌++◌, length, take, drop, arith, inl, inr, append_assoc, length-append}
+use Rattle.std.proofs.Common.{List, [], ◌∷◌, ◌++◌, length, take, drop, arith, inl, inr, append_assoc, length-append, Option, Result, Err, IsErrOf}
 use Rattle.std.proofs.Common.{length-take, length-drop}
 use Rattle.std.specs.List.{concat, onto_first}
 use Rattle.std.specs.Str.{IsUtf8}
@@ -11,10 +11,17 @@ use Rattle.std.proofs.lemmas.List.Folds.{concat-append}
 use Rattle.devices.specs.Devices.{RisesBy}
 use Rattle.line_input.specs.Lines.{lines, pieces, is_line_end}
 use Rattle.line_input.specs.Incoming.{Incoming, MayCome, EndsLine, EndsLines, LacksLines}
-use Rattle.line_input.specs.Arrivals.{Adds, AddsSome}
+use Rattle.line_input.specs.Arrivals.{Adds, AddsSome, Comes}
 use Rattle.line_input.proofs.Arriving.{consumes_none, consumes_both, rises_none, rises_both}
-use Rattle.catserve.specs.Run.{InputSeen}
-use Rattle.catserve.specs.Hearing.{HearingValue, CountsOn, HasTaken, HasGot, Stays, HearsText, LacksText}
+use Rattle.line_input.specs.declared.fault.LineInputFault.{LineInputFault}
+use Rattle.line_input.specs.declared.fault.LineInputFault.TheVariants as line_fault
+use Rattle.script_text.specs.Texts.{most_script}
+use Rattle.script_text.specs.declared.fault.ScriptKind.{ScriptKind}
+use Rattle.script_text.specs.declared.fault.ScriptKind.TheVariants as kind
+use Rattle.catserve.specs.declared.session_fault.SessionFault.{SessionFault}
+use Rattle.catserve.specs.Run.{InputSeen, FailsToRead}
+use Rattle.catserve.specs.Hearing.{HearingValue, CountsOn, HasTaken, HasGot, Stays, HearsNothing, HearsNoText, FailsFor}
+use Rattle.catserve.specs.Hearing.{HearsText, HearsUndecodable}
 
 -- ---- what was read
 
@@ -131,47 +138,217 @@ got_taken i j x y z raw got same whole cut =
       counts = got.counts;
     }
 
+drop_zero : (xs : List ℕ) → drop 0 xs ≡ xs
+drop_zero [] = refl
+drop_zero (x ∷ xs) = refl
+
 -- one line is taken
 pub line_cut : (y : Incoming) (end : ℕ) → EndsLine y 0 end → (text : List ℕ) → MayCome y text
     → lines (y.left ++ text) ≡ (take end y.left ∷ []) ++ lines (drop end y.left ++ text)
-line_cut y end ends text may = ends.cut text may
+line_cut y end ends text may =
+    let none : end - 0 ≡ end = omega arith in
+    ap (λ xs. lines (xs ++ text)) (sym (drop_zero y.left)) ∙ ends.cut text may
+    ∙ ap (λ l. l ∷ lines (drop end y.left ++ text)) (ap (λ n. take n (drop 0 y.left)) none
+    ∙ ap (take end) (drop_zero y.left))
 
 pub line_whole : (y : Incoming) (end : ℕ) → y.left ≡ concat (take end y.left ∷ []) ++ drop end y.left
 line_whole y end = sym (ap (λ xs. xs ++ drop end y.left) (append-nil (take end y.left)) ∙ take-append-drop end y.left)
 
 -- ---- a load with its text
 
+abbrev no_lines : List (List ℕ)
+no_lines = []
+
+take_nothing : (count : ℕ) → take count no_lines ≡ no_lines
+take_nothing zero = refl
+take_nothing (suc count) = refl
+
+again_behind : (b : ℕ) (count : ℕ) (ls : List (List ℕ)) → is_line_end b ≡ false
+    → lines (concat (take (suc count) ls)) ≡ take (suc count) ls
+    → lines (concat (take (suc count) (onto_first b ls))) ≡ take (suc count) (onto_first b ls)
+again_behind b count [] other again = rw (take_nothing count, other) refl
+again_behind b count (l ∷ ls) other again = rw (other, again) refl
+
+again_first : (b : ℕ) (count : ℕ) (text : List ℕ) (e : Bool) → is_line_end b ≡ e
+    → lines (concat (take count (lines text))) ≡ take count (lines text)
+    → lines (concat (take (suc count) (lines text))) ≡ take (suc count) (lines text)
+    → lines (concat (take (suc count) (lines (b ∷ text)))) ≡ take (suc count) (lines (b ∷ text))
+again_first b count text true is once twice = rw (is, is, once) refl
+again_first b count text false is once twice = rw is (again_behind b count (lines text) is twice)
+
 -- the first lines of a text are the lines of what they are together
 pub lines_again : (count : ℕ) (text : List ℕ) → lines (concat (take count (lines text))) ≡ take count (lines text)
 lines_again zero text = refl
 lines_again (suc count) [] = refl
-lines_again (suc count) (b ∷ text) = by_end (is_line_end b) refl where
-  by_next : (ls : List (List ℕ)) → ((n : ℕ) → lines (concat (take n ls)) ≡ take n ls)
-      → is_line_end b ≡ false
-      → lines (concat (take (suc count) (onto_first b ls))) ≡ take (suc count) (onto_first b ls)
-  by_next [] again other = rw other refl
-  by_next (l ∷ ls) again other = rw (other, again (suc count)) refl
-
-  by_end : (e : Bool) → is_line_end b ≡ e
-      → lines (concat (take (suc count) (lines (b ∷ text)))) ≡ take (suc count) (lines (b ∷ text))
-  by_end true is = rw (is, is, lines_again count text) refl
-  by_end false is = rw is (by_next (lines text) (λ n. lines_again n text) is)
+lines_again (suc count) (b ∷ text) =
+    again_first b count text (is_line_end b) refl (lines_again count text) (lines_again (suc count) text)
 
 -- a line that ends goes on to end
 pub line_later : (i j : InputSeen) (x y : Incoming) (end : ℕ) → HasGot i j x y [] → EndsLine x 0 end → EndsLine y 0 end
-line_later i j x y end got ends = record {
-  some = ends.some;
-  within = omega (arith, ends.within, ap length got.behind, length-append x.left got.more);
-  cut = λ text may. ap lines (ap (λ xs. xs ++ text) got.behind ∙ append_assoc x.left got.more text)
-      ∙ ends.cut (got.more ++ text) (got.may text may)
-      ∙ ap (λ l. l ∷ lines (drop end x.left ++ (got.more ++ text))) (sym (first got.more got.behind))
-      ∙ ap (λ xs. take end y.left ∷ lines xs) (sym (ap (λ xs. xs ++ text)
-      (ap (drop end) got.behind ∙ drop-append-le end x.left got.more ends.within)
-      ∙ append_assoc (drop end x.left) got.more text));
-} where
-  first : (more : List ℕ) → y.left ≡ x.left ++ more → take end y.left ≡ take end x.left
-  first more e = ap (take end) e ∙ take-append-le end x.left more ends.within
+line_later i j x y end got ends =
+    let first : take end x.left ≡ take end y.left = sym (ap (take end) got.behind
+    ∙ take-append-le end x.left got.more ends.within) in
+    let none : end - 0 ≡ end = omega arith in
+    record {
+      some = ends.some;
+      within = omega (arith, ends.within, ap length got.behind, length-append x.left got.more);
+      cut = λ text may. ap (λ xs. lines (xs ++ text)) (drop_zero y.left)
+          ∙ ap lines (ap (λ xs. xs ++ text) got.behind ∙ append_assoc x.left got.more text)
+          ∙ line_cut x end ends (got.more ++ text) (got.may text may)
+          ∙ ap (λ l. l ∷ lines (drop end x.left ++ (got.more ++ text))) (first ∙ ap (take end) (sym (drop_zero y.left))
+          ∙ ap (λ n. take n (drop 0 y.left)) (sym none))
+          ∙ ap (λ xs. take (end - 0) (drop 0 y.left) ∷ lines xs) (sym (ap (λ xs. xs ++ text)
+          (ap (drop end) got.behind ∙ drop-append-le end x.left got.more ends.within)
+          ∙ append_assoc (drop end x.left) got.more text));
+    }
 
 pub first_same : (i j : InputSeen) (x y : Incoming) (end : ℕ) → HasGot i j x y [] → EndsLine x 0 end
     → take end y.left ≡ take end x.left
 first_same i j x y end got ends = ap (take end) got.behind ∙ take-append-le end x.left got.more ends.within
+
+-- the line that ends there, and the text behind it
+pub text_heard : (i j : InputSeen) (x y : Incoming) (end count place : ℕ) → HasGot i j x y [] → EndsLine x 0 end
+    → EndsLines count y end place
+    → (texts : List (List ℕ)) × (length texts ≡ count) × (take (place - end) (drop end y.left) ≡ concat texts)
+    × (take place y.left ≡ concat (take end x.left ∷ texts)) × ((more : List ℕ) → MayCome y more
+    → lines (y.left ++ more) ≡ (take end x.left ∷ texts) ++ lines (drop place y.left ++ more))
+text_heard i j x y end count place got first ends =
+    let line : EndsLine y 0 end = line_later i j x y end got first in
+    let same : take end y.left ≡ take end x.left = first_same i j x y end got first in
+    let text : List ℕ = take (place - end) (drop end y.left) in
+    let none : MayCome y [] = λ ended. refl in
+    let at : (more : List ℕ) → MayCome y more → lines text ≡ take count (lines (drop end y.left ++ more)) =
+    λ more may. ap lines (ends.cut more may).front_is ∙ lines_again count (drop end y.left ++ more) in
+    let counted : length (lines text) ≡ count = ap length (at [] none)
+    ∙ length-take-le count (lines (drop end y.left ++ [])) (ends.cut [] none).enough in
+    let whole : text ≡ concat (lines text) = (ends.cut [] none).front_is ∙ ap concat (sym (at [] none)) in
+    let all : take place y.left ≡ take end y.left ++ text = ap (λ n. take n y.left) (omega (arith, ends.low))
+    ∙ take-add end (place - end) y.left in
+    let together : take place y.left ≡ concat (take end x.left ∷ lines text) = all
+    ∙ ap (λ xs. xs ++ text) same ∙ ap (λ xs. take end x.left ++ xs) whole in (
+      lines text,
+      counted,
+      whole,
+      together,
+      (λ more may. line_cut y end line more may ∙ ap (λ l. l ∷ lines (drop end y.left ++ more)) same
+          ∙ ap (λ ls. take end x.left ∷ ls) (sym (take-append-drop count (lines (drop end y.left ++ more)))
+          ∙ ap (λ ls. ls ++ drop count (lines (drop end y.left ++ more))) (sym (at more may))
+          ∙ ap (λ ls. lines text ++ ls) (sym (ends.cut more may).rest_is))),
+    )
+
+few_onto : (b n : ℕ) (ls : List (List ℕ)) → length ls ≤ n → length (onto_first b ls) ≤ suc n
+few_onto b n [] few = omega arith
+few_onto b n (l ∷ ls) few = omega (arith, few)
+
+few_first : (b : ℕ) (text : List ℕ) (e : Bool) → is_line_end b ≡ e → length (lines text) ≤ length text
+    → length (lines (b ∷ text)) ≤ suc (length text)
+few_first b text true is few = rw is (omega (arith, few))
+few_first b text false is few = rw is (few_onto b (length text) (lines text) few)
+
+-- it isn't UTF-8
+pub text_undecodable : (i j : InputSeen) (x y : HearingValue) (end count place : ℕ) → Stays i j x y []
+    → EndsLine x.input 0 end → EndsLines count y.input end place → ¬ IsUtf8 (take place y.input.left)
+    → HearsUndecodable i j x y x.number
+text_undecodable i j x y end count place stays line ends undecodable =
+    let (texts, counted, whole, together, cut) = text_heard i j x.input y.input end count place stays.got line ends in
+    record {
+      stays = stays;
+      line_is = refl;
+      raw = take end x.input.left ∷ texts;
+      behind = drop place y.input.left;
+      begins = sym (take-append-drop place y.input.left) ∙ ap (λ xs. xs ++ drop place y.input.left) together;
+      cut = cut;
+      undecodable = subst (λ bytes. ¬ IsUtf8 bytes) together undecodable;
+    }
+
+-- it is taken off
+pub text_taken : (i j : InputSeen) (x y : HearingValue) (end count place : ℕ) (bytes : List ℕ) → Stays i j x y []
+    → EndsLine x.input 0 end → EndsLines count y.input end place → IsUtf8 (take place y.input.left)
+    → bytes ≡ take (place - end) (drop end y.input.left)
+    → HearsText i j x (record {
+      input = record { left = drop place y.input.left; ended = y.input.ended };
+      number = x.number + (1 + count);
+      size = x.size + place;
+    }) end count bytes
+text_taken i j x y end count place bytes stays line ends utf8 bytes_are =
+    let (texts, counted, whole, together, cut) = text_heard i j x.input y.input end count place stays.got line ends in
+    record {
+      texts = texts;
+      counted = counted;
+      bytes_are = bytes_are ∙ whole;
+      taken = got_taken i j x.input y.input (record { left = drop place y.input.left; ended = y.input.ended })
+          (take end x.input.left ∷ texts) stays.got refl
+          (sym (take-append-drop place y.input.left) ∙ ap (λ xs. xs ++ drop place y.input.left) together) cut;
+      utf8 = subst IsUtf8 together utf8;
+      number = refl;
+      size = ap (λ n. x.size + n) (sym (length-take-le place y.input.left ends.within) ∙ ap length together);
+    }
+
+-- a text has no more lines than bytes
+pub few_lines : (text : List ℕ) → length (lines text) ≤ length text
+few_lines [] = omega arith
+few_lines (b ∷ text) = few_first b text (is_line_end b) refl (few_lines text)
+
+-- ---- why nothing was heard
+
+abbrev Failed : LineInputFault → Result (Option ℕ) LineInputFault
+Failed fault = Err fault
+
+pub nothing_heard : (i j : InputSeen) (x y : HearingValue) (fault : LineInputFault) (f : SessionFault)
+    → Comes i.left j.left x.input y.input (Failed fault) → CountsOn i j → y.number ≡ x.number → y.size ≡ x.size
+    → (IsErrOf (Failed fault) line_fault.TooLong → most_script < x.size + length y.input.left)
+    → (IsErrOf (Failed fault) line_fault.Unreadable → FailsToRead i j) → FailsFor fault x.number f
+    → HearsNothing i j x y f.kind f.line
+nothing_heard i j x y line_fault.TooLong f comes counts number size over failed is = rw is
+    (record { stays = stays_whole i j x y comes counts number size; line_is = refl; over = inl (over refl) })
+nothing_heard i j x y line_fault.Unreadable f comes counts number size over failed is = rw is
+    ((comes.lost, stays_lost i j x y comes counts number size), failed refl, refl)
+nothing_heard i j x y line_fault.Memory f comes counts number size over failed is = rw is
+    ((comes.lost, stays_lost i j x y comes counts number size), refl)
+
+-- the same of a load's text
+pub no_text_heard : (i j : InputSeen) (x y : HearingValue) (end count : ℕ) (kind : ScriptKind) (line : ℕ)
+    → HearsNothing i j x y kind line → HearsNoText i j x y end count kind line
+no_text_heard i j x y end count kind.TooLarge line h = h
+no_text_heard i j x y end count kind.NotUtf8 line h = absurd h
+no_text_heard i j x y end count kind.BadLine line h = absurd h
+no_text_heard i j x y end count kind.ReadFault line h = h
+no_text_heard i j x y end count kind.WriteFault line h = absurd h
+no_text_heard i j x y end count kind.NoPlace line h = absurd h
+no_text_heard i j x y end count kind.Closed line h = absurd h
+no_text_heard i j x y end count kind.Join line h = absurd h
+no_text_heard i j x y end count kind.Memory line h = h
+
+some_onto : (b : ℕ) (ls : List (List ℕ)) → length (onto_first b ls) ≡ 0 → ⊥
+some_onto b [] e = omega (arith, e)
+some_onto b (l ∷ ls) e = omega (arith, e)
+
+some_line : (b : ℕ) (text : List ℕ) (e : Bool) → is_line_end b ≡ e → length (lines (b ∷ text)) ≡ 0 → ⊥
+some_line b text true is none = omega (arith, rw is at none)
+some_line b text false is none = some_onto b (lines text) (rw is at none)
+
+-- the lines of a text are no more than its bytes, and without lines there are none
+pub text_within : (y : Incoming) (end count place : ℕ) → EndsLines count y end place
+    → (count ≤ place - end) × (count ≡ 0 → place ≡ end)
+text_within y end count place ends =
+    let text : List ℕ = take (place - end) (drop end y.left) in
+    let none : MayCome y [] = λ ended. refl in
+    let at : lines text ≡ take count (lines (drop end y.left ++ [])) = ap lines (ends.cut [] none).front_is
+    ∙ lines_again count (drop end y.left ++ []) in
+    let counted : length (lines text) ≡ count = ap length at
+    ∙ length-take-le count (lines (drop end y.left ++ [])) (ends.cut [] none).enough in
+    let size : length text ≡ place - end = length-take-le (place - end) (drop end y.left)
+    (omega (arith, ends.low, ends.within, length-drop end y.left)) in (
+      omega (arith, few_lines text, counted, size),
+      λ zero. omega (arith, ends.low, size, ap length (no_bytes text (counted ∙ zero))),
+    )
+  where
+    no_bytes : (text : List ℕ) → length (lines text) ≡ 0 → text ≡ []
+    no_bytes [] e = refl
+    no_bytes (b ∷ text) e = absurd (some_line b text (is_line_end b) refl e)
+
+-- so the text stands within what its line is within
+pub text_ends_within : (y : Incoming) (end count place most : ℕ) → EndsLines count y end place → end ≤ most
+    → (0 < count → place ≤ most) → place ≤ most
+text_ends_within y end zero place most ends line text = omega (arith, line, (text_within y end zero place ends).1 refl)
+text_ends_within y end (suc count) place most ends line text = text (omega arith)

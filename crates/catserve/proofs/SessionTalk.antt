@@ -5,7 +5,7 @@ use Rattle.std.proofs.Common.{Option, Some, None}
 use Rattle.std.specs.List.{concat, filter_map}
 use Rattle.std.specs.Io.KnownBytes.{Appends}
 use Rattle.std.proofs.KnownBytes.{Appends-nil, Appends-trans}
-use Rattle.std.proofs.lemmas.List.{append-nil, length-map}
+use Rattle.std.proofs.lemmas.List.{append-nil}
 use Rattle.std.proofs.lemmas.List.Folds.{concat-append}
 use Rattle.live_set.specs.Loads.{LoadValue}
 use Rattle.live_set.specs.Asks.{QueryValue}
@@ -27,7 +27,7 @@ use Rattle.catserve.specs.Session.{HaveEnded}
 use Rattle.catserve.specs.Hearing.{HearingValue, HasTaken, HasSaid, Hears, Begins, commands_of, size_behind}
 use Rattle.catserve.specs.Talking.{TalkValue, AnswersRound, MakesLoad, GivesQuestion, Responds, IsFresh, HasTalked}
 use Rattle.catserve.specs.Talking.{HasHeard, HasOpen, Conversing}
-use Rattle.catserve.proofs.Asked.{asked_more, readers-given}
+use Rattle.catserve.proofs.Asked.{asked_more, count_of, readers-given}
 use Rattle.catserve.proofs.Playing.{loads_more, plays_more, plays_none, few_outcomes}
 use Rattle.catserve.proofs.LinesTaken.{taken_none, taken_then}
 use Rattle.catserve.proofs.SessionLines.{heard_none, heard_more, ended_so}
@@ -123,15 +123,10 @@ talked_ask workers g start old new written worker query talked gives =
       played = talked.played;
       loaded = subst Loads (sym (append-nil g.current.loads))
           (subst Store (sym gives.store) (subst Held (sym gives.held) talked.loaded));
-      asked = asked_more 0 worker worker g.current.questions query old.desks new.desks refl talked.asked gives.gives;
+      asked = asked_more 0 worker worker g.current.questions query old.desks new.desks (omega arith) talked.asked gives.gives;
       book = subst Readers (sym readers) (subst Seen (sym gives.store) talked.book);
-      count = omega (
-        arith,
-        length-map (λ (desk : Desk). desk.reader) new.desks,
-        length-map (λ (desk : Desk). desk.reader) old.desks,
-        ap length readers,
-        talked.count,
-      );
+      count = count_of new.desks (readers_of old.desks) readers ∙ sym (count_of old.desks (readers_of old.desks) refl)
+          ∙ talked.count;
       begun = gives.begun;
     }
 

@@ -20,6 +20,8 @@ use Rattle.script_text.specs.declared.fault.ScriptKind.TheVariants.{TooLarge, No
 use Rattle.catserve.specs.declared.session_fault.SessionFault.{SessionFault}
 use Rattle.catserve.specs.declared.said.FrontLine.{FrontLine}
 use Rattle.catserve.specs.declared.said.FrontLine.TheVariants as front_line
+use Rattle.catserve.specs.declared.said.SaidFault.{SaidFault}
+use Rattle.catserve.specs.declared.said.SaidFault.TheVariants as said_fault
 use Rattle.catserve.specs.declared.said.Said.{Said}
 use Rattle.catserve.specs.declared.said.Said.TheVariants as said
 use Rattle.catserve.specs.declared.hearing.Heard.{Heard}
@@ -198,6 +200,12 @@ abbrev pub FailsFor : LineInputFault → ℕ → SessionFault → Type 0
 FailsFor line_fault.TooLong number fault = fault ≡ record { kind = TooLarge; line = number }
 FailsFor line_fault.Unreadable number fault = fault ≡ record { kind = ReadFault; line = 0 }
 FailsFor line_fault.Memory number fault = fault ≡ record { kind = Memory; line = 0 }
+
+-- the fault of the line with this number
+abbrev pub FailsToSay : SaidFault → ℕ → SessionFault → Type 0
+FailsToSay said_fault.NotUtf8 number fault = fault ≡ record { kind = NotUtf8; line = number }
+FailsToSay said_fault.Bad number fault = fault ≡ record { kind = BadLine; line = number }
+FailsToSay said_fault.Memory number fault = fault ≡ record { kind = Memory; line = 0 }
 
 -- what was heard, or why nothing was
 abbrev pub HearsOne : InputSeen → InputSeen → ℕ → HearingValue → HearingValue

@@ -1,10 +1,13 @@
 //! The lines of a session as they come, and what they say.
-ghost use Rattle.std.specs.Prelude.{◌≡◌, ◌+◌, ◌<◌, ◌≤◌, ◌^◌, IfOk, IfErr, None, drop};
+ghost use Rattle.std.specs.Prelude.{◌≡◌, ◌+◌, ◌<◌, ◌≤◌, ◌^◌, ℕ, IfOk, IfErr, Some, None, drop, take};
+ghost use Rattle.std.specs.Str.{IsUtf8};
+ghost use Rattle.line_input.specs.Lines.{without_end};
+ghost use Rattle.script_text.specs.Commands.{line_of};
 ghost use Rattle.line_input.specs.Incoming.{EndsLine};
 ghost use Rattle.catserve.specs.Run.{input_seen};
 ghost use Rattle.catserve.specs.Session.{most_lines};
 ghost use Rattle.catserve.specs.Hearing.{unheard, Begins, EndsNext, FailsFor, FailsInFront, HearsNothing, HearsNoText};
-ghost use Rattle.catserve.specs.Hearing.{HearsOne, HearsText};
+ghost use Rattle.catserve.specs.Hearing.{said_value, FailsToSay, HearsOne, HearsText};
 
 use crate::said::{FrontLine, Said, SaidFault, read_front_line, read_said};
 use crate::session_fault::SessionFault;
@@ -13,7 +16,7 @@ use devices::Source;
 use line_input::{LineInput, LineInputFault};
 use live_set::Query;
 use script_text::{DEFAULT_WORKERS, MOST_SCRIPT, ScriptKind};
-use simdutf8::compat::from_utf8;
+use simdutf8::is_utf8;
 use std::alloc::{AllocError, Global};
 use std::marker::Model;
 
@@ -50,6 +53,15 @@ impl Model for Hearing {
     ghost view = { λ h. record { input = h.input; number = h.number; size = h.size } };
 
     ghost invariant = { λ h. h.size ≤ 67108864 };
+}
+
+/// Some bytes of its own.
+fn copied(alloc: Global, bytes: &[u8]) -> Result<Vec<u8>, AllocError>
+    ensures { IfOk result (λ copy. copy.items ≡ bytes.now) }
+{
+    let mut copy = Vec::new(alloc);
+    copy.extend_from_slice(bytes)?;
+    Ok(copy)
 }
 
 impl Hearing {
@@ -143,13 +155,84 @@ impl Hearing {
         let Some(text_end) = found else {
             return Err(self.fault_here(ScriptKind::BadLine));
         };
-        let lines = &self.input.left()[..text_end];
-        if from_utf8(lines).is_err() {
+        let left = self.input.left();
+        if !is_utf8(&left[..text_end]) {
             return Err(self.fault_here(ScriptKind::NotUtf8));
         }
-        let bytes = lines[end..].to_vec(alloc)?;
+        let Ok(bytes) = copied(alloc, &left[end..text_end]) else {
+            return Err(SessionFault::from(ScriptKind::Memory));
+        };
         self.take(text_end, 1 + count);
         Ok(bytes)
+    }
+
+    /// Why it isn't known what the next line says.
+    fn fault_of_line(&self, fault: SaidFault) -> SessionFault
+        ensures { FailsToSay fault self.now.number result }
+    {
+        match fault {
+            SaidFault::NotUtf8 => self.fault_here(ScriptKind::NotUtf8),
+            SaidFault::Bad => self.fault_here(ScriptKind::BadLine),
+            SaidFault::Memory => SessionFault::from(ScriptKind::Memory),
+        }
+    }
+
+    /// Takes off the line that ends there and says this, with the lines that are its text.
+    fn hear_said<R: Source>(
+        &mut self,
+        alloc: Global,
+        reader: &mut R,
+        end: usize,
+        said: Said,
+    ) -> Result<Option<Heard>, SessionFault>
+        requires line { EndsLine self.old.input 0 end }
+        requires size { self.old.size + end ≤ 67108864 }
+        requires few { self.old.number < most_lines }
+        requires utf8 { IsUtf8 (take end self.old.input.left) }
+        ensures { let input = input_seen R.remaining R.reads R.failures in (workers : ℕ)
+            → line_of workers (without_end (take end self.old.input.left)) ≡ Some (said_value said)
+            → HearsOne (input reader.old) (input reader.new) workers self.old self.new result }
+    {
+        match said {
+            Said::Nothing => {
+                self.take(end, 1);
+                Ok(Some(Heard::Nothing))
+            }
+            Said::Asks { worker, query } => {
+                self.take(end, 1);
+                Ok(Some(Heard::Ask { worker, query }))
+            }
+            Said::LoadsMo {
+                domain,
+                locale,
+                bytes,
+            } => {
+                self.take(end, 1);
+                Ok(Some(Heard::Load(Job {
+                    domain,
+                    locale,
+                    source: LoadSource::Mo { bytes },
+                })))
+            }
+            Said::Loads {
+                domain,
+                locale,
+                options,
+                count,
+            } => match self.hear_text(alloc, reader, end, count) {
+                Ok(bytes) => Ok(Some(Heard::Load(Job {
+                    domain,
+                    locale,
+                    source: LoadSource::Po { bytes, options },
+                }))),
+                Err(fault) => Err(fault),
+            },
+            Said::Goes => {
+                self.take(end, 1);
+                self.size = 0;
+                Ok(Some(Heard::Go))
+            }
+        }
     }
 
     /// The next thing that a session of so many workers says, if one comes. It reads only where no whole one has come.
@@ -162,45 +245,17 @@ impl Hearing {
         ensures { let input = input_seen R.remaining R.reads R.failures in
             HearsOne (input reader.old) (input reader.new) workers self.old self.new result }
     {
-        let Some(end) = self.next_end(reader)? else {
+        let found = match self.next_end(reader) {
+            Ok(found) => found,
+            Err(fault) => return Err(fault),
+        };
+        let Some(end) = found else {
             return Ok(None);
         };
-        let heard = match read_said(alloc, workers, &self.input.left()[..end]) {
-            Ok(Said::Nothing) => Heard::Nothing,
-            Ok(Said::Asks { worker, query }) => Heard::Ask { worker, query },
-            Ok(Said::LoadsMo {
-                domain,
-                locale,
-                bytes,
-            }) => Heard::Load(Job {
-                domain,
-                locale,
-                source: LoadSource::Mo { bytes },
-            }),
-            Ok(Said::Loads {
-                domain,
-                locale,
-                options,
-                count,
-            }) => {
-                let bytes = self.hear_text(alloc, reader, end, count)?;
-                return Ok(Some(Heard::Load(Job {
-                    domain,
-                    locale,
-                    source: LoadSource::Po { bytes, options },
-                })));
-            }
-            Ok(Said::Goes) => {
-                self.take(end, 1);
-                self.size = 0;
-                return Ok(Some(Heard::Go));
-            }
-            Err(SaidFault::NotUtf8) => return Err(self.fault_here(ScriptKind::NotUtf8)),
-            Err(SaidFault::Bad) => return Err(self.fault_here(ScriptKind::BadLine)),
-            Err(SaidFault::Memory) => return Err(SessionFault::from(ScriptKind::Memory)),
-        };
-        self.take(end, 1);
-        Ok(Some(heard))
+        match read_said(alloc, workers, &self.input.left()[..end]) {
+            Ok(said) => self.hear_said(alloc, reader, end, said),
+            Err(fault) => Err(self.fault_of_line(fault)),
+        }
     }
 
     /// How many workers a session has: what its first line that says something gives, or two. Takes off that line and

@@ -23,22 +23,23 @@ use std::thread::Threads;
 fn make(
     alloc: Global,
     publisher: &mut Publisher,
-    names: (&str, &str),
+    domain: &str,
+    locale: &str,
     source: LoadSource<'_>,
     held: &mut Vec<u8>,
 ) -> Result<(), AllocError>
     requires { HasRoom publisher.old }
     ensures ok { IfOk result (λ _. LoadsOne (record {
-            domain = names.0.now;
-            locale = names.1.now;
-            source = source_value source;
+            domain = domain.now;
+            locale = locale.now;
+            source = source_value source.entry;
           }) publisher.old.pending publisher.new.pending held.old.items held.new.items) }
     ensures seen { publisher.new.seen ≡ publisher.old.seen }
     ensures most { publisher.new.most ≡ publisher.old.most }
 {
     let load = ScriptLoad {
-        domain: names.0,
-        locale: names.1,
+        domain,
+        locale,
         source,
     };
     make_load(alloc, publisher, &load, held)
@@ -95,23 +96,23 @@ impl Talk {
     /// Makes a load, and holds its line.
     fn load(&mut self, alloc: Global, job: Job) -> Result<(), AllocError>
         requires { HasRoom self.old.store }
-        ensures { OnOk result (MakesLoad job.entry self.old self.new) }
+        ensures { OnOk result (MakesLoad job self.old self.new) }
     {
         let Job {
             domain,
             locale,
             source,
         } = job;
-        let names = (domain.as_str(), locale.as_str());
+        let (domain, locale) = (domain.as_str(), locale.as_str());
         match source {
             Source::Po { bytes, options } => {
                 let text = bytes.as_slice();
                 let source = LoadSource::Po { text, options };
-                make(alloc, &mut self.publisher, names, source, &mut self.held)?;
+                make(alloc, &mut self.publisher, domain, locale, source, &mut self.held)?;
             }
             Source::Mo { bytes } => {
                 let source = LoadSource::Mo { bytes };
-                make(alloc, &mut self.publisher, names, source, &mut self.held)?;
+                make(alloc, &mut self.publisher, domain, locale, source, &mut self.held)?;
             }
         }
         self.begun = true;
