@@ -9,4 +9,5 @@ pub mod SomeOutput
 pub mod LinesTaken
 pub mod SessionLines
 pub mod SessionHears
+pub mod SessionFront
 pub mod SessionTalk

@@ -1,7 +1,7 @@
 -- What was heard of a session's input.
 use Rattle.std.proofs.Common.{◌≡◌, ◌∙◌, refl, sym, ap, subst, ℕ, zero, suc, ◌+◌, ◌-◌, ◌<◌, ◌≤◌, true, List, [], ◌∷◌}
 use Rattle.std.proofs.Common.{◌++◌, length, take, drop, arith, inl, inr, append_assoc, length-append}
-use Rattle.std.proofs.Common.{Option, Some, None, Result, Ok, Err}
+use Rattle.std.proofs.Common.{Option, Some, None, Result, Ok, Err, IsErrOf}
 use Rattle.std.specs.List.{concat}
 use Rattle.std.specs.Str.{IsUtf8}
 use Rattle.std.proofs.lemmas.List.{append-nil, length-take-le, take-append-drop}
@@ -11,18 +11,21 @@ use Rattle.line_input.proofs.Arriving.{consumes_both, rises_both, rises_later}
 use Rattle.devices.specs.Devices.{RisesBy}
 use Rattle.catalogue.specs.declared.Options.{Options}
 use Rattle.script_text.specs.Commands.{Line, Loads, line_of}
-use Rattle.script_text.specs.Script.{Command, Says, saying, commands_from}
+use Rattle.desks.specs.Jobs.{Po}
+use Rattle.script_text.specs.Script.{Command, Load, Says, saying, commands_from}
 use Rattle.script_text.specs.declared.fault.ScriptKind.{ScriptKind}
 use Rattle.script_text.specs.declared.fault.ScriptKind.TheVariants as kind
 use Rattle.catserve.specs.declared.hearing.Heard.{Heard}
 use Rattle.catserve.specs.declared.session_fault.SessionFault.{SessionFault}
+use Rattle.catserve.specs.declared.said.Said.{Said}
 use Rattle.catserve.specs.declared.said.SaidFault.{SaidFault}
 use Rattle.catserve.specs.declared.said.SaidFault.TheVariants as said_fault
 use Rattle.catserve.specs.Run.{InputSeen, FailsToRead}
 use Rattle.catserve.specs.Hearing.{HearingValue, CountsOn, HasTaken, HasGot, HasSaid, Hears, HearsEnd, Stays}
 use Rattle.catserve.specs.Hearing.{HearsBad, HearsUndecodable, HearsTooMuch, HearsNothing, HearsNone, HearsNoText}
 use Rattle.catserve.specs.Hearing.{HearsText, HearsOne, EndsNext, FailsToSay, size_behind, commands_of}
-use Rattle.catserve.proofs.LinesTaken.{counts_both, taken_then, got_taken, line_cut, line_whole, stays_put}
+use Rattle.catserve.proofs.LinesTaken.{counts_both, taken_then, got_taken, first_same, line_cut, line_later, line_whole}
+use Rattle.catserve.proofs.LinesTaken.{stays_put}
 use Rattle.catserve.proofs.SessionLines.{says_line, says_text, bad_line, bad_text}
 
 -- ---- one step behind another
@@ -49,10 +52,10 @@ stays_then i j k x y z lost a b = record {
 }
 
 -- nothing was taken yet
-stays_taken : (i j : InputSeen) (x y : HearingValue) → Stays i j x y [] → HasTaken i j x.input y.input []
+pub stays_taken : (i j : InputSeen) (x y : HearingValue) → Stays i j x y [] → HasTaken i j x.input y.input []
 stays_taken i j x y stays = got_taken i j x.input y.input y.input [] stays.got refl refl (λ text may. refl)
 
-none_then : (i j k : InputSeen) (workers : ℕ) (x y z : HearingValue) (kind : ScriptKind) (line : ℕ)
+pub none_then : (i j k : InputSeen) (workers : ℕ) (x y z : HearingValue) (kind : ScriptKind) (line : ℕ)
     → Stays i j x y [] → HearsNone j k workers y z kind line → HearsNone i k workers x z kind line
 none_then i j k workers x y z kind.TooLarge line a h = record {
   stays = stays_then i j k x y z [] a h.stays;
@@ -139,11 +142,14 @@ hears_line i workers x end size line commands ends utf8 is says size_is = record
       ∙ length-take-le end x.input.left ends.within));
 }
 
+abbrev pub Unsaid : SaidFault → Result Said SaidFault
+Unsaid fault = Err fault
+
 -- it isn't known what it says
 pub hears_none : (i : InputSeen) (workers : ℕ) (x : HearingValue) (end : ℕ) (fault : SaidFault) (f : SessionFault)
     → EndsLine x.input 0 end
-    → (fault ≡ said_fault.NotUtf8 → ¬ IsUtf8 (take end x.input.left))
-    → (fault ≡ said_fault.Bad → line_of workers (without_end (take end x.input.left)) ≡ None)
+    → (IsErrOf (Unsaid fault) said_fault.NotUtf8 → ¬ IsUtf8 (take end x.input.left))
+    → (IsErrOf (Unsaid fault) said_fault.Bad → line_of workers (without_end (take end x.input.left)) ≡ None)
     → FailsToSay fault x.number f → HearsNone i i workers x x f.kind f.line
 hears_none i workers x end said_fault.NotUtf8 f ends undecodable bad is = rw is (record {
   stays = stays_put i x;
@@ -161,3 +167,49 @@ hears_none i workers x end said_fault.Bad f ends undecodable bad is = rw is (rec
       ∙ bad_line workers x.number (take end x.input.left) (lines (drop end x.input.left ++ text)) (bad refl);
 })
 hears_none i workers x end said_fault.Memory f ends undecodable bad is = rw is (([], stays_put i x), refl)
+
+-- ---- a load with its text
+
+pub hears_load : (i j : InputSeen) (workers : ℕ) (x y : HearingValue) (end count : ℕ) (domain locale bytes : List ℕ)
+    (options : Options) → line_of workers (without_end (take end x.input.left)) ≡ Some (Loads domain locale options count)
+    → HearsText i j x y end count bytes
+    → Hears i j workers x y (Load (record { domain = domain; locale = locale; source = Po bytes options }) ∷ [])
+hears_load i j workers x y end count domain locale bytes options is h =
+    let raw : List (List ℕ) = take end x.input.left ∷ h.texts in
+    let Said : List ℕ → Type 0 = λ text. HasSaid workers x.number raw
+    (Load (record { domain = domain; locale = locale; source = Po text options }) ∷ []) in
+    record {
+      raw = raw;
+      taken = h.taken;
+      said = subst Said (sym h.bytes_are)
+          (says_text workers x.number count (take end x.input.left) domain locale options h.texts is h.counted h.utf8);
+      number = omega (arith, h.number, h.counted);
+      size = h.size;
+    }
+
+pub none_text : (i j : InputSeen) (workers : ℕ) (x y : HearingValue) (end count : ℕ) (domain locale : List ℕ)
+    (options : Options) (kind : ScriptKind) (line : ℕ) → EndsLine x.input 0 end
+    → line_of workers (without_end (take end x.input.left)) ≡ Some (Loads domain locale options count)
+    → HearsNoText i j x y end count kind line → HearsNone i j workers x y kind line
+none_text i j workers x y end count domain locale options kind.TooLarge line ends is h = h
+none_text i j workers x y end count domain locale options kind.NotUtf8 line ends is h = h
+none_text i j workers x y end count domain locale options kind.BadLine line ends is (lacks, line_is) = record {
+  stays = lacks.stays;
+  line_is = line_is;
+  bad = λ text may.
+      let none : text ≡ [] = may lacks.fewer.ended in
+      let Few : List ℕ → Type 0 = λ t. length (lines t) < count in
+      let few : Few (drop end y.input.left ++ text) = subst Few
+      (sym (append-nil (drop end y.input.left)) ∙ ap (λ t. drop end y.input.left ++ t) (sym none)) lacks.fewer.fewer in
+      let later : EndsLine y.input 0 end = line_later i j x.input y.input end lacks.stays.got ends in
+      ap (λ ls. commands_from workers x.number 0 ls) (line_cut y.input end later text may
+      ∙ ap (λ l. l ∷ lines (drop end y.input.left ++ text)) (first_same i j x.input y.input end lacks.stays.got ends))
+      ∙ bad_text workers x.number count (take end x.input.left) domain locale options (drop end y.input.left ++ text) is
+      few;
+}
+none_text i j workers x y end count domain locale options kind.ReadFault line ends is h = h
+none_text i j workers x y end count domain locale options kind.WriteFault line ends is h = absurd h
+none_text i j workers x y end count domain locale options kind.NoPlace line ends is h = absurd h
+none_text i j workers x y end count domain locale options kind.Closed line ends is h = absurd h
+none_text i j workers x y end count domain locale options kind.Join line ends is h = absurd h
+none_text i j workers x y end count domain locale options kind.Memory line ends is h = h
