@@ -11,3 +11,4 @@ pub mod SessionLines
 pub mod SessionHears
 pub mod SessionFront
 pub mod SessionTalk
+pub mod SessionEnds

@@ -11,12 +11,14 @@ use Rattle.line_input.specs.Incoming.{Incoming, MayCome, EndsLine}
 use Rattle.script_text.specs.Commands.{is_blank, workers_line}
 use Rattle.script_text.specs.LineFields.{fields}
 use Rattle.script_text.specs.Script.{commands_from, script_from, script_of}
+use Rattle.script_text.specs.declared.fault.ScriptKind.{ScriptKind}
+use Rattle.script_text.specs.declared.fault.ScriptKind.TheVariants as kind
 use Rattle.catserve.specs.declared.said.FrontLine.{FrontLine}
 use Rattle.catserve.specs.declared.said.FrontLine.TheVariants as front_line
 use Rattle.catserve.specs.Run.{InputSeen}
 use Rattle.catserve.specs.Session.{round_end, said}
 use Rattle.catserve.specs.Hearing.{HearingValue, HasTaken, Stays, EndsNext, HasPassed, Begins, Follows, BeginAlike}
-use Rattle.catserve.specs.Hearing.{unheard, silence}
+use Rattle.catserve.specs.Hearing.{unheard, silence, HearsNothing, HearsNoFront, FailsInFront}
 use Rattle.catserve.proofs.LinesTaken.{taken_none, taken_then, got_taken, line_cut, line_whole}
 use Rattle.catserve.proofs.SessionHears.{stays_taken}
 
@@ -163,3 +165,42 @@ begins_ended i j k y z front passed stays none ended =
       size = omega (arith, passed.size, stays.size, ap (λ ls. length (concat ls)) (append-nil front));
       utf8 = rw (append-nil front) passed.utf8;
     }
+
+-- ---- why the front wasn't heard
+
+no_front : (i j : InputSeen) (x y : HearingValue) (kind : ScriptKind) (line : ℕ) → HearsNothing i j x y kind line
+    → HearsNoFront i j x y kind line
+no_front i j x y kind.TooLarge line h = h
+no_front i j x y kind.NotUtf8 line h = absurd h
+no_front i j x y kind.BadLine line h = absurd h
+no_front i j x y kind.ReadFault line h = h
+no_front i j x y kind.WriteFault line h = absurd h
+no_front i j x y kind.NoPlace line h = absurd h
+no_front i j x y kind.Closed line h = absurd h
+no_front i j x y kind.Join line h = absurd h
+no_front i j x y kind.Memory line h = h
+
+pub front_fails : (i j k : InputSeen) (y z : HearingValue) (front : List (List ℕ)) (kind : ScriptKind) (line : ℕ)
+    → HasPassed i j unheard y front → HearsNothing j k y z kind line → FailsInFront i k kind line
+front_fails i j k y z front kind line passed h = record
+    { mid = j; y = y; z = z; front = front; passed = passed; none = no_front j k y z kind line h }
+
+pub front_undecodable : (i j k : InputSeen) (y z : HearingValue) (front : List (List ℕ)) (end : ℕ)
+    → HasPassed i j unheard y front → Stays j k y z [] → EndsLine z.input 0 end → ¬ IsUtf8 (take end z.input.left)
+    → FailsInFront i k kind.NotUtf8 z.number
+front_undecodable i j k y z front end passed stays ends undecodable = record {
+  mid = j;
+  y = y;
+  z = z;
+  front = front;
+  passed = passed;
+  none = record {
+    stays = stays;
+    line_is = stays.number;
+    raw = take end z.input.left ∷ [];
+    behind = drop end z.input.left;
+    begins = line_whole z.input end;
+    cut = line_cut z.input end ends;
+    undecodable = rw (append-nil (take end z.input.left)) undecodable;
+  };
+}
