@@ -99,7 +99,7 @@ taken_none i x = record {
   counts = counts_none i;
 }
 
-pub taken_then : (i j k : InputSeen) (x y z : Incoming) (front back : List (List ℕ)) → HasTaken i j x y front
+abbrev pub taken_then : (i j k : InputSeen) (x y z : Incoming) (front back : List (List ℕ)) → HasTaken i j x y front
     → HasTaken j k y z back → HasTaken i k x z (front ++ back)
 taken_then i j k x y z front back a b = record {
   more = a.more ++ b.more;

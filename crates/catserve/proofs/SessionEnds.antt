@@ -1,5 +1,5 @@
 -- How a session ends.
-use Rattle.std.proofs.Common.{◌≡◌, ◌∙◌, refl, sym, ap, subst, ℕ, zero, suc, ◌+◌, ◌<◌, ◌≤◌, Bool, true, false}
+use Rattle.std.proofs.Common.{◌≡◌, ◌∙◌, refl, sym, ap, subst, ℕ, zero, suc, ◌+◌, ◌<◌, ◌≤◌, ◌⊎◌, Bool, true, false}
 use Rattle.std.proofs.Common.{List, [], ◌∷◌, ◌++◌, length, arith, inl, inr, append_assoc, length-append, Option, Some}
 use Rattle.std.proofs.Common.{None, Result, Ok, Err}
 use Rattle.std.specs.List.{concat}
@@ -8,16 +8,17 @@ use Rattle.std.specs.Io.KnownBytes.{Appends, Consumes, IsAtEnd}
 use Rattle.std.proofs.KnownBytes.{Appends-nil, Appends-trans}
 use Rattle.std.proofs.lemmas.List.{append-nil}
 use Rattle.std.proofs.lemmas.List.Folds.{concat-append}
-use Rattle.std.proofs.lemmas.Str.{IsUtf8-append}
+use Rattle.std.proofs.lemmas.Str.{IsUtf8-append, IsUtf8-nil}
 use Rattle.devices.specs.Devices.{RisesBy}
 use Rattle.line_input.specs.Lines.{lines}
 use Rattle.line_input.specs.Incoming.{Incoming, MayCome}
-use Rattle.line_input.proofs.Arriving.{consumes_both}
+use Rattle.line_input.proofs.Arriving.{both, consumes_both, consumes_none}
+use Rattle.live_set.specs.Loads.{LoadValue}
 use Rattle.live_versions.specs.Batches.{joined}
 use Rattle.live_versions.specs.Store.{StoreValue}
 use Rattle.script_text.specs.Script.{RoundValue, ScriptValue, commands_from, script_from, script_of}
 use Rattle.script_text.specs.Texts.{most_script}
-use Rattle.script_text.specs.Gathering.{Gathered, empty_round, all_rounds, going_on, onto_open}
+use Rattle.script_text.specs.Gathering.{Gathered, empty_round, nothing, going_on, onto_open}
 use Rattle.script_text.specs.declared.fault.ScriptKind.{ScriptKind}
 use Rattle.script_text.specs.declared.fault.ScriptKind.TheVariants as kind
 use Rattle.catserve.specs.declared.session_fault.SessionFault.{SessionFault}
@@ -31,8 +32,8 @@ use Rattle.catserve.specs.Hearing.{silence, HasPassed, FailsInFront, HearsTooMuc
 use Rattle.catserve.specs.Talking.{TalkValue, AnswersRound, FailsToAnswer, IsFresh, HasTalked, HasHeard, HasOpen}
 use Rattle.catserve.specs.Talking.{Conversing, Continues}
 use Rattle.catserve.proofs.Playing.{plays_all}
-use Rattle.catserve.proofs.LinesTaken.{counts_none, stays_put, taken_then}
-use Rattle.catserve.proofs.SessionLines.{ended_so, follows_all}
+use Rattle.catserve.proofs.LinesTaken.{stays_put, taken_none, taken_then}
+use Rattle.catserve.proofs.SessionLines.{ended_so, follows_all, heard_none}
 use Rattle.catserve.proofs.SessionHears.{fails_later}
 use Rattle.catserve.proofs.SessionTalk.{answers_one, ended_first}
 
@@ -56,9 +57,6 @@ pub record Answered (given : Option ℕ) (i j : InputSeen) (o o' : OutputSeen) (
   pub first : ℕ
   pub ended_before : HaveEnded given before first rounds
 
-nothing_before : (silence.ended ≡ true) → ⊥
-nothing_before ()
-
 pub stops_so : (given : Option ℕ) (i j k : InputSeen) (o o' : OutputSeen) (y z : HearingValue)
     (front : List (List ℕ)) (lost : List ℕ) (a : Answered given i j o o' y front) (s : Stays j k y z lost)
     → StopsBehind given i k o o' front (a.taken.more ++ s.got.more) z.input.left lost z.input.ended
@@ -67,7 +65,7 @@ stops_so given i j k o o' y z front lost a s =
     record {
       read = rw (append_assoc t.more s.got.more lost)
           (consumes_both i.left j.left k.left t.more (s.got.more ++ lost) t.read s.got.read);
-      at_end = s.got.at_end (t.at_end (λ ended. absurd (nothing_before ended)));
+      at_end = s.got.at_end (t.at_end (λ ended. both false ended refl));
       whole = ap (λ xs. xs ++ s.got.more) t.whole ∙ append_assoc (concat front) y.input.left s.got.more
           ∙ ap (λ xs. concat front ++ xs) (sym s.got.behind);
       lines_are = λ more may. ap lines (append_assoc t.more s.got.more more)
@@ -161,7 +159,7 @@ front_answered i j o y front passed = record {
   before = [];
   round = front;
   cut = refl;
-  size = passed.size;
+  size = omega (arith, passed.size);
   first = 2;
   ended_before = (ended_first None).1;
 }
@@ -200,8 +198,8 @@ ends_at_once given i o =
       lost = [];
       ended = false;
       stops = record {
-        read = (stays_put i unheard).got.read;
-        at_end = λ ended. absurd (nothing_before ended);
+        read = consumes_none i.left;
+        at_end = λ ended. both false ended refl;
         whole = refl;
         lines_are = λ more may. refl;
         workers = workers;
@@ -216,7 +214,7 @@ ends_at_once given i o =
 -- ---- behind the front
 
 -- the rounds that have ended behind a front
-pub answered : (given : Option ℕ) (first i j : InputSeen) (o o' : OutputSeen) (x y : HearingValue) (workers : ℕ)
+abbrev pub answered : (given : Option ℕ) (first i j : InputSeen) (o o' : OutputSeen) (x y : HearingValue) (workers : ℕ)
     (start talk : TalkValue) (b : Begins given first i x workers) (c : Conversing workers i j o o' x y start talk)
     → IsFresh workers start → Answered given first j o o' y (b.front ++ c.lines)
 answered given first i j o o' x y workers start talk b c fresh =
@@ -296,3 +294,135 @@ none_ends given first i j k o o' x y z workers start talk kind.Join line fresh c
 none_ends given first i j k o o' x y z workers start talk kind.Memory line fresh c ((lost, h), is) b =
     (stops_early given first j k o o' y z (b.front ++ c.lines) lost
         (answered given first i j o o' x y workers start talk b c fresh) h, is)
+
+-- for another reason
+pub ends_early : (given : Option ℕ) (first i j : InputSeen) (o o' : OutputSeen) (x y : HearingValue) (workers : ℕ)
+    (start talk : TalkValue) → IsFresh workers start → Conversing workers i j o o' x y start talk
+    → Begins given first i x workers → StopsEarly given first j o o'
+ends_early given first i j o o' x y workers start talk fresh c b =
+    stops_early given first j j o o' y y (b.front ++ c.lines) []
+    (answered given first i j o o' x y workers start talk b c fresh) (stays_put j y)
+
+-- a round isn't answered
+pub fails_so : (given : Option ℕ) (first i j : InputSeen) (o o' o'' : OutputSeen) (x y : HearingValue) (workers : ℕ)
+    (start talk : TalkValue) (kind : ScriptKind) → IsFresh workers start
+    → Conversing workers i j o o' x y start talk → FailsToAnswer o' o'' kind → Begins given first i x workers
+    → EndsFor given first j o o'' kind 0
+fails_so given first i j o o' o'' x y workers start talk kind.TooLarge fresh c h b = absurd h
+fails_so given first i j o o' o'' x y workers start talk kind.NotUtf8 fresh c h b = absurd h
+fails_so given first i j o o' o'' x y workers start talk kind.BadLine fresh c h b = absurd h
+fails_so given first i j o o' o'' x y workers start talk kind.ReadFault fresh c h b = absurd h
+fails_so given first i j o o' o'' x y workers start talk kind.WriteFault fresh c h b =
+    let P : ℕ → Type 0 = λ n. RisesBy 1 n o''.failures in (subst P c.steady h, refl)
+fails_so given first i j o o' o'' x y workers start talk kind.NoPlace fresh c h b =
+    (rw h (ends_early given first i j o o' x y workers start talk fresh c b), refl)
+fails_so given first i j o o' o'' x y workers start talk kind.Closed fresh c h b =
+    (rw h (ends_early given first i j o o' x y workers start talk fresh c b), refl)
+fails_so given first i j o o' o'' x y workers start talk kind.Join fresh c h b =
+    (rw h (ends_early given first i j o o' x y workers start talk fresh c b), refl)
+fails_so given first i j o o' o'' x y workers start talk kind.Memory fresh c h b =
+    (rw h (ends_early given first i j o o' x y workers start talk fresh c b), refl)
+
+-- the input has ended, and these are the rounds
+all_said : (given : Option ℕ) (first i j k : InputSeen) (o o' o'' : OutputSeen) (x y z : HearingValue) (workers : ℕ)
+    (start talk : TalkValue) (written : List ℕ) → IsFresh workers start
+    → (c : Conversing workers i j o o' x y start talk) → HearsEnd j k y z → Begins given first i x workers
+    → PlaysAll workers [] (c.g.ended ++ onto_open c.g []) written → Appends o.bytes o''.bytes written
+    → AnswersAll given first k o o''
+all_said given first i j k o o' o'' x y z workers start talk written fresh c h b plays appended =
+    let a = answered given first i j o o' x y workers start talk b c fresh in
+    let got = h.got in
+    let stops = stops_so given first j k o o' y z (b.front ++ c.lines) [] a
+    (record { got = got; number = h.number; size = h.size }) in
+    let text : List ℕ = a.taken.more ++ got.more in
+    let none : MayCome z.input [] = λ ended. refl in
+    let may : MayCome y.input got.more = subst (MayCome y.input) (append-nil got.more) (got.may [] none) in
+    let whole : text ≡ concat (b.front ++ c.lines) = stops.whole ∙ ap (λ xs. concat (b.front ++ c.lines) ++ xs) h.left
+    ∙ append-nil (concat (b.front ++ c.lines)) in
+    record {
+      text = text;
+      read = subst (Consumes first.left k.left) (append-nil text) stops.read;
+      at_end = stops.at_end h.ended;
+      utf8 = rw (whole, concat-append b.front c.lines) (IsUtf8-append (concat b.front) (concat c.lines) b.utf8
+          c.heard.utf8);
+      value = record { workers = workers; rounds = c.g.ended ++ onto_open c.g [] };
+      says = said_all given first i j o o' x y workers start talk b c got.more may
+          ∙ ap (λ xs. going_on workers c.g (commands_from workers y.number 0 (lines xs))) (sym got.behind ∙ h.left);
+      output = written;
+      plays = plays;
+      written = appended;
+    }
+
+nothing_open : (g : Gathered) (begun : Bool) → begun ≡ g.begun → begun ≡ false → g.ended ++ onto_open g [] ≡ g.ended
+nothing_open g begun same idle = rw (sym same ∙ idle) (append-nil g.ended)
+
+one_open : (g : Gathered) (begun : Bool) → begun ≡ g.begun → begun ≡ true
+    → g.ended ++ onto_open g [] ≡ g.ended ++ g.current ∷ []
+one_open g begun same busy = rw (sym same ∙ busy) refl
+
+-- nothing stood in the open round
+pub all_answered : (given : Option ℕ) (first i j k : InputSeen) (o o' : OutputSeen) (x y z : HearingValue)
+    (workers : ℕ) (start talk : TalkValue) → IsFresh workers start → Conversing workers i j o o' x y start talk
+    → HearsEnd j k y z → talk.begun ≡ false → Begins given first i x workers → AnswersAll given first k o o'
+all_answered given first i j k o o' x y z workers start talk fresh c h idle b =
+    let a = answered given first i j o o' x y workers start talk b c fresh in
+    let Plays : List RoundValue → Type 0 = λ rs. PlaysAll workers [] rs c.written in
+    all_said given first i j k o o' o' x y z workers start talk c.written fresh c h b
+    (subst Plays (sym (nothing_open c.g talk.begun c.talked.begun idle)) a.plays) c.output
+
+-- the open round was answered last
+pub last_answered : (given : Option ℕ) (first i j k : InputSeen) (o o' o'' : OutputSeen) (x y z : HearingValue)
+    (workers : ℕ) (start talk after : TalkValue) → IsFresh workers start
+    → Conversing workers i j o o' x y start talk → HearsEnd j k y z → talk.begun ≡ true
+    → AnswersRound talk after o' o'' → Begins given first i x workers → AnswersAll given first k o o''
+last_answered given first i j k o o' o'' x y z workers start talk after fresh c h busy answers b =
+    let written : List ℕ = c.written ++ answers.lines in
+    let played = answers_one workers c.g start.store talk after o' o'' c.written c.talked answers in
+    let Batches : List (List LoadValue) → Type 0 = λ batches.
+    PlaysAll workers (joined batches) (c.g.ended ++ c.g.current ∷ []) written in
+    let Plays : List RoundValue → Type 0 = λ rs. PlaysAll workers [] rs written in
+    all_said given first i j k o o' o'' x y z workers start talk written fresh c h b
+    (subst Plays (sym (one_open c.g talk.begun c.talked.begun busy)) (subst Batches fresh.none_published
+    (plays_all workers (c.g.ended ++ c.g.current ∷ []) start.store after.store written played)))
+    (Appends-trans o.bytes o'.bytes o''.bytes c.written answers.lines c.output answers.written)
+
+-- ---- before anything was heard behind the front
+
+begun : (given : Option ℕ) (first i : InputSeen) (o : OutputSeen) (x : HearingValue) (workers : ℕ)
+    (b : Begins given first i x workers) → Answered given first i o o x b.front
+begun given first i o x workers b =
+    let Ended : List (List ℕ) → Type 0 = λ ls. HaveEnded given ls workers [] in
+    record {
+      taken = b.taken;
+      number = b.number;
+      workers = workers;
+      rounds = [];
+      ended = subst Ended (append-nil b.front) (ended_so given first i i x x workers b [] nothing (taken_none i x.input)
+          (heard_none workers x.number (omega (arith, b.number))));
+      output = [];
+      plays = refl;
+      written = Appends-nil o.bytes;
+      before = [];
+      round = b.front;
+      cut = refl;
+      size = b.size;
+      first = (ended_first given).0;
+      ended_before = (ended_first given).1;
+    }
+
+-- no store was opened
+pub stops_begun : (given : Option ℕ) (first i : InputSeen) (o : OutputSeen) (x : HearingValue) (workers : ℕ)
+    → Begins given first i x workers → StopsEarly given first i o o
+stops_begun given first i o x workers b =
+    stops_early given first i i o o x x b.front [] (begun given first i o x workers b) (stays_put i x)
+
+-- the number of workers is given
+pub begins_so : (i : InputSeen) (workers : ℕ) → Begins (Some workers) i i unheard workers
+begins_so i workers = record {
+  front = [];
+  taken = taken_none i silence;
+  going = λ behind follows. refl;
+  number = omega arith;
+  size = refl;
+  utf8 = IsUtf8-nil;
+}

@@ -21,6 +21,7 @@ use Rattle.catserve.specs.declared.said.Said.{Said}
 use Rattle.catserve.specs.declared.said.SaidFault.{SaidFault}
 use Rattle.catserve.specs.declared.said.SaidFault.TheVariants as said_fault
 use Rattle.catserve.specs.Run.{InputSeen, FailsToRead}
+use Rattle.catserve.specs.Session.{most_lines}
 use Rattle.catserve.specs.Hearing.{HearingValue, CountsOn, HasTaken, HasGot, HasSaid, Hears, HearsEnd, Stays}
 use Rattle.catserve.specs.Hearing.{HearsBad, HearsUndecodable, HearsTooMuch, HearsNothing, HearsNone, HearsNoText}
 use Rattle.catserve.specs.Hearing.{HearsText, HearsOne, EndsNext, FailsToSay, size_behind, commands_of}
@@ -98,6 +99,7 @@ hears_then i j k workers x y z (Ok (Some thing)) a h =
       raw = h.raw;
       taken = taken_then i j k x.input y.input z.input [] h.raw (stays_taken i j x y a) h.taken;
       said = subst Said a.number h.said;
+      few = omega (arith, h.few, a.number);
       number = h.number ∙ ap (λ n. n + length h.raw) a.number;
       size = h.size ∙ ap (λ n. size_behind (commands_of thing) (n + length (concat h.raw))) a.size;
     }
@@ -123,7 +125,7 @@ none_of i j workers x y kind.Memory line h = h
 
 -- it is taken off
 pub hears_line : (i : InputSeen) (workers : ℕ) (x : HearingValue) (end size : ℕ) (line : Line)
-    (commands : List Command) → EndsLine x.input 0 end → IsUtf8 (take end x.input.left)
+    (commands : List Command) → x.number < most_lines → EndsLine x.input 0 end → IsUtf8 (take end x.input.left)
     → line_of workers (without_end (take end x.input.left)) ≡ Some line
     → ((behind : List (List ℕ)) → saying (Some line) behind ≡ Says commands 0)
     → size ≡ size_behind commands (x.size + end)
@@ -132,11 +134,12 @@ pub hears_line : (i : InputSeen) (workers : ℕ) (x : HearingValue) (end size : 
       number = x.number + 1;
       size = size;
     }) commands
-hears_line i workers x end size line commands ends utf8 is says size_is = record {
+hears_line i workers x end size line commands few ends utf8 is says size_is = record {
   raw = take end x.input.left ∷ [];
   taken = got_taken i i x.input x.input (record { left = drop end x.input.left; ended = x.input.ended })
       (take end x.input.left ∷ []) (stays_put i x).got refl (line_whole x.input end) (line_cut x.input end ends);
   said = says_line workers x.number (take end x.input.left) line commands is says utf8;
+  few = few;
   number = refl;
   size = size_is ∙ ap (λ n. size_behind commands (x.size + n)) (sym (ap length (append-nil (take end x.input.left))
       ∙ length-take-le end x.input.left ends.within));
@@ -171,10 +174,11 @@ hears_none i workers x end said_fault.Memory f ends undecodable bad is = rw is (
 -- ---- a load with its text
 
 pub hears_load : (i j : InputSeen) (workers : ℕ) (x y : HearingValue) (end count : ℕ) (domain locale bytes : List ℕ)
-    (options : Options) → line_of workers (without_end (take end x.input.left)) ≡ Some (Loads domain locale options count)
+    (options : Options) → x.number < most_lines
+    → line_of workers (without_end (take end x.input.left)) ≡ Some (Loads domain locale options count)
     → HearsText i j x y end count bytes
     → Hears i j workers x y (Load (record { domain = domain; locale = locale; source = Po bytes options }) ∷ [])
-hears_load i j workers x y end count domain locale bytes options is h =
+hears_load i j workers x y end count domain locale bytes options few is h =
     let raw : List (List ℕ) = take end x.input.left ∷ h.texts in
     let Said : List ℕ → Type 0 = λ text. HasSaid workers x.number raw
     (Load (record { domain = domain; locale = locale; source = Po text options }) ∷ []) in
@@ -183,6 +187,7 @@ hears_load i j workers x y end count domain locale bytes options is h =
       taken = h.taken;
       said = subst Said (sym h.bytes_are)
           (says_text workers x.number count (take end x.input.left) domain locale options h.texts is h.counted h.utf8);
+      few = few;
       number = omega (arith, h.number, h.counted);
       size = h.size;
     }

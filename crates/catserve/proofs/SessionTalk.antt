@@ -146,7 +146,7 @@ talked_go workers g start old new o o' written talked a = record {
 -- ---- the session
 
 -- in no line no round has ended
-pub ended_first : (given : Option ℕ) → (workers : ℕ) × HaveEnded given [] workers []
+abbrev pub ended_first : (given : Option ℕ) → (workers : ℕ) × HaveEnded given [] workers []
 ended_first None = (2, record { last = empty_round; says = refl })
 ended_first (Some workers) = (workers, record { last = empty_round; says = refl })
 

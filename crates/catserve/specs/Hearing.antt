@@ -95,6 +95,7 @@ pub record Hears (i i' : InputSeen) (workers : ℕ) (x y : HearingValue) (comman
   pub raw : List (List ℕ)
   pub taken : HasTaken i i' x.input y.input raw
   pub said : HasSaid workers x.number raw commands
+  pub few : x.number < most_lines
   pub number : y.number ≡ x.number + length raw
   pub size : y.size ≡ size_behind commands (x.size + length (concat raw))
 

@@ -94,9 +94,11 @@ pub fn run_session<T: Threads + Wait + Sync, R: Source, W: Sink>(
         Converses workers (input reader.old) (input reader.new) (output writer.old) (output writer.new) result }
 {
     let mut hearing = Hearing::new(alloc)?;
-    let workers = match workers {
-        Some(count) => count,
-        None => hearing.hear_front(reader)?,
-    };
-    converse_by_store(rt, alloc, workers, &mut hearing, reader, writer)
+    match workers {
+        Some(count) => converse_by_store(rt, alloc, count, &mut hearing, reader, writer),
+        None => {
+            let count = hearing.hear_front(reader)?;
+            converse_by_store(rt, alloc, count, &mut hearing, reader, writer)
+        }
+    }
 }

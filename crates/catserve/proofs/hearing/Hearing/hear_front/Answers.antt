@@ -63,7 +63,7 @@ returns-in-Workers-clause-begins g c =
     (subst Is left c.read_front_line.ensures) in
     let P : HearingValue → Type 0 = λ y. Begins None i k y c.in-Workers.workers in
     subst P (sym c.take-in-Workers.ensures) (begins_given i j k c.front.self c.next_end.new.self c.front.invariant.0
-    c.in-Some.end c.in-Workers.workers passed c.in_ok-end.ensures.found.stays found.0 is.0.0 is.0.1 is.1)
+    c.in-Some.end c.in-Workers.workers passed c.in_ok-end.ensures.found.stays found.0 is.0 is.1 is.2)
 
 pub returns-in-Other-clause-begins : goal.returns-in-Other-clause-begins
 returns-in-Other-clause-begins g c =
@@ -77,4 +77,4 @@ returns-in-Other-clause-begins g c =
     let is = subst (λ line. IsFront (take c.in-Some.end c.next_end.new.self.input.left) line) c.in-Other.is
     (subst Is left c.read_front_line.ensures) in
     begins_other i j k c.front.self c.next_end.new.self c.front.invariant.0 c.in-Some.end passed
-    c.in_ok-end.ensures.found.stays found.0 is.0.1 is.1
+    c.in_ok-end.ensures.found.stays found.0 is.1 is.2
