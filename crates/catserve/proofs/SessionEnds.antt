@@ -295,33 +295,48 @@ none_ends given first i j k o o' x y z workers start talk kind.Memory line fresh
     (stops_early given first j k o o' y z (b.front ++ c.lines) lost
         (answered given first i j o o' x y workers start talk b c fresh) h, is)
 
--- for another reason
-pub ends_early : (given : Option ℕ) (first i j : InputSeen) (o o' : OutputSeen) (x y : HearingValue) (workers : ℕ)
-    (start talk : TalkValue) → IsFresh workers start → Conversing workers i j o o' x y start talk
-    → Begins given first i x workers → StopsEarly given first j o o'
-ends_early given first i j o o' x y workers start talk fresh c b =
-    stops_early given first j j o o' y y (b.front ++ c.lines) []
-    (answered given first i j o o' x y workers start talk b c fresh) (stays_put j y)
+-- what was read of lines that were taken off
+pub taken_stays : (j k : InputSeen) (y z : HearingValue) (raw : List (List ℕ)) (t : HasTaken j k y.input z.input raw)
+    → Stays j k y (record {
+      input = record { left = y.input.left ++ t.more; ended = z.input.ended };
+      number = y.number;
+      size = y.size;
+    }) []
+taken_stays j k y z raw t = record {
+  got = record {
+    more = t.more;
+    read = rw (append-nil t.more) t.read;
+    behind = refl;
+    may = t.may;
+    at_end = t.at_end;
+    counts = t.counts;
+  };
+  number = refl;
+  size = refl;
+}
 
 -- a round isn't answered
-pub fails_so : (given : Option ℕ) (first i j : InputSeen) (o o' o'' : OutputSeen) (x y : HearingValue) (workers : ℕ)
-    (start talk : TalkValue) (kind : ScriptKind) → IsFresh workers start
-    → Conversing workers i j o o' x y start talk → FailsToAnswer o' o'' kind → Begins given first i x workers
-    → EndsFor given first j o o'' kind 0
-fails_so given first i j o o' o'' x y workers start talk kind.TooLarge fresh c h b = absurd h
-fails_so given first i j o o' o'' x y workers start talk kind.NotUtf8 fresh c h b = absurd h
-fails_so given first i j o o' o'' x y workers start talk kind.BadLine fresh c h b = absurd h
-fails_so given first i j o o' o'' x y workers start talk kind.ReadFault fresh c h b = absurd h
-fails_so given first i j o o' o'' x y workers start talk kind.WriteFault fresh c h b =
-    let P : ℕ → Type 0 = λ n. RisesBy 1 n o''.failures in (subst P c.steady h, refl)
-fails_so given first i j o o' o'' x y workers start talk kind.NoPlace fresh c h b =
-    (rw h (ends_early given first i j o o' x y workers start talk fresh c b), refl)
-fails_so given first i j o o' o'' x y workers start talk kind.Closed fresh c h b =
-    (rw h (ends_early given first i j o o' x y workers start talk fresh c b), refl)
-fails_so given first i j o o' o'' x y workers start talk kind.Join fresh c h b =
-    (rw h (ends_early given first i j o o' x y workers start talk fresh c b), refl)
-fails_so given first i j o o' o'' x y workers start talk kind.Memory fresh c h b =
-    (rw h (ends_early given first i j o o' x y workers start talk fresh c b), refl)
+pub fails_so : (given : Option ℕ) (first i j k : InputSeen) (o o' o'' : OutputSeen) (x y z : HearingValue)
+    (workers : ℕ) (start talk : TalkValue) (why : ScriptKind) → IsFresh workers start
+    → Conversing workers i j o o' x y start talk → Stays j k y z [] → FailsToAnswer o' o'' why
+    → Begins given first i x workers → EndsFor given first k o o'' why 0
+fails_so given first i j k o o' o'' x y z workers start talk why fresh c s h b =
+    by_kind why h (λ same. subst (λ out. StopsEarly given first k o out) (sym same)
+    (stops_early given first j k o o' y z (b.front ++ c.lines) []
+    (answered given first i j o o' x y workers start talk b c fresh) s))
+  where
+    by_kind : (why : ScriptKind) → FailsToAnswer o' o'' why → (o'' ≡ o' → StopsEarly given first k o o'')
+        → EndsFor given first k o o'' why 0
+    by_kind kind.TooLarge h early = absurd h
+    by_kind kind.NotUtf8 h early = absurd h
+    by_kind kind.BadLine h early = absurd h
+    by_kind kind.ReadFault h early = absurd h
+    by_kind kind.WriteFault h early =
+        let P : ℕ → Type 0 = λ n. RisesBy 1 n o''.failures in (subst P c.steady h, refl)
+    by_kind kind.NoPlace h early = (early h, refl)
+    by_kind kind.Closed h early = (early h, refl)
+    by_kind kind.Join h early = (early h, refl)
+    by_kind kind.Memory h early = (early h, refl)
 
 -- the input has ended, and these are the rounds
 all_said : (given : Option ℕ) (first i j k : InputSeen) (o o' o'' : OutputSeen) (x y z : HearingValue) (workers : ℕ)
