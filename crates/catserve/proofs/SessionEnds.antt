@@ -291,9 +291,11 @@ none_ends given first i j k o o' x y z workers start talk kind.WriteFault line f
 none_ends given first i j k o o' x y z workers start talk kind.NoPlace line fresh c h b = absurd h
 none_ends given first i j k o o' x y z workers start talk kind.Closed line fresh c h b = absurd h
 none_ends given first i j k o o' x y z workers start talk kind.Join line fresh c h b = absurd h
-none_ends given first i j k o o' x y z workers start talk kind.Memory line fresh c ((lost, h), is) b =
-    (stops_early given first j k o o' y z (b.front ++ c.lines) lost
-        (answered given first i j o o' x y workers start talk b c fresh) h, is)
+none_ends given first i j k o o' x y z workers start talk kind.Memory line fresh c ((lost, h), is) b = (
+  stops_early given first j k o o' y z (b.front ++ c.lines) lost
+      (answered given first i j o o' x y workers start talk b c fresh) h,
+  is,
+)
 
 -- what was read of lines that were taken off
 pub taken_stays : (j k : InputSeen) (y z : HearingValue) (raw : List (List ℕ)) (t : HasTaken j k y.input z.input raw)

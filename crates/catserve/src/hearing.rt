@@ -104,10 +104,10 @@ impl Hearing {
         requires size { self.old.size + bytes ≤ 67108864 }
         requires number { self.old.number + lines < 2 ^ 64 }
         ensures { self.new ≡ record {
-            input = record { left = drop bytes self.old.input.left; ended = self.old.input.ended };
-            number = self.old.number + lines;
-            size = self.old.size + bytes;
-          } }
+          input = record { left = drop bytes self.old.input.left; ended = self.old.input.ended };
+          number = self.old.number + lines;
+          size = self.old.size + bytes;
+        } }
     {
         self.input.take(bytes);
         self.number += lines;
@@ -145,7 +145,7 @@ impl Hearing {
             IfOk result (λ bytes. HearsText (input reader.old) (input reader.new) self.old self.new end count bytes.items) }
         ensures fault { let input = input_seen R.remaining R.reads R.failures in
             IfErr result (λ fault.
-              HearsNoText (input reader.old) (input reader.new) self.old self.new end count fault.kind fault.line) }
+            HearsNoText (input reader.old) (input reader.new) self.old self.new end count fault.kind fault.line) }
     {
         let most = MOST_SCRIPT - self.size;
         let found = match self.input.lines_end(reader, end, count, most) {

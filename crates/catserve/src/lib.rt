@@ -21,6 +21,6 @@ pub use desks::{
 };
 pub use law::one_output;
 pub use run::run_script;
+pub use script_text::{MOST_SCRIPT, ScriptFault, ScriptKind};
 pub use session::run_session;
 pub use session_fault::SessionFault;
-pub use script_text::{MOST_SCRIPT, ScriptFault, ScriptKind};

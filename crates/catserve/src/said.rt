@@ -32,7 +32,10 @@ pub(crate) enum Said {
         bytes: Vec<u8>,
     },
     /// A worker is asked.
-    Asks { worker: u32, query: Query },
+    Asks {
+        worker: u32,
+        query: Query,
+    },
     /// The round ends.
     Goes,
 }

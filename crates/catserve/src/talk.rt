@@ -30,10 +30,10 @@ fn make(
 ) -> Result<(), AllocError>
     requires { HasRoom publisher.old }
     ensures ok { IfOk result (λ _. LoadsOne (record {
-            domain = domain.now;
-            locale = locale.now;
-            source = source_value source.entry;
-          }) publisher.old.pending publisher.new.pending held.old.items held.new.items) }
+      domain = domain.now;
+      locale = locale.now;
+      source = source_value source.entry;
+    }) publisher.old.pending publisher.new.pending held.old.items held.new.items) }
     ensures seen { publisher.new.seen ≡ publisher.old.seen }
     ensures most { publisher.new.most ≡ publisher.old.most }
 {
@@ -108,11 +108,25 @@ impl Talk {
             Source::Po { bytes, options } => {
                 let text = bytes.as_slice();
                 let source = LoadSource::Po { text, options };
-                make(alloc, &mut self.publisher, domain, locale, source, &mut self.held)?;
+                make(
+                    alloc,
+                    &mut self.publisher,
+                    domain,
+                    locale,
+                    source,
+                    &mut self.held,
+                )?;
             }
             Source::Mo { bytes } => {
                 let source = LoadSource::Mo { bytes };
-                make(alloc, &mut self.publisher, domain, locale, source, &mut self.held)?;
+                make(
+                    alloc,
+                    &mut self.publisher,
+                    domain,
+                    locale,
+                    source,
+                    &mut self.held,
+                )?;
             }
         }
         self.begun = true;
@@ -142,7 +156,13 @@ impl Talk {
         ensures fault { let output = output_seen W.contents W.failures in
             IfErr result (λ kind. FailsToAnswer (output writer.old) (output writer.new) kind) }
     {
-        finish(rt, alloc, &mut self.publisher, &mut self.desks, &mut self.held)?;
+        finish(
+            rt,
+            alloc,
+            &mut self.publisher,
+            &mut self.desks,
+            &mut self.held,
+        )?;
         if writer.write_all(self.held.as_slice()).is_err() {
             return Err(ScriptKind::WriteFault);
         }

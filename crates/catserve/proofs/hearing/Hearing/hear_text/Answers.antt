@@ -36,11 +36,14 @@ returns-in_default-clause-fault g c =
     let P : HearingValue → Type 0 = λ x.
     HearsNoText i j x after c.args.end c.args.count c.fault_here.result.kind c.fault_here.result.line in
     let Q : SessionFault → Type 0 = λ f. HearsNoText i j here after c.args.end c.args.count f.kind f.line in
-    subst P c.self.view_is (subst Q (sym c.fault_here.ensures) (record {
-      stays = stays_whole i j here after c.in-Ok.ensures.comes
-          (record { later = c.in-Ok.ensures.later; reads = c.in-Ok.ensures.reads }) refl refl;
-      fewer = rw c.in_default.is at c.in-Ok.ensures.none;
-    }, refl))
+    subst P c.self.view_is (subst Q (sym c.fault_here.ensures) (
+      record {
+        stays = stays_whole i j here after c.in-Ok.ensures.comes
+            (record { later = c.in-Ok.ensures.later; reads = c.in-Ok.ensures.reads }) refl refl;
+        fewer = rw c.in_default.is at c.in-Ok.ensures.none;
+      },
+      refl,
+    ))
 
 pub overflow_add-count : goal.overflow_add-count
 overflow_add-count g c =
