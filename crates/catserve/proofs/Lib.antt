@@ -6,3 +6,9 @@ pub mod Playing
 pub mod Sources
 pub mod OneOutput
 pub mod SomeOutput
+pub mod LinesTaken
+pub mod SessionLines
+pub mod SessionHears
+pub mod SessionFront
+pub mod SessionTalk
+pub mod SessionEnds

@@ -2,5 +2,8 @@ pub mod Output
 pub mod Rounds
 pub mod Laws
 pub mod Run
+pub mod Session
 pub mod Asking
 pub mod Running
+pub mod Hearing
+pub mod Talking

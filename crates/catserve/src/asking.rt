@@ -28,7 +28,7 @@ pub(crate) fn open_desks(alloc: Global, readers: Vec<Lookups>) -> Result<Vec<Des
 }
 
 /// Gives a query to a worker's desk, behind those that it has. Where there is no such worker, nobody is asked.
-fn give(desks: &mut [Desk], worker: u32, query: Query) -> Result<(), AllocError>
+pub(crate) fn give(desks: &mut [Desk], worker: u32, query: Query) -> Result<(), AllocError>
     ensures { OnOk result (GivesOne desks.old worker query desks.new) }
 {
     let index = worker as usize;

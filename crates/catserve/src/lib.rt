@@ -5,10 +5,15 @@
 #![tactic(auto)]
 
 mod asking;
+mod hearing;
 mod law;
 mod output;
 mod round;
 mod run;
+mod said;
+mod session;
+mod session_fault;
+mod talk;
 
 pub use desks::{
     Accepted, Answer, Desk, Gate, Job, Place, ServeFault, Served, Source, one_end, one_history,
@@ -17,3 +22,5 @@ pub use desks::{
 pub use law::one_output;
 pub use run::run_script;
 pub use script_text::{MOST_SCRIPT, ScriptFault, ScriptKind};
+pub use session::run_session;
+pub use session_fault::SessionFault;

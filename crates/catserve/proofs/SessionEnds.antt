@@ -1,0 +1,445 @@
+-- How a session ends.
+use Rattle.std.proofs.Common.{◌≡◌, ◌∙◌, refl, sym, ap, subst, ℕ, zero, suc, ◌+◌, ◌<◌, ◌≤◌, ◌⊎◌, Bool, true, false}
+use Rattle.std.proofs.Common.{List, [], ◌∷◌, ◌++◌, length, arith, inl, inr, append_assoc, length-append, Option, Some}
+use Rattle.std.proofs.Common.{None, Result, Ok, Err}
+use Rattle.std.specs.List.{concat}
+use Rattle.std.specs.Str.{IsUtf8}
+use Rattle.std.specs.Io.KnownBytes.{Appends, Consumes, IsAtEnd}
+use Rattle.std.proofs.KnownBytes.{Appends-nil, Appends-trans}
+use Rattle.std.proofs.lemmas.List.{append-nil}
+use Rattle.std.proofs.lemmas.List.Folds.{concat-append}
+use Rattle.std.proofs.lemmas.Str.{IsUtf8-append, IsUtf8-nil}
+use Rattle.devices.specs.Devices.{RisesBy}
+use Rattle.line_input.specs.Lines.{lines}
+use Rattle.line_input.specs.Incoming.{Incoming, MayCome}
+use Rattle.line_input.proofs.Arriving.{both, consumes_both, consumes_none}
+use Rattle.live_set.specs.Loads.{LoadValue}
+use Rattle.live_versions.specs.Batches.{joined}
+use Rattle.live_versions.specs.Store.{StoreValue}
+use Rattle.script_text.specs.Script.{RoundValue, ScriptValue, commands_from, script_from, script_of}
+use Rattle.script_text.specs.Texts.{most_script}
+use Rattle.script_text.specs.Gathering.{Gathered, empty_round, nothing, going_on, onto_open}
+use Rattle.script_text.specs.declared.fault.ScriptKind.{ScriptKind}
+use Rattle.script_text.specs.declared.fault.ScriptKind.TheVariants as kind
+use Rattle.catserve.specs.declared.session_fault.SessionFault.{SessionFault}
+use Rattle.catserve.specs.Rounds.{PlaysAll}
+use Rattle.catserve.specs.Running.{HasPlayed}
+use Rattle.catserve.specs.Run.{InputSeen, OutputSeen, FailsToRead}
+use Rattle.catserve.specs.Session.{said, round_end, HaveEnded, StopsBehind, AnswersAll, StopsEarly, EndsFor, Converses}
+use Rattle.catserve.specs.Session.{most_lines, MayFollow}
+use Rattle.catserve.specs.Hearing.{HearingValue, HasTaken, Stays, HearsEnd, HearsNone, HearsNoFront, Begins, unheard}
+use Rattle.catserve.specs.Hearing.{silence, HasPassed, FailsInFront, HearsTooMuch, HearsUndecodable}
+use Rattle.catserve.specs.Talking.{TalkValue, AnswersRound, FailsToAnswer, IsFresh, HasTalked, HasHeard, HasOpen}
+use Rattle.catserve.specs.Talking.{Conversing, Continues}
+use Rattle.catserve.proofs.Playing.{plays_all}
+use Rattle.catserve.proofs.LinesTaken.{stays_put, taken_none, taken_then}
+use Rattle.catserve.proofs.SessionLines.{ended_so, follows_all, heard_none}
+use Rattle.catserve.proofs.SessionHears.{fails_later}
+use Rattle.catserve.proofs.SessionTalk.{answers_one, ended_first}
+
+-- ---- where it stopped
+
+-- what was answered: these lines were taken off, and the rounds that have ended in them were played and written
+pub record Answered (given : Option ℕ) (i j : InputSeen) (o o' : OutputSeen) (y : HearingValue)
+    (front : List (List ℕ)) : Type 0 where
+  pub taken : HasTaken i j silence y.input front
+  pub number : y.number ≡ length front + 1
+  pub workers : ℕ
+  pub rounds : List RoundValue
+  pub ended : HaveEnded given front workers rounds
+  pub output : List ℕ
+  pub plays : PlaysAll workers [] rounds output
+  pub written : Appends o.bytes o'.bytes output
+  pub before : List (List ℕ)
+  pub round : List (List ℕ)
+  pub cut : front ≡ before ++ round
+  pub size : y.size ≡ length (concat round)
+  pub first : ℕ
+  pub ended_before : HaveEnded given before first rounds
+
+pub stops_so : (given : Option ℕ) (i j k : InputSeen) (o o' : OutputSeen) (y z : HearingValue)
+    (front : List (List ℕ)) (lost : List ℕ) (a : Answered given i j o o' y front) (s : Stays j k y z lost)
+    → StopsBehind given i k o o' front (a.taken.more ++ s.got.more) z.input.left lost z.input.ended
+stops_so given i j k o o' y z front lost a s =
+    let t = a.taken in
+    record {
+      read = rw (append_assoc t.more s.got.more lost)
+          (consumes_both i.left j.left k.left t.more (s.got.more ++ lost) t.read s.got.read);
+      at_end = s.got.at_end (t.at_end (λ ended. both false ended refl));
+      whole = ap (λ xs. xs ++ s.got.more) t.whole ∙ append_assoc (concat front) y.input.left s.got.more
+          ∙ ap (λ xs. concat front ++ xs) (sym s.got.behind);
+      lines_are = λ more may. ap lines (append_assoc t.more s.got.more more)
+          ∙ t.cut (s.got.more ++ more) (s.got.may more may)
+          ∙ ap (λ xs. front ++ lines xs) (sym (append_assoc y.input.left s.got.more more)
+          ∙ ap (λ xs. xs ++ more) (sym s.got.behind));
+      workers = a.workers;
+      rounds = a.rounds;
+      ended_are = a.ended;
+      output = a.output;
+      plays = a.plays;
+      written = a.written;
+    }
+
+stops_early : (given : Option ℕ) (i j k : InputSeen) (o o' : OutputSeen) (y z : HearingValue)
+    (front : List (List ℕ)) (lost : List ℕ) → Answered given i j o o' y front → Stays j k y z lost
+    → StopsEarly given i k o o'
+stops_early given i j k o o' y z front lost a s = record {
+  front = front;
+  text = a.taken.more ++ s.got.more;
+  rest = z.input.left;
+  lost = lost;
+  ended = z.input.ended;
+  stops = stops_so given i j k o o' y z front lost a s;
+}
+
+too_much : (given : Option ℕ) (i j k : InputSeen) (o o' : OutputSeen) (y z : HearingValue)
+    (front : List (List ℕ)) (line : ℕ) → Answered given i j o o' y front → HearsTooMuch j k y z line
+    → EndsFor given i k o o' kind.TooLarge line
+too_much given i j k o o' y z front line a h = record {
+  front = front;
+  text = a.taken.more ++ h.stays.got.more;
+  rest = z.input.left;
+  ended = z.input.ended;
+  stops = stops_so given i j k o o' y z front [] a h.stays;
+  line_is = h.line_is ∙ a.number;
+  round = a.round;
+  is_open = record {
+    before = a.before;
+    cut = a.cut;
+    rounds = a.rounds;
+    first = a.first;
+    ended_before = a.ended_before;
+    workers = a.workers;
+    ended_are = a.ended;
+  };
+  over = over h.over;
+} where
+  over : (most_script < y.size + length z.input.left) ⊎ (most_lines ≤ y.number)
+      → (most_script < length (concat a.round ++ z.input.left)) ⊎ (most_lines ≤ line)
+  over (inl large) = inl (omega (arith, large, a.size, length-append (concat a.round) z.input.left))
+  over (inr long) = inr (omega (arith, long, h.line_is))
+
+undecodable : (given : Option ℕ) (i j k : InputSeen) (o o' : OutputSeen) (y z : HearingValue)
+    (front : List (List ℕ)) (line : ℕ) → Answered given i j o o' y front → HearsUndecodable j k y z line
+    → EndsFor given i k o o' kind.NotUtf8 line
+undecodable given i j k o o' y z front line a h =
+    let stops = stops_so given i j k o o' y z front [] a h.stays in
+    record {
+      front = front;
+      text = a.taken.more ++ h.stays.got.more;
+      rest = z.input.left;
+      ended = z.input.ended;
+      stops = stops;
+      line_is = h.line_is ∙ a.number;
+      raw = h.raw;
+      behind = h.behind;
+      begins = h.begins;
+      cut = λ more may. stops.lines_are more may ∙ ap (λ ls. front ++ ls) (h.cut more may)
+          ∙ sym (append_assoc front h.raw (lines (h.behind ++ more)));
+      undecodable = h.undecodable;
+    }
+
+-- ---- in the front
+
+-- nothing is played in front of the commands
+front_answered : (i j : InputSeen) (o : OutputSeen) (y : HearingValue) (front : List (List ℕ))
+    → HasPassed i j unheard y front → Answered None i j o o y front
+front_answered i j o y front passed = record {
+  taken = passed.taken;
+  number = omega (arith, passed.number);
+  workers = 2;
+  rounds = [];
+  ended = record {
+    last = empty_round;
+    says = passed.passes (round_end ∷ []) ∙ refl;
+  };
+  output = [];
+  plays = refl;
+  written = Appends-nil o.bytes;
+  before = [];
+  round = front;
+  cut = refl;
+  size = omega (arith, passed.size);
+  first = 2;
+  ended_before = (ended_first None).1;
+}
+
+ends_front : (i j k : InputSeen) (o : OutputSeen) (y z : HearingValue) (front : List (List ℕ)) (kind : ScriptKind)
+    (line : ℕ) → HasPassed i j unheard y front → HearsNoFront j k y z kind line → EndsFor None i k o o kind line
+ends_front i j k o y z front kind.TooLarge line passed h =
+    too_much None i j k o o y z front line (front_answered i j o y front passed) h
+ends_front i j k o y z front kind.NotUtf8 line passed h =
+    undecodable None i j k o o y z front line (front_answered i j o y front passed) h
+ends_front i j k o y z front kind.BadLine line passed h = absurd h
+ends_front i j k o y z front kind.ReadFault line passed ((lost, h), failed, is) = (
+  stops_early None i j k o o y z front lost (front_answered i j o y front passed) h,
+  fails_later i j k passed.taken.counts failed,
+  is,
+)
+ends_front i j k o y z front kind.WriteFault line passed h = absurd h
+ends_front i j k o y z front kind.NoPlace line passed h = absurd h
+ends_front i j k o y z front kind.Closed line passed h = absurd h
+ends_front i j k o y z front kind.Join line passed h = absurd h
+ends_front i j k o y z front kind.Memory line passed ((lost, h), is) =
+    (stops_early None i j k o o y z front lost (front_answered i j o y front passed) h, is)
+
+pub front_ends : (i k : InputSeen) (o : OutputSeen) (kind : ScriptKind) (line : ℕ) → FailsInFront i k kind line
+    → EndsFor None i k o o kind line
+front_ends i k o kind line f = ends_front i f.mid k o f.y f.z f.front kind line f.passed f.none
+
+-- nothing at all was heard
+pub ends_at_once : (given : Option ℕ) (i : InputSeen) (o : OutputSeen) → StopsEarly given i i o o
+ends_at_once given i o =
+    let (workers, ended) = ended_first given in
+    record {
+      front = [];
+      text = [];
+      rest = [];
+      lost = [];
+      ended = false;
+      stops = record {
+        read = consumes_none i.left;
+        at_end = λ ended. both false ended refl;
+        whole = refl;
+        lines_are = λ more may. refl;
+        workers = workers;
+        rounds = [];
+        ended_are = ended;
+        output = [];
+        plays = refl;
+        written = Appends-nil o.bytes;
+      };
+    }
+
+-- ---- behind the front
+
+-- the rounds that have ended behind a front
+abbrev pub answered : (given : Option ℕ) (first i j : InputSeen) (o o' : OutputSeen) (x y : HearingValue) (workers : ℕ)
+    (start talk : TalkValue) (b : Begins given first i x workers) (c : Conversing workers i j o o' x y start talk)
+    → IsFresh workers start → Answered given first j o o' y (b.front ++ c.lines)
+answered given first i j o o' x y workers start talk b c fresh =
+    let open_round = c.is_open given first b in
+    let Plays : List (List LoadValue) → Type 0 = λ batches. PlaysAll workers (joined batches) c.g.ended c.written in
+    record {
+      taken = taken_then first i j silence x.input y.input b.front c.lines b.taken c.taken;
+      number = omega (arith, b.number, c.heard.number_is, length-append b.front c.lines);
+      workers = workers;
+      rounds = c.g.ended;
+      ended = ended_so given first i j x y workers b c.lines c.g c.taken c.heard;
+      output = c.written;
+      plays = subst Plays fresh.none_published (plays_all workers c.g.ended start.store c.talked.before c.written
+          c.talked.played);
+      written = c.output;
+      before = open_round.before;
+      round = open_round.round;
+      cut = open_round.cut;
+      size = open_round.size_is;
+      first = open_round.workers;
+      ended_before = open_round.ended_before;
+    }
+
+-- what all lines say, whatever still comes
+said_all : (given : Option ℕ) (first i j : InputSeen) (o o' : OutputSeen) (x y : HearingValue) (workers : ℕ)
+    (start talk : TalkValue) (b : Begins given first i x workers) (c : Conversing workers i j o o' x y start talk)
+    (text : List ℕ) → MayCome y.input text → said given (lines ((b.taken.more ++ c.taken.more) ++ text))
+    ≡ going_on workers c.g (commands_from workers y.number 0 (lines (y.input.left ++ text)))
+said_all given first i j o o' x y workers start talk b c text may =
+    let behind : MayCome x.input (c.taken.more ++ text) = c.taken.may text may in
+    ap (λ xs. said given (lines xs)) (append_assoc b.taken.more c.taken.more text)
+    ∙ ap (said given) (b.taken.cut (c.taken.more ++ text) behind)
+    ∙ b.going (lines (x.input.left ++ (c.taken.more ++ text)))
+    (follows_all x.input (c.taken.more ++ text) behind)
+    ∙ ap (λ xs. script_of workers (commands_from workers x.number 0 (lines xs)))
+    (sym (append_assoc x.input.left c.taken.more text))
+    ∙ ap (λ ls. script_of workers (commands_from workers x.number 0 ls)) (c.taken.cut text may)
+    ∙ c.heard.going (lines (y.input.left ++ text))
+
+-- nothing more was heard
+pub none_ends : (given : Option ℕ) (first i j k : InputSeen) (o o' : OutputSeen) (x y z : HearingValue) (workers : ℕ)
+    (start talk : TalkValue) (kind : ScriptKind) (line : ℕ) → IsFresh workers start
+    → Conversing workers i j o o' x y start talk → HearsNone j k workers y z kind line
+    → Begins given first i x workers → EndsFor given first k o o' kind line
+none_ends given first i j k o o' x y z workers start talk kind.TooLarge line fresh c h b =
+    too_much given first j k o o' y z (b.front ++ c.lines) line
+    (answered given first i j o o' x y workers start talk b c fresh) h
+none_ends given first i j k o o' x y z workers start talk kind.NotUtf8 line fresh c h b =
+    undecodable given first j k o o' y z (b.front ++ c.lines) line
+    (answered given first i j o o' x y workers start talk b c fresh) h
+none_ends given first i j k o o' x y z workers start talk kind.BadLine line fresh c h b =
+    let a = answered given first i j o o' x y workers start talk b c fresh in
+    let got = h.stays.got in
+    record {
+      front = b.front ++ c.lines;
+      text = a.taken.more ++ got.more;
+      rest = z.input.left;
+      ended = z.input.ended;
+      stops = stops_so given first j k o o' y z (b.front ++ c.lines) [] a h.stays;
+      line_is = h.line_is ∙ a.number;
+      bad = λ more may. ap (λ xs. said given (lines xs)) (append_assoc a.taken.more got.more more)
+          ∙ said_all given first i j o o' x y workers start talk b c (got.more ++ more) (got.may more may)
+          ∙ ap (λ xs. going_on workers c.g (commands_from workers y.number 0 (lines xs)))
+          (sym (append_assoc y.input.left got.more more) ∙ ap (λ xs. xs ++ more) (sym got.behind))
+          ∙ ap (going_on workers c.g) (h.bad more may) ∙ ap Err (sym h.line_is);
+    }
+none_ends given first i j k o o' x y z workers start talk kind.ReadFault line fresh c ((lost, h), failed, is) b =
+    let a = answered given first i j o o' x y workers start talk b c fresh in (
+      stops_early given first j k o o' y z (b.front ++ c.lines) lost a h,
+      fails_later first j k a.taken.counts failed,
+      is,
+    )
+none_ends given first i j k o o' x y z workers start talk kind.WriteFault line fresh c h b = absurd h
+none_ends given first i j k o o' x y z workers start talk kind.NoPlace line fresh c h b = absurd h
+none_ends given first i j k o o' x y z workers start talk kind.Closed line fresh c h b = absurd h
+none_ends given first i j k o o' x y z workers start talk kind.Join line fresh c h b = absurd h
+none_ends given first i j k o o' x y z workers start talk kind.Memory line fresh c ((lost, h), is) b = (
+  stops_early given first j k o o' y z (b.front ++ c.lines) lost
+      (answered given first i j o o' x y workers start talk b c fresh) h,
+  is,
+)
+
+-- what was read of lines that were taken off
+pub taken_stays : (j k : InputSeen) (y z : HearingValue) (raw : List (List ℕ)) (t : HasTaken j k y.input z.input raw)
+    → Stays j k y (record {
+      input = record { left = y.input.left ++ t.more; ended = z.input.ended };
+      number = y.number;
+      size = y.size;
+    }) []
+taken_stays j k y z raw t = record {
+  got = record {
+    more = t.more;
+    read = rw (append-nil t.more) t.read;
+    behind = refl;
+    may = t.may;
+    at_end = t.at_end;
+    counts = t.counts;
+  };
+  number = refl;
+  size = refl;
+}
+
+-- a round isn't answered
+pub fails_so : (given : Option ℕ) (first i j k : InputSeen) (o o' o'' : OutputSeen) (x y z : HearingValue)
+    (workers : ℕ) (start talk : TalkValue) (why : ScriptKind) → IsFresh workers start
+    → Conversing workers i j o o' x y start talk → Stays j k y z [] → FailsToAnswer o' o'' why
+    → Begins given first i x workers → EndsFor given first k o o'' why 0
+fails_so given first i j k o o' o'' x y z workers start talk why fresh c s h b =
+    by_kind why h (λ same. subst (λ out. StopsEarly given first k o out) (sym same)
+    (stops_early given first j k o o' y z (b.front ++ c.lines) []
+    (answered given first i j o o' x y workers start talk b c fresh) s))
+  where
+    by_kind : (why : ScriptKind) → FailsToAnswer o' o'' why → (o'' ≡ o' → StopsEarly given first k o o'')
+        → EndsFor given first k o o'' why 0
+    by_kind kind.TooLarge h early = absurd h
+    by_kind kind.NotUtf8 h early = absurd h
+    by_kind kind.BadLine h early = absurd h
+    by_kind kind.ReadFault h early = absurd h
+    by_kind kind.WriteFault h early =
+        let P : ℕ → Type 0 = λ n. RisesBy 1 n o''.failures in (subst P c.steady h, refl)
+    by_kind kind.NoPlace h early = (early h, refl)
+    by_kind kind.Closed h early = (early h, refl)
+    by_kind kind.Join h early = (early h, refl)
+    by_kind kind.Memory h early = (early h, refl)
+
+-- the input has ended, and these are the rounds
+all_said : (given : Option ℕ) (first i j k : InputSeen) (o o' o'' : OutputSeen) (x y z : HearingValue) (workers : ℕ)
+    (start talk : TalkValue) (written : List ℕ) → IsFresh workers start
+    → (c : Conversing workers i j o o' x y start talk) → HearsEnd j k y z → Begins given first i x workers
+    → PlaysAll workers [] (c.g.ended ++ onto_open c.g []) written → Appends o.bytes o''.bytes written
+    → AnswersAll given first k o o''
+all_said given first i j k o o' o'' x y z workers start talk written fresh c h b plays appended =
+    let a = answered given first i j o o' x y workers start talk b c fresh in
+    let got = h.got in
+    let stops = stops_so given first j k o o' y z (b.front ++ c.lines) [] a
+    (record { got = got; number = h.number; size = h.size }) in
+    let text : List ℕ = a.taken.more ++ got.more in
+    let none : MayCome z.input [] = λ ended. refl in
+    let may : MayCome y.input got.more = subst (MayCome y.input) (append-nil got.more) (got.may [] none) in
+    let whole : text ≡ concat (b.front ++ c.lines) = stops.whole ∙ ap (λ xs. concat (b.front ++ c.lines) ++ xs) h.left
+    ∙ append-nil (concat (b.front ++ c.lines)) in
+    record {
+      text = text;
+      read = subst (Consumes first.left k.left) (append-nil text) stops.read;
+      at_end = stops.at_end h.ended;
+      utf8 = rw (whole, concat-append b.front c.lines) (IsUtf8-append (concat b.front) (concat c.lines) b.utf8
+          c.heard.utf8);
+      value = record { workers = workers; rounds = c.g.ended ++ onto_open c.g [] };
+      says = said_all given first i j o o' x y workers start talk b c got.more may
+          ∙ ap (λ xs. going_on workers c.g (commands_from workers y.number 0 (lines xs))) (sym got.behind ∙ h.left);
+      output = written;
+      plays = plays;
+      written = appended;
+    }
+
+nothing_open : (g : Gathered) (begun : Bool) → begun ≡ g.begun → begun ≡ false → g.ended ++ onto_open g [] ≡ g.ended
+nothing_open g begun same idle = rw (sym same ∙ idle) (append-nil g.ended)
+
+one_open : (g : Gathered) (begun : Bool) → begun ≡ g.begun → begun ≡ true
+    → g.ended ++ onto_open g [] ≡ g.ended ++ g.current ∷ []
+one_open g begun same busy = rw (sym same ∙ busy) refl
+
+-- nothing stood in the open round
+pub all_answered : (given : Option ℕ) (first i j k : InputSeen) (o o' : OutputSeen) (x y z : HearingValue)
+    (workers : ℕ) (start talk : TalkValue) → IsFresh workers start → Conversing workers i j o o' x y start talk
+    → HearsEnd j k y z → talk.begun ≡ false → Begins given first i x workers → AnswersAll given first k o o'
+all_answered given first i j k o o' x y z workers start talk fresh c h idle b =
+    let a = answered given first i j o o' x y workers start talk b c fresh in
+    let Plays : List RoundValue → Type 0 = λ rs. PlaysAll workers [] rs c.written in
+    all_said given first i j k o o' o' x y z workers start talk c.written fresh c h b
+    (subst Plays (sym (nothing_open c.g talk.begun c.talked.begun idle)) a.plays) c.output
+
+-- the open round was answered last
+pub last_answered : (given : Option ℕ) (first i j k : InputSeen) (o o' o'' : OutputSeen) (x y z : HearingValue)
+    (workers : ℕ) (start talk after : TalkValue) → IsFresh workers start
+    → Conversing workers i j o o' x y start talk → HearsEnd j k y z → talk.begun ≡ true
+    → AnswersRound talk after o' o'' → Begins given first i x workers → AnswersAll given first k o o''
+last_answered given first i j k o o' o'' x y z workers start talk after fresh c h busy answers b =
+    let written : List ℕ = c.written ++ answers.lines in
+    let played = answers_one workers c.g start.store talk after o' o'' c.written c.talked answers in
+    let Batches : List (List LoadValue) → Type 0 = λ batches.
+    PlaysAll workers (joined batches) (c.g.ended ++ c.g.current ∷ []) written in
+    let Plays : List RoundValue → Type 0 = λ rs. PlaysAll workers [] rs written in
+    all_said given first i j k o o' o'' x y z workers start talk written fresh c h b
+    (subst Plays (sym (one_open c.g talk.begun c.talked.begun busy)) (subst Batches fresh.none_published
+    (plays_all workers (c.g.ended ++ c.g.current ∷ []) start.store after.store written played)))
+    (Appends-trans o.bytes o'.bytes o''.bytes c.written answers.lines c.output answers.written)
+
+-- ---- before anything was heard behind the front
+
+begun : (given : Option ℕ) (first i : InputSeen) (o : OutputSeen) (x : HearingValue) (workers : ℕ)
+    (b : Begins given first i x workers) → Answered given first i o o x b.front
+begun given first i o x workers b =
+    let Ended : List (List ℕ) → Type 0 = λ ls. HaveEnded given ls workers [] in
+    record {
+      taken = b.taken;
+      number = b.number;
+      workers = workers;
+      rounds = [];
+      ended = subst Ended (append-nil b.front) (ended_so given first i i x x workers b [] nothing (taken_none i x.input)
+          (heard_none workers x.number (omega (arith, b.number))));
+      output = [];
+      plays = refl;
+      written = Appends-nil o.bytes;
+      before = [];
+      round = b.front;
+      cut = refl;
+      size = b.size;
+      first = (ended_first given).0;
+      ended_before = (ended_first given).1;
+    }
+
+-- no store was opened
+pub stops_begun : (given : Option ℕ) (first i : InputSeen) (o : OutputSeen) (x : HearingValue) (workers : ℕ)
+    → Begins given first i x workers → StopsEarly given first i o o
+stops_begun given first i o x workers b =
+    stops_early given first i i o o x x b.front [] (begun given first i o x workers b) (stays_put i x)
+
+-- the number of workers is given
+pub begins_so : (i : InputSeen) (workers : ℕ) → Begins (Some workers) i i unheard workers
+begins_so i workers = record {
+  front = [];
+  taken = taken_none i silence;
+  going = λ behind follows. refl;
+  number = omega arith;
+  size = refl;
+  utf8 = IsUtf8-nil;
+}

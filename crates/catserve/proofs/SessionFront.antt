@@ -1,0 +1,206 @@
+-- The front of a session.
+use Rattle.std.proofs.Common.{◌≡◌, ◌∙◌, refl, sym, ap, subst, ℕ, zero, suc, ◌+◌, ◌<◌, ◌≤◌, true, false, List, [], ◌∷◌}
+use Rattle.std.proofs.Common.{◌++◌, length, take, drop, arith, inl, inr, append_assoc, length-append, Option, Some, None}
+use Rattle.std.specs.List.{concat}
+use Rattle.std.specs.Str.{IsUtf8}
+use Rattle.std.proofs.lemmas.List.{append-nil, length-take-le}
+use Rattle.std.proofs.lemmas.List.Folds.{concat-append}
+use Rattle.std.proofs.lemmas.Str.{IsUtf8-append, IsUtf8-nil}
+use Rattle.line_input.specs.Lines.{lines, without_end}
+use Rattle.line_input.specs.Incoming.{Incoming, MayCome, EndsLine}
+use Rattle.script_text.specs.Commands.{is_blank, workers_line}
+use Rattle.script_text.specs.LineFields.{fields}
+use Rattle.script_text.specs.Script.{commands_from, script_from, script_of}
+use Rattle.script_text.specs.declared.fault.ScriptKind.{ScriptKind}
+use Rattle.script_text.specs.declared.fault.ScriptKind.TheVariants as kind
+use Rattle.catserve.specs.declared.said.FrontLine.{FrontLine}
+use Rattle.catserve.specs.declared.said.FrontLine.TheVariants as front_line
+use Rattle.catserve.specs.Run.{InputSeen}
+use Rattle.catserve.specs.Session.{round_end, said}
+use Rattle.catserve.specs.Hearing.{HearingValue, HasTaken, Stays, EndsNext, HasPassed, Begins, Follows, BeginAlike}
+use Rattle.catserve.specs.Hearing.{unheard, silence, HearsNothing, HearsNoFront, FailsInFront}
+use Rattle.catserve.proofs.LinesTaken.{taken_none, taken_then, got_taken, line_cut, line_whole}
+use Rattle.catserve.proofs.SessionHears.{stays_taken}
+
+pub passed_none : (i : InputSeen) (x : HearingValue) → HasPassed i i x x []
+passed_none i x = record {
+  taken = taken_none i x.input;
+  passes = λ behind. refl;
+  number = omega arith;
+  size = omega arith;
+  utf8 = IsUtf8-nil;
+}
+
+-- the next line, which ends there, as what is taken
+abbrev pub behind_line : HearingValue → ℕ → HearingValue
+behind_line y end = record {
+  input = record { left = drop end y.input.left; ended = y.input.ended };
+  number = y.number + 1;
+  size = y.size + end;
+}
+
+line_taken : (i j : InputSeen) (x y : HearingValue) (end : ℕ) → Stays i j x y [] → EndsLine y.input 0 end
+    → HasTaken i j x.input (behind_line y end).input (take end y.input.left ∷ [])
+line_taken i j x y end stays ends = got_taken i j x.input y.input (behind_line y end).input (take end y.input.left ∷ [])
+    stays.got refl (line_whole y.input end) (line_cut y.input end ends)
+
+line_size : (y : HearingValue) (end : ℕ) → EndsLine y.input 0 end → length (concat (take end y.input.left ∷ [])) ≡ end
+line_size y end ends = ap length (append-nil (take end y.input.left)) ∙ length-take-le end y.input.left ends.within
+
+-- a line that says nothing
+pub passed_more : (i j k : InputSeen) (x y z : HearingValue) (front : List (List ℕ)) (end : ℕ) → HasPassed i j x y front
+    → Stays j k y z [] → EndsLine z.input 0 end → IsUtf8 (take end z.input.left)
+    → is_blank (without_end (take end z.input.left)) ≡ true
+    → HasPassed i k x (behind_line z end) (front ++ take end z.input.left ∷ [])
+passed_more i j k x y z front end passed stays ends utf8 blank =
+    let line = take end z.input.left in
+    record {
+      taken = taken_then i j k x.input y.input (behind_line z end).input front (line ∷ []) passed.taken
+          (line_taken j k y z end stays ends);
+      passes = λ behind. ap (λ ls. script_from x.number ls) (append_assoc front (line ∷ []) behind)
+          ∙ passed.passes (line ∷ behind)
+          ∙ rw blank (ap (λ n. script_from (n + 1) behind) (sym stays.number));
+      number = omega (arith, passed.number, stays.number, length-append front (line ∷ []));
+      size = omega (
+        arith,
+        passed.size,
+        stays.size,
+        line_size z end ends,
+        ap length (concat-append front (line ∷ [])),
+        length-append (concat front) (concat (line ∷ [])),
+      );
+      utf8 = rw (concat-append front (line ∷ [])) (IsUtf8-append (concat front) (concat (line ∷ [])) passed.utf8
+          (rw (append-nil line) utf8));
+    }
+
+-- the line that gives the number of workers
+pub begins_given : (i j k : InputSeen) (y z : HearingValue) (front : List (List ℕ)) (end workers : ℕ)
+    → HasPassed i j unheard y front → Stays j k y z [] → EndsLine z.input 0 end → IsUtf8 (take end z.input.left)
+    → is_blank (without_end (take end z.input.left)) ≡ false
+    → workers_line (fields (without_end (take end z.input.left))) ≡ Some workers
+    → Begins None i k (behind_line z end) workers
+begins_given i j k y z front end workers passed stays ends utf8 other is =
+    let line = take end z.input.left in
+    record {
+      front = front ++ line ∷ [];
+      taken = taken_then i j k silence y.input (behind_line z end).input front (line ∷ []) passed.taken
+          (line_taken j k y z end stays ends);
+      going = λ behind follows. ap (λ ls. script_from 1 ls) (append_assoc front (line ∷ []) behind)
+          ∙ passed.passes (line ∷ behind)
+          ∙ rw (other, is) (ap (λ n. script_of workers (commands_from workers (n + 1) 0 behind)) (sym stays.number));
+      number = omega (arith, passed.number, stays.number, length-append front (line ∷ []));
+      size = omega (
+        arith,
+        passed.size,
+        stays.size,
+        line_size z end ends,
+        ap length (concat-append front (line ∷ [])),
+        length-append (concat front) (concat (line ∷ [])),
+      );
+      utf8 = rw (concat-append front (line ∷ [])) (IsUtf8-append (concat front) (concat (line ∷ [])) passed.utf8
+          (rw (append-nil line) utf8));
+    }
+
+-- another line is the first command
+first_other : (number : ℕ) (line : List ℕ) (behind rest : List (List ℕ)) → is_blank (without_end line) ≡ false
+    → workers_line (fields (without_end line)) ≡ None → BeginAlike behind (line ∷ rest)
+    → script_from number behind ≡ script_of 2 (commands_from 2 number 0 behind)
+first_other number line [] rest other none alike = absurd alike
+first_other number line (l ∷ behind) rest other none alike =
+    let blank : is_blank (without_end l) ≡ false = ap (λ l. is_blank (without_end l)) alike ∙ other in
+    let no : workers_line (fields (without_end l)) ≡ None = ap (λ l. workers_line (fields (without_end l))) alike
+    ∙ none in
+    rw (blank, no, blank) refl
+
+begins_first : (number : ℕ) (input : Incoming) (end : ℕ) (behind : List (List ℕ)) → EndsLine input 0 end
+    → is_blank (without_end (take end input.left)) ≡ false
+    → workers_line (fields (without_end (take end input.left))) ≡ None → Follows input behind
+    → script_from number behind ≡ script_of 2 (commands_from 2 number 0 behind)
+begins_first number input end behind ends other none (inl alone) = rw alone refl
+begins_first number input end behind ends other none (inr (text, may, alike)) =
+    first_other number (take end input.left) behind (lines (drop end input.left ++ text)) other none
+    (subst (BeginAlike behind) (line_cut input end ends text may) alike)
+
+pub begins_other : (i j k : InputSeen) (y z : HearingValue) (front : List (List ℕ)) (end : ℕ)
+    → HasPassed i j unheard y front → Stays j k y z [] → EndsLine z.input 0 end
+    → is_blank (without_end (take end z.input.left)) ≡ false
+    → workers_line (fields (without_end (take end z.input.left))) ≡ None → Begins None i k z 2
+begins_other i j k y z front end passed stays ends other none =
+    let all = taken_then i j k silence y.input z.input front [] passed.taken (stays_taken j k y z stays) in
+    record {
+      front = front ++ [];
+      taken = all;
+      going = λ behind follows. ap (λ ls. script_from 1 (ls ++ behind)) (append-nil front) ∙ passed.passes behind
+          ∙ ap (λ n. script_from n behind) (sym stays.number)
+          ∙ begins_first z.number z.input end behind ends other none follows;
+      number = omega (arith, passed.number, stays.number, ap length (append-nil front));
+      size = omega (arith, passed.size, stays.size, ap (λ ls. length (concat ls)) (append-nil front));
+      utf8 = rw (append-nil front) passed.utf8;
+    }
+
+-- the input has ended
+ended_first : (number : ℕ) (input : Incoming) (behind : List (List ℕ)) → input.left ≡ [] → input.ended ≡ true
+    → Follows input behind → script_from number behind ≡ script_of 2 (commands_from 2 number 0 behind)
+ended_first number input behind none ended (inl alone) = rw alone refl
+ended_first number input behind none ended (inr (text, may, alike)) =
+    let nothing : input.left ++ text ≡ [] = ap (λ xs. xs ++ text) none ∙ may ended in
+    nothing_follows behind (subst (λ ls. BeginAlike behind (lines ls)) nothing alike)
+  where
+    nothing_follows : (behind : List (List ℕ)) → BeginAlike behind [] → script_from number behind
+        ≡ script_of 2 (commands_from 2 number 0 behind)
+    nothing_follows [] alike = refl
+    nothing_follows (l ∷ ls) alike = absurd alike
+
+pub begins_ended : (i j k : InputSeen) (y z : HearingValue) (front : List (List ℕ)) → HasPassed i j unheard y front
+    → Stays j k y z [] → z.input.left ≡ [] → z.input.ended ≡ true → Begins None i k z 2
+begins_ended i j k y z front passed stays none ended =
+    let all = taken_then i j k silence y.input z.input front [] passed.taken (stays_taken j k y z stays) in
+    record {
+      front = front ++ [];
+      taken = all;
+      going = λ behind follows. ap (λ ls. script_from 1 (ls ++ behind)) (append-nil front) ∙ passed.passes behind
+          ∙ ap (λ n. script_from n behind) (sym stays.number)
+          ∙ ended_first z.number z.input behind none ended follows;
+      number = omega (arith, passed.number, stays.number, ap length (append-nil front));
+      size = omega (arith, passed.size, stays.size, ap (λ ls. length (concat ls)) (append-nil front));
+      utf8 = rw (append-nil front) passed.utf8;
+    }
+
+-- ---- why the front wasn't heard
+
+no_front : (i j : InputSeen) (x y : HearingValue) (kind : ScriptKind) (line : ℕ) → HearsNothing i j x y kind line
+    → HearsNoFront i j x y kind line
+no_front i j x y kind.TooLarge line h = h
+no_front i j x y kind.NotUtf8 line h = absurd h
+no_front i j x y kind.BadLine line h = absurd h
+no_front i j x y kind.ReadFault line h = h
+no_front i j x y kind.WriteFault line h = absurd h
+no_front i j x y kind.NoPlace line h = absurd h
+no_front i j x y kind.Closed line h = absurd h
+no_front i j x y kind.Join line h = absurd h
+no_front i j x y kind.Memory line h = h
+
+pub front_fails : (i j k : InputSeen) (y z : HearingValue) (front : List (List ℕ)) (kind : ScriptKind) (line : ℕ)
+    → HasPassed i j unheard y front → HearsNothing j k y z kind line → FailsInFront i k kind line
+front_fails i j k y z front kind line passed h = record
+    { mid = j; y = y; z = z; front = front; passed = passed; none = no_front j k y z kind line h }
+
+pub front_undecodable : (i j k : InputSeen) (y z : HearingValue) (front : List (List ℕ)) (end : ℕ)
+    → HasPassed i j unheard y front → Stays j k y z [] → EndsLine z.input 0 end → ¬ IsUtf8 (take end z.input.left)
+    → FailsInFront i k kind.NotUtf8 z.number
+front_undecodable i j k y z front end passed stays ends undecodable = record {
+  mid = j;
+  y = y;
+  z = z;
+  front = front;
+  passed = passed;
+  none = record {
+    stays = stays;
+    line_is = stays.number;
+    raw = take end z.input.left ∷ [];
+    behind = drop end z.input.left;
+    begins = line_whole z.input end;
+    cut = line_cut z.input end ends;
+    undecodable = rw (append-nil (take end z.input.left)) undecodable;
+  };
+}

@@ -1,0 +1,220 @@
+-- What was heard of a session's input.
+use Rattle.std.proofs.Common.{◌≡◌, ◌∙◌, refl, sym, ap, subst, ℕ, zero, suc, ◌+◌, ◌-◌, ◌<◌, ◌≤◌, true, List, [], ◌∷◌}
+use Rattle.std.proofs.Common.{◌++◌, length, take, drop, arith, inl, inr, append_assoc, length-append}
+use Rattle.std.proofs.Common.{Option, Some, None, Result, Ok, Err, IsErrOf}
+use Rattle.std.specs.List.{concat}
+use Rattle.std.specs.Str.{IsUtf8}
+use Rattle.std.proofs.lemmas.List.{append-nil, length-take-le, take-append-drop}
+use Rattle.line_input.specs.Lines.{lines, without_end}
+use Rattle.line_input.specs.Incoming.{Incoming, MayCome, EndsLine, LacksLines}
+use Rattle.line_input.proofs.Arriving.{consumes_both, rises_both, rises_later}
+use Rattle.devices.specs.Devices.{RisesBy}
+use Rattle.catalogue.specs.declared.Options.{Options}
+use Rattle.script_text.specs.Commands.{Line, Loads, line_of}
+use Rattle.desks.specs.Jobs.{Po}
+use Rattle.script_text.specs.Script.{Command, Load, Says, saying, commands_from}
+use Rattle.script_text.specs.declared.fault.ScriptKind.{ScriptKind}
+use Rattle.script_text.specs.declared.fault.ScriptKind.TheVariants as kind
+use Rattle.catserve.specs.declared.hearing.Heard.{Heard}
+use Rattle.catserve.specs.declared.session_fault.SessionFault.{SessionFault}
+use Rattle.catserve.specs.declared.said.Said.{Said}
+use Rattle.catserve.specs.declared.said.SaidFault.{SaidFault}
+use Rattle.catserve.specs.declared.said.SaidFault.TheVariants as said_fault
+use Rattle.catserve.specs.Run.{InputSeen, FailsToRead}
+use Rattle.catserve.specs.Session.{most_lines}
+use Rattle.catserve.specs.Hearing.{HearingValue, CountsOn, HasTaken, HasGot, HasSaid, Hears, HearsEnd, Stays}
+use Rattle.catserve.specs.Hearing.{HearsBad, HearsUndecodable, HearsTooMuch, HearsNothing, HearsNone, HearsNoText}
+use Rattle.catserve.specs.Hearing.{HearsText, HearsOne, EndsNext, FailsToSay, size_behind, commands_of}
+use Rattle.catserve.proofs.LinesTaken.{counts_both, taken_then, got_taken, first_same, line_cut, line_later, line_whole}
+use Rattle.catserve.proofs.LinesTaken.{stays_put}
+use Rattle.catserve.proofs.SessionLines.{says_line, says_text, bad_line, bad_text}
+
+-- ---- one step behind another
+
+pub fails_later : (i j k : InputSeen) → CountsOn i j → FailsToRead j k → FailsToRead i k
+fails_later i j k counts (inl failed) = inl (rises_later 1 i.failures j.failures k.failures counts.later failed)
+fails_later i j k counts (inr reads) = inr (rises_both 0 134217728 i.reads j.reads k.reads counts.reads reads)
+
+stays_then : (i j k : InputSeen) (x y z : HearingValue) (lost : List ℕ) → Stays i j x y [] → Stays j k y z lost
+    → Stays i k x z lost
+stays_then i j k x y z lost a b = record {
+  got = record {
+    more = a.got.more ++ b.got.more;
+    read = rw (append_assoc a.got.more b.got.more lost) (consumes_both i.left j.left k.left a.got.more
+        (b.got.more ++ lost) (rw (← append-nil a.got.more) a.got.read) b.got.read);
+    behind = b.got.behind ∙ ap (λ xs. xs ++ b.got.more) a.got.behind ∙ append_assoc x.input.left a.got.more b.got.more;
+    may = λ text may. subst (MayCome x.input) (sym (append_assoc a.got.more b.got.more text))
+        (a.got.may (b.got.more ++ text) (b.got.may text may));
+    at_end = λ before. b.got.at_end (a.got.at_end before);
+    counts = counts_both i j k a.got.counts b.got.counts;
+  };
+  number = b.number ∙ a.number;
+  size = b.size ∙ a.size;
+}
+
+-- nothing was taken yet
+pub stays_taken : (i j : InputSeen) (x y : HearingValue) → Stays i j x y [] → HasTaken i j x.input y.input []
+stays_taken i j x y stays = got_taken i j x.input y.input y.input [] stays.got refl refl (λ text may. refl)
+
+pub none_then : (i j k : InputSeen) (workers : ℕ) (x y z : HearingValue) (kind : ScriptKind) (line : ℕ)
+    → Stays i j x y [] → HearsNone j k workers y z kind line → HearsNone i k workers x z kind line
+none_then i j k workers x y z kind.TooLarge line a h = record {
+  stays = stays_then i j k x y z [] a h.stays;
+  line_is = h.line_is ∙ a.number;
+  over = rw (← a.number, ← a.size) h.over;
+}
+none_then i j k workers x y z kind.NotUtf8 line a h = record {
+  stays = stays_then i j k x y z [] a h.stays;
+  line_is = h.line_is ∙ a.number;
+  raw = h.raw;
+  behind = h.behind;
+  begins = h.begins;
+  cut = h.cut;
+  undecodable = h.undecodable;
+}
+none_then i j k workers x y z kind.BadLine line a h =
+    let P : ℕ → Type 0 = λ n. (text : List ℕ) → MayCome z.input text
+    → commands_from workers n 0 (lines (z.input.left ++ text)) ≡ Err n in
+    record {
+      stays = stays_then i j k x y z [] a h.stays;
+      line_is = h.line_is ∙ a.number;
+      bad = subst P a.number h.bad;
+    }
+none_then i j k workers x y z kind.ReadFault line a ((lost, h), failed, is) = (
+  (lost, stays_then i j k x y z lost a h),
+  fails_later i j k a.got.counts failed,
+  is,
+)
+none_then i j k workers x y z kind.Memory line a ((lost, h), is) = ((lost, stays_then i j k x y z lost a h), is)
+none_then i j k workers x y z kind.WriteFault line a h = absurd h
+none_then i j k workers x y z kind.NoPlace line a h = absurd h
+none_then i j k workers x y z kind.Closed line a h = absurd h
+none_then i j k workers x y z kind.Join line a h = absurd h
+
+pub hears_then : (i j k : InputSeen) (workers : ℕ) (x y z : HearingValue) (r : Result (Option Heard) SessionFault)
+    → Stays i j x y [] → HearsOne j k workers y z r → HearsOne i k workers x z r
+hears_then i j k workers x y z (Ok (Some thing)) a h =
+    let Said : ℕ → Type 0 = λ n. HasSaid workers n h.raw (commands_of thing) in
+    record {
+      raw = h.raw;
+      taken = taken_then i j k x.input y.input z.input [] h.raw (stays_taken i j x y a) h.taken;
+      said = subst Said a.number h.said;
+      few = omega (arith, h.few, a.number);
+      number = h.number ∙ ap (λ n. n + length h.raw) a.number;
+      size = h.size ∙ ap (λ n. size_behind (commands_of thing) (n + length (concat h.raw))) a.size;
+    }
+hears_then i j k workers x y z (Ok None) a h =
+    let both = stays_then i j k x y z [] a (record { got = h.got; number = h.number; size = h.size }) in
+    record { got = both.got; left = h.left; ended = h.ended; number = both.number; size = both.size }
+hears_then i j k workers x y z (Err fault) a h = none_then i j k workers x y z fault.kind fault.line a h
+
+-- why nothing was heard
+pub none_of : (i j : InputSeen) (workers : ℕ) (x y : HearingValue) (kind : ScriptKind) (line : ℕ)
+    → HearsNothing i j x y kind line → HearsNone i j workers x y kind line
+none_of i j workers x y kind.TooLarge line h = h
+none_of i j workers x y kind.NotUtf8 line h = absurd h
+none_of i j workers x y kind.BadLine line h = absurd h
+none_of i j workers x y kind.ReadFault line h = h
+none_of i j workers x y kind.WriteFault line h = absurd h
+none_of i j workers x y kind.NoPlace line h = absurd h
+none_of i j workers x y kind.Closed line h = absurd h
+none_of i j workers x y kind.Join line h = absurd h
+none_of i j workers x y kind.Memory line h = h
+
+-- ---- a line
+
+-- it is taken off
+pub hears_line : (i : InputSeen) (workers : ℕ) (x : HearingValue) (end size : ℕ) (line : Line)
+    (commands : List Command) → x.number < most_lines → EndsLine x.input 0 end → IsUtf8 (take end x.input.left)
+    → line_of workers (without_end (take end x.input.left)) ≡ Some line
+    → ((behind : List (List ℕ)) → saying (Some line) behind ≡ Says commands 0)
+    → size ≡ size_behind commands (x.size + end)
+    → Hears i i workers x (record {
+      input = record { left = drop end x.input.left; ended = x.input.ended };
+      number = x.number + 1;
+      size = size;
+    }) commands
+hears_line i workers x end size line commands few ends utf8 is says size_is = record {
+  raw = take end x.input.left ∷ [];
+  taken = got_taken i i x.input x.input (record { left = drop end x.input.left; ended = x.input.ended })
+      (take end x.input.left ∷ []) (stays_put i x).got refl (line_whole x.input end) (line_cut x.input end ends);
+  said = says_line workers x.number (take end x.input.left) line commands is says utf8;
+  few = few;
+  number = refl;
+  size = size_is ∙ ap (λ n. size_behind commands (x.size + n)) (sym (ap length (append-nil (take end x.input.left))
+      ∙ length-take-le end x.input.left ends.within));
+}
+
+abbrev pub Unsaid : SaidFault → Result Said SaidFault
+Unsaid fault = Err fault
+
+-- it isn't known what it says
+pub hears_none : (i : InputSeen) (workers : ℕ) (x : HearingValue) (end : ℕ) (fault : SaidFault) (f : SessionFault)
+    → EndsLine x.input 0 end
+    → (IsErrOf (Unsaid fault) said_fault.NotUtf8 → ¬ IsUtf8 (take end x.input.left))
+    → (IsErrOf (Unsaid fault) said_fault.Bad → line_of workers (without_end (take end x.input.left)) ≡ None)
+    → FailsToSay fault x.number f → HearsNone i i workers x x f.kind f.line
+hears_none i workers x end said_fault.NotUtf8 f ends undecodable bad is = rw is (record {
+  stays = stays_put i x;
+  line_is = refl;
+  raw = take end x.input.left ∷ [];
+  behind = drop end x.input.left;
+  begins = line_whole x.input end;
+  cut = line_cut x.input end ends;
+  undecodable = rw (append-nil (take end x.input.left)) (undecodable refl);
+})
+hears_none i workers x end said_fault.Bad f ends undecodable bad is = rw is (record {
+  stays = stays_put i x;
+  line_is = refl;
+  bad = λ text may. ap (λ ls. commands_from workers x.number 0 ls) (line_cut x.input end ends text may)
+      ∙ bad_line workers x.number (take end x.input.left) (lines (drop end x.input.left ++ text)) (bad refl);
+})
+hears_none i workers x end said_fault.Memory f ends undecodable bad is = rw is (([], stays_put i x), refl)
+
+-- ---- a load with its text
+
+pub hears_load : (i j : InputSeen) (workers : ℕ) (x y : HearingValue) (end count : ℕ) (domain locale bytes : List ℕ)
+    (options : Options) → x.number < most_lines
+    → line_of workers (without_end (take end x.input.left)) ≡ Some (Loads domain locale options count)
+    → HearsText i j x y end count bytes
+    → Hears i j workers x y (Load (record { domain = domain; locale = locale; source = Po bytes options }) ∷ [])
+hears_load i j workers x y end count domain locale bytes options few is h =
+    let raw : List (List ℕ) = take end x.input.left ∷ h.texts in
+    let Said : List ℕ → Type 0 = λ text. HasSaid workers x.number raw
+    (Load (record { domain = domain; locale = locale; source = Po text options }) ∷ []) in
+    record {
+      raw = raw;
+      taken = h.taken;
+      said = subst Said (sym h.bytes_are)
+          (says_text workers x.number count (take end x.input.left) domain locale options h.texts is h.counted h.utf8);
+      few = few;
+      number = omega (arith, h.number, h.counted);
+      size = h.size;
+    }
+
+pub none_text : (i j : InputSeen) (workers : ℕ) (x y : HearingValue) (end count : ℕ) (domain locale : List ℕ)
+    (options : Options) (kind : ScriptKind) (line : ℕ) → EndsLine x.input 0 end
+    → line_of workers (without_end (take end x.input.left)) ≡ Some (Loads domain locale options count)
+    → HearsNoText i j x y end count kind line → HearsNone i j workers x y kind line
+none_text i j workers x y end count domain locale options kind.TooLarge line ends is h = h
+none_text i j workers x y end count domain locale options kind.NotUtf8 line ends is h = h
+none_text i j workers x y end count domain locale options kind.BadLine line ends is (lacks, line_is) = record {
+  stays = lacks.stays;
+  line_is = line_is;
+  bad = λ text may.
+      let none : text ≡ [] = may lacks.fewer.ended in
+      let Few : List ℕ → Type 0 = λ t. length (lines t) < count in
+      let few : Few (drop end y.input.left ++ text) = subst Few
+      (sym (append-nil (drop end y.input.left)) ∙ ap (λ t. drop end y.input.left ++ t) (sym none)) lacks.fewer.fewer in
+      let later : EndsLine y.input 0 end = line_later i j x.input y.input end lacks.stays.got ends in
+      ap (λ ls. commands_from workers x.number 0 ls) (line_cut y.input end later text may
+      ∙ ap (λ l. l ∷ lines (drop end y.input.left ++ text)) (first_same i j x.input y.input end lacks.stays.got ends))
+      ∙ bad_text workers x.number count (take end x.input.left) domain locale options (drop end y.input.left ++ text) is
+      few;
+}
+none_text i j workers x y end count domain locale options kind.ReadFault line ends is h = h
+none_text i j workers x y end count domain locale options kind.WriteFault line ends is h = absurd h
+none_text i j workers x y end count domain locale options kind.NoPlace line ends is h = absurd h
+none_text i j workers x y end count domain locale options kind.Closed line ends is h = absurd h
+none_text i j workers x y end count domain locale options kind.Join line ends is h = absurd h
+none_text i j workers x y end count domain locale options kind.Memory line ends is h = h

@@ -1,0 +1,133 @@
+-- What the lines of a session say, one after another.
+use Rattle.std.proofs.Common.{◌≡◌, ◌∙◌, refl, sym, ap, subst, ℕ, zero, suc, ◌+◌, ◌<◌, ◌≤◌, Bool, true, false, fold}
+use Rattle.std.proofs.Common.{List, [], ◌∷◌, ◌++◌, length, take, drop, arith, inl, inr, append_assoc, length-append}
+use Rattle.std.proofs.Common.{Option, Some, None, Result, Ok, Err}
+use Rattle.std.specs.List.{concat}
+use Rattle.std.specs.Str.{IsUtf8}
+use Rattle.std.proofs.lemmas.Bool.{le-leb}
+use Rattle.std.proofs.lemmas.List.{append-nil, take-append-le, drop-append-le}
+use Rattle.std.proofs.lemmas.List.Folds.{concat-append}
+use Rattle.std.proofs.lemmas.Str.{IsUtf8-append}
+use Rattle.std.proofs.Math.Seq.{take-append_seam, drop-append_seam}
+use Rattle.catalogue.specs.declared.Options.{Options}
+use Rattle.desks.specs.Jobs.{JobValue, Po}
+use Rattle.line_input.specs.Lines.{lines, without_end}
+use Rattle.line_input.specs.Incoming.{Incoming, MayCome}
+use Rattle.script_text.specs.Commands.{Line, Loads, line_of}
+use Rattle.script_text.specs.Script.{Command, Load, Ask, Go, RoundValue, Says, IsBad, saying, and_then, commands_from}
+use Rattle.script_text.specs.Script.{script_from, script_of}
+use Rattle.script_text.specs.Gathering.{Gathered, empty_round, nothing, both, gathered, onto_open, going_on, loads_so_far}
+use Rattle.script_text.proofs.Parsing.{skips, too_long, gathers, begins_with}
+use Rattle.catserve.specs.Run.{InputSeen}
+use Rattle.catserve.specs.Session.{round_end, said, HaveEnded}
+use Rattle.catserve.specs.Hearing.{HearingValue, HasTaken, HasSaid, BeginAlike, Follows, Begins, unheard, HasPassed}
+use Rattle.catserve.specs.Talking.{HasHeard}
+
+-- ---- one line
+
+-- a line without a text
+pub says_line : (workers number : ℕ) (raw : List ℕ) (line : Line) (commands : List Command)
+    → line_of workers (without_end raw) ≡ Some line
+    → ((behind : List (List ℕ)) → saying (Some line) behind ≡ Says commands 0) → IsUtf8 raw
+    → HasSaid workers number (raw ∷ []) commands
+says_line workers number raw line commands is says utf8 = record {
+  some = omega arith;
+  says = λ behind. rw (is, says behind) refl;
+  utf8 = rw (append-nil raw) utf8;
+}
+
+-- a load with its text
+pub says_text : (workers number count : ℕ) (raw domain locale : List ℕ) (options : Options) (texts : List (List ℕ))
+    → line_of workers (without_end raw) ≡ Some (Loads domain locale options count) → length texts ≡ count
+    → IsUtf8 (concat (raw ∷ texts))
+    → HasSaid workers number (raw ∷ texts)
+    (Load (record { domain = domain; locale = locale; source = Po (concat texts) options }) ∷ [])
+says_text workers number count raw domain locale options texts is counted utf8 = record {
+  some = omega arith;
+  says = says;
+  utf8 = utf8;
+} where
+  load : List ℕ → JobValue
+  load text = record { domain = domain; locale = locale; source = Po text options }
+
+  says : (behind : List (List ℕ)) → commands_from workers number 0 ((raw ∷ texts) ++ behind)
+      ≡ and_then (Says (Load (load (concat texts)) ∷ []) 0) number (λ text. commands_from workers
+      (number + length (raw ∷ texts)) text behind)
+  says behind =
+      let enough : count ≤ length (texts ++ behind) = omega (arith, counted, length-append texts behind) in
+      let its : take count (texts ++ behind) ≡ texts = ap (λ n. take n (texts ++ behind)) (sym counted)
+      ∙ take-append_seam texts behind in
+      let rest : drop count (texts ++ behind) ≡ behind = ap (λ n. drop n (texts ++ behind)) (sym counted)
+      ∙ drop-append_seam texts behind in
+      rw (is, le-leb count (length (texts ++ behind)) enough, its)
+      (ap (λ found. and_then (Says (Load (load (concat texts)) ∷ []) 0) number (λ text. found))
+      (skips workers count (number + 1) (texts ++ behind) enough
+      ∙ ap (λ ls. commands_from workers (number + 1 + count) 0 ls) rest
+      ∙ ap (λ n. commands_from workers n 0 behind) (omega (arith, counted))))
+
+-- a bad line
+pub bad_line : (workers number : ℕ) (raw : List ℕ) (behind : List (List ℕ)) → line_of workers (without_end raw) ≡ None
+    → commands_from workers number 0 (raw ∷ behind) ≡ Err number
+bad_line workers number raw behind is = rw is refl
+
+-- a load that counts more lines than there are
+pub bad_text : (workers number count : ℕ) (raw domain locale : List ℕ) (options : Options) (behind : List ℕ)
+    → line_of workers (without_end raw) ≡ Some (Loads domain locale options count) → length (lines behind) < count
+    → commands_from workers number 0 (raw ∷ lines behind) ≡ Err number
+bad_text workers number count raw domain locale options behind is fewer =
+    rw (is, too_long domain locale options count behind fewer) refl
+
+-- ---- one after another
+
+pub heard_none : (workers first : ℕ) → 0 < first → HasHeard workers first [] nothing first
+heard_none workers first some = record {
+  going = λ behind. begins_with workers (commands_from workers first 0 behind);
+  number_is = omega arith;
+  few = some;
+  utf8 = search Rattle.std.proofs.lemmas.Str.IsUtf8-nil;
+}
+
+pub heard_more : (workers first : ℕ) (front raw : List (List ℕ)) (g : Gathered) (number next : ℕ)
+    (commands : List Command) → HasHeard workers first front g number → HasSaid workers number raw commands
+    → next ≡ number + length raw → loads_so_far (fold gathered g commands) ≤ loads_so_far g + 1
+    → HasHeard workers first (front ++ raw) (fold gathered g commands) next
+heard_more workers first front raw g number next commands heard said next_is few = record {
+  going = λ behind. ap (λ ls. script_of workers (commands_from workers first 0 ls)) (append_assoc front raw behind)
+      ∙ heard.going (raw ++ behind) ∙ ap (λ found. going_on workers g found) (said.says behind)
+      ∙ gathers workers number g commands (commands_from workers (number + length raw) 0 behind)
+      ∙ ap (λ n. going_on workers (fold gathered g commands) (commands_from workers n 0 behind)) (sym next_is);
+  number_is = omega (arith, heard.number_is, next_is, length-append front raw);
+  few = omega (arith, few, heard.few, next_is, said.some);
+  utf8 = rw (concat-append front raw) (IsUtf8-append (concat front) (concat raw) heard.utf8 said.utf8);
+}
+
+-- ---- behind the front
+
+alike_self : (ls : List (List ℕ)) → BeginAlike ls ls
+alike_self [] = tt
+alike_self (l ∷ ls) = refl
+
+-- what comes follows
+pub follows_all : (input : Incoming) (text : List ℕ) → MayCome input text → Follows input (lines (input.left ++ text))
+follows_all input text may = inr (text, may, alike_self (lines (input.left ++ text)))
+
+-- so do the first lines of it, with the end of a round behind them
+pub follows_end : (i j : InputSeen) (x y : Incoming) (front : List (List ℕ)) → HasTaken i j x y front
+    → Follows x (front ++ round_end ∷ [])
+follows_end i j x y [] taken = inl refl
+follows_end i j x y (l ∷ front) taken =
+    let none : MayCome y [] = λ ended. refl in
+    let cut = ap lines (sym (append_assoc x.left taken.more [])) ∙ taken.cut [] none in
+    let P : List (List ℕ) → Type 0 = λ ls. BeginAlike (l ∷ (front ++ round_end ∷ [])) ls in
+    inr (taken.more ++ [], taken.may [] none, subst P (sym cut) refl)
+
+-- the rounds that have ended
+pub ended_so : (given : Option ℕ) (first i j : InputSeen) (x y : HearingValue) (workers : ℕ)
+    (b : Begins given first i x workers) (front : List (List ℕ)) (g : Gathered) → HasTaken i j x.input y.input front
+    → HasHeard workers x.number front g y.number → HaveEnded given (b.front ++ front) workers g.ended
+ended_so given first i j x y workers b front g taken heard = record {
+  last = both g.current empty_round;
+  says = ap (said given) (append_assoc b.front front (round_end ∷ []))
+      ∙ b.going (front ++ round_end ∷ []) (follows_end i j x.input y.input front taken) ∙ heard.going (round_end ∷ [])
+      ∙ refl;
+}

@@ -1,0 +1,288 @@
+-- How a session goes on, thing by thing.
+use Rattle.std.proofs.Common.{◌≡◌, ◌∙◌, refl, sym, ap, subst, ℕ, zero, suc, ◌+◌, ◌<◌, ◌≤◌, Bool, true, false, fold}
+use Rattle.std.proofs.Common.{List, [], ◌∷◌, ◌++◌, length, arith, append_assoc, length-append, All}
+use Rattle.std.proofs.Common.{Option, Some, None}
+use Rattle.std.specs.List.{concat, filter_map}
+use Rattle.std.specs.Io.KnownBytes.{Appends}
+use Rattle.std.proofs.KnownBytes.{Appends-nil, Appends-trans}
+use Rattle.std.proofs.lemmas.List.{append-nil}
+use Rattle.std.proofs.lemmas.List.Folds.{concat-append}
+use Rattle.live_set.specs.Loads.{LoadValue}
+use Rattle.live_set.specs.Asks.{QueryValue}
+use Rattle.live_versions.specs.Seen.{SeenValue}
+use Rattle.live_versions.specs.Batches.{joined, version_of}
+use Rattle.live_versions.specs.Store.{StoreValue, HasRoom, accepted}
+use Rattle.desks.specs.Jobs.{JobValue}
+use Rattle.desks.specs.declared.desk.Desk.{Desk}
+use Rattle.script_text.specs.Script.{Command, Load, Ask, Go, RoundValue, QuestionValue, load_count, round_of}
+use Rattle.script_text.specs.Gathering.{Gathered, empty_round, nothing, gathered, loads_so_far}
+use Rattle.script_text.proofs.Parsing.{few_go, few_ask, few_load}
+use Rattle.catserve.specs.declared.hearing.Heard.{Heard}
+use Rattle.catserve.specs.declared.hearing.Heard.TheVariants as heard
+use Rattle.catserve.specs.Asking.{readers_of, AreAsked, GivesOne}
+use Rattle.catserve.specs.Rounds.{accepted_load, PlaysAll}
+use Rattle.catserve.specs.Running.{AreReady, HaveBook, HasLoaded, HasPlayed, PlaysOne}
+use Rattle.catserve.specs.Run.{InputSeen, OutputSeen}
+use Rattle.catserve.specs.Session.{HaveEnded}
+use Rattle.catserve.specs.Hearing.{HearingValue, HasTaken, HasSaid, Hears, Begins, commands_of, size_behind}
+use Rattle.catserve.specs.Talking.{TalkValue, AnswersRound, MakesLoad, GivesQuestion, Responds, IsFresh, HasTalked}
+use Rattle.catserve.specs.Talking.{HasHeard, HasOpen, Conversing}
+use Rattle.catserve.proofs.Asked.{asked_more, count_of, readers-given}
+use Rattle.catserve.proofs.Playing.{loads_more, plays_more, plays_none, few_outcomes}
+use Rattle.catserve.proofs.LinesTaken.{taken_none, taken_then}
+use Rattle.catserve.proofs.SessionLines.{heard_none, heard_more, ended_so}
+
+-- ---- the open round
+
+-- nothing stands in it
+loaded_none : (store : StoreValue) (held : List ℕ) → held ≡ [] → HasLoaded [] store store [] held
+loaded_none store held none = record {
+  loaded = record { outcomes = []; each = tt; pending_are = sym (append-nil store.pending); written = none };
+  seen = refl;
+  most = refl;
+}
+
+-- one load more
+loaded_more : (loads : List JobValue) (load : JobValue) (before : StoreValue) (old new : TalkValue)
+    → HasLoaded loads before old.store [] old.held → MakesLoad load old new
+    → HasLoaded (loads ++ load ∷ []) before new.store [] new.held
+loaded_more loads load before old new loaded makes = record {
+  loaded = loads_more loads load before.pending old.store.pending new.store.pending [] old.held new.held loaded.loaded
+      makes.loads;
+  seen = makes.seen ∙ loaded.seen;
+  most = makes.most ∙ loaded.most;
+}
+
+-- a round that is played behind nothing is played behind what was written
+played_behind : (workers : ℕ) (round : RoundValue) (was now : StoreValue) (written lines : List ℕ)
+    → PlaysOne workers round was now [] lines → PlaysOne workers round was now written (written ++ lines)
+played_behind workers round was now written lines one = record {
+  output = one.output;
+  plays = one.plays;
+  none_pending = one.none_pending;
+  most = one.most;
+  written = ap (λ xs. written ++ xs) one.written;
+}
+
+-- the open round was answered
+pub answers_one : (workers : ℕ) (g : Gathered) (start : StoreValue) (old new : TalkValue) (o o' : OutputSeen)
+    (written : List ℕ) (talked : HasTalked workers g start old written) (a : AnswersRound old new o o')
+    → HasPlayed workers (g.ended ++ g.current ∷ []) start new.store (written ++ a.lines)
+answers_one workers g start old new o o' written talked a =
+    let one : PlaysOne (length old.desks) g.current talked.before new.store [] a.lines =
+    a.finishes g.current talked.before [] talked.played.none_pending talked.loaded talked.asked in
+    let P : ℕ → Type 0 = λ n. PlaysOne n g.current talked.before new.store [] a.lines in
+    plays_more workers g.ended g.current start talked.before new.store written (written ++ a.lines) talked.played
+    (played_behind workers g.current talked.before new.store written a.lines (subst P talked.count one))
+
+-- ---- the talk
+
+-- with the first line
+pub talked_none : (workers : ℕ) (start : TalkValue) → IsFresh workers start
+    → HasTalked workers nothing start.store start []
+talked_none workers start fresh = record {
+  before = start.store;
+  played = plays_none workers start.store fresh.none_pending;
+  loaded = loaded_none start.store start.held fresh.held;
+  asked = fresh.ready.free;
+  book = fresh.ready.book;
+  count = fresh.count;
+  begun = fresh.begun;
+}
+
+talked_load : (workers : ℕ) (g : Gathered) (start : StoreValue) (old new : TalkValue) (written : List ℕ)
+    (load : JobValue) → HasTalked workers g start old written → MakesLoad load old new
+    → HasTalked workers (gathered g (Load load)) start new written
+talked_load workers g start old new written load talked makes =
+    let Asked : List Desk → Type 0 = λ ds. AreAsked 0 (g.current.questions ++ []) ds in
+    let Given : List QuestionValue → Type 0 = λ qs. AreAsked 0 qs old.desks in
+    let Desks : List Desk → Type 0 = λ ds. HaveBook new.store.seen ds in
+    let Seen : SeenValue → Type 0 = λ s. HaveBook s old.desks in
+    record {
+      before = talked.before;
+      played = talked.played;
+      loaded = loaded_more g.current.loads load talked.before old new talked.loaded makes;
+      asked = subst Asked (sym makes.desks) (subst Given (sym (append-nil g.current.questions)) talked.asked);
+      book = subst Desks (sym makes.desks) (subst Seen (sym makes.seen) talked.book);
+      count = ap length makes.desks ∙ talked.count;
+      begun = makes.begun;
+    }
+
+talked_ask : (workers : ℕ) (g : Gathered) (start : StoreValue) (old new : TalkValue) (written : List ℕ)
+    (worker : ℕ) (query : QueryValue) → HasTalked workers g start old written → GivesQuestion worker query old new
+    → HasTalked workers (gathered g (Ask worker query)) start new written
+talked_ask workers g start old new written worker query talked gives =
+    let readers = readers-given old.desks new.desks worker query gives.gives in
+    let Loads : List JobValue → Type 0 = λ ls. HasLoaded ls talked.before new.store [] new.held in
+    let Store : StoreValue → Type 0 = λ s. HasLoaded g.current.loads talked.before s [] new.held in
+    let Held : List ℕ → Type 0 = λ held. HasLoaded g.current.loads talked.before old.store [] held in
+    let Readers : List SeenValue → Type 0 = λ rs. All (λ (reader : SeenValue). reader.book ≡ new.store.seen.book) rs in
+    let Seen : StoreValue → Type 0 = λ s. HaveBook s.seen old.desks in
+    record {
+      before = talked.before;
+      played = talked.played;
+      loaded = subst Loads (sym (append-nil g.current.loads))
+          (subst Store (sym gives.store) (subst Held (sym gives.held) talked.loaded));
+      asked = asked_more 0 worker worker g.current.questions query old.desks new.desks (omega arith) talked.asked gives.gives;
+      book = subst Readers (sym readers) (subst Seen (sym gives.store) talked.book);
+      count = count_of new.desks (readers_of old.desks) readers ∙ sym (count_of old.desks (readers_of old.desks) refl)
+          ∙ talked.count;
+      begun = gives.begun;
+    }
+
+talked_go : (workers : ℕ) (g : Gathered) (start : StoreValue) (old new : TalkValue) (o o' : OutputSeen)
+    (written : List ℕ) (talked : HasTalked workers g start old written) (a : AnswersRound old new o o')
+    → HasTalked workers (gathered g Go) start new (written ++ a.lines)
+talked_go workers g start old new o o' written talked a = record {
+  before = new.store;
+  played = answers_one workers g start old new o o' written talked a;
+  loaded = loaded_none new.store new.held a.held;
+  asked = a.ready.free;
+  book = a.ready.book;
+  count = a.count ∙ talked.count;
+  begun = a.begun;
+}
+
+-- ---- the session
+
+-- in no line no round has ended
+abbrev pub ended_first : (given : Option ℕ) → (workers : ℕ) × HaveEnded given [] workers []
+ended_first None = (2, record { last = empty_round; says = refl })
+ended_first (Some workers) = (workers, record { last = empty_round; says = refl })
+
+pub converses_none : (workers : ℕ) (i : InputSeen) (o : OutputSeen) (x : HearingValue) (start : TalkValue)
+    → 0 < x.number → IsFresh workers start → Conversing workers i i o o x x start start
+converses_none workers i o x start some fresh = record {
+  lines = [];
+  g = nothing;
+  written = [];
+  taken = taken_none i x.input;
+  heard = heard_none workers x.number some;
+  talked = talked_none workers start fresh;
+  output = Appends-nil o.bytes;
+  steady = refl;
+  is_open = λ given first b. record {
+    before = [];
+    round = b.front ++ [];
+    cut = refl;
+    size_is = b.size ∙ ap (λ ls. length (concat ls)) (sym (append-nil b.front));
+    workers = (ended_first given).0;
+    ended_before = (ended_first given).1;
+  };
+}
+
+-- the open round with some lines more
+open_more : (given : Option ℕ) (front raw : List (List ℕ)) (g h : Gathered) (size next : ℕ) → h.ended ≡ g.ended
+    → next ≡ size + length (concat raw) → HasOpen given front g size → HasOpen given (front ++ raw) h next
+open_more given front raw g h size next same next_is was =
+    let P : List RoundValue → Type 0 = λ rs. HaveEnded given was.before was.workers rs in
+    record {
+      before = was.before;
+      round = was.round ++ raw;
+      cut = ap (λ ls. ls ++ raw) was.cut ∙ append_assoc was.before was.round raw;
+      size_is = omega (
+        arith,
+        next_is,
+        was.size_is,
+        ap length (concat-append was.round raw),
+        length-append (concat was.round) (concat raw),
+      );
+      workers = was.workers;
+      ended_before = subst P (sym same) was.ended_before;
+    }
+
+-- a round has ended
+open_none : (given : Option ℕ) (front : List (List ℕ)) (g : Gathered) (size workers : ℕ) → size ≡ 0
+    → HaveEnded given front workers g.ended → HasOpen given front g size
+open_none given front g size workers none ended = record {
+  before = front;
+  round = [];
+  cut = sym (append-nil front);
+  size_is = none;
+  workers = workers;
+  ended_before = ended;
+}
+
+-- something that doesn't end the round
+goes_on : (workers : ℕ) (i j k : InputSeen) (o o' o'' : OutputSeen) (x y z : HearingValue) (start old new : TalkValue)
+    (commands : List Command) (c : Conversing workers i j o o' x y start old)
+    (h : Hears j k workers y z commands) (few : loads_so_far (fold gathered c.g commands) ≤ loads_so_far c.g + 1)
+    → size_behind commands (y.size + length (concat h.raw)) ≡ y.size + length (concat h.raw)
+    → (fold gathered c.g commands).ended ≡ c.g.ended
+    → HasTalked workers (fold gathered c.g commands) start.store new c.written → o'' ≡ o'
+    → Conversing workers i k o o'' x z start new
+goes_on workers i j k o o' o'' x y z start old new commands c h few size same talked kept =
+    let Out : OutputSeen → Type 0 = λ out. Appends o.bytes out.bytes c.written in
+    record {
+      lines = c.lines ++ h.raw;
+      g = fold gathered c.g commands;
+      written = c.written;
+      taken = taken_then i j k x.input y.input z.input c.lines h.raw c.taken h.taken;
+      heard = heard_more workers x.number c.lines h.raw c.g y.number z.number commands c.heard h.said h.number few;
+      talked = talked;
+      output = subst Out (sym kept) c.output;
+      steady = ap (λ (out : OutputSeen). out.failures) kept ∙ c.steady;
+      is_open = λ given first b.
+          let P : List (List ℕ) → Type 0 = λ ls. HasOpen given ls (fold gathered c.g commands) z.size in
+          subst P (append_assoc b.front c.lines h.raw)
+          (open_more given (b.front ++ c.lines) h.raw c.g (fold gathered c.g commands) y.size z.size same
+          (h.size ∙ size) (c.is_open given first b));
+    }
+
+-- what was heard was done
+pub converses_more : (workers : ℕ) (i j k : InputSeen) (o o' o'' : OutputSeen) (x y z : HearingValue)
+    (start old new : TalkValue) (thing : Heard) → Conversing workers i j o o' x y start old
+    → Hears j k workers y z (commands_of thing) → Responds thing old new o' o''
+    → Conversing workers i k o o'' x z start new
+converses_more workers i j k o o' o'' x y z start old new heard.Nothing c h (same, kept) =
+    let Talk : TalkValue → Type 0 = λ t. HasTalked workers c.g start.store t c.written in
+    goes_on workers i j k o o' o'' x y z start old new [] c h (omega arith) refl refl (subst Talk (sym same) c.talked)
+    kept
+converses_more workers i j k o o' o'' x y z start old new (heard.Load job) c h (makes, kept) =
+    goes_on workers i j k o o' o'' x y z start old new (Load job ∷ []) c h
+    (few_load c.g (gathered c.g (Load job)) job refl) refl refl
+    (talked_load workers c.g start.store old new c.written job c.talked makes) kept
+converses_more workers i j k o o' o'' x y z start old new (heard.Ask worker query) c h (gives, kept) =
+    goes_on workers i j k o o' o'' x y z start old new (Ask worker query ∷ []) c h
+    (few_ask c.g (gathered c.g (Ask worker query)) worker query refl) refl refl
+    (talked_ask workers c.g start.store old new c.written worker query c.talked gives) kept
+converses_more workers i j k o o' o'' x y z start old new heard.Go c h answers =
+    let g = gathered c.g Go in
+    let taken = taken_then i j k x.input y.input z.input c.lines h.raw c.taken h.taken in
+    let heard_so = heard_more workers x.number c.lines h.raw c.g y.number z.number (Go ∷ []) c.heard h.said h.number
+    (few_go c.g g refl) in
+    record {
+      lines = c.lines ++ h.raw;
+      g = g;
+      written = c.written ++ answers.lines;
+      taken = taken;
+      heard = heard_so;
+      talked = talked_go workers c.g start.store old new o' o'' c.written c.talked answers;
+      output = Appends-trans o.bytes o'.bytes o''.bytes c.written answers.lines c.output answers.written;
+      steady = answers.steady ∙ c.steady;
+      is_open = λ given first b. open_none given (b.front ++ (c.lines ++ h.raw)) g z.size workers h.size
+          (ended_so given first i k x z workers b (c.lines ++ h.raw) g taken heard_so);
+    }
+
+-- there is room for one load more
+pub has_room : (workers : ℕ) (i j : InputSeen) (o o' : OutputSeen) (x y : HearingValue) (start talk : TalkValue)
+    → Conversing workers i j o o' x y start talk → IsFresh workers start → y.number < 18446744073709551616
+    → HasRoom talk.store
+has_room workers i j o o' x y start talk c fresh small =
+    let t = c.talked in
+    let all = t.loaded.loaded in
+    omega (
+      arith,
+      small,
+      c.heard.few,
+      t.played.few,
+      t.played.most,
+      t.loaded.most,
+      fresh.most,
+      ap (λ (s : SeenValue). version_of s.batches) t.loaded.seen,
+      ap version_of fresh.none_published,
+      ap length t.played.none_pending,
+      ap length all.pending_are,
+      length-append t.before.pending (filter_map accepted_load all.outcomes),
+      few_outcomes c.g.current.loads all.outcomes all.each,
+    )

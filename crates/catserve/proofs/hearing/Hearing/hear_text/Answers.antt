@@ -1,0 +1,135 @@
+use Rattle.std.proofs.Common.{◌≡◌, ◌-◌, ◌∙◌, ◌∷◌, [], ℕ, List, refl, sym, ap, subst, arith, take, drop, zero, suc}
+use Rattle.std.specs.Str.{IsUtf8}
+use Rattle.line_input.specs.Incoming.{EndsLine}
+use Rattle.line_input.proofs.Arriving.{both}
+use Rattle.catserve.specs.Run.{InputSeen, input_seen}
+use Rattle.catserve.specs.declared.session_fault.SessionFault.{SessionFault}
+use Rattle.catserve.specs.Hearing.{HearingValue, HearsNoText, HearsText}
+use Rattle.catserve.proofs.LinesTaken.{nothing_heard, no_text_heard, stays_whole, text_ends_within, text_within}
+use Rattle.catserve.proofs.LinesTaken.{text_taken, text_undecodable}
+use Rattle.catserve.proofs.hearing.Hearing.hear_text.Goals as goal
+
+pub returns-in-Err-clause-fault : goal.returns-in-Err-clause-fault
+returns-in-Err-clause-fault g c =
+    let i : InputSeen = input_seen g.R.Source.remaining g.R.Source.reads g.R.Source.failures c.args.reader.now in
+    let j : InputSeen = input_seen g.R.Source.remaining g.R.Source.reads g.R.Source.failures c.lines_end.new.reader in
+    let here : HearingValue = record
+    { input = c.self.inside.input; number = c.self.inside.number; size = c.self.inside.size } in
+    let after : HearingValue = record
+    { input = c.lines_end.new.self; number = c.self.inside.number; size = c.self.inside.size } in
+    let P : HearingValue → Type 0 = λ x.
+    HearsNoText i j x after c.args.end c.args.count c.fault_of.result.kind c.fault_of.result.line in
+    subst P c.self.view_is (no_text_heard i j here after c.args.end c.args.count c.fault_of.result.kind
+    c.fault_of.result.line (nothing_heard i j here after c.in-Err.fault c.fault_of.result c.in-Err.ensures.comes
+    (record { later = c.in-Err.ensures.later; reads = c.in-Err.ensures.reads }) refl refl
+    (λ long. omega (arith, (c.in-Err.ensures.long long).over, c.self.invariant)) c.in-Err.ensures.cause
+    c.fault_of.ensures))
+
+pub returns-in_default-clause-fault : goal.returns-in_default-clause-fault
+returns-in_default-clause-fault g c =
+    let i : InputSeen = input_seen g.R.Source.remaining g.R.Source.reads g.R.Source.failures c.args.reader.now in
+    let j : InputSeen = input_seen g.R.Source.remaining g.R.Source.reads g.R.Source.failures c.lines_end.new.reader in
+    let here : HearingValue = record
+    { input = c.self.inside.input; number = c.self.inside.number; size = c.self.inside.size } in
+    let after : HearingValue = record
+    { input = c.lines_end.new.self; number = c.self.inside.number; size = c.self.inside.size } in
+    let P : HearingValue → Type 0 = λ x.
+    HearsNoText i j x after c.args.end c.args.count c.fault_here.result.kind c.fault_here.result.line in
+    let Q : SessionFault → Type 0 = λ f. HearsNoText i j here after c.args.end c.args.count f.kind f.line in
+    subst P c.self.view_is (subst Q (sym c.fault_here.ensures) (
+      record {
+        stays = stays_whole i j here after c.in-Ok.ensures.comes
+            (record { later = c.in-Ok.ensures.later; reads = c.in-Ok.ensures.reads }) refl refl;
+        fewer = rw c.in_default.is at c.in-Ok.ensures.none;
+      },
+      refl,
+    ))
+
+pub overflow_add-count : goal.overflow_add-count
+overflow_add-count g c =
+    let ends = rw c.in-Some.is at c.in-Ok.ensures.lines in
+    let few = (text_within c.lines_end.new.self c.args.end c.args.count c.in-Some.text_end ends).0 in
+    omega (arith, few, c.ranges.count.fits, ends.within)
+
+pub take-requires-clause-size : goal.take-requires-clause-size
+take-requires-clause-size g c =
+    let ends = rw c.in-Some.is at c.in-Ok.ensures.lines in
+    let within = rw c.in-Some.is at c.in-Ok.ensures.within in
+    let most : ℕ = 67108864 - c.self.inside.size in
+    let known = ap (λ (x : HearingValue). x.size) c.self.view_is in
+    let placed = text_ends_within c.lines_end.new.self c.args.end c.args.count c.in-Some.text_end most ends
+    (omega (arith, known, c.requires.size)) within in
+    omega (arith, placed, c.self.invariant)
+
+pub take-requires-clause-number : goal.take-requires-clause-number
+take-requires-clause-number g c =
+    let ends = rw c.in-Some.is at c.in-Ok.ensures.lines in
+    let within = rw c.in-Some.is at c.in-Ok.ensures.within in
+    let most : ℕ = 67108864 - c.self.inside.size in
+    let known = ap (λ (x : HearingValue). x.size) c.self.view_is in
+    let placed = text_ends_within c.lines_end.new.self c.args.end c.args.count c.in-Some.text_end most ends
+    (omega (arith, known, c.requires.size)) within in
+    let few = (text_within c.lines_end.new.self c.args.end c.args.count c.in-Some.text_end ends).0 in
+    omega (arith, placed, few, ap (λ (x : HearingValue). x.number) c.self.view_is, c.requires.few)
+
+pub returns-then-not-is_utf8-clause-fault : goal.returns-then-not-is_utf8-clause-fault
+returns-then-not-is_utf8-clause-fault g c =
+    let i : InputSeen = input_seen g.R.Source.remaining g.R.Source.reads g.R.Source.failures c.args.reader.now in
+    let j : InputSeen = input_seen g.R.Source.remaining g.R.Source.reads g.R.Source.failures c.lines_end.new.reader in
+    let here : HearingValue = record
+    { input = c.self.inside.input; number = c.self.inside.number; size = c.self.inside.size } in
+    let after : HearingValue = record
+    { input = c.lines_end.new.self; number = c.self.inside.number; size = c.self.inside.size } in
+    let stays = stays_whole i j here after c.in-Ok.ensures.comes
+    (record { later = c.in-Ok.ensures.later; reads = c.in-Ok.ensures.reads }) refl refl in
+    let ends = rw c.in-Some.is at c.in-Ok.ensures.lines in
+    let line = subst (λ x. EndsLine x 0 c.args.end) (sym (ap (λ (x : HearingValue). x.input) c.self.view_is))
+    c.requires.line in
+    let P : HearingValue → Type 0 = λ x. HearsNoText i j x after c.args.end c.args.count
+    c.fault_here-then-not-is_utf8.result.kind c.fault_here-then-not-is_utf8.result.line in
+    let Q : SessionFault → Type 0 = λ f. HearsNoText i j here after c.args.end c.args.count f.kind f.line in
+    let NotText : List ℕ → Type 0 = λ left. ¬ IsUtf8 (take c.in-Some.text_end left) in
+    let undecodable = subst NotText c.left-left.ensures
+    (λ utf8. both c.is_utf8.result (c.is_utf8.ensures.1 utf8) c.if-not-is_utf8.true) in
+    subst P c.self.view_is (subst Q (sym c.fault_here-then-not-is_utf8.ensures)
+    (text_undecodable i j here after c.args.end c.args.count c.in-Some.text_end stays line ends undecodable))
+
+pub returns-in_default-copied-clause-fault : goal.returns-in_default-copied-clause-fault
+returns-in_default-copied-clause-fault g c =
+    let i : InputSeen = input_seen g.R.Source.remaining g.R.Source.reads g.R.Source.failures c.args.reader.now in
+    let j : InputSeen = input_seen g.R.Source.remaining g.R.Source.reads g.R.Source.failures c.lines_end.new.reader in
+    let here : HearingValue = record
+    { input = c.self.inside.input; number = c.self.inside.number; size = c.self.inside.size } in
+    let after : HearingValue = record
+    { input = c.lines_end.new.self; number = c.self.inside.number; size = c.self.inside.size } in
+    let stays = stays_whole i j here after c.in-Ok.ensures.comes
+    (record { later = c.in-Ok.ensures.later; reads = c.in-Ok.ensures.reads }) refl refl in
+    let P : HearingValue → Type 0 = λ x.
+    HearsNoText i j x after c.args.end c.args.count c.from.result.kind c.from.result.line in
+    let Q : SessionFault → Type 0 = λ f. HearsNoText i j here after c.args.end c.args.count f.kind f.line in
+    subst P c.self.view_is (subst Q (sym c.from.ensures) (([], stays), refl))
+
+pub returns-clause-heard : goal.returns-clause-heard
+returns-clause-heard g c =
+    let i : InputSeen = input_seen g.R.Source.remaining g.R.Source.reads g.R.Source.failures c.args.reader.now in
+    let j : InputSeen = input_seen g.R.Source.remaining g.R.Source.reads g.R.Source.failures c.lines_end.new.reader in
+    let here : HearingValue = record
+    { input = c.self.inside.input; number = c.self.inside.number; size = c.self.inside.size } in
+    let after : HearingValue = record
+    { input = c.lines_end.new.self; number = c.self.inside.number; size = c.self.inside.size } in
+    let stays = stays_whole i j here after c.in-Ok.ensures.comes
+    (record { later = c.in-Ok.ensures.later; reads = c.in-Ok.ensures.reads }) refl refl in
+    let ends = rw c.in-Some.is at c.in-Ok.ensures.lines in
+    let line = subst (λ x. EndsLine x 0 c.args.end) (sym (ap (λ (x : HearingValue). x.input) c.self.view_is))
+    c.requires.line in
+    let Is : List ℕ → Type 0 = λ left. IsUtf8 (take c.in-Some.text_end left) in
+    let utf8 = subst Is c.left-left.ensures (c.is_utf8.ensures.0 c.if-not-is_utf8.false) in
+    let Copies : List ℕ → Type 0 = λ left.
+    c.in-Ok-copied.bytes.items ≡ take (c.in-Some.text_end - c.args.end) (drop c.args.end left) in
+    let bytes = subst Copies c.left-left.ensures c.in-Ok-copied.ensures in
+    let P : HearingValue → Type 0 = λ x.
+    HearsText i j x c.take.new.self c.args.end c.args.count c.in-Ok-copied.bytes.items in
+    let Q : HearingValue → Type 0 = λ y. HearsText i j here y c.args.end c.args.count c.in-Ok-copied.bytes.items in
+    subst P c.self.view_is (subst Q (sym c.take.ensures)
+    (text_taken i j here after c.args.end c.args.count c.in-Some.text_end c.in-Ok-copied.bytes.items stays line ends utf8
+    bytes))

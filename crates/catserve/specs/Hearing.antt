@@ -1,0 +1,260 @@
+-- Private: how a session hears its input, line by line.
+use Rattle.std.specs.Prelude.{◌≡◌, ◌⊎◌, ⊤, ℕ, ◌+◌, ◌<◌, ◌≤◌, Bool, true, false, List, [], ◌∷◌, ◌++◌, length}
+use Rattle.std.specs.Prelude.{take, Option, Some, None, IfSome, IfNone, Result, Ok, Err, string_bytes}
+use Rattle.std.specs.List.{concat}
+use Rattle.std.specs.Str.{IsUtf8}
+use Rattle.std.specs.Io.KnownBytes.{Consumes, IsAtEnd}
+use Rattle.devices.specs.Devices.{RisesBy}
+use Rattle.line_input.specs.Lines.{lines, without_end}
+use Rattle.line_input.specs.Incoming.{Incoming, MayCome, EndsLine, LacksLines}
+use Rattle.line_input.specs.declared.fault.LineInputFault.{LineInputFault}
+use Rattle.line_input.specs.declared.fault.LineInputFault.TheVariants as line_fault
+use Rattle.desks.specs.Jobs.{JobValue}
+use Rattle.script_text.specs.Commands.{Line, Blank, Loads, LoadsMo, Asks, Goes, is_blank, workers_line}
+use Rattle.script_text.specs.LineFields.{fields}
+use Rattle.script_text.specs.Script.{Command, Load, Ask, Go, Says, and_then, commands_from, script_from}
+use Rattle.script_text.specs.Script.{script_of}
+use Rattle.script_text.specs.Texts.{most_script}
+use Rattle.script_text.specs.declared.fault.ScriptKind.{ScriptKind}
+use Rattle.script_text.specs.declared.fault.ScriptKind.TheVariants.{TooLarge, NotUtf8, BadLine, ReadFault, Memory}
+use Rattle.catserve.specs.declared.session_fault.SessionFault.{SessionFault}
+use Rattle.catserve.specs.declared.said.FrontLine.{FrontLine}
+use Rattle.catserve.specs.declared.said.FrontLine.TheVariants as front_line
+use Rattle.catserve.specs.declared.said.SaidFault.{SaidFault}
+use Rattle.catserve.specs.declared.said.SaidFault.TheVariants as said_fault
+use Rattle.catserve.specs.declared.said.Said.{Said}
+use Rattle.catserve.specs.declared.said.Said.TheVariants as said
+use Rattle.catserve.specs.declared.hearing.Heard.{Heard}
+use Rattle.catserve.specs.declared.hearing.Heard.TheVariants as heard
+use Rattle.catserve.specs.Run.{InputSeen, FailsToRead}
+use Rattle.catserve.specs.Session.{most_lines, round_end, said as meant}
+
+-- what such a line says
+abbrev pub said_value : Said → Line
+said_value said.Nothing = Blank
+said_value (said.Loads domain locale options count) = Loads (string_bytes domain) (string_bytes locale) options count
+said_value (said.LoadsMo domain locale bytes) = LoadsMo (string_bytes domain) (string_bytes locale) bytes.items
+said_value (said.Asks worker query) = Asks worker query
+said_value said.Goes = Goes
+
+-- the commands of what was heard
+abbrev pub commands_of : Heard → List Command
+commands_of heard.Nothing = []
+commands_of (heard.Load job) = Load job ∷ []
+commands_of (heard.Ask worker query) = Ask worker query ∷ []
+commands_of heard.Go = Go ∷ []
+
+-- what has come of the input and isn't taken, the number of the next line, and how many bytes the open round has so far
+pub record HearingValue : Type 0 where
+  pub input : Incoming
+  pub number : ℕ
+  pub size : ℕ
+
+-- nothing has come
+abbrev pub silence : Incoming
+silence = record { left = []; ended = false }
+
+-- the counts of a reader go up
+pub record CountsOn (i i' : InputSeen) : Type 0 where
+  pub later : i.failures ≤ i'.failures
+  pub reads : RisesBy 0 i.reads i'.reads
+
+-- these lines were taken off an input, of which more was read
+pub record HasTaken (i i' : InputSeen) (x y : Incoming) (front : List (List ℕ)) : Type 0 where
+  pub more : List ℕ
+  pub read : Consumes i.left i'.left more
+  pub may : (text : List ℕ) → MayCome y text → MayCome x (more ++ text)
+  pub cut : (text : List ℕ) → MayCome y text → lines ((x.left ++ more) ++ text) ≡ front ++ lines (y.left ++ text)
+  pub whole : x.left ++ more ≡ concat front ++ y.left
+  pub at_end : (x.ended ≡ true → IsAtEnd i.left) → y.ended ≡ true → IsAtEnd i'.left
+  pub counts : CountsOn i i'
+
+-- more was read, of which the last may be lost, and nothing was taken off
+pub record HasGot (i i' : InputSeen) (x y : Incoming) (lost : List ℕ) : Type 0 where
+  pub more : List ℕ
+  pub read : Consumes i.left i'.left (more ++ lost)
+  pub behind : y.left ≡ x.left ++ more
+  pub may : (text : List ℕ) → MayCome y text → MayCome x (more ++ text)
+  pub at_end : (x.ended ≡ true → IsAtEnd i.left) → y.ended ≡ true → IsAtEnd i'.left
+  pub counts : CountsOn i i'
+
+-- lines with these numbers say these commands, whatever stands behind them
+pub record HasSaid (workers number : ℕ) (raw : List (List ℕ)) (commands : List Command) : Type 0 where
+  pub some : 0 < length raw
+  pub says : (behind : List (List ℕ)) → commands_from workers number 0 (raw ++ behind)
+      ≡ and_then (Says commands 0) number (λ text. commands_from workers (number + length raw) text behind)
+  pub utf8 : IsUtf8 (concat raw)
+
+-- how many bytes the open round has behind these commands, with so many bytes more
+abbrev pub size_behind : List Command → ℕ → ℕ
+size_behind (Go ∷ commands) size = 0
+size_behind _ size = size
+
+-- lines were heard that say these commands
+pub record Hears (i i' : InputSeen) (workers : ℕ) (x y : HearingValue) (commands : List Command) : Type 0 where
+  pub raw : List (List ℕ)
+  pub taken : HasTaken i i' x.input y.input raw
+  pub said : HasSaid workers x.number raw commands
+  pub few : x.number < most_lines
+  pub number : y.number ≡ x.number + length raw
+  pub size : y.size ≡ size_behind commands (x.size + length (concat raw))
+
+-- the input has ended
+pub record HearsEnd (i i' : InputSeen) (x y : HearingValue) : Type 0 where
+  pub got : HasGot i i' x.input y.input []
+  pub left : y.input.left ≡ []
+  pub ended : y.input.ended ≡ true
+  pub number : y.number ≡ x.number
+  pub size : y.size ≡ x.size
+
+-- ---- why nothing was heard
+
+-- more was read, and else all is as it was
+pub record Stays (i i' : InputSeen) (x y : HearingValue) (lost : List ℕ) : Type 0 where
+  pub got : HasGot i i' x.input y.input lost
+  pub number : y.number ≡ x.number
+  pub size : y.size ≡ x.size
+
+-- the next line is bad, whatever comes
+pub record HearsBad (i i' : InputSeen) (workers : ℕ) (x y : HearingValue) (line : ℕ) : Type 0 where
+  pub stays : Stays i i' x y []
+  pub line_is : line ≡ x.number
+  pub bad : (text : List ℕ) → MayCome y.input text
+      → commands_from workers x.number 0 (lines (y.input.left ++ text)) ≡ Err x.number
+
+-- it isn't UTF-8, with the lines that are its text
+pub record HearsUndecodable (i i' : InputSeen) (x y : HearingValue) (line : ℕ) : Type 0 where
+  pub stays : Stays i i' x y []
+  pub line_is : line ≡ x.number
+  pub raw : List (List ℕ)
+  pub behind : List ℕ
+  pub begins : y.input.left ≡ concat raw ++ behind
+  pub cut : (text : List ℕ) → MayCome y.input text → lines (y.input.left ++ text) ≡ raw ++ lines (behind ++ text)
+  pub undecodable : ¬ IsUtf8 (concat raw)
+
+-- the round is too large, or there are too many lines
+pub record HearsTooMuch (i i' : InputSeen) (x y : HearingValue) (line : ℕ) : Type 0 where
+  pub stays : Stays i i' x y []
+  pub line_is : line ≡ x.number
+  pub over : (most_script < x.size + length y.input.left) ⊎ (most_lines ≤ x.number)
+
+-- the input can't be read, or want of memory
+abbrev pub HearsNothing : InputSeen → InputSeen → HearingValue → HearingValue → ScriptKind → ℕ → Type 0
+HearsNothing i i' x y TooLarge line = HearsTooMuch i i' x y line
+HearsNothing i i' x y ReadFault line = ((lost : List ℕ) × Stays i i' x y lost) × FailsToRead i i' × (line ≡ 0)
+HearsNothing i i' x y Memory line = ((lost : List ℕ) × Stays i i' x y lost) × (line ≡ 0)
+HearsNothing i i' x y _ line = ⊥
+
+-- why nothing was heard
+abbrev pub HearsNone : InputSeen → InputSeen → ℕ → HearingValue → HearingValue → ScriptKind → ℕ → Type 0
+HearsNone i i' workers x y TooLarge line = HearsTooMuch i i' x y line
+HearsNone i i' workers x y NotUtf8 line = HearsUndecodable i i' x y line
+HearsNone i i' workers x y BadLine line = HearsBad i i' workers x y line
+HearsNone i i' workers x y ReadFault line = ((lost : List ℕ) × Stays i i' x y lost) × FailsToRead i i' × (line ≡ 0)
+HearsNone i i' workers x y Memory line = ((lost : List ℕ) × Stays i i' x y lost) × (line ≡ 0)
+HearsNone i i' workers x y _ line = ⊥
+
+-- why the front of a session wasn't heard
+abbrev pub HearsNoFront : InputSeen → InputSeen → HearingValue → HearingValue → ScriptKind → ℕ → Type 0
+HearsNoFront i i' x y NotUtf8 line = HearsUndecodable i i' x y line
+HearsNoFront i i' x y kind line = HearsNothing i i' x y kind line
+
+-- what a line in front of a session is
+abbrev pub IsFront : List ℕ → FrontLine → Type 0
+IsFront line front_line.NotUtf8 = ¬ IsUtf8 line
+IsFront line front_line.Blank = IsUtf8 line × (is_blank (without_end line) ≡ true)
+IsFront line (front_line.Workers count) = IsUtf8 line × (is_blank (without_end line) ≡ false)
+    × (workers_line (fields (without_end line)) ≡ Some count)
+IsFront line front_line.Other = IsUtf8 line × (is_blank (without_end line) ≡ false)
+    × (workers_line (fields (without_end line)) ≡ None)
+
+-- where the next line ends, if one begins; else the input has ended
+pub record EndsNext (i i' : InputSeen) (x y : HearingValue) (end : Option ℕ) : Type 0 where
+  pub stays : Stays i i' x y []
+  pub line : IfSome end (λ place. EndsLine y.input 0 place × (x.size + place ≤ most_script))
+  pub none : IfNone end ((y.input.ended ≡ true) × (length y.input.left ≡ 0))
+  pub few : x.number < most_lines
+
+-- the text of a load was heard, behind the line that ends there
+pub record HearsText (i i' : InputSeen) (x y : HearingValue) (end count : ℕ) (bytes : List ℕ) : Type 0 where
+  pub texts : List (List ℕ)
+  pub counted : length texts ≡ count
+  pub bytes_are : bytes ≡ concat texts
+  pub taken : HasTaken i i' x.input y.input (take end x.input.left ∷ texts)
+  pub utf8 : IsUtf8 (concat (take end x.input.left ∷ texts))
+  pub number : y.number ≡ x.number + (1 + count)
+  pub size : y.size ≡ x.size + length (concat (take end x.input.left ∷ texts))
+
+-- fewer lines than a load counts stand behind the line that ends there
+pub record LacksText (i i' : InputSeen) (x y : HearingValue) (end count : ℕ) : Type 0 where
+  pub stays : Stays i i' x y []
+  pub fewer : LacksLines count y.input end
+
+-- why the text wasn't heard
+abbrev pub HearsNoText : InputSeen → InputSeen → HearingValue → HearingValue → ℕ → ℕ → ScriptKind → ℕ → Type 0
+HearsNoText i i' x y end count BadLine line = LacksText i i' x y end count × (line ≡ x.number)
+HearsNoText i i' x y end count NotUtf8 line = HearsUndecodable i i' x y line
+HearsNoText i i' x y end count kind line = HearsNothing i i' x y kind line
+
+-- the fault of an input as that of a session whose next line has this number
+abbrev pub FailsFor : LineInputFault → ℕ → SessionFault → Type 0
+FailsFor line_fault.TooLong number fault = fault ≡ record { kind = TooLarge; line = number }
+FailsFor line_fault.Unreadable number fault = fault ≡ record { kind = ReadFault; line = 0 }
+FailsFor line_fault.Memory number fault = fault ≡ record { kind = Memory; line = 0 }
+
+-- the fault of the line with this number
+abbrev pub FailsToSay : SaidFault → ℕ → SessionFault → Type 0
+FailsToSay said_fault.NotUtf8 number fault = fault ≡ record { kind = NotUtf8; line = number }
+FailsToSay said_fault.Bad number fault = fault ≡ record { kind = BadLine; line = number }
+FailsToSay said_fault.Memory number fault = fault ≡ record { kind = Memory; line = 0 }
+
+-- what was heard, or why nothing was
+abbrev pub HearsOne : InputSeen → InputSeen → ℕ → HearingValue → HearingValue
+    → Result (Option Heard) SessionFault → Type 0
+HearsOne i i' workers x y (Ok (Some thing)) = Hears i i' workers x y (commands_of thing)
+HearsOne i i' workers x y (Ok None) = HearsEnd i i' x y
+HearsOne i i' workers x y (Err fault) = HearsNone i i' workers x y fault.kind fault.line
+
+-- ---- the front of a session
+
+-- a session of which nothing was heard
+abbrev pub unheard : HearingValue
+unheard = record { input = silence; number = 1; size = 0 }
+
+-- lines in front of a session that say nothing
+pub record HasPassed (i i' : InputSeen) (x y : HearingValue) (front : List (List ℕ)) : Type 0 where
+  pub taken : HasTaken i i' x.input y.input front
+  pub passes : (behind : List (List ℕ)) → script_from x.number (front ++ behind) ≡ script_from y.number behind
+  pub number : y.number ≡ x.number + length front
+  pub size : y.size ≡ x.size + length (concat front)
+  pub utf8 : IsUtf8 (concat front)
+
+-- the front of a session couldn't be heard whole
+pub record FailsInFront (i i' : InputSeen) (kind : ScriptKind) (line : ℕ) : Type 0 where
+  pub mid : InputSeen
+  pub y : HearingValue
+  pub z : HearingValue
+  pub front : List (List ℕ)
+  pub passed : HasPassed i mid unheard y front
+  pub none : HearsNoFront mid i' y z kind line
+
+-- two lists begin with the same line, if they begin at all
+abbrev pub BeginAlike : List (List ℕ) → List (List ℕ) → Type 0
+BeginAlike [] [] = ⊤
+BeginAlike (line ∷ lines) (other ∷ others) = line ≡ other
+BeginAlike _ _ = ⊥
+
+-- lines that begin as those do which come, or the end of a round alone
+abbrev pub Follows : Incoming → List (List ℕ) → Type 0
+Follows input behind = (behind ≡ round_end ∷ []) ⊎ ((text : List ℕ) × MayCome input text
+    × BeginAlike behind (lines (input.left ++ text)))
+
+-- the session has so many workers, and its commands begin behind its first lines
+pub record Begins (given : Option ℕ) (i i' : InputSeen) (y : HearingValue) (workers : ℕ) : Type 0 where
+  pub front : List (List ℕ)
+  pub taken : HasTaken i i' silence y.input front
+  pub going : (behind : List (List ℕ)) → Follows y.input behind
+      → meant given (front ++ behind) ≡ script_of workers (commands_from workers y.number 0 behind)
+  pub number : y.number ≡ length front + 1
+  pub size : y.size ≡ length (concat front)
+  pub utf8 : IsUtf8 (concat front)

@@ -1,0 +1,144 @@
+-- What a session does: it is a script that is answered round by round, while it comes.
+use Rattle.std.specs.Prelude.{◌≡◌, ◌⊎◌, ℕ, ◌+◌, ◌<◌, ◌≤◌, Bool, true, List, [], ◌∷◌, ◌++◌, length, codes}
+use Rattle.std.specs.Prelude.{Option, Some, None, Result, Ok, Err}
+use Rattle.std.specs.List.{concat}
+use Rattle.std.specs.Str.{IsUtf8}
+use Rattle.std.specs.Io.KnownBytes.{Appends, Consumes, IsAtEnd}
+use Rattle.devices.specs.Devices.{RisesBy}
+use Rattle.line_input.specs.Lines.{lines}
+use Rattle.script_text.specs.Script.{RoundValue, ScriptValue, commands_from, script_from, script_of}
+use Rattle.script_text.specs.Texts.{most_script}
+use Rattle.script_text.specs.declared.fault.ScriptKind.{ScriptKind}
+use Rattle.script_text.specs.declared.fault.ScriptKind.TheVariants.{TooLarge, NotUtf8, BadLine, ReadFault, WriteFault}
+use Rattle.catserve.specs.declared.session_fault.SessionFault.{SessionFault}
+use Rattle.catserve.specs.Rounds.{PlaysAll}
+use Rattle.catserve.specs.Run.{InputSeen, OutputSeen, FailsToRead}
+
+-- ---- what the lines mean
+
+-- the lines of a session say what those of a script do; the number of workers may be given in front of them
+abbrev pub said : Option ℕ → List (List ℕ) → Result ScriptValue ℕ
+said None lines = script_from 1 lines
+said (Some workers) lines = script_of workers (commands_from workers 1 0 lines)
+
+-- the line that ends a round
+abbrev pub round_end : List ℕ
+round_end = codes "go" ++ 10 ∷ []
+
+-- for so many workers these rounds have ended in the lines: with one more `go` there is one round more
+pub record HaveEnded (given : Option ℕ) (front : List (List ℕ)) (workers : ℕ) (rounds : List RoundValue) : Type 0 where
+  pub last : RoundValue
+  pub says : said given (front ++ round_end ∷ []) ≡ Ok (record { workers = workers; rounds = rounds ++ last ∷ [] })
+
+-- ---- what was read, and what was written
+
+-- 2 ^ 63: a session may have as many lines
+abbrev pub most_lines : ℕ
+most_lines = 9223372036854775808
+
+-- this may follow what was read: nothing, where the input has ended
+abbrev pub MayFollow : Bool → List ℕ → Type 0
+MayFollow ended text = ended ≡ true → text ≡ []
+
+-- The session has answered the rounds that have ended in the lines `front`, the first ones of its input, and has written
+-- nothing else. What it has read is a text, of which `rest` stands behind those lines, and what was lost by a fault.
+pub record StopsBehind (given : Option ℕ) (i i' : InputSeen) (o o' : OutputSeen) (front : List (List ℕ))
+    (text rest lost : List ℕ) (ended : Bool) : Type 0 where
+  pub read : Consumes i.left i'.left (text ++ lost)
+  pub at_end : ended ≡ true → IsAtEnd i'.left
+  pub whole : text ≡ concat front ++ rest
+  pub lines_are : (more : List ℕ) → MayFollow ended more → lines (text ++ more) ≡ front ++ lines (rest ++ more)
+  pub workers : ℕ
+  pub rounds : List RoundValue
+  pub ended_are : HaveEnded given front workers rounds
+  pub output : List ℕ
+  pub plays : PlaysAll workers [] rounds output
+  pub written : Appends o.bytes o'.bytes output
+
+-- the line behind the front, by its number
+abbrev pub IsNext : List (List ℕ) → ℕ → Type 0
+IsNext front line = line ≡ length front + 1
+
+-- ---- how a session ends
+
+-- the input has ended, and the output of all its rounds was written
+pub record AnswersAll (given : Option ℕ) (i i' : InputSeen) (o o' : OutputSeen) : Type 0 where
+  pub text : List ℕ
+  pub read : Consumes i.left i'.left text
+  pub at_end : IsAtEnd i'.left
+  pub utf8 : IsUtf8 text
+  pub value : ScriptValue
+  pub says : said given (lines text) ≡ Ok value
+  pub output : List ℕ
+  pub plays : PlaysAll value.workers [] value.rounds output
+  pub written : Appends o.bytes o'.bytes output
+
+-- the next line is bad, and the first that is, whatever follows
+pub record MeetsBadLine (given : Option ℕ) (i i' : InputSeen) (o o' : OutputSeen) (line : ℕ) : Type 0 where
+  pub front : List (List ℕ)
+  pub text : List ℕ
+  pub rest : List ℕ
+  pub ended : Bool
+  pub stops : StopsBehind given i i' o o' front text rest [] ended
+  pub line_is : IsNext front line
+  pub bad : (more : List ℕ) → MayFollow ended more → said given (lines (text ++ more)) ≡ Err line
+
+-- the next line, with the lines that are its text, isn't UTF-8
+pub record MeetsUndecodable (given : Option ℕ) (i i' : InputSeen) (o o' : OutputSeen) (line : ℕ) : Type 0 where
+  pub front : List (List ℕ)
+  pub text : List ℕ
+  pub rest : List ℕ
+  pub ended : Bool
+  pub stops : StopsBehind given i i' o o' front text rest [] ended
+  pub line_is : IsNext front line
+  pub raw : List (List ℕ)
+  pub behind : List ℕ
+  pub begins : rest ≡ concat raw ++ behind
+  pub cut : (more : List ℕ) → MayFollow ended more → lines (text ++ more) ≡ (front ++ raw) ++ lines (behind ++ more)
+  pub undecodable : ¬ IsUtf8 (concat raw)
+
+-- the last lines of the front, in which no round has ended
+pub record IsOpenRound (given : Option ℕ) (front round : List (List ℕ)) : Type 0 where
+  pub before : List (List ℕ)
+  pub cut : front ≡ before ++ round
+  pub rounds : List RoundValue
+  pub first : ℕ
+  pub ended_before : HaveEnded given before first rounds
+  pub workers : ℕ
+  pub ended_are : HaveEnded given front workers rounds
+
+-- the open round has more bytes than a script may have; or the session has more lines than it may have
+pub record MeetsTooMuch (given : Option ℕ) (i i' : InputSeen) (o o' : OutputSeen) (line : ℕ) : Type 0 where
+  pub front : List (List ℕ)
+  pub text : List ℕ
+  pub rest : List ℕ
+  pub ended : Bool
+  pub stops : StopsBehind given i i' o o' front text rest [] ended
+  pub line_is : IsNext front line
+  pub round : List (List ℕ)
+  pub is_open : IsOpenRound given front round
+  pub over : (most_script < length (concat round ++ rest)) ⊎ (most_lines ≤ line)
+
+-- the session ends for another reason
+pub record StopsEarly (given : Option ℕ) (i i' : InputSeen) (o o' : OutputSeen) : Type 0 where
+  pub front : List (List ℕ)
+  pub text : List ℕ
+  pub rest : List ℕ
+  pub lost : List ℕ
+  pub ended : Bool
+  pub stops : StopsBehind given i i' o o' front text rest lost ended
+
+-- why a session ends early
+abbrev pub EndsFor : Option ℕ → InputSeen → InputSeen → OutputSeen → OutputSeen → ScriptKind → ℕ → Type 0
+EndsFor given i i' o o' TooLarge line = MeetsTooMuch given i i' o o' line
+EndsFor given i i' o o' NotUtf8 line = MeetsUndecodable given i i' o o' line
+EndsFor given i i' o o' BadLine line = MeetsBadLine given i i' o o' line
+EndsFor given i i' o o' ReadFault line = StopsEarly given i i' o o' × FailsToRead i i' × (line ≡ 0)
+EndsFor given i i' o o' WriteFault line = RisesBy 1 o.failures o'.failures × (line ≡ 0)
+EndsFor given i i' o o' kind line = StopsEarly given i i' o o' × (line ≡ 0)
+
+-- what a session did, by its answer
+abbrev pub Converses : {T : Type 0} → Option ℕ → InputSeen → InputSeen → OutputSeen → OutputSeen
+    → Result T SessionFault → Type 0
+Converses given i i' o o' (Ok _) = AnswersAll given i i' o o'
+Converses given i i' o o' (Err fault) = EndsFor given i i' o o' fault.kind fault.line

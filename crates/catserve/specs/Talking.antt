@@ -1,0 +1,132 @@
+-- Private: how a session is answered, round by round.
+use Rattle.std.specs.Prelude.{◌≡◌, ℕ, ◌+◌, ◌<◌, ◌≤◌, Bool, true, false, List, [], ◌∷◌, ◌++◌, length, Option, Result}
+use Rattle.std.specs.List.{concat}
+use Rattle.std.specs.Str.{IsUtf8}
+use Rattle.std.specs.Io.KnownBytes.{Appends}
+use Rattle.devices.specs.Devices.{RisesBy}
+use Rattle.live_set.specs.Asks.{QueryValue}
+use Rattle.live_versions.specs.Store.{StoreValue}
+use Rattle.desks.specs.Jobs.{JobValue}
+use Rattle.desks.specs.declared.desk.Desk.{Desk}
+use Rattle.script_text.specs.Script.{commands_from, script_of}
+use Rattle.script_text.specs.Gathering.{Gathered, going_on, loads_so_far}
+use Rattle.script_text.specs.declared.fault.ScriptKind.{ScriptKind}
+use Rattle.script_text.specs.declared.fault.ScriptKind.TheVariants.{WriteFault, NoPlace, Closed, Join, Memory}
+use Rattle.catserve.specs.declared.hearing.Heard.{Heard}
+use Rattle.catserve.specs.declared.hearing.Heard.TheVariants as heard
+use Rattle.catserve.specs.declared.session_fault.SessionFault.{SessionFault}
+use Rattle.catserve.specs.Asking.{AreAsked, GivesOne}
+use Rattle.catserve.specs.Running.{AreReady, Finishes, HasLoaded, HasPlayed, HaveBook, LoadsOne}
+use Rattle.catserve.specs.Run.{InputSeen, OutputSeen}
+use Rattle.catserve.specs.Session.{HaveEnded, Converses}
+use Rattle.catserve.specs.Hearing.{HearingValue, HasTaken, Begins}
+
+-- a store, its desks, the lines of the open round that are held back, and whether something stands in that round
+pub record TalkValue : Type 0 where
+  pub store : StoreValue
+  pub desks : List Desk
+  pub held : List ℕ
+  pub begun : Bool
+
+-- the round was finished, and its lines were written
+pub record AnswersRound (old new : TalkValue) (o o' : OutputSeen) : Type 0 where
+  pub lines : List ℕ
+  pub finishes : Finishes (length old.desks) old.store old.desks old.held new.store lines
+  pub ready : AreReady new.store.seen new.desks
+  pub count : length new.desks ≡ length old.desks
+  pub held : new.held ≡ []
+  pub begun : new.begun ≡ false
+  pub written : Appends o.bytes o'.bytes lines
+  pub steady : o'.failures ≡ o.failures
+
+-- a load was made
+pub record MakesLoad (load : JobValue) (old new : TalkValue) : Type 0 where
+  pub loads : LoadsOne load old.store.pending new.store.pending old.held new.held
+  pub seen : new.store.seen ≡ old.store.seen
+  pub most : new.store.most ≡ old.store.most
+  pub desks : new.desks ≡ old.desks
+  pub begun : new.begun ≡ true
+
+-- a question was given
+pub record GivesQuestion (worker : ℕ) (query : QueryValue) (old new : TalkValue) : Type 0 where
+  pub gives : GivesOne old.desks worker query new.desks
+  pub store : new.store ≡ old.store
+  pub held : new.held ≡ old.held
+  pub begun : new.begun ≡ true
+
+-- what was heard was done
+abbrev pub Responds : Heard → TalkValue → TalkValue → OutputSeen → OutputSeen → Type 0
+Responds heard.Nothing old new o o' = (new ≡ old) × (o' ≡ o)
+Responds (heard.Load job) old new o o' = MakesLoad job old new × (o' ≡ o)
+Responds (heard.Ask worker query) old new o o' = GivesQuestion worker query old new × (o' ≡ o)
+Responds heard.Go old new o o' = AnswersRound old new o o'
+
+-- why a round isn't answered
+abbrev pub FailsToAnswer : OutputSeen → OutputSeen → ScriptKind → Type 0
+FailsToAnswer o o' WriteFault = RisesBy 1 o.failures o'.failures
+FailsToAnswer o o' NoPlace = o' ≡ o
+FailsToAnswer o o' Closed = o' ≡ o
+FailsToAnswer o o' Join = o' ≡ o
+FailsToAnswer o o' Memory = o' ≡ o
+FailsToAnswer o o' _ = ⊥
+
+-- a talk at the beginning of a session
+pub record IsFresh (workers : ℕ) (talk : TalkValue) : Type 0 where
+  pub ready : AreReady talk.store.seen talk.desks
+  pub count : length talk.desks ≡ workers
+  pub some : 1 ≤ workers
+  pub few : workers ≤ 16
+  pub none_published : talk.store.seen.batches ≡ []
+  pub none_pending : talk.store.pending ≡ []
+  pub most : talk.store.most ≡ 18446744073709551615
+  pub held : talk.held ≡ []
+  pub begun : talk.begun ≡ false
+
+-- the rounds that have ended were played, and their output is written; the loads of the open one were made, and its
+-- questions are given to the desks
+pub record HasTalked (workers : ℕ) (g : Gathered) (start : StoreValue) (talk : TalkValue) (written : List ℕ) : Type 0
+  where
+    pub before : StoreValue
+    pub played : HasPlayed workers g.ended start before written
+    pub loaded : HasLoaded g.current.loads before talk.store [] talk.held
+    pub asked : AreAsked 0 g.current.questions talk.desks
+    pub book : HaveBook talk.store.seen talk.desks
+    pub count : length talk.desks ≡ workers
+    pub begun : talk.begun ≡ g.begun
+
+-- these lines were heard behind the front of a session
+pub record HasHeard (workers first : ℕ) (lines : List (List ℕ)) (g : Gathered) (number : ℕ) : Type 0 where
+  pub going : (behind : List (List ℕ)) → script_of workers (commands_from workers first 0 (lines ++ behind))
+      ≡ going_on workers g (commands_from workers number 0 behind)
+  pub number_is : number ≡ first + length lines
+  pub few : loads_so_far g < number
+  pub utf8 : IsUtf8 (concat lines)
+
+-- the lines of the open round, of which there are so many bytes
+pub record HasOpen (given : Option ℕ) (front : List (List ℕ)) (g : Gathered) (size : ℕ) : Type 0 where
+  pub before : List (List ℕ)
+  pub round : List (List ℕ)
+  pub cut : front ≡ before ++ round
+  pub size_is : size ≡ length (concat round)
+  pub workers : ℕ
+  pub ended_before : HaveEnded given before workers g.ended
+
+-- a session has gone on, line by line, up to here
+pub record Conversing (workers : ℕ) (i i' : InputSeen) (o o' : OutputSeen) (x y : HearingValue) (start talk : TalkValue)
+    : Type 0 where
+  pub lines : List (List ℕ)
+  pub g : Gathered
+  pub written : List ℕ
+  pub taken : HasTaken i i' x.input y.input lines
+  pub heard : HasHeard workers x.number lines g y.number
+  pub talked : HasTalked workers g start.store talk written
+  pub output : Appends o.bytes o'.bytes written
+  pub steady : o'.failures ≡ o.failures
+  pub is_open : (given : Option ℕ) (first : InputSeen) (b : Begins given first i x workers)
+      → HasOpen given (b.front ++ lines) g y.size
+
+-- what a session does from here on, behind every front that it may have
+abbrev pub Continues : {T : Type 0} → ℕ → InputSeen → InputSeen → OutputSeen → OutputSeen → HearingValue
+    → Result T SessionFault → Type 0
+Continues workers i i' o o' x result = (given : Option ℕ) (first : InputSeen) → Begins given first i x workers
+    → Converses given first i' o o' result

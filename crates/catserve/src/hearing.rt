@@ -1,0 +1,283 @@
+//! The lines of a session as they come, and what they say.
+ghost use Rattle.std.specs.Prelude.{◌≡◌, ◌+◌, ◌<◌, ◌≤◌, ◌^◌, ℕ, IfOk, IfErr, Some, None, drop, take};
+ghost use Rattle.std.specs.Str.{IsUtf8};
+ghost use Rattle.line_input.specs.Lines.{without_end};
+ghost use Rattle.script_text.specs.Commands.{line_of};
+ghost use Rattle.line_input.specs.Incoming.{EndsLine};
+ghost use Rattle.catserve.specs.Run.{input_seen};
+ghost use Rattle.catserve.specs.Session.{most_lines};
+ghost use Rattle.catserve.specs.Hearing.{unheard, Begins, EndsNext, FailsFor, FailsInFront, HearsNothing, HearsNoText};
+ghost use Rattle.catserve.specs.Hearing.{said_value, FailsToSay, HearsOne, HearsText};
+
+use crate::said::{FrontLine, Said, SaidFault, read_front_line, read_said};
+use crate::session_fault::SessionFault;
+use desks::{Job, Source as LoadSource};
+use devices::Source;
+use line_input::{LineInput, LineInputFault};
+use live_set::Query;
+use script_text::{DEFAULT_WORKERS, MOST_SCRIPT, ScriptKind};
+use simdutf8::is_utf8;
+use std::alloc::{AllocError, Global};
+use std::marker::Model;
+
+/// The most lines that a session may have.
+const MOST_LINES: u64 = 1 << 63;
+
+/// What was heard.
+#[derive(Drop)]
+pub(crate) enum Heard {
+    /// A line that says nothing.
+    Nothing,
+    /// A load, with its text.
+    Load(Job),
+    /// A question to a worker.
+    Ask { worker: u32, query: Query },
+    /// The end of a round.
+    Go,
+}
+
+/// The input of a session, the number of its next line, and the size of its open round in bytes.
+#[derive(Drop)]
+pub(crate) struct Hearing {
+    input: LineInput,
+    number: u64,
+    size: usize,
+}
+
+impl Model for Hearing {
+    ghost use Rattle.std.specs.Prelude.{◌≤◌};
+    ghost use Rattle.catserve.specs.Hearing.{HearingValue};
+
+    ghost Value = { HearingValue };
+
+    ghost view = { λ h. record { input = h.input; number = h.number; size = h.size } };
+
+    ghost invariant = { λ h. h.size ≤ 67108864 };
+}
+
+/// Some bytes of its own.
+fn copied(alloc: Global, bytes: &[u8]) -> Result<Vec<u8>, AllocError>
+    ensures { IfOk result (λ copy. copy.items ≡ bytes.now) }
+{
+    let mut copy = Vec::new(alloc);
+    copy.extend_from_slice(bytes)?;
+    Ok(copy)
+}
+
+impl Hearing {
+    /// A session of which nothing has come.
+    pub(crate) fn new(alloc: Global) -> Result<Hearing, AllocError>
+        ensures { IfOk result (λ hearing. hearing ≡ unheard) }
+    {
+        Ok(Hearing {
+            input: LineInput::new(alloc)?,
+            number: 1,
+            size: 0,
+        })
+    }
+
+    /// A fault at the next line.
+    fn fault_here(&self, kind: ScriptKind) -> SessionFault
+        ensures { result ≡ record { kind = kind; line = self.now.number } }
+    {
+        SessionFault {
+            kind,
+            line: self.number,
+        }
+    }
+
+    /// Why the end of a line isn't known.
+    fn fault_of(&self, fault: LineInputFault) -> SessionFault
+        ensures { FailsFor fault self.now.number result }
+    {
+        match fault {
+            LineInputFault::TooLong => self.fault_here(ScriptKind::TooLarge),
+            LineInputFault::Unreadable => SessionFault::from(ScriptKind::ReadFault),
+            LineInputFault::Memory => SessionFault::from(ScriptKind::Memory),
+        }
+    }
+}
+
+impl Hearing {
+    /// Takes so many bytes off, which are so many lines.
+    fn take(&mut self, bytes: usize, lines: u64)
+        requires size { self.old.size + bytes ≤ 67108864 }
+        requires number { self.old.number + lines < 2 ^ 64 }
+        ensures { self.new ≡ record {
+          input = record { left = drop bytes self.old.input.left; ended = self.old.input.ended };
+          number = self.old.number + lines;
+          size = self.old.size + bytes;
+        } }
+    {
+        self.input.take(bytes);
+        self.number += lines;
+        self.size += bytes;
+    }
+
+    /// Where the next line ends, if one comes.
+    fn next_end<R: Source>(&mut self, reader: &mut R) -> Result<Option<usize>, SessionFault>
+        ensures found { let input = input_seen R.remaining R.reads R.failures in
+            IfOk result (λ end. EndsNext (input reader.old) (input reader.new) self.old self.new end) }
+        ensures fault { let input = input_seen R.remaining R.reads R.failures in
+            IfErr result (λ fault. HearsNothing (input reader.old) (input reader.new) self.old self.new fault.kind fault.line) }
+    {
+        if self.number >= MOST_LINES {
+            return Err(self.fault_here(ScriptKind::TooLarge));
+        }
+        match self.input.line_end(reader, 0, MOST_SCRIPT - self.size) {
+            Ok(end) => Ok(end),
+            Err(fault) => Err(self.fault_of(fault)),
+        }
+    }
+
+    /// Takes off the line that ends there and the `count` lines behind it, and answers the bytes of these.
+    fn hear_text<R: Source>(
+        &mut self,
+        alloc: Global,
+        reader: &mut R,
+        end: usize,
+        count: u64,
+    ) -> Result<Vec<u8>, SessionFault>
+        requires line { EndsLine self.old.input 0 end }
+        requires size { self.old.size + end ≤ 67108864 }
+        requires few { self.old.number < most_lines }
+        ensures heard { let input = input_seen R.remaining R.reads R.failures in
+            IfOk result (λ bytes. HearsText (input reader.old) (input reader.new) self.old self.new end count bytes.items) }
+        ensures fault { let input = input_seen R.remaining R.reads R.failures in
+            IfErr result (λ fault.
+            HearsNoText (input reader.old) (input reader.new) self.old self.new end count fault.kind fault.line) }
+    {
+        let most = MOST_SCRIPT - self.size;
+        let found = match self.input.lines_end(reader, end, count, most) {
+            Ok(found) => found,
+            Err(fault) => return Err(self.fault_of(fault)),
+        };
+        let Some(text_end) = found else {
+            return Err(self.fault_here(ScriptKind::BadLine));
+        };
+        let left = self.input.left();
+        if !is_utf8(&left[..text_end]) {
+            return Err(self.fault_here(ScriptKind::NotUtf8));
+        }
+        let Ok(bytes) = copied(alloc, &left[end..text_end]) else {
+            return Err(SessionFault::from(ScriptKind::Memory));
+        };
+        self.take(text_end, 1 + count);
+        Ok(bytes)
+    }
+
+    /// Why it isn't known what the next line says.
+    fn fault_of_line(&self, fault: SaidFault) -> SessionFault
+        ensures { FailsToSay fault self.now.number result }
+    {
+        match fault {
+            SaidFault::NotUtf8 => self.fault_here(ScriptKind::NotUtf8),
+            SaidFault::Bad => self.fault_here(ScriptKind::BadLine),
+            SaidFault::Memory => SessionFault::from(ScriptKind::Memory),
+        }
+    }
+
+    /// Takes off the line that ends there and says this, with the lines that are its text.
+    fn hear_said<R: Source>(
+        &mut self,
+        alloc: Global,
+        reader: &mut R,
+        end: usize,
+        said: Said,
+    ) -> Result<Option<Heard>, SessionFault>
+        requires line { EndsLine self.old.input 0 end }
+        requires size { self.old.size + end ≤ 67108864 }
+        requires few { self.old.number < most_lines }
+        requires utf8 { IsUtf8 (take end self.old.input.left) }
+        ensures { let input = input_seen R.remaining R.reads R.failures in (workers : ℕ)
+            → line_of workers (without_end (take end self.old.input.left)) ≡ Some (said_value said)
+            → HearsOne (input reader.old) (input reader.new) workers self.old self.new result }
+    {
+        match said {
+            Said::Nothing => {
+                self.take(end, 1);
+                Ok(Some(Heard::Nothing))
+            }
+            Said::Asks { worker, query } => {
+                self.take(end, 1);
+                Ok(Some(Heard::Ask { worker, query }))
+            }
+            Said::LoadsMo {
+                domain,
+                locale,
+                bytes,
+            } => {
+                self.take(end, 1);
+                Ok(Some(Heard::Load(Job {
+                    domain,
+                    locale,
+                    source: LoadSource::Mo { bytes },
+                })))
+            }
+            Said::Loads {
+                domain,
+                locale,
+                options,
+                count,
+            } => match self.hear_text(alloc, reader, end, count) {
+                Ok(bytes) => Ok(Some(Heard::Load(Job {
+                    domain,
+                    locale,
+                    source: LoadSource::Po { bytes, options },
+                }))),
+                Err(fault) => Err(fault),
+            },
+            Said::Goes => {
+                self.take(end, 1);
+                self.size = 0;
+                Ok(Some(Heard::Go))
+            }
+        }
+    }
+
+    /// The next thing that a session of so many workers says, if one comes. It reads only where no whole one has come.
+    pub(crate) fn hear<R: Source>(
+        &mut self,
+        alloc: Global,
+        workers: u32,
+        reader: &mut R,
+    ) -> Result<Option<Heard>, SessionFault>
+        ensures { let input = input_seen R.remaining R.reads R.failures in
+            HearsOne (input reader.old) (input reader.new) workers self.old self.new result }
+    {
+        let found = match self.next_end(reader) {
+            Ok(found) => found,
+            Err(fault) => return Err(fault),
+        };
+        let Some(end) = found else {
+            return Ok(None);
+        };
+        match read_said(alloc, workers, &self.input.left()[..end]) {
+            Ok(said) => self.hear_said(alloc, reader, end, said),
+            Err(fault) => Err(self.fault_of_line(fault)),
+        }
+    }
+
+    /// How many workers a session has: what its first line that says something gives, or two. Takes off that line and
+    /// those in front of it that say nothing.
+    pub(crate) fn hear_front<R: Source>(&mut self, reader: &mut R) -> Result<u32, SessionFault>
+        requires { self.old ≡ unheard }
+        ensures begins { let input = input_seen R.remaining R.reads R.failures in
+            IfOk result (λ workers. Begins None (input reader.old) (input reader.new) self.new workers) }
+        ensures fault { let input = input_seen R.remaining R.reads R.failures in
+            IfErr result (λ fault. FailsInFront (input reader.old) (input reader.new) fault.kind fault.line) }
+    {
+        'front: while let Some(end) = self.next_end(reader)? {
+            match read_front_line(&self.input.left()[..end]) {
+                FrontLine::NotUtf8 => return Err(self.fault_here(ScriptKind::NotUtf8)),
+                FrontLine::Blank => self.take(end, 1),
+                FrontLine::Workers(workers) => {
+                    self.take(end, 1);
+                    return Ok(workers);
+                }
+                FrontLine::Other => return Ok(DEFAULT_WORKERS),
+            }
+        }
+        Ok(DEFAULT_WORKERS)
+    }
+}

@@ -1,0 +1,197 @@
+//! The talk of a session: the open round is held until it ends, and then answered.
+ghost use Rattle.std.specs.Prelude.{◌≡◌, ◌≤◌, [], false, IfOk, IfErr, OnOk, length};
+ghost use Rattle.live_versions.specs.Store.{HasRoom};
+ghost use Rattle.script_text.specs.LineValues.{source_value};
+ghost use Rattle.catserve.specs.Run.{output_seen};
+ghost use Rattle.catserve.specs.Running.{HaveBook, LoadsOne};
+ghost use Rattle.catserve.specs.Talking.{AnswersRound, FailsToAnswer, GivesQuestion, MakesLoad, Responds};
+
+use crate::asking::give;
+use crate::hearing::Heard;
+use crate::round::{finish, make_load};
+use desks::{Desk, Job, Source};
+use devices::Sink;
+use live_set::Query;
+use live_versions::Publisher;
+use script_text::{LoadSource, ScriptKind, ScriptLoad};
+use std::alloc::{AllocError, Global};
+use std::marker::Model;
+use std::sync::Wait;
+use std::thread::Threads;
+
+/// Makes a load of this source, and writes its line.
+fn make(
+    alloc: Global,
+    publisher: &mut Publisher,
+    domain: &str,
+    locale: &str,
+    source: LoadSource<'_>,
+    held: &mut Vec<u8>,
+) -> Result<(), AllocError>
+    requires { HasRoom publisher.old }
+    ensures ok { IfOk result (λ _. LoadsOne (record {
+      domain = domain.now;
+      locale = locale.now;
+      source = source_value source.entry;
+    }) publisher.old.pending publisher.new.pending held.old.items held.new.items) }
+    ensures seen { publisher.new.seen ≡ publisher.old.seen }
+    ensures most { publisher.new.most ≡ publisher.old.most }
+{
+    let load = ScriptLoad {
+        domain,
+        locale,
+        source,
+    };
+    make_load(alloc, publisher, &load, held)
+}
+
+/// A store with its desks, and what the open round has come to: the lines that it holds back, and whether something
+/// stands in it.
+pub(crate) struct Talk {
+    publisher: Publisher,
+    desks: Vec<Desk>,
+    held: Vec<u8>,
+    begun: bool,
+}
+
+impl Model for Talk {
+    ghost use Rattle.catserve.specs.Talking.{TalkValue};
+
+    ghost Value = { TalkValue };
+
+    ghost view = { λ t. record { store = t.publisher; desks = t.desks.items; held = t.held.items; begun = t.begun } };
+}
+
+impl Talk {
+    /// The talk of a session of which nothing was heard.
+    pub(crate) fn new(alloc: Global, publisher: Publisher, desks: Vec<Desk>) -> Talk
+        ensures { result ≡ record { store = publisher; desks = desks.items; held = []; begun = false } }
+    {
+        Talk {
+            publisher,
+            desks,
+            held: Vec::new(alloc),
+            begun: false,
+        }
+    }
+
+    /// Ends the talk. What stands in the open round is dropped.
+    pub(crate) fn end<T: Wait>(self, rt: &T) {
+        let Talk {
+            publisher,
+            desks: _,
+            held: _,
+            begun: _,
+        } = self;
+        publisher.end(rt);
+    }
+
+    /// Whether something stands in the open round.
+    pub(crate) fn has_begun(&self) -> bool
+        ensures { result ≡ self.now.begun }
+    {
+        self.begun
+    }
+
+    /// Makes a load, and holds its line.
+    fn load(&mut self, alloc: Global, job: Job) -> Result<(), AllocError>
+        requires { HasRoom self.old.store }
+        ensures { OnOk result (MakesLoad job self.old self.new) }
+    {
+        let Job {
+            domain,
+            locale,
+            source,
+        } = job;
+        let (domain, locale) = (domain.as_str(), locale.as_str());
+        match source {
+            Source::Po { bytes, options } => {
+                let text = bytes.as_slice();
+                let source = LoadSource::Po { text, options };
+                make(
+                    alloc,
+                    &mut self.publisher,
+                    domain,
+                    locale,
+                    source,
+                    &mut self.held,
+                )?;
+            }
+            Source::Mo { bytes } => {
+                let source = LoadSource::Mo { bytes };
+                make(
+                    alloc,
+                    &mut self.publisher,
+                    domain,
+                    locale,
+                    source,
+                    &mut self.held,
+                )?;
+            }
+        }
+        self.begun = true;
+        Ok(())
+    }
+
+    /// Gives a question to its worker.
+    fn ask(&mut self, worker: u32, query: Query) -> Result<(), AllocError>
+        ensures { OnOk result (GivesQuestion worker query self.old self.new) }
+    {
+        give(self.desks.as_mut_slice(), worker, query)?;
+        self.begun = true;
+        Ok(())
+    }
+
+    /// Ends the round: publishes its loads, answers its questions, and writes all its lines.
+    pub(crate) fn answer<T: Threads + Wait + Sync, W: Sink>(
+        &mut self,
+        rt: &T,
+        alloc: Global,
+        writer: &mut W,
+    ) -> Result<(), ScriptKind>
+        requires book { HaveBook self.old.store.seen self.old.desks }
+        requires count { (1 ≤ length self.old.desks) × (length self.old.desks ≤ 16) }
+        ensures ok { let output = output_seen W.contents W.failures in
+            IfOk result (λ _. AnswersRound self.old self.new (output writer.old) (output writer.new)) }
+        ensures fault { let output = output_seen W.contents W.failures in
+            IfErr result (λ kind. FailsToAnswer (output writer.old) (output writer.new) kind) }
+    {
+        finish(
+            rt,
+            alloc,
+            &mut self.publisher,
+            &mut self.desks,
+            &mut self.held,
+        )?;
+        if writer.write_all(self.held.as_slice()).is_err() {
+            return Err(ScriptKind::WriteFault);
+        }
+        self.held.clear();
+        self.begun = false;
+        Ok(())
+    }
+
+    /// Does what was heard. Only the end of a round is answered.
+    pub(crate) fn respond<T: Threads + Wait + Sync, W: Sink>(
+        &mut self,
+        rt: &T,
+        alloc: Global,
+        thing: Heard,
+        writer: &mut W,
+    ) -> Result<(), ScriptKind>
+        requires room { HasRoom self.old.store }
+        requires book { HaveBook self.old.store.seen self.old.desks }
+        requires count { (1 ≤ length self.old.desks) × (length self.old.desks ≤ 16) }
+        ensures ok { let output = output_seen W.contents W.failures in
+            IfOk result (λ _. Responds thing self.old self.new (output writer.old) (output writer.new)) }
+        ensures fault { let output = output_seen W.contents W.failures in
+            IfErr result (λ kind. FailsToAnswer (output writer.old) (output writer.new) kind) }
+    {
+        match thing {
+            Heard::Nothing => Ok(()),
+            Heard::Load(job) => Ok(self.load(alloc, job)?),
+            Heard::Ask { worker, query } => Ok(self.ask(worker, query)?),
+            Heard::Go => self.answer(rt, alloc, writer),
+        }
+    }
+}

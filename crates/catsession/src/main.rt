@@ -1,0 +1,118 @@
+//! The program `catsession`: it reads its words, and hands standard input and standard output to
+//! `catserve::run_session`. It ends with the exit status 0 or 1.
+#![tactic(auto)]
+
+mod words;
+
+use crate::words::{Asked, WordsFault, read_words};
+use catserve::{ScriptKind, SessionFault, run_session};
+use devices::{Reading, Sink, Writing};
+use std::alloc::Global;
+use std::io;
+use std::process::ExitCode;
+
+/// What `--help` prints.
+const HELP: &str = "\
+Usage: catsession [--workers N] < INPUT
+
+Answers a script of loads and questions round by round, while it comes. The
+lines that a round writes are out before the next line is waited for.
+
+      --workers N  so many workers, 1 to 16; then no line `workers` may come
+  -h, --help       print this help
+
+The lines of a script are described in FORMATS.md and in catserve(1).
+";
+
+fn main(rt: HostRuntime) -> ExitCode {
+    let alloc = rt.alloc();
+    let mut writer = Writing::new(rt.stdout());
+    let mut errors = Writing::new(rt.stderr());
+    let words = match std::env::args(&rt) {
+        Ok(args) => args,
+        Err(error) => return refuse(&error, &mut errors),
+    };
+    let Ok(words) = words.collect(alloc) else {
+        return fail("catsession: out of memory\n", &mut errors);
+    };
+    let workers = match read_words(words.as_slice()) {
+        Ok(Asked::Session(workers)) => workers,
+        Ok(Asked::Help) => return help(&mut writer, &mut errors),
+        Err(fault) => return refuse_words(alloc, fault, &mut errors),
+    };
+    let mut reader = Reading::new(rt.stdin());
+    match run_session(&rt, alloc, workers, &mut reader, &mut writer) {
+        Ok(()) => ExitCode::SUCCESS,
+        Err(fault) => {
+            tell(alloc, fault, &mut errors);
+            ExitCode::FAILURE
+        }
+    }
+}
+
+fn fail<E: Sink>(line: &str, errors: &mut E) -> ExitCode {
+    let _written = errors.write_all(line.as_bytes());
+    ExitCode::FAILURE
+}
+
+/// Words that can't be had: one of them isn't UTF-8, or there is no memory for them.
+fn refuse<E: Sink>(error: &io::Error, errors: &mut E) -> ExitCode {
+    match error.kind() {
+        io::ErrorKind::OutOfMemory => fail("catsession: out of memory\n", errors),
+        _ => fail("catsession: a word is not UTF-8\n", errors),
+    }
+}
+
+fn help<W: Sink, E: Sink>(writer: &mut W, errors: &mut E) -> ExitCode {
+    match writer.write_all(HELP.as_bytes()) {
+        Ok(()) => ExitCode::SUCCESS,
+        Err(_) => fail("catsession: cannot write output\n", errors),
+    }
+}
+
+/// Words that ask for nothing.
+fn refuse_words<E: Sink>(alloc: Global, fault: WordsFault<'_>, errors: &mut E) -> ExitCode {
+    let line = match fault {
+        WordsFault::NoCount => {
+            return fail(
+                "catsession: --workers takes a number from 1 to 16\n",
+                errors,
+            );
+        }
+        WordsFault::Unknown(word) => format!(in alloc; "catsession: unknown word {word}\n"),
+    };
+    match line {
+        Ok(line) => fail(line.as_str(), errors),
+        Err(_) => fail("catsession: out of memory\n", errors),
+    }
+}
+
+/// The text of a fault.
+fn text_of(kind: ScriptKind) -> &'static str {
+    match kind {
+        ScriptKind::TooLarge => "round too large",
+        ScriptKind::NotUtf8 => "not UTF-8",
+        ScriptKind::BadLine => "bad line",
+        ScriptKind::ReadFault => "cannot read input",
+        ScriptKind::WriteFault => "cannot write output",
+        ScriptKind::NoPlace => "no place for a reader",
+        ScriptKind::Closed => "store closed",
+        ScriptKind::Join => "no thread",
+        ScriptKind::Memory => "out of memory",
+    }
+}
+
+/// Tells a fault in one line, with its line where it has one. Where there is no memory for that, the line is that of
+/// want of memory.
+fn tell<E: Sink>(alloc: Global, fault: SessionFault, errors: &mut E) {
+    let (text, line) = (text_of(fault.kind), fault.line);
+    let said = if line == 0 {
+        format!(in alloc; "catsession: {text}\n")
+    } else {
+        format!(in alloc; "catsession:{line}: {text}\n")
+    };
+    let _written = match said {
+        Ok(said) => errors.write_all(said.as_bytes()),
+        Err(_) => errors.write_all(b"catsession: out of memory\n"),
+    };
+}
