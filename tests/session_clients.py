@@ -1,20 +1,23 @@
 #!/usr/bin/env python3
-"""The Python client of examples/python over a live session: a table of steps with their answers, and the application,
-which is asked by 8 threads while its catalogues are replaced 100 times.
+"""The Python client of examples/python over a live session: a table of steps with their answers, the lines of README,
+and the application, which is asked by 8 threads while its catalogues are replaced 100 times.
 
     tests/session_clients.py PROGRAM      prints lines `ok ..` and `FAILED ..`
 """
 import http.client
+import os
+import re
 import sys
 import tempfile
 import threading
 from pathlib import Path
 
-sys.path.insert(0, str(Path(__file__).parent.parent / "examples/python"))
+TOP = Path(__file__).resolve().parent.parent
+sys.path.insert(0, str(TOP / "examples/python"))
 from application import Application, Catalogues, languages_of, serve  # noqa: E402
 from session import LoadRefused, MOST_LINES, Session, SessionEnded  # noqa: E402
 
-PROGRAM = sys.argv[1]
+PROGRAM = os.path.abspath(sys.argv[1])
 THREADS, REPLACEMENTS = 8, 100
 
 POLISH = rb"""msgid ""
@@ -129,6 +132,28 @@ def steps():
             if (got := taken(session, call, words)) != wanted:
                 wrong.append(f"step {number}, {call}{str(words)[:80]}: {got} and not {wanted}")
     report("the Python client", wrong[:3], f": {len(STEPS)} steps")
+
+
+def readme():
+    """Each line of README's block does what the comment behind it says, where that is a value."""
+    block = re.search(r"^```python\n(.*?)^```", (TOP / "README.md").read_text(), re.M | re.S)[1]
+    names, wrong, here, path = {}, [], os.getcwd(), os.environ["PATH"]
+    with tempfile.TemporaryDirectory() as room:
+        (Path(room) / "catsession").symlink_to(PROGRAM)
+        (Path(room) / "fr.po").write_text('msgid "basket"\nmsgstr "panier"\n')
+        os.chdir(room)
+        os.environ["PATH"] = f"{room}:{path}"
+        for line in block.splitlines():
+            code, _, said = line.partition("#")
+            if found := re.match(r"\s*(Answer\(.*\)|\d+)", said):
+                got = eval(code, names)
+                wrong += [] if repr(got) == found[1] else [f"{code.strip()} is {got}"]
+            else:
+                exec(code, names)
+        names["session"].close()
+        os.chdir(here)
+        os.environ["PATH"] = path
+    report("the lines of README", wrong, f": {len(block.splitlines())} lines")
 
 
 def ends():
@@ -287,7 +312,7 @@ def watcher():
     report("the application's second thread", wrong)
 
 
-for test in (steps, ends, accepted, application, watcher):
+for test in (steps, readme, ends, accepted, application, watcher):
     try:
         test()
     except Exception as fault:  # noqa: BLE001 (a test that breaks has failed)
