@@ -6,8 +6,8 @@
         answer = session.gettext("shop", "fr_CA:de", "basket")
         print(answer.text, answer.version)
 
-A text with a tab or an LF where a name has to stand, and a number that is negative, are a ValueError, and so is a PO
-text that isn't UTF-8: nothing of it is sent, and the session goes on.
+A name with a tab or an LF, a number that is negative and a PO text that isn't UTF-8 are a ValueError. Nothing of them is
+sent, and the session goes on.
 """
 from __future__ import annotations
 
