@@ -19,6 +19,8 @@ from pathlib import Path
 
 DEADLINE = 20.0  # seconds for an answer
 MOST_BYTES = 20_000  # of a script that is fed byte by byte
+MOST_LATE = 2  # rows without an answer in time, before the others are left out
+SILENCE = 0.005  # seconds in which nothing may be written before a round has ended
 
 
 class Late(Exception):
@@ -129,6 +131,7 @@ def feed_rounds(fed, script):
     for lines, count in rounds_of(script):
         fed.send(b"".join(lines[:-1]))
         fed.wait_taken()
+        time.sleep(SILENCE)
         if fed.lines != total:
             raise Late(f"{fed.lines} lines were written before the round had ended, and not {total}")
         fed.send(lines[-1])
@@ -160,11 +163,13 @@ def judge_row(program, row):
     words = (row / "words").read_text().split() if (row / "words").exists() else []
     wanted = (1 if err else 0, out, err)
     wrong = [(way, got) for way, got in answers(program, words, script, not err) if got != wanted]
+    late = any(isinstance(got, str) for _, got in wrong)
     if wrong:
         way, got = wrong[0]
         print(f"FAILED session, {name.decode()}: {way}: {str(got)[:300]} and not {str(wanted)[:300]}")
     else:
         print(f"ok session, {name.decode()}")
+    return late
 
 
 def as_catserve(program):
@@ -208,8 +213,12 @@ def many(program, rounds):
 def main():
     program, what, *words = sys.argv[1:]
     if what == "rows":
+        late = 0
         for row in sorted(Path(words[0]).iterdir()):
-            judge_row(program, row)
+            late += judge_row(program, row)
+            if late > MOST_LATE:
+                print("FAILED session, other rows: left out, since these were late")
+                return
     elif what == "catserve":
         as_catserve(program)
     elif what == "many":
