@@ -171,13 +171,17 @@ cat > "$room/as_catserve" << END
 exec python3 -B '$PWD/tests/session.py' '$session' catserve
 END
 chmod +x "$room/as_catserve"
-# (that script looks for bin/msgfmt too, and doesn't run it)
-CATSERVE=$room/as_catserve MSGFMT=$room/as_catserve tests/languages.sh < /dev/null > "$room/languages" 2>&1
-if grep -v '^ok ' "$room/languages" > "$room/wrong" || [ ! -s "$room/languages" ]; then
-  failed 'session, lists of languages' "$(head -n 3 "$room/wrong" | tr '\n' ' ')"
-else
-  ok "session, lists of languages: $(wc -l < "$room/languages") questions"
-fi
+# by_session NAME SCRIPT: the lines of another script of tests/, in which the session takes the place of catserve
+by_session() {
+  CATSERVE=$room/as_catserve "tests/$2.sh" < /dev/null > "$room/lines" 2>&1
+  if grep -v '^ok ' "$room/lines" > "$room/wrong" || [ ! -s "$room/lines" ]; then
+    failed "session, $1" "$(head -n 3 "$room/wrong" | tr '\n' ' ')"
+  else
+    ok "session, $1: $(wc -l < "$room/lines") lines"
+  fi
+}
+by_session 'lists of languages' languages
+by_session 'PO texts that are loaded and asked' texts
 
 # --- clients
 
