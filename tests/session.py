@@ -20,6 +20,7 @@ from pathlib import Path
 DEADLINE = 20.0  # seconds for an answer
 MOST_BYTES = 20_000  # of a script that is fed byte by byte
 MOST_LATE = 2  # rows without an answer in time, before the others are left out
+MOST_GROWTH = 512  # kB from a tenth of many rounds to their end
 SILENCE = 0.005  # seconds in which nothing may be written before a round has ended
 
 
@@ -204,7 +205,7 @@ def many(program, rounds):
     last = out[-200:].decode().splitlines()[-1]
     if (status, err, last) != (0, b"", f"0\t{rounds // 100}\tpanier"):
         print(f"FAILED session, {rounds} rounds: status {status}, {err}, the last line is {last}")
-    elif peaks[-1] > peaks[0] + 256:
+    elif peaks[-1] > peaks[0] + MOST_GROWTH:
         print(f"FAILED session, {rounds} rounds: {peaks} kB were held at each tenth")
     else:
         print(f"ok session, {rounds} rounds: {peaks[0]} kB were held behind a tenth of them, and {peaks[-1]} at the end")

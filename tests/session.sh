@@ -5,7 +5,7 @@
 no_program=1
 . "$(dirname "$0")/common"
 
-session=$(realpath "${SESSION:-bin/catsession}")
+session=$(realpath -m "${SESSION:-bin/catsession}")
 if [ ! -x "$session" ]; then
   failed session "there is no $session: make builds it"
   exit 0
@@ -60,6 +60,7 @@ row 'a load that the end cuts' "$round${ask}load\tapp\tfr\t-\t3\nmsgid \"hi\"\n"
 row 'lines of texts and comments are counted' "# one\n\n$round\n# nine\n${round}stop" \
   "${answered}accepted\t1\t0\t0\nversion\t2\n0\t2\tsalut\n" 'catsession:15: bad line'
 row 'a line that is not UTF-8' "${round}go\n\377\ngo\n" "${answered}version\t1\n" 'catsession:7: not UTF-8'
+row 'a text that is not UTF-8' "$round${ask}load\tapp\tfr\t-\t2\n# x\n# \303x\ngo\n" "$answered" 'catsession:7: not UTF-8'
 row 'a comment that is not UTF-8' "$round# \303\n" "$answered" 'catsession:6: not UTF-8'
 row 'a bad line before one that is not UTF-8' "${round}stop\n\377\n" "$answered" 'catsession:6: bad line'
 row 'a text that is refused' "load\tapp\tfr\t-\t1\nmsgid\n${ask}go\n$round" \
@@ -107,7 +108,7 @@ runs < <(printf 'go\n' && comment 40000000 && comment 40000000)
 says 'two lines over the limit of a round' 1 'version\t0\n' 'catsession:3: round too large'
 text() { printf 'load\tapp\tfr\t-\t40\n' && for _ in $(seq 40); do comment 1000000; done; }
 runs < <(printf 'go\n' && text && text)
-says 'two loads over the limit of a round' 1 'version\t0\n' 'catsession:(43|[67][0-9]): round too large'
+says 'two loads over the limit of a round' 1 'version\t0\n' 'catsession:43: round too large'
 runs < <(comment 67108000 && echo go && comment 67108000 && printf 'ask\t0\ta\tb\tgettext\tx\ngo\n')
 says 'two rounds below the limit, which are together above it' 0 'version\t0\nversion\t0\n0\t0\tx\n' ''
 

@@ -5,6 +5,7 @@
  * Each round has so many questions, each for another message than the one before. So many rounds are sent at once, and
  * then waited for. Prints the seconds that they took, and the peak of memory of the program behind each tenth, in kB.
  */
+#include <signal.h>
 #include <stdarg.h>
 #include <stdio.h>
 #include <stdlib.h>
@@ -47,6 +48,7 @@ static void start(char **words) {
     dup2(output[1], 1);
     close(input[1]);
     close(output[0]);
+    signal(SIGPIPE, SIG_DFL);
     execvp(words[0], words);
     _exit(127);
   }
@@ -116,6 +118,7 @@ int main(int count, char **words) {
   int questions = atoi(words[3]);
   is_echo = strcmp(words[1], "echo") == 0;
   if (rounds < 10 || at_once < 1 || rounds % (10 * at_once)) stop("each tenth has to have whole turns");
+  signal(SIGPIPE, SIG_IGN);
   start(words + 5);
   if (!is_echo) {
     add_load();
