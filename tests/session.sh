@@ -147,15 +147,15 @@ tells() {
   cmp -s "$room/in" "$room/left" || failed "session, $name" 'something was read'
 }
 
-number='catsession: --workers takes a number from 1 to 16'
+no_number='catsession: --workers takes a number from 1 to 16'
 tells 'an unknown word' 'catsession: unknown word gone' gone
 tells 'an unknown option' 'catsession: unknown word --worker' --worker 2
 tells 'an unknown letter' 'catsession: unknown word -w' -w
 tells 'a file as a word' 'catsession: unknown word examples/shop\.script' examples/shop.script
 tells 'a second number' 'catsession: unknown word 3' --workers 2 3
 tells 'an unknown word behind the number' 'catsession: unknown word x y' --workers 2 'x y'
-tells '--workers without a number' "$number" --workers
-for it in 0 17 '' x -1 +2 1.5 '2 ' 18446744073709551617; do tells "--workers '$it'" "$number" --workers "$it"; done
+tells '--workers without a number' "$no_number" --workers
+for it in 0 17 '' x -1 +2 1.5 '2 ' 18446744073709551617; do tells "--workers '$it'" "$no_number" --workers "$it"; done
 for it in -h --help; do
   runs "$it" < /
   if [ $status = 0 ] && [ ! -s "$room/err" ] && grep -q -e '--workers' "$room/out"; then
