@@ -184,6 +184,15 @@ by_session() {
 by_session 'lists of languages' languages
 by_session 'PO texts that are loaded and asked' texts
 
+catserve=${CATSERVE:-bin/catserve}
+bench/scripts/make_script.py 2000000 > "$room/script"
+if "$catserve" < "$room/script" > "$room/wanted" && runs < "$room/script" && cmp -s "$room/out" "$room/wanted" &&
+  [ "$status" = 0 ] && [ "$(wc -l < "$room/wanted")" = 101100 ]; then
+  ok 'session, 1,000 loads and 100,000 questions in 100 rounds, as catserve'
+else
+  failed 'session, 1,000 loads and 100,000 questions' "$(cmp "$room/out" "$room/wanted" 2>&1) $(head -c 300 "$room/err")"
+fi
+
 # --- clients
 
 python3 -B tests/session_clients.py "$session"
