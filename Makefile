@@ -2,7 +2,7 @@
 #
 #   make            builds the programs into bin/ and compiles the PO files of examples/ with them
 #   make check      every check: the proofs and tests of the gate (rt ci), then the scripts of tests/
-#   make bench      times bin/msgfmt beside GNU msgfmt; N=7 says how many rounds
+#   make bench      times bin/msgfmt beside GNU msgfmt, scripts and a session; N=7 says how many rounds
 #   make library    builds libkobdzila, the look-ups for C, into build/lib, where there is a C compiler; `make` does too
 #   make install    installs the programs, their man pages and completions under PREFIX (/usr/local), below DESTDIR
 #                   where it is given. PROGRAM_PREFIX=kob- names them kob-msgfmt and so on, beside GNU's. The library is
@@ -22,9 +22,10 @@ RT = rt
 export RT
 
 EXAMPLES = fr pl
-PROGRAMS = msgfmt catserve
+PROGRAMS = msgfmt catserve catsession
 SCRIPTS = msgfmt-or-gnu
 PAGES = $(PROGRAMS) $(SCRIPTS)
+COMPLETED = msgfmt catsession
 
 bindir = $(DESTDIR)$(PREFIX)/bin
 mandir = $(DESTDIR)$(PREFIX)/share/man/man1
@@ -62,6 +63,7 @@ check:
 bench: programs
 	@bench/run --rounds $(N)
 	@bench/scripts/run $(N)
+	@bench/session/run $(N)
 
 # (the pages and the completions name the programs and the documents as they are installed; without a program `strip`
 # the programs keep their symbols)
@@ -81,8 +83,10 @@ install: $(PROGRAMS:%=bin/%)
 	  chmod 644 "$(mandir)/$(PROGRAM_PREFIX)$$name.1" || exit 1; \
 	done
 	install -m 644 docs/FORMATS.md "$(docdir)/FORMATS.md"
-	$(completions) > "$(completiondir)/$(PROGRAM_PREFIX)msgfmt"
-	chmod 644 "$(completiondir)/$(PROGRAM_PREFIX)msgfmt"
+	for name in $(COMPLETED); do \
+	  $(completions) > "$(completiondir)/$(PROGRAM_PREFIX)$$name" || exit 1; \
+	  chmod 644 "$(completiondir)/$(PROGRAM_PREFIX)$$name" || exit 1; \
+	done
 	if [ -f build/lib/$(SHARED) ]; then $(MAKE) -s install_library; fi
 
 install_library:
@@ -103,7 +107,8 @@ uninstall_library:
 uninstall: uninstall_library
 	for name in $(PROGRAMS) $(SCRIPTS); do rm -f "$(bindir)/$(PROGRAM_PREFIX)$$name"; done
 	for name in $(PAGES); do rm -f "$(mandir)/$(PROGRAM_PREFIX)$$name.1"; done
-	rm -f "$(docdir)/FORMATS.md" "$(completiondir)/$(PROGRAM_PREFIX)msgfmt"
+	for name in $(COMPLETED); do rm -f "$(completiondir)/$(PROGRAM_PREFIX)$$name"; done
+	rm -f "$(docdir)/FORMATS.md"
 	-rmdir "$(docdir)" 2> /dev/null
 
 clean:

@@ -2,9 +2,9 @@
 """Compares what the documents, the man pages, the completions and the help say of kinds, numbers, texts, options and
 limits with the code. Prints a line `ok documents: NAME` or `FAILED documents: NAME: WHY` for each rule.
 
-    tests/documents.py [FOLDER [MSGFMT]]
+    tests/documents.py [FOLDER [MSGFMT [CATSESSION]]]
 
-FOLDER is the top of the repository. MSGFMT is the built program, whose help is then looked at, too.
+FOLDER is the top of the repository. MSGFMT and CATSESSION are the built programs, whose help is then looked at, too.
 """
 import re
 import subprocess
@@ -13,9 +13,11 @@ from pathlib import Path
 
 TOP = Path(sys.argv[1] if len(sys.argv) > 1 else ".")
 PROGRAM = sys.argv[2] if len(sys.argv) > 2 else None
+SESSION = sys.argv[3] if len(sys.argv) > 3 else None
 FORMATS = "docs/FORMATS.md"
 MSGFMT_PAGE = "docs/man/msgfmt.1"
 CATSERVE_PAGE = "docs/man/catserve.1"
+SESSION_PAGE = "docs/man/catsession.1"
 DRIVER_PAGE = "docs/man/msgfmt-or-gnu.1"
 DRIVER = "tools/msgfmt-or-gnu"
 HEADER = "include/kobdzila.h"
@@ -69,7 +71,7 @@ def differences(what, found, wanted):
 LOADS = ("crates/po_checks/src/fault.rt", "LoadKind")
 TEXTS = ("crates/po_text/src/fault.rt", "PoKind")
 FILES = ("crates/mo_file/src/fault.rt", "MoFault")
-SCRIPTS = ("crates/catserve/src/fault.rt", "ScriptKind")
+SCRIPTS = ("crates/script_text/src/fault.rt", "ScriptKind")
 
 
 def numbered(text):
@@ -181,6 +183,10 @@ def options_of_the_code():
     return {f"--{name}" for name in found} | {f"-{letter}" for letter in found.values() if letter} | {"--help", "-h"}
 
 
+def help_of(program):
+    return subprocess.run([program, "--help"], capture_output=True, text=True, check=False).stdout
+
+
 def options_in(text):
     return set(re.findall(r"(?<![\w-])(--?[a-z][\w-]*)", text))
 
@@ -194,8 +200,7 @@ def options():
     completed = re.search(r"local options='([^']*)'", read(COMPLETION))[1]
     found = [(FORMATS, usage), (MSGFMT_PAGE, heads), (COMPLETION, completed)]
     if PROGRAM:
-        told = subprocess.run([PROGRAM, "--help"], capture_output=True, text=True, check=False).stdout
-        found.append(("the help", " ".join(re.findall(r"^ +(-.*?)(?:  |$)", told, re.M))))
+        found.append(("the help", " ".join(re.findall(r"^ +(-.*?)(?:  |$)", help_of(PROGRAM), re.M))))
     short = re.search(r"^\.SH SYNOPSIS\n(.*?)^\.SH", read(MSGFMT_PAGE), re.M | re.S)[1].replace("\\-", "-")
     strange = sorted(options_in(short) - wanted)
     return [why for name, text in found for why in differences(name, options_in(text), wanted)] + (
@@ -203,9 +208,52 @@ def options():
     )
 
 
+def usage_of_a_session():
+    """The options of catsession, as its section shows them."""
+    return options_in(re.search(r"((?:^    .*\n)+)", section(FORMATS, "A session"), re.M)[1])
+
+
+def options_of_a_session():
+    """the options of catsession: rules, man page, completions, help"""
+    wanted, manual = usage_of_a_session(), read(SESSION_PAGE).replace("\\-", "-")
+    short = re.search(r"^\.SH SYNOPSIS\n(.*?)^\.SH", manual, re.M | re.S)[1]
+    heads = " ".join(re.findall(r"^\.TP\n\.BI?R? (.*)$", manual.split(".SH EXIT")[0], re.M))
+    completed = re.search(r"compgen -W '(--workers[^']*)'", read(COMPLETION))[1]
+    found = [(f"{SESSION_PAGE}, its synopsis", short), (SESSION_PAGE, heads), (COMPLETION, completed)]
+    if SESSION:
+        found.append(("the help of catsession", help_of(SESSION)))
+    if named := re.findall(r'"(--?[a-z]+)"', code_of_a_session()):
+        found.append(("the code of catsession", " ".join(named)))
+    return [why for name, text in found for why in differences(name, options_in(text), wanted)]
+
+
+def code_of_a_session():
+    """All code of the crate catsession, without its tests."""
+    files = sorted((TOP / "crates/catsession/src").glob("*.rt"))
+    return "\n".join(path.read_text(encoding="utf-8") for path in files if path.name != "tests.rt")
+
+
+def faults_of_a_session():
+    """the texts of the faults of catsession"""
+    table = rows(section(FORMATS, "A session"))
+    texts = {cell.strip("`") for row in table for cell in row if cell.startswith("`")}
+    manual = re.search(r"^\.TS\n.*?^\.TE$", read(SESSION_PAGE).replace("\\-", "-"), re.M | re.S)[0]
+    here = {line.split(";")[0] for line in manual.splitlines()[3:-1]}
+    words = {"unknown word WORD", "--workers takes a number from 1 to 16"}
+    numbers = len(kinds(*SCRIPTS)) + 1
+    code = code_of_a_session()
+    pages = {FORMATS: " ".join(section(FORMATS, "A session").split()), SESSION_PAGE: page(SESSION_PAGE)}
+    return (
+        differences(SESSION_PAGE, here, texts)
+        + ([f"{FORMATS}: {len(texts)} texts, and {numbers} kinds of fault"] if len(texts) != numbers else [])
+        + [f"{name} has not: {text}" for name, said in pages.items() for text in sorted(words) if text not in said]
+        + [f"the code has not: {text}" for text in sorted(texts | words) if code and text.removesuffix(" WORD") not in code]
+    )
+
+
 def words_of_scripts():
     """the words that begin a line of a script"""
-    wanted = set(re.findall(r'^\s*"(\w+)" => read_\w+\(', read("crates/catserve/src/command.rt"), re.M))
+    wanted = set(re.findall(r'^\s*"(\w+)" => read_\w+\(', read("crates/script_text/src/command.rt"), re.M))
     wanted -= {"gettext", "pgettext", "ngettext", "npgettext"}
     table = rows(section(FORMATS, "Scripts of loads and look-ups"))
     found = {row[0].split("`")[1] for row in table if row[0].startswith("`")}
@@ -224,7 +272,7 @@ def limits():
     rule = constant("crates/po_header/src/lib.rt", "EXPRESSION_LIMIT")
     name = constant("crates/live_set/src/name.rt", "NAME_LIMIT")
     readers = constant("crates/live_versions/src/store.rt", "MOST_READERS")
-    workers = constant("crates/catserve/src/field.rt", "MOST_WORKERS")
+    workers = constant("crates/script_text/src/field.rt", "MOST_WORKERS")
     places = (
         (FORMATS, f"A text has at most {text:,} bytes"),
         (FORMATS, f"At most {text + 1:,} bytes are read"),
@@ -241,12 +289,19 @@ def limits():
         (CATSERVE_PAGE, f"a name of a domain or locale {name} letters"),
         (CATSERVE_PAGE, f"So many workers answer, 1 to {workers}:"),
         (CATSERVE_PAGE, f"There are 1 to {workers} workers"),
+        (FORMATS, f"A round has at most {text:,} bytes"),
+        (FORMATS, f"`catsession: --workers takes a number from 1 to {workers}`"),
+        (SESSION_PAGE, f"A round has at most {text:,} bytes, an MO file {file:,}."),
+        (SESSION_PAGE, f"So many workers answer, from 1 to {workers},"),
+        (SESSION_PAGE, f"--workers takes a number from 1 to {workers}"),
+        (SESSION_PAGE, f"There are 1 to {workers} workers"),
+        ("examples/python/session.py", f"MOST_LINES = {text:_} - "),
         ("docs/LIVE.md", f"one publisher and 1 to {readers} readers"),
         ("README.md", f"from 1 to {readers} threads"),
     )
     wrong = [f"{place} has not: {words}" for place, words in places if words not in plain(place)]
     allowed = {text, text + 1, file}
-    for place in (FORMATS, MSGFMT_PAGE, CATSERVE_PAGE, DRIVER_PAGE):
+    for place in (FORMATS, MSGFMT_PAGE, CATSERVE_PAGE, SESSION_PAGE, DRIVER_PAGE):
         numbers = {int(it.replace(",", "")) for it in re.findall(r"\d{1,3}(?:,\d{3})+", plain(place))}
         wrong += [f"{place}: {it:,} is no limit" for it in sorted(numbers) if it >= LEAST_LIMIT and it not in allowed]
     return wrong
@@ -278,6 +333,8 @@ RULES = (
     lines_of_the_command,
     fields_of_a_header,
     options,
+    options_of_a_session,
+    faults_of_a_session,
     words_of_scripts,
     limits,
     places,

@@ -3,7 +3,12 @@
 # the code (tests/documents.py), and sees that a change in one place alone is found: each line below is such a change.
 . "$(dirname "$0")/common"
 
-python3 -B tests/documents.py . "$program"
+session=${SESSION:-bin/catsession}
+if [ ! -x "$session" ]; then
+  failed documents "there is no $session: make builds it"
+  exit 0
+fi
+python3 -B tests/documents.py . "$program" "$session"
 
 top=$room/repo
 mkdir -p "$top"
@@ -36,7 +41,7 @@ crates/po_checks/src/fault.rt^#[error("duplicate message")]^#[error("message twi
 crates/po_checks/src/fault.rt^    FormCount,^    FormNumber,
 crates/po_text/src/fault.rt^#[error("bad escape")]^#[error("escape")]
 crates/mo_file/src/fault.rt^    NoNul,^    NotClosed,
-crates/catserve/src/fault.rt^#[error("no thread")]^#[error("no threads")]
+crates/script_text/src/fault.rt^#[error("no thread")]^#[error("no threads")]
 crates/msgfmt_tool/src/texts.rt^no input file given^no INPUT
 crates/msgfmt_tool/src/words.rt^.long("output-file")^.long("output")
 crates/msgfmt_tool/src/words.rt^"use-fuzzy", 'f'^"use-fuzzy", 'z'
@@ -47,24 +52,33 @@ crates/mo_image/src/layout.rt^268_435_456^268_435_457
 crates/po_header/src/lib.rt^EXPRESSION_LIMIT: usize = 1000^EXPRESSION_LIMIT: usize = 2000
 crates/live_set/src/name.rt^NAME_LIMIT: usize = 64^NAME_LIMIT: usize = 65
 crates/live_versions/src/store.rt^MOST_READERS: u32 = 16^MOST_READERS: u32 = 32
-crates/catserve/src/field.rt^MOST_WORKERS: u64 = 16^MOST_WORKERS: u64 = 32
-crates/catserve/src/command.rt^"loadmo" => ^"load_mo" => 
+crates/script_text/src/field.rt^MOST_WORKERS: u64 = 16^MOST_WORKERS: u64 = 32
+crates/script_text/src/command.rt^"loadmo" => ^"load_mo" => 
 docs/FORMATS.md^| 9 | Duplicate ^| 10 | Duplicate 
 docs/FORMATS.md^`newlines differ`^`newline differs`
 docs/FORMATS.md^| 10 | Charset | the kept^| 9 | Charset | the kept
 docs/FORMATS.md^--statistics^--stats
 docs/FORMATS.md^67,108,864^67,108,863
 docs/FORMATS.md^no place for a reader^no room for a reader
+docs/FORMATS.md^catsession [--workers N]^catsession [--worker N]
+docs/FORMATS.md^`store closed`^`the store closed`
+docs/FORMATS.md^unknown word WORD^no such word WORD
+docs/FORMATS.md^A round has at most 67,108,864^A round has at most 67,108,863
 docs/man/msgfmt.1^\-\-no\-hash ]^\-\-nohash ]
 docs/man/msgfmt.1^\-\-verbose^\-\-loud
 docs/man/msgfmt.1^1,000 bytes^1,001 bytes
 docs/man/catserve.1^.B loadmo^.B loadMO
 docs/man/catserve.1^8;no thread^7;no thread
 docs/man/catserve.1^16 workers^17 workers
+docs/man/catsession.1^.BI \-\-workers^.BI \-\-threads
+docs/man/catsession.1^round too large;^round is too large;
+docs/man/catsession.1^an MO file 268,435,456^an MO file 268,435,455
+docs/man/catsession.1^from 1 to 16, and^from 1 to 17, and
 docs/man/msgfmt-or-gnu.1^not UTF\-8^not in UTF\-8
 tools/completion^--use-fuzzy^--fuzzy
 include/kobdzila.h^KOB_MO_ORDER = 9^KOB_MO_ORDER = 8
 c/kobdzila.c^"newlines differ"^"lines differ"
+tools/completion^'--workers --help -h'^'--workers --help'
 tools/msgfmt-or-gnu^': unsupported charset'^': charset'
 README.md^`unsupported charset`^`charset`
 README.md^(docs/LIVE.md)^(docs/ALIVE.md)

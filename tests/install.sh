@@ -4,10 +4,12 @@
 . "$(dirname "$0")/common"
 
 catserve=${CATSERVE:-$PWD/bin/catserve}
-if [ ! -x "$catserve" ]; then
-  failed install "there is no $catserve: make builds it"
-  exit 0
-fi
+for it in "$catserve" bin/catsession; do
+  if [ ! -x "$it" ]; then
+    failed install "there is no $it: make builds it"
+    exit 0
+  fi
+done
 
 # made PREFIX WORD..: runs make with these words, of an installation of programs with this prefix
 made() {
@@ -20,7 +22,7 @@ made() {
 # pages NAME PREFIX: each program has its page, without a warning, and the file that one of them names is there
 pages() {
   local at=$room/image$room/usr/share/man/man1 page wrong='' documents
-  for page in msgfmt catserve msgfmt-or-gnu; do
+  for page in msgfmt catserve catsession msgfmt-or-gnu; do
     [ -s "$at/$2$page.1" ] || wrong+="no page of $page; "
   done
   if tests/needs mandoc mandoc; then
@@ -33,14 +35,14 @@ pages() {
   if [ -z "$wrong" ]; then ok "$1"; else failed "$1" "$wrong"; fi
 }
 
-# completed PREFIX WORD..: what bash completes the last of these words to, in the order of the alphabet
+# completed PROGRAM WORD..: what bash completes the last of these words to, in the order of the alphabet
 completed() {
   bash -c '. "$1" && shift && name=$1 && COMP_WORDS=("$@") COMP_CWORD=$(($# - 1)) && compopt() { :; } &&
     "_$name" && printf "%s\n" "${COMPREPLY[@]}" | sort | paste -sd " "' - \
-    "$room/image$room/usr/share/bash-completion/completions/$1msgfmt" "$1msgfmt" "${@:2}" 2>&1
+    "$room/image$room/usr/share/bash-completion/completions/$1" "$1" "${@:2}" 2>&1
 }
 
-# completes NAME ANSWER PREFIX WORD..
+# completes NAME ANSWER PROGRAM WORD..
 completes() {
   local answer
   answer=$(cd "$room/words" && completed "${@:3}")
@@ -57,7 +59,8 @@ installed() {
     return
   fi
   if "$bin/$1msgfmt" -o - - < crates/msgfmt/stdin | cmp -s - crates/msgfmt/stdout &&
-    [ "$(echo go | "$bin/$1catserve")" = "$(printf 'version\t0')" ]; then
+    [ "$(echo go | "$bin/$1catserve")" = "$(printf 'version\t0')" ] &&
+    [ "$(echo go | "$bin/$1catsession")" = "$(printf 'version\t0')" ]; then
     ok "$as: the programs run"
   else
     failed "$as: the programs run" 'they answer otherwise'
@@ -73,10 +76,12 @@ installed() {
     failed "$as: stripped" 'it is larger than before'
   fi
   pages "$as: man pages" "$1"
-  completes "$as: an option" '--statistics' "$1" --st
-  completes "$as: options" "$options" "$1" -
-  completes "$as: PO files and folders" 'a.po folder' "$1" ''
-  completes "$as: any FILE" 'a.mo a.po' "$1" -co a
+  completes "$as: an option" '--statistics' "$1msgfmt" --st
+  completes "$as: options" "$options" "$1msgfmt" -
+  completes "$as: PO files and folders" 'a.po folder' "$1msgfmt" ''
+  completes "$as: any FILE" 'a.mo a.po' "$1msgfmt" -co a
+  completes "$as: the options of a session" '--help --workers -h' "$1catsession" ''
+  completes "$as: a number of workers" '1 10 11 12 13 14 15 16' "$1catsession" --workers 1
   made "$1" uninstall
   left=$(find "$room/image" -type f)
   if [ -z "$left" ]; then ok "$as: nothing is left behind uninstall"
