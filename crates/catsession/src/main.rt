@@ -32,8 +32,9 @@ fn main(rt: HostRuntime) -> ExitCode {
         Ok(args) => args,
         Err(error) => return refuse(&error, &mut errors),
     };
-    let Ok(words) = words.collect(alloc) else {
-        return fail("catsession: out of memory\n", &mut errors);
+    let words: Vec<String> = match words.collect(alloc) {
+        Ok(words) => words,
+        Err(_) => return fail("catsession: out of memory\n", &mut errors),
     };
     let workers = match read_words(words.as_slice()) {
         Ok(Asked::Session(workers)) => workers,
