@@ -8,6 +8,8 @@
 #[cfg(test)]
 mod accepted;
 #[cfg(test)]
+mod readme;
+#[cfg(test)]
 mod search;
 #[cfg(test)]
 mod texts;

@@ -4,4 +4,6 @@
 #![tactic(auto)]
 
 #[cfg(test)]
+mod page;
+#[cfg(test)]
 mod tests;

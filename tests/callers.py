@@ -1,0 +1,79 @@
+#!/usr/bin/env python3
+"""Checks that the pages quote what stands in the sources: each program, in a file that its page names, and each clause
+of the tables of docs/CALLERS.md and docs/PROVED.md. Prints `ok callers`, or a line for what isn't there.
+"""
+import re
+import sys
+from pathlib import Path
+
+REFUSED = "// does not compile: "  # such a program is tests/refused_programs.sh's
+BLOCK = re.compile(r"^```rust\n(.*?)^```$", re.M | re.S)
+SOURCE = re.compile(r"`(crates/[\w/]+\.rt)`")
+USE = re.compile(r"^(?:ghost )?use ([^;]*);\n", re.M)
+CLAUSE = re.compile(r"^\|(?: [^|`]* \|)? `(\w+)` \| `([^`]*)`", re.M)
+
+
+def words_of_uses(text):
+    """What `use` lines bring in: each name by its whole path."""
+    words = set()
+    for use in USE.findall(text):
+        path, _, listed = " ".join(use.split()).partition("{")
+        words |= {path + name.strip() for name in listed.rstrip("}").split(",") if name.strip()} or {path}
+    return words
+
+
+def source(name):
+    """A source that a page names. Its own crate is called by its name there."""
+    path = Path(name)
+    return re.sub(r"\buse crate::", f"use {path.parts[1]}::", path.read_text(encoding="utf-8")) if path.exists() else ""
+
+
+def parts(block):
+    """The items of a program, one behind another, without the `use` lines."""
+    return [part.strip("\n") for part in USE.sub("", block).split("\n\n") if part.strip()]
+
+
+def missing_programs(page):
+    """Of each program of a page the first line of what doesn't stand in a source that the page names."""
+    text = page.read_text(encoding="utf-8")
+    sources = [source(name) for name in SOURCE.findall(text)]
+    uses = set().union(*map(words_of_uses, sources))
+    for block in BLOCK.findall(text):
+        if block.startswith(REFUSED):
+            continue
+        yield from (f"use {word}" for word in sorted(words_of_uses(block) - uses))
+        for part in parts(block):
+            if not any(f"\n{part}\n" in it for it in sources):
+                yield part.split("\n", 1)[0]
+
+
+def contracts(name, text):
+    """The heads, up to their bodies, of the functions of this name, each on one line."""
+    return [" ".join(head.split()) for head in re.findall(rf"fn {name}\b.*?\n\s*\{{", text, re.S)]
+
+
+def missing_clauses(page):
+    """The clauses of a page's tables that no function of the name beside them has."""
+    sources = [path.read_text(encoding="utf-8") for path in Path("crates").glob("*/src/*.rt")]
+    quoted = CLAUSE.findall(page.read_text(encoding="utf-8"))
+    if not quoted:
+        yield "a table of clauses"
+    for name, clause in quoted:
+        if not any(clause in head for text in sources for head in contracts(name, text)):
+            yield f"{name}: {clause}"
+
+
+def main():
+    pages = [Path("README.md"), *sorted(Path("docs").glob("*.md"))]
+    missing = [f"{page}: {what}" for page in pages for what in missing_programs(page)]
+    for name in ("docs/CALLERS.md", "docs/PROVED.md"):
+        missing += [f"{name}: {what}" for what in missing_clauses(Path(name))]
+    for what in missing:
+        print(f"FAILED callers: not in the sources: {what}")
+    if not missing:
+        print("ok callers")
+    return bool(missing)
+
+
+if __name__ == "__main__":
+    sys.exit(main())
