@@ -1,6 +1,7 @@
 -- Lines that are taken off an input.
 use Rattle.std.proofs.Common.{◌≡◌, ◌∙◌, refl, sym, ap, subst, ℕ, zero, suc, ◌+◌, ◌-◌, ◌<◌, ◌≤◌, Bool, true, false}
-use Rattle.std.proofs.Common.{List, [], ◌∷◌, ◌++◌, length, take, drop, arith, inl, inr, append_assoc, length-append, Option, Result, Err, IsErrOf}
+use Rattle.std.proofs.Common.{List, [], ◌∷◌, ◌++◌, length, take, drop, arith, inl, inr, append_assoc, length-append}
+use Rattle.std.proofs.Common.{Option, Result, Err, IsErrOf}
 use Rattle.std.proofs.Common.{length-take, length-drop}
 use Rattle.std.specs.List.{concat, onto_first}
 use Rattle.std.specs.Str.{IsUtf8}

@@ -16,7 +16,8 @@ use Rattle.line_input.specs.Incoming.{Incoming, MayCome}
 use Rattle.script_text.specs.Commands.{Line, Loads, line_of}
 use Rattle.script_text.specs.Script.{Command, Load, Ask, Go, RoundValue, Says, IsBad, saying, and_then, commands_from}
 use Rattle.script_text.specs.Script.{script_from, script_of}
-use Rattle.script_text.specs.Gathering.{Gathered, empty_round, nothing, both, gathered, onto_open, going_on, loads_so_far}
+use Rattle.script_text.specs.Gathering.{Gathered, empty_round, nothing, both, gathered, onto_open, going_on}
+use Rattle.script_text.specs.Gathering.{loads_so_far}
 use Rattle.script_text.proofs.Parsing.{skips, too_long, gathers, begins_with}
 use Rattle.catserve.specs.Run.{InputSeen}
 use Rattle.catserve.specs.Session.{round_end, said, HaveEnded}

@@ -123,7 +123,8 @@ talked_ask workers g start old new written worker query talked gives =
       played = talked.played;
       loaded = subst Loads (sym (append-nil g.current.loads))
           (subst Store (sym gives.store) (subst Held (sym gives.held) talked.loaded));
-      asked = asked_more 0 worker worker g.current.questions query old.desks new.desks (omega arith) talked.asked gives.gives;
+      asked = asked_more 0 worker worker g.current.questions query old.desks new.desks (omega arith) talked.asked
+          gives.gives;
       book = subst Readers (sym readers) (subst Seen (sym gives.store) talked.book);
       count = count_of new.desks (readers_of old.desks) readers ∙ sym (count_of old.desks (readers_of old.desks) refl)
           ∙ talked.count;

@@ -3,7 +3,8 @@ use Rattle.std.specs.Prelude.{◌≡◌, ⊤, ℕ, ◌+◌, ◌≤◌, List, [],
 use Rattle.std.specs.List.{AllZip, filter_map, flat_map}
 use Rattle.live_set.specs.Loads.{LoadValue}
 use Rattle.script_text.specs.declared.fault.ScriptKind.{ScriptKind}
-use Rattle.script_text.specs.declared.fault.ScriptKind.TheVariants.{ReadFault, WriteFault, NoPlace, Closed, Join, Memory}
+use Rattle.script_text.specs.declared.fault.ScriptKind.TheVariants.{ReadFault, WriteFault, NoPlace, Closed, Join}
+use Rattle.script_text.specs.declared.fault.ScriptKind.TheVariants.{Memory}
 use Rattle.live_versions.specs.Batches.{joined, version_of}
 use Rattle.live_versions.specs.Seen.{SeenValue}
 use Rattle.live_versions.specs.Store.{StoreValue, accepted}

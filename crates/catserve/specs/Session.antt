@@ -40,8 +40,8 @@ most_lines = 9223372036854775808
 abbrev pub MayFollow : Bool → List ℕ → Type 0
 MayFollow ended text = ended ≡ true → text ≡ []
 
--- The session has answered the rounds that have ended in the lines `front`, the first ones of its input, and has written
--- nothing else. What it has read is a text, of which `rest` stands behind those lines, and what was lost by a fault.
+-- The session has answered the rounds that have ended in the lines `front`, the first ones of its input, and has
+-- written nothing else. What it has read is a text, of which `rest` stands behind those lines, and what a fault lost.
 pub record StopsBehind (given : Option ℕ) (i i' : InputSeen) (o o' : OutputSeen) (front : List (List ℕ))
     (text rest lost : List ℕ) (ended : Bool) : Type 0 where
   pub read : Consumes i.left i'.left (text ++ lost)

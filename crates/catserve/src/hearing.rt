@@ -119,7 +119,8 @@ impl Hearing {
         ensures found { let input = input_seen R.remaining R.reads R.failures in
             IfOk result (λ end. EndsNext (input reader.old) (input reader.new) self.old self.new end) }
         ensures fault { let input = input_seen R.remaining R.reads R.failures in
-            IfErr result (λ fault. HearsNothing (input reader.old) (input reader.new) self.old self.new fault.kind fault.line) }
+            IfErr result (λ fault.
+            HearsNothing (input reader.old) (input reader.new) self.old self.new fault.kind fault.line) }
     {
         if self.number >= MOST_LINES {
             return Err(self.fault_here(ScriptKind::TooLarge));
@@ -142,7 +143,8 @@ impl Hearing {
         requires size { self.old.size + end ≤ 67108864 }
         requires few { self.old.number < most_lines }
         ensures heard { let input = input_seen R.remaining R.reads R.failures in
-            IfOk result (λ bytes. HearsText (input reader.old) (input reader.new) self.old self.new end count bytes.items) }
+            IfOk result (λ bytes.
+            HearsText (input reader.old) (input reader.new) self.old self.new end count bytes.items) }
         ensures fault { let input = input_seen R.remaining R.reads R.failures in
             IfErr result (λ fault.
             HearsNoText (input reader.old) (input reader.new) self.old self.new end count fault.kind fault.line) }

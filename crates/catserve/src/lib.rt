@@ -1,4 +1,5 @@
-//! Runs of scripts of loads and look-ups, and what they write; and `serve`, by which each round of a script is answered.
+//! Runs of scripts of loads and look-ups, and what they write; and `serve`, by which each round of a script is
+//! answered.
 //!
 //! A script is read whole before anything is done. It has rounds: in each round its loads are made and
 //! published, and then the workers look up what the round asks them.

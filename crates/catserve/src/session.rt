@@ -78,11 +78,12 @@ fn converse_by_store<T: Threads + Wait + Sync, R: Source, W: Sink>(
 ///
 /// A round's lines are written and flushed in one piece before the next line is waited for. At the end of the input the
 /// last round is answered too, if a load or a question stands in it. The number of workers may be given; else the first
-/// line that says something may give it, as in a script, or there are two. `NoPlace` is answered where it isn't 1 to 16.
+/// line that says something may give it, as in a script, or there are two. `NoPlace` is answered where it isn't 1 to
+/// 16.
 ///
-/// A round has at most 67,108,864 bytes with the lines behind it that say nothing, a session at most 2^63 lines. After a
-/// fault the rounds that ended before it are answered, and nothing is written of the open one; what a failed write left
-/// is open.
+/// A round has at most 67,108,864 bytes, with the lines in it that say nothing, and a session at most 2^63 lines. After
+/// a fault the rounds that ended before it are answered, and nothing is written of the open one; what a failed write
+/// left is open.
 pub fn run_session<T: Threads + Wait + Sync, R: Source, W: Sink>(
     rt: &T,
     alloc: Global,

@@ -244,7 +244,8 @@ bad_text text workers rest line behind rounds number saw parsed first is bad =
 pub gathers : (workers number : ℕ) (g : Gathered) (commands : List Command) (found : Result (List Command) ℕ)
     → going_on workers g (and_then (Says commands 0) number (λ n. found))
     ≡ going_on workers (fold gathered g commands) found
-gathers workers number g commands (Ok cs) = ap (λ rs. Ok (record { workers = workers; rounds = rs })) (more commands g cs)
+gathers workers number g commands (Ok cs) = ap (λ rs. Ok (record { workers = workers; rounds = rs })) (more commands
+    g cs)
 gathers workers number g commands (Err bad) = refl
 
 pub goes_on : (text : List ℕ) (workers : ℕ) (rest line behind : List ℕ) (old new : Gathered) (number : ℕ)

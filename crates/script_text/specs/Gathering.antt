@@ -5,7 +5,8 @@ use Rattle.std.specs.Prelude.{fold, Some, Result, Ok, Err}
 use Rattle.std.specs.Str.{IsUtf8}
 use Rattle.line_input.specs.Lines.{lines}
 use Rattle.script_text.specs.Commands.{Line}
-use Rattle.script_text.specs.Script.{Command, Load, Ask, Go, RoundValue, round_of, rounds_of, Says, saying, commands_from}
+use Rattle.script_text.specs.Script.{Command, Load, Ask, Go, RoundValue, round_of, rounds_of, Says, saying}
+use Rattle.script_text.specs.Script.{commands_from}
 use Rattle.script_text.specs.Script.{load_count, ScriptValue, script_from, script_of, script}
 
 -- the rounds that have ended, the open one, and whether something stands in it

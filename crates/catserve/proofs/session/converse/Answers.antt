@@ -8,7 +8,8 @@ use Rattle.catserve.proofs.session.converse.Goals as goal
 pub lines-init : goal.lines-init
 lines-init g c = converses_none c.args.workers
     (input_seen g.R.Source.remaining g.R.Source.reads g.R.Source.failures c.args.reader.now)
-    (output_seen g.W.Sink.contents g.W.Sink.failures c.args.writer.now) c.args.hearing.now c.args.talk.now c.requires.number
+    (output_seen g.W.Sink.contents g.W.Sink.failures c.args.writer.now) c.args.hearing.now c.args.talk.now
+    c.requires.number
     c.requires.fresh
 
 pub lines-preserved : goal.lines-preserved
@@ -52,7 +53,8 @@ returns-in_err-thing g c given first b =
     let k : InputSeen = input_seen g.R.Source.remaining g.R.Source.reads g.R.Source.failures c.hear.new.reader in
     let p' = err_from_is_err_and c.from_residual.result c.from_residual.ensures.1 in
     rw (p'.1, p'.2) (none_ends given first i j k o p x c.lines.hearing c.hear.new.self c.args.workers start c.lines.talk
-    c.in_err-thing.field-0.0.kind c.in_err-thing.field-0.0.line c.requires.fresh c.lines.invariant c.in_err-thing.ensures
+    c.in_err-thing.field-0.0.kind c.in_err-thing.field-0.0.line c.requires.fresh c.lines.invariant
+    c.in_err-thing.ensures
     b)
 
 pub returns-in_err-respond : goal.returns-in_err-respond

@@ -46,4 +46,7 @@ returns-in-Err-open_desks g c given first b =
     let i : InputSeen = input_seen g.R.Source.remaining g.R.Source.reads g.R.Source.failures c.args.reader.now in
     let o : OutputSeen = output_seen g.W.Sink.contents g.W.Sink.failures c.args.writer.now in
     let P : SessionFault → Type 0 = λ f. EndsFor given first i o o f.kind f.line in
-    subst P (sym c.from-in-Err-open_desks.ensures) (stops_begun given first i o c.args.hearing.now c.args.workers b, refl)
+    subst P (sym c.from-in-Err-open_desks.ensures) (
+      stops_begun given first i o c.args.hearing.now c.args.workers b,
+      refl,
+    )

@@ -16,7 +16,8 @@ returns-in_err-hearing g c =
 pub returns-in-Some : goal.returns-in-Some
 returns-in-Some g c =
     let i : InputSeen = input_seen g.R.Source.remaining g.R.Source.reads g.R.Source.failures c.args.reader.now in
-    let k : InputSeen = input_seen g.R.Source.remaining g.R.Source.reads g.R.Source.failures c.converse_by_store.new.reader in
+    let k : InputSeen = input_seen g.R.Source.remaining g.R.Source.reads g.R.Source.failures
+    c.converse_by_store.new.reader in
     let o : OutputSeen = output_seen g.W.Sink.contents g.W.Sink.failures c.args.writer.now in
     let q : OutputSeen = output_seen g.W.Sink.contents g.W.Sink.failures c.converse_by_store.new.writer in
     let P : Option ℕ → Type 0 = λ given. Converses given i k o q c.converse_by_store.result in

@@ -26,10 +26,12 @@ returns-in-Err-read_said g c =
     let left = c.left.ensures ∙ ap (λ (x : HearingValue). x.input.left) c.self.view_is in
     let ends = (rw c.in-Some.is at c.in-Ok.ensures.found.line).0 in
     let fault = c.in-Err-read_said.fault in
-    let NotText : List ℕ → Type 0 = λ left. IsErrOf (Unsaid fault) said_fault.NotUtf8 → ¬ IsUtf8 (take c.in-Some.end left) in
+    let NotText : List ℕ → Type 0 = λ left. IsErrOf (Unsaid fault) said_fault.NotUtf8 → ¬ IsUtf8 (take c.in-Some.end
+    left) in
     let Bad : List ℕ → Type 0 = λ left. IsErrOf (Unsaid fault) said_fault.Bad
     → line_of c.args.workers (without_end (take c.in-Some.end left)) ≡ None in
     none_then i j j c.args.workers c.args.self.now c.next_end.new.self c.next_end.new.self c.fault_of_line.result.kind
-    c.fault_of_line.result.line c.in-Ok.ensures.found.stays (hears_none j c.args.workers c.next_end.new.self c.in-Some.end
+    c.fault_of_line.result.line c.in-Ok.ensures.found.stays (hears_none j c.args.workers c.next_end.new.self
+    c.in-Some.end
     c.in-Err-read_said.fault c.fault_of_line.result ends (subst NotText left c.in-Err-read_said.ensures.undecodable)
     (subst Bad left c.in-Err-read_said.ensures.bad) c.fault_of_line.ensures)

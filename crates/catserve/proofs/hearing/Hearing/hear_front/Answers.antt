@@ -46,7 +46,8 @@ front-preserved g c =
     let line = take c.in-Some.end c.next_end.new.self.input.left in
     let P : HearingValue → Type 0 = λ y. HasPassed i k unheard y (front ++ line ∷ []) in (
       front ++ line ∷ [],
-      subst P (sym c.take.ensures) (passed_more i j k unheard c.front.self c.next_end.new.self front c.in-Some.end passed
+      subst P (sym c.take.ensures) (passed_more i j k unheard c.front.self c.next_end.new.self front c.in-Some.end
+          passed
           c.in_ok-end.ensures.found.stays found.0 is.0 is.1),
     )
 

@@ -23,9 +23,12 @@ pub returns-in-Asks : goal.returns-in-Asks
 returns-in-Asks g c workers is =
     let i : InputSeen = input_seen g.R.Source.remaining g.R.Source.reads g.R.Source.failures c.args.reader.now in
     let said = is ∙ ap (λ s. Some (said_value s)) c.in-Asks.is in
-    let P : HearingValue → Type 0 = λ y. Hears i i workers c.args.self.now y (Ask c.in-Asks.worker c.in-Asks.query ∷ []) in
-    subst P (sym c.take-in-Asks.ensures) (hears_line i workers c.args.self.now c.args.end (c.args.self.now.size + c.args.end)
-    (Asks c.in-Asks.worker c.in-Asks.query) (Ask c.in-Asks.worker c.in-Asks.query ∷ []) c.requires.few c.requires.line c.requires.utf8 said
+    let P : HearingValue → Type 0 = λ y. Hears i i workers c.args.self.now y (Ask c.in-Asks.worker c.in-Asks.query ∷
+    []) in
+    subst P (sym c.take-in-Asks.ensures) (hears_line i workers c.args.self.now c.args.end (c.args.self.now.size +
+    c.args.end)
+    (Asks c.in-Asks.worker c.in-Asks.query) (Ask c.in-Asks.worker c.in-Asks.query ∷ []) c.requires.few
+    c.requires.line c.requires.utf8 said
     (λ behind. refl) refl)
 
 pub returns-in-LoadsMo : goal.returns-in-LoadsMo
@@ -39,7 +42,8 @@ returns-in-LoadsMo g c workers is =
     (Load (record { domain = domain; locale = locale; source = Mo bytes }) ∷ []) in
     subst P (sym c.take-in-LoadsMo.ensures) (hears_line i workers c.args.self.now c.args.end
     (c.args.self.now.size + c.args.end) (LoadsMo domain locale bytes)
-    (Load (record { domain = domain; locale = locale; source = Mo bytes }) ∷ []) c.requires.few c.requires.line c.requires.utf8 said
+    (Load (record { domain = domain; locale = locale; source = Mo bytes }) ∷ []) c.requires.few c.requires.line
+    c.requires.utf8 said
     (λ behind. refl) refl)
 
 pub returns-in-Ok : goal.returns-in-Ok
@@ -48,7 +52,8 @@ returns-in-Ok g c workers is =
     let j : InputSeen = input_seen g.R.Source.remaining g.R.Source.reads g.R.Source.failures c.hear_text.new.reader in
     let said = is ∙ ap (λ s. Some (said_value s)) c.in-Loads.is in
     hears_load i j workers c.args.self.now c.hear_text.new.self c.args.end c.in-Loads.count
-    (string_bytes c.in-Loads.domain) (string_bytes c.in-Loads.locale) c.in-Ok.bytes.items c.in-Loads.options c.requires.few said
+    (string_bytes c.in-Loads.domain) (string_bytes c.in-Loads.locale) c.in-Ok.bytes.items c.in-Loads.options
+    c.requires.few said
     c.in-Ok.ensures.heard
 
 pub returns-in-Err : goal.returns-in-Err
@@ -65,5 +70,6 @@ returns-in-Goes g c workers is =
     let i : InputSeen = input_seen g.R.Source.remaining g.R.Source.reads g.R.Source.failures c.args.reader.now in
     let said = is ∙ ap (λ s. Some (said_value s)) c.in-Goes.is in
     let P : HearingValue → Type 0 = λ y. Hears i i workers c.args.self.now (record y { size = 0 }) (Go ∷ []) in
-    subst P (sym (c.self.view_is ∙ c.take-in-Goes.ensures)) (hears_line i workers c.args.self.now c.args.end 0 Goes (Go ∷ [])
+    subst P (sym (c.self.view_is ∙ c.take-in-Goes.ensures)) (hears_line i workers c.args.self.now c.args.end 0 Goes
+    (Go ∷ [])
     c.requires.few c.requires.line c.requires.utf8 said (λ behind. refl) refl)

@@ -131,5 +131,6 @@ returns-clause-heard g c =
     HearsText i j x c.take.new.self c.args.end c.args.count c.in-Ok-copied.bytes.items in
     let Q : HearingValue → Type 0 = λ y. HearsText i j here y c.args.end c.args.count c.in-Ok-copied.bytes.items in
     subst P c.self.view_is (subst Q (sym c.take.ensures)
-    (text_taken i j here after c.args.end c.args.count c.in-Some.text_end c.in-Ok-copied.bytes.items stays line ends utf8
+    (text_taken i j here after c.args.end c.args.count c.in-Some.text_end c.in-Ok-copied.bytes.items stays line ends
+    utf8
     bytes))
