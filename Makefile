@@ -109,7 +109,7 @@ uninstall: uninstall_library
 	for name in $(PAGES); do rm -f "$(mandir)/$(PROGRAM_PREFIX)$$name.1"; done
 	for name in $(COMPLETED); do rm -f "$(completiondir)/$(PROGRAM_PREFIX)$$name"; done
 	rm -f "$(docdir)/FORMATS.md"
-	-rmdir "$(docdir)" 2> /dev/null
+	rmdir "$(docdir)" 2> /dev/null || true
 
 clean:
 	rm -rf bin build crates/*/out

@@ -1,21 +1,9 @@
 /* The library's functions in C: memory, counts of holders, and files. What a catalogue is and what it answers stands in
  * crates/kobdzila_c, whose exports are declared here as Rattle gives them. */
-#include "kobdzila.h"
+#include "held.h"
 
 #include <errno.h>
-#include <stdalign.h>
-#include <stdatomic.h>
-#include <stdint.h>
 #include <stdio.h>
-#include <stdlib.h>
-#include <string.h>
-
-/* What an export holds, and the bytes that it lends. */
-struct held;
-struct lent {
-    const unsigned char *at;
-    size_t len;
-};
 
 size_t kobdzila_size(void);
 void kobdzila_open_mo(const unsigned char *bytes, size_t len, struct held *out);
@@ -28,32 +16,9 @@ void kobdzila_answer(const struct held *held, const unsigned char *context, size
 
 enum { FAULT, LINE, COUNT, FORMS, HAS_CONTEXT, HAS_PLURAL };            /* numbers */
 enum { FILE_BYTES, CONTEXT, MSGID, PLURAL, FORM };                      /* texts */
-enum { GETTEXT = 0, IN_CONTEXT = 1, WITH_NUMBER = 2 };                  /* calls; both are npgettext */
 
 #define MOST_MO 268435456
 #define MOST_PO 67108864
-
-struct kob_catalogue {
-    atomic_size_t holders;
-    alignas(max_align_t) unsigned char held[];
-};
-
-static struct held *held_by(kob_catalogue *c) { return (struct held *)(void *)c->held; }
-
-static const struct held *read_by(const kob_catalogue *c) { return (const struct held *)(const void *)c->held; }
-
-static kob_catalogue *refuse(kob_refusal *why, enum kob_fault fault, unsigned line) {
-    if (why)
-        *why = (kob_refusal){ fault, line };
-    return NULL;
-}
-
-static kob_catalogue *room_for_one(void) {
-    kob_catalogue *c = malloc(sizeof *c + kobdzila_size());
-    if (c)
-        atomic_init(&c->holders, 1);
-    return c;
-}
 
 /* The catalogue that was opened, or NULL and its refusal. */
 static kob_catalogue *opened(kob_catalogue *c, kob_refusal *why) {
@@ -69,7 +34,7 @@ static kob_catalogue *opened(kob_catalogue *c, kob_refusal *why) {
 kob_catalogue *kob_open_mo(const void *bytes, size_t len, kob_refusal *why) {
     if (len > MOST_MO)
         return refuse(why, KOB_MO_TOO_LARGE, 0);
-    kob_catalogue *c = room_for_one();
+    kob_catalogue *c = room_for(kobdzila_size());
     if (!c)
         return refuse(why, KOB_MEMORY, 0);
     kobdzila_open_mo(len ? bytes : "", len, held_by(c));
@@ -79,7 +44,7 @@ kob_catalogue *kob_open_mo(const void *bytes, size_t len, kob_refusal *why) {
 kob_catalogue *kob_open_po(const void *bytes, size_t len, unsigned options, kob_refusal *why) {
     if (len > MOST_PO)
         return refuse(why, KOB_PO_TOO_LARGE, 0);
-    kob_catalogue *c = room_for_one();
+    kob_catalogue *c = room_for(kobdzila_size());
     if (!c)
         return refuse(why, KOB_MEMORY, 0);
     kobdzila_open_po(len ? bytes : "", len, options & KOB_CHECKED, options & KOB_USE_FUZZY, held_by(c));
@@ -124,12 +89,12 @@ kob_catalogue *kob_open_file(const char *name, enum kob_kind kind, unsigned opti
 }
 
 kob_catalogue *kob_retain(kob_catalogue *c) {
-    atomic_fetch_add(&c->holders, 1);
+    add_holder(c);
     return c;
 }
 
 void kob_release(kob_catalogue *c) {
-    if (!c || atomic_fetch_sub(&c->holders, 1) != 1)
+    if (!c || !was_last_holder(c))
         return;
     kobdzila_close(held_by(c));
     free(c);
@@ -141,14 +106,6 @@ static struct lent ask(const kob_catalogue *c, kob_text context, kob_text msgid,
                     call, n, &out);
     return out;
 }
-
-/* A string as a text; a string that is missing is the empty one. */
-static kob_text text_of(const char *string) {
-    return string ? (kob_text){ string, strlen(string) } : (kob_text){ "", 0 };
-}
-
-/* What is found has its NUL, and so a byte at least. */
-static const char *found_or(struct lent found, const char *other) { return found.len ? (const char *)found.at : other; }
 
 const char *kob_gettext(const kob_catalogue *c, const char *msgid) {
     return found_or(ask(c, text_of(""), text_of(msgid), GETTEXT, 0), msgid);
@@ -168,10 +125,7 @@ const char *kob_npgettext(const kob_catalogue *c, const char *context, const cha
 }
 
 kob_text kob_find(const kob_catalogue *c, kob_text context, kob_text msgid, const unsigned long long *n) {
-    uint32_t call = (context.at ? IN_CONTEXT : GETTEXT) | (n ? WITH_NUMBER : GETTEXT);
-    kob_text none = { "", 0 };
-    struct lent found = ask(c, context.at ? context : none, msgid.at ? msgid : none, call, n ? *n : 0);
-    return found.len ? (kob_text){ (const char *)found.at, found.len - 1 } : (kob_text){ NULL, 0 };
+    return found_text(ask(c, present(context), present(msgid), call_of(context, n), n ? *n : 0));
 }
 
 size_t kob_count(const kob_catalogue *c) { return (size_t)kobdzila_number(read_by(c), COUNT, 0); }
@@ -213,5 +167,5 @@ const char *kob_fault_text(enum kob_fault fault) {
         return mo[fault];
     if (fault >= KOB_PO_TOO_LARGE && fault <= KOB_PO_NEWLINE_MISMATCH)
         return po[fault - KOB_PO_TOO_LARGE];
-    return fault == KOB_UNREADABLE ? "file not readable" : "unknown fault";
+    return fault == KOB_UNREADABLE ? "file not readable" : fault == KOB_BAD_NAME ? "not a name" : "unknown fault";
 }

@@ -50,7 +50,8 @@ enum kob_fault {
     KOB_PO_PLURAL_RANGE = 115,
     KOB_PO_FORMAT_MISMATCH = 116,
     KOB_PO_NEWLINE_MISMATCH = 117,
-    KOB_UNREADABLE = 201    /* kob_open_file alone: the file can't be read, and errno says why */
+    KOB_UNREADABLE = 201,   /* kob_open_file, kob_set_open: the file can't be read, and errno says why */
+    KOB_BAD_NAME = 202      /* a text domain or a locale isn't 1 to 64 letters, digits and _ - . @ + */
 };
 
 /* A refusal. */
@@ -125,6 +126,44 @@ kob_text kob_form_at(const kob_catalogue *catalogue, size_t place, size_t form);
 
 /* The one MO file of the catalogue. */
 kob_text kob_mo_file(const kob_catalogue *catalogue);
+
+/* A set of catalogues, each for a text domain and a locale. It never changes, and is let go of when its last holder has
+ * released it; so a program that replaces catalogues makes a new set, and shows it to its threads by one store. */
+typedef struct kob_set kob_set;
+
+/* The set of no catalogues, with one holder. NULL where there is no memory. */
+kob_set *kob_set_new(void);
+
+/* The set with one catalogue more, with one holder. The catalogue takes the place of the one for its text domain and
+ * locale; all others are shared with `set`, which stays as it is. NULL where it is refused (KOB_BAD_NAME, KOB_MEMORY).
+ * Both `set` and `catalogue` remain the caller's. */
+kob_set *kob_set_with(const kob_set *set, const char *domain, const char *locale, const kob_catalogue *catalogue,
+                      kob_refusal *why);
+
+/* The same with the catalogue of the file FOLDER/LOCALE/LC_MESSAGES/DOMAIN.mo, where installed ones stand. The file's
+ * own refusals are those of kob_open_file; `.` and `..` are no names here. */
+kob_set *kob_set_open(const kob_set *set, const char *folder, const char *domain, const char *locale, kob_refusal *why);
+
+/* One holder more, and one holder less, as for a catalogue. */
+kob_set *kob_set_retain(kob_set *set);
+void kob_set_release(kob_set *set);
+
+/* How many catalogues were put into the set, one after another. */
+unsigned long long kob_set_version(const kob_set *set);
+
+/* The translation of a message in a text domain. `languages` is a list of locales, parted by `:` as in the variable
+ * LANGUAGE: the first one whose catalogue has the message gives the answer, by its own rule. */
+const char *kob_set_gettext(const kob_set *set, const char *domain, const char *languages, const char *msgid);
+const char *kob_set_pgettext(const kob_set *set, const char *domain, const char *languages, const char *context,
+                             const char *msgid);
+const char *kob_set_ngettext(const kob_set *set, const char *domain, const char *languages, const char *msgid,
+                             const char *plural, unsigned long long n);
+const char *kob_set_npgettext(const kob_set *set, const char *domain, const char *languages, const char *context,
+                              const char *msgid, const char *plural, unsigned long long n);
+
+/* kob_find in a text domain and a list of languages. */
+kob_text kob_set_find(const kob_set *set, kob_text domain, kob_text languages, kob_text context, kob_text msgid,
+                      const unsigned long long *n);
 
 #ifdef __cplusplus
 }

@@ -1,7 +1,8 @@
 /* Calls libkobdzila. Run by tests/c_library.sh.
  *
  *   c_library calls            each function, and each refusal
- *   c_library threads          4 threads ask while the catalogue is swapped 10,000 times, and the old one released
+ *   c_library threads          4 threads ask while the catalogue is swapped 10,000 times, and the old one released;
+ *                              then the same with sets
  *   c_library refusals MO..    opens each file, with no memory behind its last byte, and prints its refusal's number
  */
 #define _GNU_SOURCE
@@ -14,6 +15,7 @@
 #include <stdlib.h>
 #include <string.h>
 #include <sys/mman.h>
+#include <sys/stat.h>
 #include <unistd.h>
 
 static int wrong;
@@ -89,6 +91,128 @@ static void files(const kob_catalogue *c, const char *name) {
     is("no file", !kob_open_file(name, KOB_MO, 0, &why) && why.fault == KOB_UNREADABLE);
     is("a folder", !kob_open_file("/", KOB_MO, 0, &why) && why.fault == KOB_UNREADABLE);
     kob_release(again);
+}
+
+/* ---- sets */
+
+static kob_set *set_with(kob_set *set, const char *domain, const char *locale, const char *text_of_it) {
+    kob_catalogue *c = kob_open_po(text_of_it, strlen(text_of_it), 0, NULL);
+    kob_refusal why = { KOB_MEMORY, 7 };
+    kob_set *more = kob_set_with(set, domain, locale, c, &why);
+    is("a set with one catalogue more", more && why.fault == KOB_NO_FAULT && why.line == 0);
+    kob_release(c);
+    return more;
+}
+
+static void set_look_ups(const kob_set *set) {
+    const char *missing = "no such message";
+    is("gettext of a set", !strcmp(kob_set_gettext(set, "app", "fr", "file"), "fichier"));
+    is("gettext by a language's territory", !strcmp(kob_set_gettext(set, "app", "sv:fr_CA:de", "file"), "fichier"));
+    is("gettext of a later language", !strcmp(kob_set_gettext(set, "app", "fr:de", "hi"), "hallo"));
+    is("gettext behind C", !strcmp(kob_set_gettext(set, "app", "C:fr", "file"), "file"));
+    is("gettext in another domain", !strcmp(kob_set_gettext(set, "lib", "fr", "file"), "file"));
+    is("gettext of none in a set", kob_set_gettext(set, "app", "fr:de", missing) == missing);
+    is("gettext in no text", kob_set_gettext(set, "app", "\xff", missing) == missing);
+    is("pgettext of a set", !strcmp(kob_set_pgettext(set, "app", "fr", "menu", "Open"), "Ouvrir"));
+    is("pgettext of none in a set", !strcmp(kob_set_pgettext(set, "app", "de", "menu", "Open"), "Open"));
+    is("ngettext of a set, 1", !strcmp(kob_set_ngettext(set, "app", "fr", "file", "files", 1), "fichier"));
+    is("ngettext of a set, 2", !strcmp(kob_set_ngettext(set, "app", "fr", "file", "files", 2), "fichiers"));
+    is("ngettext by the second one's rule", !strcmp(kob_set_ngettext(set, "app", "sv:de", "day", "days", 0), "Tage"));
+    is("ngettext of none in a set", !strcmp(kob_set_ngettext(set, "app", "sv", "x", "y", 0), "y"));
+    is("npgettext of a set", !strcmp(kob_set_npgettext(set, "app", "fr", "disk", "file", "files", 2), "fiches"));
+    is("npgettext of none in a set", !strcmp(kob_set_npgettext(set, "app", "fr", "menu", "file", "files", 1), "file"));
+}
+
+static void set_texts(const kob_set *set) {
+    const kob_text none = { NULL, 0 };
+    unsigned long long two = 2;
+    kob_text found = kob_set_find(set, text("app"), text("fr"), none, text("file"), &two);
+    is("find in a set", same(found, "fichiers") && found.at[found.len] == 0);
+    is("find in a context of a set", same(kob_set_find(set, text("app"), text("fr"), text("menu"), text("Open"), NULL), "Ouvrir"));
+    is("find of none in a set", !kob_set_find(set, text("app"), text("de"), none, text("file"), &two).at);
+    is("find in no domain", !kob_set_find(set, none, text("fr"), none, text("file"), &two).at);
+}
+
+static void set_refusals(const kob_set *set, kob_catalogue *c) {
+    static const char *const names[] = { "", "a b", "a/b", "\xc3\xa9", "\xff",
+        "aaaaaaaaaaaaaaaaaaaaaaaaaaaaaaaaaaaaaaaaaaaaaaaaaaaaaaaaaaaaaaaaa" };
+    for (size_t i = 0; i < sizeof names / sizeof *names; i++) {
+        kob_refusal why = { KOB_NO_FAULT, 0 };
+        is("a domain is no name", !kob_set_with(set, names[i], "fr", c, &why) && why.fault == KOB_BAD_NAME);
+        why.fault = KOB_NO_FAULT;
+        is("a locale is no name", !kob_set_with(set, "app", names[i], c, &why) && why.fault == KOB_BAD_NAME);
+        is("no name, and nobody asks why", !kob_set_with(set, "app", names[i], c, NULL));
+        why.fault = KOB_NO_FAULT;
+        is("a file of no name", !kob_set_open(set, ".", names[i], "fr", &why) && why.fault == KOB_BAD_NAME);
+    }
+    kob_refusal why;
+    is("a file of another folder", !kob_set_open(set, ".", "app", "..", &why) && why.fault == KOB_BAD_NAME);
+    is("no file of a set", !kob_set_open(set, ".", "app", "fr", &why) && why.fault == KOB_UNREADABLE);
+}
+
+/* a catalogue where installed ones stand */
+static void set_files(const kob_set *set, kob_catalogue *c) {
+    kob_text file = kob_mo_file(c);
+    is("folders are made", !mkdir("locale", 0777) && !mkdir("locale/fr", 0777) && !mkdir("locale/fr/LC_MESSAGES", 0777));
+    FILE *f = fopen("locale/fr/LC_MESSAGES/tool.mo", "wb");
+    is("a file is installed", f && fwrite(file.at, 1, file.len, f) == file.len && !fclose(f));
+    kob_set *more = kob_set_open(set, "locale", "tool", "fr", NULL);
+    is("an installed file is found", more && !strcmp(kob_set_gettext(more, "tool", "fr", "file"), "fichier"));
+    kob_set_release(more);
+    f = fopen("locale/fr/LC_MESSAGES/tool.mo", "wb");
+    is("a bad file is installed", f && fwrite("no", 1, 2, f) == 2 && !fclose(f));
+    kob_refusal why;
+    is("a bad file is refused", !kob_set_open(set, "locale", "tool", "fr", &why) && why.fault == KOB_MO_SHORT);
+    unlink("locale/fr/LC_MESSAGES/tool.mo");
+    rmdir("locale/fr/LC_MESSAGES");
+    rmdir("locale/fr");
+    rmdir("locale");
+}
+
+static void sets(void) {
+    kob_set *none = kob_set_new();
+    is("the set of no catalogues", none && kob_set_version(none) == 0 && !strcmp(kob_set_gettext(none, "app", "fr", "a"), "a"));
+    kob_catalogue *fr = kob_open_po(po, strlen(po), KOB_CHECKED, NULL);
+    kob_set *one = kob_set_with(none, "app", "fr", fr, NULL);
+    kob_set *two = set_with(one, "app", "de", "msgid \"hi\"\nmsgstr \"hallo\"\nmsgid \"day\"\nmsgid_plural \"days\"\n"
+                            "msgstr[0] \"Tag\"\nmsgstr[1] \"Tage\"\n");
+    is("versions", kob_set_version(none) == 0 && kob_set_version(one) == 1 && kob_set_version(two) == 2);
+    is("the set before stays", !strcmp(kob_set_gettext(one, "app", "de", "hi"), "hi"));
+    kob_set_release(none);
+    kob_set_release(one);
+    set_refusals(two, fr);
+    set_files(two, fr);
+    kob_release(fr);
+    set_look_ups(two);
+    set_texts(two);
+    kob_set *three = set_with(two, "app", "fr", "msgid \"file\"\nmsgstr \"dossier\"\n");
+    is("a catalogue is replaced", !strcmp(kob_set_gettext(three, "app", "fr", "file"), "dossier"));
+    is("and no other", !strcmp(kob_set_gettext(three, "app", "de", "hi"), "hallo"));
+    is("nor that of the set before", !strcmp(kob_set_gettext(two, "app", "fr", "file"), "fichier"));
+    is("a set is retained", kob_set_retain(three) == three);
+    kob_set_release(three);
+    kob_set_release(two);
+    is("one holder of the set is left", !strcmp(kob_set_gettext(three, "app", "de", "hi"), "hallo"));
+    kob_set_release(three);
+    kob_set_release(NULL);
+}
+
+/* a set of more catalogues than stand in one run of it */
+static void many(void) {
+    kob_set *set = kob_set_new();
+    char bytes[100], locale[20], wanted[20];
+    for (int i = 0; i < 700; i++) {
+        snprintf(locale, sizeof locale, "l%03d", i * 263 % 700);
+        snprintf(bytes, sizeof bytes, "msgid \"a\"\nmsgstr \"%s\"\n", locale);
+        kob_set *more = set_with(set, "app", locale, bytes);
+        kob_set_release(set);
+        set = more;
+    }
+    for (int i = 0; i < 700; i++) {
+        snprintf(wanted, sizeof wanted, "l%03d", i);
+        is("each of 700 catalogues", !strcmp(kob_set_gettext(set, "app", wanted, "a"), wanted));
+    }
+    kob_set_release(set);
 }
 
 /* ---- each refusal */
@@ -235,9 +359,9 @@ static void mo_refusals(void) {
 }
 
 static void fault_texts(void) {
-    for (int fault = KOB_NO_FAULT; fault <= KOB_UNREADABLE; fault++) {
+    for (int fault = KOB_NO_FAULT; fault <= KOB_BAD_NAME; fault++) {
         int known = fault <= KOB_MEMORY || (fault >= KOB_PO_TOO_LARGE && fault <= KOB_PO_NEWLINE_MISMATCH) ||
-                    fault == KOB_UNREADABLE;
+                    fault == KOB_UNREADABLE || fault == KOB_BAD_NAME;
         is("a fault has a text", known == (strcmp(kob_fault_text((enum kob_fault)fault), "unknown fault") != 0));
     }
 }
@@ -256,6 +380,8 @@ static void calls(void) {
     c = kob_open_po(po, strlen(po), KOB_USE_FUZZY, NULL);
     is("fuzzy messages", !strcmp(kob_gettext(c, "hi"), "salut"));
     kob_release(c);
+    sets();
+    many();
     po_refusals();
     mo_refusals();
     fault_texts();
@@ -319,6 +445,69 @@ static void threads(void) {
     kob_release(shown);
 }
 
+/* the same with sets: each has one catalogue more than the last, in the place of the one before */
+
+static kob_set *shown_set;
+
+static kob_set *hold_set(void) {
+    pthread_mutex_lock(&lock);
+    kob_set *set = kob_set_retain(shown_set);
+    pthread_mutex_unlock(&lock);
+    return set;
+}
+
+static void *ask_set(void *arg) {
+    size_t *asked = arg;
+    unsigned long long last = 0;
+    while (!atomic_load(&ended)) {
+        kob_set *set = hold_set();
+        unsigned long long version = kob_set_version(set);
+        const char *wanted = version % 2 ? "one" : "two";
+        if (version < last || strcmp(kob_set_gettext(set, "app", "sv:fr_CA", "a"), wanted) ||
+            strcmp(kob_set_gettext(set, "app", "fr", "b"), wanted) || strcmp(kob_set_gettext(set, "app", "de", "a"), "still"))
+            atomic_store(&ended, 2);
+        last = version;
+        kob_set_release(set);
+        ++*asked;
+    }
+    return NULL;
+}
+
+static kob_set *with_text(const kob_set *set, const char *locale, const char *all) {
+    kob_catalogue *c = of_text(all);
+    kob_set *more = kob_set_with(set, "app", locale, c, NULL);
+    kob_release(c);
+    return more;
+}
+
+static void threads_of_sets(void) {
+    pthread_t ids[THREADS];
+    size_t asked[THREADS] = { 0 };
+    kob_set *none = kob_set_new(), *one = with_text(none, "de", "still");
+    kob_set_release(none);
+    shown_set = with_text(one, "fr", "two");
+    kob_set_release(one);
+    atomic_store(&ended, 0);
+    for (int i = 0; i < THREADS; i++)
+        pthread_create(&ids[i], NULL, ask_set, &asked[i]);
+    for (int i = 0; i < SWAPS && !atomic_load(&ended); i++) {
+        kob_set *next = with_text(shown_set, "fr", i % 2 ? "two" : "one");
+        pthread_mutex_lock(&lock);
+        kob_set *last = shown_set;
+        shown_set = next;
+        pthread_mutex_unlock(&lock);
+        kob_set_release(last);
+    }
+    int none_ended = 0;
+    is("each thread saw whole sets", atomic_compare_exchange_strong(&ended, &none_ended, 1));
+    for (int i = 0; i < THREADS; i++) {
+        pthread_join(ids[i], NULL);
+        is("each thread asked a set", asked[i] > 0);
+    }
+    is("the last set", kob_set_version(shown_set) == 2 + SWAPS);
+    kob_set_release(shown_set);
+}
+
 /* ---- files with no memory behind them */
 
 static void print_refusal(const char *name) {
@@ -347,9 +536,10 @@ int main(int argc, char **argv) {
     const char *what = argc > 1 ? argv[1] : "";
     if (!strcmp(what, "calls"))
         calls();
-    else if (!strcmp(what, "threads"))
+    else if (!strcmp(what, "threads")) {
         threads();
-    else
+        threads_of_sets();
+    } else
         for (int i = 2; i < argc; i++)
             print_refusal(argv[i]);
     return wrong;

@@ -323,6 +323,62 @@ def places():
     return wrong
 
 
+def crates_are_listed():
+    """each crate has its place in README, the map of the code and the table of times"""
+    names = set(re.findall(r"^([a-z]\w*)", read("crates.txt"), re.M))
+    pages = ("README.md", "docs/ARCHITECTURE.md", "docs/GATE.md")
+    return [f"{page} has not: {name}" for page in pages for name in sorted(names) if f"`{name}`" not in read(page)]
+
+
+def definitions_are_listed():
+    """each file of definitions is named in the map of the code, and the private ones as private"""
+    parts = re.findall(r"^## (.+?)\n(.*?)(?=^## |\Z)", read("docs/ARCHITECTURE.md"), re.M | re.S)
+    wrong = []
+    for path in sorted(TOP.glob("crates/*/specs/*.antt")):
+        crate, name = path.parts[-3], path.stem
+        if name == "Lib":
+            continue
+        text = " ".join(part for head, part in parts if crate in re.split(r"[ ,]+", head))
+        told = [sentence for sentence in re.split(r"(?<=\.)\s", text) if f"`{name}`" in sentence]
+        private = any(re.search(r"\bprivate\.$", sentence) for sentence in told)
+        if not told or private != path.read_text(encoding="utf-8").startswith("-- Private: "):
+            wrong.append(f"{crate}: {name}")
+    return wrong
+
+
+MOST_WORDS = 35  # of a sentence
+
+
+def paragraphs(text):
+    """The paragraphs and items of a text of Markdown, each with its line; no headings, tables, programs or quotations."""
+    found, words, first, in_program = [], [], 0, False
+    for number, line in enumerate([*text.split("\n"), ""], 1):
+        bare = line.strip()
+        if bare.startswith("```"):
+            in_program, bare = not in_program, ""
+        if in_program or line.startswith("    ") or bare.startswith(("|", "#", ">")):
+            bare = ""
+        item = re.match(r"(?:[-*]|\d+\.) ", bare)
+        if words and (not bare or item):
+            found.append((first, " ".join(words)))
+            words = []
+        if bare:
+            first = first if words else number
+            words.append(bare[item.end() :] if item else bare)
+    return found
+
+
+def sentences():
+    """no sentence has more than 35 words"""
+    end = re.compile(r'(?:(?<=[.!?])|(?<=[.!?]\*\*)|(?<=[.!?][)"]))\s+(?=[^a-z])')
+    wrong = []
+    for path in sorted([*TOP.glob("*.md"), *TOP.glob("docs/*.md")]):
+        for line, paragraph in paragraphs(path.read_text(encoding="utf-8")):
+            counts = [len(sentence.split()) for sentence in end.split(paragraph)]
+            wrong += [f"{path.name}:{line}: {count} words" for count in counts if count > MOST_WORDS]
+    return wrong
+
+
 RULES = (
     kinds_of_texts,
     kinds_of_files,
@@ -338,6 +394,9 @@ RULES = (
     words_of_scripts,
     limits,
     places,
+    crates_are_listed,
+    definitions_are_listed,
+    sentences,
 )
 
 

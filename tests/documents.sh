@@ -12,7 +12,7 @@ python3 -B tests/documents.py . "$program" "$session"
 
 top=$room/repo
 mkdir -p "$top"
-tar cf - --exclude out ./*.md docs tools tests examples bench include c crates | tar xf - -C "$top"
+tar cf - --exclude out ./*.md crates.txt docs tools tests examples bench include c crates | tar xf - -C "$top"
 if python3 -B tests/documents.py "$top" | grep -q '^FAILED'; then
   failed 'documents, changes' 'a copy of the repository is not as the rules say'
   exit 0
@@ -82,4 +82,7 @@ tools/completion^'--workers --help -h'^'--workers --help'
 tools/msgfmt-or-gnu^': unsupported charset'^': charset'
 README.md^`unsupported charset`^`charset`
 README.md^(docs/LIVE.md)^(docs/ALIVE.md)
+crates.txt^po_text: bstr^po_words: bstr
+docs/ARCHITECTURE.md^`Lexing`, ^
+CONTRIBUTING.md^in one document. The rules^in one document and in no more than this one, and the rules
 END

@@ -149,6 +149,11 @@ class Store:
         self.run.call('ask ', f'gives Ok(({len(self.published)}, "{text}"))', ['gives Err(Memory)', UNCALLED])
         self.run.take(f'  has seen {self.seen}')
 
+    def ask_into(self):
+        text = text_in(self.published, 'fr', 'hi')
+        self.run.call('ask_into ', f'gives Ok({len(self.published)}), "{text}"', ['gives Err(Memory), ""', UNCALLED])
+        self.run.take(f'  has seen {self.seen}')
+
     def settle(self, notice):
         ahead = self.seen > notice
         self.run.take(f'settle, first, gives Err(Ahead {{ seen: {self.seen} }})' if ahead
@@ -194,6 +199,7 @@ def ask(run):
         store.enter()
         store.enter()
         store.ask()
+        store.ask_into()
         store.settle(first)
         store.load('fr', SALUT)
         store.publish()

@@ -1,12 +1,10 @@
 /* Reads an MO file once, and prints 'read' and the number of its entries, or 'refusal' and its number; and then the
    seconds of processor time that this took. tests/hostile.sh runs it. */
-#include <stdint.h>
+#include "kobdzila.h"
+
 #include <stdio.h>
 #include <stdlib.h>
 #include <time.h>
-
-uint64_t bench_mo_refusal(const unsigned char *file, size_t len);
-uint64_t bench_mo_read(const unsigned char *file, size_t len, uint64_t rounds);
 
 static double now(void) {
     struct timespec t;
@@ -25,11 +23,14 @@ int main(int argc, char **argv) {
         return 2;
     fclose(f);
     double start = now();
-    uint64_t refusal = bench_mo_refusal(file, len);
+    kob_refusal why;
+    kob_catalogue *catalogue = kob_open_mo(file, len, &why);
     double seconds = now() - start;
-    if (refusal)
-        printf("refusal %llu, %.2f\n", (unsigned long long)refusal, seconds);
+    if (catalogue)
+        printf("read %zu, %.2f\n", kob_count(catalogue), seconds);
     else
-        printf("read %llu, %.2f\n", (unsigned long long)bench_mo_read(file, len, 1), seconds);
+        printf("refusal %d, %.2f\n", why.fault, seconds);
+    kob_release(catalogue);
+    free(file);
     return 0;
 }

@@ -4,22 +4,20 @@
 # grows with what the strings are together.
 #
 #   tests/hostile.sh              loads files of 30 MB by scripts of bin/catserve (CATSERVE=PATH: of another program)
-#   tests/hostile.sh ARCHIVE      reads files of 60 MB, and ten million tiny entries in 240 MB within 12 seconds, by
-#                                 crates/bench_mo/out/libbench_mo.a, which `rt lib` makes in crates/bench_mo
+#   tests/hostile.sh LIBRARY      opens files of 60 MB, and ten million tiny entries in 240 MB within 12 seconds, by
+#                                 build/lib/libkobdzila.a, which `make library` makes
 no_program=1
 catserve=${CATSERVE:+$(realpath "$CATSERVE")}
-archive=${1:+$(realpath "$1")}
+library=${1:+$(realpath "$1")}
 . "$(dirname "$0")/common"
 catserve=${catserve:-$PWD/bin/catserve}
-read -r -a rt <<< "${RT:-rt}"
 
 if ! command -v python3 > /dev/null; then
   skipped hostile 'no python3'
   exit 0
 fi
-if [ -n "$archive" ]; then
-  kit=$(dirname "$("${rt[@]}" doc)")
-  gcc -O2 -o "$room/hostile" tests/hostile.c "$archive" "$kit/c/liblibc_c.a" || exit 1
+if [ -n "$library" ]; then
+  cc -O2 -Iinclude -o "$room/hostile" tests/hostile.c "$library" || exit 1
 elif [ ! -x "$catserve" ]; then
   failed hostile "there is no $catserve: make builds it"
   exit 1
@@ -27,7 +25,7 @@ fi
 
 # read_file: what is answered of $room/file: 'read N' or 'refusal K', and the seconds behind a comma
 read_file() {
-  if [ -n "$archive" ]; then
+  if [ -n "$library" ]; then
     timeout 60 "$room/hostile" "$room/file"
     return
   fi
@@ -44,11 +42,11 @@ read_file() {
 
 for shape in $(python3 -B tests/make_hostile.py); do
   size=60000000 most=3
-  [ -n "$archive" ] || size=30000000
+  [ -n "$library" ] || size=30000000
   if [ "$shape" = tiny_entries ]; then
     # (four times as large, so that 60 MB stand for ten million entries)
     most=12
-    [ -n "$archive" ] || size=7500000
+    [ -n "$library" ] || size=7500000
   fi
   wanted=$(python3 -B tests/make_hostile.py "$shape" "$size" "$room/file") || exit 1
   name="the hostile file $shape"

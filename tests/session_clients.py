@@ -140,7 +140,7 @@ def readme():
     names, wrong, here, path = {}, [], os.getcwd(), os.environ["PATH"]
     with tempfile.TemporaryDirectory() as room:
         (Path(room) / "catsession").symlink_to(PROGRAM)
-        (Path(room) / "fr.po").write_text('msgid "basket"\nmsgstr "panier"\n')
+        (Path(room) / "examples").symlink_to(TOP / "examples")
         os.chdir(room)
         os.environ["PATH"] = f"{room}:{path}"
         for line in block.splitlines():

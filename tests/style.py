@@ -23,6 +23,38 @@ SHARED_NAMES = (
 )
 
 PRIVATE = "-- Private: "
+MOST_WORDS = 35  # of the sentence that opens a file of specs/
+
+# Crates whose definitions stand on a standard, and those of their files that define words of this project's own.
+ON_A_STANDARD = ("c_signature", "mo_file", "mo_image", "po_checks", "po_header", "po_text")
+OWN_WORDS = {
+    ("po_checks", "Found"),
+    ("po_checks", "Refusal"),
+    ("po_header", "Chain"),
+    ("po_text", "Chain"),
+    ("po_text", "Faults"),
+    ("po_text", "Lawful"),
+    ("po_text", "Progress"),
+    ("po_text", "Views"),
+}
+# The parts of the GNU gettext manual that are cited, by the names that `info gettext NAME` and its pages have.
+PARTS = (
+    "Ambiguities",
+    "Contexts",
+    "Header Entry",
+    "Interface to gettext",
+    "Locale Names",
+    "Locating Catalogs",
+    "MO Files",
+    "PO Files",
+    "Plural forms",
+    "The LANGUAGE variable",
+    "Triggering",
+    "c-format",
+    "msgfmt Invocation",
+)
+MANUAL = re.compile(r'GNU gettext manual, ((?:"[^"]+"(?:: [^;)"]+)?(?:; )?)+)')
+C_STANDARD = re.compile(r"C standard, [67]\.\d")
 SPECS = re.compile(r"crates/(\w+)/specs/(\w+)\.antt")
 IMPORT = re.compile(r"^ *ghost use Rattle\.(\w+)\.specs\.(\w+)(?:\.\{([^}]*)\}| as (\w+)|);", re.M)
 PUBLIC_FUNCTION = re.compile(r"^( *)pub (?:const |unsafe )*fn (\w+)", re.M)
@@ -55,12 +87,69 @@ def first_line(path):
     return read(path).split("\n", 1)[0]
 
 
+def head(path):
+    """The comment that opens a file of specs/, as one line."""
+    lines = []
+    for line in read(path).split("\n"):
+        if not line.startswith("-- "):
+            break
+        lines.append(line[3:])
+    return " ".join(lines)
+
+
+def comments(path):
+    """The comments of a source, each run of lines as one text, with the line on which it begins."""
+    mark, found, words, first = "--" if path.suffix == ".antt" else "//", [], [], 0
+    for number, line in enumerate([*read(path).split("\n"), ""], 1):
+        bare = line.strip()
+        if bare.startswith(mark):
+            first = first if words else number
+            words.append(bare.lstrip("-/! "))
+        elif words:
+            found.append((first, " ".join(words)))
+            words = []
+    return found
+
+
 # --- the rules: each gives what it finds --------------------------------------------------------------------------
 
 
-def files_without_comment():
-    """each file of specs/ begins with a comment"""
-    return [str(path) for path, _, _ in specs() if not first_line(path).startswith("-- ")]
+def files_without_sentence():
+    """each file of specs/ opens with one sentence that says what it defines"""
+    return [str(path) for path, _, _ in specs() if not is_sentence(head(path).removeprefix(PRIVATE[3:]))]
+
+
+def is_sentence(text):
+    """One sentence, beside what stands in brackets: a citation, or an example."""
+    words = re.sub(r"\([^()]*\)", "", text)
+    ends = words.endswith(".") and not re.search(r"[.!?] [A-Z`]", words)
+    return ends and len(words.split()) <= MOST_WORDS
+
+
+def files_without_section():
+    """a file of definitions that stand on a standard opens with the section"""
+    findings = []
+    for path, crate, name in specs():
+        if crate in ON_A_STANDARD and (crate, name) not in OWN_WORDS and not first_line(path).startswith(PRIVATE):
+            text = head(path)
+            if not (MANUAL.search(text) or C_STANDARD.search(text)):
+                findings.append(str(path))
+    return findings
+
+
+def other_words_for_standards():
+    """a standard is cited in one wording, by a part that it has"""
+    findings = []
+    for path in tracked("crates/*/specs/*.antt", "crates/*/src/*.rt"):
+        for number, text in comments(path):
+            cited = [part for found in MANUAL.finditer(text) for part in re.findall(r'"([^"]+)"', found[1])]
+            wrong = [part for part in cited if part not in PARTS]
+            if len(re.findall(r"\bmanual, ?\"", text)) != len(MANUAL.findall(text)):
+                wrong.append("the GNU gettext manual in other words")
+            if len(re.findall(r"C standard,? [67]\.", text)) != len(C_STANDARD.findall(text)):
+                wrong.append("the C standard in other words")
+            findings += [f"{path}:{number}: {it}" for it in wrong]
+    return findings
 
 
 def other_words_for_private():
@@ -167,7 +256,9 @@ def citations():
 
 
 RULES = (
-    files_without_comment,
+    files_without_sentence,
+    files_without_section,
+    other_words_for_standards,
     other_words_for_private,
     private_words_in_public_clauses,
     names_of_two_files,

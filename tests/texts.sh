@@ -25,8 +25,8 @@ fi
 # word NUMBER: 32 bits, the low byte first
 word() { printf '%02x%02x%02x%02x' $(($1 & 255)) $(($1 >> 8 & 255)) $(($1 >> 16 & 255)) $(($1 >> 24 & 255)); }
 
-# mo_file ORIGINAL TRANSLATION ..: the MO file of these entries as the gettext manual has it ("The Format of GNU MO
-# Files"), in hex: the header, a row of length and offset for each original and each translation, and the strings
+# mo_file ORIGINAL TRANSLATION ..: the MO file of these entries as the GNU gettext manual has it ("MO Files"), in
+# hex: the header, a row of length and offset for each original and each translation, and the strings
 mo_file() {
   local count=$(($# / 2)) first=1 k string rows= strings=
   local place=$((28 + 16 * count))

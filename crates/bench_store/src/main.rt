@@ -16,7 +16,9 @@ use crate::languages::publish_languages;
 use crate::lists::time_lists;
 use crate::loads::time_loads;
 use crate::messages::{LANGUAGES, PLAIN, locale_of, po_text, queries};
-use crate::readers::{ask_all, ask_each, enter_many, enter_until, keep_all, look_all};
+use crate::readers::{
+    ask_all, ask_all_into, ask_each, enter_many, enter_until, keep_all, look_all,
+};
 use crate::serving::time_serve;
 use live_set::Query;
 use live_versions::{Lookups, Publisher, open_store};
@@ -261,6 +263,15 @@ fn run_queries<R: Print + Eprint + Clock + Threads + Wait + AllocGlobal + Sync>(
         let start = Instant::now(rt)?;
         let wrong = ask_all(rt.alloc(), reader, queries, rounds);
         print_time(rt, "queries, one reader", start.elapsed(rt)?, turns, wrong)?;
+        let start = Instant::now(rt)?;
+        let wrong = ask_all_into(rt.alloc(), reader, queries, rounds);
+        print_time(
+            rt,
+            "queries into one text, one reader",
+            start.elapsed(rt)?,
+            turns,
+            wrong,
+        )?;
         let start = Instant::now(rt)?;
         let wrong = keep_all(rt.alloc(), reader, queries);
         print_time(

@@ -96,6 +96,20 @@ pub fn ask_all(alloc: Global, reader: &mut Lookups, queries: &[Query], rounds: u
     lost
 }
 
+/// The same, with each answer in the place of the one before it.
+pub fn ask_all_into(alloc: Global, reader: &mut Lookups, queries: &[Query], rounds: u32) -> u64 {
+    let mut text = String::new(alloc);
+    let mut lost: u64 = 0;
+    'rounds: for _ in 0..rounds {
+        'queries: for query in queries {
+            if reader.ask_into(query, &mut text).is_err() {
+                lost = lost.saturating_add(1);
+            }
+        }
+    }
+    lost
+}
+
 /// Makes each query once, and keeps the answers. Counts those that were not answered.
 pub fn keep_all(alloc: Global, reader: &mut Lookups, queries: &[Query]) -> u64 {
     let mut answers = Vec::new(alloc);

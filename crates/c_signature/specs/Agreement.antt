@@ -1,4 +1,4 @@
--- Whether the arguments of a translation agree with those of its original (gettext manual, "c-format").
+-- Whether the arguments of a translation agree with those of its original (GNU gettext manual, "c-format").
 use Rattle.std.specs.Prelude.{◌≡◌, List, ◌++◌}
 use Rattle.c_signature.specs.declared.ArgKind.{ArgKind}
 use Rattle.c_signature.specs.declared.Strictness.{Strictness}

@@ -1,4 +1,5 @@
--- The table of conversions: which length modifiers each may have, and the argument that the pair takes.
+-- The table of conversions: which length modifiers each may have, and the argument that the pair takes (C standard,
+-- 7.21.6.1, 7 and 8).
 use Rattle.std.specs.Prelude.{ℕ, ◌==◌, if◌then◌else◌, List, [], ◌∷◌, codes}
 use Rattle.std.specs.List.{list_any}
 use Rattle.c_signature.specs.declared.Size.{Size}
@@ -42,7 +43,7 @@ abbrev pub alone : Argument → Modifier → Argument
 alone argument (Of Plain) = argument
 alone argument _ = Undefined
 
--- C standard 7.21.6.1, 7 and 8; `C` and `S` are POSIX's, `m` is glibc's
+-- C standard, 7.21.6.1, 7 and 8; `C` and `S` are POSIX's, `m` is glibc's
 abbrev pub table : List (List ℕ × (Modifier → Argument))
 table =
     (codes "di", λ modifier. One (Signed (integer_size modifier)))

@@ -1,4 +1,4 @@
--- Directives (C standard 7.21.6.1, 4 to 9), cut from a text part by part, each part as long as it can be.
+-- Directives, cut from a text part by part, each part as long as it can be (C standard, 7.21.6.1, 4 to 9).
 use Rattle.std.specs.Prelude.{◌≡◌, ℕ, ◌<◌, length, Bool, true, ◌||◌, ◌==◌, List, ◌∷◌, ◌++◌, Option, None, codes}
 use Rattle.std.specs.List.{list_all, list_any}
 use Rattle.std.specs.Char.{is_ascii_digit, is_ascii_uppercase}
@@ -53,7 +53,7 @@ pub record DirectiveAt (d : Directive) (text rest : List ℕ) : Type 0 where
   pub head : HeadAt d.head text behind_head
   pub tail : TailAt d behind_head rest
 
--- ---- macros of <inttypes.h> (C standard 7.8.1), whose sizes differ from system to system
+-- ---- macros of <inttypes.h> (C standard, 7.8.1), whose sizes differ from system to system
 
 abbrev pub is_name_byte : ℕ → Bool
 is_name_byte b = is_ascii_uppercase b || is_ascii_digit b

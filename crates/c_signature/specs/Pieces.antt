@@ -1,4 +1,4 @@
--- The parts of a directive (C standard 7.21.6.1, 4), with the numbers of arguments of POSIX.
+-- The parts of a directive (C standard, 7.21.6.1, 4), with the numbers of arguments of POSIX.
 use Rattle.std.specs.Prelude.{◌≡◌, ℕ, ◌+◌, ◌-◌, ◌*◌, ◌≤◌, Bool, true, ◌&&◌, ◌==◌, nat_le}
 use Rattle.std.specs.Prelude.{List, [], ◌∷◌, ◌++◌, length, Option, None, Some, ◌⊎◌, codes}
 use Rattle.std.specs.List.{fold, list_all, list_any}

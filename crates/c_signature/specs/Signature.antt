@@ -1,4 +1,5 @@
--- The argument list of a C format, and the two other outcomes of a text.
+-- The argument list of a C format, and the two other outcomes of a text (C standard, 7.21.6.1; GNU gettext manual,
+-- "c-format").
 use Rattle.std.specs.Prelude.{◌≡◌, ℕ, ◌+◌, ◌<◌, Bool, true, not, ◌==◌, List, []}
 use Rattle.std.specs.Prelude.{◌∷◌, ◌++◌, length, map, Option, None, Some, ◌⊎◌, Contains, slice_get}
 use Rattle.std.specs.List.{list_all, flat_map}
@@ -21,17 +22,17 @@ pub record Request : Type 0 where
 abbrev pub request : Option ℕ → ArgKind → Request
 request number kind = record { number = number; kind = kind }
 
--- C standard 7.21.6.1, 5: a `*` takes an `int`
+-- C standard, 7.21.6.1, 5: a `*` takes an `int`
 abbrev pub amount_requests : Amount → List Request
 amount_requests Fixed = []
 amount_requests (Asked number) = request number (Signed Plain) ∷ []
 
--- C standard 7.21.6.1, 8
+-- C standard, 7.21.6.1, 8
 abbrev pub argument_requests : Option ℕ → Argument → List Request
 argument_requests number (One kind) = request number kind ∷ []
 argument_requests number _ = []
 
--- C standard 7.21.6.1, 5: the width's argument comes first, then the precision's, then the directive's own
+-- C standard, 7.21.6.1, 5: the width's argument comes first, then the precision's, then the directive's own
 abbrev pub requests : Directive → List Request
 requests d =
     amount_requests d.head.width ++ amount_requests d.head.precision ++ argument_requests d.head.number (own_argument d)
@@ -64,7 +65,7 @@ HasNoList asked = (kinds : List ArgKind) → ¬ AsksFor asked kinds
 abbrev pub is_plain : ℕ → Bool
 is_plain b = not (b == percent)
 
--- C standard 7.21.6.1, 3: text is bytes other than `%`, and then rest
+-- C standard, 7.21.6.1, 3: text is bytes other than `%`, and then rest
 pub record SkipsPlain (text rest : List ℕ) : Type 0 where
   pub plain : List ℕ
   pub text_is : text ≡ plain ++ rest
@@ -89,7 +90,7 @@ pub record StopsAt (text stop : List ℕ) : Type 0 where
   pub plain : SkipsPlain last stop
   pub unreadable : IsUnreadable stop
 
--- ---- the three outcomes (gettext manual, "c-format")
+-- ---- the three outcomes (GNU gettext manual, "c-format")
 
 -- the text is a format with these arguments
 abbrev pub Lists : List ℕ → List ArgKind → Type 0

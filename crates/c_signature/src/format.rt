@@ -19,7 +19,7 @@ fn next_directive(text: &[u8]) -> Option<&[u8]>
     Some(&text[place + 1..])
 }
 
-/// The arguments that a C format takes, in their order (C standard 7.21.6.1; numbered ones as in
+/// The arguments that a C format takes, in their order (C standard, 7.21.6.1; numbered ones as in
 /// POSIX, by a number of at most 9 digits).
 ///
 /// The first directive that can't be read decides: `SystemDependent` where it names a macro, as

@@ -18,7 +18,7 @@ mod requests;
 pub use agreement::agrees;
 pub use format::{one_outcome, signature};
 
-/// The size of an integer, by the length modifier before its conversion (C standard 7.21.6.1, 7).
+/// The size of an integer, by the length modifier before its conversion (C standard, 7.21.6.1, 7).
 #[derive(Clone, Copy, Debug, PartialEq, Eq)]
 pub enum Size {
     /// `hh`: `char`
@@ -39,7 +39,7 @@ pub enum Size {
     PtrDiff,
 }
 
-/// The kind of an argument (C standard 7.21.6.1, 8).
+/// The kind of an argument (C standard, 7.21.6.1, 8).
 #[derive(Clone, Copy, Debug, PartialEq, Eq)]
 pub enum ArgKind {
     /// `d`, `i`, and `int` for a `*`
@@ -101,6 +101,3 @@ impl<T: Drop> From<AllocFailed<T>> for FormatFault {
         FormatFault::Memory
     }
 }
-
-#[cfg(test)]
-mod tests;

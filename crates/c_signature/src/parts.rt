@@ -89,7 +89,7 @@ pub(crate) fn read_number(text: &[u8]) -> (Option<u32>, &[u8])
     }
 }
 
-/// Whether this is a flag (C standard 7.21.6.1, 6; `'` is POSIX's, `I` is glibc's).
+/// Whether this is a flag (C standard, 7.21.6.1, 6; `'` is POSIX's, `I` is glibc's).
 fn is_flag_byte(byte: u8) -> bool
     ensures { result ≡ is_flag byte }
 {

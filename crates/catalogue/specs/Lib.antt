@@ -14,5 +14,6 @@ pub mod Value
 pub mod Laws
 pub mod Drafts
 pub mod Spans
+pub mod Reading
 pub mod Sizes
 pub mod Accepted

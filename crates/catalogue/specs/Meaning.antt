@@ -1,4 +1,5 @@
--- What a PO text means to the compiler: a catalogue with its counts, or a refusal (manual, "msgfmt Invocation").
+-- What a PO text means to the compiler: a catalogue with its counts, or a refusal (GNU gettext manual, "msgfmt
+-- Invocation").
 use Rattle.std.specs.Prelude.{◌≡◌, ℕ, ◌&&◌, not, Bool, if◌then◌else◌, false, List, [], ◌∷◌, map, All, Contains}
 use Rattle.std.specs.Prelude.{Option, Some, None}
 use Rattle.std.specs.List.{filter, count_by}
@@ -46,7 +47,7 @@ stats_of entries = record {
 abbrev pub none_missing : List Bool
 none_missing = false ∷ false ∷ false ∷ false ∷ false ∷ false ∷ false ∷ false ∷ []
 
--- which of the eight fields a header's text lacks (manual, "Header Entry")
+-- which of the eight fields a header's text lacks (GNU gettext manual, "Header Entry")
 abbrev pub lacking : Option (List ℕ) → List Bool
 lacking None = none_missing
 lacking (Some text) = missing text

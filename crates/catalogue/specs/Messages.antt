@@ -1,4 +1,4 @@
--- Which entry a message is.
+-- Which entry a message is (GNU gettext manual, "Contexts"; "Plural forms").
 use Rattle.std.specs.Prelude.{List, map, option_map}
 use Rattle.std.specs.String.{string_bytes}
 use Rattle.mo_image.specs.Entry.{Entry}

@@ -1,4 +1,4 @@
--- What the look-ups answer (manual, "The interface of gettext"; "Additional functions for plural forms").
+-- What the look-ups answer (GNU gettext manual, "Interface to gettext"; "Plural forms").
 use Rattle.std.specs.Prelude.{◌≡◌, ℕ, ◌==◌, nat_lt, if◌then◌else◌, List, length, Option, Some, None, slice_get}
 use Rattle.po_header.specs.Rule.{Rule, place}
 pub use Rattle.po_header.specs.Rule.{HasRuleIn}
@@ -11,7 +11,7 @@ abbrev pub IsFirstForm : Option Entry → List ℕ → List ℕ → Type 0
 IsFirstForm None id text = text ≡ id
 IsFirstForm (Some e) id text = slice_get e.forms 0 ≡ Some text
 
--- a map's rule is that of its own header (manual, "Plural forms")
+-- a map's rule is that of its own header (GNU gettext manual, "Plural forms")
 abbrev pub HasMapRule : List Entry → Rule → Type 0
 HasMapRule m rule = HasRuleIn (header_text m) rule
 
@@ -47,8 +47,12 @@ IsTranslated m None n text = text ≡ None
 IsTranslated m (Some e) n None = ⊥
 IsTranslated m (Some e) n (Some text) = IsAskedForm m n e.forms text
 
--- the same, as a string of C: the form and the NUL behind it
+-- the form of an entry that is asked for, as a string of C: the NUL behind it, too
+abbrev pub IsClosedFormFor : List Entry → Option ℕ → List (List ℕ) → List ℕ → Type 0
+IsClosedFormFor m n forms bytes = (text : List ℕ) × IsAskedForm m n forms text × (bytes ≡ closed text)
+
+-- the same of the entry that was found, and none where there is no entry
 abbrev pub IsTranslatedClosed : List Entry → Option Entry → Option ℕ → Option (List ℕ) → Type 0
 IsTranslatedClosed m None n bytes = bytes ≡ None
 IsTranslatedClosed m (Some e) n None = ⊥
-IsTranslatedClosed m (Some e) n (Some bytes) = (text : List ℕ) × IsAskedForm m n e.forms text × (bytes ≡ closed text)
+IsTranslatedClosed m (Some e) n (Some bytes) = IsClosedFormFor m n e.forms bytes

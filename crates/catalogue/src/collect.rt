@@ -8,7 +8,7 @@ ghost use Rattle.catalogue.specs.Meaning.{Refuses};
 ghost use Rattle.catalogue.specs.Drafts as Drafts;
 ghost use Rattle.catalogue.specs.Drafts.{outline_of, texts_if_kept};
 ghost use Rattle.catalogue.specs.Spans.{bytes_if_kept, kept_bytes, kept_span, plural_bytes, span_of, stored};
-ghost use Rattle.catalogue.specs.Spans.{HasGathered};
+ghost use Rattle.catalogue.specs.Reading.{IsReadOf};
 ghost use Rattle.po_checks.specs.Refusal.{out_of_memory};
 
 use crate::drafts::Standing;
@@ -125,8 +125,7 @@ pub(crate) struct Collected {
 
 /// Reads the entries of a text.
 pub(crate) fn collect(alloc: Global, text: &[u8], options: Options) -> Result<Collected, LoadFault>
-    ensures ok { IfOk result (λ collected. HasGathered text.now options (string_bytes collected.texts)
-        collected.spans.items collected.findings) }
+    ensures ok { IfOk result (IsReadOf text.now options) }
     ensures err { IfErr result (λ fault. (fault ≡ out_of_memory) ⊎ Refuses text.now options fault.kind fault.line) }
 {
     let mut reader = open_text(alloc, text)?;

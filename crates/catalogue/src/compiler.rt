@@ -1,8 +1,9 @@
 //! From a PO text to a catalogue.
-ghost use Rattle.std.specs.Prelude.{◌≡◌, ◌<◌, ◌^◌, ◌⊎◌, ◌↔◌, IfOk, IfErr, IfSome, IsTrue, if◌then◌else◌, length};
-ghost use Rattle.std.specs.Prelude.{option_map};
+ghost use Rattle.std.specs.Prelude.{◌≡◌, ◌<◌, ◌^◌, ◌⊎◌, ◌↔◌, ℕ, List, IfOk, IfErr, IfSome, IsTrue, length};
+ghost use Rattle.std.specs.Prelude.{if◌then◌else◌, option_map};
 ghost use Rattle.std.specs.List.{count_by};
 ghost use Rattle.catalogue.specs.Drafts.{counts_as, outline};
+ghost use Rattle.catalogue.specs.Reading.{IsReadOf};
 ghost use Rattle.mo_image.specs.Map.{HasAcceptedCharset};
 ghost use Rattle.catalogue.specs.Meaning.{lacking, none_missing, Means, Refuses};
 ghost use Rattle.po_checks.specs.Refusal.{out_of_memory};
@@ -12,10 +13,12 @@ use crate::collect::{Collected, collect};
 use crate::drafts::{
     Draft, KeptDrafts, Standing, count, first_repeat, header_line, header_text, keep, sort,
 };
-use crate::spans::lend;
+use crate::spans::{Span, lend};
+use mo_image::{HEADER_LEN, ROW_LEN};
 use po_checks::{LoadFault, LoadKind, Options};
 use po_header::{has_accepted_charset, missing_fields};
 use std::alloc::Global;
+use std::mem::size_of;
 
 /// Counts of the entries of a text other than its header, kept or not.
 #[derive(Clone, Copy, Debug, PartialEq, Eq)]
@@ -94,11 +97,61 @@ pub fn compile(alloc: Global, text: &[u8], options: Options) -> Result<Compiled,
     ensures ok { IfOk result (Means text.now options) }
     ensures err { IfErr result (λ fault. (fault ≡ out_of_memory) ⊎ Refuses text.now options fault.kind fault.line) }
 {
+    let collected = collect(alloc, text, options)?;
+    compile_collected(alloc, collected, options, Vec::new(alloc))
+}
+
+/// The same of a text that is handed over. The MO file is written over it when its entries have been read, so the two
+/// are not held at once, and a large one takes no memory that is new to the program.
+pub fn compile_owned(alloc: Global, text: Vec<u8>, options: Options) -> Result<Compiled, LoadFault>
+    ensures ok { IfOk result (Means text.items options) }
+    ensures err { IfErr result (λ fault. (fault ≡ out_of_memory) ⊎ Refuses text.items options fault.kind fault.line) }
+{
+    let collected = collect(alloc, text.as_slice(), options)?;
+    let memory = room_over(text, kept_room(&collected));
+    compile_collected(alloc, collected, options, memory)
+}
+
+/// How many bytes of a text's memory are kept for the MO file: as many as that has at most, less those of the spans.
+/// Its header counts, and of each entry two rows, and a NUL behind the key, the plural and the forms. The spans are
+/// freed before the memory grows to the file's size, so it doesn't raise the peak.
+fn kept_room(collected: &Collected) -> usize {
+    let count = collected.spans.len();
+    let entries = count.saturating_mul(2 * ROW_LEN + 3);
+    let most = collected
+        .texts
+        .len()
+        .saturating_add(entries)
+        .saturating_add(HEADER_LEN);
+    most.saturating_sub(count.saturating_mul(size_of::<Span>()))
+}
+
+/// The memory of a text, of which no more is kept than so many bytes.
+fn room_over(text: Vec<u8>, most: usize) -> Vec<u8> {
+    let mut memory = text;
+    memory.clear();
+    memory.shrink_to(most);
+    memory
+}
+
+/// What a text compiles to of which this was read. The MO file is written over `memory`.
+fn compile_collected(
+    alloc: Global,
+    collected: Collected,
+    options: Options,
+    memory: Vec<u8>,
+) -> Result<Compiled, LoadFault>
+    requires { (text : List ℕ) × IsReadOf text options collected }
+    ensures ok { IfOk result (λ compiled. (text : List ℕ) →
+        IsReadOf text options collected → Means text options compiled) }
+    ensures err { IfErr result (λ fault. (text : List ℕ) → IsReadOf text options collected →
+        (fault ≡ out_of_memory) ⊎ Refuses text options fault.kind fault.line) }
+{
     let Collected {
         texts,
         spans,
         findings,
-    } = collect(alloc, text, options)?;
+    } = collected;
     let mut drafts = lend(alloc, texts.as_str(), spans)?;
     let stats = stats_of(&drafts);
     let header_line = header_line(&drafts);
@@ -123,7 +176,7 @@ pub fn compile(alloc: Global, text: &[u8], options: Options) -> Result<Compiled,
         return Err(fault);
     }
     keep(&mut drafts);
-    let catalogue = Catalogue::from_list(alloc, &KeptDrafts { drafts })?;
+    let catalogue = Catalogue::from_list_over(alloc, memory, &KeptDrafts { drafts })?;
     Ok(Compiled {
         catalogue,
         stats,

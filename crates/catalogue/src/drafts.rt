@@ -9,7 +9,7 @@ ghost use Rattle.catalogue.specs.Drafts as Drafts;
 
 use mo_image::{EntryList, EntryStrings, split_form};
 use std::cmp::Ordering;
-use text_key::TextKey;
+use text_key::LongKey;
 
 /// What a catalogue keeps of an entry beside its key.
 #[derive(Drop)]
@@ -33,7 +33,7 @@ pub(crate) enum Standing {
 #[derive(Drop)]
 pub(crate) struct Draft<'a> {
     /// The bytes of the entry's key.
-    pub(crate) key: TextKey<'a>,
+    pub(crate) key: LongKey<'a>,
     /// How many entries stand before it in the text.
     pub(crate) number: usize,
     pub(crate) line: u32,

@@ -15,7 +15,7 @@ mod sizes;
 mod sorted;
 mod spans;
 
-pub use compiler::{Compiled, Stats, compile};
+pub use compiler::{Compiled, Stats, compile, compile_owned};
 pub use entry_search::Steps;
 pub use law::one_meaning;
 pub use lookup::untranslated;

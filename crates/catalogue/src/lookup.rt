@@ -3,7 +3,7 @@ ghost use Rattle.std.specs.Prelude.{◌≡◌, ◌<◌, ℕ, List, length, slice
 ghost use Rattle.mo_image.specs.Entry.{key_bytes};
 ghost use Rattle.mo_image.specs.Map.{entry_at};
 ghost use Rattle.catalogue.specs.Value.{IsAskedForm, IsCounted, IsFirstForm, IsFormFor, IsMapFormFor, IsTranslated};
-ghost use Rattle.catalogue.specs.Value.{IsTranslatedClosed, text_by};
+ghost use Rattle.catalogue.specs.Value.{IsClosedFormFor, IsTranslatedClosed, text_by};
 ghost use Rattle.po_header.specs.Rules.{rule_of};
 
 use crate::Catalogue;
@@ -25,7 +25,7 @@ fn place_by(entry: &EntryRef<'_>, rule: &RuleRead, n: u64) -> usize
 }
 
 /// The text that stands in place of a form where there is no translation: the msgid for 1, and the plural for other
-/// numbers (manual, "Additional functions for plural forms").
+/// numbers (GNU gettext manual, "Plural forms").
 pub fn untranslated<'a>(id: &'a str, plural: &'a str, n: u64) -> &'a str
     ensures { result.now ≡ text_by n id.now plural.now }
 {
@@ -44,7 +44,7 @@ fn first_form<'a>(found: Option<EntryRef<'a>>, id: &'a str) -> &'a str
 
 impl Catalogue {
     /// The form of an entry of this catalogue that a number takes by the rule in the catalogue's header; the first
-    /// form, where the entry has no such form (manual, "Additional functions for plural forms").
+    /// form, where the entry has no such form (GNU gettext manual, "Plural forms").
     pub fn form_for<'a>(&self, entry: &EntryRef<'a>, n: u64) -> &'a str
         ensures { IsMapFormFor self.now n entry.now.forms result.now }
     {
@@ -122,18 +122,29 @@ impl Catalogue {
         Some(entry.form(self.asked_place(&entry, n)))
     }
 
-    /// The same, with one NUL behind the text, which is C's string then: so an empty text differs from none.
+    /// The form of an entry of this catalogue, and one NUL behind it, which makes it a string of C: the first form, or
+    /// with a number the form that it takes.
+    pub fn closed_form_for<'a>(&self, entry: &EntryRef<'a>, n: Option<u64>) -> &'a [u8]
+        ensures { IsClosedFormFor self.now n entry.now.forms result.now }
+    {
+        // (what is true of every entry is known where its translation is lent)
+        let _translation = entry.translation();
+        entry.closed_form(self.asked_place(entry, n))
+    }
+
+    /// The same of a message in a context, or in none, by their bytes, which may be no text. None exactly where there
+    /// is no such entry; so an empty text differs from none.
     pub fn translated_closed(
         &self,
-        context: Option<&str>,
-        id: &str,
+        context: Option<&[u8]>,
+        id: &[u8],
         n: Option<u64>,
     ) -> Option<&[u8]>
         ensures { IsTranslatedClosed self.now
             (entry_at self.now (key_bytes (option_map (λ s. s.now) context.entry) id.now))
             n (option_map (λ s. s.now) result) }
     {
-        let entry = self.find(context, id)?;
-        Some(entry.closed_form(self.asked_place(&entry, n)))
+        let entry = self.find_bytes(context, id)?;
+        Some(self.closed_form_for(&entry, n))
     }
 }

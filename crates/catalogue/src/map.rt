@@ -43,7 +43,7 @@ impl Model for Catalogue {
 fn rule_of_header(alloc: Global, entries: &Entries) -> Result<RuleRead, AllocError>
     ensures { IfOk result (λ rule. HasMapRule entries.now (rule_of rule)) }
 {
-    match entries.find(None, "") {
+    match entries.find(None, &[]) {
         Some(header) => read_rule(alloc, header.form(0)),
         None => Ok(RuleRead::Absent),
     }
@@ -77,6 +77,18 @@ impl Catalogue {
         ensures { IfOk result (λ catalogue. catalogue ≡ L.entries list.now) }
     {
         Catalogue::from_image(alloc, Image::spelled(alloc, list)?)
+    }
+
+    /// The same; its MO file is written over this memory.
+    pub(crate) fn from_list_over<L: EntryList>(
+        alloc: Global,
+        memory: Vec<u8>,
+        list: &L,
+    ) -> Result<Catalogue, AllocError>
+        requires { IsLawful (L.entries list.now) }
+        ensures { IfOk result (λ catalogue. catalogue ≡ L.entries list.now) }
+    {
+        Catalogue::from_image(alloc, Image::spelled_over(memory, list)?)
     }
 
     fn from_image(alloc: Global, image: Image) -> Result<Catalogue, AllocError>
@@ -129,6 +141,14 @@ impl Catalogue {
     pub fn find(&self, context: Option<&str>, id: &str) -> Option<EntryRef<'_>>
         ensures { result ≡ entry_at self.now (key_bytes (option_map (λ s. s.now) context.entry) id.now) }
     {
+        self.find_bytes(context.map(str::as_bytes), id.as_bytes())
+    }
+
+    /// The same by bytes, which may be no text. No entry has such a key.
+    #[inline(always)]
+    pub fn find_bytes(&self, context: Option<&[u8]>, id: &[u8]) -> Option<EntryRef<'_>>
+        ensures { result ≡ entry_at self.now (key_bytes (option_map (λ s. s.now) context.entry) id.now) }
+    {
         self.entries.find(context, id)
     }
 
@@ -144,11 +164,12 @@ impl Catalogue {
         ensures found { result ≡ entry_at self.now (key_bytes (option_map (λ s. s.now) context.entry) id.now) }
         ensures cost { AtMostDigits (length self.now) steps.old steps.new }
     {
-        self.entries.find_counted(context, id, steps)
+        let context = context.map(str::as_bytes);
+        self.entries.find_counted(context, id.as_bytes(), steps)
     }
 
     /// The one MO file of the catalogue: revision 0, words low byte first, no hash table and no padding
-    /// (manual, "The Format of GNU MO Files").
+    /// (GNU gettext manual, "MO Files").
     pub fn file(&self) -> &[u8]
         ensures file { result.now ≡ spelling self.now }
 

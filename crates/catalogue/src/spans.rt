@@ -7,7 +7,7 @@ ghost use Rattle.catalogue.specs.Spans.{Holds, HoldsAll, HoldsKept, HoldsPlural}
 use crate::drafts::{Draft, Standing, Texts};
 use std::alloc::{AllocError, Global};
 use std::marker::Model;
-use text_key::TextKey;
+use text_key::LongKey;
 
 /// How long the texts are that are kept of an entry beside its key.
 #[derive(Clone, Copy)]
@@ -167,7 +167,7 @@ fn lend_entry<'a>(texts: &'a str, number: usize, span: &Span) -> (Draft<'a>, &'a
         None => (None, behind),
     };
     let draft = Draft {
-        key: TextKey::new(key),
+        key: LongKey::new(key),
         number,
         line: span.line(),
         standing: span.standing(),

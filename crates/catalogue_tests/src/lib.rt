@@ -8,7 +8,7 @@
 #[cfg(test)]
 mod accepted;
 #[cfg(test)]
-mod readme;
+mod callers;
 #[cfg(test)]
 mod search;
 #[cfg(test)]

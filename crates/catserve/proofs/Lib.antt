@@ -6,6 +6,7 @@ pub mod Playing
 pub mod Sources
 pub mod OneOutput
 pub mod SomeOutput
+pub mod FirstOutput
 pub mod LinesTaken
 pub mod SessionLines
 pub mod SessionHears

@@ -118,14 +118,14 @@ outcome_one l (RefusedMo fault) Unnamed h k = absurd (k h.0)
 
 -- ---- rounds
 
-after_one : (workers : ℕ) (before : List LoadValue) (round : RoundValue) (after after' : List LoadValue)
+pub after_one : (workers : ℕ) (before : List LoadValue) (round : RoundValue) (after after' : List LoadValue)
     (output other : List ℕ) → Plays workers before round after output → Plays workers before round after' other → after
     ≡ after'
 after_one workers before round after after' output other p q =
     p.after_is ∙ ap (λ os. before ++ filter_map accepted_load os)
     (zip_one IsOutcome outcome_one round.loads p.outcomes q.outcomes p.loaded q.loaded) ∙ sym q.after_is
 
-round_one : (workers : ℕ) (before : List LoadValue) (round : RoundValue) (after : List LoadValue)
+pub round_one : (workers : ℕ) (before : List LoadValue) (round : RoundValue) (after : List LoadValue)
     (output other : List ℕ)
     → Plays workers before round after output → Plays workers before round after other → output ≡ other
 round_one workers before round after output other p q =
@@ -148,7 +148,7 @@ rounds_one workers before (round ∷ rounds) output other (after, front, back, p
 
 -- ---- scripts
 
-abbrev ok_or : ScriptValue → Result ScriptValue ℕ → ScriptValue
+abbrev pub ok_or : ScriptValue → Result ScriptValue ℕ → ScriptValue
 ok_or d (Ok value) = value
 ok_or d (Err bad) = d
 

@@ -20,7 +20,7 @@ pub use desks::{
     Accepted, Answer, Desk, Gate, Job, Place, ServeFault, Served, Source, one_end, one_history,
     serve,
 };
-pub use law::one_output;
+pub use law::{first_rounds, one_output};
 pub use run::run_script;
 pub use script_text::{MOST_SCRIPT, ScriptFault, ScriptKind};
 pub use session::run_session;

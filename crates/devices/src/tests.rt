@@ -50,10 +50,11 @@ impl Read for SlowReader<'_> {
     }
 }
 
-/// A writer that takes `step` bytes at a time, `room` in all, and then fails.
+/// A writer that takes `step` bytes at a time, `room` in all, and then fails. What was flushed is counted.
 #[derive(Drop)]
 struct SmallWriter {
     held: Vec<u8>,
+    flushed: usize,
     step: usize,
     room: usize,
 }
@@ -62,6 +63,7 @@ impl SmallWriter {
     fn new(alloc: Global, step: usize, room: usize) -> SmallWriter {
         SmallWriter {
             held: Vec::new(alloc),
+            flushed: 0,
             step,
             room,
         }
@@ -80,6 +82,7 @@ impl Write for SmallWriter {
     }
 
     fn flush(&mut self) -> io::Result<()> {
+        self.flushed = self.held.len();
         Ok(())
     }
 }
@@ -171,6 +174,11 @@ fn a_writer_fails_in_mid_stream(rt: HostRuntime) {
         let mut writer = Writing::new(SmallWriter::new(alloc, 2, room));
         let written = writer.write_all(b"salut");
         assert_eq!(rt; written.is_ok(), room >= 5, "{room}");
+        assert_eq!(rt;
+            writer.inner.flushed,
+            if room >= 5 { 5 } else { 0 },
+            "{room}"
+        );
         assert_eq!(rt; writer.failures, if room >= 5 { 0 } else { 1 }, "{room}");
         assert!(rt;
             b"salut".starts_with(writer.inner.held.as_slice()),

@@ -21,7 +21,7 @@ use Rattle.entry_search.proofs.Searching.{apart, few_steps, find_none, find_some
 use Rattle.mo_image.proofs.EntryParts.{cut-some}
 use Rattle.mo_image.proofs.Originals.{uncut_at}
 
-differs_unless : (k asked : List ℕ) → (bytes_eq k asked ≡ true → ⊥) → bytes_eq k asked ≡ false
+pub differs_unless : (k asked : List ℕ) → (bytes_eq k asked ≡ true → ⊥) → bytes_eq k asked ≡ false
 differs_unless k asked never = elim (bytes_eq k asked) as (λ r. bytes_eq k asked ≡ r → r ≡ false) [
   | true ↦ λ e. absurd (never e)
   | false ↦ λ e. refl

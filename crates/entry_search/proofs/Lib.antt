@@ -1,5 +1,6 @@
-pub mod Searching
-pub mod KeyOrder
-pub mod Slots
-pub mod Indexing
 pub mod Found
+pub mod Indexing
+pub mod KeyEnds
+pub mod KeyOrder
+pub mod Searching
+pub mod Slots

@@ -1,8 +1,12 @@
 -- The slots of an index, and the texts that they lead to.
-use Rattle.std.proofs.Common.{◌≡◌, ℕ, ◌-◌, ◌<◌, ◌≤◌, List, length, get_or, ap, ◌∙◌, arith, inl, inr}
-use Rattle.std.specs.List.{AllWithin}
+use denote.Ref.{Bor}
+use Rattle.std.proofs.Common.{◌≡◌, ℕ, ◌+◌, ◌-◌, ◌<◌, ◌≤◌, List, length, drop, get_or, Option, Some, None, sym, ap, ◌∙◌}
+use Rattle.std.proofs.Common.{arith, inl, inr}
+use Rattle.std.specs.Prelude.{Contains, IfSome}
+use Rattle.std.specs.Array.{IsFirstChunk}
+use Rattle.std.specs.List.{AllWithin, slice_range}
 use Rattle.std.proofs.lemmas.Bool.{cases_lt}
-use Rattle.std.proofs.lemmas.List.{get_or_default}
+use Rattle.std.proofs.lemmas.List.{get_or_default, get_or-drop, get_or-take, length-take-le}
 use Rattle.entry_search.specs.declared.slot_table.Slot.{Slot}
 use Rattle.entry_search.specs.Index.{Climbs, HasNoSlot, IsCut}
 
@@ -31,3 +35,22 @@ no_slot slots t cut climbs is lt other slot has same = elim (cases_lt has.0 cut)
     other slot,
   )
 ]
+
+-- ---- slots near a place
+
+-- what is among the first of the slots from a place on is among all of them
+pub among_all : (slots behind near : List Slot) (place n : ℕ) (found : Option (Bor Slot))
+    → behind ≡ slice_range slots place (length slots) → length behind + place ≡ length slots
+    → IsFirstChunk behind near n → IfSome found (λ slot. Contains near slot.now)
+    → IfSome found (λ slot. Contains slots slot.now)
+among_all slots behind near place n None is long front here = here
+among_all slots behind near place n (Some slot) is long front here =
+    let all = length slots - place in
+    let lt : here.0 < n = omega (arith, here.1, ap length front.same, length-take-le n behind front.enough) in
+    let first : get_or near here.0 slot.now ≡ get_or behind here.0 slot.now =
+    ap (λ (xs : List Slot). get_or xs here.0 slot.now) front.same ∙ get_or-take n behind here.0 slot.now lt in
+    let then : get_or behind here.0 slot.now ≡ get_or slots (place + here.0) slot.now =
+    ap (λ (xs : List Slot). get_or xs here.0 slot.now) is
+    ∙ get_or-take all (drop place slots) here.0 slot.now (omega (arith, lt, front.enough, long))
+    ∙ get_or-drop place slots here.0 slot.now in
+    (place + here.0, omega (arith, lt, front.enough, long), sym then ∙ sym first ∙ here.2)

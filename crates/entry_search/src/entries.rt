@@ -60,9 +60,10 @@ impl Entries {
         Ok(())
     }
 
-    /// The entry of this msgid in this context, or in none; None exactly where there is no such entry.
+    /// The entry of this msgid in this context, or in none, by their bytes, which may be no text; None exactly where
+    /// there is no such entry.
     #[inline(always)]
-    pub fn find(&self, context: Option<&str>, id: &str) -> Option<EntryRef<'_>>
+    pub fn find(&self, context: Option<&[u8]>, id: &[u8]) -> Option<EntryRef<'_>>
         ensures { result ≡ entry_at self.now (key_bytes (option_map (λ s. s.now) context.entry) id.now) }
     {
         find_in(&self.image, self.index.as_ref(), context, id)
@@ -71,8 +72,8 @@ impl Entries {
     /// The same, with its steps counted: at most as many as the number of entries has binary digits.
     pub fn find_counted<L: Ledger>(
         &self,
-        context: Option<&str>,
-        id: &str,
+        context: Option<&[u8]>,
+        id: &[u8],
         steps: &mut Steps<L>,
     ) -> Option<EntryRef<'_>>
         ensures found { result ≡ entry_at self.now (key_bytes (option_map (λ s. s.now) context.entry) id.now) }

@@ -8,22 +8,24 @@ ghost use Rattle.mo_image.specs.Map.{entry_at};
 ghost use Rattle.mo_image.specs.Pairs.{key_part, HasNulAt};
 ghost use Rattle.entry_search.specs.Search.{AtMostDigits};
 ghost use Rattle.entry_search.specs.Index.{hash, IsIndex};
+ghost use Rattle.entry_search.specs.KeyEnd.{MayEndAt};
 
 use crate::Steps;
 use crate::index::Index;
 use crate::keys::cmp_in_context;
-use crate::slot_table::{hash_of, hash_within};
-use mo_image::{EntryRef, Image, key_of, plural_of, split_context};
+use crate::slot_table::{EOT, hash_of, hash_within};
+use mo_image::{EntryRef, Image, key_of};
 use std::cmp::Ordering;
 use std::marker::{Brand, Model};
 use std::sync::ledger::{Blank, Ledger};
+use text_cut::{lacks_byte, split_bytes_at};
 
 /// The key that is asked for, seen as its bytes.
 #[derive(Drop)]
 struct Asked<'a> {
-    context: Option<&'a str>,
-    id: &'a str,
-    /// The msgid is known to have no NUL. No entry's has.
+    context: Option<&'a [u8]>,
+    id: &'a [u8],
+    /// The msgid has no NUL, which makes comparisons quick. No entry's has one.
     is_text: bool,
 }
 
@@ -39,44 +41,51 @@ impl<'a> Model for Asked<'a> {
 }
 
 /// Whether a NUL stands at this place in an original.
-fn has_nul_at(original: &str, place: usize) -> bool
+fn has_nul_at(original: &[u8], place: usize) -> bool
     ensures { IsTrue result ↔ HasNulAt original.now place }
 {
-    place < original.len() && original.as_bytes()[place] == 0
+    place < original.len() && original[place] == 0
+}
+
+/// Whether a key of this length may end in an original: at its end, or at a NUL.
+#[inline]
+fn may_end_at(original: &[u8], len: usize) -> bool
+    ensures { IsTrue result ↔ MayEndAt original.now len }
+{
+    len == original.len() || has_nul_at(original, len)
+}
+
+/// Whether the key of an original is this msgid.
+#[inline]
+fn is_key(original: &[u8], id: &[u8]) -> bool
+    requires { Lacks 0 id.now }
+    ensures { result ≡ bytes_eq (key_part original.now) id.now }
+{
+    may_end_at(original, id.len()) && &original[..id.len()] == id
 }
 
 /// The key of an original beside a msgid. The original is compared as it is, since a plural behind the key
 /// changes the order of no other key than the msgid itself.
-fn cmp_id(original: &str, id: &str) -> Ordering
+fn cmp_id(original: &str, id: &[u8]) -> Ordering
     requires { Lacks 0 id.now }
     ensures { result ≡ slice_cmp nat_cmp (key_part original.now) id.now }
 {
-    let order = original.cmp(id);
-    if has_nul_at(original, id.len()) {
-        return key_of(original).cmp(id);
+    let order = original.as_bytes().cmp(id);
+    if has_nul_at(original.as_bytes(), id.len()) {
+        return key_of(original).as_bytes().cmp(id);
     }
     order
 }
 
 impl<'a> Asked<'a> {
-    fn new(context: Option<&'a str>, id: &'a str) -> Asked<'a>
+    #[inline(always)]
+    fn new(context: Option<&'a [u8]>, id: &'a [u8]) -> Asked<'a>
         ensures { result ≡ key_bytes (option_map (λ s. s.now) context.entry) id.now }
     {
         Asked {
             context,
             id,
-            is_text: false,
-        }
-    }
-
-    /// The same, with its msgid looked through for a NUL, which makes many comparisons quick.
-    fn looked_through(&self) -> Asked<'a>
-        ensures { result ≡ self.now }
-    {
-        Asked {
-            context: self.context,
-            id: self.id,
-            is_text: plural_of(self.id).is_none(),
+            is_text: lacks_byte(id, 0),
         }
     }
 
@@ -88,7 +97,7 @@ impl<'a> Asked<'a> {
         let Some(context) = self.context else {
             return Some(hash_of(self.id));
         };
-        match split_context(context) {
+        match split_bytes_at(context, EOT) {
             Some(_) => None,
             None => Some(hash_within(context, self.id)),
         }
@@ -99,13 +108,9 @@ impl<'a> Asked<'a> {
         ensures { result ≡ slice_cmp nat_cmp (key_part original.now) self.now }
     {
         match self.context {
-            Some(context) => cmp_in_context(
-                key_of(original).as_bytes(),
-                context.as_bytes(),
-                self.id.as_bytes(),
-            ),
+            Some(context) => cmp_in_context(key_of(original).as_bytes(), context, self.id),
             None if self.is_text => cmp_id(original, self.id),
-            None => key_of(original).cmp(self.id),
+            None => key_of(original).as_bytes().cmp(self.id),
         }
     }
 
@@ -115,8 +120,8 @@ impl<'a> Asked<'a> {
         ensures { result ≡ bytes_eq (key_part original.now) self.now }
     {
         match self.context {
-            Some(_) => self.cmp_original(original).is_eq(),
-            None => key_of(original) == self.id,
+            None if self.is_text => is_key(original.as_bytes(), self.id),
+            _ => self.cmp_original(original).is_eq(),
         }
     }
 }
@@ -171,12 +176,11 @@ fn search<'a, L: Ledger>(
     ensures found { result ≡ entry_at image.now asked.now }
     ensures cost { AtMostDigits (length image.now) steps.old steps.new }
 {
-    let asked = asked.looked_through();
     let mut low = 0;
     let mut high = image.len();
     'halves: while low < high {
         let mid = middle(low, high);
-        match compare_at(image, mid, &asked, steps) {
+        match compare_at(image, mid, asked, steps) {
             Ordering::Less => low = mid + 1,
             Ordering::Equal => return Some(image.entry(mid)),
             Ordering::Greater => high = mid,
@@ -252,8 +256,8 @@ fn search_uncounted<'a, L: Ledger>(
 pub(crate) fn find_in<'a>(
     image: &'a Image,
     index: Option<&Index>,
-    context: Option<&str>,
-    id: &str,
+    context: Option<&[u8]>,
+    id: &[u8],
 ) -> Option<EntryRef<'a>>
     requires { IfSome index (λ index. IsIndex image.now index.now) }
     ensures { result ≡ entry_at image.now (key_bytes (option_map (λ s. s.now) context.entry) id.now) }
@@ -265,8 +269,8 @@ pub(crate) fn find_in<'a>(
 pub(crate) fn find_counted_in<'a, L: Ledger>(
     image: &'a Image,
     index: Option<&Index>,
-    context: Option<&str>,
-    id: &str,
+    context: Option<&[u8]>,
+    id: &[u8],
     steps: &mut Steps<L>,
 ) -> Option<EntryRef<'a>>
     requires { IfSome index (λ index. IsIndex image.now index.now) }

@@ -18,7 +18,7 @@ fn slot_of(image: &Image, i: usize) -> Slot
     ensures hash { IfSome (slice_get image.now i) (λ e. result.hash ≡ hash (key e)) }
 {
     Slot {
-        hash: hash_of(key_of(image.original(i))),
+        hash: hash_of(key_of(image.original(i)).as_bytes()),
         extents: image.extents(i),
     }
 }

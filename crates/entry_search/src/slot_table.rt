@@ -3,12 +3,16 @@ ghost use Rattle.std.specs.Prelude.{◌≡◌, ◌<◌, ◌≤◌, [], length, t
 ghost use Rattle.std.specs.List.{AllWithin};
 ghost use Rattle.entry_search.specs.Index.{hash, hash_alone, hash_within, Climbs, IsCut, HasNoSlot};
 
-use mo_image::{EntryExtents, split_context};
+use mo_image::EntryExtents;
 use std::hash::{FoldHasher, Hasher};
 use std::marker::Model;
+use text_cut::split_bytes_at;
 
 /// How far from where it is expected a slot is looked for.
-const REACH: usize = 8;
+const REACH: usize = 6;
+
+/// What parts a context from its msgid in a key.
+pub(crate) const EOT: u8 = 4;
 
 /// How an entry is found: a slot leads from the hash of its key to its texts at once.
 #[derive(Clone, Copy, Debug)]
@@ -42,30 +46,30 @@ impl Model for SlotTable {
 
 /// The hash of a msgid alone.
 #[inline]
-fn hash_alone(id: &str) -> u64
+fn hash_alone(id: &[u8]) -> u64
     ensures { result ≡ hash_alone id.now }
 {
     let mut hasher = FoldHasher::default();
-    hasher.write(id.as_bytes());
+    hasher.write(id);
     hasher.finish()
 }
 
 /// The hash of a msgid in a context.
-pub(crate) fn hash_within(context: &str, id: &str) -> u64
+pub(crate) fn hash_within(context: &[u8], id: &[u8]) -> u64
     ensures { result ≡ hash_within context.now id.now }
 {
     let mut hasher = FoldHasher::default();
-    hasher.write(context.as_bytes());
-    hasher.write(id.as_bytes());
+    hasher.write(context);
+    hasher.write(id);
     hasher.finish()
 }
 
 /// The hash of a key.
 #[inline]
-pub(crate) fn hash_of(key: &str) -> u64
+pub(crate) fn hash_of(key: &[u8]) -> u64
     ensures { result ≡ hash key.now }
 {
-    match split_context(key) {
+    match split_bytes_at(key, EOT) {
         Some((context, id)) => hash_within(context, id),
         None => hash_alone(key),
     }
@@ -76,6 +80,28 @@ pub(crate) fn home(hash: u64, spread: usize) -> usize
     ensures { result < 4294967296 }
 {
     ((hash >> 32).wrapping_mul(spread as u64) >> 32) as usize
+}
+
+/// The slot of this hash among these. Each is compared, so that no branch waits for memory.
+#[inline]
+fn slot_in(near: &[Slot; REACH], hash: u64) -> Option<&Slot>
+    ensures some { IfSome result (λ slot. Contains near.now slot.now) }
+    ensures hash { IfSome result (λ slot. slot.now.hash ≡ hash) }
+{
+    let mut before: usize = 0;
+    'slots: for slot in near {
+        before = before.wrapping_add(usize::from(slot.hash < hash));
+    }
+    let slot = near.get(before)?;
+    if slot.hash == hash { Some(slot) } else { None }
+}
+
+/// The slot of this hash among these few.
+fn slot_among(few: &[Slot], hash: u64) -> Option<&Slot>
+    ensures some { IfSome result (λ slot. Contains few.now slot.now) }
+    ensures hash { IfSome result (λ slot. slot.now.hash ≡ hash) }
+{
+    few.iter().find(|slot| slot.hash == hash)
 }
 
 impl SlotTable {
@@ -99,17 +125,11 @@ impl SlotTable {
         ensures some { IfSome result (λ slot. Contains self.now slot.now) }
         ensures hash { IfSome result (λ slot. slot.now.hash ≡ hash) }
     {
-        let end = place.saturating_add(REACH).min(self.slots.len());
-        'slots: for i in place..end {
-            let slot = &self.slots[i];
-            if slot.hash == hash {
-                return Some(slot);
-            }
-            if slot.hash > hash {
-                return None;
-            }
+        let behind = self.slots.get(place..)?;
+        match behind.first_chunk() {
+            Some(near) => slot_in(near, hash),
+            None => slot_among(behind, hash),
         }
-        None
     }
 
     /// Whether the slots before this place have hashes below a bound.

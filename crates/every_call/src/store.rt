@@ -116,6 +116,22 @@ fn ask<R: Print + AllocGlobal>(rt: &R, reader: &mut Lookups) -> io::Result<()>
     println!(rt; "  has seen {}", reader.seen())
 }
 
+/// Asks the same, and has the answer written into a text.
+fn ask_into<R: Print + AllocGlobal>(rt: &R, reader: &mut Lookups) -> io::Result<()>
+    ensures { reader.new.book ≡ reader.old.book }
+{
+    print!(rt; "ask_into ")?;
+    let mut text = String::new(rt.alloc());
+    match query(rt.alloc()) {
+        Ok(query) => {
+            let answer = reader.ask_into(&query, &mut text);
+            println!(rt; "gives {answer:?}, {:?}", text.as_str())?;
+        }
+        Err(_) => println!(rt; "isn't called: out of memory")?,
+    }
+    println!(rt; "  has seen {}", reader.seen())
+}
+
 /// Two loads that are published, by a second call where the first was refused, and a text that is refused.
 fn publish_rows<R: Wait + Print + AllocGlobal>(
     rt: &R,
@@ -168,6 +184,7 @@ fn ask_rows<R: Wait + Print + AllocGlobal>(
     enter(rt, reader)?;
     enter(rt, reader)?;
     ask(rt, reader)?;
+    ask_into(rt, reader)?;
     println!(rt; "settle, first, gives {:?}", reader.settle(&first))?;
     load(rt, publisher, "app", "fr", SALUT)?;
     publish(rt, publisher)?;

@@ -1,7 +1,6 @@
 -- What C asks of a catalogue that it holds, and what it is answered.
 use Rattle.std.specs.Prelude.{◌≡◌, ℕ, ◌==◌, ◌||◌, if◌then◌else◌, List, [], ◌∷◌, Bool, Option, Some, None}
 use Rattle.std.specs.Option.{option_map_or}
-use Rattle.std.specs.Str.{IsUtf8}
 use Rattle.std.specs.Arc.{arc_value}
 use Rattle.mo_image.specs.Entry.{Entry, key_bytes}
 use Rattle.mo_image.specs.Map.{entry_at}
@@ -40,13 +39,11 @@ abbrev pub some_of : List ℕ → Option (List ℕ)
 some_of [] = None
 some_of (b ∷ bs) = Some (b ∷ bs)
 
--- the text of the entry that is asked for with the NUL behind it, and nothing where there is no such entry
-abbrev pub IsAnswered : List Entry → Question → List ℕ → Type 0
-IsAnswered m q text = IsTranslatedClosed m (entry_at m (key_bytes (context_of q.call q.context) q.id))
-    (number_of q.call q.n) (some_of text)
+-- the key that is asked for
+abbrev pub key_of : Question → List ℕ
+key_of q = key_bytes (context_of q.call q.context) q.id
 
--- what a question is answered; nothing where it is no text
-pub record IsAnswer (m : List Entry) (q : Question) (text : List ℕ) : Type 0 where
-  pub asked : IsUtf8 q.context → IsUtf8 q.id → IsAnswered m q text
-  pub no_context : ¬ IsUtf8 q.context → text ≡ []
-  pub no_id : ¬ IsUtf8 q.id → text ≡ []
+-- the text of the entry that is asked for with the NUL behind it, and nothing where there is no such entry; bytes that
+-- are no text are no entry's key
+abbrev pub IsAnswer : List Entry → Question → List ℕ → Type 0
+IsAnswer m q text = IsTranslatedClosed m (entry_at m (key_of q)) (number_of q.call q.n) (some_of text)

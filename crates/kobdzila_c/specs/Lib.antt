@@ -1,4 +1,5 @@
 pub mod Opening
 pub mod Answering
 pub mod Listing
+pub mod Making
 pub mod Shared

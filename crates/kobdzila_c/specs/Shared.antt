@@ -12,8 +12,11 @@ use denote.Struct.Lending.{lent_at}
 use Rattle.po_checks.specs.declared.options.Options.{Options}
 use Rattle.kobdzila_c.specs.declared.opened.Opened.{Opened}
 use Rattle.kobdzila_c.specs.contracts.opened.Opened.{the_row}
+use Rattle.kobdzila_c.specs.declared.sets.MadeSet.{MadeSet}
+use Rattle.kobdzila_c.specs.contracts.sets.MadeSet.{the_row as set_row}
 use Rattle.kobdzila_c.specs.Answering.{IsAnswer, Question, map_of}
 use Rattle.kobdzila_c.specs.Listing.{text}
+use Rattle.kobdzila_c.specs.Making.{IsSetAnswer}
 use Rattle.kobdzila_c.specs.Opening.{IsOpenedMo, IsOpenedPo}
 
 -- what was opened lies at p, and is its holder's alone
@@ -44,4 +47,23 @@ answered κ out c q = fex (Bor (List ℕ)) (λ r. fex (IsAnswer (map_of c) q r.n
 -- at out lies a text of what is listed, shared for as long as κ
 abbrev pub listed : Lft → Ptr → Opened → ℕ → ℕ → ℕ → Fml
 listed κ out c part i k = fex (Bor (List ℕ)) (λ r. fex (r.now ≡ text c part i k)
+    (λ _. lies_at (Text κ) full_share out r))
+
+-- ---- sets of catalogues
+
+-- a set lies at p, and is its holder's alone
+abbrev pub holds_set : Ptr → MadeSet → Fml
+holds_set p s = lies_at set_row full_share p s
+
+-- at out lies a set that is so
+abbrev pub made_at : Ptr → (MadeSet → Type 0) → Fml
+made_at out Is = fex MadeSet (λ s. fex (Is s) (λ _. holds_set out s))
+
+-- who may ask: s is shared at p for the lifetime κ, and a share q of κ's token shows that κ lasts
+abbrev pub reads_set : Lft → Share → Ptr → MadeSet → Fml
+reads_set κ q p s = fsep (lent_at set_row p s κ) (flft κ q)
+
+-- at out lies the answer to a question in a text domain and a list of languages, shared for as long as κ
+abbrev pub set_answered : Lft → Ptr → MadeSet → List ℕ → List ℕ → Question → Fml
+set_answered κ out s domain languages q = fex (Bor (List ℕ)) (λ r. fex (IsSetAnswer s domain languages q r.now)
     (λ _. lies_at (Text κ) full_share out r))

@@ -6,7 +6,6 @@ ghost use Rattle.kobdzila_c.specs.Listing.{entry_number, entry_text, form_at, nu
 
 use crate::Opened;
 use catalogue::{Catalogue, EntryRef};
-use std::str::from_utf8;
 
 /// The catalogue, where the bytes were not refused.
 fn catalogue_of(opened: &Opened) -> Option<&Catalogue>
@@ -19,7 +18,7 @@ fn catalogue_of(opened: &Opened) -> Option<&Catalogue>
 }
 
 /// The context, where the call has one.
-fn context_in(call: u32, context: &str) -> Option<&str>
+pub(crate) fn context_in(call: u32, context: &[u8]) -> Option<&[u8]>
     ensures { option_map (λ s. s.now) result ≡ context_of call context.now }
 {
     match call {
@@ -29,7 +28,7 @@ fn context_in(call: u32, context: &str) -> Option<&str>
 }
 
 /// The number, where the call has one.
-fn number_in(call: u32, n: u64) -> Option<u64>
+pub(crate) fn number_in(call: u32, n: u64) -> Option<u64>
     ensures { result ≡ number_of call n }
 {
     match call {
@@ -51,10 +50,6 @@ pub(crate) fn answer<'k>(
     let Some(catalogue) = catalogue_of(opened) else {
         return &[]
     };
-    let Ok(context) = from_utf8(context) else {
-        return &[]
-    };
-    let Ok(id) = from_utf8(id) else { return &[] };
     match catalogue.translated_closed(context_in(call, context), id, number_in(call, n)) {
         Some(text) => text,
         None => &[],

@@ -4,21 +4,28 @@
 //! `kobdzila.h` stands on; a program in C calls those of the header.
 #![tactic(auto)]
 
-ghost use Rattle.std.specs.Prelude.{◌≡◌};
+ghost use Rattle.std.specs.Prelude.{◌≡◌, ◌↔◌, IsTrue};
 ghost use base.Fml.{Lft, Share, flft};
 ghost use denote.RawPtr.{room_at};
 ghost use types.Logic.{sem};
+ghost use Rattle.live_set.specs.Names.{IsName};
 ghost use Rattle.kobdzila_c.specs.contracts.opened.Opened.{the_row};
 ghost use Rattle.kobdzila_c.specs.declared.opened.Opened.{Opened as Held};
 ghost use Rattle.kobdzila_c.specs.Answering.{question};
+ghost use Rattle.kobdzila_c.specs.contracts.sets.MadeSet.{the_row as set_row};
+ghost use Rattle.kobdzila_c.specs.declared.sets.MadeSet.{MadeSet as HeldSet};
 ghost use Rattle.kobdzila_c.specs.Listing.{number};
+ghost use Rattle.kobdzila_c.specs.Making.{IsEmpty, IsWith, set_number};
 ghost use Rattle.kobdzila_c.specs.Opening.{options_of};
 ghost use Rattle.kobdzila_c.specs.Shared.{Text, answered, holds, listed, mo_opened_at, po_opened_at, reads};
+ghost use Rattle.kobdzila_c.specs.Shared.{holds_set, made_at, reads_set, set_answered};
 
 mod answers;
 mod opened;
+mod sets;
 
 pub use opened::Opened;
+pub use sets::MadeSet;
 use std::alloc::Global;
 
 /// What C holds a pointer to. Its bytes are not C's to read.
@@ -110,4 +117,107 @@ pub unsafe extern "C" fn kobdzila_answer(
     ensures* { sem 𝓛 (flft g.0 g.1) ∗ sem 𝓛 (answered g.0 out g.2 (question call context.now id.now n)) }
 {
     *out = answers::answer(&*(held as *const Opened), context, id, call, n);
+}
+
+/// What C holds a pointer to, where it holds a set. Its bytes are not C's to read.
+pub struct OpaqueSet {
+    byte: u8,
+}
+
+/// Whether these bytes may name a text domain or a locale.
+#[unsafe(no_mangle)]
+pub extern "C" fn kobdzila_is_name(bytes: &[u8]) -> bool
+    ensures { IsTrue result ↔ IsName bytes.now }
+{
+    sets::is_name_of(bytes)
+}
+
+/// How many bytes C sets aside for a set of catalogues.
+#[unsafe(no_mangle)]
+pub extern "C" fn kobdzila_set_size() -> usize {
+    std::mem::size_of::<MadeSet>()
+}
+
+/// Puts the set of no catalogues at `out`.
+#[unsafe(no_mangle)]
+pub unsafe extern "C" fn kobdzila_set_new(alloc: Global, out: *mut OpaqueSet)
+    requires* { sem 𝓛 (room_at set_row out) }
+    ensures* { sem 𝓛 (made_at out IsEmpty) }
+{
+    (out as *mut MadeSet).write(sets::new_set(alloc));
+}
+
+/// Puts at `out` the set at `held` with one catalogue more, that at `catalogue`, or its refusal. The catalogue takes
+/// the place of the one for its text domain and locale; all others are shared by both sets.
+#[unsafe(no_mangle)]
+pub unsafe extern "C" fn kobdzila_set_with(
+    alloc: Global,
+    held: *const OpaqueSet,
+    domain: &[u8],
+    locale: &[u8],
+    catalogue: *const Opaque,
+    out: *mut OpaqueSet,
+)
+    ghost g: { Lft × Share × HeldSet × Lft × Share × Held }
+    requires* { (sem 𝓛 (reads_set g.0 g.1 held g.2) ∗ sem 𝓛 (reads g.3 g.4 catalogue g.5))
+        ∗ sem 𝓛 (room_at set_row out) }
+    ensures* { (sem 𝓛 (flft g.0 g.1) ∗ sem 𝓛 (flft g.3 g.4))
+        ∗ sem 𝓛 (made_at out (IsWith g.2 domain.now locale.now g.5)) }
+{
+    (out as *mut MadeSet).write(sets::with_one(
+        alloc,
+        &*(held as *const MadeSet),
+        domain,
+        locale,
+        &*(catalogue as *const Opened),
+    ));
+}
+
+/// Lets go of the set at `held`: its memory is C's again.
+#[unsafe(no_mangle)]
+pub unsafe extern "C" fn kobdzila_set_close(held: *mut OpaqueSet)
+    ghost value: { HeldSet }
+    requires* { sem 𝓛 (holds_set held value) }
+    ensures* { sem 𝓛 (room_at set_row held) }
+{
+    sets::close_set((held as *mut MadeSet).read());
+}
+
+/// A number of the set at `held`: 0 its refusal, 1 how many catalogues were put into it, one after another.
+#[unsafe(no_mangle)]
+pub unsafe extern "C" fn kobdzila_set_number(held: *const OpaqueSet, which: u32) -> u64
+    ghost g: { Lft × Share × HeldSet }
+    requires* { sem 𝓛 (reads_set g.0 g.1 held g.2) }
+    ensures* { sem 𝓛 (flft g.0 g.1) ∗ ⌜ result ≡ set_number g.2 which ⌝ }
+{
+    sets::set_number(&*(held as *const MadeSet), which)
+}
+
+/// Puts the answer to a call in a text domain and a list of languages at `out`, with its closing NUL; nothing where no
+/// catalogue named has such an entry. The calls are those of `kobdzila_answer`.
+#[unsafe(no_mangle)]
+pub unsafe extern "C" fn kobdzila_set_answer(
+    held: *const OpaqueSet,
+    domain: &[u8],
+    languages: &[u8],
+    context: &[u8],
+    id: &[u8],
+    call: u32,
+    n: u64,
+    out: *mut &[u8],
+)
+    ghost g: { Lft × Share × HeldSet }
+    requires* { sem 𝓛 (reads_set g.0 g.1 held g.2) ∗ sem 𝓛 (room_at (Text g.0) out) }
+    ensures* { sem 𝓛 (flft g.0 g.1) ∗ sem 𝓛 (set_answered g.0 out g.2 domain.now languages.now
+        (question call context.now id.now n)) }
+{
+    *out = sets::set_answer(
+        &*(held as *const MadeSet),
+        domain,
+        languages,
+        context,
+        id,
+        call,
+        n,
+    );
 }

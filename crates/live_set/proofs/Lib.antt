@@ -1,4 +1,5 @@
 pub mod Order
+pub mod Ascii
 pub mod Finding
 pub mod Slotting
 pub mod Folding

@@ -1,5 +1,4 @@
--- Queries, and what they are answered (manual, "The interface of gettext"; "Using contexts for solving
--- ambiguities"; "Additional functions for plural forms").
+-- Queries, and what they are answered (GNU gettext manual, "Interface to gettext"; "Contexts"; "Plural forms").
 use Rattle.std.specs.Prelude.{ℕ, Bool, List, [], Some, None, is_some, map, find}
 use Rattle.std.specs.Option.{option_map_or}
 use Rattle.std.specs.String.{string_bytes}
@@ -51,10 +50,14 @@ has_key key m = is_some (entry_at m key)
 abbrev pub first_with : List ℕ → List (List Entry) → List Entry
 first_with key maps = option_map_or (λ m. m) (find (has_key key) maps) []
 
--- the map that answers a query, where each domain and locale has its map: that of the first locale named whose map
--- has the key, or the empty map
+-- the map that has a key for a domain and a list of languages, where each domain and locale has its map: that of the
+-- first locale named whose map has the key, or the empty map
+abbrev pub map_with : (List ℕ → List ℕ → List Entry) → List ℕ → List ℕ → List ℕ → List Entry
+map_with maps domain languages key = first_with key (map (maps domain) (named languages))
+
+-- the map that answers a query
 abbrev pub answering : (List ℕ → List ℕ → List Entry) → QueryValue → List Entry
-answering maps query = first_with (key_of query.ask) (map (maps query.domain) (named query.languages))
+answering maps query = map_with maps query.domain query.languages (key_of query.ask)
 
 -- what the query is answered over these maps
 abbrev pub HasAnswer : (List ℕ → List ℕ → List Entry) → QueryValue → List ℕ → Type 0

@@ -1,5 +1,4 @@
--- Lists of languages, and the locales that they name (manual, "Specifying a Priority List of Languages"; "Locale
--- Names").
+-- Lists of languages, and the locales that they name (GNU gettext manual, "The LANGUAGE variable"; "Locale Names").
 use Rattle.std.specs.Prelude.{ℕ, ◌==◌, ◌&&◌, ◌||◌, not, Bool, true, false, if◌then◌else◌, List, [], ◌∷◌, codes, filter}
 use Rattle.std.specs.Prelude.{take_while, flat_map}
 use Rattle.std.specs.List.{list_any, before_first, slice_split}

@@ -1,11 +1,12 @@
--- Loads, and the map that they give to a domain and a locale.
+-- Loads, and the map that they give to a domain and a locale (GNU gettext manual, "Triggering"; "Locating
+-- Catalogs").
 use Rattle.std.specs.Prelude.{ℕ, ◌&&◌, Bool, List, [], Option, None}
 use Rattle.std.specs.List.{filter, last_or}
 use Rattle.std.specs.Option.{option_map_or}
 use Rattle.std.specs.Str.{bytes_eq}
 use Rattle.catalogue.specs.Entry.{Entry}
 
--- a map for a text domain and a locale (manual, "Triggering gettext Operations"; "Locating Message Catalog Files")
+-- a map for a text domain and a locale (GNU gettext manual, "Triggering"; "Locating Catalogs")
 pub record LoadValue : Type 0 where
   pub domain : List ℕ
   pub locale : List ℕ

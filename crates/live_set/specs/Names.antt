@@ -1,4 +1,4 @@
--- Names of domains and locales (manual, "Locale Names"; "Ambiguities": text domains).
+-- Names of domains and locales (GNU gettext manual, "Ambiguities": text domains; "Locale Names").
 use Rattle.std.specs.Prelude.{◌≡◌, ℕ, ◌<◌, ◌≤◌, ◌==◌, ◌||◌, Bool, true, List, length}
 use Rattle.std.specs.List.{AllByRecursion}
 use Rattle.std.specs.Char.{is_ascii_alphanumeric}

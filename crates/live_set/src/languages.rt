@@ -87,21 +87,21 @@ fn first_member(languages: &str) -> Option<(&str, &str)>
 }
 
 impl CatalogueSet {
-    /// The entry of a message in the catalogue for this domain and locale.
+    /// The entry of a message in the catalogue for this domain and locale, by the bytes of its context and its msgid.
     #[inline(always)]
     fn find_in(
         &self,
         domain: &TextKey<'_>,
         locale: &str,
-        context: Option<&str>,
-        id: &str,
+        context: Option<&[u8]>,
+        id: &[u8],
     ) -> Option<Found<'_>>
         ensures found { IsFoundIn (key_bytes (option_map (λ s. s.now) context.entry) id.now)
             (map_in self.now.held domain.now locale.now ∷ []) result }
         ensures name { IfSome result (λ _. IsName locale.now) }
     {
         let catalogue = self.catalogue(domain, locale)?;
-        let entry = catalogue.find(context, id)?;
+        let entry = catalogue.find_bytes(context, id)?;
         Some((catalogue, entry))
     }
 
@@ -110,8 +110,8 @@ impl CatalogueSet {
         &self,
         domain: &TextKey<'_>,
         member: &str,
-        context: Option<&str>,
-        id: &str,
+        context: Option<&[u8]>,
+        id: &[u8],
     ) -> Option<Found<'_>>
         ensures { IsFoundIn (key_bytes (option_map (λ s. s.now) context.entry) id.now)
             (map (map_in self.now.held domain.now) (language_behind member.now)) result }
@@ -124,8 +124,8 @@ impl CatalogueSet {
         &self,
         domain: &TextKey<'_>,
         member: &str,
-        context: Option<&str>,
-        id: &str,
+        context: Option<&[u8]>,
+        id: &[u8],
     ) -> Option<Found<'_>>
         ensures { IsFoundIn (key_bytes (option_map (λ s. s.now) context.entry) id.now)
             (map (map_in self.now.held domain.now) (locales_of member.now)) result }
@@ -142,8 +142,8 @@ impl CatalogueSet {
         &self,
         domain: &TextKey<'_>,
         languages: &str,
-        context: Option<&str>,
-        id: &str,
+        context: Option<&[u8]>,
+        id: &[u8],
     ) -> Option<Found<'_>>
         requires { translates languages.now ≡ true
             → find (has_key (key_bytes (option_map (λ s. s.now) context) id.now))
@@ -168,12 +168,12 @@ impl CatalogueSet {
     /// The same in the first of the locales that a list of languages names. Most lists are one locale, that has the
     /// message, so the whole list is looked at first: no locale's name has a colon.
     #[inline(always)]
-    pub(crate) fn find_by_list(
+    pub(crate) fn find_bytes_by_list(
         &self,
         domain: &str,
         languages: &str,
-        context: Option<&str>,
-        id: &str,
+        context: Option<&[u8]>,
+        id: &[u8],
     ) -> Option<Found<'_>>
         ensures { IsFoundIn (key_bytes (option_map (λ s. s.now) context.entry) id.now)
             (map (map_in self.now.held domain.now) (named languages.now)) result }
@@ -185,5 +185,21 @@ impl CatalogueSet {
             }
         }
         self.find_by_members(&domain, languages, context, id)
+    }
+
+    /// The same of texts.
+    #[inline(always)]
+    pub(crate) fn find_by_list(
+        &self,
+        domain: &str,
+        languages: &str,
+        context: Option<&str>,
+        id: &str,
+    ) -> Option<Found<'_>>
+        ensures { IsFoundIn (key_bytes (option_map (λ s. s.now) context.entry) id.now)
+            (map (map_in self.now.held domain.now) (named languages.now)) result }
+    {
+        let context = context.map(str::as_bytes);
+        self.find_bytes_by_list(domain, languages, context, id.as_bytes())
     }
 }

@@ -7,10 +7,8 @@ mod name;
 mod query;
 mod runs;
 mod set;
-#[cfg(test)]
-mod tests;
 
 pub use load::Load;
-pub use name::{Name, NameFault};
+pub use name::{Name, NameFault, is_name};
 pub use query::{Ask, Query};
 pub use set::CatalogueSet;

@@ -59,8 +59,8 @@ fn is_name_byte(byte: u8) -> bool
     byte.is_ascii_alphanumeric() || matches!(byte, b'_' | b'-' | b'.' | b'@' | b'+')
 }
 
-/// Whether the text is a name.
-fn is_name(text: &str) -> bool
+/// Whether the text is a name. It takes no memory.
+pub fn is_name(text: &str) -> bool
     ensures { IsTrue result ↔ IsName text.now }
 {
     0 < text.len() && text.len() <= NAME_LIMIT && text.bytes().all(is_name_byte)

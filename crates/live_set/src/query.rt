@@ -30,8 +30,8 @@ pub enum Ask {
 
 /// A call in a domain and a list of languages, which may be any texts. Contracts see it by its texts' bytes.
 ///
-/// The list names the locales in which the message is looked for, in their order, as in the variable LANGUAGE (manual,
-/// "Specifying a Priority List of Languages"): its members are parted by `:`, and empty ones are passed over; a member
+/// The list names the locales in which the message is looked for, in their order, as in the variable LANGUAGE (GNU
+/// gettext manual, "The LANGUAGE variable"): its members are parted by `:`, and empty ones are passed over; a member
 /// `ll_CC` with no codeset and no variant stands for itself and then for `ll`; a member `C` or `POSIX` ends the list.
 #[derive(Debug, Drop)]
 pub struct Query {

@@ -96,6 +96,17 @@ fn put_in(run: &mut Vec<Load>, load: Load) -> Result<(), AllocError>
     }
 }
 
+/// The loads of a run again, with a share of each catalogue.
+fn copied(alloc: Global, run: &[Load]) -> Result<Vec<Load>, AllocError>
+    ensures { IfOk result (λ copy. copy.items ≡ run.now) }
+{
+    let mut copy = Vec::with_capacity(alloc, run.len())?;
+    'loads: for load in run {
+        copy.push(load.try_clone()?)?;
+    }
+    Ok(copy)
+}
+
 impl LoadRuns {
     /// No loads.
     pub(crate) fn new(alloc: Global) -> LoadRuns
@@ -150,5 +161,19 @@ impl LoadRuns {
             None => put_in(&mut self.first, load),
             Some(at) => put_in(&mut self.later[at], load),
         }
+    }
+
+    /// The same loads again, with a share of each catalogue.
+    pub(crate) fn try_clone(&self, alloc: Global) -> Result<LoadRuns, AllocError>
+        ensures { IfOk result (λ runs. runs ≡ self.now) }
+    {
+        let mut later = Vec::with_capacity(alloc, self.later.len())?;
+        'runs: for run in &self.later {
+            later.push(copied(alloc, run)?)?;
+        }
+        Ok(LoadRuns {
+            first: copied(alloc, &self.first)?,
+            later,
+        })
     }
 }

@@ -1,9 +1,12 @@
 //! Sets of catalogues.
-ghost use Rattle.std.specs.Prelude.{◌≡◌, IfSome, OnOk, OnErr, find, option_map};
+ghost use Rattle.std.specs.Prelude.{◌≡◌, IfOk, IfSome, OnOk, OnErr, find, option_map};
 ghost use Rattle.live_set.specs.Loads.{is_for};
 ghost use Rattle.live_set.specs.Names.{IsName};
 ghost use Rattle.live_set.specs.Sets.{no_loads, map_in, HasAbsorbed, absorbed};
-ghost use Rattle.live_set.specs.Asks.{HasAnswer, query_of, Plain, Context, Number, ContextNumber};
+ghost use Rattle.catalogue.specs.Entry.{key_bytes};
+ghost use Rattle.catalogue.specs.Map.{entry_at};
+ghost use Rattle.catalogue.specs.Value.{IsTranslatedClosed};
+ghost use Rattle.live_set.specs.Asks.{HasAnswer, map_with, query_of, Plain, Context, Number, ContextNumber};
 
 use crate::languages::{counted, first_form};
 use crate::runs::LoadRuns;
@@ -70,6 +73,16 @@ impl CatalogueSet {
         self.held.put(load.try_clone()?)?;
         self.version = self.version.saturating_add(1);
         Ok(())
+    }
+
+    /// The same set again, with a share of each catalogue. Answers AllocError where memory is refused.
+    pub fn try_clone(&self, alloc: Global) -> Result<CatalogueSet, AllocError>
+        ensures { IfOk result (λ set. set ≡ self.now) }
+    {
+        Ok(CatalogueSet {
+            version: self.version,
+            held: self.held.try_clone(alloc)?,
+        })
     }
 
     /// The translation of a msgid in this domain: that of the first locale named by the list of languages whose
@@ -164,5 +177,25 @@ impl CatalogueSet {
                 *n,
             ),
         }
+    }
+
+    /// The text of a message in this domain, in a context or in none, by their bytes, which may be no text, and one NUL
+    /// behind it, which makes it a string of C. It is that of the first locale named by the list of languages whose
+    /// catalogue has the message: the first form, or with a number the form that it takes by that catalogue's rule.
+    /// None exactly where no catalogue named has it. The text is lent from the set alone.
+    pub fn translated_closed(
+        &self,
+        domain: &str,
+        languages: &str,
+        context: Option<&[u8]>,
+        id: &[u8],
+        n: Option<u64>,
+    ) -> Option<&[u8]>
+        ensures { let key = key_bytes (option_map (λ s. s.now) context.entry) id.now in
+            let m = map_with (map_in self.now.held) domain.now languages.now key in
+            IsTranslatedClosed m (entry_at m key) n (option_map (λ s. s.now) result) }
+    {
+        let (catalogue, entry) = self.find_bytes_by_list(domain, languages, context, id)?;
+        Some(catalogue.closed_form_for(&entry, n))
     }
 }

@@ -10,3 +10,4 @@ pub mod Changes
 pub mod StoreRule
 pub mod SeatViews
 pub mod Known
+pub mod AnswerRoom

@@ -1,9 +1,11 @@
 //! Readers.
-ghost use Rattle.std.specs.Prelude.{◌≡◌, [], ◌∷◌, ◌<◌, ◌⊎◌, IfOk, IfErr, string_bytes};
+ghost use Rattle.std.specs.Prelude.{◌≡◌, [], ◌∷◌, ◌<◌, ◌≤◌, ◌⊎◌, IfOk, IfErr, string_bytes};
+ghost use Rattle.std.specs.String.{string_capacity};
 ghost use Rattle.std.specs.Borrow.{sem, RestsIfErr};
 ghost use Rattle.left_right.specs.Sides.{view};
 ghost use Rattle.live_set.specs.Asks.{IsAnswer};
 ghost use Rattle.live_versions.specs.Batches.{joined, version_of, StartsWith};
+ghost use Rattle.live_versions.specs.AnswerRoom.{IsLonger};
 ghost use Rattle.live_versions.specs.Entering.{entry_of, home_name};
 ghost use Rattle.live_versions.specs.contracts.reader.Lookups.{the_row};
 
@@ -119,14 +121,37 @@ impl Lookups {
         ensures later { StartsWith self.new.batches self.old.batches }
         ensures book { self.new.book ≡ self.old.book }
     {
+        let mut text = String::new(alloc);
+        let version = self.ask_into(query, &mut text)?;
+        Ok((version, text))
+    }
+
+    /// One entry: its version, and a query's text in place of what `text` held. A caller that keeps one text for many
+    /// queries soon takes no memory: what `text` has is used again, and more is taken only where the answer is longer.
+    ///
+    /// `Closed` leaves the reader and the text as they were. Where memory was refused the text is empty, and the entry
+    /// may have been made all the same.
+    pub fn ask_into(&mut self, query: &Query, text: &mut String) -> Result<Version, AskFault>
+        ensures ok { IfOk result (λ version.
+            (version ≡ version_of self.new.batches)
+            × IsAnswer (joined self.new.batches) query.now (string_bytes text.new)) }
+        ensures closed { IfErr result (λ fault. (fault ≡ AskFault.Closed)
+            → (self.new ≡ self.old) × (string_bytes text.new ≡ string_bytes text.old)) }
+        ensures memory { IfErr result (λ fault. (fault ≡ AskFault.Memory)
+            → (string_bytes text.new ≡ []) × IsLonger (joined self.new.batches) query.now (string_capacity text.old)) }
+        ensures room { string_capacity text.old ≤ string_capacity text.new }
+        ensures later { StartsWith self.new.batches self.old.batches }
+        ensures book { self.new.book ≡ self.old.book }
+    {
         let Ok(pinned) = self.enter() else {
             return Err(AskFault::Closed);
         };
         let version = pinned.version();
-        let copy = String::from_str(alloc, pinned.look(query));
+        text.clear();
+        let copied = text.push_str(pinned.look(query));
         pinned.leave();
-        match copy {
-            Ok(text) => Ok((version, text)),
+        match copied {
+            Ok(()) => Ok(version),
             Err(_) => Err(AskFault::Memory),
         }
     }

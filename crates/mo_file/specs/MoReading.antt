@@ -1,5 +1,4 @@
--- Which bytes are an MO file, and of which map (manual, "The Format of GNU MO Files"); and why other bytes
--- are refused.
+-- Which bytes are an MO file, and of which map, and why other bytes are refused (GNU gettext manual, "MO Files").
 use Rattle.std.specs.Prelude.{◌≡◌, ℕ, ◌+◌, ◌*◌, ◌<◌, ◌≤◌, ⊤, ◌==◌, if◌then◌else◌, List, [], length, map, slice_index}
 use Rattle.std.specs.Prelude.{count_by}
 use Rattle.std.specs.List.{before_first}

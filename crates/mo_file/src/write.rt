@@ -7,7 +7,7 @@ use catalogue::Catalogue;
 use std::alloc::{AllocError, Global};
 
 /// The one MO file of a catalogue: revision 0, words low byte first, no hash table and no padding
-/// (GNU gettext manual, "The Format of GNU MO Files"). It is one copy of the file that the
+/// (GNU gettext manual, "MO Files"). It is one copy of the file that the
 /// catalogue keeps. It is an error only that memory was refused.
 pub fn write_mo(alloc: Global, catalogue: &Catalogue) -> Result<Vec<u8>, AllocError>
     ensures file { IfOk result (λ v. v.items ≡ spelling catalogue.now) }

@@ -1,6 +1,6 @@
 -- Texts with the NUL behind them: in a file, and the forms of an entry.
 use Rattle.std.proofs.Common.{◌≡◌, ℕ, zero, suc, ◌+◌, ◌-◌, ◌<◌, List, [], ◌∷◌, ◌++◌, length, take, drop, get_or, eqb}
-use Rattle.std.proofs.Common.{Option, Some, slice_get, refl, sym, ap, ◌∙◌, subst, arith, append_assoc}
+use Rattle.std.proofs.Common.{Option, Some, None, slice_get, refl, sym, ap, ◌∙◌, subst, arith, append_assoc}
 use Rattle.std.specs.Prelude.{IfSome, slice_index, ◌==◌}
 use Rattle.std.specs.List.{AllByRecursion, join_with_byte, slice_split}
 use Rattle.std.specs.Str.{IsUtf8}
@@ -11,7 +11,7 @@ use Rattle.std.proofs.lemmas.List.Sums.{passes_at_first}
 use Rattle.std.proofs.lemmas.Str.{IsUtf8-append}
 use Rattle.byteorder.specs.Endian.{little_number}
 use Rattle.text_cut.specs.Cut.{cut, place_of, IsCut}
-use Rattle.mo_image.specs.Entry.{Entry, IsLawfulEntry, Lacks}
+use Rattle.mo_image.specs.Entry.{Entry, HasForms, IsLawfulEntry, Lacks}
 use Rattle.mo_image.specs.Extents.{piece, HoldsClosed, IsNamedAt}
 use Rattle.mo_image.specs.Image.{NamesText}
 use Rattle.mo_image.specs.Lent.{IsClosedCut, IsLent}
@@ -115,3 +115,20 @@ cut_told forms k left front behind at are told =
     let so : IsClosedCut (at.0, pool (drop (k + 1) forms)) front behind = subst P
     (ap (cut 0) are ∙ at.1.split) told in
     (rw at.1.found so.form, so.others)
+
+-- ---- the only form
+
+one_form : (forms : List (List ℕ)) (t : List ℕ) (k : ℕ) → length forms ≡ 1 → join_with_byte 0 forms ≡ t
+    → k < length forms → slice_get forms k ≡ Some t
+one_form [] t k one joined lt = absurd (omega (arith, lt))
+one_form (f ∷ g ∷ fs) t k one joined lt = absurd (omega (arith, one))
+one_form (f ∷ []) t zero one joined lt = ap (λ (x : List ℕ). Some x) joined
+one_form (f ∷ []) t (suc k) one joined lt = absurd (omega (arith, lt))
+
+-- an entry without a plural has its translation as its only form
+pub only_form : (o t : List ℕ) (e : Entry) (k : ℕ) → IsLawfulEntry (entry_of o t) → entry_of o t ≡ e → e.plural ≡ None
+    → k < length e.forms → slice_get e.forms k ≡ Some t
+only_form o t e k lawful view none lt =
+    one_form e.forms t k
+    (subst (λ (p : Option (List ℕ)). HasForms p e.forms) none (subst IsLawfulEntry view lawful).counted)
+    (ap (λ (x : Entry). join_with_byte 0 x.forms) (sym view) ∙ join_with_byte-slice_split 0 t) lt

@@ -146,7 +146,7 @@ pub parts_again : (o : List ℕ) → with_plural (key_part o) (plural_part o) �
 parts_again o = plural_again_by o (holds 0 o) refl
 
 -- what isn't cut at a byte has none
-lacks_from : (byte : ℕ) (text : List ℕ) → length text ≤ place byte text → Lacks byte text
+pub lacks_from : (byte : ℕ) (text : List ℕ) → length text ≤ place byte text → Lacks byte text
 lacks_from byte [] le = tt
 lacks_from byte (x ∷ xs) le = of (is byte x) refl (λ h. lacks_from byte xs h)
   where

@@ -1,4 +1,5 @@
--- One entry of a catalogue, by its texts, and the two strings that an MO file has of it.
+-- One entry of a catalogue, by its texts, and the two strings that an MO file has of it (GNU gettext manual, "MO
+-- Files").
 use Rattle.std.specs.Prelude.{◌≡◌, ◌≢◌, ℕ, ◌<◌, List, ◌∷◌, ◌++◌, length, Option, Some, None, IfSome}
 use Rattle.std.specs.List.{AllByRecursion, join_with_byte}
 use Rattle.std.specs.Str.{IsUtf8}
@@ -11,7 +12,7 @@ pub record Entry : Type 0 where
   pub forms : List (List ℕ)
 
 -- the key's bytes: the msgid, behind its context and EOT (byte 4) where it has one
--- (manual, "The Format of GNU MO Files": contexts)
+-- (GNU gettext manual, "MO Files": contexts)
 abbrev pub key_bytes : Option (List ℕ) → List ℕ → List ℕ
 key_bytes None id = id
 key_bytes (Some context) id = context ++ (4 ∷ id)
@@ -20,7 +21,7 @@ abbrev pub key : Entry → List ℕ
 key e = key_bytes e.context e.id
 
 -- the original: the key's bytes, and behind NUL the msgid_plural where there is one
--- (manual, "The Format of GNU MO Files": plural forms)
+-- (GNU gettext manual, "MO Files": plural forms)
 abbrev pub with_plural : List ℕ → Option (List ℕ) → List ℕ
 with_plural k None = k
 with_plural k (Some plural) = k ++ (0 ∷ plural)

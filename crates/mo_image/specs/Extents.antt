@@ -1,4 +1,4 @@
--- Where the strings of an entry lie in an MO file.
+-- Where the strings of an entry lie in an MO file (GNU gettext manual, "MO Files").
 use Rattle.std.specs.Prelude.{◌≡◌, ℕ, ◌+◌, ◌*◌, ◌<◌, ◌≤◌, List, length, take, drop, slice_index}
 use Rattle.std.specs.Str.{IsUtf8}
 use Rattle.byteorder.specs.Endian.{little_number}

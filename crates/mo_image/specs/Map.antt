@@ -1,4 +1,5 @@
--- A map from keys to entries, as the list of its entries in rising order of their keys' bytes.
+-- A map from keys to entries, as the list of its entries in rising order of their keys' bytes (GNU gettext manual,
+-- "MO Files").
 use Rattle.std.specs.Prelude.{◌≡◌, ℕ, ◌≤◌, List, [], ◌∷◌, length, map, ⊤, Option, option_map, IfSome}
 use Rattle.std.specs.List.{AllByRecursion, find}
 use Rattle.std.specs.Ordering.{nat_cmp}
@@ -24,7 +25,8 @@ first_form (form ∷ forms) = form
 abbrev pub entry_at : List Entry → List ℕ → Option Entry
 entry_at m k = find (λ e. bytes_eq (key e) k) m
 
--- the header's text: the first form of the entry with no context and the empty msgid (manual, "Header Entry")
+-- the header's text: the first form of the entry with no context and the empty msgid (GNU gettext manual, "Header
+-- Entry")
 abbrev pub header_text : List Entry → Option (List ℕ)
 header_text m = option_map (λ e. first_form e.forms) (entry_at m [])
 

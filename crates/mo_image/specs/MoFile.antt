@@ -1,5 +1,5 @@
--- The one MO file that is written of a map: revision 0, no hash table, the words low byte first
--- (manual, "The Format of GNU MO Files").
+-- The one MO file that is written of a map: revision 0, no hash table, the words low byte first (GNU gettext manual,
+-- "MO Files").
 use Rattle.std.specs.Prelude.{ℕ, ◌+◌, ◌*◌, List, [], ◌∷◌, ◌++◌, length, map}
 use Rattle.std.specs.List.{flat_map}
 use Rattle.byteorder.specs.Endian.{little_bytes}

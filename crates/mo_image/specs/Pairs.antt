@@ -1,4 +1,4 @@
--- The entries that originals and translations are: cut at their NULs.
+-- The entries that originals and translations are: cut at their NULs (GNU gettext manual, "MO Files").
 use Rattle.std.specs.Prelude.{◌≡◌, ℕ, ◌<◌, ◌==◌, List, [], ◌∷◌, length, slice_index, Option, option_map}
 use Rattle.std.specs.List.{before_first}
 use Rattle.mo_image.specs.Entry.{Entry}

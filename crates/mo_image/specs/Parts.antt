@@ -1,4 +1,4 @@
--- An entry by its key, its plural and its translation.
+-- An entry by its key, its plural and its translation (GNU gettext manual, "MO Files").
 use Rattle.std.specs.Prelude.{ℕ, ◌==◌, List, [], Option, Some, None, option_map}
 use Rattle.std.specs.List.{slice_split}
 use denote.Ref.{Bor}

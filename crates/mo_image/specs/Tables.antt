@@ -1,5 +1,6 @@
--- Where strings lie in an MO file (manual, "The Format of GNU MO Files"). The file's words are read by
--- `number`, which is little_number or big_number.
+-- Where strings lie in an MO file (GNU gettext manual, "MO Files").
+
+-- The file's words are read by `number`, which is little_number or big_number.
 use Rattle.std.specs.Prelude.{ℕ, zero, suc, ◌+◌, List, [], ◌∷◌, take, drop}
 
 -- the word of 32 bits at a place

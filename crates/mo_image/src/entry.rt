@@ -211,8 +211,20 @@ impl<'a> EntryRef<'a> {
         nul_count(self.translation) + 1
     }
 
-    /// The form with this index. It is found by going over the forms before it.
+    /// The form with this index. It is found by going over the forms before it; the only form of an entry without a
+    /// plural is lent without a look at its bytes.
     pub fn form(&self, k: usize) -> &'a str
+        requires { k < length self.now.forms }
+        ensures { slice_get self.now.forms k ≡ Some result.now }
+    {
+        match self.plural() {
+            Some(_) => self.form_behind(k),
+            None => self.translation,
+        }
+    }
+
+    /// The same, by going over the forms.
+    fn form_behind(&self, k: usize) -> &'a str
         requires { k < length self.now.forms }
         ensures { slice_get self.now.forms k ≡ Some result.now }
     {
@@ -228,8 +240,19 @@ impl<'a> EntryRef<'a> {
         form
     }
 
-    /// The form with this index, and one NUL behind it: a string of C. It is found by going over the forms before it.
+    /// The form with this index, and one NUL behind it: a string of C. It is found as by `form`.
     pub fn closed_form(&self, k: usize) -> &'a [u8]
+        requires { k < length self.now.forms }
+        ensures { IfSome (slice_get self.now.forms k) (λ form. result.now ≡ closed form) }
+    {
+        match self.plural() {
+            Some(_) => self.closed_form_behind(k),
+            None => self.closed.as_bytes(),
+        }
+    }
+
+    /// The same, by going over the forms.
+    fn closed_form_behind(&self, k: usize) -> &'a [u8]
         requires { k < length self.now.forms }
         ensures { IfSome (slice_get self.now.forms k) (λ form. result.now ≡ closed form) }
     {

@@ -108,7 +108,15 @@ impl Image {
         requires { IsLawful (L.entries list.now) }
         ensures { IfOk result (λ image. image ≡ L.entries list.now) }
     {
-        let bytes = spell(alloc, list)?;
+        Image::spelled_over(Vec::new(alloc), list)
+    }
+
+    /// The same in this memory, whatever it held.
+    pub fn spelled_over<L: EntryList>(memory: Vec<u8>, list: &L) -> Result<Image, AllocError>
+        requires { IsLawful (L.entries list.now) }
+        ensures { IfOk result (λ image. image ≡ L.entries list.now) }
+    {
+        let bytes = spell(memory, list)?;
         Ok(Image { bytes })
     }
 

@@ -1,6 +1,6 @@
 //! The layout of an MO file: a header of seven words, and tables of rows, each with the length and the offset of a
 //! string
-//! (GNU gettext manual, "The Format of GNU MO Files"). All places are in bytes.
+//! (GNU gettext manual, "MO Files"). All places are in bytes.
 
 /// The file's first word, its magic number.
 pub const MAGIC: u32 = 0x9504_12de;

@@ -1,6 +1,6 @@
-//! The entries of a message catalogue, and the one MO file that is written of them (GNU gettext manual, "The Format
-//! of GNU MO Files"): keys, originals and translations, the file's layout, its writer, and the file's bytes as a list
-//! of entries that are lent.
+//! The entries of a message catalogue, and the one MO file that is written of them (GNU gettext manual, "MO Files"):
+//! keys, originals and translations, the file's layout, its writer, and the file's bytes as a list of entries that are
+//! lent.
 #![tactic(auto)]
 
 mod entry;

@@ -6,7 +6,7 @@ ghost use Rattle.mo_image.specs.Stored.{stored_entry};
 
 use std::marker::Model;
 
-/// The strings of an entry, as an MO file has them, lent (manual, "The Format of GNU MO Files"), and
+/// The strings of an entry, as an MO file has them, lent (GNU gettext manual, "MO Files"), and
 /// seen as the entry that has them.
 #[derive(Drop)]
 pub struct EntryStrings<'a> {

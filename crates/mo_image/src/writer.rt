@@ -1,4 +1,4 @@
-//! The MO file of a list of entries (GNU gettext manual, "The Format of GNU MO Files").
+//! The MO file of a list of entries (GNU gettext manual, "MO Files").
 //!
 //! A header of seven words; a table of the originals and one of the translations, each with the length
 //! and the offset of every string; then the strings of the one, and those of the other.
@@ -11,7 +11,7 @@ ghost use Rattle.mo_image.specs.Strings.{string_of, strings_of};
 use crate::layout::{self, MAGIC};
 use crate::messages::{EntryStrings, OwnedStrings};
 use byteorder::{ByteOrder, LittleEndian};
-use std::alloc::{AllocError, Global};
+use std::alloc::AllocError;
 
 /// How many bytes the header has, and a string's row in its table, as words of the file.
 const HEADER_LEN: u32 = layout::HEADER_LEN as u32;
@@ -183,9 +183,9 @@ fn push_header(out: &mut Vec<u8>, n: u32) -> Result<(), AllocError>
 }
 
 /// The one MO file of the entries: revision 0, words low byte first, no hash table and no padding.
-/// Its memory is taken once.
+/// It is written over `memory`, which grows once where it is too small.
 #[tactic(auto, using(crate::proofs::Writing::part_lengths))]
-pub(crate) fn spell<L: EntryList>(alloc: Global, list: &L) -> Result<Vec<u8>, AllocError>
+pub(crate) fn spell<L: EntryList>(memory: Vec<u8>, list: &L) -> Result<Vec<u8>, AllocError>
     requires { IsLawful (L.entries list.now) }
     ensures { IfOk result (λ v. v.items ≡ spelling (L.entries list.now)) }
 {
@@ -193,7 +193,9 @@ pub(crate) fn spell<L: EntryList>(alloc: Global, list: &L) -> Result<Vec<u8>, Al
     let originals = pool_len(list, Side::Original) as u32;
     let translations = pool_len(list, Side::Translation) as u32;
     let first = HEADER_LEN + 2 * ROW_LEN * n;
-    let mut out = Vec::with_capacity(alloc, (first + originals + translations) as usize)?;
+    let mut out = memory;
+    out.clear();
+    out.reserve_exact((first + originals + translations) as usize)?;
     push_header(&mut out, n)?;
     push_pairs(&mut out, list, Side::Original, first)?;
     push_pairs(&mut out, list, Side::Translation, first + originals)?;

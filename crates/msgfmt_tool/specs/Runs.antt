@@ -1,4 +1,4 @@
--- What a run of `msgfmt` does (manual, "msgfmt Invocation").
+-- What a run of `msgfmt` does (GNU gettext manual, "msgfmt Invocation").
 use Rattle.std.specs.Prelude.{◌≡◌, ◌⊎◌, ℕ, Bool, true, false, List, Option, Some, None, IsTrue, IfSome, codes, take}
 use Rattle.std.specs.Str.{bytes_eq}
 use Rattle.std.specs.Io.KnownBytes.{Appends, Consumes}

@@ -1,4 +1,5 @@
--- What the words of a command line ask for, by the definitions of the crate `clap`.
+-- What the words of a command line ask for, by the definitions of the crate `clap` (GNU gettext manual, "msgfmt
+-- Invocation").
 use Rattle.std.specs.Prelude.{◌≡◌, ◌≢◌, ℕ, Bool, false, List, [], ◌∷◌, Option, Some, codes, unwrap_or}
 use Rattle.std.specs.Option.{option_map_or}
 use Rattle.std.specs.Str.{bytes_eq}
@@ -10,7 +11,7 @@ use Rattle.clap.specs.declared.error.kind.ErrorKind.{ErrorKind}
 use Rattle.clap.specs.declared.error.kind.ErrorKind.TheVariants.{DisplayHelp}
 use Rattle.catalogue.specs.declared.Options.{Options}
 
--- ---- the command line of `msgfmt` (manual, "msgfmt Invocation"); -h and --help are clap's own
+-- ---- the command line of `msgfmt` (GNU gettext manual, "msgfmt Invocation"); -h and --help are clap's own
 
 -- a flag by its long name, which is its id
 abbrev pub flag_rule : List ℕ → Rule

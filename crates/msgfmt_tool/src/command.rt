@@ -10,7 +10,6 @@ use crate::texts::Failure;
 use crate::words::{Request, WordsFault, parse};
 use catalogue::Compiled;
 use devices::{Files, Sink, Source};
-use mo_file::write_mo;
 use std::alloc::Global;
 
 /// Delivers what was compiled: the warnings, then FILE, then the statistics.
@@ -32,8 +31,13 @@ fn deliver<F: Files, W: Sink, E: Sink>(
     if request.options.checked {
         warn(alloc, name, compiled, errors)?;
     }
-    let file = write_mo(alloc, &compiled.catalogue)?;
-    write_output(alloc, request.output, file.as_slice(), files, writer)?;
+    write_output(
+        alloc,
+        request.output,
+        compiled.catalogue.file(),
+        files,
+        writer,
+    )?;
     if request.statistics {
         report(alloc, compiled.stats, errors)?;
     }

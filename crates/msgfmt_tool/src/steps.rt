@@ -7,7 +7,7 @@ ghost use Rattle.msgfmt_tool.specs.RunSteps.{CompilesNamed, EndsCompiling, EndsR
 
 use crate::outcome::Cause;
 use crate::texts::StatisticsText;
-use catalogue::{Compiled, MAX_TEXT, Options, Stats, compile};
+use catalogue::{Compiled, MAX_TEXT, Options, Stats, compile_owned};
 use devices::{FileFault, Files, Sink, Source, read_all};
 use po_header::FIELD_NAMES;
 use std::alloc::Global;
@@ -42,7 +42,7 @@ fn read_input<F: Files, R: Source>(
     }
 }
 
-/// What the text of INPUT compiles to. The text is let go: it and its MO file aren't held at once.
+/// What the text of INPUT compiles to. The text is handed over: it and its MO file aren't held at once.
 pub(crate) fn compile_input<F: Files, R: Source>(
     alloc: Global,
     name: &str,
@@ -60,7 +60,7 @@ pub(crate) fn compile_input<F: Files, R: Source>(
     ensures later { F.failures files.old ≤ F.failures files.new }
 {
     let text = read_input(alloc, name, files, reader)?;
-    let compiled = compile(alloc, text.as_slice(), options)?;
+    let compiled = compile_owned(alloc, text, options)?;
     Ok(compiled)
 }
 

@@ -1,4 +1,4 @@
--- What is looked for in the kept entries of a text (manual, "msgfmt Invocation": `--check`).
+-- What is looked for in the kept entries of a text (GNU gettext manual, "msgfmt Invocation": `--check`).
 use Rattle.std.specs.Prelude.{◌≡◌, ◌≢◌, ◌⊎◌, ℕ, ◌-◌, ◌<◌, ◌≤◌, ◌==◌, nat_lt, Bool, true, false, is_some, IsTrue, List}
 use Rattle.std.specs.Prelude.{[], ◌∷◌, ◌++◌, length, Option, Some, None, slice_get}
 use Rattle.std.specs.List.{AllByRecursion, Any}
@@ -38,7 +38,7 @@ text_if (Some text) = text ∷ []
 abbrev pub texts : po.Entry → List (List ℕ)
 texts e = e.id ∷ text_if e.plural ++ e.forms
 
--- ---- formats (manual, "c-format")
+-- ---- formats (GNU gettext manual, "c-format")
 
 -- it is flagged `c-format`, and a text of it names a macro whose size differs from system to system
 pub record HasSystemDependentText (e : po.Entry) : Type 0 where
@@ -73,7 +73,7 @@ pub record HasOtherArguments (e : po.Entry) : Type 0 where
   pub flagged : e.c_format ≡ true
   pub differ : FormsDiffer e
 
--- ---- plural forms (manual, "Plural forms")
+-- ---- plural forms (GNU gettext manual, "Plural forms")
 
 abbrev pub IsPlural : po.Entry → Type 0
 IsPlural e = IsTrue (is_some e.plural)

@@ -1,4 +1,5 @@
--- What the entries of a PO text are refused for, each with its line, and in which order (manual, "msgfmt Invocation").
+-- What the entries of a PO text are refused for, each with its line, and in which order (GNU gettext manual, "msgfmt
+-- Invocation").
 use Rattle.std.specs.Prelude.{◌≡◌, ◌≢◌, ℕ, ◌<◌, AllPairs, IsTrue, List, ◌∷◌, ◌++◌, map, Contains, Some}
 use Rattle.std.specs.List.{Any}
 use Rattle.po_text.specs.Entries as po

@@ -1,4 +1,5 @@
--- Which entries of a PO text go into its catalogue, and the header among them (manual, "msgfmt Invocation").
+-- Which entries of a PO text go into its catalogue, and the header among them (GNU gettext manual, "msgfmt
+-- Invocation").
 use Rattle.std.specs.Prelude.{ℕ, ◌&&◌, ◌||◌, not, is_none, Bool, true, false, List, [], ◌∷◌, Option, option_map}
 use Rattle.std.specs.List.{filter, find}
 use Rattle.std.specs.Option.{option_map_or}
@@ -20,7 +21,7 @@ abbrev pub is_empty : {X : Type 0} → List X → Bool
 is_empty [] = true
 is_empty (x ∷ xs) = false
 
--- the header: no context and the empty msgid (manual, "Header Entry")
+-- the header: no context and the empty msgid (GNU gettext manual, "Header Entry")
 abbrev pub is_header : po.Entry → Bool
 is_header e = is_none e.context && is_empty e.id
 

@@ -6,7 +6,7 @@ ghost use Rattle.po_checks.specs.Kept as Kept;
 use crate::Options;
 use po_text::EntryBuffer;
 
-/// Whether an entry is the header: no context and the empty msgid (manual, "Header Entry").
+/// Whether an entry is the header: no context and the empty msgid (GNU gettext manual, "Header Entry").
 pub fn is_header(entry: &EntryBuffer) -> bool
     ensures { result ≡ Kept.is_header entry.now }
 {

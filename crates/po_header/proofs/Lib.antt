@@ -11,3 +11,4 @@ pub mod Running
 pub mod RuleLemmas
 pub mod StepLemmas
 pub mod PartLemmas
+pub mod Repeating

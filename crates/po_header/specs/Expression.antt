@@ -1,4 +1,4 @@
--- Which tree a text is read as.
+-- Which tree a text is read as (GNU gettext manual, "Plural forms").
 use Rattle.std.specs.Prelude.{ℕ, ◌<◌, Bool, not, ◌||◌, ◌==◌, List, length}
 use Rattle.std.specs.List.{take_while}
 use Rattle.po_header.specs.declared.token.Token.{Token}

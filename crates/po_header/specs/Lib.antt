@@ -15,3 +15,5 @@ pub mod Frames
 pub mod Rule
 pub mod Rules
 pub mod ChoiceSteps
+pub mod Repeats
+pub mod Formulas

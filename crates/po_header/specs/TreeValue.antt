@@ -1,4 +1,4 @@
--- The value of an expression at n: without signs, modulo 2 ^ 64 (an unsigned long of 64 bits).
+-- The value of an expression at n: without signs, modulo 2 ^ 64, as an unsigned long of 64 bits (C standard, 6.5).
 use Rattle.std.specs.Prelude.{ℕ, ◌+◌, ◌-◌, ◌*◌, ◌/◌, ◌%◌, ◌^◌, Bool}
 use Rattle.std.specs.Prelude.{not, ◌==◌, nat_lt, nat_le, if◌then◌else◌, Option, None, Some}
 use Rattle.std.specs.Option.{option_map}

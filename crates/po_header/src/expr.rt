@@ -1,26 +1,44 @@
-// Plural expressions.
-ghost use Rattle.std.specs.Prelude.{◌≡◌, ℕ, ◌<◌, IfOk, length};
+//! Plural expressions.
+ghost use Rattle.std.specs.Prelude.{◌≡◌, IfOk, IsTrue};
 ghost use Rattle.std.proofs.Props.{props};
 ghost use Rattle.po_header.specs.TreeValue.{value};
-ghost use Rattle.po_header.specs.ExprParts.{built};
-ghost use Rattle.po_header.specs.ChoiceSteps.{reached};
+ghost use Rattle.po_header.specs.Formulas.{formula_tree};
+ghost use Rattle.po_header.specs.Repeats.{AreFirst, Repeats};
 
-use crate::parts::{Part, value_at};
-use crate::steps::{Step, run};
+use crate::formula::Formula;
 use crate::tree::Node;
 use std::alloc::{AllocError, Global};
+
+/// For how many numbers the values are kept: for those from 100 to 199 too, at which the values of most rules stand
+/// that all greater numbers have.
+const FIRST_COUNT: u64 = 200;
 
 /// An expression of a plural rule, as a number of forms that depends on `n`.
 #[derive(Debug, Drop)]
 pub struct PluralExpr {
-    parts: Vec<Part>,
-    root: usize,
+    formula: Formula,
 
-    // The same as steps, for the many rules that are choices between numbers; else none.
-    steps: Vec<Step>,
-    start: usize,
-    ghost agrees: { (n : ℕ) → 0 < length steps.items →
-        reached steps.items start n ≡ value (built parts.items root) n } by { Prim.hlevel props },
+    // The values at the first numbers.
+    first: Vec<u8>,
+    ghost first_are: { AreFirst first.items (formula_tree formula) } by { Prim.hlevel props },
+
+    // The values from 100 on hang on the last two digits.
+    repeats: bool,
+    ghost again: { IsTrue repeats → Repeats (formula_tree formula) } by { Prim.hlevel props },
+}
+
+/// The values at the first numbers, up to one whose value fits no byte.
+fn first_values(alloc: Global, formula: &Formula) -> Result<Vec<u8>, AllocError>
+    ensures { IfOk result (λ values. AreFirst values.items (formula_tree formula.now)) }
+{
+    let mut values = Vec::with_capacity(alloc, FIRST_COUNT as usize)?;
+    'numbers: for n in 0..FIRST_COUNT {
+        match formula.value(n) {
+            Some(value) if value < 256 => values.push(value as u8)?,
+            _ => return Ok(values),
+        }
+    }
+    Ok(values)
 }
 
 impl PluralExpr {
@@ -30,22 +48,24 @@ impl PluralExpr {
     pub(crate) fn new(alloc: Global, node: Node) -> Result<PluralExpr, AllocError>
         ensures { IfOk result (λ expr. tree_of expr ≡ node_tree node) }
     {
-        let mut parts = Vec::new(alloc);
-        let root = node.add_parts(&mut parts)?;
-        let mut steps = Vec::new(alloc);
-        match node.add_value(&mut steps)? {
-            Some(start) => Ok(PluralExpr {
-                parts,
-                root,
-                steps,
-                start,
-            }),
-            None => Ok(PluralExpr {
-                parts,
-                root,
-                steps: Vec::new(alloc),
-                start: 0,
-            }),
+        let formula = Formula::new(alloc, &node)?;
+        let first = first_values(alloc, &formula)?;
+        let repeats = node.repeats();
+        Ok(PluralExpr {
+            formula,
+            first,
+            repeats,
+        })
+    }
+
+    /// The number itself, or a small one that has the same value.
+    fn folded(&self, n: u64) -> u64
+        ensures { value (tree_of self.now) result ≡ value (tree_of self.now) n }
+    {
+        if self.repeats && n >= FIRST_COUNT {
+            100 + n % 100
+        } else {
+            n
         }
     }
 
@@ -54,10 +74,10 @@ impl PluralExpr {
     pub fn eval(&self, n: u64) -> Option<u64>
         ensures { result ≡ value (tree_of self.now) n }
     {
-        if self.steps.is_empty() {
-            value_at(&self.parts, self.root, n)
-        } else {
-            run(&self.steps, self.start, n)
+        let n = self.folded(n);
+        match self.first.get(n as usize) {
+            Some(value) => Some(u64::from(*value)),
+            None => self.formula.value(n),
         }
     }
 }

@@ -7,8 +7,10 @@ ghost use Rattle.po_header.specs.declared.ExprFault.TheVariants.{Memory};
 mod charset;
 mod expr;
 mod fields;
+mod formula;
 mod parse;
 mod parts;
+mod repeats;
 mod rule;
 mod search;
 mod steps;
@@ -52,6 +54,3 @@ impl<T: Drop> From<AllocFailed<T>> for ExprFault {
         ExprFault::Memory
     }
 }
-
-#[cfg(test)]
-mod tests;

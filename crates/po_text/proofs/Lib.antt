@@ -1,6 +1,7 @@
 pub mod Chains
 pub mod LaneLemmas
 pub mod UnitLemmas
+pub mod EndLemmas
 pub mod Unique
 pub mod FlagLemmas
 pub mod Grammar

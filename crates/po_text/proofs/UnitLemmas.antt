@@ -1,6 +1,8 @@
 -- Units of a string, one after another.
 use Rattle.std.proofs.Common.{◌≡◌, ℕ, zero, suc, ◌<◌, ◌≤◌, true, false, List, [], ◌∷◌, ◌++◌, length}
 use Rattle.std.proofs.Common.{get_or, take, drop, refl, sym, ap, ◌∙◌, arith, append_assoc, one-add, min, inl, inr}
+use denote.Ref.{Bor}
+use Rattle.std.specs.Prelude.{Result, Ok, Err, IfOk, IfErr}
 use Rattle.std.proofs.lemmas.Bool.{cases_eq, ne_eqb}
 use Rattle.po_text.specs.Spelling.{StringUnit, Plain, UnitAt, UnitsAt, unit_value, is_plain}
 use Rattle.po_text.specs.Spelling.{Octal, is_octal, octal_run, octal_value, IsOpenEnd}
@@ -114,3 +116,22 @@ is_line_end b stops no_quote no_slash = elim (cases_eq b 10) [
 pub open_at_line_end : (b : ℕ) (more : List ℕ) → b ≡ 10 → IsOpenEnd (b ∷ more)
 open_at_line_end b [] e = inl e
 open_at_line_end b (c ∷ more) e = inl e
+
+-- ---- units behind a run
+
+pub ok_behind : (r : Result (Bor (List ℕ)) PoKind) (old run out text after : List ℕ) → old ≡ run
+    → UnitsAt run text after → IfOk r (λ rest. TakesUnits old out after (34 ∷ rest.now))
+    → IfOk r (λ rest. UnitsAt out text (34 ∷ rest.now))
+ok_behind (Ok rest) old run out text after same front h = rw (h.grown, same)
+    (UnitsAt-append run h.values text after (34 ∷ rest.now) front h.units)
+ok_behind (Err kind) old run out text after same front h = tt
+
+pub err_behind : (r : Result (Bor (List ℕ)) PoKind) (run text after : List ℕ) → UnitsAt run text after
+    → IfErr r (λ kind. UnitsFail kind after) → IfErr r (λ kind. UnitsFail kind text)
+err_behind (Ok rest) run text after front h = tt
+err_behind (Err kind) run text after front (values, stop, units, bad) = (
+  run ++ values,
+  stop,
+  UnitsAt-append run values text after stop front units,
+  bad,
+)

@@ -1,4 +1,4 @@
--- Which entries a list of lexemes derives, and which fault of grammar it has: the GNU gettext manual, "PO Files".
+-- Which entries a list of lexemes derives, and which fault of grammar it has (GNU gettext manual, "PO Files").
 use Rattle.std.specs.Prelude.{◌≡◌, ◌≢◌, ℕ, ◌+◌, Bool, true, false, not, List}
 use Rattle.std.specs.Prelude.{[], ◌∷◌, ◌++◌, map, reverse, Option, None, Some, ◌⊎◌}
 use Rattle.std.specs.List.{concat, flat_map, list_any, take_while, Contains, AllByRecursion}

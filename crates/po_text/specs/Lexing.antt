@@ -1,15 +1,18 @@
 -- Private: what the lexer takes of a text.
 use Rattle.std.specs.Prelude.{◌≡◌, ◌≢◌, ℕ, ◌<◌, ◌≤◌, Bool, false, not, List, [], ◌∷◌, ◌++◌, length, Option, Some, ◌+◌}
-use Rattle.std.specs.Prelude.{if◌then◌else◌, ◌==◌, ◌&&◌, nat_le, nat_lt}
+use Rattle.std.specs.Prelude.{None, IfSome, if◌then◌else◌, ◌==◌, ◌&&◌, nat_le, nat_lt}
 use Rattle.std.specs.Int.{w64, trailing_zeros}
 use Rattle.po_text.specs.declared.fault.PoKind.{PoKind}
 use Rattle.po_text.specs.declared.fault.PoKind.TheVariants.{BadEscape, OpenString, Memory}
 use Rattle.std.specs.Option.{option_map}
 use Rattle.std.specs.List.{AllByRecursion}
+use denote.Ref.{Bor}
 use Rattle.po_text.specs.declared.flags.Flags.{Flags}
+use Rattle.po_text.specs.declared.strings.StringBytes.{StringBytes}
 use Rattle.po_text.specs.declared.lexer.Token as code
 use Rattle.po_text.specs.declared.lexer.Token.TheVariants as kinds
 use Rattle.po_text.specs.Chain.{Chain}
+use Rattle.po_text.specs.Ends.{IsPart}
 use Rattle.po_text.specs.Building.{flags_over}
 use Rattle.po_text.specs.Spelling.{Token, Context, Id, Plural, Str, Number, Open, Close}
 use Rattle.po_text.specs.Spelling.{Text, Piece, White, Comment, PieceAt, piece_token, FaultAt, Lexeme}
@@ -52,6 +55,18 @@ pub record TakesUnits (old new text rest : List ℕ) : Type 0 where
   pub values : List ℕ
   pub units : UnitsAt values text rest
   pub grown : new ≡ old ++ values
+
+-- the bytes of the string that was read last
+abbrev pub bytes_of : Option (Bor (List ℕ)) → List ℕ → List ℕ
+bytes_of None decoded = decoded
+bytes_of (Some plain) decoded = plain.now
+
+abbrev pub string_of : StringBytes → List ℕ
+string_of s = bytes_of s.plain s.decoded.items
+
+-- what is lent of a text is a part of it
+abbrev pub HoldsPart : Bool → StringBytes → Type 0
+HoldsPart is_free s = IfSome s.plain (λ plain. IsPart is_free plain.now)
 
 -- the token that the code's token stands for, where a string's bytes stand in text
 abbrev pub token_view : code.Token → List ℕ → Token

@@ -1,5 +1,6 @@
--- What a text gives: its entries, or its first fault. The order of the faults is this project's: size, UTF-8, the first
--- lexical fault, the first fault of grammar.
+-- What a text gives: its entries, or its first fault (GNU gettext manual, "PO Files").
+
+-- The order of the faults is this project's: size, UTF-8, the first lexical fault, the first fault of grammar.
 use Rattle.std.specs.Prelude.{◌≡◌, ℕ, ◌+◌, ◌<◌, ◌≤◌, List, [], ◌∷◌, take, drop, length, ◌⊎◌, if◌then◌else◌}
 use Rattle.std.specs.Str.{IsUtf8, bytes_eq}
 use Rattle.std.specs.Str.Lossy.{utf8_valid_len}

@@ -1,4 +1,6 @@
--- What a reader of entries has read of its text. Callers carry `HasRead` from call to call and need not look into it.
+-- What a reader of entries has read of its text.
+
+-- Callers carry `HasRead` from call to call and need not look into it.
 use Rattle.std.specs.Prelude.{◌≡◌, ℕ, Bool, true, false, List, [], ◌∷◌, ◌++◌, Option, Some, None, ◌⊎◌}
 use Rattle.po_text.specs.declared.reader.EntryReader.{EntryReader}
 use Rattle.po_text.specs.declared.fault.PoFault.{PoFault}

@@ -1,5 +1,7 @@
--- Which tokens a text spells, and which lexical fault it has: the GNU gettext manual, "PO Files"; escapes as the C
--- standard has them in string literals (6.4.4.4, 6.4.5). What neither says is marked (ours).
+-- Which tokens a text spells, and which lexical fault it has (GNU gettext manual, "PO Files"; C standard, 6.4.4.4
+-- and 6.4.5: escapes in strings).
+
+-- What neither says is marked (ours).
 use Rattle.std.specs.Prelude.{◌≡◌, ◌≢◌, ℕ, ◌+◌, ◌-◌, ◌*◌, ◌<◌, ◌≤◌, Bool, true}
 use Rattle.std.specs.Prelude.{false, not, ◌&&◌, ◌||◌, ◌==◌, nat_le, if◌then◌else◌, List, [], ◌∷◌}
 use Rattle.std.specs.Prelude.{◌++◌, map, length, take, Option, None, Some, ◌⊎◌, codes}

@@ -1,6 +1,6 @@
 // Tokens, one after another, and the gaps before them.
 ghost use Rattle.std.specs.Prelude.{◌≡◌, ℕ, ◌+◌, ◌-◌, ◌*◌, ◌<◌, ◌≤◌, ◌^◌, ◌↔◌, ◌⊎◌, ◌++◌};
-ghost use Rattle.std.specs.Prelude.{◌∷◌, [], List, Bool, length, IfOk, IfErr, IfSome, IsTrue, MatchOption};
+ghost use Rattle.std.specs.Prelude.{◌∷◌, [], List, Bool, length, IfOk, IfErr, IfSome, IsTrue, MatchOption, false};
 ghost use Rattle.std.specs.List.{filter_map, prefix_len, slice_split, take_while};
 ghost use Rattle.po_text.specs.Building.{flags_over};
 ghost use Rattle.po_text.specs.Lexing.{is_no_separator};
@@ -9,16 +9,15 @@ ghost use Rattle.po_text.specs.Spelling.{is_not_line_end, word_token, number_of,
 ghost use Rattle.po_text.specs.Spelling.{Word, Quoted, FaultAt};
 ghost use Rattle.po_text.specs.Spelling as spec;
 ghost use Rattle.po_text.specs.Lexing.{word_view, token_view, IsLawfulToken, StopsGap};
-ghost use Rattle.po_text.specs.Lexing.{TakesToken, HasNext, HasEnd, HasFaultFrom};
+ghost use Rattle.po_text.specs.Lexing.{TakesToken, string_of, HasNext, HasEnd, HasFaultFrom};
+ghost use Rattle.po_text.specs.Ends.{EndsText};
 ghost use Rattle.po_text.specs.Faults.{out_of_memory};
 ghost use Rattle.po_text.specs.declared.fault.PoKind.TheVariants.{BadWord, Memory};
 
 use crate::fault::{PoFault, PoKind};
 use crate::flags::{Flags, comment_flags};
-use crate::plain::are_simple;
-use crate::scan::{is_white_byte, split_byte, split_line};
-use crate::units::read_units;
-use simdutf8::is_utf8;
+use crate::scan::{is_free_of_nul, is_white_byte, split_byte, split_line};
+use crate::strings::StringBytes;
 
 /// A token; the bytes of a string stand apart.
 #[derive(Clone, Copy, Debug, PartialEq, Eq)]
@@ -37,8 +36,11 @@ pub(crate) enum Token {
 #[derive(Drop)]
 pub(crate) struct Lexer<'a> {
     pub(crate) rest: &'a [u8],
+    /// Whether there is no NUL in it.
+    is_free: bool,
     pub(crate) line: u32,
     pub(crate) flags: Flags,
+    ghost ends: { EndsText is_free rest.now },
 }
 
 fn is_letter_digit(byte: u8) -> bool
@@ -94,13 +96,6 @@ fn token_of(word: &[u8]) -> Option<Token>
     }
 }
 
-/// Whether a string may hold these bytes.
-fn is_lawful(bytes: &[u8]) -> bool
-    ensures { IsTrue result ↔ IsLawful bytes.now }
-{
-    are_simple(bytes) || (!bytes.contains(&0) && is_utf8(bytes))
-}
-
 /// Reads the word at the front.
 fn read_word(text: &[u8]) -> Result<(Token, &[u8]), PoKind>
     ensures ok { IfOk result (λ x. (token : spec.Token)
@@ -121,25 +116,34 @@ fn read_word(text: &[u8]) -> Result<(Token, &[u8]), PoKind>
 }
 
 /// Reads the string behind an opening quote.
-fn read_string<'a>(inner: &'a [u8], bytes: &mut Vec<u8>) -> Result<&'a [u8], PoKind>
-    ensures ok { IfOk result (λ rest. PieceAt (Quoted bytes.new.items) (34 ∷ inner.now) rest.now) }
+fn read_string<'a>(
+    inner: &'a [u8],
+    is_free: bool,
+    bytes: &mut StringBytes<'a>,
+) -> Result<&'a [u8], PoKind>
+    requires { EndsText is_free (34 ∷ inner.now) }
+    ensures ok { IfOk result (λ rest. PieceAt (Quoted (string_of bytes.new)) (34 ∷ inner.now) rest.now) }
     ensures shorter { IfOk result (λ rest. length rest.now < length inner.now) }
     ensures err { IfErr result (λ kind. (kind ≡ Memory) ⊎ FaultAt kind (34 ∷ inner.now)) }
 {
-    bytes.clear();
-    let rest = read_units(inner, bytes)?;
-    if !is_lawful(bytes) {
+    let rest = bytes.read(inner)?;
+    if !bytes.is_lawful(is_free) {
         return Err(PoKind::BadText);
     }
     Ok(rest)
 }
 
 /// Reads the token at the front.
-fn read_token<'a>(text: &'a [u8], bytes: &mut Vec<u8>) -> Result<(Token, &'a [u8]), PoKind>
+fn read_token<'a>(
+    text: &'a [u8],
+    is_free: bool,
+    bytes: &mut StringBytes<'a>,
+) -> Result<(Token, &'a [u8]), PoKind>
+    requires ends { EndsText is_free text.now }
     requires some { 0 < length text.now }
     requires no_gap { StopsGap text.now }
-    ensures ok { IfOk result (λ x. TakesToken x.0 bytes.new.items text.now x.1.now) }
-    ensures lawful { IfOk result (λ x. IsLawfulToken (token_view x.0 bytes.new.items)) }
+    ensures ok { IfOk result (λ x. TakesToken x.0 (string_of bytes.new) text.now x.1.now) }
+    ensures lawful { IfOk result (λ x. IsLawfulToken (token_view x.0 (string_of bytes.new))) }
     ensures shorter { IfOk result (λ x. length x.1.now < length text.now) }
     ensures err { IfErr result (λ kind. (kind ≡ Memory) ⊎ FaultAt kind text.now) }
 {
@@ -147,7 +151,7 @@ fn read_token<'a>(text: &'a [u8], bytes: &mut Vec<u8>) -> Result<(Token, &'a [u8
         unreachable!()
     };
     if byte == b'"' {
-        let rest = read_string(later, bytes)?;
+        let rest = read_string(later, is_free, bytes)?;
         Ok((Token::Text, rest))
     } else if byte == b'[' {
         Ok((Token::Open, later))
@@ -165,12 +169,14 @@ impl<'a> Lexer<'a> {
 
     /// A lexer at the front of a text.
     pub(crate) fn new(text: &'a [u8]) -> Lexer<'a>
+        requires { EndsText false text.now }
         ensures rest { result.rest.now ≡ text.now }
         ensures line { result.line ≡ 1 }
         ensures flags { result.flags ≡ no_flags }
     {
         Lexer {
             rest: text,
+            is_free: is_free_of_nul(text),
             line: 1,
             flags: Flags::NONE,
         }
@@ -200,14 +206,17 @@ impl<'a> Lexer<'a> {
     }
 
     /// Reads the next token behind a gap, with `line` its line; None at the end.
-    pub(crate) fn next_token(&mut self, bytes: &mut Vec<u8>) -> Result<Option<Token>, PoFault>
+    pub(crate) fn next_token(
+        &mut self,
+        bytes: &mut StringBytes<'a>,
+    ) -> Result<Option<Token>, PoFault>
         requires { self.old.line + length self.old.rest.now < 2 ^ 32 }
         ensures next { IfOk result (λ found. MatchOption found
             (HasEnd self.old.flags self.old.line self.old.rest.now)
-            (λ token. HasNext token bytes.new.items self.old.flags self.old.line self.old.rest.now
+            (λ token. HasNext token (string_of bytes.new) self.old.flags self.old.line self.old.rest.now
             self.new.flags self.new.line self.new.rest.now)) }
         ensures lawful { IfOk result (λ found.
-            IfSome found (λ token. IsLawfulToken (token_view token bytes.new.items))) }
+            IfSome found (λ token. IsLawfulToken (token_view token (string_of bytes.new)))) }
         ensures room { IfOk result (λ _.
             self.new.line + length self.new.rest.now ≤ self.old.line + length self.old.rest.now) }
         ensures falls { IfOk result (λ _. length self.new.rest.now ≤ length self.old.rest.now) }
@@ -218,7 +227,7 @@ impl<'a> Lexer<'a> {
         if self.rest.is_empty() {
             return Ok(None);
         }
-        match read_token(self.rest, bytes) {
+        match read_token(self.rest, self.is_free, bytes) {
             Ok((token, rest)) => {
                 self.rest = rest;
                 Ok(Some(token))
@@ -228,7 +237,7 @@ impl<'a> Lexer<'a> {
     }
 
     /// Reads all tokens up to the end.
-    pub(crate) fn skip_tokens(&mut self, bytes: &mut Vec<u8>) -> Result<(), PoFault>
+    pub(crate) fn skip_tokens(&mut self, bytes: &mut StringBytes<'a>) -> Result<(), PoFault>
         requires { self.old.line + length self.old.rest.now < 2 ^ 32 }
         ensures ok { IfOk result (λ _. (text : List ℕ) (found : List Lexeme) →
             TakesLexemes found 1 text self.old.line self.old.rest.now

@@ -16,8 +16,7 @@ mod plain;
 mod read;
 mod reader;
 mod scan;
-#[cfg(test)]
-mod tests;
+mod strings;
 mod units;
 
 pub use buffer::EntryBuffer;

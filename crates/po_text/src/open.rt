@@ -1,5 +1,7 @@
 // Whether a text can be read, and where it begins.
-ghost use Rattle.std.specs.Prelude.{◌≡◌, ◌+◌, ◌<◌, ◌≤◌, ◌^◌, [], IfOk, IfErr, None, length};
+ghost use Rattle.std.specs.Prelude.{◌≡◌, ◌+◌, ◌<◌, ◌≤◌, ◌^◌, [], IfOk, IfErr, None, false, length};
+ghost use Rattle.std.specs.Str.{IsUtf8};
+ghost use Rattle.po_text.specs.Ends.{EndsText};
 ghost use Rattle.po_text.specs.Outcome.{IsReadable, Refuses, body};
 ghost use Rattle.po_text.specs.Progress.{HasRead, fault_of};
 ghost use Rattle.po_text.specs.Spelling.{newlines};
@@ -21,6 +23,7 @@ fn line_behind(text: &[u8]) -> u32
 fn skip_mark(text: &[u8]) -> &[u8]
     ensures is { result.now ≡ body text.now }
     ensures shorter { length result.now ≤ length text.now }
+    ensures ends { IsUtf8 text.now → EndsText false result.now }
 {
     let (front, rest) = text.split_at(text.len().min(3));
     if front == b"\xef\xbb\xbf".as_slice() {

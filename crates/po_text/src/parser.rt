@@ -1,9 +1,10 @@
 // Entries, put together from one token after another.
-ghost use Rattle.std.specs.Prelude.{◌≡◌, ℕ, ◌+◌, ◌<◌, ◌≤◌, ◌^◌, ◌⊎◌, [], List, length, IfOk, IfErr, Some, true};
+ghost use Rattle.std.specs.Prelude.{◌≡◌, ℕ, ◌+◌, ◌<◌, ◌≤◌, ◌^◌, ◌⊎◌, [], List, length, IfOk, IfErr, Some, false, true};
 ghost use Rattle.std.specs.Bool.{OnTrue};
 ghost use Rattle.po_text.specs.declared.fault.PoKind.TheVariants.{BadOrder};
-ghost use Rattle.po_text.specs.Lexing.{token_view, IsLawfulToken};
+ghost use Rattle.po_text.specs.Lexing.{token_view, string_of, IsLawfulToken};
 ghost use Rattle.po_text.specs.Places.{place_view, next_count, step, IsBoundary};
+ghost use Rattle.po_text.specs.Ends.{EndsText};
 ghost use Rattle.po_text.specs.Faults.{out_of_memory};
 ghost use Rattle.po_text.specs.Entries.{Entry};
 ghost use Rattle.po_text.specs.Building.{Draft, draft_of, keyword_line};
@@ -16,6 +17,7 @@ use crate::fault::{PoFault, PoKind};
 use crate::flags::Flags;
 use crate::lexer::{Lexer, Token};
 use crate::places::{Place, forms_after, next_place, opens_entry};
+use crate::strings::StringBytes;
 use std::alloc::{AllocError, Global};
 
 /// A text whose entries are put together one after another. Between two of them the opening keyword
@@ -24,7 +26,7 @@ use std::alloc::{AllocError, Global};
 pub(crate) struct Parser<'a> {
     lexer: Lexer<'a>,
     /// The bytes of the string that was read last.
-    bytes: Vec<u8>,
+    bytes: StringBytes<'a>,
     /// What was read last.
     place: Place,
     /// How many plural forms of the entry are complete.
@@ -80,13 +82,14 @@ impl<'a> Parser<'a> {
 
     /// A parser at the front of a text.
     pub(crate) fn new(alloc: Global, text: &'a [u8]) -> Parser<'a>
-        requires { length text.now + 1 < 2 ^ 32 }
+        requires ends { EndsText false text.now }
+        requires short { length text.now + 1 < 2 ^ 32 }
         ensures read { HasParsed text.now [] result }
         ensures ready { IsReady result }
     {
         Parser {
             lexer: Lexer::new(text),
-            bytes: Vec::new(alloc),
+            bytes: StringBytes::new(alloc),
             place: Place::Start,
             count: 0,
             line: 0,
@@ -104,9 +107,9 @@ impl<'a> Parser<'a> {
         into: &mut EntryBuffer,
     ) -> Result<bool, AllocError>
         requires room { self.old.count + 1 < 2 ^ 32 }
-        requires lawful { IsLawfulToken (token_view token self.old.bytes.items) }
+        requires lawful { IsLawfulToken (token_view token (string_of self.old.bytes)) }
         requires form { HasForm (place_view self.old.place self.old.count) (draft_of into.old) }
-        requires stands { step (place_view self.old.place self.old.count) (token_view token self.old.bytes.items)
+        requires stands { step (place_view self.old.place self.old.count) (token_view token (string_of self.old.bytes))
             ≡ Some (place_view place (next_count self.old.place token self.old.count)) }
         ensures rest { self.new.lexer.rest.now ≡ self.old.lexer.rest.now }
         ensures line { self.new.lexer.line ≡ self.old.lexer.line }
@@ -114,13 +117,13 @@ impl<'a> Parser<'a> {
         ensures finished { self.new.finished ≡ self.old.finished }
         ensures form { IfOk result (λ opened. KeepsForm opened self.new into.new) }
         ensures taken { IfOk result (λ opened. (done : List Draft) →
-            TakesToken opened done (token_view token self.old.bytes.items) self.old.lexer.line
+            TakesToken opened done (token_view token (string_of self.old.bytes)) self.old.lexer.line
             self.old into.old self.new into.new) }
     {
         let before = self.place;
         self.place = place;
         if !opens_entry(before, token) {
-            into.put(before, token, &self.bytes)?;
+            into.put(before, token, self.bytes.as_slice())?;
             self.count = forms_after(before, token, self.count);
             self.keyword_line = keyword_after(token, self.lexer.line, self.keyword_line);
             return Ok(false);
@@ -166,7 +169,7 @@ impl<'a> Parser<'a> {
         ensures { (result ≡ out_of_memory) ⊎ ((text : List ℕ) →
             Refused text self.old.lexer.line self.old.lexer.rest.now
             (place_view self.old.place self.old.count) self.old.keyword_line
-            (token_view token self.old.bytes.items)
+            (token_view token (string_of self.old.bytes))
             → IsFaulty text result.kind result.line) }
     {
         let fault = refusal_of(self.place, token, self.lexer.line, self.keyword_line);
@@ -196,7 +199,8 @@ impl<'a> Parser<'a> {
             let Some(token) = self.lexer.next_token(&mut self.bytes)? else {
                 return self.end(last)
             };
-            let Some(place) = next_place(self.place, token, self.count, &self.bytes) else {
+            let Some(place) = next_place(self.place, token, self.count, self.bytes.as_slice())
+            else {
                 return Err(self.refuse(token))
             };
             if self.take(token, place, into)? {

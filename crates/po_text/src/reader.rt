@@ -1,6 +1,8 @@
 // The entries of a text, one after another.
 ghost use Rattle.std.specs.Prelude.{◌≡◌, ℕ, ◌+◌, ◌<◌, ◌≤◌, ◌^◌, ◌⊎◌, [], List, Err, IfOk, IfErr, Some, None, length};
+ghost use Rattle.std.specs.Prelude.{false};
 ghost use Rattle.std.specs.Bool.{OnTrue};
+ghost use Rattle.po_text.specs.Ends.{EndsText};
 ghost use Rattle.po_text.specs.Entries.{Entry};
 ghost use Rattle.po_text.specs.Parsing.{IsReady};
 ghost use Rattle.po_text.specs.declared.fault.PoFault.{PoFault as Fault};
@@ -23,7 +25,8 @@ impl<'a> EntryReader<'a> {
 
     /// A reader at the front of a text without a byte order mark.
     pub(crate) fn new(alloc: Global, text: &'a [u8]) -> EntryReader<'a>
-        requires { length text.now + 1 < 2 ^ 32 }
+        requires ends { EndsText false text.now }
+        requires short { length text.now + 1 < 2 ^ 32 }
         ensures read { HasRead text.now [] result }
         ensures fault { fault_of result ≡ None }
     {

@@ -1,6 +1,6 @@
 // White space, and the fronts of slices.
-ghost use Rattle.std.specs.Prelude.{◌≡◌, ◌≤◌, ◌++◌, ◌∷◌, [], length, MatchOption};
-ghost use Rattle.std.specs.List.{take_while};
+ghost use Rattle.std.specs.Prelude.{◌≡◌, ◌≤◌, ◌++◌, ◌∷◌, [], length, IsTrue, MatchOption};
+ghost use Rattle.std.specs.List.{take_while, Contains};
 ghost use Rattle.po_text.specs.Spelling.{is_white, is_not_line_end};
 
 use bstr::ByteSlice;
@@ -20,6 +20,13 @@ pub(crate) fn split_byte(text: &[u8]) -> Option<(u8, &[u8])>
         [] => None,
         [byte, rest @ ..] => Some((*byte, rest)),
     }
+}
+
+/// Whether no byte is NUL; a search by vectors, for a whole text.
+pub(crate) fn is_free_of_nul(text: &[u8]) -> bool
+    ensures { IsTrue result → ¬ Contains text.now 0 }
+{
+    text.find_byte(0).is_none()
 }
 
 /// The bytes before the next LF or the end, and the rest.

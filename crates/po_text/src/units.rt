@@ -35,7 +35,8 @@ fn is_octal_digit(byte: u8) -> bool
 }
 
 /// Cuts off the plain bytes at the front.
-fn plain_run(text: &[u8]) -> (&[u8], &[u8])
+pub(crate) fn plain_run(text: &[u8]) -> (&[u8], &[u8])
+    ensures parts { text.now ≡ result.0.now ++ result.1.now }
     ensures units { UnitsAt result.0.now text.now result.1.now }
     ensures stops { StopsPlain result.1.now }
     ensures shorter { length result.1.now ≤ length text.now }

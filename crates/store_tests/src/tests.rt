@@ -344,6 +344,31 @@ fn a_closed_store_answers_nothing(rt: HostRuntime) -> Result<(), Fail> {
     Ok(())
 }
 
+#[test]
+fn answers_take_the_place_of_a_text(rt: HostRuntime) -> Result<(), Fail> {
+    let french = query(rt.alloc(), "fr")?;
+    let swedish = query(rt.alloc(), "sv")?;
+    let mut text = String::from_str(rt.alloc(), "a text of the caller's")?;
+    let (mut publisher, mut readers) = open_store(&rt, rt.alloc(), 1, 9)?;
+    let Some(mut reader) = readers.pop() else {
+        publisher.end(&rt);
+        return Ok(());
+    };
+    let loaded = publisher.load(rt.alloc(), "app", "fr", SALUT, PLAIN);
+    let published = publisher.publish(&rt);
+    let first = reader.ask_into(&french, &mut text);
+    let is_salut = text.as_str() == "salut";
+    let second = reader.ask_into(&swedish, &mut text);
+    let is_msgid = text.as_str() == "hi";
+    publisher.end(&rt);
+    let closed = reader.ask_into(&french, &mut text);
+    assert!(rt; loaded == Ok(ONE) && published == Ok(1));
+    assert!(rt; first == Ok(1) && is_salut);
+    assert!(rt; second == Ok(1) && is_msgid);
+    assert!(rt; closed == Err(AskFault::Closed) && text.as_str() == "hi");
+    Ok(())
+}
+
 type FileLoaded = Result<u64, StoreFault>;
 
 const BOUNDS: StoreFault = StoreFault::RefusedMo(MoFault::Bounds);

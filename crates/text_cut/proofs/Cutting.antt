@@ -1,7 +1,9 @@
 -- Texts cut at the first byte of a kind.
-use Rattle.std.proofs.Common.{◌≡◌, ℕ, ◌+◌, ◌-◌, ◌<◌, cond, List, length, take, drop, Some, None, sym, ap, ◌∙◌, arith}
+use Rattle.std.proofs.Common.{◌≡◌, ℕ, ◌+◌, ◌-◌, ◌<◌, ◌↔◌, Bool, true, false, not, cond, List, length, take, drop}
+use Rattle.std.proofs.Common.{Option, Some, None, refl, sym, ap, ◌∙◌, arith}
+use Rattle.std.specs.Prelude.{is_some}
 use Rattle.std.specs.List.{position_or_len, before_first, after_first, slice_range}
-use Rattle.std.proofs.lemmas.Bool.{false_from_ne_true, lt-ltb, le-ltb}
+use Rattle.std.proofs.lemmas.Bool.{false_from_ne_true, false≢true, lt-ltb, le-ltb}
 use Rattle.std.proofs.lemmas.List.{take_all}
 use Rattle.std.proofs.lemmas.List.Sums.{position_or_len_is}
 use Rattle.bstr.specs.Find.{IsFirstByte, is_byte}
@@ -52,3 +54,15 @@ cut_is byte text front behind at = ap (λ f. Some (f, behind)) at.front_is
 -- a text without the byte is all in front of it
 pub front_whole : (byte : ℕ) (text : List ℕ) → place byte text ≡ length text → text ≡ before_first (is_byte byte) text
 front_whole byte text none = sym (take_all (place byte text) text (omega (arith, none)))
+
+-- ---- a text without the byte
+
+pub lacks_is : (byte : ℕ) (text : List ℕ) (at : Option ℕ) (test : Bool) → IsFirstByte (is_byte byte) text at
+    → is_some at ≡ not test → (test ≡ true) ↔ (place byte text ≡ length text)
+lacks_is byte text None true first some = ((λ e. place_none byte text first), (λ e. refl))
+lacks_is byte text None false first some = absurd (false≢true some)
+lacks_is byte text (Some k) true first some = absurd (false≢true (sym some))
+lacks_is byte text (Some k) false first some = (
+  (λ e. absurd (false≢true e)),
+  (λ none. absurd (omega (arith, place_found byte text k first, first.0.high, none))),
+)

@@ -1,8 +1,8 @@
 //! Texts cut at a byte: at the NUL between the forms of a message, at the byte between a context and a msgid, at the
-//! end of
-//! a line.
+//! end of a line.
 #![tactic(auto)]
 
 mod cut;
+mod place;
 
-pub use cut::split_at_byte;
+pub use cut::{lacks_byte, split_at_byte, split_bytes_at};

@@ -1,7 +1,7 @@
 -- Texts beside the numbers that their first bytes spell.
 use Rattle.std.proofs.Common.{◌≡◌, ℕ, zero, suc, ◌+◌, ◌*◌, ◌^◌, ◌<◌, ◌≤◌, List, [], ◌∷◌, length, Ordering, refl, sym}
 use Rattle.std.proofs.Common.{ap, ◌∙◌, arith, inl, inr}
-use Rattle.std.specs.Prelude.{slice_index, ◌≢◌}
+use Rattle.std.specs.Prelude.{drop, slice_index, ◌≢◌}
 use Rattle.std.specs.Ordering.{nat_cmp, ordering_reverse, ordering_then}
 use Rattle.std.specs.declared.cmp.Ordering.TheVariants.{Less, Equal, Greater}
 use Rattle.std.specs.Cmp.Lexicographic.{slice_cmp}
@@ -11,7 +11,7 @@ use Rattle.std.proofs.lemmas.Cmp.{nat_list_cmp_total, tied_itself}
 use Rattle.std.specs.Cmp.{nat_cmp_is}
 use Rattle.byteorder.specs.Endian.{big_from, big_number}
 use Rattle.byteorder.specs.Numbers.{big_from-lt}
-use Rattle.text_key.specs.Front.{leading, IsFrontOf}
+use Rattle.text_key.specs.Front.{leading, HaveOneFront, IsFrontOf}
 
 -- ---- the number behind the first byte
 
@@ -80,7 +80,7 @@ by_fronts us vs m n a b differ = elim (cases_lt m n) [
       ∙ sym (nat_list_cmp_total.antisymm us vs)
 ]
 
--- ---- short texts of one number are the same
+-- ---- texts of one number begin alike
 
 lesser_head : (n u v : ℕ) (us vs : List ℕ) → Bytes us → u < v
     → big_number (suc n) (u ∷ us) < big_number (suc n) (v ∷ vs)
@@ -104,6 +104,36 @@ same_behind : (n u v : ℕ) (us vs : List ℕ) → u ≡ v → big_number (suc n
 same_behind n u v us vs same e =
     let top : u * 256 ^ n ≡ v * 256 ^ n = ap (λ x. x * 256 ^ n) same in
     omega (arith, e, top, later 0 n u us, later 0 n v vs)
+
+-- the same of numbers behind the first bytes, where those are the same
+less_behind : (n m : ℕ) (us vs : List ℕ) → Bytes us → Bytes vs → big_number n us ≡ big_number n vs
+    → big_number m (drop n us) < big_number m (drop n vs) → slice_cmp nat_cmp us vs ≡ Less
+less_behind zero m us vs a b same lt = less m us vs a b lt
+less_behind (suc n) m [] [] a b same lt = absurd (omega (arith, lt))
+less_behind (suc n) m [] (v ∷ vs) a b same lt = refl
+less_behind (suc n) m (u ∷ us) [] a b same lt = absurd (omega (arith, lt, none 0 m))
+less_behind (suc n) m (u ∷ us) (v ∷ vs) a b same lt =
+    let small = bytes_behind u us a in
+    let small' = bytes_behind v vs b in
+    let head : u ≡ v = same_head n u v us vs small small' same in
+    ap (λ r. head_then r us vs) (sym (nat_cmp_is u v Equal head))
+    ∙ less_behind n m us vs small small' (same_behind n u v us vs head same) lt
+
+-- texts of one front, with other numbers behind it, lie as those do
+pub by_next : (us vs : List ℕ) (m n : ℕ) → HaveOneFront us vs → IsFrontOf (drop 8 us) m → IsFrontOf (drop 8 vs) n
+    → m ≢ n → nat_cmp m n ≡ slice_cmp nat_cmp us vs
+unfolding leading
+by_next us vs m n one a b differ = elim (cases_lt m n) [
+  | inl lt ↦ sym (nat_cmp_is _ _ Less lt) ∙ sym (less_behind 8 8 us vs one.bytes one.other_bytes one.number
+      (omega (arith, lt, a.number, b.number)))
+  | inr fits ↦
+      let gt : n < m = omega (arith, fits, differ) in
+      sym (nat_cmp_is _ _ Greater gt) ∙ ap ordering_reverse (sym
+      (less_behind 8 8 vs us one.other_bytes one.bytes (sym one.number) (omega (arith, gt, a.number, b.number))))
+      ∙ sym (nat_list_cmp_total.antisymm us vs)
+]
+
+-- ---- short texts of one number are the same
 
 one_longer : (u v : ℕ) (us vs : List ℕ) → u ≡ v → us ≡ vs → u ∷ us ≡ v ∷ vs
 one_longer u v us vs e f = cc

@@ -10,3 +10,9 @@ leading text = big_number 8 text
 pub record IsFrontOf (text : List ℕ) (n : ℕ) : Type 0 where
   pub number : n ≡ leading text
   pub bytes : (k : ℕ) → slice_index text k < 256
+
+-- the texts have one front, and are of bytes
+pub record HaveOneFront (text other : List ℕ) : Type 0 where
+  pub number : leading text ≡ leading other
+  pub bytes : (k : ℕ) → slice_index text k < 256
+  pub other_bytes : (k : ℕ) → slice_index other k < 256

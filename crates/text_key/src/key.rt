@@ -1,9 +1,9 @@
 //! The key of a text: the text with its front, the number that its first eight bytes spell.
-ghost use Rattle.std.specs.Prelude.{◌≡◌, ◌≤◌, length, slice_index, IsTrue};
+ghost use Rattle.std.specs.Prelude.{◌≡◌, ◌≤◌, drop, length, slice_index, IsTrue};
 ghost use Rattle.std.specs.Ordering.{nat_cmp};
 ghost use Rattle.std.specs.Cmp.Lexicographic.{slice_cmp};
 ghost use Rattle.std.specs.Str.{bytes_eq};
-ghost use Rattle.text_key.specs.Front.{IsFrontOf};
+ghost use Rattle.text_key.specs.Front.{HaveOneFront, IsFrontOf};
 
 use byteorder::{BigEndian, ByteOrder};
 use std::cmp::Ordering;
@@ -48,12 +48,13 @@ fn byte_at(bytes: &[u8], i: usize) -> u8
     }
 }
 
-/// The front of a text: the number that its first eight bytes spell, the first one highest; zeros stand for
-/// bytes that it lacks.
-pub fn front_of(text: &str) -> u64
-    ensures { IsFrontOf text.now result }
+/// The front of a text's bytes.
+fn front_in(bytes: &[u8]) -> u64
+    ensures { IsFrontOf bytes.now result }
 {
-    let bytes = text.as_bytes();
+    if FRONT_LEN <= bytes.len() {
+        return BigEndian::read_u64(bytes);
+    }
     let first = [
         byte_at(bytes, 0),
         byte_at(bytes, 1),
@@ -65,6 +66,22 @@ pub fn front_of(text: &str) -> u64
         byte_at(bytes, 7),
     ];
     BigEndian::read_u64(&first)
+}
+
+/// The front of a text: the number that its first eight bytes spell, the first one highest; zeros stand for
+/// bytes that it lacks.
+pub fn front_of(text: &str) -> u64
+    ensures { IsFrontOf text.now result }
+{
+    front_in(text.as_bytes())
+}
+
+/// The front of what a text has behind its first eight bytes.
+pub(crate) fn next_of(text: &str) -> u64
+    ensures { IsFrontOf (drop 8 text.now) result }
+{
+    let bytes = text.as_bytes();
+    front_in(&bytes[bytes.len().min(FRONT_LEN)..])
 }
 
 impl<'a> TextKey<'a> {
@@ -104,6 +121,13 @@ impl<'a> TextKey<'a> {
             return Ordering::Equal;
         }
         self.as_str().cmp(other.as_str())
+    }
+
+    /// Whether two texts have one front.
+    pub(crate) fn has_front_of(&self, other: &TextKey<'_>) -> bool
+        ensures { IsTrue result → HaveOneFront self.now other.now }
+    {
+        self.front == other.front
     }
 
     /// Whether two texts have the same bytes.

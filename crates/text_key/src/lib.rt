@@ -2,5 +2,7 @@
 #![tactic(auto)]
 
 mod key;
+mod long;
 
 pub use key::{TextKey, front_of};
+pub use long::LongKey;

@@ -1,5 +1,4 @@
-use Rattle.std.proofs.Common.{sym, ap, ◌∙◌}
-use Rattle.mo_image.specs.Map.{entry_at}
+use Rattle.std.proofs.Common.{sym}
 use Rattle.entry_search.proofs.Searching.{goes_up, goes_down, cost_here, cost_there, found_equal, missing, order_at}
 use Rattle.std.specs.declared.cmp.Ordering.TheVariants.{Equal}
 use Rattle.entry_search.proofs.find.search.Goals as goal
@@ -19,14 +18,12 @@ pub returns-in-Equal-clause-found : goal.returns-in-Equal-clause-found
 returns-in-Equal-clause-found g c =
     let m = c.args.image.now in
     let mid = c.middle-mid.result in
-    let asked = c.looked_through-asked.result in
+    let asked = c.args.asked.now in
     sym (found_equal m mid c.entry.result asked c.len-high.ensures.lawful.rises c.entry.ensures
     (order_at m mid c.entry.result asked Equal c.in-Equal.ensures.order c.entry.ensures))
-    ∙ ap (entry_at m) c.looked_through-asked.ensures
 
 pub returns-clause-found : goal.returns-clause-found
 returns-clause-found g c = sym (missing _ _ _ _ c.halves.invariant.below c.halves.invariant.above c.halves-test.false)
-    ∙ ap (entry_at c.args.image.now) c.looked_through-asked.ensures
 
 pub returns-clause-cost : goal.returns-clause-cost
 returns-clause-cost g c = cost_there _ _ _ _ _ _ c.halves.invariant

@@ -6,14 +6,14 @@ use Rattle.po_text.specs.declared.fault.PoKind.{PoKind}
 use Rattle.po_text.specs.declared.lexer.Token as code
 use Rattle.po_text.specs.Spelling as spec
 use Rattle.po_text.specs.Spelling.{Quoted, Word, PieceAt, is_word_byte}
-use Rattle.po_text.specs.Lexing.{TakesToken, token_view}
+use Rattle.po_text.specs.Lexing.{string_of, TakesToken, token_view}
 use Rattle.po_text.proofs.lexer.read_token.Goals as goal
 
 pub returns-in_ok-rest-clause-ok : goal.returns-in_ok-rest-clause-ok
 returns-in_ok-rest-clause-ok c =
     let quote : c.args.text.now ≡ 34 ∷ c.in-Some.later.now = c.in-Some.ensures
     ∙ ap (λ (b : ℕ). b ∷ c.in-Some.later.now) c.if-byte-eq34.true in
-    (Quoted c.read_string.new.bytes.items, rw quote c.in_ok-rest.ensures.ok, refl)
+    (Quoted (string_of c.read_string.new.bytes), rw quote c.in_ok-rest.ensures.ok, refl)
 
 a_word : (text bytes : List ℕ) (r : Result (code.Token × Bor (List ℕ)) PoKind)
     → IfOk r (λ x. (token : spec.Token) × PieceAt (Word (take_while is_word_byte text) token) text x.1.now
@@ -22,5 +22,5 @@ a_word text bytes (Ok x) h = (Word (take_while is_word_byte text) h.0, h.1, ap S
 a_word text bytes (Err e) h = tt
 
 pub returns-else-byte-eq93-clause-ok : goal.returns-else-byte-eq93-clause-ok
-returns-else-byte-eq93-clause-ok c = a_word c.args.text.now c.args.bytes.now.items c.read_word.result
+returns-else-byte-eq93-clause-ok c = a_word c.args.text.now (string_of c.args.bytes.now) c.read_word.result
     c.read_word.ensures.ok

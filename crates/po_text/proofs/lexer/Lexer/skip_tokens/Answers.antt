@@ -1,7 +1,7 @@
 use Rattle.std.proofs.Common.{◌++◌, ◌∷◌, [], List, arith, inl, inr, append_assoc, subst}
 use Rattle.std.proofs.lemmas.Result.{err_from_is_err_and}
 use Rattle.po_text.specs.Spelling.{Lexeme}
-use Rattle.po_text.specs.Lexing.{TakesLexemes}
+use Rattle.po_text.specs.Lexing.{string_of, TakesLexemes}
 use Rattle.po_text.proofs.LexemeLemmas.{lexemes_push, lexemes_end, lexemes_fault, lexeme_of}
 use Rattle.po_text.proofs.lexer.Lexer.skip_tokens.Goals as goal
 
@@ -20,14 +20,14 @@ tokens-preserved c =
     record {
       taken = λ text found taken.
           let t = c.tokens.invariant.taken text found taken in
-          let l = lexeme_of c.in-Some.field-0 c.next_token.new.bytes.items c.next_token.new.self.line
+          let l = lexeme_of c.in-Some.field-0 (string_of c.next_token.new.bytes) c.next_token.new.self.line
           next.gap.pieces in (
             t.0 ++ l ∷ [],
             subst (λ (ls : List Lexeme). TakesLexemes ls 1 text c.next_token.new.self.line
                 c.next_token.new.self.rest.now) (append_assoc found t.0 (l ∷ []))
                 (lexemes_push (found ++ t.0) 1 c.tokens.self.line c.next_token.new.self.line text c.tokens.self.rest.now
                 c.next_token.new.self.rest.now c.tokens.self.flags c.next_token.new.self.flags c.in-Some.field-0
-                c.next_token.new.bytes.items t.1 next),
+                (string_of c.next_token.new.bytes) t.1 next),
           );
       room = omega (arith, next.gap.room, next.shorter, c.tokens.invariant.room);
     }

@@ -11,7 +11,7 @@ use Rattle.std.proofs.lemmas.Result.{err_from_is_err_and}
 use Rattle.po_text.specs.Building.{draft_of, at_state}
 use Rattle.po_text.specs.Parsing.{HasTaken, HasParsed, ParsesOn, EndsRight}
 use Rattle.po_text.specs.Places.{place_view, IsBoundary}
-use Rattle.po_text.specs.Lexing.{HasEnd}
+use Rattle.po_text.specs.Lexing.{string_of, HasEnd}
 use Rattle.po_text.proofs.LexemeLemmas.{lexemes_fault}
 use Rattle.po_text.proofs.Taking.{taken_push, opening_goes_on, end_goes_on, end_is_faulty, taken_refused}
 use Rattle.po_text.proofs.parser.Parser.next_entry.Goals as goal
@@ -75,7 +75,7 @@ returns-in_default-next_place-clause-fault c =
           f text (taken_refused text l.line c.next_token.new.self.line l.rest.now c.next_token.new.self.rest.now
           (place_view c.tokens.self.place c.tokens.self.count) (map draft_of entries) (draft_of c.tokens.into)
           l.flags c.next_token.new.self.flags c.tokens.self.keyword_line c.in-Some.token
-          c.next_token.new.bytes.items t next (rw c.deref.ensures.value at c.in_default-next_place.ensures)))
+          (string_of c.next_token.new.bytes) t next (rw c.as_slice.ensures at c.in_default-next_place.ensures)))
     ]
 
 pub returns-then-branch-clause-read : goal.returns-then-branch-clause-read
@@ -89,7 +89,7 @@ returns-then-branch-clause-read c text entries had =
     let (b, last, same, fed) = rw c.if-branch.true at (c.in_ok-take.ensures.taken (map draft_of entries)) in
     let pushed = taken_push text l.line c.next_token.new.self.line l.rest.now c.next_token.new.self.rest.now p
     (map draft_of entries) d l.flags c.next_token.new.self.flags c.tokens.self.keyword_line _ c.in-Some.token
-    c.next_token.new.bytes.items t next fed in
+    (string_of c.next_token.new.bytes) t next fed in
     let on = opening_goes_on text entries l.line l.rest.now p e l.flags c.tokens.self.keyword_line c.take.new.self t b
     last (rw (c.in_ok-take.ensures.line, c.in_ok-take.ensures.rest) pushed)
     (c.in_ok-take.ensures.finished ∙ c.tokens.invariant.not_finished) in
@@ -107,7 +107,7 @@ tokens-preserved c =
           rw (c.in_ok-take.ensures.line, c.in_ok-take.ensures.rest)
           (taken_push text l.line c.next_token.new.self.line l.rest.now c.next_token.new.self.rest.now p
           (map draft_of entries) (draft_of c.tokens.into) l.flags c.next_token.new.self.flags
-          c.tokens.self.keyword_line _ c.in-Some.token c.next_token.new.bytes.items t next fed);
+          c.tokens.self.keyword_line _ c.in-Some.token (string_of c.next_token.new.bytes) t next fed);
       form = rw c.if-branch.false at c.in_ok-take.ensures.form;
       not_finished = c.in_ok-take.ensures.finished ∙ c.tokens.invariant.not_finished;
       lines = omega (

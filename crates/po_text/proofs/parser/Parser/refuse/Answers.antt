@@ -1,4 +1,5 @@
 use Rattle.std.proofs.Common.{inl, inr, ◌++◌, ◌∷◌, []}
+use Rattle.po_text.specs.Lexing.{string_of}
 use Rattle.po_text.proofs.Taking.{refused_is_faulty}
 use Rattle.po_text.proofs.parser.Parser.refuse.Goals as goal
 
@@ -8,7 +9,7 @@ returns-in-Ok c =
     inr (λ text h.
     let s = c.in-Ok.ensures.ok text (h.found ++ (h.x ∷ [])) h.takes in
     refused_is_faulty text r.lexer.line r.lexer.rest.now _ r.keyword_line _ c.refusal_of-fault.result h s.0 s.1
-    (c.refusal_of-fault.ensures r.bytes.items r.count))
+    (c.refusal_of-fault.ensures (string_of r.bytes) r.count))
 
 pub returns-in-Err : goal.returns-in-Err
 returns-in-Err c = elim c.in-Err.ensures.err [

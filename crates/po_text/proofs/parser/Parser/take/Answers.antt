@@ -1,7 +1,7 @@
 use Rattle.std.proofs.Common.{List, [], Some, refl, sym, ap, ◌∙◌}
 use Rattle.po_text.specs.Building.{Draft, draft_of, at_state, begin, no_flags, some_if}
 use Rattle.po_text.specs.Places.{place_view, next_count}
-use Rattle.po_text.specs.Lexing.{token_view}
+use Rattle.po_text.specs.Lexing.{string_of, token_view}
 use Rattle.po_text.specs.Parsing.{is_context_word}
 use Rattle.po_text.proofs.Begun.{can_add, put_form, opening_form, opens_opening}
 use Rattle.po_text.proofs.Taking.{feed_open, opens_to, at_start}
@@ -12,8 +12,8 @@ returns-then-is_start-clause-taken c done =
     let st = c.requires.stands in
     let r = c.args.self.now in
     let p = place_view r.place r.count in
-    let t = token_view c.args.token r.bytes.items in
-    let o = c.if-not-opens_entry.ensures r.bytes.items r.count in
+    let t = token_view c.args.token (string_of r.bytes) in
+    let o = c.if-not-opens_entry.ensures (string_of r.bytes) r.count in
     let empty = c.if-is_start.ensures r.count in
     feed_open p t c.args.place _ r.count _ done (draft_of c.args.into.now) r.lexer.flags r.keyword_line r.lexer.line st
     o
@@ -28,8 +28,8 @@ returns-clause-taken c done =
     let st = c.requires.stands in
     let r = c.args.self.now in
     let p = place_view r.place r.count in
-    let t = token_view c.args.token r.bytes.items in
-    let o = c.if-not-opens_entry.ensures r.bytes.items r.count in
+    let t = token_view c.args.token (string_of r.bytes) in
+    let o = c.if-not-opens_entry.ensures (string_of r.bytes) r.count in
     let some = c.if-is_start.ensures r.count done (draft_of c.args.into.now) in (
       (opens_to p t _ _ st o).0,
       some,
@@ -44,27 +44,27 @@ returns-clause-taken c done =
 pub put-requires : goal.put-requires
 put-requires c k =
     let r = c.args.self.now in
-    rw c.deref.ensures.value (can_add r.place r.count k c.args.token r.bytes.items _ (draft_of c.args.into.now)
+    rw c.as_slice.ensures (can_add r.place r.count k c.args.token (string_of r.bytes) _ (draft_of c.args.into.now)
     c.requires.stands c.requires.lawful c.requires.form)
 
 pub returns-then-not-opens_entry-clause-form : goal.returns-then-not-opens_entry-clause-form
 returns-then-not-opens_entry-clause-form c =
     let r = c.args.self.now in
-    let t = token_view c.args.token r.bytes.items in
-    let put = rw c.deref.ensures.value at (c.in_ok-put.ensures r.count) in
+    let t = token_view c.args.token (string_of r.bytes) in
+    let put = rw c.as_slice.ensures at (c.in_ok-put.ensures r.count) in
     rw (c.forms_after-self.ensures.is, put) (put_form (place_view r.place r.count) t
     (place_view c.args.place (next_count r.place c.args.token r.count)) (draft_of c.args.into.now) c.requires.stands
-    (c.if-not-opens_entry.ensures r.bytes.items r.count) c.requires.form)
+    (c.if-not-opens_entry.ensures (string_of r.bytes) r.count) c.requires.form)
 
 pub returns-then-is_start-clause-form : goal.returns-then-is_start-clause-form
 returns-then-is_start-clause-form c =
     let r = c.args.self.now in
     opening_form c.args.place r.count (draft_of c.begin.new.self)
-    (opens_opening (place_view r.place r.count) (token_view c.args.token r.bytes.items) c.args.place _ _
-    c.requires.stands (c.if-not-opens_entry.ensures r.bytes.items r.count))
+    (opens_opening (place_view r.place r.count) (token_view c.args.token (string_of r.bytes)) c.args.place _ _
+    c.requires.stands (c.if-not-opens_entry.ensures (string_of r.bytes) r.count))
 
 pub returns-clause-form : goal.returns-clause-form
 returns-clause-form c =
     let r = c.args.self.now in
-    opens_opening (place_view r.place r.count) (token_view c.args.token r.bytes.items) c.args.place _ _
-    c.requires.stands (c.if-not-opens_entry.ensures r.bytes.items r.count)
+    opens_opening (place_view r.place r.count) (token_view c.args.token (string_of r.bytes)) c.args.place _ _
+    c.requires.stands (c.if-not-opens_entry.ensures (string_of r.bytes) r.count)

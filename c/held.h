@@ -1,0 +1,75 @@
+/* What the library's functions in C share: memory with a count of its holders, and texts. */
+#ifndef HELD_H
+#define HELD_H
+
+#include "kobdzila.h"
+
+#include <stdalign.h>
+#include <stdatomic.h>
+#include <stdint.h>
+#include <stdlib.h>
+#include <string.h>
+
+/* What an export holds, and the bytes that it lends. */
+struct held;
+struct lent {
+    const unsigned char *at;
+    size_t len;
+};
+
+/* A catalogue or a set: what the export holds, behind the count of its holders. */
+struct counted {
+    atomic_size_t holders;
+    alignas(max_align_t) unsigned char held[];
+};
+
+static inline struct held *held_by(void *handle) { return (struct held *)(void *)((struct counted *)handle)->held; }
+
+static inline const struct held *read_by(const void *handle) {
+    return (const struct held *)(const void *)((const struct counted *)handle)->held;
+}
+
+/* Room for what takes so many bytes, with one holder; NULL where there is no memory. */
+static inline void *room_for(size_t size) {
+    struct counted *counted = malloc(sizeof *counted + size);
+    if (counted)
+        atomic_init(&counted->holders, 1);
+    return counted;
+}
+
+static inline void add_holder(void *handle) { atomic_fetch_add(&((struct counted *)handle)->holders, 1); }
+
+static inline int was_last_holder(void *handle) {
+    return atomic_fetch_sub(&((struct counted *)handle)->holders, 1) == 1;
+}
+
+static inline void *refuse(kob_refusal *why, enum kob_fault fault, unsigned line) {
+    if (why)
+        *why = (kob_refusal){ fault, line };
+    return NULL;
+}
+
+enum { GETTEXT = 0, IN_CONTEXT = 1, WITH_NUMBER = 2 }; /* calls; both are npgettext */
+
+static inline uint32_t call_of(kob_text context, const unsigned long long *n) {
+    return (context.at ? IN_CONTEXT : GETTEXT) | (n ? WITH_NUMBER : GETTEXT);
+}
+
+/* A text that is missing is the empty one: a place is never NULL. */
+static inline kob_text present(kob_text text) { return text.at ? text : (kob_text){ "", 0 }; }
+
+static inline kob_text text_of(const char *string) {
+    return string ? (kob_text){ string, strlen(string) } : (kob_text){ "", 0 };
+}
+
+static inline const unsigned char *bytes_of(kob_text text) { return (const unsigned char *)text.at; }
+
+/* What is found has its NUL, and so a byte at least. */
+static inline const char *found_or(struct lent found, const char *other) {
+    return found.len ? (const char *)found.at : other;
+}
+
+static inline kob_text found_text(struct lent found) {
+    return found.len ? (kob_text){ (const char *)found.at, found.len - 1 } : (kob_text){ NULL, 0 };
+}
+#endif

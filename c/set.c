@@ -1,0 +1,116 @@
+/* Sets of catalogues in C: memory, counts of holders, and the files of installed catalogues. What a set is and what it
+ * answers stands in crates/kobdzila_c, whose exports are declared here as Rattle gives them. */
+#include "held.h"
+
+#include <errno.h>
+#include <stdbool.h>
+#include <stdio.h>
+
+size_t kobdzila_set_size(void);
+void kobdzila_set_new(struct held *out);
+void kobdzila_set_with(const struct held *set, const unsigned char *domain, size_t domain_len, const unsigned char *locale,
+                       size_t locale_len, const struct held *catalogue, struct held *out);
+void kobdzila_set_close(struct held *set);
+uint64_t kobdzila_set_number(const struct held *set, uint32_t which);
+void kobdzila_set_answer(const struct held *set, const unsigned char *domain, size_t domain_len,
+                         const unsigned char *languages, size_t languages_len, const unsigned char *context,
+                         size_t context_len, const unsigned char *msgid, size_t msgid_len, uint32_t call, uint64_t n,
+                         struct lent *out);
+bool kobdzila_is_name(const unsigned char *bytes, size_t len);
+
+enum { FAULT, VERSION }; /* numbers */
+
+kob_set *kob_set_new(void) {
+    kob_set *set = room_for(kobdzila_set_size());
+    if (set)
+        kobdzila_set_new(held_by(set));
+    return set;
+}
+
+kob_set *kob_set_with(const kob_set *set, const char *domain, const char *locale, const kob_catalogue *catalogue,
+                      kob_refusal *why) {
+    kob_text domain_text = text_of(domain), locale_text = text_of(locale);
+    kob_set *more = room_for(kobdzila_set_size());
+    if (!more)
+        return refuse(why, KOB_MEMORY, 0);
+    kobdzila_set_with(read_by(set), bytes_of(domain_text), domain_text.len, bytes_of(locale_text), locale_text.len,
+                      read_by(catalogue), held_by(more));
+    enum kob_fault fault = (enum kob_fault)kobdzila_set_number(read_by(more), FAULT);
+    refuse(why, fault, 0);
+    if (fault == KOB_NO_FAULT)
+        return more;
+    kob_set_release(more);
+    return NULL;
+}
+
+/* Whether a file may be looked for by this name: no other folder is named. */
+static int is_file_name(const char *name) {
+    kob_text text = text_of(name);
+    return kobdzila_is_name(bytes_of(text), text.len) && strcmp(name, ".") && strcmp(name, "..");
+}
+
+kob_set *kob_set_open(const kob_set *set, const char *folder, const char *domain, const char *locale, kob_refusal *why) {
+    if (!is_file_name(domain) || !is_file_name(locale))
+        return refuse(why, KOB_BAD_NAME, 0);
+    size_t len = strlen(folder) + strlen(domain) + strlen(locale) + sizeof "//LC_MESSAGES/.mo";
+    char *name = malloc(len);
+    if (!name)
+        return refuse(why, KOB_MEMORY, 0);
+    snprintf(name, len, "%s/%s/LC_MESSAGES/%s.mo", folder, locale, domain);
+    kob_catalogue *catalogue = kob_open_file(name, KOB_MO, 0, why);
+    int cause = errno;
+    free(name);
+    kob_set *more = catalogue ? kob_set_with(set, domain, locale, catalogue, why) : NULL;
+    kob_release(catalogue);
+    errno = cause;
+    return more;
+}
+
+kob_set *kob_set_retain(kob_set *set) {
+    add_holder(set);
+    return set;
+}
+
+void kob_set_release(kob_set *set) {
+    if (!set || !was_last_holder(set))
+        return;
+    kobdzila_set_close(held_by(set));
+    free(set);
+}
+
+unsigned long long kob_set_version(const kob_set *set) { return kobdzila_set_number(read_by(set), VERSION); }
+
+static struct lent ask(const kob_set *set, kob_text domain, kob_text languages, kob_text context, kob_text msgid,
+                       uint32_t call, uint64_t n) {
+    struct lent out;
+    kobdzila_set_answer(read_by(set), bytes_of(domain), domain.len, bytes_of(languages), languages.len,
+                        bytes_of(context), context.len, bytes_of(msgid), msgid.len, call, n, &out);
+    return out;
+}
+
+const char *kob_set_gettext(const kob_set *set, const char *domain, const char *languages, const char *msgid) {
+    return found_or(ask(set, text_of(domain), text_of(languages), text_of(""), text_of(msgid), GETTEXT, 0), msgid);
+}
+
+const char *kob_set_pgettext(const kob_set *set, const char *domain, const char *languages, const char *context,
+                             const char *msgid) {
+    return found_or(ask(set, text_of(domain), text_of(languages), text_of(context), text_of(msgid), IN_CONTEXT, 0), msgid);
+}
+
+const char *kob_set_ngettext(const kob_set *set, const char *domain, const char *languages, const char *msgid,
+                             const char *plural, unsigned long long n) {
+    return found_or(ask(set, text_of(domain), text_of(languages), text_of(""), text_of(msgid), WITH_NUMBER, n),
+                    n == 1 ? msgid : plural);
+}
+
+const char *kob_set_npgettext(const kob_set *set, const char *domain, const char *languages, const char *context,
+                              const char *msgid, const char *plural, unsigned long long n) {
+    return found_or(ask(set, text_of(domain), text_of(languages), text_of(context), text_of(msgid),
+                        IN_CONTEXT | WITH_NUMBER, n), n == 1 ? msgid : plural);
+}
+
+kob_text kob_set_find(const kob_set *set, kob_text domain, kob_text languages, kob_text context, kob_text msgid,
+                      const unsigned long long *n) {
+    return found_text(ask(set, present(domain), present(languages), present(context), present(msgid),
+                          call_of(context, n), n ? *n : 0));
+}

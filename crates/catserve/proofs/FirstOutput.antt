@@ -1,0 +1,50 @@
+-- The output of a text's first rounds is a front of the output of the text.
+use Rattle.std.proofs.Common.{◌≡◌, ◌∙◌, refl, sym, ap, subst, ℕ, List, [], ◌∷◌, ◌++◌, append_assoc}
+use Rattle.live_set.specs.Loads.{LoadValue}
+use Rattle.script_text.specs.Script.{RoundValue, ScriptValue}
+use Rattle.script_text.specs.Texts.{IsScript}
+use Rattle.catserve.specs.Rounds.{HasOutput, Plays, PlaysAll}
+use Rattle.catserve.specs.Laws.{HaveFirstOutput, IsInFront}
+use Rattle.catserve.proofs.OneOutput.{after_one, round_one, ok_or}
+
+some_first : (workers : ℕ) (before : List LoadValue) (rounds more : List RoundValue) (output : List ℕ)
+    → PlaysAll workers before (rounds ++ more) output → (first : List ℕ) × PlaysAll workers before rounds first
+some_first workers before [] more output all = ([], refl)
+some_first workers before (round ∷ rounds) more output (after, front, back, p, all, is) =
+    let found = some_first workers after rounds more back all in
+    let plays : PlaysAll workers before (round ∷ rounds) (front ++ found.0) =
+    (after, front, found.0, p, found.1, refl) in
+    (front ++ found.0, plays)
+
+in_front : (workers : ℕ) (before : List LoadValue) (rounds more : List RoundValue) (output first : List ℕ)
+    → PlaysAll workers before (rounds ++ more) output → PlaysAll workers before rounds first
+    → (rest : List ℕ) × (output ≡ first ++ rest)
+in_front workers before [] more output first all none = (output, sym (ap (λ xs. xs ++ output) none))
+in_front workers before (round ∷ rounds) more output first (after, front, back, p, all, is)
+    (after', front', back', q, all', is') =
+    let same : after ≡ after' = after_one workers before round after after' front front' p q in
+    let P : List LoadValue → Type 0 = λ ls. Plays workers before round ls front' in
+    let Q : List LoadValue → Type 0 = λ ls. PlaysAll workers ls rounds back' in
+    let fronts : front ≡ front' = round_one workers before round after front front' p (subst P (sym same) q) in
+    let found = in_front workers after rounds more back back' all (subst Q (sym same) all') in (
+      found.0,
+      is ∙ ap (λ xs. xs ++ back) fronts ∙ ap (λ xs. front' ++ xs) found.1
+          ∙ sym (append_assoc front' back' found.0) ∙ ap (λ xs. xs ++ found.0) (sym is'),
+    )
+
+-- the rounds of a text that has an output, cut in two
+plays_both : (text output : List ℕ) (value : ScriptValue) (rounds more : List RoundValue) → HasOutput text output
+    → IsScript text value → value.rounds ≡ rounds ++ more → PlaysAll value.workers [] (rounds ++ more) output
+plays_both text output value rounds more (value', script', all) script cut =
+    let same : value' ≡ value = ap (ok_or value') (sym script'.says ∙ script.says) in
+    let P : ScriptValue → Type 0 = λ v. PlaysAll v.workers [] v.rounds output in
+    let R : List RoundValue → Type 0 = λ rs. PlaysAll value.workers [] rs output in
+    subst R cut (subst P same all)
+
+pub first_some : HaveFirstOutput
+first_some text output value rounds more has script cut =
+    some_first value.workers [] rounds more output (plays_both text output value rounds more has script cut)
+
+pub first_front : IsInFront
+first_front text output value rounds more first has script cut plays =
+    in_front value.workers [] rounds more output first (plays_both text output value rounds more has script cut) plays

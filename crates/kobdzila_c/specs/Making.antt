@@ -1,0 +1,66 @@
+-- Sets of catalogues as C holds them: how one is made of another, and what it is answered.
+use Rattle.std.specs.Prelude.{◌≡◌, ◌⊎◌, ℕ, ◌==◌, if◌then◌else◌, List, [], MatchOption}
+use Rattle.std.specs.Str.{IsUtf8}
+use Rattle.std.specs.Arc.{arc_value}
+use Rattle.mo_image.specs.Entry.{Entry}
+use Rattle.live_set.specs.Asks.{map_with}
+use Rattle.live_set.specs.Loads.{LoadValue}
+use Rattle.live_set.specs.Names.{IsName}
+use Rattle.live_set.specs.Sets.{SetValue, HasAbsorbed, map_in, no_loads}
+use Rattle.live_set.specs.declared.name.NameFault.{NameFault}
+use Rattle.live_set.specs.declared.name.NameFault.TheVariants.{BadName, Memory}
+use Rattle.kobdzila_c.specs.declared.opened.Opened.{Opened}
+use Rattle.kobdzila_c.specs.declared.sets.MadeSet.{MadeSet}
+use Rattle.kobdzila_c.specs.Answering.{IsAnswer, Question, key_of}
+
+-- the number of what refuses a name
+abbrev pub name_number : NameFault → ℕ
+name_number BadName = 202
+name_number Memory = 12
+
+-- no set, and this refusal
+pub record IsWithout (fault : ℕ) (s : MadeSet) : Type 0 where
+  pub set_is : s.set ≡ no_loads
+  pub fault_is : s.fault ≡ fault
+
+-- the set of no catalogues
+abbrev pub IsEmpty : MadeSet → Type 0
+IsEmpty s = IsWithout 0 s
+
+-- a set that is so, and no refusal
+pub record IsMade (Is : SetValue → Type 0) (s : MadeSet) : Type 0 where
+  pub set_is : Is s.set
+  pub fault_is : s.fault ≡ 0
+
+-- a map for a text domain and a locale
+abbrev pub load_of : List ℕ → List ℕ → List Entry → LoadValue
+load_of domain locale map = record { domain = domain; locale = locale; map = map }
+
+-- both are names
+abbrev pub AreNames : List ℕ → List ℕ → Type 0
+AreNames domain locale = IsName domain × IsName locale
+
+-- the set with one map more, or a refusal: one of the two is no name, or want of memory
+abbrev pub IsMore : MadeSet → List ℕ → List ℕ → List Entry → MadeSet → Type 0
+IsMore old domain locale map new =
+    (AreNames domain locale × IsMade (HasAbsorbed (load_of domain locale map) old.set) new)
+    ⊎ ((¬ AreNames domain locale × IsWithout (name_number BadName) new) ⊎ IsWithout (name_number Memory) new)
+
+-- the same with the map of what was opened; its refusal, where it was refused
+abbrev pub IsWith : MadeSet → List ℕ → List ℕ → Opened → MadeSet → Type 0
+IsWith old domain locale opened new = MatchOption opened.catalogue (IsWithout opened.fault new)
+    (λ shared. IsMore old domain locale (arc_value shared) new)
+
+-- 0 is the refusal, 1 how many maps were put into the set
+abbrev pub set_number : MadeSet → ℕ → ℕ
+set_number s which = if which == 0 then s.fault else (if which == 1 then s.set.version else 0)
+
+-- the map that answers a question in a text domain and a list of languages
+abbrev pub answering : MadeSet → List ℕ → List ℕ → Question → List Entry
+answering s domain languages q = map_with (map_in s.set.held) domain languages (key_of q)
+
+-- what a question is answered there; nothing where the domain or the list is no text
+pub record IsSetAnswer (s : MadeSet) (domain languages : List ℕ) (q : Question) (text : List ℕ) : Type 0 where
+  pub asked : IsUtf8 domain → IsUtf8 languages → IsAnswer (answering s domain languages q) q text
+  pub no_domain : ¬ IsUtf8 domain → text ≡ []
+  pub no_languages : ¬ IsUtf8 languages → text ≡ []

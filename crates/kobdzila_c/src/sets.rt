@@ -1,0 +1,166 @@
+//! Sets of catalogues as C holds them. A set never changes; another one is made with one catalogue more.
+ghost use Rattle.std.specs.Prelude.{◌≡◌, ◌↔◌, IfOk, IfErr, IsTrue};
+ghost use Rattle.std.specs.Arc.{arc_value};
+ghost use Rattle.live_set.specs.Names.{IsName};
+ghost use Rattle.live_set.specs.Sets.{no_loads, HasAbsorbed};
+ghost use Rattle.live_set.specs.declared.name.NameFault.TheVariants.{BadName};
+ghost use Rattle.kobdzila_c.specs.Answering.{question};
+ghost use Rattle.kobdzila_c.specs.Making.{IsEmpty, IsMade, IsWith, IsWithout, load_of, name_number, set_number};
+ghost use Rattle.kobdzila_c.specs.Making.{IsSetAnswer};
+
+use crate::Opened;
+use crate::answers::{context_in, number_in};
+use catalogue::Catalogue;
+use live_set::{CatalogueSet, Load, Name, NameFault, is_name};
+use std::alloc::{AllocError, Global};
+use std::str::from_utf8;
+use std::sync::Arc;
+
+/// The set that was made, or the empty one and why it wasn't.
+#[derive(Drop)]
+pub struct MadeSet {
+    pub set: CatalogueSet,
+    /// The number of the refusal; 0 where there is none.
+    pub fault: u32,
+}
+
+/// The number of what refuses a name.
+fn name_number(fault: NameFault) -> u32
+    ensures { result ≡ name_number fault }
+{
+    match fault {
+        NameFault::BadName => 202,
+        NameFault::Memory => 12,
+    }
+}
+
+/// No set.
+fn without(alloc: Global, fault: u32) -> MadeSet
+    ensures { IsWithout fault result }
+{
+    MadeSet {
+        set: CatalogueSet::new(alloc),
+        fault,
+    }
+}
+
+/// The set of no catalogues.
+pub(crate) fn new_set(alloc: Global) -> MadeSet
+    ensures { IsEmpty result }
+{
+    without(alloc, 0)
+}
+
+/// Whether these bytes are a name.
+pub(crate) fn is_name_of(bytes: &[u8]) -> bool
+    ensures { IsTrue result ↔ IsName bytes.now }
+{
+    match from_utf8(bytes) {
+        Ok(text) => is_name(text),
+        Err(_) => false,
+    }
+}
+
+/// The name that these bytes are.
+fn name_of(alloc: Global, bytes: &[u8]) -> Result<Name, NameFault>
+    ensures name { IfOk result (λ name. name ≡ bytes.now) }
+    ensures good { IfOk result (λ _. IsName bytes.now) }
+    ensures bad { IfErr result (λ fault. fault ≡ BadName → ¬ IsName bytes.now) }
+{
+    match from_utf8(bytes) {
+        Ok(text) => Name::new(alloc, text),
+        Err(_) => Err(NameFault::BadName),
+    }
+}
+
+/// A share of a catalogue for a text domain and a locale.
+fn load_of(
+    alloc: Global,
+    domain: &[u8],
+    locale: &[u8],
+    catalogue: &Arc<Catalogue>,
+) -> Result<Load, NameFault>
+    ensures load { IfOk result (λ load. load ≡ load_of domain.now locale.now (arc_value catalogue.now)) }
+    ensures good { IfOk result (λ _. IsName domain.now × IsName locale.now) }
+    ensures bad { IfErr result (λ fault. fault ≡ BadName → ¬ (IsName domain.now × IsName locale.now)) }
+{
+    Ok(Load {
+        domain: name_of(alloc, domain)?,
+        locale: name_of(alloc, locale)?,
+        catalogue: Arc::try_clone(catalogue)?,
+    })
+}
+
+/// The set with one load more; all its catalogues are shared.
+fn more(alloc: Global, set: &CatalogueSet, load: &Load) -> Result<CatalogueSet, AllocError>
+    ensures { IfOk result (λ more. HasAbsorbed load.now set.now more) }
+{
+    let mut more = set.try_clone(alloc)?;
+    more.absorb(load)?;
+    Ok(more)
+}
+
+/// The set with one catalogue more, which takes the place of the one for its text domain and locale.
+pub(crate) fn with_one(
+    alloc: Global,
+    made: &MadeSet,
+    domain: &[u8],
+    locale: &[u8],
+    opened: &Opened,
+) -> MadeSet
+    ensures { IsWith made.now domain.now locale.now opened.now result }
+{
+    let Some(catalogue) = &opened.catalogue else {
+        return without(alloc, opened.fault);
+    };
+    let load = match load_of(alloc, domain, locale, catalogue) {
+        Ok(load) => load,
+        Err(fault) => return without(alloc, name_number(fault)),
+    };
+    match more(alloc, &made.set, &load) {
+        Ok(set) => MadeSet { set, fault: 0 },
+        Err(_) => without(alloc, name_number(NameFault::Memory)),
+    }
+}
+
+/// Lets go of a set.
+pub(crate) fn close_set(made: MadeSet) {
+    drop(made);
+}
+
+/// A number of a set: its refusal; how many catalogues were put into it, one after another.
+pub(crate) fn set_number(made: &MadeSet, which: u32) -> u64
+    ensures { result ≡ set_number made.now which }
+{
+    match which {
+        0 => u64::from(made.fault),
+        1 => made.set.version(),
+        _ => 0,
+    }
+}
+
+/// The text that answers a question to a set, with its closing NUL; nothing where there is none.
+pub(crate) fn set_answer<'k>(
+    made: &'k MadeSet,
+    domain: &[u8],
+    languages: &[u8],
+    context: &[u8],
+    id: &[u8],
+    call: u32,
+    n: u64,
+) -> &'k [u8]
+    ensures { IsSetAnswer made.now domain.now languages.now (question call context.now id.now n) result.now }
+{
+    let (Ok(domain), Ok(languages)) = (from_utf8(domain), from_utf8(languages)) else {
+        return &[];
+    };
+    let context = context_in(call, context);
+    let n = number_in(call, n);
+    match made
+        .set
+        .translated_closed(domain, languages, context, id, n)
+    {
+        Some(text) => text,
+        None => &[],
+    }
+}

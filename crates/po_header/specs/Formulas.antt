@@ -1,0 +1,7 @@
+-- Private: the tree of an expression in the form in which it is computed.
+use Rattle.po_header.specs.declared.formula.Formula.{Formula}
+use Rattle.po_header.specs.Grammar.{Tree}
+use Rattle.po_header.specs.ExprParts.{built}
+
+abbrev pub formula_tree : Formula → Tree
+formula_tree formula = built formula.parts.items formula.root

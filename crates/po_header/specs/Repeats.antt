@@ -1,0 +1,27 @@
+-- Private: expressions whose values from 100 on hang on the last two digits.
+use Rattle.std.specs.Prelude.{◌≡◌, ℕ, ◌<◌, ◌≤◌, ◌+◌, ◌%◌, List, length, slice_index, Some}
+use Rattle.po_header.specs.declared.token.Operator.{Operator}
+use Rattle.po_header.specs.Grammar.{Tree}
+use Rattle.po_header.specs.TreeValue.{value, combined}
+
+-- the number from 100 to 199 with the same last two digits
+abbrev pub folded : ℕ → ℕ
+folded n = 100 + n % 100
+
+-- the value at n is that at the number that n is folded to
+pub record Repeats (tree : Tree) : Type 0 where
+  pub again : (n : ℕ) → 100 ≤ n → value tree (folded n) ≡ value tree n
+
+-- n compares with the bound as what it is folded to does
+pub record IsSettled (operator : Operator) (bound : ℕ) : Type 0 where
+  pub same : (n : ℕ) → 100 ≤ n
+      → combined operator (Some (folded n)) (Some bound) ≡ combined operator (Some n) (Some bound)
+
+-- remainders by the modulus are those of what a number is folded to
+pub record IsPart (modulus : ℕ) : Type 0 where
+  pub some : 0 < modulus
+  pub same : (n : ℕ) → folded n % modulus ≡ n % modulus
+
+-- the values at the first numbers
+pub record AreFirst (values : List ℕ) (tree : Tree) : Type 0 where
+  pub at : (n : ℕ) → n < length values → value tree n ≡ Some (slice_index values n)

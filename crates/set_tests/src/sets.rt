@@ -1,0 +1,266 @@
+//! Sets of small catalogues. What is wanted was written by hand from the rules. Functions of few statements are proved
+//! quickly: so a row of a table is a small function, and a test goes through the table.
+use catalogue::{Catalogue, Options, compile};
+use live_set::{Ask, CatalogueSet, Load, Name, Query};
+use std::alloc::{AllocError, Global};
+use std::sync::Arc;
+use std::test::Fail;
+
+const PLAIN: Options = Options {
+    checked: false,
+    use_fuzzy: false,
+};
+
+const SALUT: &[u8] = b"msgid \"hi\"\nmsgstr \"salut\"\n";
+
+const BONJOUR: &[u8] = b"msgid \"hi\"\nmsgstr \"bonjour\"\n";
+
+const HALLO: &[u8] = b"msgid \"hi\"\nmsgstr \"hallo\"\n";
+
+const MENU: &[u8] = b"msgctxt \"menu\"\nmsgid \"open\"\nmsgstr \"otworz\"\n";
+
+const POLISH: &[u8] = b"msgid \"\"\nmsgstr \"nplurals=3; plural=n==1 ? 0 : n%10>=2 && n%10<=4 && \
+    (n%100<10 || n%100>=20) ? 1 : 2;\"\nmsgid \"file\"\nmsgid_plural \"files\"\nmsgstr[0] \"plik\"\n\
+    msgstr[1] \"pliki\"\nmsgstr[2] \"plikow\"\nmsgctxt \"menu\"\nmsgid \"open\"\nmsgstr \"otworz\"\n\
+    msgctxt \"disk\"\nmsgid \"file\"\nmsgid_plural \"files\"\nmsgstr[0] \"jeden\"\nmsgstr[1] \"dwa\"\n\
+    msgstr[2] \"piec\"\n";
+
+/// Loads one after another: pairs the other way round, names that begin one another, and one pair twice.
+const LOADS: [(&str, &str, &[u8]); 7] = [
+    ("b", "a", HALLO),
+    ("app", "fr", SALUT),
+    ("a", "b", HALLO),
+    ("app", "de", HALLO),
+    ("app", "fr_CA", HALLO),
+    ("app", "fr", BONJOUR),
+    ("c", "fr", MENU),
+];
+
+/// What `hi` is answered then in a domain and a list of languages.
+const ANSWERS: [(&str, &str, &str); 13] = [
+    ("b", "a", "hallo"),
+    ("app", "fr", "bonjour"),
+    ("a", "b", "hallo"),
+    ("app", "de", "hallo"),
+    ("app", "fr_CA", "hallo"),
+    ("c", "fr", "hi"),
+    ("a", "a", "hi"),
+    ("b", "b", "hi"),
+    ("ap", "pfr", "hi"),
+    ("", "", "hi"),
+    ("app", "", "hi"),
+    ("app", "fr\n", "hi"),
+    ("app", "fr\n:de", "hallo"),
+];
+
+/// A number; the forms that it takes without a context and in `disk`; and what it is answered without a translation.
+const NUMBERS: [(u64, &str, &str, &str); 4] = [
+    (0, "plikow", "piec", "files"),
+    (1, "plik", "jeden", "file"),
+    (22, "pliki", "dwa", "files"),
+    (u64::MAX, "plikow", "piec", "files"),
+];
+
+fn name(alloc: Global, text: &str) -> Result<Name, Fail> {
+    Ok(Name::new(alloc, text)?)
+}
+
+fn catalogue_of(alloc: Global, text: &[u8]) -> Result<Catalogue, Fail> {
+    Ok(compile(alloc, text, PLAIN)?.catalogue)
+}
+
+fn shared(alloc: Global, catalogue: Catalogue) -> Result<Arc<Catalogue>, Fail> {
+    Ok(Arc::new(alloc, catalogue)?)
+}
+
+fn load(alloc: Global, domain: &str, locale: &str, text: &[u8]) -> Result<Load, Fail> {
+    let catalogue = shared(alloc, catalogue_of(alloc, text)?)?;
+    let domain = name(alloc, domain)?;
+    let locale = name(alloc, locale)?;
+    Ok(Load {
+        domain,
+        locale,
+        catalogue,
+    })
+}
+
+/// Compiles a text, and takes it into a set.
+fn put(
+    alloc: Global,
+    set: &mut CatalogueSet,
+    domain: &str,
+    locale: &str,
+    text: &[u8],
+) -> Result<(), Fail> {
+    let load = load(alloc, domain, locale, text)?;
+    set.absorb(&load)?;
+    Ok(())
+}
+
+/// The set of one load.
+fn set_of(alloc: Global, domain: &str, locale: &str, text: &[u8]) -> Result<CatalogueSet, Fail> {
+    let mut set = CatalogueSet::new(alloc);
+    put(alloc, &mut set, domain, locale, text)?;
+    Ok(set)
+}
+
+/// The set of `LOADS`.
+fn loaded(alloc: Global) -> Result<CatalogueSet, Fail> {
+    let mut set = CatalogueSet::new(alloc);
+    for (domain, locale, text) in LOADS {
+        put(alloc, &mut set, domain, locale, text)?;
+    }
+    Ok(set)
+}
+
+/// Whether a query is answered so.
+fn looks_up(
+    alloc: Global,
+    set: &CatalogueSet,
+    domain: &str,
+    languages: &str,
+    ask: Ask,
+    wanted: &str,
+) -> Result<bool, AllocError> {
+    let query = Query {
+        domain: String::from_str(alloc, domain)?,
+        languages: String::from_str(alloc, languages)?,
+        ask,
+    };
+    Ok(set.look(&query) == wanted)
+}
+
+fn plain(alloc: Global, id: &str) -> Result<Ask, AllocError> {
+    let id = String::from_str(alloc, id)?;
+    Ok(Ask::Plain { id })
+}
+
+fn in_context(alloc: Global, context: &str, id: &str) -> Result<Ask, AllocError> {
+    let context = String::from_str(alloc, context)?;
+    let id = String::from_str(alloc, id)?;
+    Ok(Ask::Context { context, id })
+}
+
+fn files(alloc: Global, n: u64) -> Result<Ask, AllocError> {
+    let id = String::from_str(alloc, "file")?;
+    let plural = String::from_str(alloc, "files")?;
+    Ok(Ask::Number { id, plural, n })
+}
+
+fn files_on_disk(alloc: Global, n: u64) -> Result<Ask, AllocError> {
+    let context = String::from_str(alloc, "disk")?;
+    let id = String::from_str(alloc, "file")?;
+    let plural = String::from_str(alloc, "files")?;
+    Ok(Ask::ContextNumber {
+        context,
+        id,
+        plural,
+        n,
+    })
+}
+
+/// Whether `hi` is answered so, by a query.
+fn looks_up_hi(
+    alloc: Global,
+    set: &CatalogueSet,
+    domain: &str,
+    languages: &str,
+    wanted: &str,
+) -> Result<bool, AllocError> {
+    looks_up(alloc, set, domain, languages, plain(alloc, "hi")?, wanted)
+}
+
+/// Whether this query is answered so from the Polish catalogue.
+fn looks_up_polish(
+    alloc: Global,
+    set: &CatalogueSet,
+    ask: Ask,
+    wanted: &str,
+) -> Result<bool, AllocError> {
+    looks_up(alloc, set, "app", "pl", ask, wanted)
+}
+
+/// Whether there is no translation for a number in another language, and in a context that has none.
+fn has_none(set: &CatalogueSet, n: u64, wanted: &str) -> bool {
+    set.ngettext("app", "cs", "file", "files", n) == wanted
+        && set.npgettext("app", "pl", "menu", "file", "files", n) == wanted
+        && set.npgettext("app", "cs", "disk", "file", "files", n) == wanted
+}
+
+#[test]
+fn holds_nothing_at_first(rt: HostRuntime) {
+    let set = CatalogueSet::new(rt.alloc());
+    assert_eq!(rt; set.version(), 0);
+    assert_eq!(rt; set.gettext("app", "fr", "hi"), "hi");
+}
+
+#[test]
+fn answers_from_the_first_load(rt: HostRuntime) -> Result<(), Fail> {
+    let alloc = rt.alloc();
+    let set = set_of(alloc, "app", "fr", SALUT)?;
+    assert_eq!(rt; set.version(), 1);
+    for (languages, wanted) in [("fr", "salut"), ("sv", "hi")] {
+        assert!(rt;
+            looks_up_hi(alloc, &set, "app", languages, wanted)?,
+            "{languages}"
+        );
+    }
+    Ok(())
+}
+
+#[test]
+fn keeps_the_last_load(rt: HostRuntime) -> Result<(), Fail> {
+    let alloc = rt.alloc();
+    let set = loaded(alloc)?;
+    assert_eq!(rt; set.version(), 7);
+    for (domain, languages, wanted) in ANSWERS {
+        let text = set.gettext(domain, languages, "hi");
+        assert!(rt; text == wanted, "{domain} {languages}");
+        assert!(rt;
+            looks_up_hi(alloc, &set, domain, languages, wanted)?,
+            "{domain} {languages}"
+        );
+    }
+    Ok(())
+}
+
+/// A load replaces the whole catalogue, and the names of another load may be the same.
+#[test]
+fn replaces_a_catalogue(rt: HostRuntime) -> Result<(), Fail> {
+    let mut set = loaded(rt.alloc())?;
+    let menu = load(rt.alloc(), "app", "fr", MENU)?;
+    set.absorb(&menu.try_clone()?)?;
+    set.absorb(&menu)?;
+    assert_eq!(rt; set.version(), 9);
+    assert_eq!(rt; set.gettext("app", "fr", "hi"), "hi");
+    assert_eq!(rt; set.pgettext("app", "fr", "menu", "open"), "otworz");
+    Ok(())
+}
+
+#[test]
+fn answers_in_contexts(rt: HostRuntime) -> Result<(), Fail> {
+    let alloc = rt.alloc();
+    let set = set_of(alloc, "app", "pl", POLISH)?;
+    assert!(rt; looks_up_polish(alloc, &set, in_context(alloc, "menu", "open")?, "otworz")?);
+    assert!(rt; looks_up_polish(alloc, &set, plain(alloc, "open")?, "open")?);
+    assert!(rt; looks_up_polish(alloc, &set, plain(alloc, "file")?, "plik")?);
+    Ok(())
+}
+
+#[test]
+fn answers_numbers(rt: HostRuntime) -> Result<(), Fail> {
+    let alloc = rt.alloc();
+    let set = set_of(alloc, "app", "pl", POLISH)?;
+    for (n, wanted, on_disk, nowhere) in NUMBERS {
+        assert!(rt;
+            looks_up_polish(alloc, &set, files(alloc, n)?, wanted)?,
+            "{n}"
+        );
+        assert!(rt;
+            looks_up_polish(alloc, &set, files_on_disk(alloc, n)?, on_disk)?,
+            "{n}"
+        );
+        assert!(rt; has_none(&set, n, nowhere), "{n}");
+    }
+    Ok(())
+}
