@@ -24,7 +24,7 @@ impl<T: Drop> From<AllocFailed<T>> for CaseFault {
 }
 
 /// A case, its fields as they are written.
-#[derive(Clone, Copy, Debug)]
+#[derive(Clone, Copy)]
 pub struct Case<'a> {
     /// What is asked about.
     pub kind: &'a str,

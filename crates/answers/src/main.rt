@@ -13,7 +13,7 @@ use std::collections::BTreeMap;
 use std::{env, fs, io};
 
 /// How many cases of a kind there are, and how many of them are as written.
-#[derive(Clone, Copy, Debug)]
+#[derive(Clone, Copy)]
 struct Tally {
     cases: u32,
     as_written: u32,

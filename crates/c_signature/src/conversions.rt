@@ -7,7 +7,7 @@ use crate::parts::Modifier;
 use crate::{ArgKind, Size};
 
 /// The argument that a directive takes by its conversion and length modifier.
-#[derive(Clone, Copy, Debug, PartialEq, Eq)]
+#[derive(Clone, Copy)]
 pub(crate) enum Argument {
     /// The pair has no meaning.
     Undefined,

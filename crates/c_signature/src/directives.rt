@@ -13,7 +13,7 @@ use crate::parts::{
 };
 
 /// A directive, by what it takes.
-#[derive(Clone, Copy, Debug, PartialEq, Eq)]
+#[derive(Clone, Copy)]
 pub(crate) struct Directive {
     /// `m$`, the number of its argument
     pub(crate) number: Option<u32>,

@@ -10,7 +10,7 @@ ghost use Rattle.c_signature.specs.FormatScanning.{BeginsNumber, IsNumberOf, IsR
 use crate::Size;
 
 /// How a width or a precision is given.
-#[derive(Clone, Copy, Debug, PartialEq, Eq)]
+#[derive(Clone, Copy)]
 pub(crate) enum Amount {
     /// Left out, or in digits: it takes no argument.
     Fixed,
@@ -19,7 +19,7 @@ pub(crate) enum Amount {
 }
 
 /// A length modifier.
-#[derive(Clone, Copy, Debug, PartialEq, Eq)]
+#[derive(Clone, Copy)]
 pub(crate) enum Modifier {
     /// The modifiers of integers, and none.
     Of(Size),

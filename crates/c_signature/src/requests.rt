@@ -12,7 +12,7 @@ use crate::{ArgKind, FormatFault, Size};
 use std::alloc::{AllocError, Global};
 
 /// An argument that is asked for by number.
-#[derive(Clone, Copy, Debug, PartialEq, Eq)]
+#[derive(Clone, Copy)]
 pub(crate) struct Row {
     pub(crate) number: u32,
     pub(crate) kind: ArgKind,

@@ -20,7 +20,7 @@ pub(crate) struct Texts<'a> {
 }
 
 /// How an entry counts in the statistics.
-#[derive(Clone, Copy, Debug, PartialEq, Eq)]
+#[derive(Clone, Copy, PartialEq, Eq)]
 pub(crate) enum Standing {
     /// The header doesn't count.
     Header,

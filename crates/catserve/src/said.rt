@@ -41,7 +41,7 @@ pub(crate) enum Said {
 }
 
 /// What a line in front of a session's commands is.
-#[derive(Clone, Copy, Debug, PartialEq, Eq)]
+#[derive(Clone, Copy)]
 pub(crate) enum FrontLine {
     /// It isn't UTF-8.
     NotUtf8,
@@ -54,7 +54,7 @@ pub(crate) enum FrontLine {
 }
 
 /// Why it isn't known what a line says.
-#[derive(Clone, Copy, Debug, PartialEq, Eq)]
+#[derive(Clone, Copy)]
 pub(crate) enum SaidFault {
     /// The line isn't UTF-8.
     NotUtf8,

@@ -1,7 +1,7 @@
 //! The words of the command line.
 
 /// What the words ask for.
-#[derive(Clone, Copy, Debug, PartialEq, Eq)]
+#[derive(Clone, Copy)]
 pub(crate) enum Asked {
     /// The help.
     Help,
@@ -10,7 +10,7 @@ pub(crate) enum Asked {
 }
 
 /// Why the words ask for nothing.
-#[derive(Clone, Copy, Debug, PartialEq, Eq)]
+#[derive(Clone, Copy)]
 pub(crate) enum WordsFault<'a> {
     /// There is no such word, or not at this place.
     Unknown(&'a str),

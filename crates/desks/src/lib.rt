@@ -11,8 +11,6 @@ mod law;
 mod publish;
 mod service;
 mod settle;
-#[cfg(test)]
-mod tests;
 mod worker;
 
 pub use desk::{Answer, Desk, ServeFault};

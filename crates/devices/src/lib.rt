@@ -14,6 +14,3 @@ pub use adapters::{Reading, Writing};
 pub use device::{ReadFault, Sink, Source, WriteFault};
 pub use file::{FileFault, Files};
 pub use input::{InputFault, MOST_READS, read_all};
-
-#[cfg(test)]
-mod tests;

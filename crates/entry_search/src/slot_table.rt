@@ -15,7 +15,7 @@ const REACH: usize = 6;
 pub(crate) const EOT: u8 = 4;
 
 /// How an entry is found: a slot leads from the hash of its key to its texts at once.
-#[derive(Clone, Copy, Debug)]
+#[derive(Clone, Copy)]
 pub(crate) struct Slot {
     /// The hash of the entry's key.
     pub(crate) hash: u64,

@@ -6,6 +6,3 @@ mod incoming;
 
 pub use fault::LineInputFault;
 pub use incoming::LineInput;
-
-#[cfg(test)]
-mod tests;

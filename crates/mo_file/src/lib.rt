@@ -22,14 +22,3 @@ pub use laws::{one_map, written_is_read};
 pub use read::{read_mo, reread};
 pub use refusals::check;
 pub use write::write_mo;
-
-#[cfg(test)]
-mod tests;
-#[cfg(test)]
-mod tests_callers;
-#[cfg(test)]
-mod tests_lookups;
-#[cfg(test)]
-mod tests_overlaps;
-#[cfg(test)]
-mod tests_sorted;

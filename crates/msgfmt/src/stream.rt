@@ -1,7 +1,7 @@
 //! Standard output and the error output by the names that files have for them.
 
 /// A stream that the program was started with.
-#[derive(Clone, Copy, Debug, PartialEq, Eq)]
+#[derive(Clone, Copy)]
 pub(crate) enum Stream {
     Output,
     Errors,

@@ -15,6 +15,3 @@ pub use command::run;
 pub use law::one_status;
 pub use outcome::{Cause, Status};
 pub use steps::MOST_INPUT;
-
-#[cfg(test)]
-mod tests;

@@ -19,7 +19,7 @@ use memchr::memchr2;
 use std::alloc::{AllocError, Global};
 
 /// What waits for the operand behind it.
-#[derive(Debug, Drop)]
+#[derive(Drop)]
 pub(crate) enum Frame {
     Bracket,
     Bang,

@@ -10,7 +10,7 @@ use crate::tree::Node;
 use std::alloc::AllocError;
 
 /// A step of a decision.
-#[derive(Clone, Copy, Debug, PartialEq, Eq)]
+#[derive(Clone, Copy, Debug)]
 pub(crate) enum Step {
     Value(u64),
     /// Goes on at one of two earlier steps, by whether `n`, or its remainder where the modulus isn't 0, is

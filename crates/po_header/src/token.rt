@@ -8,7 +8,7 @@ ghost use Rattle.po_header.specs.Tokens.{is_blank, behind_blanks, long_symbol, s
 ghost use Rattle.po_header.specs.Tokens.{decimal_value, below_limit, long_at, Begins};
 
 /// An operator between two operands.
-#[derive(Clone, Copy, Debug, PartialEq, Eq)]
+#[derive(Clone, Copy, Debug)]
 pub(crate) enum Operator {
     Or,
     And,
@@ -26,7 +26,7 @@ pub(crate) enum Operator {
 }
 
 /// A token of an expression; `Count` is `n`.
-#[derive(Clone, Copy, Debug, PartialEq, Eq)]
+#[derive(Clone, Copy)]
 pub(crate) enum Token {
     Count,
     Number(u64),

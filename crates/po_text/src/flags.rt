@@ -8,7 +8,7 @@ ghost use Rattle.po_text.specs.Spelling.{comment_marks, flag_mark, is_separator}
 use crate::scan::{is_white_byte, split_byte};
 
 /// The flags of an entry.
-#[derive(Clone, Copy, Debug, PartialEq, Eq)]
+#[derive(Clone, Copy)]
 pub(crate) struct Flags {
     pub(crate) fuzzy: bool,
     pub(crate) c_format: bool,

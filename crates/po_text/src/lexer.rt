@@ -20,7 +20,7 @@ use crate::scan::{is_free_of_nul, is_white_byte, split_byte, split_line};
 use crate::strings::StringBytes;
 
 /// A token; the bytes of a string stand apart.
-#[derive(Clone, Copy, Debug, PartialEq, Eq)]
+#[derive(Clone, Copy)]
 pub(crate) enum Token {
     Context,
     Id,

@@ -9,7 +9,7 @@ ghost use Rattle.std.specs.Option.{option_map};
 use crate::lexer::Token;
 
 /// What was read last of the entry that is being read.
-#[derive(Clone, Copy, Debug, PartialEq, Eq)]
+#[derive(Clone, Copy)]
 pub(crate) enum Place {
     Start,
     ContextWord,

@@ -1,9 +1,11 @@
-//! Tests of the live store by its public calls.
+//! Tests of the live store and its desks by their public calls.
 //!
-//! They stand in a crate of their own, so that the wrong bodies of `live_versions` are tried without a wait for them.
+//! They stand in a crate of their own, since a crate with tests is proved twice, with them and without.
 #![tactic(auto)]
 
 #[cfg(test)]
 mod page;
+#[cfg(test)]
+mod serving;
 #[cfg(test)]
 mod tests;

@@ -1,0 +1,67 @@
+//! A caller, proved by the contracts of what it calls. docs/CALLERS.md quotes it.
+ghost use Rattle.std.specs.Prelude.{◌≡◌, Some, IfSome};
+ghost use Rattle.catalogue.specs.Map.{entry_at};
+ghost use Rattle.catalogue.specs.Meaning.{Means};
+ghost use Rattle.catalogue.specs.Value.{IsCounted, IsFirstForm, text_by};
+ghost use Rattle.catalogue.specs.declared.Compiled.{Compiled};
+
+use catalogue::{Catalogue, Options, compile};
+use mo_file::{one_map, read_mo, write_mo, written_is_read};
+use std::alloc::Global;
+use std::test::Fail;
+
+/// The catalogue that a PO text compiles to, by way of its MO file.
+fn through_a_file(alloc: Global, text: &[u8], options: Options) -> Option<Catalogue>
+    ensures { IfSome result (λ c. (compiled : Compiled) × Means text.now options compiled × (c ≡ compiled.catalogue)) }
+{
+    let Ok(compiled) = compile(alloc, text, options) else {
+        return None
+    };
+    let Ok(file) = write_mo(alloc, &compiled.catalogue) else {
+        return None
+    };
+    let Ok(again) = read_mo(alloc, file.as_slice()) else {
+        return None
+    };
+    written_is_read();
+    one_map();
+    Some(again)
+}
+
+/// What a window shows: its title, and a label that counts.
+fn labels<'a>(
+    catalogue: &'a Catalogue,
+    title: &'a str,
+    one: &'a str,
+    many: &'a str,
+    n: u64,
+) -> (&'a str, &'a str)
+    ensures title { IsFirstForm (entry_at catalogue.now title.now) title.now result.0.now }
+    ensures label { IsCounted catalogue.now (entry_at catalogue.now one.now) n
+        (text_by n one.now many.now) result.1.now }
+{
+    (catalogue.gettext(title), catalogue.ngettext(one, many, n))
+}
+
+const TEXT: &str = "msgid \"\"\nmsgstr \"Plural-Forms: nplurals=2; plural=n>1;\\n\"\n\n\
+    msgid \"Folder\"\nmsgstr \"Dossier\"\n\nmsgid \"file\"\nmsgid_plural \"files\"\n\
+    msgstr[0] \"fichier\"\nmsgstr[1] \"fichiers\"\n";
+
+#[test]
+fn asks_through_a_file(rt: HostRuntime) -> Result<(), Fail> {
+    let options = Options {
+        checked: false,
+        use_fuzzy: false,
+    };
+    let catalogue = through_a_file(rt.alloc(), TEXT.as_bytes(), options);
+    assert!(rt; catalogue.is_some());
+    if let Some(catalogue) = catalogue {
+        for (n, wanted) in [(0, "fichier"), (1, "fichier"), (2, "fichiers")] {
+            let (title, label) = labels(&catalogue, "Folder", "file", "files", n);
+            assert_eq!(rt; title, "Dossier");
+            assert_eq!(rt; label, wanted, "{n}");
+        }
+    }
+    assert!(rt; through_a_file(rt.alloc(), b"msgid \"a\"", options).is_none());
+    Ok(())
+}

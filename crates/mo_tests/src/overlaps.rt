@@ -1,0 +1,261 @@
+//! Files whose strings overlap: together they are longer than a file may be. What is wanted was worked out by hand
+//! from the format.
+use mo_file::{MoFault, check, read_mo};
+use std::alloc::{AllocError, Global};
+use std::test::Fail;
+
+/// Where a string begins behind the tables, and its length.
+#[derive(Clone, Copy)]
+struct Place {
+    start: u32,
+    len: u32,
+}
+
+/// An original and its translation.
+#[derive(Clone, Copy)]
+struct Pair {
+    original: Place,
+    translation: Place,
+}
+
+fn push_word(file: &mut Vec<u8>, word: u32, low_first: bool) -> Result<(), AllocError> {
+    let bytes = if low_first {
+        u32::to_le_bytes(word)
+    } else {
+        u32::to_be_bytes(word)
+    };
+    file.extend_from_slice(&bytes)
+}
+
+/// The file of these rows, whose strings stand behind the tables.
+fn file_of(
+    alloc: Global,
+    pairs: &[Pair],
+    strings: &[u8],
+    low_first: bool,
+) -> Result<Vec<u8>, AllocError> {
+    let count = (pairs.len() % 65_536) as u32;
+    let table = count.wrapping_mul(8);
+    let second = table.wrapping_add(28);
+    let behind = second.wrapping_add(table);
+    let mut file = Vec::new(alloc);
+    for word in [0x950412de, 0, count, 28, second, 0, behind] {
+        push_word(&mut file, word, low_first)?;
+    }
+    for pair in pairs {
+        push_word(&mut file, pair.original.len, low_first)?;
+        push_word(
+            &mut file,
+            behind.wrapping_add(pair.original.start),
+            low_first,
+        )?;
+    }
+    for pair in pairs {
+        push_word(&mut file, pair.translation.len, low_first)?;
+        push_word(
+            &mut file,
+            behind.wrapping_add(pair.translation.start),
+            low_first,
+        )?;
+    }
+    file.extend_from_slice(strings)?;
+    Ok(file)
+}
+
+/// Why bytes are refused, as both functions say; `None` where they are read.
+fn refusal(alloc: Global, bytes: &[u8]) -> Option<MoFault> {
+    let fault = read_mo(alloc, bytes).err();
+    if check(alloc, bytes).err() == fault {
+        fault
+    } else {
+        Some(MoFault::Memory)
+    }
+}
+
+/// The keys of 600 rows, two bytes each, and a text of 500,000 bytes that begins with this line.
+fn shared_strings(alloc: Global, line: &str) -> Result<Vec<u8>, AllocError> {
+    let mut strings = Vec::new(alloc);
+    for first in *b"ABCDabcdefghijklmnopqrstuvwxyz" {
+        for second in *b"0123456789abcdefghij" {
+            strings.extend_from_slice(&[first, second, 0])?;
+        }
+    }
+    strings.extend_from_slice(line.as_bytes())?;
+    let rest = 500_000u32.saturating_sub((line.len() % 1000) as u32);
+    for _i in 0..rest {
+        strings.push(b'x')?;
+    }
+    strings.push(0)?;
+    Ok(strings)
+}
+
+/// 600 rows with one translation. Where there is a header, its key is the empty string at the end of the first key.
+fn shared_pairs(alloc: Global, has_header: bool) -> Result<Vec<Pair>, AllocError> {
+    let translation = Place {
+        start: 1800,
+        len: 500_000,
+    };
+    let mut pairs = Vec::new(alloc);
+    for i in 0..600u32 {
+        let start = i.wrapping_mul(3);
+        let original = if i == 0 && has_header {
+            Place { start: 2, len: 0 }
+        } else {
+            Place { start, len: 2 }
+        };
+        pairs.push(Pair {
+            original,
+            translation,
+        })?;
+    }
+    Ok(pairs)
+}
+
+/// The strings with other bytes at these places.
+fn changed(mut strings: Vec<u8>, changes: &[(usize, u8)]) -> Vec<u8> {
+    for (place, new) in changes {
+        if let Some(byte) = strings.get_mut(*place) {
+            *byte = *new;
+        }
+    }
+    strings
+}
+
+/// Why a file of 600 rows on one text is refused, with these changes of its strings.
+fn shared_refusal(
+    alloc: Global,
+    changes: &[(usize, u8)],
+    low_first: bool,
+) -> Result<Option<MoFault>, AllocError> {
+    let pairs = shared_pairs(alloc, false)?;
+    let strings = changed(shared_strings(alloc, "")?, changes);
+    let file = file_of(alloc, &pairs, &strings, low_first)?;
+    Ok(refusal(alloc, &file))
+}
+
+#[test]
+fn many_rows_on_one_text(rt: HostRuntime) -> Result<(), Fail> {
+    let alloc = rt.alloc();
+    // The last byte of the text stands at 501,799, the first one of the last key at 1,797.
+    for low_first in [false, true] {
+        let rows = [
+            ([(0, b'A'), (1, b'0')], MoFault::Swollen),
+            ([(0, 4), (1, b'0')], MoFault::Swollen),
+            ([(0, 4), (1, 4)], MoFault::BadText),
+            ([(0, 0xc3), (1, b'0')], MoFault::BadText),
+            ([(501_799, 0x80), (0, b'A')], MoFault::BadText),
+            ([(501_799, 0x80), (501_798, 0xc3)], MoFault::Swollen),
+            ([(501_799, 0x80), (501_798, 0)], MoFault::BadText),
+            ([(501_799, 0), (0, b'A')], MoFault::Forms),
+            ([(501_799, 0), (1797, b'A')], MoFault::Forms),
+            ([(1797, b'A'), (0, b'A')], MoFault::Order),
+            ([(1798, b'i'), (0, b'A')], MoFault::Order),
+            ([(501_800, 1), (501_799, 0)], MoFault::NoNul),
+        ];
+        for (changes, wanted) in rows {
+            let (place, _) = changes[0];
+            assert_eq!(rt;
+                shared_refusal(alloc, &changes, low_first)?,
+                Some(wanted),
+                "{place}"
+            );
+        }
+    }
+    Ok(())
+}
+
+#[test]
+fn header_on_the_text_of_all(rt: HostRuntime) -> Result<(), Fail> {
+    let alloc = rt.alloc();
+    let rows = [
+        (
+            "Content-Type: text/plain; charset=KOI8-R\n",
+            b'z',
+            MoFault::Charset,
+        ),
+        (
+            "Content-Type: text/plain; charset=UTF-8\n",
+            b'z',
+            MoFault::Swollen,
+        ),
+        (
+            "Content-Type: text/plain; charset=KOI8-R\n",
+            b'A',
+            MoFault::Order,
+        ),
+    ];
+    let pairs = shared_pairs(alloc, true)?;
+    for (line, last, wanted) in rows {
+        let strings = changed(shared_strings(alloc, line)?, &[(1797, last)]);
+        let file = file_of(alloc, &pairs, &strings, true)?;
+        assert_eq!(rt; refusal(alloc, &file), Some(wanted), "{line}");
+    }
+    Ok(())
+}
+
+/// So many rows, whose originals and translations are what one text ends with: each longer by `step` than the one
+/// before.
+fn endings(alloc: Global, count: u32, step: u32) -> Result<Vec<Pair>, AllocError> {
+    let len = count.wrapping_mul(step);
+    let mut pairs = Vec::new(alloc);
+    for i in 0..count {
+        let text = i.wrapping_add(1).wrapping_mul(step);
+        let place = Place {
+            start: len.wrapping_sub(text),
+            len: text,
+        };
+        pairs.push(Pair {
+            original: place,
+            translation: place,
+        })?;
+    }
+    Ok(pairs)
+}
+
+fn repeated(alloc: Global, len: u32) -> Result<Vec<u8>, AllocError> {
+    let mut strings = Vec::new(alloc);
+    for _i in 0..len {
+        strings.push(b'a')?;
+    }
+    strings.push(0)?;
+    Ok(strings)
+}
+
+/// What comes of rows that are the endings of one text: as they stand, with the last two exchanged, and with the
+/// last one twice.
+fn refusals_of_endings(
+    alloc: Global,
+    count: u32,
+    step: u32,
+) -> Result<[Option<MoFault>; 3], AllocError> {
+    let strings = repeated(alloc, count.wrapping_mul(step))?;
+    let rising = endings(alloc, count, step)?;
+    let mut exchanged = rising.clone()?;
+    let last = exchanged.pop();
+    let before = exchanged.pop();
+    let mut twice = rising.clone()?;
+    if let (Some(last), Some(before)) = (last, before) {
+        exchanged.push(last)?;
+        exchanged.push(before)?;
+        twice.push(last)?;
+    }
+    Ok([
+        refusal(alloc, &file_of(alloc, &rising, &strings, true)?),
+        refusal(alloc, &file_of(alloc, &exchanged, &strings, true)?),
+        refusal(alloc, &file_of(alloc, &twice, &strings, true)?),
+    ])
+}
+
+#[test]
+fn originals_that_end_one_text(rt: HostRuntime) -> Result<(), Fail> {
+    let alloc = rt.alloc();
+    let order = Some(MoFault::Order);
+    // 20 rows take 420,000 bytes, and 600 of them 360,600,000.
+    assert_eq!(rt; refusals_of_endings(alloc, 20, 1000)?, [None, order, order]);
+    let swollen = Some(MoFault::Swollen);
+    assert_eq!(rt;
+        refusals_of_endings(alloc, 600, 1000)?,
+        [swollen, order, order]
+    );
+    Ok(())
+}
