@@ -10,7 +10,7 @@ use std::io;
 use std::time::CpuClock;
 
 /// The order in which a text asks for its arguments.
-#[derive(Clone, Copy)]
+#[derive(Clone, Copy, Debug)]
 enum Order {
     /// None has a number.
     Unnumbered,
