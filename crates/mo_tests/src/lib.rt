@@ -1,4 +1,5 @@
-//! Tests of `mo_file` by its public calls: worked files, files whose strings overlap, and look-ups in what was read back.
+//! Tests of `mo_file` by its public calls: worked files, files whose strings overlap, and look-ups in what was read
+//! back.
 //!
 //! They stand in a crate of their own, since a crate with tests is proved twice, with them and without.
 #![tactic(auto)]
