@@ -98,13 +98,13 @@ cut_at (f ∷ fs) (suc k) lack lt =
     )
 
 -- what is left of the forms of an entry at first, and when one more was cut off
-pub closed_at_first : (o t c : List ℕ) (e : Entry) → IsLent o t c → entry_of o t ≡ e → c ≡ pool (drop 0 e.forms)
-closed_at_first o t c e lent view = lent.closed ∙ closed_forms t
+pub closed_at_first : (o : List ℕ) (n : ℕ) (t c : List ℕ) (e : Entry) → IsLent o n t c → entry_of o t ≡ e → c ≡ pool (drop 0 e.forms)
+closed_at_first o n t c e lent view = lent.closed ∙ closed_forms t
     ∙ ap (λ (x : Entry). pool (drop 0 x.forms)) view
 
-pub lent_cut : (o t c : List ℕ) (e : Entry) (k : ℕ) → IsLent o t c → entry_of o t ≡ e → k < length e.forms
+pub lent_cut : (o : List ℕ) (n : ℕ) (t c : List ℕ) (e : Entry) (k : ℕ) → IsLent o n t c → entry_of o t ≡ e → k < length e.forms
     → (form : List ℕ) × IsCutAt e.forms k form
-lent_cut o t c e k lent view lt = cut_at e.forms k
+lent_cut o n t c e k lent view lt = cut_at e.forms k
     (lack_nul e.forms (subst IsLawfulEntry view lent.lawful).forms) lt
 
 pub cut_told : (forms : List (List ℕ)) (k : ℕ) (left front behind : List ℕ) → (form : List ℕ) × IsCutAt forms k form

@@ -1,9 +1,9 @@
 -- What stands in the MO file of a lawful map.
 use Rattle.std.proofs.Common.{◌≡◌, ℕ, zero, suc, ◌+◌, ◌*◌, ◌<◌, ◌≤◌, List, [], ◌∷◌, length, map, Some, slice_get, refl}
-use Rattle.std.proofs.Common.{sym, ap, ◌∙◌, subst, arith}
+use Rattle.std.proofs.Common.{sym, ap, ◌∙◌, subst, arith, drop}
 use Rattle.std.specs.Prelude.{IfSome, Option, slice_index}
 use Rattle.std.specs.Str.{IsUtf8}
-use Rattle.std.proofs.lemmas.List.{length-map}
+use Rattle.std.proofs.lemmas.List.{length-drop, length-map, length-take-le}
 use Rattle.byteorder.specs.Endian.{little_number}
 use Rattle.mo_image.specs.Entry.{Entry, key, original, translation, IsLawfulEntry}
 use Rattle.mo_image.specs.Map.{IsFileOf, IsLawful}
@@ -81,6 +81,19 @@ entry_room bytes i image lt = omega (arith, (entry_facts bytes i image lt).small
 
 pub header_long : (bytes : List ℕ) → IsImage bytes → 12 ≤ length bytes
 header_long bytes image = omega (arith, (image_describes bytes image).long)
+
+pub string_small : (bytes : List ℕ) (place : ℕ) → NamesText bytes place → length bytes ≤ 268435456
+    → length (string_at little_number bytes place) < 4294967296
+string_small bytes place text small =
+    let n = word_at little_number bytes place in
+    let start = word_at little_number bytes (place + 4) in
+    omega (
+      arith,
+      small,
+      text.room,
+      length-drop start bytes,
+      length-take-le n (drop start bytes) (omega (arith, length-drop start bytes, text.room)),
+    )
 
 -- the key in front of an original's NUL is that of the entry
 pub key_found : (bytes : List ℕ) (i : ℕ) (k : List ℕ) → IsImage bytes → i < length (listing bytes) → k

@@ -1,12 +1,14 @@
--- Private: the strings that an entry lends, and its translation with the NUL behind it.
+-- Private: the strings that an entry lends, the length of its key, and its translation with the NUL behind it.
 use Rattle.std.specs.Prelude.{◌≡◌, ℕ, List}
+use Rattle.text_cut.specs.Cut.{place_of}
 use Rattle.mo_image.specs.Entry.{IsLawfulEntry}
 use Rattle.mo_image.specs.MoFile.{closed}
 use Rattle.mo_image.specs.Pairs.{entry_of}
 
--- an original, a translation, and the same with its NUL
-pub record IsLent (o t c : List ℕ) : Type 0 where
+-- an original with the length of its key, a translation, and the same with its NUL
+pub record IsLent (o : List ℕ) (n : ℕ) (t c : List ℕ) : Type 0 where
   pub lawful : IsLawfulEntry (entry_of o t)
+  pub key_len : n ≡ place_of 0 o
   pub closed : c ≡ closed t
 
 -- a form with its NUL, and what is behind it

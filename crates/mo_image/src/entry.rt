@@ -3,13 +3,13 @@ ghost use Rattle.std.specs.Prelude.{◌≡◌, ◌<◌, ◌==◌, ◌∷◌, len
 ghost use Rattle.std.specs.List.{count_by, slice_split};
 ghost use Rattle.mo_image.specs.Entry.{IsLawfulEntry, key, translation};
 ghost use Rattle.mo_image.specs.MoFile.{closed};
-ghost use Rattle.text_cut.specs.Cut.{cut};
+ghost use Rattle.text_cut.specs.Cut.{cut, place_of};
 ghost use Rattle.mo_image.specs.Parts.{forms_left};
 ghost use Rattle.mo_image.specs.Pairs.{key_part, plural_part};
 ghost use Rattle.mo_image.specs.Lent.{IsClosedCut, IsLent};
 
 use std::marker::Model;
-use text_cut::split_at_byte;
+use text_cut::{place_of, split_at_byte, split_at_place};
 
 /// What parts a key from its plural, and forms from one another.
 const NUL: u8 = 0;
@@ -77,22 +77,40 @@ impl<'a> Iterator for Forms<'a> {
     }
 }
 
+/// The key of an original, where its length is known.
+#[inline(always)]
+fn key_within(original: &str, len: usize) -> &str
+    requires { len ≡ place_of 0 original.now }
+    ensures { result.now ≡ key_part original.now }
+{
+    match split_at_place(original, NUL, len) {
+        Some((key, _)) => key,
+        None => original,
+    }
+}
+
+/// The plural of an original, where the length of its key is known.
+#[inline(always)]
+fn plural_behind(original: &str, len: usize) -> Option<&str>
+    requires { len ≡ place_of 0 original.now }
+    ensures { option_map (λ s. s.now) result ≡ plural_part original.now }
+{
+    let (_, plural) = split_at_place(original, NUL, len)?;
+    Some(plural)
+}
+
 /// The key of an original: what stands before its NUL.
 pub fn key_of(original: &str) -> &str
     ensures { result.now ≡ key_part original.now }
 {
-    match split_at_byte(original, NUL) {
-        Some((key, _)) => key,
-        None => original,
-    }
+    key_within(original, place_of(original.as_bytes(), NUL))
 }
 
 /// The plural of an original: what stands behind its NUL.
 pub fn plural_of(original: &str) -> Option<&str>
     ensures { option_map (λ s. s.now) result ≡ plural_part original.now }
 {
-    let (_, plural) = split_at_byte(original, NUL)?;
-    Some(plural)
+    plural_behind(original, place_of(original.as_bytes(), NUL))
 }
 
 /// The context and the msgid of a key that has a context: what stands before its first byte 4, and behind.
@@ -107,6 +125,8 @@ pub fn split_context(key: &str) -> Option<(&str, &str)>
 pub struct EntryRef<'a> {
     /// The key, and the plural behind NUL.
     original: &'a str,
+    /// How long the key is: so no look-up goes over the original for its NUL.
+    key_len: usize,
     /// The forms, with NUL between them.
     translation: &'a str,
     /// The same, and a NUL behind the last one.
@@ -123,19 +143,25 @@ impl<'a> Model for EntryRef<'a> {
 
     ghost view = { λ e. entry_of e.original.now e.translation.now };
 
-    ghost invariant = { λ e. IsLent e.original.now e.translation.now e.closed.now };
+    ghost invariant = { λ e. IsLent e.original.now e.key_len e.translation.now e.closed.now };
 }
 
 impl<'a> EntryRef<'a> {
     ghost use Rattle.mo_image.specs.Pairs.{entry_of};
 
-    /// The entry of an original and a translation, which is there with its NUL, too.
-    pub(crate) fn new(original: &'a str, translation: &'a str, closed: &'a str) -> EntryRef<'a>
-        requires { IsLent original.now translation.now closed.now }
+    /// The entry of an original, whose key has this length, and a translation, which is there with its NUL, too.
+    pub(crate) fn new(
+        original: &'a str,
+        key_len: usize,
+        translation: &'a str,
+        closed: &'a str,
+    ) -> EntryRef<'a>
+        requires { IsLent original.now key_len translation.now closed.now }
         ensures { result ≡ entry_of original.now translation.now }
     {
         EntryRef {
             original,
+            key_len,
             translation,
             closed,
         }
@@ -149,17 +175,18 @@ impl<'a> EntryRef<'a> {
     }
 
     /// The bytes of the entry's key: the msgid, behind its context and byte 4 where it has one.
+    #[inline(always)]
     pub fn key(&self) -> &'a str
         ensures { result.now ≡ key self.now }
     {
-        key_of(self.original)
+        key_within(self.original, self.key_len)
     }
 
     /// The context (`msgctxt`), if the entry has one; it may be empty.
     pub fn context(&self) -> Option<&'a str>
         ensures { option_map (λ s. s.now) result ≡ self.now.context }
     {
-        let (context, _) = split_context(key_of(self.original))?;
+        let (context, _) = split_context(key_within(self.original, self.key_len))?;
         Some(context)
     }
 
@@ -167,7 +194,7 @@ impl<'a> EntryRef<'a> {
     pub fn id(&self) -> &'a str
         ensures { result.now ≡ self.now.id }
     {
-        let key = key_of(self.original);
+        let key = key_within(self.original, self.key_len);
         match split_context(key) {
             Some((_, id)) => id,
             None => key,
@@ -175,10 +202,11 @@ impl<'a> EntryRef<'a> {
     }
 
     /// The msgid_plural, if the entry has one.
+    #[inline(always)]
     pub fn plural(&self) -> Option<&'a str>
         ensures { option_map (λ s. s.now) result ≡ self.now.plural }
     {
-        plural_of(self.original)
+        plural_behind(self.original, self.key_len)
     }
 
     /// The forms, with NUL between them, as an MO file holds them.

@@ -19,6 +19,8 @@ pub struct Extent {
 pub struct EntryExtents {
     pub original: Extent,
     pub translation: Extent,
+    /// How long the key is, at the front of the original.
+    pub key_len: u32,
 }
 
 /// What the row of a table says: a string's length and its offset.

@@ -5,6 +5,7 @@ ghost use Rattle.byteorder.specs.Endian.{little_number};
 ghost use Rattle.mo_image.specs.Entry.{Entry, key};
 ghost use Rattle.mo_image.specs.Map.{IsFileOf, IsLawful};
 ghost use Rattle.mo_image.specs.MoFile.{spelling};
+ghost use Rattle.text_cut.specs.Cut.{place_of};
 ghost use Rattle.mo_image.specs.Tables.{word_at, string_at};
 ghost use Rattle.mo_image.specs.Pairs.{key_part};
 ghost use Rattle.mo_image.specs.Image.{listing, IsImage, NamesText};
@@ -17,6 +18,7 @@ use crate::writer::{EntryList, spell};
 use byteorder::{ByteOrder, LittleEndian};
 use std::alloc::{AllocError, Global};
 use std::marker::Model;
+use text_cut::place_of;
 
 /// The entries of a catalogue, in rising order of the keys' bytes, as their one MO file: the table of originals stands
 /// behind the header, and that of translations behind it.
@@ -74,6 +76,14 @@ fn original_of(bytes: &[u8], i: usize) -> &str
     text(bytes, HEADER_LEN + ROW_LEN * i)
 }
 
+/// How long the key of an original is.
+fn key_len(original: &str) -> u32
+    requires { length original.now < 4294967296 }
+    ensures { result ≡ place_of 0 original.now }
+{
+    place_of(original.as_bytes(), 0) as u32
+}
+
 /// Where the strings of the i-th entry lie.
 fn extents_of(bytes: &[u8], i: usize) -> EntryExtents
     requires image { IsImage bytes.now }
@@ -85,6 +95,7 @@ fn extents_of(bytes: &[u8], i: usize) -> EntryExtents
     EntryExtents {
         original: extent_at(bytes, originals),
         translation: extent_at(bytes, translations),
+        key_len: key_len(text(bytes, originals)),
     }
 }
 
@@ -97,6 +108,7 @@ fn entry_in<'a>(bytes: &'a [u8], extents: &EntryExtents) -> EntryRef<'a>
 {
     EntryRef::new(
         text_in(bytes, extents.original),
+        extents.key_len as usize,
         text_in(bytes, extents.translation),
         closed_in(bytes, extents.translation),
     )

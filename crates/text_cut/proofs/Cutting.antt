@@ -1,11 +1,11 @@
 -- Texts cut at the first byte of a kind.
-use Rattle.std.proofs.Common.{◌≡◌, ℕ, ◌+◌, ◌-◌, ◌<◌, ◌↔◌, Bool, true, false, not, cond, List, length, take, drop}
+use Rattle.std.proofs.Common.{◌≡◌, ℕ, ◌+◌, ◌-◌, ◌<◌, ◌↔◌, Bool, true, false, not, cond, List, length, take, drop, get_or, ◌≤◌}
 use Rattle.std.proofs.Common.{Option, Some, None, refl, sym, ap, ◌∙◌, arith}
 use Rattle.std.specs.Prelude.{is_some}
 use Rattle.std.specs.List.{position_or_len, before_first, after_first, slice_range}
-use Rattle.std.proofs.lemmas.Bool.{false_from_ne_true, false≢true, lt-ltb, le-ltb}
+use Rattle.std.proofs.lemmas.Bool.{eqb-true, false_from_ne_true, false≢true, lt-ltb, le-ltb}
 use Rattle.std.proofs.lemmas.List.{take_all}
-use Rattle.std.proofs.lemmas.List.Sums.{position_or_len_is}
+use Rattle.std.proofs.lemmas.List.Sums.{passes_at_first, position_or_len_is, prefix_len-le-length}
 use Rattle.bstr.specs.Find.{IsFirstByte, is_byte}
 use Rattle.text_cut.specs.Cut.{cut, IsCut}
 
@@ -66,3 +66,23 @@ lacks_is byte text (Some k) false first some = (
   (λ e. absurd (false≢true e)),
   (λ none. absurd (omega (arith, place_found byte text k first, first.0.high, none))),
 )
+
+-- ---- a place that is known
+
+pub byte_there : (byte : ℕ) (text : List ℕ) (at : ℕ) → at ≡ place byte text → at < length text
+    → get_or text at 0 ≡ byte
+byte_there byte text at is lt = eqb-true _ _ (rw is (passes_at_first (is_byte byte) text 0 (omega (arith, is, lt))))
+
+pub place_within : (byte : ℕ) (text : List ℕ) → place byte text ≤ length text
+place_within byte text = prefix_len-le-length (λ b. not (is_byte byte b)) text
+
+-- the parts at the first such byte
+pub cut_known : (byte : ℕ) (text front behind : List ℕ) (at : ℕ) → at ≡ place byte text → at < length text
+    → front ≡ slice_range text 0 at → behind ≡ drop (at + 1) text → IsCut byte text front behind
+cut_known byte text front behind at is lt e f =
+    let all : at - 0 ≡ at = omega arith in
+    record {
+      within = omega (arith, is, lt);
+      front_is = rw (sym is) (e ∙ ap (λ n. take n text) all);
+      behind_is = rw (sym is) f;
+    }

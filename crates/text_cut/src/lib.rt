@@ -5,4 +5,4 @@
 mod cut;
 mod place;
 
-pub use cut::{lacks_byte, split_at_byte, split_bytes_at};
+pub use cut::{lacks_byte, place_of, split_at_byte, split_at_place, split_bytes_at};

@@ -1,4 +1,5 @@
 use Rattle.std.proofs.Common.{ap, sym, ◌∙◌}
+use Rattle.text_cut.specs.Cut.{place_of}
 use Rattle.mo_image.specs.MoFile.{closed}
 use Rattle.mo_image.proofs.ImageFacts.{entry_facts}
 use Rattle.mo_image.proofs.Extents.{piece_named, piece_held}
@@ -39,6 +40,7 @@ new-requires c =
             bytes _ c.args.extents.now.translation at.translation,
       )
           (entry_facts bytes c.requires.extents.0 c.requires.image at.within).lawful;
+      key_len = at.key_len ∙ ap (place_of 0) (sym (c.text_in.ensures ∙ piece_named bytes _ c.args.extents.now.original at.original));
       closed = c.closed_in.ensures ∙ ap closed (sym c.text_in-2.ensures);
     }
 

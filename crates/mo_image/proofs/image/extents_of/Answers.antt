@@ -1,7 +1,8 @@
-use Rattle.std.proofs.Common.{ℕ, ◌≡◌, ◌+◌, ◌*◌, length, subst, arith}
+use Rattle.std.proofs.Common.{ℕ, ◌≡◌, ◌+◌, ◌*◌, length, subst, arith, ap, ◌∙◌}
+use Rattle.text_cut.specs.Cut.{place_of}
 use Rattle.mo_image.specs.Extents.{IsNamedAt}
 use Rattle.mo_image.specs.Image.{listing}
-use Rattle.mo_image.proofs.ImageFacts.{entry_facts, entry_room}
+use Rattle.mo_image.proofs.ImageFacts.{entry_facts, entry_room, image_small, string_small}
 use Rattle.mo_image.proofs.image.extents_of.Goals as goal
 
 pub overflow_mul-originals : goal.overflow_mul-originals
@@ -52,4 +53,13 @@ returns c =
       within = c.requires.within;
       original = c.extent_at.ensures;
       translation = subst (λ (p : ℕ). IsNamedAt bytes p extent.result) place extent.ensures;
+      key_len = c.key_len.ensures ∙ ap (place_of 0) c.text.ensures;
     }
+
+pub text-requires : goal.text-requires
+text-requires c = (entry_facts c.args.bytes.now c.args.i c.requires.image c.requires.within).original
+
+pub key_len-requires : goal.key_len-requires
+key_len-requires c = rw c.text.ensures (string_small c.args.bytes.now (28 + 8 * c.args.i)
+    (entry_facts c.args.bytes.now c.args.i c.requires.image c.requires.within).original
+    (image_small c.args.bytes.now c.requires.image))
