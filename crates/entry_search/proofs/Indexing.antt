@@ -1,72 +1,152 @@
 -- The slots of an index: listed, put in order, and spread out.
 use Rattle.std.proofs.Common.{◌≡◌, ℕ, ◌+◌, ◌<◌, ◌≤◌, List, [], ◌∷◌, ◌++◌, length, length-append, ◌-◌, get_or, Some}
 use Rattle.std.proofs.Common.{slice_get, sym, ap, ◌∙◌, subst, arith, inl, inr}
-use Rattle.std.specs.Prelude.{Contains, IfSome, Option}
+use Rattle.std.specs.Prelude.{Contains, Option, None, ◌⊎◌}
 use Rattle.std.specs.List.Sorted.{IsPermutation}
 use Rattle.std.proofs.Math.Seq.{get_or-append_seam}
 use Rattle.std.proofs.lemmas.List.{get_or_append_left, get_or_default}
 use Rattle.std.proofs.lemmas.Bool.{cases_lt}
 use Rattle.std.proofs.lemmas.Option.{slice_get_within}
 use Rattle.std.proofs.lemmas.List.Sorted.{IsPermutation-sym, Contains-permutation}
-use Rattle.mo_image.specs.Entry.{Entry, key}
+use Rattle.mo_image.specs.Entry.{Entry, key, key_bytes}
+use Rattle.mo_image.specs.Map.{IsLawful}
 use Rattle.mo_image.specs.MoFile.{spelling}
-use Rattle.mo_image.specs.Extents.{AreExtentsOf}
+use Rattle.mo_image.specs.Extents.{AreExtents, AreExtentsOf}
 use Rattle.entry_search.specs.declared.slot_table.Slot.{Slot}
-use Rattle.entry_search.specs.Index.{hash, Climbs, HasNoSlot, IsIndex, NamesEntries, OneForEachHash}
-use Rattle.entry_search.proofs.Searching.{some_at}
+use Rattle.entry_search.specs.Index.{asked_hash, hash_alone, hash_within, AddsSlotsOf, Climbs, HasHash, HasNoSlot}
+use Rattle.entry_search.specs.Index.{HasSlotOf, IsIndex, NamesEntries, OneForEachHash}
+use Rattle.entry_search.proofs.Searching.{some_is}
 
--- ---- a slot for each entry
+-- ---- slots for each entry
 
-abbrev IsMadeFor : List Entry → ℕ → Slot → Type 0
-IsMadeFor m i slot = AreExtentsOf (spelling m) (length m) i slot.extents
-    × IfSome (slice_get m i) (λ e. slot.hash ≡ hash (key e))
-
+-- slots for the first n entries
 pub record Listed (m : List Entry) (slots : List Slot) (n : ℕ) : Type 0 where
-  pub long : length slots ≡ n
-  pub at : (j : ℕ) (d : Slot) → j < n → IsMadeFor m j (get_or slots j d)
+  pub each : (i : ℕ) (e : Entry) → i < n → slice_get m i ≡ Some e → (h : ℕ) → HasHash e h → HasSlotOf m slots i h
+  pub only : (slot : Slot) → Contains slots slot → AreExtents (spelling m) (length m) slot.extents
 
-pub listed_more : (m : List Entry) (slots more : List Slot) (n : ℕ) (slot : Slot) → Listed m slots n → more ≡ slots
-    ++ (slot ∷ []) → IsMadeFor m n slot → Listed m more (n + 1)
-listed_more m slots more n slot l is here = record {
-  long = omega (arith, ap length is, length-append slots (slot ∷ []), l.long);
-  at = λ j d lt. elim (cases_lt j n) [
+pub listed_none : (m : List Entry) → Listed m [] 0
+listed_none m = record {
+  each = λ i e lt here h has. absurd (omega (arith, lt));
+  only = λ slot among. absurd (omega (arith, among.1));
+}
+
+pub listed_more : (m : List Entry) (slots more : List Slot) (n : ℕ) → Listed m slots n → AddsSlotsOf m n slots more
+    → Listed m more (n + 1)
+listed_more m slots more n l adds = record {
+  each = λ i e lt here h has. elim (cases_lt i n) [
     | inl before ↦
-        let same : get_or more j d ≡ get_or slots j d = ap (λ (xs : List Slot). get_or xs j d) is
-        ∙ get_or_append_left slots (slot ∷ []) d j (omega (arith, before, l.long)) in
-        subst (IsMadeFor m j) (sym same) (l.at j d before)
+        let slot = l.each i e before here h has in
+        (slot.0, adds.kept slot.0 slot.1, slot.2, slot.3)
     | inr from ↦
-        let at : j ≡ n = omega (arith, from, lt) in
-        let end : get_or more n d ≡ slot = ap (λ (xs : List Slot). get_or xs n d) is
-        ∙ ap (λ (k : ℕ). get_or (slots ++ (slot ∷ [])) k d) (sym l.long) ∙ get_or-append_seam slots slot [] d in
-        rw at (subst (IsMadeFor m n) (sym end) here)
+        let at : n ≡ i = omega (arith, from, lt) in
+        subst (λ (k : ℕ). HasSlotOf m more k h) at
+        (adds.each e (subst (λ (k : ℕ). slice_get m k ≡ Some e) (sym at) here) h has)
+  ];
+  only = λ slot among. elim (adds.only slot among) [
+    | inl old ↦ l.only slot old
+    | inr new ↦ (n, new)
   ];
 }
 
-of_some : (o : Option Entry) (e : Entry) (P : Entry → Type 0) → o ≡ Some e → IfSome o P → P e
-of_some o e P is h = subst (λ (x : Option Entry). IfSome x P) is h
-
 pub named : (m : List Entry) (slots : List Slot) → Listed m slots (length m) → NamesEntries m slots
 named m slots l = record {
-  each = λ i e h.
-      let lt = slice_get_within m i e h in
-      let here = some_at slots i (omega (arith, lt, l.long)) in
-      let slot = get_or slots i here.0 in (
-        slot,
-        (i, omega (arith, lt, l.long), get_or_default slots i slot here.0 (omega (arith, lt, l.long))),
-        (l.at i here.0 lt).0,
-        of_some (slice_get m i) e (λ x. slot.hash ≡ hash (key x)) h (l.at i here.0 lt).1,
-      );
-  only = λ slot h. (
+  each = λ i e here h has. l.each i e (slice_get_within m i e here) here h has;
+  only = l.only;
+}
+
+-- ---- a slot put behind others
+
+pub among_more : (slots more : List Slot) (slot : Slot) → more ≡ slots ++ (slot ∷ []) → (x : Slot)
+    → Contains slots x → Contains more x
+among_more slots more slot is x h = (
+  h.0,
+  omega (arith, h.1, ap length is, length-append slots (slot ∷ [])),
+  ap (λ (xs : List Slot). get_or xs h.0 x) is ∙ get_or_append_left slots (slot ∷ []) x h.0 h.1 ∙ h.2,
+)
+
+at_end_of : (slots more : List Slot) (slot d : Slot) → more ≡ slots ++ (slot ∷ [])
+    → get_or more (length slots) d ≡ slot
+at_end_of slots more slot d is = ap (λ (xs : List Slot). get_or xs (length slots) d) is
+    ∙ get_or-append_seam slots slot [] d
+
+pub among_pushed : (slots more : List Slot) (slot : Slot) → more ≡ slots ++ (slot ∷ []) → Contains more slot
+among_pushed slots more slot is = (
+  length slots,
+  omega (arith, ap length is, length-append slots (slot ∷ [])),
+  at_end_of slots more slot slot is,
+)
+
+pub pushed_or_before : (slots more : List Slot) (slot : Slot) → more ≡ slots ++ (slot ∷ []) → (x : Slot)
+    → Contains more x → Contains slots x ⊎ (slot ≡ x)
+pushed_or_before slots more slot is x h = elim (cases_lt h.0 (length slots)) [
+  | inl lt ↦ inl (
     h.0,
-    subst (λ (x : Slot). AreExtentsOf (spelling m) (length m) h.0 x.extents) h.2
-        (l.at h.0 slot (omega (arith, h.1, l.long))).0,
-  );
+    lt,
+    sym (ap (λ (xs : List Slot). get_or xs h.0 x) is ∙ get_or_append_left slots (slot ∷ []) x h.0 lt) ∙ h.2,
+  )
+  | inr from ↦
+      let last : length slots ≡ h.0 = omega (arith, from, h.1, ap length is, length-append slots (slot ∷ [])) in
+      inr (sym (at_end_of slots more slot x is) ∙ ap (λ (k : ℕ). get_or more k x) last ∙ h.2)
+]
+
+-- the extents of the i-th entry, by a slot put behind others
+of_pushed : (m : List Entry) (i : ℕ) (slots more : List Slot) (slot : Slot) → more ≡ slots ++ (slot ∷ [])
+    → AreExtentsOf (spelling m) (length m) i slot.extents → (x : Slot) → Contains more x
+    → Contains slots x ⊎ AreExtentsOf (spelling m) (length m) i x.extents
+of_pushed m i slots more slot is at x among = elim (pushed_or_before slots more slot is x among) [
+  | inl old ↦ inl old
+  | inr new ↦ inr (subst (λ (r : Slot). AreExtentsOf (spelling m) (length m) i r.extents) new at)
+]
+
+entry_is : (m : List Entry) (i : ℕ) (e d : Entry) → slice_get m i ≡ Some e → slice_get m i ≡ Some d → e ≡ d
+entry_is m i e d here there = some_is e d (sym here ∙ there)
+
+-- an entry without a context has one hash
+one_hash : (e : Entry) (h : ℕ) → e.context ≡ None → HasHash e h → hash_alone (key e) ≡ h
+one_hash e h none (inl is) = sym is
+one_hash e h none (inr is) = ap (λ (c : Option (List ℕ)). hash_alone (key_bytes c e.id)) none
+    ∙ sym (is ∙ ap (λ (c : Option (List ℕ)). asked_hash c e.id) none)
+
+pub adds_one : (m : List Entry) (i : ℕ) (e : Entry) (slots more : List Slot) (slot : Slot) → slice_get m i ≡ Some e
+    → AreExtentsOf (spelling m) (length m) i slot.extents → slot.hash ≡ hash_alone (key e) → e.context ≡ None
+    → more ≡ slots ++ (slot ∷ []) → AddsSlotsOf m i slots more
+adds_one m i e slots more slot here at hashed none is = record {
+  kept = among_more slots more slot is;
+  only = of_pushed m i slots more slot is at;
+  each = λ d there h has.
+      let same = entry_is m i d e there here in
+      (slot, among_pushed slots more slot is, at, hashed ∙ one_hash e h none (subst (λ (x : Entry). HasHash x h) same has));
+}
+
+-- an entry with a context has two
+pub adds_two : (m : List Entry) (i : ℕ) (e : Entry) (context : List ℕ) (slots more most : List Slot) (a b : Slot)
+    → slice_get m i ≡ Some e → AreExtentsOf (spelling m) (length m) i a.extents
+    → AreExtentsOf (spelling m) (length m) i b.extents → a.hash ≡ hash_alone (key e)
+    → b.hash ≡ hash_within context e.id → e.context ≡ Some context
+    → more ≡ slots ++ (a ∷ []) → most ≡ more ++ (b ∷ []) → AddsSlotsOf m i slots most
+adds_two m i e context slots more most a b here at_a at_b hash_a hash_b some is_a is_b = record {
+  kept = λ x old. among_more more most b is_b x (among_more slots more a is_a x old);
+  only = λ x among. elim (of_pushed m i more most b is_b at_b x among) [
+    | inl old ↦ of_pushed m i slots more a is_a at_a x old
+    | inr new ↦ inr new
+  ];
+  each = λ d there h has.
+      let same = entry_is m i d e there here in
+      elim (subst (λ (x : Entry). HasHash x h) same has) [
+        | inl alone ↦ (a, among_more more most b is_b a (among_pushed slots more a is_a), at_a, hash_a ∙ sym alone)
+        | inr asked ↦ (
+          b,
+          among_pushed more most b is_b,
+          at_b,
+          hash_b ∙ sym (asked ∙ ap (λ (c : Option (List ℕ)). asked_hash c e.id) some),
+        )
+      ];
 }
 
 pub named_in_order : (m : List Entry) (slots sorted : List Slot) → IsPermutation slots sorted → NamesEntries m slots
     → NamesEntries m sorted
 named_in_order m slots sorted moves n = record {
-  each = λ i e h. let there = n.each i e h in (
+  each = λ i e here h has. let there = n.each i e here h has in (
     there.0,
     Contains-permutation slots sorted there.0 moves there.1,
     there.2,
@@ -112,19 +192,6 @@ shared_same slots shared n first climbs s some lt other = record {
         rw same (omega (arith, a, one_higher slots n d climbs some lt, before_last, last, other))
   ];
 }
-
-among_more : (shared more : List Slot) (slot : Slot) → more ≡ shared ++ (slot ∷ []) → (x : Slot)
-    → Contains shared x → Contains more x
-among_more shared more slot is x h = (
-  h.0,
-  omega (arith, h.1, ap length is, length-append shared (slot ∷ [])),
-  ap (λ (xs : List Slot). get_or xs h.0 x) is ∙ get_or_append_left shared (slot ∷ []) x h.0 h.1 ∙ h.2,
-)
-
-at_end_of : (shared more : List Slot) (slot d : Slot) → more ≡ shared ++ (slot ∷ [])
-    → get_or more (length shared) d ≡ slot
-at_end_of shared more slot d is = ap (λ (xs : List Slot). get_or xs (length shared) d) is
-    ∙ get_or-append_seam shared slot [] d
 
 -- the next slot has the hash of the one before it
 pub shared_more : (slots shared more : List Slot) (n : ℕ) (slot : Slot) → Climbs slots → Shared slots n shared → 1 ≤ n
@@ -235,12 +302,14 @@ spread_same slots placed n s all x = (
   (λ h. let there = s.only h.0 x h.1 in (there.0, omega (arith, there.1, all), sym there.2 ∙ h.2)),
 )
 
-pub indexed : (m : List Entry) (slots placed shared : List Slot) → NamesEntries m slots → OneForEachHash slots shared
+pub indexed : (m : List Entry) (slots placed shared : List Slot) → IsLawful m → NamesEntries m slots
+    → OneForEachHash slots shared
     → ((x : Slot) → (Contains slots x → Contains placed x) × (Contains placed x → Contains slots x))
     → IsIndex m (record { slots = placed; shared = shared })
-indexed m slots placed shared n one same = record {
+indexed m slots placed shared lawful n one same = record {
+  lawful = lawful;
   names = record {
-    each = λ i e h. let there = n.each i e h in (there.0, (same there.0).0 there.1, there.2, there.3);
+    each = λ i e here h has. let there = n.each i e here h has in (there.0, (same there.0).0 there.1, there.2, there.3);
     only = λ x h. n.only x ((same x).1 h);
   };
   one = λ x y h k. one x y ((same x).1 h) ((same y).1 k);

@@ -1,6 +1,5 @@
 pub mod Found
 pub mod Indexing
-pub mod KeyEnds
 pub mod KeyOrder
 pub mod Searching
 pub mod Slots

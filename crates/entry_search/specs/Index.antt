@@ -1,27 +1,32 @@
--- Private: the slots by which an entry is found by the hash of its key.
-use Rattle.std.specs.Prelude.{◌≡◌, ℕ, ◌<◌, ◌≤◌, List, Option, Some, None, Contains, length, slice_get}
+-- Private: the slots by which an entry is found by its hashes.
+use Rattle.std.specs.Prelude.{◌≡◌, ◌⊎◌, ℕ, ◌/◌, ◌<◌, ◌≤◌, List, Option, Some, None, Contains, length, slice_get}
 use Rattle.std.specs.List.Sorted.{IsNonDecreasingBy, IsPartitionPoint}
 use Rattle.std.specs.Hash.FoldHasher as folding
 use Rattle.entry_search.specs.declared.slot_table.Slot.{Slot}
-use Rattle.mo_image.specs.Entry.{Entry, key}
+use Rattle.mo_image.specs.Entry.{Entry, key, IsLawfulEntry}
+use Rattle.mo_image.specs.Map.{IsLawful}
 use Rattle.mo_image.specs.MoFile.{spelling}
-use Rattle.mo_image.specs.Parts.{cut}
 use Rattle.mo_image.specs.Extents.{AreExtents, AreExtentsOf}
 
--- the hash of a msgid, or of a context and the msgid in it
+-- the hash of a key's bytes, and that of a context and the msgid in it
 abbrev pub hash_alone : List ℕ → ℕ
-hash_alone id = folding.finish (folding.write folding.initial id)
+hash_alone key = folding.finish (folding.write folding.initial key) / 4294967296
 
 abbrev pub hash_within : List ℕ → List ℕ → ℕ
-hash_within context id = folding.finish (folding.write (folding.write folding.initial context) id)
+hash_within context id = folding.finish (folding.write (folding.write folding.initial context) id) / 4294967296
 
-abbrev pub hash_by : List ℕ → Option (List ℕ × List ℕ) → ℕ
-hash_by key None = hash_alone key
-hash_by key (Some p) = hash_within p.0 p.1
+abbrev pub asked_hash : Option (List ℕ) → List ℕ → ℕ
+asked_hash None id = hash_alone id
+asked_hash (Some context) id = hash_within context id
 
--- the hash of a key, which EOT parts into a context and a msgid
-unfoldable pub hash : List ℕ → ℕ
-hash key = hash_by key (cut 4 key)
+-- the hashes by which an entry is found: that of its key, which may be asked for as a whole, and that of its context
+-- and msgid
+abbrev pub HasHash : Entry → ℕ → Type 0
+HasHash e h = (h ≡ hash_alone (key e)) ⊎ (h ≡ asked_hash e.context e.id)
+
+-- an entry with these key bytes, if there is one, has this hash
+abbrev pub FindsBy : List ℕ → ℕ → Type 0
+FindsBy k h = (e : Entry) → IsLawfulEntry e → key e ≡ k → HasHash e h
 
 -- no slot has a lesser hash than an earlier one
 abbrev pub Climbs : List Slot → Type 0
@@ -36,22 +41,30 @@ abbrev pub OneForEachHash : List Slot → List Slot → Type 0
 OneForEachHash slots shared =
     (x y : Slot) → Contains slots x → Contains slots y → x.hash ≡ y.hash → HasNoSlot shared x.hash → x ≡ y
 
--- the slots of an index, and those of hashes that several keys have
+-- the slots of an index, and those of hashes that several entries have
 pub record IndexValue : Type 0 where
   pub slots : List Slot
   pub shared : List Slot
 
--- the slot of the i-th entry is there, with the hash of its key
-abbrev pub HasSlotOf : List Entry → List Slot → ℕ → Entry → Type 0
-HasSlotOf m slots i e = (slot : Slot) × Contains slots slot × AreExtentsOf (spelling m) (length m) i slot.extents
-    × (slot.hash ≡ hash (key e))
+-- a slot of the i-th entry is there, with this hash
+abbrev pub HasSlotOf : List Entry → List Slot → ℕ → ℕ → Type 0
+HasSlotOf m slots i h = (slot : Slot) × Contains slots slot × AreExtentsOf (spelling m) (length m) i slot.extents
+    × (slot.hash ≡ h)
 
--- a slot for each entry, and no other; some may stand there more than once
+-- slots for each entry, and no other; some may stand there more than once
 pub record NamesEntries (m : List Entry) (slots : List Slot) : Type 0 where
-  pub each : (i : ℕ) (e : Entry) → slice_get m i ≡ Some e → HasSlotOf m slots i e
+  pub each : (i : ℕ) (e : Entry) → slice_get m i ≡ Some e → (h : ℕ) → HasHash e h → HasSlotOf m slots i h
   pub only : (slot : Slot) → Contains slots slot → AreExtents (spelling m) (length m) slot.extents
 
+-- `more` are the slots and those of the i-th entry
+pub record AddsSlotsOf (m : List Entry) (i : ℕ) (slots more : List Slot) : Type 0 where
+  pub kept : (slot : Slot) → Contains slots slot → Contains more slot
+  pub only : (slot : Slot) → Contains more slot
+      → Contains slots slot ⊎ AreExtentsOf (spelling m) (length m) i slot.extents
+  pub each : (e : Entry) → slice_get m i ≡ Some e → (h : ℕ) → HasHash e h → HasSlotOf m more i h
+
 pub record IsIndex (m : List Entry) (index : IndexValue) : Type 0 where
+  pub lawful : IsLawful m
   pub names : NamesEntries m index.slots
   pub one : OneForEachHash index.slots index.shared
 

@@ -7,29 +7,44 @@ ghost use Rattle.mo_image.specs.Entry.{key, key_bytes, Lacks};
 ghost use Rattle.mo_image.specs.Map.{entry_at};
 ghost use Rattle.mo_image.specs.Pairs.{key_part, HasNulAt};
 ghost use Rattle.entry_search.specs.Search.{AtMostDigits};
-ghost use Rattle.entry_search.specs.Index.{hash, IsIndex};
-ghost use Rattle.entry_search.specs.KeyEnd.{MayEndAt};
+ghost use Rattle.entry_search.specs.Index.{FindsBy, IsIndex};
 
 use crate::Steps;
 use crate::index::Index;
 use crate::keys::cmp_in_context;
-use crate::slot_table::{EOT, hash_of, hash_within};
+use crate::slot_table::{hash_alone, hash_within};
 use mo_image::{EntryRef, Image, key_of};
 use std::cmp::Ordering;
 use std::marker::{Brand, Model};
 use std::sync::ledger::{Blank, Ledger};
-use text_cut::{lacks_byte, split_bytes_at};
+use text_cut::lacks_byte;
 
 /// The key that is asked for, seen as its bytes.
 #[derive(Drop)]
 struct Asked<'a> {
     context: Option<&'a [u8]>,
     id: &'a [u8],
+}
+
+impl<'a> Model for Asked<'a> {
+    ghost use Rattle.std.specs.Prelude.{ℕ, List, option_map};
+    ghost use Rattle.mo_image.specs.Entry.{key_bytes};
+
+    ghost Value = { List ℕ };
+
+    ghost view = { λ a. key_bytes (option_map (λ s. s.now) a.context) a.id.now };
+}
+
+/// The same, for a search by halves.
+#[derive(Drop)]
+struct Sought<'a> {
+    context: Option<&'a [u8]>,
+    id: &'a [u8],
     /// The msgid has no NUL, which makes comparisons quick. No entry's has one.
     is_text: bool,
 }
 
-impl<'a> Model for Asked<'a> {
+impl<'a> Model for Sought<'a> {
     ghost use Rattle.std.specs.Prelude.{ℕ, List, IsTrue, option_map};
     ghost use Rattle.mo_image.specs.Entry.{key_bytes, Lacks};
 
@@ -45,23 +60,6 @@ fn has_nul_at(original: &[u8], place: usize) -> bool
     ensures { IsTrue result ↔ HasNulAt original.now place }
 {
     place < original.len() && original[place] == 0
-}
-
-/// Whether a key of this length may end in an original: at its end, or at a NUL.
-#[inline]
-fn may_end_at(original: &[u8], len: usize) -> bool
-    ensures { IsTrue result ↔ MayEndAt original.now len }
-{
-    len == original.len() || has_nul_at(original, len)
-}
-
-/// Whether the key of an original is this msgid.
-#[inline]
-fn is_key(original: &[u8], id: &[u8]) -> bool
-    requires { Lacks 0 id.now }
-    ensures { result ≡ bytes_eq (key_part original.now) id.now }
-{
-    may_end_at(original, id.len()) && &original[..id.len()] == id
 }
 
 /// The key of an original beside a msgid. The original is compared as it is, since a plural behind the key
@@ -82,24 +80,41 @@ impl<'a> Asked<'a> {
     fn new(context: Option<&'a [u8]>, id: &'a [u8]) -> Asked<'a>
         ensures { result ≡ key_bytes (option_map (λ s. s.now) context.entry) id.now }
     {
-        Asked {
-            context,
-            id,
-            is_text: lacks_byte(id, 0),
+        Asked { context, id }
+    }
+
+    /// A hash of the entry that has this key, if there is one.
+    #[inline(always)]
+    fn hash(&self) -> u32
+        ensures { FindsBy self.now result }
+    {
+        match self.context {
+            Some(context) => hash_within(context, self.id),
+            None => hash_alone(self.id),
         }
     }
 
-    /// The hash of this key; None where the context holds the byte that parts the two in keys.
-    #[inline]
-    fn hash(&self) -> Option<u64>
-        ensures { IfSome result (λ h. h ≡ hash self.now) }
+    /// Whether the key of an entry is this one.
+    #[inline(always)]
+    fn is_key_of(&self, entry: &EntryRef<'_>) -> bool
+        ensures { result ≡ bytes_eq (key entry.now) self.now }
     {
-        let Some(context) = self.context else {
-            return Some(hash_of(self.id));
-        };
-        match split_bytes_at(context, EOT) {
-            Some(_) => None,
-            None => Some(hash_within(context, self.id)),
+        let key = entry.key().as_bytes();
+        match self.context {
+            Some(context) => cmp_in_context(key, context, self.id).is_eq(),
+            None => key == self.id,
+        }
+    }
+}
+
+impl<'a> Sought<'a> {
+    fn new(asked: &Asked<'a>) -> Sought<'a>
+        ensures { result ≡ asked.now }
+    {
+        Sought {
+            context: asked.context,
+            id: asked.id,
+            is_text: lacks_byte(asked.id, 0),
         }
     }
 
@@ -113,17 +128,6 @@ impl<'a> Asked<'a> {
             None => key_of(original).as_bytes().cmp(self.id),
         }
     }
-
-    /// Whether the key of an original is this one.
-    #[inline]
-    fn is_key_of(&self, original: &str) -> bool
-        ensures { result ≡ bytes_eq (key_part original.now) self.now }
-    {
-        match self.context {
-            None if self.is_text => is_key(original.as_bytes(), self.id),
-            _ => self.cmp_original(original).is_eq(),
-        }
-    }
 }
 
 /// The place in the middle of those from `low` on and before `high`.
@@ -135,52 +139,52 @@ fn middle(low: usize, high: usize) -> usize
 }
 
 /// How the key of an original compares with the one asked for, which is one step.
-fn compare<L: Ledger>(original: &str, asked: &Asked<'_>, steps: &mut Steps<L>) -> Ordering
-    ensures order { result ≡ slice_cmp nat_cmp (key_part original.now) asked.now }
+fn compare<L: Ledger>(original: &str, sought: &Sought<'_>, steps: &mut Steps<L>) -> Ordering
+    ensures order { result ≡ slice_cmp nat_cmp (key_part original.now) sought.now }
     ensures step { steps.new ≡ steps.old + 1 }
 {
     steps.tick();
-    asked.cmp_original(original)
+    sought.cmp_original(original)
 }
 
-/// Whether the key of an original is the one asked for, which is one step.
-#[inline]
-fn is_same<L: Ledger>(original: &str, asked: &Asked<'_>, count: &mut Steps<L>) -> bool
-    ensures same { result ≡ bytes_eq (key_part original.now) asked.now }
+/// Whether the key of an entry is the one asked for, which is one step.
+#[inline(always)]
+fn is_same<L: Ledger>(entry: &EntryRef<'_>, asked: &Asked<'_>, count: &mut Steps<L>) -> bool
+    ensures same { result ≡ bytes_eq (key entry.now) asked.now }
     ensures step { count.new ≡ count.old + 1 }
 {
     count.tick();
-    asked.is_key_of(original)
+    asked.is_key_of(entry)
 }
 
 /// How the i-th key compares with the one asked for, which is one step.
 fn compare_at<L: Ledger>(
     image: &Image,
     i: usize,
-    asked: &Asked<'_>,
+    sought: &Sought<'_>,
     steps: &mut Steps<L>,
 ) -> Ordering
     requires { i < length image.now }
-    ensures order { IfSome (slice_get image.now i) (λ e. result ≡ slice_cmp nat_cmp (key e) asked.now) }
+    ensures order { IfSome (slice_get image.now i) (λ e. result ≡ slice_cmp nat_cmp (key e) sought.now) }
     ensures step { steps.new ≡ steps.old + 1 }
 {
-    compare(image.original(i), asked, steps)
+    compare(image.original(i), sought, steps)
 }
 
 /// The entry of this key, by halves.
 fn search<'a, L: Ledger>(
     image: &'a Image,
-    asked: &Asked<'_>,
+    sought: &Sought<'_>,
     steps: &mut Steps<L>,
 ) -> Option<EntryRef<'a>>
-    ensures found { result ≡ entry_at image.now asked.now }
+    ensures found { result ≡ entry_at image.now sought.now }
     ensures cost { AtMostDigits (length image.now) steps.old steps.new }
 {
     let mut low = 0;
     let mut high = image.len();
     'halves: while low < high {
         let mid = middle(low, high);
-        match compare_at(image, mid, asked, steps) {
+        match compare_at(image, mid, sought, steps) {
             Ordering::Less => low = mid + 1,
             Ordering::Equal => return Some(image.entry(mid)),
             Ordering::Greater => high = mid,
@@ -189,7 +193,7 @@ fn search<'a, L: Ledger>(
     None
 }
 
-/// The entry of this key, by the slot that the index has of its hash; by halves, where several keys have that hash.
+/// The entry of this key, by the slot that the index has of its hash; by halves, where several entries have that hash.
 #[inline(always)]
 fn search_indexed<'a, L: Ledger>(
     image: &'a Image,
@@ -201,14 +205,12 @@ fn search_indexed<'a, L: Ledger>(
     ensures found { result ≡ entry_at image.now asked.now }
     ensures cost { AtMostDigits (length image.now) steps.old steps.new }
 {
-    let Some(hash) = asked.hash() else {
-        return search(image, asked, steps);
-    };
+    let hash = asked.hash();
     if index.is_shared(hash) {
-        return search(image, asked, steps);
+        return search(image, &Sought::new(asked), steps);
     }
     let entry = image.entry_in(&index.slot_of(hash)?.extents);
-    if is_same(entry.original(), asked, steps) {
+    if is_same(&entry, asked, steps) {
         Some(entry)
     } else {
         None
@@ -229,7 +231,7 @@ fn search_by<'a, L: Ledger>(
 {
     match index {
         Some(index) => search_indexed(image, index, asked, steps),
-        None => search(image, asked, steps),
+        None => search(image, &Sought::new(asked), steps),
     }
 }
 

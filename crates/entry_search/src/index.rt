@@ -5,12 +5,12 @@ ghost use Rattle.entry_search.specs.Index.{HasNoSlot};
 use crate::slot_table::{Slot, SlotTable};
 use std::marker::Model;
 
-/// The entries of a catalogue by the hashes of their keys. Where keys share a hash, which somebody may bring about who
-/// picks them, those keys are searched for by halves, and all others by their slots.
+/// The entries of a catalogue by their hashes. Where entries share a hash, by chance or since somebody picked their keys
+/// so, those are searched for by halves, and all others by their slots.
 #[derive(Drop)]
 pub(crate) struct Index {
     slots: SlotTable,
-    /// A slot of each hash that several keys have.
+    /// A slot of each hash that several entries have.
     shared: SlotTable,
 }
 
@@ -29,9 +29,9 @@ impl Index {
         Index { slots, shared }
     }
 
-    /// Whether several keys have this hash.
+    /// Whether several entries have this hash.
     #[inline]
-    pub(crate) fn is_shared(&self, hash: u64) -> bool
+    pub(crate) fn is_shared(&self, hash: u32) -> bool
         ensures { result ≡ false → HasNoSlot self.now.shared hash }
     {
         !self.shared.is_empty() && self.shared.slot_of(hash).is_some()
@@ -39,7 +39,7 @@ impl Index {
 
     /// The slot of this hash, if there is one.
     #[inline]
-    pub(crate) fn slot_of(&self, hash: u64) -> Option<&Slot>
+    pub(crate) fn slot_of(&self, hash: u32) -> Option<&Slot>
         ensures some { IfSome result (λ slot. Contains self.now.slots slot.now) }
         ensures hash { IfSome result (λ slot. slot.now.hash ≡ hash) }
         ensures none { IfNone result (HasNoSlot self.now.slots hash) }

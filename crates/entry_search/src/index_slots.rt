@@ -1,41 +1,47 @@
 //! The slots of an index, made of a catalogue's entries.
-ghost use Rattle.std.specs.Prelude.{◌≡◌, ◌<◌, length, slice_get, Contains, IfOk, IfSome};
-ghost use Rattle.mo_image.specs.Entry.{key};
-ghost use Rattle.mo_image.specs.Extents.{AreExtentsOf};
-ghost use Rattle.mo_image.specs.MoFile.{spelling};
+ghost use Rattle.std.specs.Prelude.{◌<◌, length, Contains, IfOk, OnOk};
+ghost use Rattle.mo_image.specs.Map.{IsLawful};
 ghost use Rattle.entry_search.specs.declared.slot_table.Slot.{Slot};
-ghost use Rattle.entry_search.specs.Index.{hash, Climbs, IsIndex, NamesEntries, OneForEachHash};
+ghost use Rattle.entry_search.specs.Index.{AddsSlotsOf, Climbs, IsIndex, NamesEntries, OneForEachHash};
 
 use crate::index::Index;
-use crate::slot_table::{Slot, SlotTable, hash_of, home};
-use mo_image::{Image, key_of};
+use crate::slot_table::{Slot, SlotTable, hash_alone, hash_within, home};
+use mo_image::Image;
 use std::alloc::{AllocError, Global};
 
-/// The slot by which an index finds the i-th entry.
-fn slot_of(image: &Image, i: usize) -> Slot
+/// Adds the slots by which an index finds the i-th entry: that of its key's bytes, and where it has a context, that of
+/// the context and the msgid.
+fn push_slots(slots: &mut Vec<Slot>, image: &Image, i: usize) -> Result<(), AllocError>
     requires { i < length image.now }
-    ensures extents { AreExtentsOf (spelling image.now) (length image.now) i result.extents }
-    ensures hash { IfSome (slice_get image.now i) (λ e. result.hash ≡ hash (key e)) }
+    ensures { OnOk result (AddsSlotsOf image.now i slots.old.items slots.new.items) }
 {
-    Slot {
-        hash: hash_of(key_of(image.original(i)).as_bytes()),
-        extents: image.extents(i),
+    let extents = image.extents(i);
+    let entry = image.entry(i);
+    let hash = hash_alone(entry.key().as_bytes());
+    slots.push(Slot { hash, extents })?;
+    if let Some(context) = entry.context() {
+        let hash = hash_within(context.as_bytes(), entry.id().as_bytes());
+        slots.push(Slot { hash, extents })?;
     }
+    Ok(())
 }
 
-/// The slot of each entry, in the order of the entries.
+/// The slots of all entries, in the order of the entries.
 fn list_slots(alloc: Global, image: &Image) -> Result<Vec<Slot>, AllocError>
-    ensures { IfOk result (λ slots. NamesEntries image.now slots.items) }
+    ensures names { IfOk result (λ slots. NamesEntries image.now slots.items) }
+    ensures lawful { IsLawful image.now }
 {
-    let mut slots = Vec::with_capacity(alloc, image.len())?;
-    'entries: for i in 0..image.len() {
-        slots.push(slot_of(image, i))?;
+    let count = image.len();
+    let mut slots = Vec::with_capacity(alloc, count)?;
+    'entries: for i in 0..count {
+        push_slots(&mut slots, image, i)?;
     }
     Ok(slots)
 }
 
 /// The same, in rising order.
 fn sort_slots(alloc: Global, image: &Image) -> Result<Vec<Slot>, AllocError>
+    ensures lawful { IsLawful image.now }
     ensures names { IfOk result (λ slots. NamesEntries image.now slots.items) }
     ensures climbs { IfOk result (λ slots. Climbs slots.items) }
 {

@@ -1,24 +1,20 @@
 //! Slots by which entries are found by the hashes of their keys.
 ghost use Rattle.std.specs.Prelude.{◌≡◌, ◌<◌, ◌≤◌, [], length, true, Contains, IfSome, IfNone, IsTrue};
 ghost use Rattle.std.specs.List.{AllWithin};
-ghost use Rattle.entry_search.specs.Index.{hash, hash_alone, hash_within, Climbs, IsCut, HasNoSlot};
+ghost use Rattle.entry_search.specs.Index.{hash_alone, hash_within, Climbs, IsCut, HasNoSlot};
 
 use mo_image::EntryExtents;
 use std::hash::{FoldHasher, Hasher};
 use std::marker::Model;
-use text_cut::split_bytes_at;
 
 /// How far from where it is expected a slot is looked for.
 const REACH: usize = 6;
 
-/// What parts a context from its msgid in a key.
-pub(crate) const EOT: u8 = 4;
-
-/// How an entry is found: a slot leads from the hash of its key to its texts at once.
+/// How an entry is found: a slot leads from a hash of the entry to its texts at once.
 #[derive(Clone, Copy)]
 pub(crate) struct Slot {
-    /// The hash of the entry's key.
-    pub(crate) hash: u64,
+    /// The hash of the entry's key, or of its context and msgid.
+    pub(crate) hash: u32,
     /// Where its texts lie.
     pub(crate) extents: EntryExtents,
 }
@@ -44,47 +40,37 @@ impl Model for SlotTable {
     ghost invariant = { λ table. Climbs table.slots.items };
 }
 
-/// The hash of a msgid alone.
+/// The hash of a key, or of a msgid without a context, by their bytes.
 #[inline]
-fn hash_alone(id: &[u8]) -> u64
-    ensures { result ≡ hash_alone id.now }
+pub(crate) fn hash_alone(key: &[u8]) -> u32
+    ensures { result ≡ hash_alone key.now }
 {
     let mut hasher = FoldHasher::default();
-    hasher.write(id);
-    hasher.finish()
+    hasher.write(key);
+    (hasher.finish() >> 32) as u32
 }
 
 /// The hash of a msgid in a context.
-pub(crate) fn hash_within(context: &[u8], id: &[u8]) -> u64
+#[inline]
+pub(crate) fn hash_within(context: &[u8], id: &[u8]) -> u32
     ensures { result ≡ hash_within context.now id.now }
 {
     let mut hasher = FoldHasher::default();
     hasher.write(context);
     hasher.write(id);
-    hasher.finish()
-}
-
-/// The hash of a key.
-#[inline]
-pub(crate) fn hash_of(key: &[u8]) -> u64
-    ensures { result ≡ hash key.now }
-{
-    match split_bytes_at(key, EOT) {
-        Some((context, id)) => hash_within(context, id),
-        None => hash_alone(key),
-    }
+    (hasher.finish() >> 32) as u32
 }
 
 /// Where a hash's slot is expected, if slots are spread by this many places.
-pub(crate) fn home(hash: u64, spread: usize) -> usize
+pub(crate) fn home(hash: u32, spread: usize) -> usize
     ensures { result < 4294967296 }
 {
-    ((hash >> 32).wrapping_mul(spread as u64) >> 32) as usize
+    (u64::from(hash).wrapping_mul(spread as u64) >> 32) as usize
 }
 
 /// The slot of this hash among these. Each is compared, so that no branch waits for memory.
 #[inline]
-fn slot_in(near: &[Slot; REACH], hash: u64) -> Option<&Slot>
+fn slot_in(near: &[Slot; REACH], hash: u32) -> Option<&Slot>
     ensures some { IfSome result (λ slot. Contains near.now slot.now) }
     ensures hash { IfSome result (λ slot. slot.now.hash ≡ hash) }
 {
@@ -97,7 +83,7 @@ fn slot_in(near: &[Slot; REACH], hash: u64) -> Option<&Slot>
 }
 
 /// The slot of this hash among these few.
-fn slot_among(few: &[Slot], hash: u64) -> Option<&Slot>
+fn slot_among(few: &[Slot], hash: u32) -> Option<&Slot>
     ensures some { IfSome result (λ slot. Contains few.now slot.now) }
     ensures hash { IfSome result (λ slot. slot.now.hash ≡ hash) }
 {
@@ -121,7 +107,7 @@ impl SlotTable {
     }
 
     /// The slot of this hash, if it stands at this place or not far behind it.
-    fn slot_near(&self, hash: u64, place: usize) -> Option<&Slot>
+    fn slot_near(&self, hash: u32, place: usize) -> Option<&Slot>
         ensures some { IfSome result (λ slot. Contains self.now slot.now) }
         ensures hash { IfSome result (λ slot. slot.now.hash ≡ hash) }
     {
@@ -133,7 +119,7 @@ impl SlotTable {
     }
 
     /// Whether the slots before this place have hashes below a bound.
-    fn is_below(&self, bound: u64, cut: usize) -> bool
+    fn is_below(&self, bound: u32, cut: usize) -> bool
         requires { cut ≤ length self.now }
         ensures { IsTrue result → AllWithin (λ slot. slot.hash < bound) self.now 0 cut }
     {
@@ -141,7 +127,7 @@ impl SlotTable {
     }
 
     /// Whether the slots from this place on have not.
-    fn is_above(&self, bound: u64, cut: usize) -> bool
+    fn is_above(&self, bound: u32, cut: usize) -> bool
         requires { cut ≤ length self.now }
         ensures { IsTrue result → AllWithin (λ slot. bound ≤ slot.hash) self.now cut (length self.now) }
     {
@@ -149,7 +135,7 @@ impl SlotTable {
     }
 
     /// How many of the slots have hashes below a bound, if the last of them is near this place.
-    fn cut_near(&self, bound: u64, place: usize) -> Option<usize>
+    fn cut_near(&self, bound: u32, place: usize) -> Option<usize>
         ensures { IfSome result (λ cut. IsCut self.now bound cut) }
     {
         let end = place.saturating_add(REACH).min(self.slots.len());
@@ -163,7 +149,7 @@ impl SlotTable {
     }
 
     /// How many of the slots have hashes below a bound; by halves, where they are far from this place.
-    fn cut(&self, bound: u64, place: usize) -> usize
+    fn cut(&self, bound: u32, place: usize) -> usize
         ensures { IsCut self.now bound result }
     {
         match self.cut_near(bound, place) {
@@ -173,7 +159,7 @@ impl SlotTable {
     }
 
     /// The slot at this place, if it has this hash.
-    fn slot_at(&self, hash: u64, cut: usize) -> Option<&Slot>
+    fn slot_at(&self, hash: u32, cut: usize) -> Option<&Slot>
         requires { IsCut self.now hash cut }
         ensures some { IfSome result (λ slot. Contains self.now slot.now) }
         ensures hash { IfSome result (λ slot. slot.now.hash ≡ hash) }
@@ -184,7 +170,7 @@ impl SlotTable {
     }
 
     /// The slot of this hash, if there is one.
-    pub(crate) fn slot_of(&self, hash: u64) -> Option<&Slot>
+    pub(crate) fn slot_of(&self, hash: u32) -> Option<&Slot>
         ensures some { IfSome result (λ slot. Contains self.now slot.now) }
         ensures hash { IfSome result (λ slot. slot.now.hash ≡ hash) }
         ensures none { IfNone result (HasNoSlot self.now hash) }

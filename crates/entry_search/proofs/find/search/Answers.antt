@@ -18,7 +18,7 @@ pub returns-in-Equal-clause-found : goal.returns-in-Equal-clause-found
 returns-in-Equal-clause-found g c =
     let m = c.args.image.now in
     let mid = c.middle-mid.result in
-    let asked = c.args.asked.now in
+    let asked = c.args.sought.now in
     sym (found_equal m mid c.entry.result asked c.len-high.ensures.lawful.rises c.entry.ensures
     (order_at m mid c.entry.result asked Equal c.in-Equal.ensures.order c.entry.ensures))
 

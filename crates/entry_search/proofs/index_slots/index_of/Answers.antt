@@ -21,4 +21,4 @@ returns c =
     ∙ ap (λ (r : List Slot). record { slots = r; shared = c.new-2.result }) c.new.ensures
     ∙ ap (λ (r : List Slot). record { slots = placed; shared = r }) c.new-2.ensures in
     subst (λ (v : IndexValue). IsIndex m v) (sym value)
-    (indexed m slots placed shared c.in_ok-slots.ensures.names one same)
+    (indexed m slots placed shared c.in_ok-slots.ensures.lawful c.in_ok-slots.ensures.names one same)

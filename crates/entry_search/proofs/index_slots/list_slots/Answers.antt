@@ -1,18 +1,23 @@
-use Rattle.std.proofs.Common.{ℕ, ◌≡◌, length, subst, arith}
-use Rattle.entry_search.proofs.Indexing.{Listed, listed_more, named}
+use Rattle.std.proofs.Common.{ℕ, List, ◌≡◌, length, subst, sym, arith}
+use Rattle.entry_search.specs.declared.slot_table.Slot.{Slot}
+use Rattle.entry_search.proofs.Indexing.{Listed, listed_more, listed_none, named}
 use Rattle.entry_search.proofs.index_slots.list_slots.Goals as goal
 
-pub entries-preserved : goal.entries-preserved
-entries-preserved c = listed_more c.args.image.now c.entries.slots.items c.push.new.self.items c.entries.i
-    c.slot_of.result c.entries.invariant c.in_ok-push.ensures.items (c.slot_of.ensures.extents, c.slot_of.ensures.hash)
+pub entries-init : goal.entries-init
+entries-init c = subst (λ (slots : List Slot). Listed c.args.image.now slots 0) (sym c.in_ok-slots.ensures.items)
+    (listed_none c.args.image.now)
 
-pub returns : goal.returns
-returns c =
+pub entries-preserved : goal.entries-preserved
+entries-preserved c = listed_more c.args.image.now c.entries.slots.items c.push_slots.new.slots.items c.entries.i
+    c.entries.invariant c.in_ok-push_slots.ensures
+
+pub returns-clause-names : goal.returns-clause-names
+returns-clause-names c =
     let m = c.args.image.now in
     let all : c.entries.i ≡ length m = omega (
       arith,
       c.entries-test.false,
       c.entries.auto.i-end,
-      c.len-i-end.ensures.len,
+      c.len-count.ensures.len,
     ) in
     named m c.entries.slots.items (subst (λ (n : ℕ). Listed m c.entries.slots.items n) all c.entries.invariant)
