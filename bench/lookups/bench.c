@@ -1,4 +1,8 @@
-/* Look-ups by libkobdzila, beside glibc's dcgettext in the same MO file. Run by bench/lookups/run. */
+/* Look-ups by libkobdzila, beside glibc's dcgettext in the same MO file. Run by bench/lookups/run.
+ *
+ *   bench FOLDER TURNS          the table
+ *   bench FOLDER TURNS DOMAIN   the picoseconds of one of our look-ups alone, best of so many turns
+ */
 #include "kobdzila.h"
 
 #include <libintl.h>
@@ -123,8 +127,40 @@ static int compare(const struct domain *d, int threads, int turns, double target
     return a != b;
 }
 
+/* Opens the catalogue of a domain, and reads its msgids; tells how long the first took, where it is asked to. */
+static int open_domain(struct domain *d, const char *folder, int tell) {
+    char name[4096];
+    snprintf(name, sizeof name, "%s/xx/LC_MESSAGES/%s.mo", folder, d->name);
+    double start = now();
+    d->catalogue = kob_open_file(name, KOB_MO, 0, NULL);
+    if (!d->catalogue) {
+        fprintf(stderr, "%s: not opened\n", name);
+        return 1;
+    }
+    if (tell)
+        printf("%s: opened in %.2f ms\n", d->name, (now() - start) / 1e6);
+    snprintf(name, sizeof name, "%s/%s.ids", folder, d->name);
+    d->ids = read_text(name);
+    split(d);
+    return 0;
+}
+
+/* Prints how long one of our look-ups takes in one thread. */
+static int tell_ours(struct domain *d, const char *folder, int turns) {
+    if (open_domain(d, folder, 0))
+        return 1;
+    double best = 1e18;
+    uint64_t sum;
+    for (int turn = 0; turn < turns; turn++) {
+        double t = timed(ours, d, d->rounds, 1, &sum);
+        if (t < best) best = t;
+    }
+    printf("%.0f ps\n", 1000 * best / ((double)d->rounds * (double)d->count));
+    return 0;
+}
+
 int main(int argc, char **argv) {
-    if (argc != 3)
+    if (argc != 3 && argc != 4)
         return 2;
     const char *folder = argv[1];
     int turns = atoi(argv[2]);
@@ -139,21 +175,14 @@ int main(int argc, char **argv) {
         fprintf(stderr, "no locale C.UTF-8\n");
         return 1;
     }
+    for (int i = 0; argc == 4 && i < 3; i++)
+        if (strcmp(argv[3], domains[i].name) == 0)
+            return tell_ours(&domains[i], folder, turns);
     for (int i = 0; i < 3; i++) {
-        char name[4096];
         struct domain *d = &domains[i];
         bindtextdomain(d->name, folder);
-        snprintf(name, sizeof name, "%s/xx/LC_MESSAGES/%s.mo", folder, d->name);
-        double start = now();
-        d->catalogue = kob_open_file(name, KOB_MO, 0, NULL);
-        if (!d->catalogue) {
-            fprintf(stderr, "%s: not opened\n", name);
+        if (open_domain(d, folder, 1))
             return 1;
-        }
-        printf("%s: opened in %.2f ms\n", d->name, (now() - start) / 1e6);
-        snprintf(name, sizeof name, "%s/%s.ids", folder, d->name);
-        d->ids = read_text(name);
-        split(d);
         if (dcgettext(d->name, d->list[0], LC_MESSAGES) == d->list[0]) {
             fprintf(stderr, "glibc doesn't translate\n");
             return 1;
