@@ -11,6 +11,7 @@ void kobdzila_open_po(const unsigned char *bytes, size_t len, uint32_t checked, 
 void kobdzila_close(struct held *held);
 uint64_t kobdzila_number(const struct held *held, uint32_t which, uint64_t place);
 void kobdzila_text(const struct held *held, uint32_t part, uint64_t place, uint64_t form, struct lent *out);
+void kobdzila_gettext(const struct held *held, const unsigned char *msgid, size_t msgid_len, struct lent *out);
 void kobdzila_answer(const struct held *held, const unsigned char *context, size_t context_len, const unsigned char *msgid,
                      size_t msgid_len, uint32_t call, uint64_t n, struct lent *out);
 
@@ -108,7 +109,10 @@ static struct lent ask(const kob_catalogue *c, kob_text context, kob_text msgid,
 }
 
 const char *kob_gettext(const kob_catalogue *c, const char *msgid) {
-    return found_or(ask(c, text_of(""), text_of(msgid), GETTEXT, 0), msgid);
+    kob_text text = text_of(msgid);
+    struct lent out;
+    kobdzila_gettext(read_by(c), bytes_of(text), text.len, &out);
+    return found_or(out, msgid);
 }
 
 const char *kob_pgettext(const kob_catalogue *c, const char *context, const char *msgid) {

@@ -11,6 +11,7 @@ use mo_image::EntryRef;
 use po_header::RuleRead;
 
 /// The place of the form that a number takes by this rule; that of the first one, where the entry has no such form.
+#[inline(always)]
 fn place_by(entry: &EntryRef<'_>, rule: &RuleRead, n: u64) -> usize
     ensures within { result < length entry.now.forms }
     ensures form { (text : List ℕ) → slice_get entry.now.forms result ≡ Some text
@@ -33,6 +34,7 @@ pub fn untranslated<'a>(id: &'a str, plural: &'a str, n: u64) -> &'a str
 }
 
 /// The first form of the entry that was found, or the msgid.
+#[inline(always)]
 fn first_form<'a>(found: Option<EntryRef<'a>>, id: &'a str) -> &'a str
     ensures { IsFirstForm found.entry id.now result.now }
 {
@@ -45,6 +47,7 @@ fn first_form<'a>(found: Option<EntryRef<'a>>, id: &'a str) -> &'a str
 impl Catalogue {
     /// The form of an entry of this catalogue that a number takes by the rule in the catalogue's header; the first
     /// form, where the entry has no such form (GNU gettext manual, "Plural forms").
+    #[inline(always)]
     pub fn form_for<'a>(&self, entry: &EntryRef<'a>, n: u64) -> &'a str
         ensures { IsMapFormFor self.now n entry.now.forms result.now }
     {
@@ -52,6 +55,7 @@ impl Catalogue {
     }
 
     /// The form of the entry that was found, or one of the texts.
+    #[inline(always)]
     fn counted<'a>(
         &'a self,
         found: Option<EntryRef<'a>>,
@@ -100,6 +104,7 @@ impl Catalogue {
     }
 
     /// The place of the form of an entry of this catalogue that is asked for: the first, or that of a number.
+    #[inline(always)]
     fn asked_place(&self, entry: &EntryRef<'_>, n: Option<u64>) -> usize
         requires { 0 < length entry.now.forms }
         ensures within { result < length entry.now.forms }
@@ -124,6 +129,7 @@ impl Catalogue {
 
     /// The form of an entry of this catalogue, and one NUL behind it, which makes it a string of C: the first form, or
     /// with a number the form that it takes.
+    #[inline(always)]
     pub fn closed_form_for<'a>(&self, entry: &EntryRef<'a>, n: Option<u64>) -> &'a [u8]
         ensures { IsClosedFormFor self.now n entry.now.forms result.now }
     {
@@ -134,6 +140,7 @@ impl Catalogue {
 
     /// The same of a message in a context, or in none, by their bytes, which may be no text. None exactly where there
     /// is no such entry; so an empty text differs from none.
+    #[inline(always)]
     pub fn translated_closed(
         &self,
         context: Option<&[u8]>,

@@ -1,5 +1,5 @@
 //! What a catalogue that C holds is asked, and what it answers.
-ghost use Rattle.std.specs.Prelude.{◌≡◌, length, option_map, slice_get};
+ghost use Rattle.std.specs.Prelude.{◌≡◌, [], length, option_map, slice_get};
 ghost use Rattle.std.specs.Arc.{arc_value};
 ghost use Rattle.kobdzila_c.specs.Answering.{IsAnswer, context_of, map_of, number_of, question};
 ghost use Rattle.kobdzila_c.specs.Listing.{entry_number, entry_text, form_at, number, text};
@@ -8,6 +8,7 @@ use crate::Opened;
 use catalogue::{Catalogue, EntryRef};
 
 /// The catalogue, where the bytes were not refused.
+#[inline(always)]
 fn catalogue_of(opened: &Opened) -> Option<&Catalogue>
     ensures { option_map (λ c. c.now) result ≡ option_map (λ shared. arc_value shared) opened.now.catalogue }
 {
@@ -18,6 +19,7 @@ fn catalogue_of(opened: &Opened) -> Option<&Catalogue>
 }
 
 /// The context, where the call has one.
+#[inline(always)]
 pub(crate) fn context_in(call: u32, context: &[u8]) -> Option<&[u8]>
     ensures { option_map (λ s. s.now) result ≡ context_of call context.now }
 {
@@ -28,6 +30,7 @@ pub(crate) fn context_in(call: u32, context: &[u8]) -> Option<&[u8]>
 }
 
 /// The number, where the call has one.
+#[inline(always)]
 pub(crate) fn number_in(call: u32, n: u64) -> Option<u64>
     ensures { result ≡ number_of call n }
 {
@@ -38,6 +41,7 @@ pub(crate) fn number_in(call: u32, n: u64) -> Option<u64>
 }
 
 /// The text that answers a question, with its closing NUL; nothing where there is none.
+#[inline(always)]
 pub(crate) fn answer<'k>(
     opened: &'k Opened,
     context: &[u8],
@@ -54,6 +58,13 @@ pub(crate) fn answer<'k>(
         Some(text) => text,
         None => &[],
     }
+}
+
+/// The text that answers gettext of a msgid, with its closing NUL; nothing where there is none.
+pub(crate) fn gettext<'k>(opened: &'k Opened, id: &[u8]) -> &'k [u8]
+    ensures { IsAnswer (map_of opened.now) (question 0 [] id.now 0) result.now }
+{
+    answer(opened, &[], id, 0, 0)
 }
 
 /// The entry at this place of a catalogue, if there is one.

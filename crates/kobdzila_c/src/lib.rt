@@ -4,7 +4,7 @@
 //! `kobdzila.h` stands on; a program in C calls those of the header.
 #![tactic(auto)]
 
-ghost use Rattle.std.specs.Prelude.{◌≡◌, ◌↔◌, IsTrue};
+ghost use Rattle.std.specs.Prelude.{◌≡◌, ◌↔◌, [], IsTrue};
 ghost use base.Fml.{Lft, Share, flft};
 ghost use denote.RawPtr.{room_at};
 ghost use types.Logic.{sem};
@@ -117,6 +117,16 @@ pub unsafe extern "C" fn kobdzila_answer(
     ensures* { sem 𝓛 (flft g.0 g.1) ∗ sem 𝓛 (answered g.0 out g.2 (question call context.now id.now n)) }
 {
     *out = answers::answer(&*(held as *const Opened), context, id, call, n);
+}
+
+/// The same for gettext alone, which programs call most.
+#[unsafe(no_mangle)]
+pub unsafe extern "C" fn kobdzila_gettext(held: *const Opaque, id: &[u8], out: *mut &[u8])
+    ghost g: { Lft × Share × Held }
+    requires* { sem 𝓛 (reads g.0 g.1 held g.2) ∗ sem 𝓛 (room_at (Text g.0) out) }
+    ensures* { sem 𝓛 (flft g.0 g.1) ∗ sem 𝓛 (answered g.0 out g.2 (question 0 [] id.now 0)) }
+{
+    *out = answers::gettext(&*(held as *const Opened), id);
 }
 
 /// What C holds a pointer to, where it holds a set. Its bytes are not C's to read.

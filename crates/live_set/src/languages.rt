@@ -19,6 +19,7 @@ use text_key::TextKey;
 pub(crate) type Found<'a> = (&'a Catalogue, EntryRef<'a>);
 
 /// The first form of the entry that was found, or the msgid.
+#[inline(always)]
 pub(crate) fn first_form<'a>(found: Option<Found<'a>>, id: &'a str) -> &'a str
     ensures { IsFirstForm (option_map (λ f. f.1) found.entry) id.now result.now }
 {
@@ -29,6 +30,7 @@ pub(crate) fn first_form<'a>(found: Option<Found<'a>>, id: &'a str) -> &'a str
 }
 
 /// The form of the entry that was found which a number takes by its catalogue's rule, or one of the texts.
+#[inline(always)]
 pub(crate) fn counted<'a>(found: Option<Found<'a>>, id: &'a str, plural: &'a str, n: u64) -> &'a str
     ensures { MatchOption found.entry (result.now ≡ text_by n id.now plural.now)
         (λ f. IsMapFormFor f.0.now n f.1.forms result.now) }

@@ -14,12 +14,12 @@ use Rattle.text_cut.specs.Cut.{cut, place_of, IsCut}
 use Rattle.mo_image.specs.Entry.{Entry, HasForms, IsLawfulEntry, Lacks}
 use Rattle.mo_image.specs.Extents.{piece, HoldsClosed, IsNamedAt}
 use Rattle.mo_image.specs.Image.{NamesText}
-use Rattle.mo_image.specs.Lent.{IsClosedCut, IsLent}
+use Rattle.mo_image.specs.Lent.{IsClosedCut}
 use Rattle.mo_image.specs.MoFile.{closed, pool}
 use Rattle.mo_image.specs.Pairs.{entry_of}
 use Rattle.mo_image.specs.Tables.{word_at}
 use Rattle.mo_image.specs.declared.extent.Extent.{Extent}
-use Rattle.mo_image.proofs.EntryParts.{cut-some, lack_nul}
+use Rattle.mo_image.proofs.EntryParts.{cut-some}
 use Rattle.mo_image.proofs.Extents.{piece_held}
 use Rattle.mo_image.proofs.Originals.{nul_utf8}
 
@@ -97,16 +97,7 @@ cut_at (f ∷ fs) (suc k) lack lt =
       },
     )
 
--- what is left of the forms of an entry at first, and when one more was cut off
-pub closed_at_first : (o : List ℕ) (n : ℕ) (t c : List ℕ) (e : Entry) → IsLent o n t c → entry_of o t ≡ e → c ≡ pool (drop 0 e.forms)
-closed_at_first o n t c e lent view = lent.closed ∙ closed_forms t
-    ∙ ap (λ (x : Entry). pool (drop 0 x.forms)) view
-
-pub lent_cut : (o : List ℕ) (n : ℕ) (t c : List ℕ) (e : Entry) (k : ℕ) → IsLent o n t c → entry_of o t ≡ e → k < length e.forms
-    → (form : List ℕ) × IsCutAt e.forms k form
-lent_cut o n t c e k lent view lt = cut_at e.forms k
-    (lack_nul e.forms (subst IsLawfulEntry view lent.lawful).forms) lt
-
+-- what was cut off, and what is left
 pub cut_told : (forms : List (List ℕ)) (k : ℕ) (left front behind : List ℕ) → (form : List ℕ) × IsCutAt forms k form
     → left ≡ pool (drop k forms) → IfSome (cut 0 left) (λ parts. IsClosedCut parts front behind)
     → IfSome (slice_get forms k) (λ form. front ≡ closed form) × (behind ≡ pool (drop (k + 1) forms))

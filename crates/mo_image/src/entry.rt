@@ -6,7 +6,7 @@ ghost use Rattle.mo_image.specs.MoFile.{closed};
 ghost use Rattle.text_cut.specs.Cut.{cut, place_of};
 ghost use Rattle.mo_image.specs.Parts.{forms_left};
 ghost use Rattle.mo_image.specs.Pairs.{key_part, plural_part};
-ghost use Rattle.mo_image.specs.Lent.{IsClosedCut, IsLent};
+ghost use Rattle.mo_image.specs.Lent.{IsClosedCut, IsClosedFormOf, IsLent};
 
 use std::marker::Model;
 use text_cut::{place_of, split_at_byte, split_at_place};
@@ -75,6 +75,38 @@ impl<'a> Iterator for Forms<'a> {
         self.left = others;
         Some(form)
     }
+}
+
+/// The form of a translation with this index, by going over the forms before it.
+fn form_at(translation: &str, k: usize) -> &str
+    requires { k < length (slice_split (λ b. b == 0) translation.now) }
+    ensures { slice_get (slice_split (λ b. b == 0) translation.now) k ≡ Some result.now }
+{
+    let mut forms = Forms {
+        left: Some(translation),
+    };
+    'skipped: for _i in 0..k {
+        let Some(_) = forms.next() else {
+            unreachable!()
+        };
+    }
+    let Some(form) = forms.next() else {
+        unreachable!()
+    };
+    form
+}
+
+/// The same of a translation with its NUL: the form with one NUL behind it.
+fn closed_form_at(forms: &str, k: usize) -> &[u8]
+    ensures { IsClosedFormOf forms.now k result.now }
+{
+    let mut left = forms;
+    'skipped: for _i in 0..k {
+        let (_, others) = split_closed(left);
+        left = others;
+    }
+    let (form, _) = split_closed(left);
+    form
 }
 
 /// The key of an original, where its length is known.
@@ -210,6 +242,7 @@ impl<'a> EntryRef<'a> {
     }
 
     /// The forms, with NUL between them, as an MO file holds them.
+    #[inline(always)]
     pub fn translation(&self) -> &'a str
         ensures joined { result.now ≡ translation self.now }
 
@@ -229,6 +262,7 @@ impl<'a> EntryRef<'a> {
     }
 
     /// How many forms the entry has: one at least, and just one without a plural.
+    #[inline(always)]
     pub fn form_count(&self) -> usize
         ensures count { result ≡ length self.now.forms }
 
@@ -241,55 +275,26 @@ impl<'a> EntryRef<'a> {
 
     /// The form with this index. It is found by going over the forms before it; the only form of an entry without a
     /// plural is lent without a look at its bytes.
+    #[inline(always)]
     pub fn form(&self, k: usize) -> &'a str
         requires { k < length self.now.forms }
         ensures { slice_get self.now.forms k ≡ Some result.now }
     {
         match self.plural() {
-            Some(_) => self.form_behind(k),
+            Some(_) => form_at(self.translation, k),
             None => self.translation,
         }
     }
 
-    /// The same, by going over the forms.
-    fn form_behind(&self, k: usize) -> &'a str
-        requires { k < length self.now.forms }
-        ensures { slice_get self.now.forms k ≡ Some result.now }
-    {
-        let mut forms = self.forms();
-        'skipped: for _i in 0..k {
-            let Some(_) = forms.next() else {
-                unreachable!()
-            };
-        }
-        let Some(form) = forms.next() else {
-            unreachable!()
-        };
-        form
-    }
-
     /// The form with this index, and one NUL behind it: a string of C. It is found as by `form`.
+    #[inline(always)]
     pub fn closed_form(&self, k: usize) -> &'a [u8]
         requires { k < length self.now.forms }
         ensures { IfSome (slice_get self.now.forms k) (λ form. result.now ≡ closed form) }
     {
         match self.plural() {
-            Some(_) => self.closed_form_behind(k),
+            Some(_) => closed_form_at(self.closed, k),
             None => self.closed.as_bytes(),
         }
-    }
-
-    /// The same, by going over the forms.
-    fn closed_form_behind(&self, k: usize) -> &'a [u8]
-        requires { k < length self.now.forms }
-        ensures { IfSome (slice_get self.now.forms k) (λ form. result.now ≡ closed form) }
-    {
-        let mut left = self.closed;
-        'skipped: for _i in 0..k {
-            let (_, others) = split_closed(left);
-            left = others;
-        }
-        let (form, _) = split_closed(left);
-        form
     }
 }
