@@ -7,6 +7,7 @@ ghost use Rattle.mo_image.specs.Entry.{key, key_bytes, Lacks};
 ghost use Rattle.mo_image.specs.Map.{entry_at};
 ghost use Rattle.mo_image.specs.Pairs.{key_part, HasNulAt};
 ghost use Rattle.entry_search.specs.Search.{AtMostDigits};
+ghost use Rattle.entry_search.specs.Place.{IsPlaceOf};
 ghost use Rattle.entry_search.specs.Index.{FindsBy, IsIndex};
 
 use crate::Steps;
@@ -108,13 +109,13 @@ impl<'a> Asked<'a> {
 }
 
 impl<'a> Sought<'a> {
-    fn new(asked: &Asked<'a>) -> Sought<'a>
-        ensures { result ≡ asked.now }
+    fn new(context: Option<&'a [u8]>, id: &'a [u8]) -> Sought<'a>
+        ensures { result ≡ key_bytes (option_map (λ s. s.now) context.entry) id.now }
     {
         Sought {
-            context: asked.context,
-            id: asked.id,
-            is_text: lacks_byte(asked.id, 0),
+            context,
+            id,
+            is_text: lacks_byte(id, 0),
         }
     }
 
@@ -171,13 +172,9 @@ fn compare_at<L: Ledger>(
     compare(image.original(i), sought, steps)
 }
 
-/// The entry of this key, by halves.
-fn search<'a, L: Ledger>(
-    image: &'a Image,
-    sought: &Sought<'_>,
-    steps: &mut Steps<L>,
-) -> Option<EntryRef<'a>>
-    ensures found { result ≡ entry_at image.now sought.now }
+/// The place of the entry of this key, by halves. (A place, and no entry: so what an index finds stays in registers.)
+fn search<L: Ledger>(image: &Image, sought: &Sought<'_>, steps: &mut Steps<L>) -> Option<usize>
+    ensures found { IsPlaceOf image.now sought.now result }
     ensures cost { AtMostDigits (length image.now) steps.old steps.new }
 {
     let mut low = 0;
@@ -186,11 +183,41 @@ fn search<'a, L: Ledger>(
         let mid = middle(low, high);
         match compare_at(image, mid, sought, steps) {
             Ordering::Less => low = mid + 1,
-            Ordering::Equal => return Some(image.entry(mid)),
+            Ordering::Equal => return Some(mid),
             Ordering::Greater => high = mid,
         }
     }
     None
+}
+
+/// The place of the entry of this msgid in this context, or in none, by halves.
+#[inline(never)]
+fn place_by_halves<L: Ledger>(
+    image: &Image,
+    context: Option<&[u8]>,
+    id: &[u8],
+    steps: &mut Steps<L>,
+) -> Option<usize>
+    ensures found { IsPlaceOf image.now (key_bytes (option_map (λ s. s.now) context.entry) id.now) result }
+    ensures cost { AtMostDigits (length image.now) steps.old steps.new }
+{
+    search(image, &Sought::new(context, id), steps)
+}
+
+/// The entry of this key, by halves.
+#[inline(always)]
+fn search_by_halves<'a, L: Ledger>(
+    image: &'a Image,
+    asked: &Asked<'_>,
+    steps: &mut Steps<L>,
+) -> Option<EntryRef<'a>>
+    ensures found { result ≡ entry_at image.now asked.now }
+    ensures cost { AtMostDigits (length image.now) steps.old steps.new }
+{
+    match place_by_halves(image, asked.context, asked.id, steps) {
+        Some(i) => Some(image.entry(i)),
+        None => None,
+    }
 }
 
 /// The entry of this key, by the slot that the index has of its hash; by halves, where several entries have that hash.
@@ -207,7 +234,7 @@ fn search_indexed<'a, L: Ledger>(
 {
     let hash = asked.hash();
     if index.is_shared(hash) {
-        return search(image, &Sought::new(asked), steps);
+        return search_by_halves(image, asked, steps);
     }
     let entry = image.entry_in(&index.slot_of(hash)?.extents);
     if is_same(&entry, asked, steps) {
@@ -231,7 +258,7 @@ fn search_by<'a, L: Ledger>(
 {
     match index {
         Some(index) => search_indexed(image, index, asked, steps),
-        None => search(image, &Sought::new(asked), steps),
+        None => search_by_halves(image, asked, steps),
     }
 }
 

@@ -38,7 +38,7 @@ impl Index {
     }
 
     /// The slot of this hash, if there is one.
-    #[inline]
+    #[inline(always)]
     pub(crate) fn slot_of(&self, hash: u32) -> Option<&Slot>
         ensures some { IfSome result (λ slot. Contains self.now.slots slot.now) }
         ensures hash { IfSome result (λ slot. slot.now.hash ≡ hash) }

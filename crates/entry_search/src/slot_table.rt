@@ -62,6 +62,7 @@ pub(crate) fn hash_within(context: &[u8], id: &[u8]) -> u32
 }
 
 /// Where a hash's slot is expected, if slots are spread by this many places.
+#[inline(always)]
 pub(crate) fn home(hash: u32, spread: usize) -> usize
     ensures { result < 4294967296 }
 {
@@ -69,7 +70,7 @@ pub(crate) fn home(hash: u32, spread: usize) -> usize
 }
 
 /// The slot of this hash among these. Each is compared, so that no branch waits for memory.
-#[inline]
+#[inline(always)]
 fn slot_in(near: &[Slot; REACH], hash: u32) -> Option<&Slot>
     ensures some { IfSome result (λ slot. Contains near.now slot.now) }
     ensures hash { IfSome result (λ slot. slot.now.hash ≡ hash) }
@@ -107,6 +108,7 @@ impl SlotTable {
     }
 
     /// The slot of this hash, if it stands at this place or not far behind it.
+    #[inline(always)]
     fn slot_near(&self, hash: u32, place: usize) -> Option<&Slot>
         ensures some { IfSome result (λ slot. Contains self.now slot.now) }
         ensures hash { IfSome result (λ slot. slot.now.hash ≡ hash) }
@@ -169,7 +171,18 @@ impl SlotTable {
         if slot.hash == hash { Some(slot) } else { None }
     }
 
+    /// The slot of this hash, if there is one, wherever it stands.
+    #[inline(never)]
+    fn slot_found(&self, hash: u32, home: usize) -> Option<&Slot>
+        ensures some { IfSome result (λ slot. Contains self.now slot.now) }
+        ensures hash { IfSome result (λ slot. slot.now.hash ≡ hash) }
+        ensures none { IfNone result (HasNoSlot self.now hash) }
+    {
+        self.slot_at(hash, self.cut(hash, home))
+    }
+
     /// The slot of this hash, if there is one.
+    #[inline(always)]
     pub(crate) fn slot_of(&self, hash: u32) -> Option<&Slot>
         ensures some { IfSome result (λ slot. Contains self.now slot.now) }
         ensures hash { IfSome result (λ slot. slot.now.hash ≡ hash) }
@@ -178,7 +191,7 @@ impl SlotTable {
         let home = home(hash, self.spread);
         match self.slot_near(hash, home) {
             Some(slot) => Some(slot),
-            None => self.slot_at(hash, self.cut(hash, home)),
+            None => self.slot_found(hash, home),
         }
     }
 }

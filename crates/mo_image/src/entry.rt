@@ -182,6 +182,7 @@ impl<'a> EntryRef<'a> {
     ghost use Rattle.mo_image.specs.Pairs.{entry_of};
 
     /// The entry of an original, whose key has this length, and a translation, which is there with its NUL, too.
+    #[inline(always)]
     pub(crate) fn new(
         original: &'a str,
         key_len: usize,

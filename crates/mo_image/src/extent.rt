@@ -24,6 +24,7 @@ pub struct EntryExtents {
 }
 
 /// What the row of a table says: a string's length and its offset.
+#[inline(always)]
 pub(crate) fn extent_at(bytes: &[u8], place: usize) -> Extent
     requires { place + 8 ≤ length bytes.now }
     ensures { IsNamedAt bytes.now place result }
@@ -35,6 +36,7 @@ pub(crate) fn extent_at(bytes: &[u8], place: usize) -> Extent
 }
 
 /// The text that lies there.
+#[inline(always)]
 pub(crate) fn text_in(bytes: &[u8], extent: Extent) -> &str
     requires { HoldsPiece bytes.now extent }
     ensures { result.now ≡ piece bytes.now extent }
@@ -45,6 +47,7 @@ pub(crate) fn text_in(bytes: &[u8], extent: Extent) -> &str
 }
 
 /// The text that lies there, with the NUL behind it.
+#[inline(always)]
 pub(crate) fn closed_in(bytes: &[u8], extent: Extent) -> &str
     requires { HoldsClosed bytes.now extent }
     ensures { result.now ≡ closed (piece bytes.now extent) }

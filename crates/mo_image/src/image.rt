@@ -44,6 +44,7 @@ impl Model for Image {
 }
 
 /// A word of 32 bits.
+#[inline(always)]
 fn word(bytes: &[u8], place: usize) -> usize
     requires { place + 4 ≤ length bytes.now }
     ensures { result ≡ word_at little_number bytes.now place }
@@ -52,6 +53,7 @@ fn word(bytes: &[u8], place: usize) -> usize
 }
 
 /// The text that the row at this place names.
+#[inline(always)]
 fn text(bytes: &[u8], place: usize) -> &str
     requires { NamesText bytes.now place }
     ensures { result.now ≡ string_at little_number bytes.now place }
@@ -59,6 +61,7 @@ fn text(bytes: &[u8], place: usize) -> &str
     text_in(bytes, extent_at(bytes, place))
 }
 
+#[inline(always)]
 fn count_of(bytes: &[u8]) -> usize
     requires { IsImage bytes.now }
     ensures { result ≡ length (listing bytes.now) }
@@ -77,6 +80,7 @@ fn original_of(bytes: &[u8], i: usize) -> &str
 }
 
 /// How long the key of an original is.
+#[inline(always)]
 fn key_len(original: &str) -> u32
     requires { length original.now < 4294967296 }
     ensures { result ≡ place_of 0 original.now }
@@ -85,6 +89,7 @@ fn key_len(original: &str) -> u32
 }
 
 /// Where the strings of the i-th entry lie.
+#[inline(always)]
 fn extents_of(bytes: &[u8], i: usize) -> EntryExtents
     requires image { IsImage bytes.now }
     requires within { i < length (listing bytes.now) }
@@ -100,6 +105,7 @@ fn extents_of(bytes: &[u8], i: usize) -> EntryExtents
 }
 
 /// The entry whose strings lie there.
+#[inline(always)]
 fn entry_in<'a>(bytes: &'a [u8], extents: &EntryExtents) -> EntryRef<'a>
     requires image { IsImage bytes.now }
     requires extents { AreExtents bytes.now (length (listing bytes.now)) extents.now }
@@ -143,6 +149,7 @@ impl Image {
     }
 
     /// How many entries there are.
+    #[inline(always)]
     pub fn len(&self) -> usize
         ensures len { result ≡ length self.now }
         ensures lawful { IsLawful self.now }
@@ -158,6 +165,7 @@ impl Image {
     }
 
     /// The i-th entry.
+    #[inline(always)]
     pub fn entry(&self, i: usize) -> EntryRef<'_>
         requires { i < length self.now }
         ensures { slice_get self.now i ≡ Some result }
@@ -182,6 +190,7 @@ impl Image {
     }
 
     /// The entry whose strings lie there. It is found without a look at the tables.
+    #[inline(always)]
     pub fn entry_in(&self, extents: &EntryExtents) -> EntryRef<'_>
         requires { AreExtents (spelling self.now) (length self.now) extents.now }
         ensures entry { (i : ℕ) → AreExtentsOf (spelling self.now) (length self.now) i extents.now

@@ -1,5 +1,5 @@
-use Rattle.std.proofs.Common.{sym}
-use Rattle.entry_search.proofs.Searching.{goes_up, goes_down, cost_here, cost_there, found_equal, missing, order_at}
+use Rattle.std.proofs.Common.{◌<◌, length, sym, ◌∙◌, arith}
+use Rattle.entry_search.proofs.Searching.{goes_up, goes_down, cost_here, cost_there, found_equal, missing, order_at, some_at}
 use Rattle.std.specs.declared.cmp.Ordering.TheVariants.{Equal}
 use Rattle.entry_search.proofs.find.search.Goals as goal
 
@@ -19,11 +19,13 @@ returns-in-Equal-clause-found g c =
     let m = c.args.image.now in
     let mid = c.middle-mid.result in
     let asked = c.args.sought.now in
-    sym (found_equal m mid c.entry.result asked c.len-high.ensures.lawful.rises c.entry.ensures
-    (order_at m mid c.entry.result asked Equal c.in-Equal.ensures.order c.entry.ensures))
+    let within : mid < length m = omega (arith, c.halves-test.true, c.middle-mid.ensures, c.halves.invariant.within) in
+    let here = some_at m mid within in
+    (within, found_equal m mid here.0 asked c.len-high.ensures.lawful.rises here.1
+    (order_at m mid here.0 asked Equal c.in-Equal.ensures.order here.1) ∙ sym here.1)
 
 pub returns-clause-found : goal.returns-clause-found
-returns-clause-found g c = sym (missing _ _ _ _ c.halves.invariant.below c.halves.invariant.above c.halves-test.false)
+returns-clause-found g c = missing _ _ _ _ c.halves.invariant.below c.halves.invariant.above c.halves-test.false
 
 pub returns-clause-cost : goal.returns-clause-cost
 returns-clause-cost g c = cost_there _ _ _ _ _ _ c.halves.invariant
