@@ -1,9 +1,8 @@
 -- `kobdzila_set_new`: `new_set` makes the set, which is moved into the caller's memory.
-use Rattle.std.proofs.Common.{ℕ, List, [], ◌∷◌, ◌++◌, refl}
+use Rattle.std.proofs.Common.{List, [], ◌∷◌, ◌++◌, refl}
 use base.Fraction.{full_share}
 use base.Logic.{id⊢}
-use base.Fml.{ftrue, fex, flft}
-use mir.Syntax.{named}
+use base.Fml.{ftrue, fex}
 use mir.Val.{Val, vunit}
 use prog.Wp.{WpFn}
 use types.Kit.{‵, raw, prop, ◌⊛◌, some, later, ◌$◌, ◌∵◌, !, qed, done, move, drop, use1, use2, split, join, fsplit}
@@ -13,15 +12,12 @@ use types.ByLocal.{alloc_all, pass_all, free_all, look_at, get, through, sets, l
 use contract.Monad.{fact}
 use contract.Running.{tables}
 use borrow.Table.OneValue.{part_in}
-use denote.Builtin.{u8, SliceRefOf}
 use denote.Exit.{yes}
 use denote.Laws.{Is, shows}
 use denote.Memory.{part_at}
 use denote.RattleType.{owns}
 use denote.RawPtr.{Ptr, RawPtr, block_ptr, in_a_block, room_at, rawptr_vals, rawptr_Tells}
-use denote.Ref.{Bor}
 use denote.Signature.{plain}
-use denote.Slice.{ShrSlice, shr_slice_vals, shr_slice_Tells, shr_slice_Lawful}
 use denote.Steps.{nothing, heard, peeks}
 use denote.Triple.Call.{calls_at}
 use denote.Triple.Clauses.{Lasts, lasts}

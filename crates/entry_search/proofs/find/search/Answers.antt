@@ -20,9 +20,11 @@ returns-in-Equal-clause-found g c =
     let mid = c.middle-mid.result in
     let asked = c.args.sought.now in
     let within : mid < length m = omega (arith, c.halves-test.true, c.middle-mid.ensures, c.halves.invariant.within) in
-    let here = some_at m mid within in
-    (within, found_equal m mid here.0 asked c.len-high.ensures.lawful.rises here.1
-    (order_at m mid here.0 asked Equal c.in-Equal.ensures.order here.1) ∙ sym here.1)
+    let here = some_at m mid within in (
+      within,
+      found_equal m mid here.0 asked c.len-high.ensures.lawful.rises here.1
+          (order_at m mid here.0 asked Equal c.in-Equal.ensures.order here.1) ∙ sym here.1,
+    )
 
 pub returns-clause-found : goal.returns-clause-found
 returns-clause-found g c = missing _ _ _ _ c.halves.invariant.below c.halves.invariant.above c.halves-test.false
