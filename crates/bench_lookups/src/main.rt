@@ -1,6 +1,6 @@
-//! Times the look-ups of msgids in a catalogue, beside which `bench/lookups/run` times the same from C: the words are an MO
-//! file, a file of msgids, one a line, and how often all are looked up. Standard error has the time of each look-up;
-//! standard output has a number made of the translations, which a caller may compare.
+//! Times the look-ups of msgids in a catalogue, beside which `bench/lookups/run` times the same from C. The words are
+//! an MO file, a file of msgids, one a line, and how often all are looked up. Standard error has the time of each
+//! look-up; standard output has a number made of the translations, which a caller may compare.
 #![tactic(auto)]
 
 use catalogue::Catalogue;
@@ -9,8 +9,8 @@ use std::rt::Clock;
 use std::time::Instant;
 use std::{env, fs, io};
 
-/// Looks up all msgids, and sums the first bytes of their translations, from a number on. It is a call of its own, so that no
-/// round is taken for another one.
+/// Looks up all msgids, and sums the first bytes of their translations, from a number on. It is a call of its own, so
+/// that no round is taken for another one.
 #[inline(never)]
 fn look_all(catalogue: &Catalogue, ids: &[&str], from: u64) -> u64 {
     let mut sum = from;

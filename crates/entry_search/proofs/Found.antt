@@ -35,7 +35,8 @@ slot_of_key m index asked h j d is finds here same =
 
 pub absent_without_slot : (m : List Entry) (value : IndexValue) (asked : List ℕ) (h : ℕ) → IsIndex m value
     → FindsBy asked h → HasNoSlot value.slots h → entry_at m asked ≡ None
-absent_without_slot m value asked h index finds none = find_none m asked (λ j d here. differs_unless (key d) asked (λ same.
+absent_without_slot m value asked h index finds none = find_none m asked (λ j d here.
+    differs_unless (key d) asked (λ same.
     let slot = slot_of_key m value asked h j d index finds here same in
     none slot.0 slot.1 slot.3))
 
@@ -97,7 +98,8 @@ holds_separator (x ∷ context) id lacks = holds_separator context id lacks.1
 -- a key is cut in one way alone, where the parts hold no separator
 same_parts : (c d a b : List ℕ) → Lacks 4 c → Lacks 4 a → c ++ (4 ∷ a) ≡ d ++ (4 ∷ b) → (c ≡ d) × (a ≡ b)
 same_parts [] [] a b lc la same = (refl, cc)
-same_parts [] (y ∷ d) a b lc la same = absurd (holds_separator d b (subst (Lacks 4) (rest_of 4 y a (d ++ (4 ∷ b)) same) la))
+same_parts [] (y ∷ d) a b lc la same = absurd (holds_separator d b
+    (subst (Lacks 4) (rest_of 4 y a (d ++ (4 ∷ b)) same) la))
 same_parts (x ∷ c) [] a b lc la same = absurd (lc.0 (first_of x 4 (c ++ (4 ∷ a)) b same))
 same_parts (x ∷ c) (y ∷ d) a b lc la same =
     let rest = same_parts c d a b lc.1 la (rest_of x y (c ++ (4 ∷ a)) (d ++ (4 ∷ b)) same) in

@@ -115,7 +115,8 @@ adds_one m i e slots more slot here at hashed none is = record {
   only = of_pushed m i slots more slot is at;
   each = λ d there h has.
       let same = entry_is m i d e there here in
-      (slot, among_pushed slots more slot is, at, hashed ∙ one_hash e h none (subst (λ (x : Entry). HasHash x h) same has));
+      let one = one_hash e h none (subst (λ (x : Entry). HasHash x h) same has) in
+      (slot, among_pushed slots more slot is, at, hashed ∙ one);
 }
 
 -- an entry with a context has two

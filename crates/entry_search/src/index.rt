@@ -5,8 +5,8 @@ ghost use Rattle.entry_search.specs.Index.{HasNoSlot};
 use crate::slot_table::{Slot, SlotTable};
 use std::marker::Model;
 
-/// The entries of a catalogue by their hashes. Where entries share a hash, by chance or since somebody picked their keys
-/// so, those are searched for by halves, and all others by their slots.
+/// The entries of a catalogue by their hashes. Where entries share a hash, by chance or since somebody picked their
+/// keys so, those are searched for by halves, and all others by their slots.
 #[derive(Drop)]
 pub(crate) struct Index {
     slots: SlotTable,

@@ -1,5 +1,6 @@
 use Rattle.std.proofs.Common.{◌<◌, length, sym, ◌∙◌, arith}
-use Rattle.entry_search.proofs.Searching.{goes_up, goes_down, cost_here, cost_there, found_equal, missing, order_at, some_at}
+use Rattle.entry_search.proofs.Searching.{goes_up, goes_down, cost_here, cost_there, found_equal, missing, order_at}
+use Rattle.entry_search.proofs.Searching.{some_at}
 use Rattle.std.specs.declared.cmp.Ordering.TheVariants.{Equal}
 use Rattle.entry_search.proofs.find.search.Goals as goal
 

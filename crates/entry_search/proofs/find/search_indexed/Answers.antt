@@ -27,9 +27,9 @@ pub returns-else-is_same-clause-found : goal.returns-else-is_same-clause-found
 returns-else-is_same-clause-found g c =
     let slot = c.in_ok-slot_of.field-0.now in
     let entry = c.entry_in-entry in
-    sym (absent_by_slot c.args.image.now c.args.index.now c.args.asked.now c.hash-hash.result slot entry.result c.requires
-    c.hash-hash.ensures (c.is_shared.ensures c.if-is_shared.false) c.in_ok-slot_of.ensures.some c.in_ok-slot_of.ensures.hash
-    entry.ensures.entry (sym c.is_same.ensures.same ∙ c.if-is_same.false))
+    sym (absent_by_slot c.args.image.now c.args.index.now c.args.asked.now c.hash-hash.result slot entry.result
+    c.requires c.hash-hash.ensures (c.is_shared.ensures c.if-is_shared.false) c.in_ok-slot_of.ensures.some
+    c.in_ok-slot_of.ensures.hash entry.ensures.entry (sym c.is_same.ensures.same ∙ c.if-is_same.false))
 
 pub returns-else-is_same-clause-cost : goal.returns-else-is_same-clause-cost
 returns-else-is_same-clause-cost g c =

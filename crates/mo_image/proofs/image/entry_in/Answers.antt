@@ -40,7 +40,8 @@ new-requires c =
             bytes _ c.args.extents.now.translation at.translation,
       )
           (entry_facts bytes c.requires.extents.0 c.requires.image at.within).lawful;
-      key_len = at.key_len ∙ ap (place_of 0) (sym (c.text_in.ensures ∙ piece_named bytes _ c.args.extents.now.original at.original));
+      key_len = at.key_len ∙ ap (place_of 0)
+          (sym (c.text_in.ensures ∙ piece_named bytes _ c.args.extents.now.original at.original));
       closed = c.closed_in.ensures ∙ ap closed (sym c.text_in-2.ensures);
     }
 
