@@ -29,7 +29,7 @@ COMPLETED = msgfmt catsession
 
 bindir = $(DESTDIR)$(PREFIX)/bin
 mandir = $(DESTDIR)$(PREFIX)/share/man/man1
-docdir = $(DESTDIR)$(PREFIX)/share/doc/kobdzila
+docdir = $(DESTDIR)$(PREFIX)/share/doc/$(PROGRAM_PREFIX)kobdzila
 completiondir = $(DESTDIR)$(PREFIX)/share/bash-completion/completions
 
 libdir = $(DESTDIR)$(PREFIX)/lib
@@ -68,7 +68,7 @@ bench: programs
 # (the pages and the completions name the programs and the documents as they are installed; without a program `strip`
 # the programs keep their symbols)
 capitals = $$(printf %s '$(PROGRAM_PREFIX)' | tr '[:lower:]' '[:upper:]')
-in_place = sed -e 's|/usr/local|$(PREFIX)|g' -e "/^\.TH /s|TH |TH $(capitals)|"
+in_place = sed -e 's|/usr/local|$(PREFIX)|g' -e 's|/doc/|/doc/$(PROGRAM_PREFIX)|g' -e "/^\.TH /s|TH |TH $(capitals)|"
 completions = sed 's|@PREFIX@|$(PROGRAM_PREFIX)|g' tools/completion
 
 install: $(PROGRAMS:%=bin/%)

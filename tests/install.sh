@@ -93,6 +93,12 @@ touch "$room/words/a.po" "$room/words/a.mo"
 if tests/needs make make; then
   installed ''
   installed kob-
+  made '' install && made kob- install && made kob- uninstall
+  if [ -x "$room/image$room/usr/bin/msgfmt" ] && [ -s "$room/image$room/usr/share/doc/kobdzila/FORMATS.md" ]; then
+    ok 'install: uninstalling one leaves what the other has alone'
+  else
+    failed 'install: uninstalling one leaves what the other has alone' "$(find "$room/image" -type f)"
+  fi
 else
   skipped install 'no make, and it could not be installed'
 fi
