@@ -17,7 +17,7 @@ use Rattle.c_signature.specs.Directives.{Directive, DirectiveAt}
 use Rattle.c_signature.specs.Signature.{Request, requests, AsksFor, HasNoList, is_plain}
 use Rattle.c_signature.specs.Signature.{SkipsPlain, Cuts, Lists, HasFormatFault}
 use Rattle.c_signature.specs.FormatScanning.{Refuses, ReadsDirective, asked_by}
-use Rattle.c_signature.specs.Asked.{Adds, Holds, IsInvalidOnly}
+use Rattle.c_signature.specs.Asked.{AddsAsked, KeepsAsked, IsInvalidOnly}
 
 -- ---- the next `%`
 
@@ -63,7 +63,7 @@ to_percent text place (first, at) =
 pub record HasRead (text rest : List ℕ) (kept : Requests) : Type 0 where
   pub directives : List Directive
   pub cut : Cuts directives text rest
-  pub holds : Holds (flat_map requests directives) kept
+  pub holds : KeepsAsked (flat_map requests directives) kept
 
 pub cuts_push : (ds : List Directive) (d : Directive) (text rest at after : List ℕ) → Cuts ds text rest
     → SkipsPlain rest at → DirectiveAt d at after → Cuts (ds ++ d ∷ []) text after
@@ -79,19 +79,19 @@ cuts_push (c ∷ ds) d text rest at after (here, behind, skips, first, more) pla
 
 pub reads_on : (text rest at after : List ℕ) (directive : code_directive.Directive) (kept new : Requests)
     → HasRead text rest kept → SkipsPlain rest at → ReadsDirective directive at after
-    → Adds kept new (asked_by directive) → HasRead text after new
+    → AddsAsked kept new (asked_by directive) → HasRead text after new
 reads_on text rest at after directive kept new so_far plain (d, here, same) adds = record {
   directives = so_far.directives ++ d ∷ [];
   cut = cuts_push so_far.directives d text rest at after so_far.cut plain here;
-  holds = subst (λ (asked : List Request). Holds asked new) (flat_map_more requests [] so_far.directives d)
-      (subst (λ (more : List Request). Holds (flat_map requests so_far.directives ++ more) new) (sym same)
+  holds = subst (λ (asked : List Request). KeepsAsked asked new) (flat_map_more requests [] so_far.directives d)
+      (subst (λ (more : List Request). KeepsAsked (flat_map requests so_far.directives ++ more) new) (sym same)
       (adds (flat_map requests so_far.directives) so_far.holds));
 }
 
 -- ---- the end
 
 pub lists_all : (text rest : List ℕ) (kept : Requests) (kinds : List ArgKind) → HasRead text rest kept
-    → SkipsPlain rest [] → ((asked : List Request) → Holds asked kept → AsksFor asked kinds) → Lists text kinds
+    → SkipsPlain rest [] → ((asked : List Request) → KeepsAsked asked kept → AsksFor asked kinds) → Lists text kinds
 lists_all text rest kept kinds so_far end list = (
   so_far.directives,
   record
@@ -100,7 +100,7 @@ lists_all text rest kept kinds so_far end list = (
 )
 
 pub none_listed : (text rest : List ℕ) (kept : Requests) (fault : FormatFault) → HasRead text rest kept
-    → SkipsPlain rest [] → IsInvalidOnly fault ((asked : List Request) → Holds asked kept → HasNoList asked)
+    → SkipsPlain rest [] → IsInvalidOnly fault ((asked : List Request) → KeepsAsked asked kept → HasNoList asked)
     → HasFormatFault text fault
 none_listed text rest kept Invalid so_far end none = inr (
   so_far.directives,

@@ -17,22 +17,23 @@ use Rattle.c_signature.specs.declared.FormatFault.TheVariants.{Invalid, SystemDe
 use Rattle.c_signature.specs.declared.requests.Row.{Row}
 use Rattle.c_signature.specs.declared.requests.Requests.{Requests}
 use Rattle.c_signature.specs.Signature.{Request, request, InOrder, ByNumber, HasPlace, AsksFor}
-use Rattle.c_signature.specs.Asked.{Holds, unnumbered_kind, row_of, request_of, IsRising, IsInvalidOnly}
+use Rattle.c_signature.specs.Asked.{KeepsAsked, unnumbered_kind, row_of, request_of, IsRising, IsInvalidOnly}
 
 -- ---- one more request
 
-pub holds_next : (asked : List Request) (kept new : Requests) (kind : ArgKind) → Holds asked kept → new.unnumbered.items
+pub holds_next : (asked : List Request) (kept new : Requests) (kind : ArgKind) → KeepsAsked asked kept
+    → new.unnumbered.items
     ≡ kept.unnumbered.items ++ kind ∷ [] → new.numbered.items ≡ kept.numbered.items
-    → Holds (asked ++ request None kind ∷ []) new
+    → KeepsAsked (asked ++ request None kind ∷ []) new
 holds_next asked kept new kind holds e same = record {
   unnumbered = e ∙ ap (λ (t : List ArgKind). t ++ kind ∷ []) holds.unnumbered
       ∙ sym (filter_map-append unnumbered_kind asked (request None kind ∷ []));
   numbered = same ∙ holds.numbered ∙ sym (append-nil _) ∙ sym (filter_map-append row_of asked (request None kind ∷ []));
 }
 
-pub holds_row : (asked : List Request) (kept new : Requests) (number : ℕ) (kind : ArgKind) → Holds asked kept
+pub holds_row : (asked : List Request) (kept new : Requests) (number : ℕ) (kind : ArgKind) → KeepsAsked asked kept
     → new.unnumbered.items ≡ kept.unnumbered.items → new.numbered.items ≡ kept.numbered.items
-    ++ record { number = number; kind = kind } ∷ [] → Holds (asked ++ request (Some number) kind ∷ []) new
+    ++ record { number = number; kind = kind } ∷ [] → KeepsAsked (asked ++ request (Some number) kind ∷ []) new
 holds_row asked kept new number kind holds same e = record {
   unnumbered = same ∙ holds.unnumbered ∙ sym (append-nil _) ∙ sym
       (filter_map-append unnumbered_kind asked (request (Some number) kind ∷ []));
@@ -321,14 +322,14 @@ row_again rows i place d kinds lt so_far (some, at) there = rows_again rows i pl
 
 -- ---- the list of what is kept
 
-pub kept_in_order : (asked : List Request) (kept : Requests) → Holds asked kept → kept.numbered.items ≡ []
+pub kept_in_order : (asked : List Request) (kept : Requests) → KeepsAsked asked kept → kept.numbered.items ≡ []
     → AsksFor asked kept.unnumbered.items
 kept_in_order asked kept holds none =
     let all : asked ≡ map (λ kind. request None kind) kept.unnumbered.items = all_next asked (sym holds.numbered ∙ none)
     ∙ ap (λ (t : List ArgKind). map (λ kind. request None kind) t) (sym holds.unnumbered) in
     inl (subst (λ (t : List Request). InOrder t kept.unnumbered.items) (sym all) (next_in_order kept.unnumbered.items))
 
-pub kept_mixed : (asked : List Request) (kept : Requests) (kinds : List ArgKind) → Holds asked kept
+pub kept_mixed : (asked : List Request) (kept : Requests) (kinds : List ArgKind) → KeepsAsked asked kept
     → (kept.unnumbered.items ≡ [] → ⊥) → (kept.numbered.items ≡ [] → ⊥) → AsksFor asked kinds → ⊥
 kept_mixed asked kept kinds holds next rows list = mixed asked kinds (λ e. next (holds.unnumbered ∙ e))
     (λ e. rows (holds.numbered ∙ e)) list
@@ -344,13 +345,13 @@ number_moved xs ys kinds moves list = record {
   );
 }
 
-kept_rows : (asked : List Request) (kept : Requests) → Holds asked kept → kept.unnumbered.items ≡ [] → asked
+kept_rows : (asked : List Request) (kept : Requests) → KeepsAsked asked kept → kept.unnumbered.items ≡ [] → asked
     ≡ map request_of kept.numbered.items
 kept_rows asked kept holds none = all_rows asked (sym holds.unnumbered ∙ none)
     ∙ ap (λ (t : List Row). map request_of t) (sym holds.numbered)
 
 pub kept_by_number : (asked : List Request) (kept : Requests) (sorted : List Row) (kinds : List ArgKind)
-    → Holds asked kept → kept.unnumbered.items ≡ [] → IsPermutation kept.numbered.items sorted
+    → KeepsAsked asked kept → kept.unnumbered.items ≡ [] → IsPermutation kept.numbered.items sorted
     → ByNumber (map request_of sorted) kinds → AsksFor asked kinds
 kept_by_number asked kept sorted kinds holds none moves list =
     let back = IsPermutation-sym (map request_of kept.numbered.items) (map request_of sorted)
@@ -359,7 +360,7 @@ kept_by_number asked kept sorted kinds holds none moves list =
     (number_moved (map request_of sorted) (map request_of kept.numbered.items) kinds back list))
 
 pub kept_has_none : (asked : List Request) (kept : Requests) (sorted : List Row) (kinds : List ArgKind)
-    → Holds asked kept → kept.unnumbered.items ≡ [] → (kept.numbered.items ≡ [] → ⊥)
+    → KeepsAsked asked kept → kept.unnumbered.items ≡ [] → (kept.numbered.items ≡ [] → ⊥)
     → IsPermutation kept.numbered.items sorted → ((kinds : List ArgKind) → ByNumber (map request_of sorted) kinds → ⊥)
     → AsksFor asked kinds → ⊥
 kept_has_none asked kept sorted kinds holds none some moves refused (inl order) =

@@ -29,13 +29,13 @@ abbrev pub request_of : Row → Request
 request_of row = request (Some row.number) row.kind
 
 -- what is asked for, in two lists
-pub record Holds (asked : List Request) (kept : Requests) : Type 0 where
+pub record KeepsAsked (asked : List Request) (kept : Requests) : Type 0 where
   pub unnumbered : kept.unnumbered.items ≡ filter_map unnumbered_kind asked
   pub numbered : kept.numbered.items ≡ filter_map row_of asked
 
 -- more is kept too
-abbrev pub Adds : Requests → Requests → List Request → Type 0
-Adds old new more = (asked : List Request) → Holds asked old → Holds (asked ++ more) new
+abbrev pub AddsAsked : Requests → Requests → List Request → Type 0
+AddsAsked old new more = (asked : List Request) → KeepsAsked asked old → KeepsAsked (asked ++ more) new
 
 abbrev pub IsRising : List Row → Type 0
 IsRising rows = IsNonDecreasingBy (λ row. row.number) rows

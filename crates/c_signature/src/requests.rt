@@ -3,7 +3,7 @@ ghost use Rattle.std.specs.Prelude.{◌≡◌, ◌↔◌, IsTrue, slice_get, [],
 ghost use Rattle.c_signature.specs.Signature.{amount_requests, AsksFor, ByNumber, HasNoList, Request, request};
 ghost use Rattle.c_signature.specs.declared.ArgKind.{ArgKind as Kind};
 ghost use Rattle.c_signature.specs.FormatScanning.{amount_view, asked_by};
-ghost use Rattle.c_signature.specs.Asked.{Adds, Holds, IsInvalidOnly, IsRising, request_of};
+ghost use Rattle.c_signature.specs.Asked.{AddsAsked, KeepsAsked, IsInvalidOnly, IsRising, request_of};
 
 use crate::conversions::Argument;
 use crate::directives::Directive;
@@ -58,7 +58,7 @@ fn list_rows(rows: &[Row], mut kinds: Vec<ArgKind>) -> Result<Vec<ArgKind>, Form
 
 impl Requests {
     pub(crate) fn new(alloc: Global) -> Self
-        ensures { Holds [] result }
+        ensures { KeepsAsked [] result }
     {
         Requests {
             unnumbered: Vec::new(alloc),
@@ -66,9 +66,9 @@ impl Requests {
         }
     }
 
-    /// Adds an argument: the next one, or that of a number.
+    /// AddsAsked an argument: the next one, or that of a number.
     fn ask(&mut self, number: Option<u32>, kind: ArgKind) -> Result<(), AllocError>
-        ensures { OnOk result (Adds self.old self.new (request number kind ∷ [])) }
+        ensures { OnOk result (AddsAsked self.old self.new (request number kind ∷ [])) }
     {
         match number {
             None => self.unnumbered.push(kind)?,
@@ -78,7 +78,7 @@ impl Requests {
     }
 
     fn ask_amount(&mut self, amount: Amount) -> Result<(), AllocError>
-        ensures { OnOk result (Adds self.old self.new (amount_requests (amount_view amount))) }
+        ensures { OnOk result (AddsAsked self.old self.new (amount_requests (amount_view amount))) }
     {
         match amount {
             Amount::Fixed => Ok(()),
@@ -86,9 +86,9 @@ impl Requests {
         }
     }
 
-    /// Adds the arguments of a directive.
+    /// AddsAsked the arguments of a directive.
     pub(crate) fn add(&mut self, directive: Directive) -> Result<(), AllocError>
-        ensures { OnOk result (Adds self.old self.new (asked_by directive)) }
+        ensures { OnOk result (AddsAsked self.old self.new (asked_by directive)) }
     {
         self.ask_amount(directive.width)?;
         self.ask_amount(directive.precision)?;
@@ -101,9 +101,9 @@ impl Requests {
     /// The list of what was asked for.
     pub(crate) fn list(self) -> Result<Vec<ArgKind>, FormatFault>
         ensures ok { IfOk result (λ kinds.
-            (asked : List Request) → Holds asked self → AsksFor asked kinds.items) }
+            (asked : List Request) → KeepsAsked asked self → AsksFor asked kinds.items) }
         ensures err { IfErr result (λ fault. IsInvalidOnly fault
-            ((asked : List Request) → Holds asked self → HasNoList asked)) }
+            ((asked : List Request) → KeepsAsked asked self → HasNoList asked)) }
     {
         let Requests {
             unnumbered,

@@ -14,7 +14,7 @@ use Rattle.po_text.proofs.Sizes.{gives_count}
 use Rattle.po_checks.specs.Found.{IsFault}
 use Rattle.mo_image.specs.Map.{IsLawful, HasAcceptedCharset}
 use Rattle.catalogue.specs.Meaning.{Means, IsMapOf, Refuses, lacking, none_missing}
-use Rattle.po_checks.specs.Kept.{kept, kept_header, header_line_of, header_text_of, NamesCharset}
+use Rattle.po_checks.specs.Kept.{kept, kept_header, header_line_of, header_text_of, NamesAcceptedCharset}
 use Rattle.po_checks.specs.Fails.{Fails, HasDistinctKeys, IsDuplicateAt, IsFirst, IsForeignAt}
 use Rattle.mo_image.specs.Entry.{Entry}
 use Rattle.catalogue.specs.Drafts.{Outline, outline, outlines, kept_entry, comes_before, counts_as, header_text_in}
@@ -139,7 +139,7 @@ NamesCharsets header = IfSome header (λ text. HasAcceptedCharset text.now)
 
 header_accepted : (text : List ℕ) (o : Options) (before : List Draft) (found : Findings)
     (header : Option (Bor (List ℕ))) (line : ℕ) → (c : HasCollected text o before found) → IsHeader before header line
-    → NamesCharsets header → IfSome (kept_header o c.entries) NamesCharset
+    → NamesCharsets header → IfSome (kept_header o c.entries) NamesAcceptedCharset
 header_accepted text o before found header line c h named = accepted o c.entries
     (text_accepted header (header_text_of o c.entries) (header_text text o before found header line c h) named)
 

@@ -12,7 +12,7 @@ use Rattle.po_text.specs.Entries as po
 use Rattle.mo_image.specs.Entry.{Entry, key, key_bytes, translation}
 use Rattle.mo_image.specs.Map.{entry_at, first_form, header_text, HasAcceptedCharset}
 use Rattle.po_checks.specs.Kept.{message_of, key_of, is_empty, is_header, is_kept, kept, kept_header, header_text_of}
-use Rattle.po_checks.specs.Kept.{NamesCharset}
+use Rattle.po_checks.specs.Kept.{NamesAcceptedCharset}
 use Rattle.po_checks.specs.Fails.{HasDistinctKeys}
 use Rattle.catalogue.specs.Meaning.{IsMapOf}
 use Rattle.catalogue.specs.Drafts.{Outline, Kept, outline, outlines, outline_of, outlines_from, texts_of, outline_text}
@@ -116,19 +116,19 @@ header_text_is o es ds are lawful = ap text_found (find_outlines ds ∙ ap (find
     ∙ text_is o es (find is_kept_header (outlines_from o 0 es)) (kept_header o es) (found o 0 es lawful)
 
 accepted_by : (e : Option po.Entry) → IfSome (option_map (λ e. first_form e.forms) e) HasAcceptedCharset
-    → IfSome e NamesCharset
+    → IfSome e NamesAcceptedCharset
 accepted_by None named = tt
 accepted_by (Some e) named = named
 
 pub accepted : (o : Options) (es : List po.Entry) → IfSome (header_text_of o es) HasAcceptedCharset
-    → IfSome (kept_header o es) NamesCharset
+    → IfSome (kept_header o es) NamesAcceptedCharset
 accepted o es named = accepted_by (kept_header o es) named
 
 -- the header names another charset
 pub record NamesAnother (o : Options) (es : List po.Entry) : Type 0 where
   pub header : po.Entry
   pub is : kept_header o es ≡ Some header
-  pub foreign : ¬ NamesCharset header
+  pub foreign : ¬ NamesAcceptedCharset header
 
 another_by : (o : Options) (es : List po.Entry) (e : Option po.Entry) → kept_header o es ≡ e
     → (IfSome (option_map (λ e. first_form e.forms) e) HasAcceptedCharset → ⊥) → NamesAnother o es
@@ -196,7 +196,7 @@ finds p (x ∷ es) e has passes = of (p x) refl (has_cases e x es has) (λ h. fi
 
 -- an entry of the catalogue with the empty key is the kept header's message
 catalogued : (o : Options) (es : List po.Entry) (m : List Entry) → IsMapOf (kept o es) m → HasDistinctKeys es
-    → IfSome (kept_header o es) NamesCharset → (x : Entry) → entry_at m [] ≡ Some x
+    → IfSome (kept_header o es) NamesAcceptedCharset → (x : Entry) → entry_at m [] ≡ Some x
     → HasAcceptedCharset (first_form x.forms)
 catalogued o es m is distinct names x at =
     let here = from_find (λ (e : Entry). bytes_eq (key e) []) m x at in
@@ -208,8 +208,9 @@ catalogued o es m is distinct names x at =
     let h_key : key_of h.found ≡ [] = header_key h.found.context h.found.id h.passes in
     let one : e ≡ h.found = one_of es e h.found distinct (from_filter (is_kept o) es e has)
     (from_filter (is_kept o) es h.found h.has) (e_key ∙ sym h_key) in
-    let named : NamesCharset h.found = subst (λ (x : Option po.Entry). IfSome x NamesCharset) h.is names in
-    subst (λ (y : Entry). HasAcceptedCharset (first_form y.forms)) same (subst NamesCharset (sym one) named)
+    let named : NamesAcceptedCharset h.found =
+    subst (λ (x : Option po.Entry). IfSome x NamesAcceptedCharset) h.is names in
+    subst (λ (y : Entry). HasAcceptedCharset (first_form y.forms)) same (subst NamesAcceptedCharset (sym one) named)
 
 if_some : {X : Type 0} (o : Option X) (P : X → Type 0) → ((x : X) → o ≡ Some x → P x) → IfSome o P
 if_some None P h = tt
@@ -221,6 +222,6 @@ if_mapped None f P h = tt
 if_mapped (Some x) f P h = h
 
 pub map_accepted : (o : Options) (es : List po.Entry) (m : List Entry) → IsMapOf (kept o es) m → HasDistinctKeys es
-    → IfSome (kept_header o es) NamesCharset → IfSome (header_text m) HasAcceptedCharset
+    → IfSome (kept_header o es) NamesAcceptedCharset → IfSome (header_text m) HasAcceptedCharset
 map_accepted o es m is distinct names = if_mapped (entry_at m []) (λ (e : Entry). first_form e.forms) HasAcceptedCharset
     (if_some (entry_at m []) (λ e. HasAcceptedCharset (first_form e.forms)) (catalogued o es m is distinct names))

@@ -9,7 +9,7 @@ use Rattle.std.proofs.lemmas.Option.{slice_get-map}
 use Rattle.mo_image.specs.Entry.{Entry, key, translation, IsLawfulEntry}
 use Rattle.mo_image.specs.Map.{IsLawful}
 use Rattle.catalogue.specs.Messages.{message_entry, messages_of}
-use Rattle.mo_image.specs.Stored.{stored_entry, entries_of}
+use Rattle.mo_image.specs.Stored.{stored_entry, stored_entries}
 use Rattle.mo_image.specs.Parts.{entry_from}
 use Rattle.mo_image.specs.declared.messages.OwnedStrings.{OwnedStrings}
 use Rattle.catalogue.specs.declared.sorted.Message.{Message}
@@ -22,13 +22,13 @@ form_at forms k form text at is = slice_get-map (λ s. string_bytes s) forms k �
 
 -- all messages are in these strings and in what is left
 pub record Lists (strings : List OwnedStrings) (left all : List Message) : Type 0 where
-  pub split : entries_of strings ++ messages_of left ≡ messages_of all
+  pub split : stored_entries strings ++ messages_of left ≡ messages_of all
   pub lawful : AllByRecursion IsLawfulEntry (messages_of left)
 
 pub lists_none : (strings : List OwnedStrings) (left all : List Message) → strings ≡ [] → left ≡ all
     → IsLawful (messages_of all) → Lists strings left all
 lists_none strings left all none same lawful = record {
-  split = ap (λ (s : List OwnedStrings). entries_of s ++ messages_of left) none ∙ ap messages_of same;
+  split = ap (λ (s : List OwnedStrings). stored_entries s ++ messages_of left) none ∙ ap messages_of same;
   lawful = subst (λ (ms : List Message). AllByRecursion IsLawfulEntry (messages_of ms)) (sym same) lawful.each;
 }
 
@@ -40,16 +40,16 @@ lists_more strings more left left' all m s so_far next pushed is =
     let each : AllByRecursion IsLawfulEntry (messages_of (m ∷ left')) = subst
     (λ (ms : List Message). AllByRecursion IsLawfulEntry (messages_of ms)) next so_far.lawful in
     let same : stored_entry s ≡ message_entry m = is ∙ entry_again (message_entry m) each.0 in
-    let grown : entries_of more ≡ entries_of strings ++ (message_entry m ∷ []) = ap entries_of pushed
-    ∙ map-append stored_entry strings (s ∷ []) ∙ ap (λ (e : Entry). entries_of strings ++ (e ∷ [])) same in
+    let grown : stored_entries more ≡ stored_entries strings ++ (message_entry m ∷ []) = ap stored_entries pushed
+    ∙ map-append stored_entry strings (s ∷ []) ∙ ap (λ (e : Entry). stored_entries strings ++ (e ∷ [])) same in
     record {
       split = ap (λ (es : List Entry). es ++ messages_of left') grown
-          ∙ append_assoc (entries_of strings) (message_entry m ∷ []) (messages_of left')
-          ∙ sym (ap (λ (ms : List Message). entries_of strings ++ messages_of ms) next) ∙ so_far.split;
+          ∙ append_assoc (stored_entries strings) (message_entry m ∷ []) (messages_of left')
+          ∙ sym (ap (λ (ms : List Message). stored_entries strings ++ messages_of ms) next) ∙ so_far.split;
       lawful = each.1;
     }
 
 pub lists_all : (strings : List OwnedStrings) (left all : List Message) → Lists strings left all → left ≡ []
-    → entries_of strings ≡ messages_of all
-lists_all strings left all so_far none = sym (append-nil (entries_of strings))
-    ∙ sym (ap (λ (ms : List Message). entries_of strings ++ messages_of ms) none) ∙ so_far.split
+    → stored_entries strings ≡ messages_of all
+lists_all strings left all so_far none = sym (append-nil (stored_entries strings))
+    ∙ sym (ap (λ (ms : List Message). stored_entries strings ++ messages_of ms) none) ∙ so_far.split

@@ -17,7 +17,7 @@ use Rattle.catalogue.specs.Drafts.{Outline, Kept, outline, outlines, outline_of,
 use Rattle.catalogue.specs.Drafts.{IsLawfulMessage, HasCollected}
 use Rattle.catalogue.specs.Spans.{kept_bytes, bytes_if_kept, stored, kept_span, span_of, plural_size, kept_size}
 use Rattle.catalogue.specs.Spans.{size_if_kept, size, kept_at, outline_at, outlines_at, HoldsText, HoldsPlural}
-use Rattle.catalogue.specs.Spans.{HoldsKept, Holds, HoldsAll, HasGathered}
+use Rattle.catalogue.specs.Spans.{HoldsKept, HoldsSpan, HoldsAll, HasGathered}
 use Rattle.po_checks.specs.declared.findings.Findings.{Findings}
 use Rattle.po_checks.specs.declared.options.Options.{Options}
 use Rattle.catalogue.specs.declared.drafts.Draft.{Draft}
@@ -130,7 +130,8 @@ holds_if_kept : (o : Option Kept) (rest text : List ℕ) → text ≡ bytes_if_k
 holds_if_kept None rest text is u = tt
 holds_if_kept (Some t) rest text is u = holds_kept t rest text is u
 
-holds_outline : (r : Outline) (rest text : List ℕ) → text ≡ stored r ++ rest → IsUtf8Outline r → Holds text (span_of r)
+holds_outline : (r : Outline) (rest text : List ℕ) → text ≡ stored r ++ rest → IsUtf8Outline r
+    → HoldsSpan text (span_of r)
 holds_outline r rest text is u =
     let parts = key_parts r rest text is in
     record {
@@ -217,7 +218,7 @@ next_span spans i s at =
     (get_or_from_slice_get spans i s s at) ∙ ap (λ n. s ∷ drop n spans) more
 
 pub holds_next : (drafts : List Draft) (i : ℕ) (rest texts : List ℕ) (spans : List SpanValue) (s : SpanValue)
-    → Lends drafts i rest texts spans → slice_get spans i ≡ Some s → Holds rest s
+    → Lends drafts i rest texts spans → slice_get spans i ≡ Some s → HoldsSpan rest s
 holds_next drafts i rest texts spans s l at = (subst (HoldsAll rest) (next_span spans i s at) l.left).0
 
 pub lends_more : (drafts longer : List Draft) (i : ℕ) (rest behind texts : List ℕ) (spans : List SpanValue)

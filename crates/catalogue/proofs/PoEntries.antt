@@ -5,11 +5,11 @@ use Rattle.std.specs.List.{AllByRecursion}
 use Rattle.po_text.specs.Spelling as spelling
 use Rattle.po_text.specs.Entries as po
 use Rattle.po_text.specs.Lawful.{IsLawfulTexts, IsLawfulIf, HasNoFourIf, HasItsForms}
-use Rattle.mo_image.specs.Entry.{Lacks, IsText, IsKeyText, HasForms, IsLawfulEntry}
+use Rattle.mo_image.specs.Entry.{LacksByte, IsText, IsKeyText, HasForms, IsLawfulEntry}
 use Rattle.po_checks.specs.Kept.{message_of}
 use Rattle.catalogue.proofs.Members.{has_head, has_tail}
 
-lacks_from : (byte : ℕ) (text : List ℕ) → ¬ Contains text byte → Lacks byte text
+lacks_from : (byte : ℕ) (text : List ℕ) → ¬ Contains text byte → LacksByte byte text
 lacks_from byte [] none = tt
 lacks_from byte (b ∷ text) none = (
   (λ e. none (has_head byte b text e)),

@@ -10,7 +10,7 @@ use Rattle.po_header.specs.Fields.{missing}
 use Rattle.mo_image.specs.Entry.{Entry, key}
 use Rattle.mo_image.specs.Map.{Rises}
 pub use Rattle.po_checks.specs.Kept.{message_of, key_of, is_header, is_untranslated, is_kept, kept, kept_header}
-pub use Rattle.po_checks.specs.Kept.{header_line_of, header_text_of, HasHeaderRule, NamesCharset}
+pub use Rattle.po_checks.specs.Kept.{header_line_of, header_text_of, HasHeaderRule, NamesAcceptedCharset}
 pub use Rattle.po_checks.specs.Fails.{Fails, IsFirst, rank}
 use Rattle.po_checks.specs.declared.options.Options.{Options}
 use Rattle.po_checks.specs.declared.fault.LoadKind.{LoadKind}

@@ -100,13 +100,13 @@ pub record HoldsKept (text : List ℕ) (k : KeptSpan) : Type 0 where
   pub plural : HoldsPlural text k.plural
   pub translation : HoldsText (drop (plural_size k.plural) text) k.translation
 
-pub record Holds (text : List ℕ) (s : SpanValue) : Type 0 where
+pub record HoldsSpan (text : List ℕ) (s : SpanValue) : Type 0 where
   pub key : HoldsText text s.key
   pub kept : IfSome s.kept (HoldsKept (drop s.key text))
 
 abbrev pub HoldsAll : List ℕ → List SpanValue → Type 0
 HoldsAll text [] = ⊤
-HoldsAll text (s ∷ spans) = Holds text s × HoldsAll (drop (size s) text) spans
+HoldsAll text (s ∷ spans) = HoldsSpan text s × HoldsAll (drop (size s) text) spans
 
 -- ---- the texts of a whole PO text
 

@@ -3,7 +3,7 @@ ghost use Rattle.std.specs.Prelude.{◌≡◌, ◌≤◌, ◌↔◌, [], length,
 ghost use Rattle.std.specs.List.{AllByRecursion, find};
 ghost use Rattle.std.specs.Ordering.{nat_cmp, is_lt};
 ghost use Rattle.std.specs.Cmp.Lexicographic.{slice_cmp};
-ghost use Rattle.mo_image.specs.Entry.{key, Lacks, IsText, IsKeyText, HasForms, IsLawfulEntry};
+ghost use Rattle.mo_image.specs.Entry.{key, LacksByte, IsText, IsKeyText, HasForms, IsLawfulEntry};
 ghost use Rattle.mo_image.specs.Map.{Rises, first_form, header_text, HasAcceptedCharset, IsLawful};
 ghost use Rattle.mo_image.specs.MoFile.{spelling};
 ghost use Rattle.catalogue.specs.Messages.{message_entry, messages_of};
@@ -16,7 +16,7 @@ use mo_image::MAX_LEN;
 use po_header::has_accepted_charset;
 
 fn lacks(text: &str, byte: u8) -> bool
-    ensures { IsTrue result ↔ Lacks byte text.now }
+    ensures { IsTrue result ↔ LacksByte byte text.now }
 {
     !text.as_bytes().contains(&byte)
 }

@@ -2,7 +2,7 @@
 ghost use Rattle.std.specs.Prelude.{◌≡◌, IfOk, drop, option_map};
 ghost use Rattle.catalogue.specs.Drafts.{kept_texts, outline, outlines};
 ghost use Rattle.catalogue.specs.Spans.{kept_at, kept_size, plural_at, plural_size, outline_at, outlines_at, size};
-ghost use Rattle.catalogue.specs.Spans.{Holds, HoldsAll, HoldsKept, HoldsPlural};
+ghost use Rattle.catalogue.specs.Spans.{HoldsSpan, HoldsAll, HoldsKept, HoldsPlural};
 
 use crate::drafts::{Draft, Standing, Texts};
 use std::alloc::{AllocError, Global};
@@ -154,7 +154,7 @@ fn lend_kept<'a>(texts: &'a str, span: &KeptSpan) -> (Texts<'a>, &'a str)
 
 /// The entry in front, before which so many stand in the text, and what is behind it.
 fn lend_entry<'a>(texts: &'a str, number: usize, span: &Span) -> (Draft<'a>, &'a str)
-    requires { Holds texts.now span.now }
+    requires { HoldsSpan texts.now span.now }
     ensures draft { outline result.0 ≡ outline_at number texts.now span.now }
     ensures behind { result.1.now ≡ drop (size span.now) texts.now }
 {

@@ -9,7 +9,7 @@ use Rattle.std.specs.Str.{bytes_eq}
 use Rattle.std.specs.FinMap.{slice_cmp-IsAntisymmetric, nat_cmp-IsAntisymmetric}
 use Rattle.std.proofs.lemmas.Bool.{false≢true}
 use Rattle.std.proofs.lemmas.Slice.Eq.{bytes_eq-Decides}
-use Rattle.mo_image.specs.Entry.{Entry, key, key_bytes, IsKeyText, IsLawfulEntry, Lacks}
+use Rattle.mo_image.specs.Entry.{Entry, key, key_bytes, IsKeyText, IsLawfulEntry, LacksByte}
 use Rattle.mo_image.specs.Map.{IsLawful, entry_at}
 use Rattle.entry_search.specs.Search.{AtMostDigits}
 use Rattle.entry_search.specs.Index.{asked_hash, hash_alone, hash_within, FindsBy, HasNoSlot, HasSlotOf, IndexValue}
@@ -91,15 +91,15 @@ one_longer x y xs ys e f = cc
 pub finds_alone : (k : List ℕ) → FindsBy k (hash_alone k)
 finds_alone k e lawful same = inl (ap hash_alone (sym same))
 
-holds_separator : (context id : List ℕ) → Lacks 4 (context ++ (4 ∷ id)) → ⊥
+holds_separator : (context id : List ℕ) → LacksByte 4 (context ++ (4 ∷ id)) → ⊥
 holds_separator [] id lacks = lacks.0 refl
 holds_separator (x ∷ context) id lacks = holds_separator context id lacks.1
 
 -- a key is cut in one way alone, where the parts hold no separator
-same_parts : (c d a b : List ℕ) → Lacks 4 c → Lacks 4 a → c ++ (4 ∷ a) ≡ d ++ (4 ∷ b) → (c ≡ d) × (a ≡ b)
+same_parts : (c d a b : List ℕ) → LacksByte 4 c → LacksByte 4 a → c ++ (4 ∷ a) ≡ d ++ (4 ∷ b) → (c ≡ d) × (a ≡ b)
 same_parts [] [] a b lc la same = (refl, cc)
 same_parts [] (y ∷ d) a b lc la same = absurd (holds_separator d b
-    (subst (Lacks 4) (rest_of 4 y a (d ++ (4 ∷ b)) same) la))
+    (subst (LacksByte 4) (rest_of 4 y a (d ++ (4 ∷ b)) same) la))
 same_parts (x ∷ c) [] a b lc la same = absurd (lc.0 (first_of x 4 (c ++ (4 ∷ a)) b same))
 same_parts (x ∷ c) (y ∷ d) a b lc la same =
     let rest = same_parts c d a b lc.1 la (rest_of x y (c ++ (4 ∷ a)) (d ++ (4 ∷ b)) same) in
@@ -108,7 +108,7 @@ same_parts (x ∷ c) (y ∷ d) a b lc la same =
 hash_is_within : (own : Option (List ℕ)) (own_id context id : List ℕ) → IfSome own IsKeyText → IsKeyText own_id
     → key_bytes own own_id ≡ key_bytes (Some context) id → hash_within context id ≡ asked_hash own own_id
 hash_is_within None own_id context id c i same = absurd (holds_separator context id
-    (subst (Lacks 4) same i.no_separator))
+    (subst (LacksByte 4) same i.no_separator))
 hash_is_within (Some own) own_id context id c i same =
     let parts = same_parts own context own_id id c.no_separator i.no_separator same in
     rw (parts.0, parts.1) refl

@@ -3,7 +3,7 @@ ghost use Rattle.std.specs.Prelude.{◌≡◌, ◌↔◌, IsTrue, ◌+◌, ◌-�
 ghost use Rattle.std.specs.Ordering.{nat_cmp};
 ghost use Rattle.std.specs.Cmp.Lexicographic.{slice_cmp};
 ghost use Rattle.std.specs.Str.{bytes_eq};
-ghost use Rattle.mo_image.specs.Entry.{key, key_bytes, Lacks};
+ghost use Rattle.mo_image.specs.Entry.{key, key_bytes, LacksByte};
 ghost use Rattle.mo_image.specs.Map.{entry_at};
 ghost use Rattle.mo_image.specs.Pairs.{key_part, HasNulAt};
 ghost use Rattle.entry_search.specs.Search.{AtMostDigits};
@@ -47,13 +47,13 @@ struct Sought<'a> {
 
 impl<'a> Model for Sought<'a> {
     ghost use Rattle.std.specs.Prelude.{ℕ, List, IsTrue, option_map};
-    ghost use Rattle.mo_image.specs.Entry.{key_bytes, Lacks};
+    ghost use Rattle.mo_image.specs.Entry.{key_bytes, LacksByte};
 
     ghost Value = { List ℕ };
 
     ghost view = { λ a. key_bytes (option_map (λ s. s.now) a.context) a.id.now };
 
-    ghost invariant = { λ a. IsTrue a.is_text → Lacks 0 a.id.now };
+    ghost invariant = { λ a. IsTrue a.is_text → LacksByte 0 a.id.now };
 }
 
 /// Whether a NUL stands at this place in an original.
@@ -66,7 +66,7 @@ fn has_nul_at(original: &[u8], place: usize) -> bool
 /// The key of an original beside a msgid. The original is compared as it is, since a plural behind the key
 /// changes the order of no other key than the msgid itself.
 fn cmp_id(original: &str, id: &[u8]) -> Ordering
-    requires { Lacks 0 id.now }
+    requires { LacksByte 0 id.now }
     ensures { result ≡ slice_cmp nat_cmp (key_part original.now) id.now }
 {
     let order = original.as_bytes().cmp(id);

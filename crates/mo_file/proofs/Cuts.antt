@@ -10,7 +10,7 @@ use Rattle.std.proofs.lemmas.List.Sums.{position_or_len_is, passes_at_first, spl
 use Rattle.std.proofs.lemmas.List.Splits.{slice_split_first, slice_split_none}
 use Rattle.std.proofs.lemmas.Str.{IsUtf8-take, IsUtf8-drop, IsCharBoundary-before_ascii, IsCharBoundary-after_ascii}
 use Rattle.bstr.specs.Find.{IsFirstByte, is_byte}
-use Rattle.catalogue.specs.Entry.{Lacks, IsText}
+use Rattle.catalogue.specs.Entry.{LacksByte, IsText}
 use Rattle.catalogue.specs.Map.{first_form}
 use Rattle.mo_image.proofs.EntryParts.{lacks_at}
 
@@ -61,32 +61,32 @@ whole byte text le = take_all (place byte text) text le
 other : (x byte : ℕ) → eqb x byte ≡ false → x ≢ byte
 other x byte differ same = let yes : eqb x byte ≡ true = eq-eqb x byte same in absurd cc
 
-front_step : (byte x : ℕ) (xs : List ℕ) (k : ℕ) → Lacks byte (take k xs) → (b : Bool) → eqb x byte ≡ b
-    → Lacks byte (take (cond (not b) (1 + k) 0) (x ∷ xs))
+front_step : (byte x : ℕ) (xs : List ℕ) (k : ℕ) → LacksByte byte (take k xs) → (b : Bool) → eqb x byte ≡ b
+    → LacksByte byte (take (cond (not b) (1 + k) 0) (x ∷ xs))
 front_step byte x xs k rest true e = tt
 front_step byte x xs k rest false e =
-    let P : ℕ → Type 0 = λ n. Lacks byte (take n (x ∷ xs)) in
+    let P : ℕ → Type 0 = λ n. LacksByte byte (take n (x ∷ xs)) in
     let n : suc k ≡ 1 + k = omega arith in
     subst P n (other x byte e, rest)
 
-pub front_lacks : (byte : ℕ) (text : List ℕ) → Lacks byte (before_first (is byte) text)
+pub front_lacks : (byte : ℕ) (text : List ℕ) → LacksByte byte (before_first (is byte) text)
 front_lacks byte [] = tt
 front_lacks byte (x ∷ xs) = front_step byte x xs (place byte xs) (front_lacks byte xs) (eqb x byte) refl
 
-pub absent : (byte : ℕ) (text : List ℕ) → holds byte text ≡ false → Lacks byte text
-absent byte text e = subst (Lacks byte) (whole byte text (ltb-false _ _ e)) (front_lacks byte text)
+pub absent : (byte : ℕ) (text : List ℕ) → holds byte text ≡ false → LacksByte byte text
+absent byte text e = subst (LacksByte byte) (whole byte text (ltb-false _ _ e)) (front_lacks byte text)
 
-none_step : (byte x : ℕ) (xs : List ℕ) → (count_by (is byte) xs ≡ 0 → Lacks byte xs) → (b : Bool) → eqb x byte ≡ b
-    → one b + count_by (is byte) xs ≡ 0 → Lacks byte (x ∷ xs)
+none_step : (byte x : ℕ) (xs : List ℕ) → (count_by (is byte) xs ≡ 0 → LacksByte byte xs) → (b : Bool) → eqb x byte ≡ b
+    → one b + count_by (is byte) xs ≡ 0 → LacksByte byte (x ∷ xs)
 none_step byte x xs rest true e none = absurd (omega (arith, none))
 none_step byte x xs rest false e none = (other x byte e, rest (omega (arith, none)))
 
-pub none_counted : (byte : ℕ) (text : List ℕ) → count_by (is byte) text ≡ 0 → Lacks byte text
+pub none_counted : (byte : ℕ) (text : List ℕ) → count_by (is byte) text ≡ 0 → LacksByte byte text
 none_counted byte [] none = tt
 none_counted byte (x ∷ xs) none = none_step byte x xs (none_counted byte xs) (eqb x byte) refl
     (sym (count-cons byte x xs) ∙ none)
 
-pub count_none : (byte : ℕ) (text : List ℕ) → Lacks byte text → count_by (is byte) text ≡ 0
+pub count_none : (byte : ℕ) (text : List ℕ) → LacksByte byte text → count_by (is byte) text ≡ 0
 count_none byte [] lacks = refl
 count_none byte (x ∷ xs) lacks =
     let differs : eqb x byte ≡ false = not_true (eqb x byte) (λ e. lacks.0 (eqb-true x byte e)) in
@@ -94,7 +94,7 @@ count_none byte (x ∷ xs) lacks =
 
 -- the byte stands once at most, and so not behind its first place
 pub behind_lacks : (byte : ℕ) (text : List ℕ) → place byte text < length text → count_by (is byte) text ≤ 1
-    → Lacks byte (after_first (is byte) text)
+    → LacksByte byte (after_first (is byte) text)
 behind_lacks byte text lt once =
     let y : ℕ = get_or text (place byte text) 0 in
     let counted : count_by (is byte) text ≡ count_by (is byte) (before_first (is byte) text) + count_by (is byte)
@@ -115,7 +115,7 @@ behind_lacks byte text lt once =
 pub count_absent : (byte : ℕ) (text : List ℕ) → IsFirstByte (is_byte byte) text None → count_by (is byte) text ≡ 0
 count_absent byte text none =
     let at : place byte text ≡ length text = place_found byte text None none in
-    count_none byte text (subst (Lacks byte) (whole byte text (omega (arith, at))) (front_lacks byte text))
+    count_none byte text (subst (LacksByte byte) (whole byte text (omega (arith, at))) (front_lacks byte text))
 
 pub count_past : (byte : ℕ) (text : List ℕ) (k : ℕ) → IsFirstByte (is_byte byte) text (Some k) → count_by (is byte) text
     ≡ 1 + count_by (is byte) (drop (k + 1) text)
@@ -134,15 +134,15 @@ count_past byte text k found =
     ≡ count_by (is byte) (drop (k + 1) text) = ap (λ (n : ℕ). count_by (is byte) (drop (n + 1) text)) at in
     omega (arith, counted, count-cons byte y (after_first (is byte) text), it, none, rest)
 
-pub Lacks-take : (byte n : ℕ) (text : List ℕ) → Lacks byte text → Lacks byte (take n text)
-Lacks-take byte zero text lacks = tt
-Lacks-take byte (suc n) [] lacks = tt
-Lacks-take byte (suc n) (x ∷ xs) lacks = (lacks.0, Lacks-take byte n xs lacks.1)
+pub LacksByte-take : (byte n : ℕ) (text : List ℕ) → LacksByte byte text → LacksByte byte (take n text)
+LacksByte-take byte zero text lacks = tt
+LacksByte-take byte (suc n) [] lacks = tt
+LacksByte-take byte (suc n) (x ∷ xs) lacks = (lacks.0, LacksByte-take byte n xs lacks.1)
 
-pub Lacks-drop : (byte n : ℕ) (text : List ℕ) → Lacks byte text → Lacks byte (drop n text)
-Lacks-drop byte zero text lacks = lacks
-Lacks-drop byte (suc n) [] lacks = tt
-Lacks-drop byte (suc n) (x ∷ xs) lacks = Lacks-drop byte n xs lacks.1
+pub LacksByte-drop : (byte n : ℕ) (text : List ℕ) → LacksByte byte text → LacksByte byte (drop n text)
+LacksByte-drop byte zero text lacks = lacks
+LacksByte-drop byte (suc n) [] lacks = tt
+LacksByte-drop byte (suc n) (x ∷ xs) lacks = LacksByte-drop byte n xs lacks.1
 
 -- ---- the parts of UTF-8, cut at an ASCII byte, are UTF-8
 

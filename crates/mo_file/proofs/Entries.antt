@@ -7,13 +7,14 @@ use Rattle.std.specs.Str.{IsUtf8}
 use Rattle.std.proofs.lemmas.Bool.{ltb-true, lt-ltb, le-ltb}
 use Rattle.std.proofs.lemmas.List.{take_all}
 use Rattle.std.proofs.lemmas.List.Splits.{length-slice_split}
-use Rattle.catalogue.specs.Entry.{Lacks, IsText, IsKeyText, HasForms, IsLawfulEntry}
+use Rattle.catalogue.specs.Entry.{LacksByte, IsText, IsKeyText, HasForms, IsLawfulEntry}
 use Rattle.catalogue.specs.Parts.{cut, behind}
 pub use Rattle.mo_image.proofs.Originals.{key_of_original, plural_of_original, entry_again_of, entries_again, key_is}
 pub use Rattle.mo_image.proofs.Originals.{original_is, translation_is}
 use Rattle.mo_file.specs.MoReading.{before_nul, IsOriginalText, IsTranslationText, HasLawfulForms}
 use Rattle.mo_file.specs.Pairs.{plural_part, entry_of}
-use Rattle.mo_file.proofs.Cuts.{is, place, holds, front_lacks, absent, count_none, behind_lacks, Lacks-take, Lacks-drop}
+use Rattle.mo_file.proofs.Cuts.{is, place, holds, front_lacks, absent, count_none}
+use Rattle.mo_file.proofs.Cuts.{behind_lacks, LacksByte-take, LacksByte-drop}
 use Rattle.mo_file.proofs.Cuts.{front_utf8, behind_utf8, parts_are_texts}
 
 abbrev cut_at : ℕ → List ℕ → Bool → Option (List ℕ × List ℕ)
@@ -25,19 +26,19 @@ pub record IsKeyOf (k : List ℕ) (c : Option (List ℕ × List ℕ)) : Type 0 w
   pub context : IfSome (option_map (λ p. p.0) c) IsKeyText
   pub id : IsKeyText (behind k c)
 
-key_texts_by : (k : List ℕ) → IsUtf8 k → Lacks 0 k → count_by (is 4) k ≤ 1 → (test : Bool) → holds 4 k ≡ test
+key_texts_by : (k : List ℕ) → IsUtf8 k → LacksByte 0 k → count_by (is 4) k ≤ 1 → (test : Bool) → holds 4 k ≡ test
     → IsKeyOf k (cut_at 4 k test)
 key_texts_by k utf8 no_nul once true e =
     let lt : place 4 k < length k = ltb-true _ _ e in
     record {
       context = record {
         utf8 = front_utf8 4 k (omega arith) utf8;
-        no_nul = Lacks-take 0 (place 4 k) k no_nul;
+        no_nul = LacksByte-take 0 (place 4 k) k no_nul;
         no_separator = front_lacks 4 k;
       };
       id = record {
         utf8 = behind_utf8 4 k (omega arith) utf8 lt;
-        no_nul = Lacks-drop 0 (place 4 k + 1) k no_nul;
+        no_nul = LacksByte-drop 0 (place 4 k + 1) k no_nul;
         no_separator = behind_lacks 4 k lt once;
       };
     }

@@ -3,7 +3,8 @@ use Rattle.std.proofs.Common.{◌≡◌, ℕ, ◌+◌, ◌≤◌, List, [], ◌�
 use Rattle.std.specs.Prelude.{IfSome}
 use Rattle.std.specs.List.{AllByRecursion, join_with_byte, count_by}
 use Rattle.std.proofs.lemmas.List.Sums.{sum_by-append}
-use Rattle.catalogue.specs.Entry.{Entry, key, key_bytes, with_plural, original, translation, Lacks, IsText, IsKeyText}
+use Rattle.catalogue.specs.Entry.{Entry, key, key_bytes, with_plural, original, translation}
+use Rattle.catalogue.specs.Entry.{LacksByte, IsText, IsKeyText}
 use Rattle.catalogue.specs.Entry.{HasForms, IsLawfulEntry}
 use Rattle.mo_image.proofs.EntryParts.{key_lacks_nul}
 use Rattle.mo_image.proofs.Originals.{original_utf8, translation_utf8}
@@ -12,7 +13,7 @@ use Rattle.mo_file.proofs.Cuts.{is, count_none}
 use Rattle.mo_file.proofs.Entries.{key_of_original}
 
 -- such a byte between two texts that lack it
-counted_once : (byte : ℕ) (a b : List ℕ) → Lacks byte a → Lacks byte b → count_by (is byte) (byte ∷ []) ≡ 1
+counted_once : (byte : ℕ) (a b : List ℕ) → LacksByte byte a → LacksByte byte b → count_by (is byte) (byte ∷ []) ≡ 1
     → count_by (is byte) (a ++ (byte ∷ b)) ≡ 1
 counted_once byte a b la lb it =
     let both : count_by (is byte) (a ++ (byte ∷ b)) ≡ count_by (is byte) a + count_by (is byte) ((byte ∷ []) ++ b) =
@@ -45,7 +46,7 @@ one_form [] count texts = absurd (omega (arith, count))
 one_form (f ∷ []) count texts = count_none 0 f texts.0.no_nul
 one_form (f ∷ g ∷ fs) count texts = absurd (omega (arith, count))
 
-forms_by : (k : List ℕ) (plural : Option (List ℕ)) (forms : List (List ℕ)) → Lacks 0 k → IfSome plural IsText
+forms_by : (k : List ℕ) (plural : Option (List ℕ)) (forms : List (List ℕ)) → LacksByte 0 k → IfSome plural IsText
     → AllByRecursion IsText forms → HasForms plural forms
     → HasLawfulForms (with_plural k plural) (join_with_byte 0 forms)
 forms_by k None forms lacks p texts counted = record {

@@ -18,7 +18,7 @@ use Rattle.mo_file.specs.MoReading.{Fits, PassesBelow, Mo, IsMoFile}
 use Rattle.mo_file.specs.declared.fault.MoFault.{MoFault}
 use Rattle.mo_file.specs.declared.fault.MoFault.TheVariants.{BadText, Forms, Order, Charset, Swollen}
 use Rattle.mo_file.proofs.Cuts.{first_form_is}
-use Rattle.mo_file.specs.Pairs.{entry_of, entries_of, named as named_rows, named_in}
+use Rattle.mo_file.specs.Pairs.{entry_of, paired_entries, named as named_rows, named_in}
 use Rattle.mo_file.proofs.Entries.{key_is, original_is, translation_is, lawful_entry}
 use Rattle.mo_file.proofs.RowLemmas.{first_row, later_rows, strings_split}
 
@@ -187,9 +187,9 @@ pub named_split : (number : ℕ → List ℕ → ℕ) (bytes : List ℕ) (o t n 
     ≡ entry_of (string_at number bytes (o + 8 * i)) (string_at number bytes (t + 8 * i))
     ∷ named_rows number bytes (o + 8 * (i + 1)) (t + 8 * (i + 1)) (n - (i + 1))
 named_split number bytes o t n i lt =
-    ap (λ (os : List (List ℕ)). entries_of os (strings number bytes (t + 8 * i) (n - i)))
+    ap (λ (os : List (List ℕ)). paired_entries os (strings number bytes (t + 8 * i) (n - i)))
     (strings_split number bytes o n i lt)
-    ∙ ap (entries_of (string_at number bytes (o + 8 * i) ∷ strings number bytes (o + 8 * (i + 1)) (n - (i + 1))))
+    ∙ ap (paired_entries (string_at number bytes (o + 8 * i) ∷ strings number bytes (o + 8 * (i + 1)) (n - (i + 1))))
     (strings_split number bytes t n i lt)
 
 pub one_more : (number : ℕ → List ℕ → ℕ) (bytes : List ℕ) (o t n i : ℕ) (xs ys : List Entry) (e : Entry)

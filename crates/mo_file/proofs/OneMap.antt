@@ -10,16 +10,18 @@ use Rattle.mo_file.specs.declared.fault.MoFault.TheVariants.{TooLarge, Short, Ma
 use Rattle.mo_file.specs.declared.fault.MoFault.TheVariants.{Forms, Order, Charset, Swollen, Memory}
 use Rattle.catalogue.specs.Map.{IsLawful}
 use Rattle.catalogue.specs.MoFile.{spelling}
-use Rattle.mo_file.specs.Pairs.{entries_of}
+use Rattle.mo_file.specs.Pairs.{paired_entries}
 use Rattle.mo_file.proofs.ReadBack.{reads_back}
 use Rattle.mo_file.proofs.Entries.{entries_again}
 
 read_from : (bytes : List ℕ) (m : List Entry) → Mo bytes m
-    → m ≡ entries_of (strings (order bytes) bytes (originals_start (order bytes) bytes) (count (order bytes) bytes))
+    → m ≡ paired_entries (strings (order bytes) bytes (originals_start (order bytes) bytes) (count (order bytes) bytes))
     (strings (order bytes) bytes (translations_start (order bytes) bytes) (count (order bytes) bytes))
 read_from bytes m mo =
-    sym (entries_again m mo.lawful.each) ∙ ap (λ (os : List (List ℕ)). entries_of os (map translation m)) mo.originals
-    ∙ ap (entries_of (strings (order bytes) bytes (originals_start (order bytes) bytes) (count (order bytes) bytes)))
+    sym (entries_again m mo.lawful.each)
+    ∙ ap (λ (os : List (List ℕ)). paired_entries os (map translation m)) mo.originals
+    ∙ ap (paired_entries (strings (order bytes) bytes (originals_start (order bytes) bytes)
+    (count (order bytes) bytes)))
     mo.translations
 
 pub unique_map : (bytes : List ℕ) (m n : List Entry) → Mo bytes m → Mo bytes n → m ≡ n

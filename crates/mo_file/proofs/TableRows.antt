@@ -16,7 +16,7 @@ use Rattle.mo_file.specs.MoReading.{AreOriginalTexts, AreTranslationTexts, HaveL
 use Rattle.mo_file.specs.MoReading.{Passes, file_by, originals_start, translations_start, count}
 use Rattle.mo_file.specs.declared.fault.MoFault.TheVariants.{Bounds, NoNul, BadText, Forms, Order}
 use Rattle.mo_file.specs.Rows.{listed, rows, rows_in, row_at, span_at, text_in, RowLies, HasTexts, HasForms}
-use Rattle.mo_file.specs.Claims.{key_from, claim_at, claims_to, original_of, nowhere, Holds, ClaimLies}
+use Rattle.mo_file.specs.Claims.{key_from, claim_at, claims_to, original_of, nowhere, ClaimHolds, ClaimLies}
 use Rattle.mo_file.proofs.KeyOrder.{closed_key}
 
 -- ---- what a sequence begins with
@@ -121,16 +121,16 @@ module _ (number : ℕ → List ℕ → ℕ) (bytes : List ℕ) where
       ∙ ap (slice_cmp nat_cmp (before_nul (string_at number bytes (o + 8 * i)))) b
 
   pub claims_of_rows : (o t n : ℕ) → TableLies (table_at number bytes o n) → AllClosed (table_at number bytes o n)
-      → All (Holds bytes) (claims_to (rows number bytes o t n) (length (rows number bytes o t n) - 1))
+      → All (ClaimHolds bytes) (claims_to (rows number bytes o t n) (length (rows number bytes o t n) - 1))
       ↔ KeysRise (table_at number bytes o n)
   claims_of_rows o t n lies closed =
       let rs : List Row = rows number bytes o t n in
       let long : length rs ≡ n = length-listed (row_of o t) n in (
         λ all. record {
           each = λ i lt. sym (claim_is o t n lies closed i lt)
-              ∙ each_of (Holds bytes) (claim_at rs) (length rs - 1) all i (omega (arith, lt, long));
+              ∙ each_of (ClaimHolds bytes) (claim_at rs) (length rs - 1) all i (omega (arith, lt, long));
         },
-        λ rise. all_of (Holds bytes) (claim_at rs) (length rs - 1)
+        λ rise. all_of (ClaimHolds bytes) (claim_at rs) (length rs - 1)
             (λ i lt. claim_is o t n lies closed i (omega (arith, lt, long)) ∙ rise.each i (omega (arith, lt, long))),
       )
 
@@ -169,7 +169,8 @@ module _ (number : ℕ → List ℕ → ℕ) (bytes : List ℕ) where
   forms_in = forms_of_rows number bytes o t n
 
   pub claims_in : Passes (file_by number bytes) Bounds → Passes (file_by number bytes) NoNul
-      → All (Holds bytes) (claims_to (rows_in (file_by number bytes)) (length (rows_in (file_by number bytes)) - 1))
+      → All (ClaimHolds bytes)
+      (claims_to (rows_in (file_by number bytes)) (length (rows_in (file_by number bytes)) - 1))
       ↔ Passes (file_by number bytes) Order
   claims_in lies closed = claims_of_rows number bytes o t n lies.0 closed.0
 

@@ -16,8 +16,9 @@ abbrev pub key_from : List ℕ → ℕ → List ℕ
 key_from bytes place = before_nul (drop place bytes)
 
 -- the claim holds: one key is below the other
-abbrev pub Holds : List ℕ → Claim → Type 0
-Holds bytes claim = slice_cmp nat_cmp (key_from bytes claim.lesser.start) (key_from bytes claim.greater.start) ≡ Less
+abbrev pub ClaimHolds : List ℕ → Claim → Type 0
+ClaimHolds bytes claim = slice_cmp nat_cmp (key_from bytes claim.lesser.start) (key_from bytes claim.greater.start)
+    ≡ Less
 
 -- both keys begin in the file
 abbrev pub ClaimLies : List ℕ → Claim → Type 0

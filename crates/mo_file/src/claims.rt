@@ -3,7 +3,7 @@
 ghost use Rattle.std.specs.Prelude.{◌≡◌, ◌↔◌, ℕ, List, ◌+◌, ◌-◌, ◌<◌, ◌≤◌, length, slice_index, IsTrue, IfOk};
 ghost use Rattle.std.specs.Prelude.{IfSome, All};
 ghost use Rattle.std.specs.List.Sorted.{IsPermutation};
-ghost use Rattle.mo_file.specs.Claims.{claims_to, AreAlike, IsAlike, ClaimLies, EndsThere, Holds};
+ghost use Rattle.mo_file.specs.Claims.{claims_to, AreAlike, IsAlike, ClaimLies, EndsThere, ClaimHolds};
 
 use crate::rows::{Row, Span};
 use bstr::ByteSlice;
@@ -308,7 +308,7 @@ fn byte_at(bytes: &[u8], place: usize) -> u8
 /// Whether all claims hold.
 pub(crate) fn all_hold(bytes: &[u8], claims: &[Claim]) -> bool
     requires { All (ClaimLies bytes.now) claims.now }
-    ensures { IsTrue result ↔ All (Holds bytes.now) claims.now }
+    ensures { IsTrue result ↔ All (ClaimHolds bytes.now) claims.now }
 {
     let mut alike = Alike::new();
     let mut period = Alike::new();

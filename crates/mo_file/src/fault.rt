@@ -3,46 +3,35 @@ ghost use Rattle.std.specs.Prelude.{◌≡◌};
 ghost use Rattle.mo_file.specs.declared.fault.MoFault.TheVariants.{Memory};
 
 use std::alloc::{AllocError, AllocFailed};
-use thiserror::Error;
+use std::error::Error;
+use std::fmt;
 
 /// Why bytes are no MO file of a lawful map. Of several reasons that hold, the first of this list is given.
-#[derive(Clone, Copy, Debug, PartialEq, Eq, Error)]
+#[derive(Clone, Copy, Debug, PartialEq, Eq)]
 pub enum MoFault {
     /// There are more than 268,435,456 bytes.
-    #[error("file too large")]
     TooLarge,
     /// There are fewer than the 28 bytes of a header.
-    #[error("file too short")]
     Short,
     /// The first word is the magic number in neither byte order.
-    #[error("not an MO file")]
     Magic,
     /// The revision isn't 0.
-    #[error("unknown revision")]
     Revision,
     /// A table, or a string with a byte behind it, doesn't lie in the file.
-    #[error("out of bounds")]
     Bounds,
     /// The byte behind a string isn't NUL.
-    #[error("string not closed")]
     NoNul,
     /// A string isn't UTF-8, or a key holds byte 4 twice or more.
-    #[error("bad text")]
     BadText,
     /// An original holds NUL twice or more, or has no plural and a translation of several forms.
-    #[error("wrong plural forms")]
     Forms,
     /// The keys don't rise strictly by bytes.
-    #[error("keys out of order")]
     Order,
     /// The header names a charset that isn't accepted.
-    #[error("unsupported charset")]
     Charset,
     /// The file that would be written of the map has more than 268,435,456 bytes.
-    #[error("map too large")]
     Swollen,
     /// Memory was refused. This says nothing of the bytes.
-    #[error("out of memory")]
     Memory,
 }
 
@@ -61,3 +50,30 @@ impl<T: Drop> From<AllocFailed<T>> for MoFault {
         MoFault::Memory
     }
 }
+
+impl MoFault {
+    fn text(self) -> &'static str {
+        match self {
+            MoFault::TooLarge => "file too large",
+            MoFault::Short => "file too short",
+            MoFault::Magic => "not an MO file",
+            MoFault::Revision => "unknown revision",
+            MoFault::Bounds => "out of bounds",
+            MoFault::NoNul => "string not closed",
+            MoFault::BadText => "bad text",
+            MoFault::Forms => "wrong plural forms",
+            MoFault::Order => "keys out of order",
+            MoFault::Charset => "unsupported charset",
+            MoFault::Swollen => "map too large",
+            MoFault::Memory => "out of memory",
+        }
+    }
+}
+
+impl fmt::Display for MoFault {
+    fn fmt<W: fmt::Write>(&self, f: &mut fmt::Formatter<W>) -> fmt::Result {
+        f.write_str(self.text())
+    }
+}
+
+impl Error for MoFault {}

@@ -11,7 +11,7 @@ use Rattle.std.proofs.lemmas.List.Sums.{passes_at_first}
 use Rattle.std.proofs.lemmas.Str.{IsUtf8-append}
 use Rattle.byteorder.specs.Endian.{little_number}
 use Rattle.text_cut.specs.Cut.{cut, place_of, IsCut}
-use Rattle.mo_image.specs.Entry.{Entry, HasForms, IsLawfulEntry, Lacks}
+use Rattle.mo_image.specs.Entry.{Entry, HasForms, IsLawfulEntry, LacksByte}
 use Rattle.mo_image.specs.Extents.{piece, HoldsClosed, IsNamedAt}
 use Rattle.mo_image.specs.Image.{NamesText}
 use Rattle.mo_image.specs.Lent.{IsClosedCut}
@@ -80,7 +80,7 @@ pub record IsCutAt (forms : List (List ℕ)) (k : ℕ) (form : List ℕ) : Type 
   pub found : slice_get forms k ≡ Some form
   pub split : cut 0 (pool (drop k forms)) ≡ Some (form, pool (drop (k + 1) forms))
 
-pub cut_at : (forms : List (List ℕ)) (k : ℕ) → AllByRecursion (Lacks 0) forms → k < length forms
+pub cut_at : (forms : List (List ℕ)) (k : ℕ) → AllByRecursion (LacksByte 0) forms → k < length forms
     → (form : List ℕ) × IsCutAt forms k form
 cut_at [] k lack lt = absurd (omega arith)
 cut_at (f ∷ fs) zero lack lt = (

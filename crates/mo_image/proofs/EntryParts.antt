@@ -9,29 +9,30 @@ use Rattle.std.proofs.lemmas.List.{take_at, drop_at, get_or_at, get_or_append_le
 use Rattle.std.proofs.lemmas.List.Sums.{position_or_len_is}
 use Rattle.std.proofs.lemmas.List.Splits.{slice_split_at, slice_split_none}
 use Rattle.mo_image.proofs.Lists.{differs}
-use Rattle.mo_image.specs.Entry.{Entry, key, key_bytes, translation, Lacks, IsText, IsKeyText, HasForms, IsLawfulEntry}
+use Rattle.mo_image.specs.Entry.{Entry, key, key_bytes, translation, LacksByte, IsText}
+use Rattle.mo_image.specs.Entry.{IsKeyText, HasForms, IsLawfulEntry}
 use Rattle.mo_image.specs.Parts.{cut, behind, entry_from}
 
 abbrev is : ℕ → ℕ → Bool
 is byte b = eqb b byte
 
-pub lacks_at : (byte : ℕ) (xs : List ℕ) (k : ℕ) (d : ℕ) → Lacks byte xs → k < length xs → eqb (get_or xs k d) byte
+pub lacks_at : (byte : ℕ) (xs : List ℕ) (k : ℕ) (d : ℕ) → LacksByte byte xs → k < length xs → eqb (get_or xs k d) byte
     ≡ false
 lacks_at byte [] k d lacks lt = absurd (omega arith)
 lacks_at byte (x ∷ xs) zero d lacks lt = differs x byte lacks.0
 lacks_at byte (x ∷ xs) (suc k) d lacks lt = lacks_at byte xs k d lacks.1 (omega arith)
 
-place_in : (byte : ℕ) (a b : List ℕ) → Lacks byte a → position_or_len (λ x. eqb x byte) (a ++ (byte ∷ b)) ≡ length a
+place_in : (byte : ℕ) (a b : List ℕ) → LacksByte byte a → position_or_len (λ x. eqb x byte) (a ++ (byte ∷ b)) ≡ length a
 place_in byte a b lacks =
     position_or_len_is (λ x. eqb x byte) (a ++ (byte ∷ b)) (length a) 0 (omega (arith, length-append a (byte ∷ b)))
     (λ k lt. rw (get_or_append_left a (byte ∷ b) 0 k lt) (lacks_at byte a k 0 lacks lt))
     (λ _. rw (get_or_at a byte b 0 (length a) refl) (search rules))
 
-place_none : (byte : ℕ) (a : List ℕ) → Lacks byte a → position_or_len (λ x. eqb x byte) a ≡ length a
+place_none : (byte : ℕ) (a : List ℕ) → LacksByte byte a → position_or_len (λ x. eqb x byte) a ≡ length a
 place_none byte a lacks = position_or_len_is (λ x. eqb x byte) a (length a) 0 (omega arith)
     (λ k lt. lacks_at byte a k 0 lacks lt) (λ lt. absurd (omega arith))
 
-pub cut-none : (byte : ℕ) (a : List ℕ) → Lacks byte a → cut byte a ≡ None
+pub cut-none : (byte : ℕ) (a : List ℕ) → LacksByte byte a → cut byte a ≡ None
 cut-none byte a lacks =
     let outside : ltb (position_or_len (λ x. eqb x byte) a) (length a)
     ≡ false = le-ltb _ _ (omega (arith, place_none byte a lacks)) in
@@ -41,7 +42,7 @@ past : (byte : ℕ) (a b : List ℕ) → drop (length a + 1) (a ++ (byte ∷ b))
 past byte a b = ap (drop (length a + 1)) (sym (append_assoc a (byte ∷ []) b))
     ∙ drop_at (a ++ (byte ∷ [])) b (length a + 1) (length-append a (byte ∷ []))
 
-pub cut-some : (byte : ℕ) (a b : List ℕ) → Lacks byte a → cut byte (a ++ (byte ∷ b)) ≡ Some (a, b)
+pub cut-some : (byte : ℕ) (a b : List ℕ) → LacksByte byte a → cut byte (a ++ (byte ∷ b)) ≡ Some (a, b)
 cut-some byte a b lacks =
     let at = place_in byte a b lacks in
     let inside : ltb (position_or_len (λ x. eqb x byte) (a ++ (byte ∷ b))) (length (a ++ (byte ∷ b)))
@@ -53,7 +54,7 @@ cut-some byte a b lacks =
     rw (inside, before, after) refl
 
 -- the forms, joined and cut again
-pub split_joined : (forms : List (List ℕ)) → 0 < length forms → AllByRecursion (Lacks 0) forms
+pub split_joined : (forms : List (List ℕ)) → 0 < length forms → AllByRecursion (LacksByte 0) forms
     → slice_split (λ b. eqb b 0) (join_with_byte 0 forms) ≡ forms
 split_joined [] some lack = absurd (omega arith)
 split_joined (f ∷ []) some lack = slice_split_none (λ b. eqb b 0) f (λ k d lt. lacks_at 0 f k d lack.0 lt)
@@ -61,18 +62,21 @@ split_joined (f ∷ g ∷ fs) some lack =
     slice_split_at (λ b. eqb b 0) f 0 (join_with_byte 0 (g ∷ fs)) (λ k d lt. lacks_at 0 f k d lack.0 lt) refl
     ∙ ap (λ (t : List (List ℕ)). f ∷ t) (split_joined (g ∷ fs) (omega arith) lack.1)
 
-pub lack_nul : (forms : List (List ℕ)) → AllByRecursion IsText forms → AllByRecursion (Lacks 0) forms
+pub lack_nul : (forms : List (List ℕ)) → AllByRecursion IsText forms → AllByRecursion (LacksByte 0) forms
 lack_nul [] texts = tt
 lack_nul (f ∷ fs) texts = (texts.0.no_nul, lack_nul fs texts.1)
 
-pub Lacks-append : (byte : ℕ) (a b : List ℕ) → Lacks byte a → Lacks byte b → Lacks byte (a ++ b)
-Lacks-append byte [] b la lb = lb
-Lacks-append byte (x ∷ a) b la lb = (la.0, Lacks-append byte a b la.1 lb)
+pub LacksByte-append : (byte : ℕ) (a b : List ℕ) → LacksByte byte a → LacksByte byte b → LacksByte byte (a ++ b)
+LacksByte-append byte [] b la lb = lb
+LacksByte-append byte (x ∷ a) b la lb = (la.0, LacksByte-append byte a b la.1 lb)
 
 pub key_lacks_nul : (context : Option (List ℕ)) (id : List ℕ) → IfSome context IsKeyText → IsKeyText id
-    → Lacks 0 (key_bytes context id)
+    → LacksByte 0 (key_bytes context id)
 key_lacks_nul None id c i = i.no_nul
-key_lacks_nul (Some context) id c i = Lacks-append 0 context (4 ∷ id) c.no_nul ((λ e. absurd (omega arith)), i.no_nul)
+key_lacks_nul (Some context) id c i = LacksByte-append 0 context (4 ∷ id) c.no_nul (
+  (λ e. absurd (omega arith)),
+  i.no_nul,
+)
 
 pub some_form : (plural : Option (List ℕ)) (forms : List (List ℕ)) → HasForms plural forms → 0 < length forms
 some_form None forms h = omega (arith, h)

@@ -15,10 +15,11 @@ use Rattle.std.proofs.lemmas.List.{take_all, get_or_at}
 use Rattle.std.proofs.lemmas.List.Sums.{passes_at_first, split_at_first}
 use Rattle.std.proofs.lemmas.List.Splits.{join_with_byte-slice_split}
 use Rattle.std.proofs.lemmas.Str.{IsUtf8-append, IsUtf8-nil}
-use Rattle.mo_image.specs.Entry.{Entry, key, key_bytes, with_plural, original, translation, Lacks, IsText, IsKeyText}
+use Rattle.mo_image.specs.Entry.{Entry, key, key_bytes, with_plural, original, translation}
+use Rattle.mo_image.specs.Entry.{LacksByte, IsText, IsKeyText}
 use Rattle.mo_image.specs.Entry.{IsLawfulEntry}
 use Rattle.mo_image.specs.Parts.{cut, entry_from}
-use Rattle.mo_image.specs.Pairs.{key_part, plural_part, entry_of, entries_of, HasNulAt}
+use Rattle.mo_image.specs.Pairs.{key_part, plural_part, entry_of, paired_entries, HasNulAt}
 use Rattle.mo_image.proofs.EntryParts.{cut-none, cut-some, key_lacks_nul, entry_again}
 use Rattle.mo_image.proofs.KeyParts.{rejoined}
 
@@ -49,7 +50,7 @@ front_by byte text false e = sym (take_all (place byte text) text (ltb-false _ _
 front_of_cut : (byte : ℕ) (text : List ℕ) → front text (cut byte text) ≡ before_first (is byte) text
 front_of_cut byte text = front_by byte text (holds byte text) refl
 
-cut_original : (k : List ℕ) (plural : Option (List ℕ)) → Lacks 0 k → cut 0 (with_plural k plural)
+cut_original : (k : List ℕ) (plural : Option (List ℕ)) → LacksByte 0 k → cut 0 (with_plural k plural)
     ≡ option_map (λ p. (k, p)) plural
 cut_original k None lacks = cut-none 0 k lacks
 cut_original k (Some plural) lacks = cut-some 0 k plural lacks
@@ -59,7 +60,7 @@ front_original : (k : List ℕ) (plural : Option (List ℕ)) → front (with_plu
 front_original k None = refl
 front_original k (Some plural) = refl
 
-pub key_of_original : (k : List ℕ) (plural : Option (List ℕ)) → Lacks 0 k → key_part (with_plural k plural) ≡ k
+pub key_of_original : (k : List ℕ) (plural : Option (List ℕ)) → LacksByte 0 k → key_part (with_plural k plural) ≡ k
 key_of_original k plural lacks = sym (front_of_cut 0 (with_plural k plural))
     ∙ ap (front (with_plural k plural)) (cut_original k plural lacks) ∙ front_original k plural
 
@@ -68,7 +69,7 @@ seconds : {Y : Type 0} (o : Option (List ℕ)) (y : Y) → option_map (λ (p : Y
 seconds None y = refl
 seconds (Some x) y = refl
 
-pub plural_of_original : (k : List ℕ) (plural : Option (List ℕ)) → Lacks 0 k → plural_part (with_plural k plural)
+pub plural_of_original : (k : List ℕ) (plural : Option (List ℕ)) → LacksByte 0 k → plural_part (with_plural k plural)
     ≡ plural
 plural_of_original k plural lacks = ap (option_map (λ (p : List ℕ × List ℕ). p.1)) (cut_original k plural lacks)
     ∙ seconds plural k
@@ -80,11 +81,12 @@ entry_again_of e lawful =
     ∙ ap (λ (p : Option (List ℕ)). entry_from (key e) p (translation e)) (plural_of_original (key e) e.plural nul)
     ∙ entry_again e lawful
 
-pub entries_again : (m : List Entry) → AllByRecursion IsLawfulEntry m → entries_of (map original m) (map translation m)
+pub entries_again : (m : List Entry) → AllByRecursion IsLawfulEntry m
+    → paired_entries (map original m) (map translation m)
     ≡ m
 entries_again [] each = refl
 entries_again (e ∷ m) each =
-    ap (λ (x : Entry). x ∷ entries_of (map original m) (map translation m)) (entry_again_of e each.0)
+    ap (λ (x : Entry). x ∷ paired_entries (map original m) (map translation m)) (entry_again_of e each.0)
     ∙ ap (λ (es : List Entry). e ∷ es) (entries_again m each.1)
 
 -- ---- from strings to an entry and back
@@ -146,11 +148,11 @@ pub parts_again : (o : List ℕ) → with_plural (key_part o) (plural_part o) �
 parts_again o = plural_again_by o (holds 0 o) refl
 
 -- what isn't cut at a byte has none
-pub lacks_from : (byte : ℕ) (text : List ℕ) → length text ≤ place byte text → Lacks byte text
+pub lacks_from : (byte : ℕ) (text : List ℕ) → length text ≤ place byte text → LacksByte byte text
 lacks_from byte [] le = tt
 lacks_from byte (x ∷ xs) le = of (is byte x) refl (λ h. lacks_from byte xs h)
   where
-    of : (b : Bool) → is byte x ≡ b → (length xs ≤ place byte xs → Lacks byte xs) → Lacks byte (x ∷ xs)
+    of : (b : Bool) → is byte x ≡ b → (length xs ≤ place byte xs → LacksByte byte xs) → LacksByte byte (x ∷ xs)
     of true here rest = absurd (omega (arith, le, ap (λ (b : Bool). cond (not b) (1 + place byte xs) 0) here))
     of false elsewhere rest = (
       (λ same. false≢true (sym elsewhere ∙ eq-eqb x byte same)),
@@ -159,18 +161,18 @@ lacks_from byte (x ∷ xs) le = of (is byte x) refl (λ h. lacks_from byte xs h)
     )
 
 uncut_by : (byte : ℕ) (text : List ℕ) (test : Bool) → holds byte text ≡ test
-    → option_map (λ p. p.1) (cut_at byte text test) ≡ None → Lacks byte text
+    → option_map (λ p. p.1) (cut_at byte text test) ≡ None → LacksByte byte text
 uncut_by byte text true e none = absurd cc
 uncut_by byte text false e none = lacks_from byte text (ltb-false _ _ e)
 
-pub uncut_at : (byte : ℕ) (text : List ℕ) → cut byte text ≡ None → Lacks byte text
+pub uncut_at : (byte : ℕ) (text : List ℕ) → cut byte text ≡ None → LacksByte byte text
 uncut_at byte text none = uncut_by byte text (holds byte text) refl (ap (option_map (λ p. p.1)) none)
 
-pub uncut : (text : List ℕ) → plural_part text ≡ None → Lacks 0 text
+pub uncut : (text : List ℕ) → plural_part text ≡ None → LacksByte 0 text
 uncut text none = uncut_by 0 text (holds 0 text) refl none
 
 pub uncut_if : (text : List ℕ) (plural : Option (Bor (List ℕ))) (test : Bool) → option_map (λ s. s.now) plural
-    ≡ plural_part text → is_some plural ≡ not test → test ≡ true → Lacks 0 text
+    ≡ plural_part text → is_some plural ≡ not test → test ≡ true → LacksByte 0 text
 uncut_if text None test e some so = uncut text (sym e)
 uncut_if text (Some p) test e some so = absurd (false≢true (sym (some ∙ ap not so)))
 
@@ -188,7 +190,7 @@ nul_below (suc b) some = ap (λ (t : Bool). cond t Less (cond (eqb 0 (suc b)) Eq
     (lt-ltb 0 (suc b) (omega arith))
 
 -- a plural behind a key changes the order beside no other key
-cmp_with_plural : (k plural a : List ℕ) → Lacks 0 a → k ≢ a → slice_cmp nat_cmp (k ++ (0 ∷ plural)) a
+cmp_with_plural : (k plural a : List ℕ) → LacksByte 0 a → k ≢ a → slice_cmp nat_cmp (k ++ (0 ∷ plural)) a
     ≡ slice_cmp nat_cmp k a
 cmp_with_plural [] plural [] lacks differ = absurd (differ refl)
 cmp_with_plural [] plural (b ∷ bs) lacks differ = ap (λ (o : Ordering). ordering_then o (slice_cmp nat_cmp plural bs))
@@ -199,7 +201,7 @@ cmp_with_plural (x ∷ k) plural (b ∷ bs) lacks differ =
     (λ e. cmp_with_plural k plural bs lacks.1 (λ same. differ
     (one_longer x b k bs (nat_cmp-IsAntisymmetric x b e) same)))
 
-cmp_parts_by : (k : List ℕ) (plural : Option (List ℕ)) (a : List ℕ) → Lacks 0 a
+cmp_parts_by : (k : List ℕ) (plural : Option (List ℕ)) (a : List ℕ) → LacksByte 0 a
     → (HasNulAt (with_plural k plural) (length a) → ⊥) → slice_cmp nat_cmp (with_plural k plural) a
     ≡ slice_cmp nat_cmp k a
 cmp_parts_by k None a lacks none = refl
@@ -209,7 +211,7 @@ cmp_parts_by k (Some plural) a lacks none =
       nul = get_or_at k 0 plural 0 (length a) (ap length same);
     }))
 
-pub cmp_by_original : (o a : List ℕ) → Lacks 0 a → (HasNulAt o (length a) → ⊥) → slice_cmp nat_cmp o a
+pub cmp_by_original : (o a : List ℕ) → LacksByte 0 a → (HasNulAt o (length a) → ⊥) → slice_cmp nat_cmp o a
     ≡ slice_cmp nat_cmp (key_part o) a
 cmp_by_original o a lacks none =
     let e = parts_again o in

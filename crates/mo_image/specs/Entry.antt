@@ -33,19 +33,19 @@ original e = with_plural (key e) e.plural
 abbrev pub translation : Entry → List ℕ
 translation e = join_with_byte 0 e.forms
 
-abbrev pub Lacks : ℕ → List ℕ → Type 0
-Lacks byte text = AllByRecursion (λ b. b ≢ byte) text
+abbrev pub LacksByte : ℕ → List ℕ → Type 0
+LacksByte byte text = AllByRecursion (λ b. b ≢ byte) text
 
 -- what any text of a catalogue may say: UTF-8 without NUL, which closes strings in MO files
 pub record IsText (text : List ℕ) : Type 0 where
   pub utf8 : IsUtf8 text
-  pub no_nul : Lacks 0 text
+  pub no_nul : LacksByte 0 text
 
 -- what a context or a msgid may say: nor EOT, which parts the two in a key
 pub record IsKeyText (text : List ℕ) : Type 0 where
   pub utf8 : IsUtf8 text
-  pub no_nul : Lacks 0 text
-  pub no_separator : Lacks 4 text
+  pub no_nul : LacksByte 0 text
+  pub no_separator : LacksByte 4 text
 
 -- one form at least, and just one without a plural
 abbrev pub HasForms : Option (List ℕ) → List (List ℕ) → Type 0

@@ -2,7 +2,7 @@
 use Rattle.std.specs.Prelude.{◌≡◌, ℕ, ◌<◌, ◌==◌, List, length, slice_get, IfSome}
 use Rattle.std.specs.List.{AllByRecursion, slice_split}
 use Rattle.text_cut.specs.Cut.{place_of}
-use Rattle.mo_image.specs.Entry.{IsLawfulEntry, Lacks}
+use Rattle.mo_image.specs.Entry.{IsLawfulEntry, LacksByte}
 use Rattle.mo_image.specs.MoFile.{closed}
 use Rattle.mo_image.specs.Pairs.{entry_of}
 
@@ -19,6 +19,7 @@ pub record IsClosedCut (parts : List ℕ × List ℕ) (front behind : List ℕ) 
 
 -- of the forms of a translation, which stand here with its NUL, the form at k with its NUL
 abbrev pub IsClosedFormOf : List ℕ → ℕ → List ℕ → Type 0
-IsClosedFormOf forms k text = (t : List ℕ) → forms ≡ closed t → AllByRecursion (Lacks 0) (slice_split (λ b. b == 0) t)
+IsClosedFormOf forms k text = (t : List ℕ) → forms ≡ closed t
+    → AllByRecursion (LacksByte 0) (slice_split (λ b. b == 0) t)
     → k < length (slice_split (λ b. b == 0) t)
     → IfSome (slice_get (slice_split (λ b. b == 0) t) k) (λ form. text ≡ closed form)

@@ -15,10 +15,10 @@ plural_part o = option_map (λ p. p.1) (cut 0 o)
 abbrev pub entry_of : List ℕ → List ℕ → Entry
 entry_of o t = entry_from (key_part o) (plural_part o) t
 
-abbrev pub entries_of : List (List ℕ) → List (List ℕ) → List Entry
-entries_of [] ts = []
-entries_of (o ∷ os) [] = []
-entries_of (o ∷ os) (t ∷ ts) = entry_of o t ∷ entries_of os ts
+abbrev pub paired_entries : List (List ℕ) → List (List ℕ) → List Entry
+paired_entries [] ts = []
+paired_entries (o ∷ os) [] = []
+paired_entries (o ∷ os) (t ∷ ts) = entry_of o t ∷ paired_entries os ts
 
 -- a NUL stands at this place
 pub record HasNulAt (text : List ℕ) (place : ℕ) : Type 0 where

@@ -10,5 +10,5 @@ abbrev pub stored_entry : OwnedStrings → Entry
 stored_entry m = entry_from (string_bytes m.key) (option_map (λ s. string_bytes s) m.plural)
     (string_bytes m.translation)
 
-abbrev pub entries_of : List OwnedStrings → List Entry
-entries_of messages = map stored_entry messages
+abbrev pub stored_entries : List OwnedStrings → List Entry
+stored_entries messages = map stored_entry messages

@@ -138,13 +138,6 @@ pub fn key_of(original: &str) -> &str
     key_within(original, place_of(original.as_bytes(), NUL))
 }
 
-/// The plural of an original: what stands behind its NUL.
-pub fn plural_of(original: &str) -> Option<&str>
-    ensures { option_map (λ s. s.now) result ≡ plural_part original.now }
-{
-    plural_behind(original, place_of(original.as_bytes(), NUL))
-}
-
 /// The context and the msgid of a key that has a context: what stands before its first byte 4, and behind.
 pub fn split_context(key: &str) -> Option<(&str, &str)>
     ensures { option_map (λ p. (p.0.now, p.1.now)) result ≡ cut 4 key.now }
@@ -198,13 +191,6 @@ impl<'a> EntryRef<'a> {
             translation,
             closed,
         }
-    }
-
-    /// The key, and the plural behind NUL.
-    pub fn original(&self) -> &'a str
-        ensures { key_part result.now ≡ key self.now }
-    {
-        self.original
     }
 
     /// The bytes of the entry's key: the msgid, behind its context and byte 4 where it has one.

@@ -46,9 +46,9 @@ impl<'a> EntryList for Vec<EntryStrings<'a>> {
 }
 
 impl EntryList for Vec<OwnedStrings> {
-    ghost use Rattle.mo_image.specs.Stored.{entries_of};
+    ghost use Rattle.mo_image.specs.Stored.{stored_entries};
 
-    ghost entries = { λ messages. entries_of messages.items };
+    ghost entries = { λ messages. stored_entries messages.items };
 
     fn count(&self) -> usize {
         self.len()

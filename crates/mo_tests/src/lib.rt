@@ -1,5 +1,5 @@
-//! Tests of `mo_file` by its public calls: worked files, files whose strings overlap, and look-ups in what was read
-//! back.
+//! Tests of `mo_file` by its public calls: worked files, files whose strings overlap, look-ups in what was read back,
+//! and files of many sizes.
 //!
 //! They stand in a crate of their own, since a crate with tests is proved twice, with them and without.
 #![tactic(auto)]
@@ -12,5 +12,7 @@ mod files;
 mod lookups;
 #[cfg(test)]
 mod overlaps;
+#[cfg(test)]
+mod sizes;
 #[cfg(test)]
 mod sorted;

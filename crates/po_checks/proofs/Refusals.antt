@@ -10,7 +10,7 @@ use Rattle.po_header.proofs.RuleLemmas.{HasRule-one}
 use Rattle.po_checks.specs.Checks.{IsPlural, HasSystemDependentText, HasOtherArguments, HasOtherCount, HasOtherNewlines}
 use Rattle.po_checks.specs.Checks.{IsFirstWithoutForm}
 use Rattle.po_checks.specs.Found.{FailsFrom}
-use Rattle.po_checks.specs.Kept.{key_of, kept, kept_header, header_line_of, NamesCharset, HasHeaderRule}
+use Rattle.po_checks.specs.Kept.{key_of, kept, kept_header, header_line_of, NamesAcceptedCharset, HasHeaderRule}
 use Rattle.po_checks.specs.Fails.{HasDistinctKeys, IsDuplicateAt, IsForeignAt, RuleRefuses, HeaderRefuses, Fails, rank}
 use Rattle.po_checks.specs.Fails.{IsFirst}
 use Rattle.po_header.specs.Rule.{HasRuleIn}
@@ -63,8 +63,8 @@ foreign_one o es line m f g = f.line_is ∙ ap (λ (e : po.Entry). e.line) (some
 
 -- a header that names an accepted charset isn't foreign
 pub foreign_or : (o : Options) (es : List po.Entry) (line : ℕ) → IsForeignAt o es line
-    → IfSome (kept_header o es) NamesCharset → ⊥
-foreign_or o es line f named = f.foreign (subst (λ (x : Option po.Entry). IfSome x NamesCharset) f.is named)
+    → IfSome (kept_header o es) NamesAcceptedCharset → ⊥
+foreign_or o es line f named = f.foreign (subst (λ (x : Option po.Entry). IfSome x NamesAcceptedCharset) f.is named)
 
 rule_in_one : (text : Option (List ℕ)) (rule other : Rule) → HasRuleIn text rule → HasRuleIn text other → rule ≡ other
 rule_in_one None rule other p q = p ∙ sym q
@@ -243,7 +243,7 @@ first_is_foreign o es line distinct f = record {
 
 -- then the checks
 abbrev PassesFirst : Options → List po.Entry → Type 0
-PassesFirst o es = HasDistinctKeys es × IfSome (kept_header o es) NamesCharset
+PassesFirst o es = HasDistinctKeys es × IfSome (kept_header o es) NamesAcceptedCharset
 
 passes_first : (o : Options) (es : List po.Entry) (kind : LoadKind) (line : ℕ) → PassesFirst o es → rank kind < 11
     → Fails o es kind line → ⊥
@@ -253,7 +253,8 @@ passes_first o es kind line passes lt f = elim (fails_below_eleven o es kind lin
 ]
 
 pub first_is_check : (o : Options) (es : List po.Entry) (kind : LoadKind) (line : ℕ) → HasDistinctKeys es
-    → IfSome (kept_header o es) NamesCharset → IsFirst (FailsFrom 11 o es) kind line → IsFirst (Fails o es) kind line
+    → IfSome (kept_header o es) NamesAcceptedCharset → IsFirst (FailsFrom 11 o es) kind line
+    → IsFirst (Fails o es) kind line
 first_is_check o es kind line distinct named f = record {
   holds = f.holds.1;
   first = λ other at lt g. elim (cases_lt (rank other) 11) [
@@ -262,7 +263,7 @@ first_is_check o es kind line distinct named f = record {
   ];
 }
 
-pub all_pass : (o : Options) (es : List po.Entry) → HasDistinctKeys es → IfSome (kept_header o es) NamesCharset
+pub all_pass : (o : Options) (es : List po.Entry) → HasDistinctKeys es → IfSome (kept_header o es) NamesAcceptedCharset
     → ((kind : LoadKind) (line : ℕ) → ¬ FailsFrom 11 o es kind line) → (kind : LoadKind) (line : ℕ)
     → ¬ Fails o es kind line
 all_pass o es distinct named none kind line f = elim (cases_lt (rank kind) 11) [

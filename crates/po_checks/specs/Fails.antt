@@ -6,7 +6,7 @@ use Rattle.po_text.specs.Entries as po
 use Rattle.po_header.specs.Rule.{Rule, Given, Absent, Broken}
 use Rattle.po_checks.specs.Checks.{FirstAt, HasSystemDependentText, HasOtherArguments, IsPlural, HasOtherCount}
 use Rattle.po_checks.specs.Checks.{IsFirstWithoutForm, HasOtherNewlines}
-use Rattle.po_checks.specs.Kept.{key_of, kept, kept_header, header_line_of, HasHeaderRule, NamesCharset}
+use Rattle.po_checks.specs.Kept.{key_of, kept, kept_header, header_line_of, HasHeaderRule, NamesAcceptedCharset}
 use Rattle.po_checks.specs.declared.options.Options.{Options}
 use Rattle.po_checks.specs.declared.fault.LoadKind.{LoadKind}
 use Rattle.po_checks.specs.declared.fault.LoadKind.TheVariants.{TooLarge, NotUtf8, BadEscape, OpenString, BadWord}
@@ -32,7 +32,7 @@ pub record IsDuplicateAt (entries : List po.Entry) (line : ℕ) : Type 0 where
 pub record IsForeignAt (options : Options) (entries : List po.Entry) (line : ℕ) : Type 0 where
   pub header : po.Entry
   pub is : kept_header options entries ≡ Some header
-  pub foreign : ¬ NamesCharset header
+  pub foreign : ¬ NamesAcceptedCharset header
   pub line_is : line ≡ header.line
 
 -- the kept entries aren't what the rule for plural forms says, or the rule isn't one; `at` is the header's line

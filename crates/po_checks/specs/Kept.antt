@@ -52,8 +52,8 @@ abbrev pub header_line_of : Options → List po.Entry → ℕ
 header_line_of options entries = option_map_or (λ e. e.line) (kept_header options entries) 0
 
 -- the entry's first form names no charset, or one that is accepted
-abbrev pub NamesCharset : po.Entry → Type 0
-NamesCharset e = HasAcceptedCharset (first_form e.forms)
+abbrev pub NamesAcceptedCharset : po.Entry → Type 0
+NamesAcceptedCharset e = HasAcceptedCharset (first_form e.forms)
 
 -- the text of the kept header: its first form
 abbrev pub header_text_of : Options → List po.Entry → Option (List ℕ)

@@ -12,7 +12,7 @@ use Rattle.po_header.specs.declared.steps.Step.TheVariants.{Test}
 use Rattle.po_header.specs.declared.token.Operator.TheVariants.{Equal, NotEqual, Less, Greater, AtMost, AtLeast}
 use Rattle.po_header.specs.declared.tree.Node.{Node}
 use Rattle.po_header.specs.TreeValue.{truth, opposite, choice, either, conjoined}
-use Rattle.po_header.specs.ChoiceSteps.{Adds, IsTest, chosen_step, node_value, measured, is_within}
+use Rattle.po_header.specs.ChoiceSteps.{AddsSteps, IsTest, chosen_step, node_value, measured, is_within}
 use Rattle.po_header.specs.ChoiceSteps.{reached, step_value, step_values, values_from, value_at}
 
 -- ---- values of steps
@@ -60,9 +60,9 @@ reached-last old s n =
 
 -- ---- what was added
 
-pub Adds-map : (old new : List Step) (i : ℕ) (f g : ℕ → Option ℕ) → ((n : ℕ) → f n ≡ g n) → Adds old new i f
-    → Adds old new i g
-Adds-map old new i f g same h = record {
+pub AddsSteps-map : (old new : List Step) (i : ℕ) (f g : ℕ → Option ℕ) → ((n : ℕ) → f n ≡ g n) → AddsSteps old new i f
+    → AddsSteps old new i g
+AddsSteps-map old new i f g same h = record {
   more = h.more;
   grown = h.grown;
   there = h.there;
@@ -70,9 +70,9 @@ Adds-map old new i f g same h = record {
       ∙ same n;
 }
 
-pub Adds-step : (old new : List Step) (s : Step) (i : ℕ) → i ≡ length old → new ≡ old ++ s ∷ []
-    → Adds old new i (λ n. step_value (step_values n old) n s)
-Adds-step old new s i e f = record {
+pub AddsSteps-step : (old new : List Step) (s : Step) (i : ℕ) → i ≡ length old → new ≡ old ++ s ∷ []
+    → AddsSteps old new i (λ n. step_value (step_values n old) n s)
+AddsSteps-step old new s i e f = record {
   more = s ∷ [];
   grown = f;
   there = omega (arith, ap length f, length-append old (s ∷ []));
@@ -81,17 +81,19 @@ Adds-step old new s i e f = record {
 }
 
 -- what was there before reaches what it reached
-pub Adds-keeps : (old new : List Step) (i : ℕ) (f : ℕ → Option ℕ) (k n : ℕ) → Adds old new i f → k < length old
+pub AddsSteps-keeps : (old new : List Step) (i : ℕ) (f : ℕ → Option ℕ) (k n : ℕ) → AddsSteps old new i f
+    → k < length old
     → reached new k n ≡ reached old k n
-Adds-keeps old new i f k n h lt = ap (λ (t : List Step). reached t k n) h.grown ∙ reached-append old h.more n k lt
+AddsSteps-keeps old new i f k n h lt = ap (λ (t : List Step). reached t k n) h.grown ∙ reached-append old h.more n k lt
 
-pub Adds-longer : (old new : List Step) (i k : ℕ) (f : ℕ → Option ℕ) → Adds old new i f → k < length old
+pub AddsSteps-longer : (old new : List Step) (i k : ℕ) (f : ℕ → Option ℕ) → AddsSteps old new i f → k < length old
     → k < length new
-Adds-longer old new i k f h lt = omega (arith, ap length h.grown, length-append old h.more)
+AddsSteps-longer old new i k f h lt = omega (arith, ap length h.grown, length-append old h.more)
 
-pub Adds-both : (old mid new : List Step) (i j : ℕ) (f g : ℕ → Option ℕ) → Adds old mid i f → Adds mid new j g
-    → Adds old new j g
-Adds-both old mid new i j f g h k = record {
+pub AddsSteps-both : (old mid new : List Step) (i j : ℕ) (f g : ℕ → Option ℕ) → AddsSteps old mid i f
+    → AddsSteps mid new j g
+    → AddsSteps old new j g
+AddsSteps-both old mid new i j f g h k = record {
   more = h.more ++ k.more;
   grown = k.grown ∙ ap (λ (t : List Step). t ++ k.more) h.grown ∙ append_assoc old h.more k.more;
   there = k.there;
@@ -257,46 +259,46 @@ IfFound-map (Err e) f h = tt
 -- either side: the steps of the left side, behind those of the right side
 pub adds_either : (old mid new : List Step) (whole left right : Node) (here there rest i : ℕ)
     → ((n : ℕ) → node_value whole n ≡ either (node_value left n) (node_value right n)) → here < length old
-    → Adds old mid rest (chosen_step old right here there) → Adds mid new i (chosen_step mid left here rest)
-    → Adds old new i (chosen_step old whole here there)
+    → AddsSteps old mid rest (chosen_step old right here there) → AddsSteps mid new i (chosen_step mid left here rest)
+    → AddsSteps old new i (chosen_step old whole here there)
 adds_either old mid new whole left right here there rest i is lt h k =
-    Adds-map old new i (chosen_step mid left here rest) (chosen_step old whole here there)
+    AddsSteps-map old new i (chosen_step mid left here rest) (chosen_step old whole here there)
     (λ n.
     ap (λ (a : Option ℕ). choice (node_value left n) a (reached mid rest n))
-    (Adds-keeps old mid rest (chosen_step old right here there) here n h lt)
+    (AddsSteps-keeps old mid rest (chosen_step old right here there) here n h lt)
     ∙ ap (λ (b : Option ℕ). choice (node_value left n) (reached old here n) b) (h.reaches n)
     ∙ sym (choice-either (node_value left n) (node_value right n) (reached old here n) (reached old there n))
     ∙ ap (λ (v : Option ℕ). choice v (reached old here n) (reached old there n)) (sym (is n)))
-    (Adds-both old mid new rest i (chosen_step old right here there) (chosen_step mid left here rest) h k)
+    (AddsSteps-both old mid new rest i (chosen_step old right here there) (chosen_step mid left here rest) h k)
 
 pub adds_both_sides : (old mid new : List Step) (whole left right : Node) (here there rest i : ℕ)
     → ((n : ℕ) → node_value whole n ≡ conjoined (node_value left n) (node_value right n)) → there < length old
-    → Adds old mid rest (chosen_step old right here there) → Adds mid new i (chosen_step mid left rest there)
-    → Adds old new i (chosen_step old whole here there)
+    → AddsSteps old mid rest (chosen_step old right here there) → AddsSteps mid new i (chosen_step mid left rest there)
+    → AddsSteps old new i (chosen_step old whole here there)
 adds_both_sides old mid new whole left right here there rest i is lt h k =
-    Adds-map old new i (chosen_step mid left rest there) (chosen_step old whole here there)
+    AddsSteps-map old new i (chosen_step mid left rest there) (chosen_step old whole here there)
     (λ n.
     ap (λ (b : Option ℕ). choice (node_value left n) (reached mid rest n) b)
-    (Adds-keeps old mid rest (chosen_step old right here there) there n h lt)
+    (AddsSteps-keeps old mid rest (chosen_step old right here there) there n h lt)
     ∙ ap (λ (a : Option ℕ). choice (node_value left n) a (reached old there n)) (h.reaches n)
     ∙ sym (choice-conjoined (node_value left n) (node_value right n) (reached old here n) (reached old there n))
     ∙ ap (λ (v : Option ℕ). choice v (reached old here n) (reached old there n)) (sym (is n)))
-    (Adds-both old mid new rest i (chosen_step old right here there) (chosen_step mid left rest there) h k)
+    (AddsSteps-both old mid new rest i (chosen_step old right here there) (chosen_step mid left rest there) h k)
 
 -- a choice: the steps of its condition, behind those of its sides
 pub adds_choice : (old first second new : List Step) (whole condition chosen other : Node) (here there i : ℕ)
     → ((n : ℕ) → node_value whole n ≡ choice (node_value condition n) (node_value chosen n) (node_value other n))
-    → Adds old first here (node_value chosen) → Adds first second there (node_value other)
-    → Adds second new i (chosen_step second condition here there) → Adds old new i (node_value whole)
+    → AddsSteps old first here (node_value chosen) → AddsSteps first second there (node_value other)
+    → AddsSteps second new i (chosen_step second condition here there) → AddsSteps old new i (node_value whole)
 adds_choice old first second new whole condition chosen other here there i is h k l =
-    Adds-map old new i (chosen_step second condition here there) (node_value whole)
+    AddsSteps-map old new i (chosen_step second condition here there) (node_value whole)
     (λ n.
     ap (λ (a : Option ℕ). choice (node_value condition n) a (reached second there n))
-    (Adds-keeps first second there (node_value other) here n k h.there ∙ h.reaches n)
+    (AddsSteps-keeps first second there (node_value other) here n k h.there ∙ h.reaches n)
     ∙ ap (λ (b : Option ℕ). choice (node_value condition n) (node_value chosen n) b) (k.reaches n)
     ∙ sym (is n))
-    (Adds-both old second new there i (node_value other) (chosen_step second condition here there)
-    (Adds-both old first second here there (node_value chosen) (node_value other) h k) l)
+    (AddsSteps-both old second new there i (node_value other) (chosen_step second condition here there)
+    (AddsSteps-both old first second here there (node_value chosen) (node_value other) h k) l)
 
 -- what `get` found
 pub reached-past : (steps : List Step) (at n : ℕ) → false ≡ nat_lt at (length steps) → None ≡ reached steps at n

@@ -8,7 +8,7 @@ use Rattle.std.proofs.lemmas.Bool.{cases_Bool}
 use Rattle.std.proofs.lemmas.Bool.Decides.{Decides-eqb}
 use Rattle.std.proofs.lemmas.Slice.Eq.{starts_is}
 use Rattle.std.proofs.Math.Seq.{drop-append_seam}
-use Rattle.po_header.specs.Charset.{Follows, Lacks}
+use Rattle.po_header.specs.Charset.{Follows, LacksWord}
 use Rattle.po_header.specs.Searching.{behind_first}
 
 pub begins_with : (word text rest : List ℕ) → text ≡ word ++ rest → starts_with nat_eq text word ≡ true
@@ -87,7 +87,7 @@ follows_is word (b ∷ text) after e = elim (cases_Bool (starts_with nat_eq (b �
       later_case word text after b other (follows_is word text after f)
 ]
 
-pub lacks_is : (word text : List ℕ) → 0 < length word → behind_first word text ≡ None → Lacks word text
+pub lacks_is : (word text : List ℕ) → 0 < length word → behind_first word text ≡ None → LacksWord word text
 lacks_is word [] some none before after e = absurd (omega (
   arith,
   ap length e,
@@ -117,5 +117,5 @@ Follows-one word text after other (b, s) (c, t) =
     let same : length b ≡ length c = omega (arith, le, ge) in
     after_is word text b after s.split ∙ rw (same, ← after_is word text c other t.split) refl
 
-pub Follows-lacks : (word text after : List ℕ) → Follows word text after → Lacks word text → ⊥
+pub Follows-lacks : (word text after : List ℕ) → Follows word text after → LacksWord word text → ⊥
 Follows-lacks word text after (before, s) lacks = lacks before after s.split

@@ -13,8 +13,8 @@ abbrev pub Follows : List ℕ → List ℕ → List ℕ → Type 0
 Follows word text after = (before : List ℕ) × StandsFirst word text before after
 
 -- the word stands nowhere in the text
-abbrev pub Lacks : List ℕ → List ℕ → Type 0
-Lacks word text = (before after : List ℕ) → text ≢ before ++ word ++ after
+abbrev pub LacksWord : List ℕ → List ℕ → Type 0
+LacksWord word text = (before after : List ℕ) → text ≢ before ++ word ++ after
 
 -- the text up to a space, a tab, LF or the end
 abbrev pub up_to_white : List ℕ → List ℕ
@@ -24,7 +24,7 @@ up_to_white text = take_while (λ b. not (b == 32 || b == 9 || b == 10)) text
 -- `charset=`
 abbrev pub NamesCharset : List ℕ → Option (List ℕ) → Type 0
 NamesCharset text (Some name) = (after : List ℕ) × Follows (codes "charset=") text after × (name ≡ up_to_white after)
-NamesCharset text None = Lacks (codes "charset=") text
+NamesCharset text None = LacksWord (codes "charset=") text
 
 -- the charsets of UTF-8 and of its ASCII part, and the word that templates have in their place
 abbrev pub accepted_charsets : List (List ℕ)

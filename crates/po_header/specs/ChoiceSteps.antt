@@ -37,7 +37,7 @@ abbrev pub reached : List Step → ℕ → ℕ → Option ℕ
 reached steps i n = value_at (step_values n steps) i
 
 -- steps were added at the end, and the one with this index has these values
-pub record Adds (old new : List Step) (i : ℕ) (f : ℕ → Option ℕ) : Type 0 where
+pub record AddsSteps (old new : List Step) (i : ℕ) (f : ℕ → Option ℕ) : Type 0 where
   pub more : List Step
   pub grown : new ≡ old ++ more
   pub there : i < length new

@@ -6,7 +6,7 @@ use Rattle.po_header.specs.Tokens.{behind_blanks, decimal_value, below_limit}
 use Rattle.po_header.specs.Grammar.{Tree}
 use Rattle.po_header.specs.TreeValue.{value}
 use Rattle.po_header.specs.Expression.{IsTooLong, IsReadAs, IsMalformed}
-use Rattle.po_header.specs.Charset.{Follows, Lacks}
+use Rattle.po_header.specs.Charset.{Follows, LacksWord}
 
 -- how many forms there are, and which one n takes; or no rule, or one that can't be read
 pub data Rule : Type 0 where
@@ -46,7 +46,7 @@ pub record IsBroken (text : List ℕ) : Type 0 where
 -- the rule of a header's text
 abbrev pub HasRule : List ℕ → Rule → Type 0
 HasRule text (Given nplurals tree) = IsGiven text nplurals tree
-HasRule text Absent = Lacks (codes "nplurals=") text ⊎ Lacks (codes "plural=") text
+HasRule text Absent = LacksWord (codes "nplurals=") text ⊎ LacksWord (codes "plural=") text
 HasRule text Broken = IsBroken text
 
 -- the rule in the header's text, where there is a header

@@ -8,13 +8,14 @@ ghost use Rattle.po_header.specs.Repeats.{AreFirst, Repeats};
 use crate::formula::Formula;
 use crate::tree::Node;
 use std::alloc::{AllocError, Global};
+use std::fmt;
 
 /// For how many numbers the values are kept: for those from 100 to 199 too, at which the values of most rules stand
 /// that all greater numbers have.
 const FIRST_COUNT: u64 = 200;
 
 /// An expression of a plural rule, as a number of forms that depends on `n`.
-#[derive(Debug, Drop)]
+#[derive(Drop)]
 pub struct PluralExpr {
     formula: Formula,
 
@@ -39,6 +40,12 @@ fn first_values(alloc: Global, formula: &Formula) -> Result<Vec<u8>, AllocError>
         }
     }
     Ok(values)
+}
+
+impl fmt::Debug for PluralExpr {
+    fn fmt<W: fmt::Write>(&self, f: &mut fmt::Formatter<W>) -> fmt::Result {
+        f.write_str("PluralExpr")
+    }
 }
 
 impl PluralExpr {

@@ -11,7 +11,7 @@ use crate::tree::Node;
 use std::alloc::{AllocError, Global};
 
 /// An expression, computed part by part or step by step.
-#[derive(Debug, Drop)]
+#[derive(Drop)]
 pub(crate) struct Formula {
     parts: Vec<Part>,
     root: usize,

@@ -10,7 +10,7 @@ use crate::tree::Node;
 use std::alloc::AllocError;
 
 /// A part of an expression. An operand is the index of an earlier part.
-#[derive(Clone, Copy, Debug)]
+#[derive(Clone, Copy)]
 pub(crate) enum Part {
     Count,
     Number(u64),

@@ -2,7 +2,7 @@
 // earlier step to go on. Most rules are choices between numbers by such tests.
 ghost use Rattle.std.specs.Prelude.{◌≡◌, ℕ, ◌<◌, ◌++◌, ◌∷◌, [], List, Option, Some, IfOk, IfSome, IfNone, length};
 ghost use Rattle.po_header.specs.TreeValue.{choice, combined};
-ghost use Rattle.po_header.specs.ChoiceSteps.{Adds, IsTest, chosen_step, is_within, measured};
+ghost use Rattle.po_header.specs.ChoiceSteps.{AddsSteps, IsTest, chosen_step, is_within, measured};
 ghost use Rattle.po_header.specs.ChoiceSteps.{node_value, reached, step_value, step_values, value_at};
 
 use crate::token::Operator;
@@ -10,7 +10,7 @@ use crate::tree::Node;
 use std::alloc::AllocError;
 
 /// A step of a decision.
-#[derive(Clone, Copy, Debug)]
+#[derive(Clone, Copy)]
 pub(crate) enum Step {
     Value(u64),
     /// Goes on at one of two earlier steps, by whether `n`, or its remainder where the modulus isn't 0, is
@@ -38,9 +38,9 @@ impl Step {
     }
 }
 
-/// Adds a step, and gives its index.
+/// AddsSteps a step, and gives its index.
 fn add(steps: &mut Vec<Step>, step: Step) -> Result<usize, AllocError>
-    ensures { IfOk result (λ i. Adds steps.old.items steps.new.items i (λ n.
+    ensures { IfOk result (λ i. AddsSteps steps.old.items steps.new.items i (λ n.
         step_value (step_values n steps.old.items) n step)) }
 {
     let i = steps.len();
@@ -63,7 +63,7 @@ fn test_of(operator: Operator, modulus: u64, bound: u64, here: usize, there: usi
     }
 }
 
-/// Adds a test whether `n`, or its remainder, compares so with a number. None where no test says that.
+/// AddsSteps a test whether `n`, or its remainder, compares so with a number. None where no test says that.
 fn add_test(
     steps: &mut Vec<Step>,
     operator: Operator,
@@ -72,7 +72,7 @@ fn add_test(
     here: usize,
     there: usize,
 ) -> Result<Option<usize>, AllocError>
-    ensures { IfOk result (λ found. IfSome found (λ i. Adds steps.old.items steps.new.items i (λ n.
+    ensures { IfOk result (λ found. IfSome found (λ i. AddsSteps steps.old.items steps.new.items i (λ n.
         choice (combined operator (Some (measured modulus n)) (Some bound))
         (reached steps.old.items here n) (reached steps.old.items there n)))) }
 {
@@ -84,7 +84,7 @@ fn add_test(
 }
 
 impl Node {
-    /// Adds steps that go on at one step where the node's value isn't 0, and else at another. None where
+    /// AddsSteps steps that go on at one step where the node's value isn't 0, and else at another. None where
     /// the node is no test.
     fn add_condition(
         &self,
@@ -95,7 +95,7 @@ impl Node {
         requires here_stands { here < length steps.old.items }
         requires there_stands { there < length steps.old.items }
         ensures { IfOk result (λ found. IfSome found (λ i.
-            Adds steps.old.items steps.new.items i (chosen_step steps.old.items self.now here there))) }
+            AddsSteps steps.old.items steps.new.items i (chosen_step steps.old.items self.now here there))) }
     {
         match self {
             Node::OfCount(operator, bound) => add_test(steps, *operator, 0, *bound, here, there),
@@ -122,10 +122,10 @@ impl Node {
         }
     }
 
-    /// Adds steps to the node's value. None where the node is more than choices between numbers by tests.
+    /// AddsSteps steps to the node's value. None where the node is more than choices between numbers by tests.
     pub(crate) fn add_value(&self, steps: &mut Vec<Step>) -> Result<Option<usize>, AllocError>
         ensures { IfOk result (λ found. IfSome found (λ i.
-            Adds steps.old.items steps.new.items i (node_value self.now))) }
+            AddsSteps steps.old.items steps.new.items i (node_value self.now))) }
     {
         match self {
             Node::Number(number) => {

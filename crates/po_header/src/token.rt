@@ -8,7 +8,7 @@ ghost use Rattle.po_header.specs.Tokens.{is_blank, behind_blanks, long_symbol, s
 ghost use Rattle.po_header.specs.Tokens.{decimal_value, below_limit, long_at, Begins};
 
 /// An operator between two operands.
-#[derive(Clone, Copy, Debug)]
+#[derive(Clone, Copy)]
 pub(crate) enum Operator {
     Or,
     And,

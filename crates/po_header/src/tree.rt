@@ -7,7 +7,7 @@ use crate::token::Operator;
 use std::alloc::{AllocError, Global};
 
 /// An expression. The two forms on `n` hold what most rules are made of.
-#[derive(Debug, Drop)]
+#[derive(Drop)]
 pub(crate) enum Node {
     Count,
     Number(u64),

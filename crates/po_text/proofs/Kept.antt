@@ -18,7 +18,7 @@ use Rattle.po_text.specs.Entries.{Entry}
 use Rattle.po_text.specs.Lawful.{IsLawfulIf, HasNoFourIf, IsLawfulTexts}
 use Rattle.po_text.specs.Places.{Place, ContextWord, ContextText, IdWord, IdText, PluralWord, PluralText, place_view}
 use Rattle.po_text.specs.Building.{Draft, draft_of, offsets, first_or, grown, put_text, add_form, new_form, some_if}
-use Rattle.po_text.specs.Buffers.{cut_forms, entry_in, draft_in, IsKept, CanAddText}
+use Rattle.po_text.specs.Buffers.{cut_forms, entry_in, draft_in, IsWellBuilt, CanAddText}
 use Rattle.po_text.proofs.Drafts.{same_entry}
 use Rattle.po_text.proofs.Lawful.{lawful_nil, lawful_append}
 
@@ -62,13 +62,13 @@ entry_is b e same =
     (ap (λ (d : Draft). d.plural) same) (cut_again e.forms b.forms.items b.starts.items
     (ap (λ (d : Draft). d.flat) same) (ap (λ (d : Draft). d.starts) same))
 
-pub is_kept : (b : Inside) (e : Entry) → draft_in b ≡ draft_of e → IsLawfulTexts e → IsKept b
+pub is_kept : (b : Inside) (e : Entry) → draft_in b ≡ draft_of e → IsLawfulTexts e → IsWellBuilt b
 is_kept b e same lawful =
     let is = entry_is b e same in
     record { laid_out = same ∙ ap draft_of (sym is); lawful = subst IsLawfulTexts (sym is) lawful }
 
 -- the draft of buffers that are kept
-pub draft_is : (b : Inside) → IsKept b → draft_of (entry_in b) ≡ draft_in b
+pub draft_is : (b : Inside) → IsWellBuilt b → draft_of (entry_in b) ≡ draft_in b
 draft_is b h = sym h.laid_out
 
 -- ---- no texts
@@ -340,7 +340,7 @@ form_begun e h = (
 )
 
 -- buffers whose draft became this one
-pub kept_as : (b : Inside) (d : Draft) → draft_in b ≡ d → Becomes d → IsKept b
+pub kept_as : (b : Inside) (d : Draft) → draft_in b ≡ d → Becomes d → IsWellBuilt b
 kept_as b d is (e, same, lawful) = is_kept b e (is ∙ same) lawful
 
 -- ---- buffers that grow
@@ -355,22 +355,23 @@ abbrev pub Grows : Bool → Draft → Draft → Draft → Type 0
 Grows ok new old target = new ≡ (if ok then target else old)
 
 -- the draft of what is kept
-pub draft_of_view : (b : Inside) (e : Entry) → entry_in b ≡ e → IsKept b → draft_in b ≡ draft_of e
+pub draft_of_view : (b : Inside) (e : Entry) → entry_in b ≡ e → IsWellBuilt b → draft_in b ≡ draft_of e
 draft_of_view b e view h = h.laid_out ∙ ap draft_of view
 
-lawful_view : (b : Inside) (e : Entry) → entry_in b ≡ e → IsKept b → IsLawfulTexts e
+lawful_view : (b : Inside) (e : Entry) → entry_in b ≡ e → IsWellBuilt b → IsLawfulTexts e
 lawful_view b e view h = subst IsLawfulTexts view h.lawful
 
-pub text_kept : (ok : Bool) (p : Place) (old new : Inside) (e : Entry) (bytes : List ℕ) → entry_in old ≡ e → IsKept old
+pub text_kept : (ok : Bool) (p : Place) (old new : Inside) (e : Entry) (bytes : List ℕ) → entry_in old ≡ e
+    → IsWellBuilt old
     → IsLawful bytes → CanAddText p bytes (draft_of e) → Grows ok (draft_in new) (draft_in old)
-    (put_text p bytes (draft_in old)) → IsKept new
+    (put_text p bytes (draft_in old)) → IsWellBuilt new
 text_kept true p old new e bytes view h l can is = kept_as new (put_text p bytes (draft_of e))
     (is ∙ ap (put_text p bytes) (draft_of_view old e view h)) (text_added p e bytes l can (lawful_view old e view h))
 text_kept false p old new e bytes view h l can is = is_kept new e (is ∙ draft_of_view old e view h)
     (lawful_view old e view h)
 
 pub text_put : (r : Result (Unit {0}) AllocError) (p : Place) (old new : Inside) (e : Entry) (bytes : List ℕ)
-    → entry_in old ≡ e → IsKept old → IsKept new → Grows (is_ok r) (draft_in new) (draft_in old)
+    → entry_in old ≡ e → IsWellBuilt old → IsWellBuilt new → Grows (is_ok r) (draft_in new) (draft_in old)
     (put_text p bytes (draft_in old)) → OnOk r (draft_of (entry_in new) ≡ put_text p bytes (draft_of e))
 text_put (Ok u) p old new e bytes view h h' is = draft_is new h' ∙ is
     ∙ ap (put_text p bytes) (draft_of_view old e view h)
@@ -538,12 +539,12 @@ form_grows p k ok new bytes b c c' i i' q q' e =
     grew ok new b.forms.items bytes make (put_text (place_view p k) bytes (draft_in b))
     (form_place p k bytes (draft_in b) c c' i i' q q') e
 
-pub form_kept : (b new : Inside) (e : Entry) → entry_in b ≡ e → IsKept b → draft_in new ≡ new_form (draft_in b)
-    → IsKept new
+pub form_kept : (b new : Inside) (e : Entry) → entry_in b ≡ e → IsWellBuilt b → draft_in new ≡ new_form (draft_in b)
+    → IsWellBuilt new
 form_kept b new e view h is = kept_as new (new_form (draft_of e)) (is ∙ ap new_form (draft_of_view b e view h))
     (form_begun e (lawful_view b e view h))
 
-pub form_put : (b new : Inside) (e : Entry) → entry_in b ≡ e → IsKept b → IsKept new → draft_in new
+pub form_put : (b new : Inside) (e : Entry) → entry_in b ≡ e → IsWellBuilt b → IsWellBuilt new → draft_in new
     ≡ new_form (draft_in b) → draft_of (entry_in new) ≡ new_form (draft_of e)
 form_put b new e view h h' is = draft_is new h' ∙ is ∙ ap new_form (draft_of_view b e view h)
 
@@ -553,7 +554,7 @@ length-offsets : (k : ℕ) (forms : List (List ℕ)) → length (offsets k forms
 length-offsets k [] = refl
 length-offsets k (f ∷ forms) = ap suc (length-offsets (k + length f) forms)
 
-pub count_is : (b : Inside) (e : Entry) → entry_in b ≡ e → IsKept b → length b.starts.items ≡ length e.forms
+pub count_is : (b : Inside) (e : Entry) → entry_in b ≡ e → IsWellBuilt b → length b.starts.items ≡ length e.forms
 count_is b e view h = ap (λ (d : Draft). length d.starts) (draft_of_view b e view h) ∙ length-offsets 0 e.forms
 
 -- where the form with this index stands
@@ -600,7 +601,7 @@ form_behind front (f ∷ forms) (suc k) lt =
       lawful = λ all. h'.lawful all.1;
     }
 
-pub form_at : (b : Inside) (e : Entry) (k : ℕ) → entry_in b ≡ e → IsKept b → k < length e.forms
+pub form_at : (b : Inside) (e : Entry) (k : ℕ) → entry_in b ≡ e → IsWellBuilt b → k < length e.forms
     → FormAt b.forms.items b.starts.items e.forms k
 form_at b e k view h lt =
     let d = draft_of_view b e view h in
@@ -608,7 +609,7 @@ form_at b e k view h lt =
     subst (λ (x : List ℕ). FormAt x b.starts.items e.forms k) (sym (ap (λ (d : Draft). d.flat) d))
     (subst (λ (x : List ℕ). FormAt (concat e.forms) x e.forms k) (sym (ap (λ (d : Draft). d.starts) d)) at)
 
-pub forms_lawful : (b : Inside) (e : Entry) → entry_in b ≡ e → IsKept b → AllByRecursion IsLawful e.forms
+pub forms_lawful : (b : Inside) (e : Entry) → entry_in b ≡ e → IsWellBuilt b → AllByRecursion IsLawful e.forms
 forms_lawful b e view h = (lawful_view b e view h).forms
 
 -- one form more was copied

@@ -39,7 +39,7 @@ draft_in b = record {
 }
 
 -- the forms stand one behind the other, and the texts are lawful
-pub record IsKept (b : Inside) : Type 0 where
+pub record IsWellBuilt (b : Inside) : Type 0 where
   pub laid_out : draft_in b ≡ draft_of (entry_in b)
   pub lawful : IsLawfulTexts (entry_in b)
 

@@ -41,11 +41,11 @@ impl Model for EntryBuffer {
 
     ghost Value = { Entry };
 
-    ghost use Rattle.po_text.specs.Buffers.{IsKept, entry_in};
+    ghost use Rattle.po_text.specs.Buffers.{IsWellBuilt, entry_in};
 
     ghost view = { entry_in };
 
-    ghost invariant = { IsKept };
+    ghost invariant = { IsWellBuilt };
 }
 
 /// These bytes as a text.

@@ -26,6 +26,13 @@ fn takes_names(rt: HostRuntime) -> Result<(), Fail> {
     for good in NAMES {
         assert!(rt; is_taken(rt.alloc(), good)?, "{good}");
     }
+    for len in 1..65usize {
+        let front = LETTERS.split_at_checked(len);
+        assert!(rt;
+            is_taken(rt.alloc(), front.map_or("", |(name, _)| name))?,
+            "{len}"
+        );
+    }
     Ok(())
 }
 

@@ -237,6 +237,41 @@ fn replaces_a_catalogue(rt: HostRuntime) -> Result<(), Fail> {
     Ok(())
 }
 
+/// Takes the load of one more locale, and says whether the set and a copy of it have it then.
+fn takes_locale(
+    alloc: Global,
+    set: &mut CatalogueSet,
+    catalogue: &Arc<Catalogue>,
+    number: u64,
+) -> Result<bool, Fail> {
+    let locale = format!(in alloc; "l{number}")?;
+    let load = Load {
+        domain: name(alloc, "app")?,
+        locale: name(alloc, locale.as_str())?,
+        catalogue: Arc::try_clone(catalogue)?,
+    };
+    set.absorb(&load)?;
+    let copy = set.try_clone(alloc)?;
+    Ok(
+        set.gettext("app", locale.as_str(), "hi") == "salut"
+            && copy.gettext("app", locale.as_str(), "hi") == "salut"
+            && copy.version() == number,
+    )
+}
+
+#[test]
+fn takes_any_number_of_loads(rt: HostRuntime) -> Result<(), Fail> {
+    let catalogue = shared(rt.alloc(), catalogue_of(rt.alloc(), SALUT)?)?;
+    let mut set = CatalogueSet::new(rt.alloc());
+    for number in 1..1026u64 {
+        assert!(rt;
+            takes_locale(rt.alloc(), &mut set, &catalogue, number)?,
+            "{number}"
+        );
+    }
+    Ok(())
+}
+
 #[test]
 fn answers_in_contexts(rt: HostRuntime) -> Result<(), Fail> {
     let alloc = rt.alloc();

@@ -264,6 +264,12 @@ fn a_device_fails_at_its_first_call(rt: HostRuntime) {
             "msgfmt: cannot read in.po\n",
         ),
         (
+            "-o out.mo in.po",
+            unwritten,
+            Cause::CannotWrite,
+            "msgfmt: cannot write out.mo\n",
+        ),
+        (
             "--statistics in.po",
             unwritten,
             Cause::CannotWrite,

@@ -3,7 +3,7 @@ use Rattle.std.specs.Prelude.{All}
 use Rattle.std.proofs.lemmas.List.{take_all}
 use Rattle.std.proofs.lemmas.List.Elements.{All-more}
 use Rattle.mo_file.specs.declared.claims.Claim.{Claim}
-use Rattle.mo_file.specs.Claims.{Holds}
+use Rattle.mo_file.specs.Claims.{ClaimHolds}
 use Rattle.mo_file.proofs.KeyOrder.{decided}
 use Rattle.mo_file.proofs.claims.all_hold.Goals as goal
 
@@ -40,13 +40,13 @@ claims-preserved c =
     record {
       alike = c.compared-alike.ensures.alike;
       period = c.learnt-period.ensures;
-      held = All-more (Holds c.args.bytes.now) c.args.claims.now c.claims.claim-index nowhere c.claims-test.true
+      held = All-more (ClaimHolds c.args.bytes.now) c.args.claims.now c.claims.claim-index nowhere c.claims-test.true
           c.claims.invariant.held held;
     }
 
 pub returns : goal.returns
 returns c = (
-  λ e. subst (All (Holds c.args.bytes.now)) (take_all c.claims.claim-index c.args.claims.now c.claims-test.false)
+  λ e. subst (All (ClaimHolds c.args.bytes.now)) (take_all c.claims.claim-index c.args.claims.now c.claims-test.false)
       c.claims.invariant.held,
   λ all. refl,
 )

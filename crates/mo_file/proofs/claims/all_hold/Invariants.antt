@@ -1,11 +1,11 @@
 use Rattle.std.proofs.Common.{take}
 use Rattle.std.specs.Prelude.{All}
-use Rattle.mo_file.specs.Claims.{IsAlike, Holds}
+use Rattle.mo_file.specs.Claims.{IsAlike, ClaimHolds}
 use Rattle.mo_file.proofs.claims.all_hold.Given as goal
 
 abbrev pub invariant-claims : goal.invariant-claims
 invariant-claims l = record {
   alike : IsAlike l.bytes l.alike;
   period : IsAlike l.bytes l.period;
-  held : All (Holds l.bytes) (take l.claim-index l.claims);
+  held : All (ClaimHolds l.bytes) (take l.claim-index l.claims);
 }

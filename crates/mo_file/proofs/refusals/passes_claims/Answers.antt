@@ -1,6 +1,6 @@
 use Rattle.mo_file.specs.declared.claims.Claim.{Claim}
 use Rattle.std.proofs.Common.{◌≤◌, ℕ, List, length}
-use Rattle.mo_file.specs.Claims.{Holds, ClaimLies}
+use Rattle.mo_file.specs.Claims.{ClaimHolds, ClaimLies}
 use Rattle.mo_file.proofs.RowSweeps.{there, back}
 use Rattle.mo_file.proofs.TableRows.{claims_in, starts_in}
 use Rattle.mo_file.proofs.refusals.passes_claims.Goals as goal
@@ -20,6 +20,6 @@ returns g c =
     let same = claims_in g.T.ByteOrder.number_of bytes c.requires.lies c.requires.closed in
     let listed = c.in_ok-read_claims.field-0.items in
     let sorted = c.in_order-claims.result.items in (
-      λ e. same.0 (rw claims at (back (Holds bytes) listed sorted c.in_order-claims.ensures (says.0 e))),
-      λ rise. says.1 (there (Holds bytes) listed sorted c.in_order-claims.ensures (rw claims (same.1 rise))),
+      λ e. same.0 (rw claims at (back (ClaimHolds bytes) listed sorted c.in_order-claims.ensures (says.0 e))),
+      λ rise. says.1 (there (ClaimHolds bytes) listed sorted c.in_order-claims.ensures (rw claims (same.1 rise))),
     )

@@ -1,7 +1,0 @@
-use Rattle.std.proofs.Common.{◌∙◌, sym, ap}
-use Rattle.mo_image.specs.Entry.{key}
-use Rattle.mo_image.proofs.Originals.{key_is}
-use Rattle.mo_image.proofs.entry.EntryRef.original.Goals as goal
-
-pub returns : goal.returns
-returns c = sym (key_is c.self.inside.original.now c.self.inside.translation.now) ∙ ap key c.self.view_is
