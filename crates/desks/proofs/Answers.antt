@@ -8,7 +8,7 @@ use Rattle.live_set.specs.Asks.{IsAnswer as HasText}
 use Rattle.live_versions.specs.Batches.{joined, version_of, StartsWith}
 use Rattle.live_versions.proofs.Joining.{joined-append, begins_trans, begins_refl}
 use Rattle.desks.specs.declared.desk.Answer.{Answer}
-use Rattle.desks.specs.Answers.{IsAnswer, Answered}
+use Rattle.desks.specs.Answers.{IsVersionedAnswer, Answered}
 
 take_front : (xs ys : List LoadValue) → take (length xs) (xs ++ ys) ≡ xs
 take_front [] ys = refl
@@ -28,7 +28,7 @@ version_grows batches front st =
 
 -- an answer stays one as the list grows
 pub answer_grows : (new old : List (List LoadValue)) (q : QueryValue) (a : Answer) → StartsWith new old
-    → IsAnswer old q a → IsAnswer new q a
+    → IsVersionedAnswer old q a → IsVersionedAnswer new q a
 answer_grows new old q a st is =
     let far : StartsWith new is.front = begins_trans new old is.front st is.begins in
     let here : take a.version (joined old) ≡ joined is.front = ap (λ n. take n (joined old)) is.version_is
@@ -59,7 +59,7 @@ pub answered_more : (new old : List (List LoadValue)) (least : ℕ) (qs : List Q
 answered_more new old least [] [] q a st le version is h =
     let all : take a.version (joined new) ≡ joined new = ap (λ n. take n (joined new)) version
     ∙ first_loads new new (begins_refl new) in
-    let one : IsAnswer new q a = record {
+    let one : IsVersionedAnswer new q a = record {
       front = new;
       begins = begins_refl new;
       version_is = version;

@@ -1,4 +1,5 @@
 -- Lists of desks, member by member.
+use Rattle.std.specs.Prelude.{IfSome}
 use Rattle.std.specs.List.{AllZip, AllByRecursion}
 use Rattle.std.proofs.Common.{◌≡◌, ◌≢◌, ◌≤◌, max, List, [], ◌∷◌, None, Some, sym, refl, ap, ◌∙◌, subst}
 use Rattle.std.proofs.Common.{arith}
@@ -9,8 +10,8 @@ use Rattle.desks.specs.declared.desk.Desk.{Desk}
 use Rattle.desks.specs.declared.desk.ServeFault.{ServeFault}
 use Rattle.desks.specs.declared.desk.ServeFault.TheVariants as fault
 use Rattle.desks.specs.Answers.{Answered}
-use Rattle.desks.specs.Desks.{EndsAhead, IsKept, IsServed}
-use Rattle.desks.specs.Working.{HasLearnt, Worked, Settled}
+use Rattle.desks.specs.Desks.{EndsAhead, KeepsDesk, IsServed}
+use Rattle.desks.specs.Working.{HasLearnt, Worked, Settled, OfWork}
 use Rattle.desks.proofs.Answers.{answered_grows, answered_less, version_grows}
 
 -- ---- lists
@@ -52,45 +53,45 @@ each_with P Q A to (d ∷ ds) [] h a = absurd h
 
 -- ---- desks
 
-pub kept_refl : (d : Desk) → IsKept d d
+pub kept_refl : (d : Desk) → KeepsDesk d d
 kept_refl d = record { queries = refl; book = refl; seen = begins_refl d.reader.batches }
 
-kept_trans : (d e f : Desk) → IsKept d e → IsKept e f → IsKept d f
+kept_trans : (d e f : Desk) → KeepsDesk d e → KeepsDesk e f → KeepsDesk d f
 kept_trans d e f h k = record {
   queries = k.queries ∙ h.queries;
   book = k.book ∙ h.book;
   seen = begins_trans f.reader.batches e.reader.batches d.reader.batches k.seen h.seen;
 }
 
-pub kept_all : (ds : List Desk) → AllZip IsKept ds ds
-kept_all ds = each_refl IsKept kept_refl ds
+pub kept_all : (ds : List Desk) → AllZip KeepsDesk ds ds
+kept_all ds = each_refl KeepsDesk kept_refl ds
 
-learnt_kept : (f : SeenValue) (d e : Desk) → HasLearnt f d e → IsKept d e
+learnt_kept : (f : SeenValue) (d e : Desk) → HasLearnt f d e → KeepsDesk d e
 learnt_kept f d e h = record { queries = h.queries; book = h.book; seen = h.seen }
 
 -- desks that learnt and were worked are kept
 pub worked_kept : (f : SeenValue) (ds es fs : List Desk) → AllZip (HasLearnt f) ds es → AllZip Worked es fs
-    → AllZip IsKept ds fs
+    → AllZip KeepsDesk ds fs
 worked_kept f ds es fs h k =
-    each_then (HasLearnt f) Worked IsKept (λ d e z l w. kept_trans d e z (learnt_kept f d e l) w.kept) ds es fs h k
+    each_then (HasLearnt f) Worked KeepsDesk (λ d e z l w. kept_trans d e z (learnt_kept f d e l) w.kept) ds es fs h k
 
-pub kept_then : (ds es fs : List Desk) → AllZip IsKept ds es → AllZip IsKept es fs → AllZip IsKept ds fs
-kept_then ds es fs h k = each_then IsKept IsKept IsKept kept_trans ds es fs h k
+pub kept_then : (ds es fs : List Desk) → AllZip KeepsDesk ds es → AllZip KeepsDesk es fs → AllZip KeepsDesk ds fs
+kept_then ds es fs h k = each_then KeepsDesk KeepsDesk KeepsDesk kept_trans ds es fs h k
 
-pub worked_not_ahead : (ds es : List Desk) → AllZip Worked ds es → AllByRecursion (λ d. d.fault ≢ Some fault.Ahead) es
+pub worked_not_ahead : (ds es : List Desk) → AllZip Worked ds es → AllByRecursion (λ d. IfSome d.fault OfWork) es
 worked_not_ahead [] [] h = tt
-worked_not_ahead (d ∷ ds) (e ∷ es) h = (h.0.not_ahead, worked_not_ahead ds es h.1)
+worked_not_ahead (d ∷ ds) (e ∷ es) h = (h.0.of_work, worked_not_ahead ds es h.1)
 worked_not_ahead [] (e ∷ es) h = absurd h
 worked_not_ahead (d ∷ ds) [] h = absurd h
 
 -- the readers are of one book still
 pub kept_book : (f g : SeenValue) (ds es : List Desk) → g.book ≡ f.book
-    → AllByRecursion (λ d. d.reader.book ≡ f.book) ds → AllZip IsKept ds es
+    → AllByRecursion (λ d. d.reader.book ≡ f.book) ds → AllZip KeepsDesk ds es
     → AllByRecursion (λ d. d.reader.book ≡ g.book) es
 kept_book f g ds es same all h =
     let A : Desk → Type 0 = λ d. d.reader.book ≡ f.book in
     let B : Desk → Type 0 = λ d. d.reader.book ≡ g.book in
-    each_every IsKept A B (λ d e a k. k.book ∙ a ∙ sym same) ds es all h
+    each_every KeepsDesk A B (λ d e a k. k.book ∙ a ∙ sym same) ds es all h
 
 -- a desk that learnt, was worked with no fault, and settled
 served_one : (start end : SeenValue) (d e f z : Desk) → HasLearnt start d e → Worked e f → f.fault ≡ None
@@ -105,6 +106,8 @@ served_one start end d e f z l w none s =
     let now = answered_grows end.batches f.reader.batches least e.queries.items f.answers.items s.later here in
     record {
       reader = s.reader;
+      later = begins_trans end.batches f.reader.batches d.reader.batches s.later
+          (begins_trans f.reader.batches e.reader.batches d.reader.batches w.kept.seen l.seen);
       queries = s.queries ∙ w.kept.queries ∙ l.queries;
       fault = s.fault ∙ none;
       answered =
@@ -126,9 +129,9 @@ served_all start end (d ∷ ds) (e ∷ es) [] zs l w n s = absurd w
 served_all start end [] [] [] (z ∷ zs) l w n s = absurd s
 served_all start end (d ∷ ds) (e ∷ es) (f ∷ fs) [] l w n s = absurd s
 
--- a fault that isn't `Ahead` needs no reader that is
-pub other_fault : (end : SeenValue) (desks : List Desk) (e : ServeFault) → e ≢ fault.Ahead → EndsAhead end desks e
-other_fault end desks fault.Memory not = tt
-other_fault end desks fault.Ahead not = absurd (not refl)
-other_fault end desks fault.Join not = tt
-other_fault end desks fault.Closed not = tt
+-- a fault of the work needs no reader that is ahead
+pub other_fault : (end : SeenValue) (desks : List Desk) (e : ServeFault) → OfWork e → EndsAhead end desks e
+other_fault end desks fault.Memory is = tt
+other_fault end desks fault.Ahead is = absurd is
+other_fault end desks fault.Join is = absurd is
+other_fault end desks fault.Closed is = tt

@@ -10,7 +10,7 @@ use Rattle.live_versions.specs.declared.fault.StoreFault.{StoreFault}
 use Rattle.live_versions.specs.declared.fault.StoreFault.TheVariants as fault
 use Rattle.live_versions.specs.Batches.{published}
 use Rattle.live_versions.specs.Seen.{SeenValue}
-use Rattle.live_versions.specs.Store.{StoreValue, Adds, Accepts, IsFileFault, IsRefusedFor, IsRefusedMo}
+use Rattle.live_versions.specs.Store.{StoreValue, AddsLoad, Accepts, IsFileFault, IsRefusedFor, IsRefusedMo}
 use Rattle.desks.specs.declared.job.Accepted.{Accepted}
 use Rattle.desks.specs.declared.job.Accepted.TheVariants as accepted
 use Rattle.desks.specs.Jobs.{SourceValue, Po, Mo, JobValue, Outcome, after_publish, Brings, IsSourceFault, IsAccepted}
@@ -29,8 +29,8 @@ accepted_po s t job domain locale text options stats d l is accepts =
     (accepts.compiled, accepts.means, accepts.stats_are, refl) in (
       map,
       subst (λ (x : SourceValue). Brings x (accepted.Po stats) map) (sym is) brings,
-      subst (λ (x : List ℕ). Adds s x job.locale map t) (sym d) (subst (λ (x : List ℕ). Adds s domain x map t) (sym l)
-          accepts.adds),
+      subst (λ (x : List ℕ). AddsLoad s x job.locale map t) (sym d)
+          (subst (λ (x : List ℕ). AddsLoad s domain x map t) (sym l) accepts.adds),
     )
 
 -- a refused one of a job that is an MO file

@@ -5,3 +5,4 @@ pub mod OneEnd
 pub mod OneHistory
 pub mod Runs
 pub mod Weaving
+pub mod Learning

@@ -1,8 +1,9 @@
 -- A store that was served has one history: that of the publishing thread, into which each worker's answers are put.
 use Rattle.std.specs.List.{AllZip}
-use Rattle.std.proofs.Common.{◌≡◌, ℕ, zero, suc, ◌+◌, ◌<◌, ◌==◌, false, max, List, [], ◌∷◌, ◌++◌, Ok, Err}
+use Rattle.std.proofs.Common.{◌≡◌, ℕ, zero, suc, ◌+◌, ◌<◌, ◌≤◌, ◌==◌, false, max, List, [], ◌∷◌, ◌++◌, length, Ok, Err}
 use Rattle.std.proofs.Common.{sym, refl, ap, ◌∙◌, subst, arith}
 use Rattle.std.proofs.lemmas.Bool.Decides.{nat_tests}
+use Rattle.std.proofs.lemmas.List.{append-nil}
 use Rattle.live_set.specs.Loads.{LoadValue}
 use Rattle.live_versions.specs.Seen.{SeenValue}
 use Rattle.live_versions.specs.Batches.{version_of}
@@ -17,6 +18,8 @@ use Rattle.desks.specs.ServedHistory.{seen_by, queries_of, answers_of, start_of,
 use Rattle.desks.specs.ServedHistory.{without_entries, AreJobs, IsWork, HasOneHistory}
 use Rattle.desks.proofs.Runs.{Runs, runs_legal, Level, level_trans, AreBelow, no_entries, work_all}
 use Rattle.desks.proofs.Weaving.{AreLeft, Woven, weave}
+use Rattle.desks.proofs.Learning.{learns, runs_append, state_append, entries_append, work_append, entries_learns}
+use Rattle.desks.proofs.Learning.{work_learns, runs_learns, level_learns, seen_learns, all_low, before_low, after_is}
 
 -- ---- the publishing thread
 
@@ -164,14 +167,37 @@ one_history s t jobs outcomes before after done served =
     let seen : (reader worker : ℕ) → reader ≡ 0 + worker → start.seen reader ≡ seen_by before worker =
     λ reader worker this. ap (seen_by before) (omega (arith, this)) in
     let all : AllWoven s.most 0 start events before after = weave_all s.most 0 start events s.seen t.seen before after
-    runs below (sym work.level.batches) refl seen served in (
-      all.history,
+    runs below (sym work.level.batches) refl seen served in
+    let h : List Event = all.history in
+    let end : ℕ = version_of t.seen.batches in
+    let made : State = state_from start h in
+    let told : List Event = learns 0 end after in
+    let batches : made.batches ≡ t.seen.batches = all.level.batches ∙ work.level.batches in
+    let here : end ≡ version_of made.batches = ap version_of (sym batches) in
+    let same : Level made (state_from made told) = level_learns 0 end made after in
+    let split : state_from start (h ++ told) ≡ state_from made told = state_append start h told in
+    let low : (reader : ℕ) → made.seen reader ≤ end = all_low s.most start h end all.runs (omega (arith, here))
+    (λ reader. before_low s.seen t.seen before after reader served) in (
+      h ++ told,
       record {
-        legal = runs_legal s.most start all.history all.runs;
-        batches = all.level.batches ∙ work.level.batches;
-        pending = all.level.pending ∙ work.level.pending;
-        work = subst (λ (l : List Event). IsWork jobs outcomes l) (sym all.work)
+        legal = runs_legal s.most start (h ++ told)
+            (runs_append s.most start h told all.runs (runs_learns s.most 0 end made after here));
+        batches = ap (λ (x : State). x.batches) split ∙ (sym same.batches ∙ batches);
+        pending = ap (λ (x : State). x.pending) split
+            ∙ (sym same.pending ∙ (all.level.pending ∙ work.level.pending));
+        work = subst (λ (l : List Event). IsWork jobs outcomes l)
+            (sym (work_append h told (work_learns 0 end after) ∙ all.work))
             (work_is jobs outcomes work.history work.below work.jobs_are);
-        answers = λ worker. all.mine worker worker (omega arith);
+        answers = λ worker. subst
+            (λ (l : List Entry). AreAnswersOf l (queries_of before worker) (answers_of after worker))
+            (sym (entries_append worker start h told ∙ (ap (λ (l : List Entry). entries worker start h ++ l)
+            (entries_learns worker 0 end made after) ∙ append-nil (entries worker start h))))
+            (all.mine worker worker (omega arith));
+        seen = λ worker less.
+            let from : 0 + worker ≡ worker = omega arith in
+            ap (λ (x : State). x.seen worker) split
+            ∙ (subst (λ (r : ℕ). (state_from made told).seen r ≡ end) from
+            (seen_learns 0 end worker made after less low)
+            ∙ sym (after_is s.seen t.seen before after worker served less));
       },
     )

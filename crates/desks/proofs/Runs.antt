@@ -1,22 +1,23 @@
 -- Histories event by event: what an event needs of the lists, and what is the same in two states.
 use Rattle.std.proofs.Common.{◌≡◌, ℕ, ◌+◌, ◌≤◌, ◌<◌, ◌==◌, Bool, false, if◌then◌else◌, List, [], ◌∷◌, ◌++◌}
-use Rattle.std.proofs.Common.{length, refl, ap, ◌∙◌, subst, arith}
+use Rattle.std.proofs.Common.{length, refl, sym, ap, ◌∙◌, subst, arith}
 use Rattle.std.specs.Prelude.{⊤}
 use Rattle.std.proofs.lemmas.Bool.Decides.{nat_tests}
+use Rattle.std.proofs.lemmas.List.{append-nil}
 use Rattle.live_versions.specs.Batches.{version_of, StartsWith, published}
 use Rattle.live_versions.specs.History.{Event, State, Accept, Refuse, Publish, Enter, Learn, after, state_from}
 use Rattle.live_versions.specs.History.{MayFollow, IsLegalFrom}
 use Rattle.live_versions.proofs.Joining.{begins_refl, begins_trans, begins-published}
 use Rattle.desks.specs.ServedHistory.{entry_in, entries, without_entries}
 
--- ---- what an event needs, where no reader learns
+-- ---- what an event needs, where a reader learns only what is published
 
 abbrev pub May : ℕ → State → Event → Type 0
 May most s (Accept load) = version_of s.batches + length s.pending < most
 May most s Refuse = ⊤
 May most s Publish = ⊤
 May most s (Enter reader version) = version ≡ version_of s.batches
-May most s (Learn reader version) = ⊥
+May most s (Learn reader version) = version ≡ version_of s.batches
 
 abbrev pub Runs : ℕ → State → List Event → Type 0
 Runs most s [] = ⊤
@@ -28,7 +29,7 @@ may_follow most s first (Accept load) may = may
 may_follow most s first Refuse may = tt
 may_follow most s first Publish may = tt
 may_follow most s first (Enter reader version) may = may
-may_follow most s first (Learn reader version) may = absurd may
+may_follow most s first (Learn reader version) may = (first, [], sym (append-nil first), may)
 
 runs_at : (most : ℕ) (s : State) (first : List Event) (e : Event) (rest : List Event)
     → Runs most s (first ++ e ∷ rest) → May most (state_from s first) e
@@ -70,7 +71,7 @@ may_level most s u (Accept load) same may =
 may_level most s u Refuse same may = tt
 may_level most s u Publish same may = tt
 may_level most s u (Enter reader version) same may = may ∙ ap version_of same.batches
-may_level most s u (Learn reader version) same may = may
+may_level most s u (Learn reader version) same may = may ∙ ap version_of same.batches
 
 pub runs_level : (most : ℕ) (s u : State) (events : List Event) → Level s u → Runs most s events → Runs most u events
 runs_level most s u [] same runs = tt
@@ -170,7 +171,7 @@ work_more (Accept load) a b same = ap (λ l. Accept load ∷ l) same
 work_more Refuse a b same = ap (λ l. Refuse ∷ l) same
 work_more Publish a b same = ap (λ l. Publish ∷ l) same
 work_more (Enter reader version) a b same = same
-work_more (Learn reader version) a b same = ap (λ l. Learn reader version ∷ l) same
+work_more (Learn reader version) a b same = same
 
 -- before any reader has entered these are all
 pub work_all : (events : List Event) → AreBelow 0 events → without_entries events ≡ events

@@ -13,7 +13,7 @@ use Rattle.live_versions.specs.History.{Event, State, Accept, Refuse, Publish, E
 use Rattle.live_versions.specs.History.{with_seen}
 use Rattle.live_versions.proofs.Joining.{joined-append}
 use Rattle.desks.specs.declared.desk.Answer.{Answer}
-use Rattle.desks.specs.Answers.{IsAnswer, Answered}
+use Rattle.desks.specs.Answers.{IsVersionedAnswer, Answered}
 use Rattle.desks.specs.ServedHistory.{Entry, IsAnswerOf, AreAnswersOf, entry_in, entries, without_entries}
 use Rattle.desks.proofs.Runs.{May, Runs, Level, level_from, level_trans, runs_level, grows}
 use Rattle.desks.proofs.Runs.{IsBelow, AreBelow, below_more, no_entry_in, entries_alike, work_more}
@@ -111,7 +111,7 @@ left_after worker end s e [] [] is begins left later = record {
 left_after worker end s e [] (answer ∷ answers) is begins left later = absurd left.answered
 left_after worker end s e (query ∷ queries) [] is begins left later = absurd left.answered
 left_after worker end s e (query ∷ queries) (answer ∷ answers) is begins left later =
-    let one : IsAnswer end query answer = left.answered.1 in
+    let one : IsVersionedAnswer end query answer = left.answered.1 in
     let no : answer.version ≢ version_of s.batches = grind (arith, nat_tests, later) in
     let least = left.answered.0 in
     let less : version_of s.batches < version_of one.front = omega
@@ -246,7 +246,7 @@ none_left most worker s end [] [] is left later = record {
 none_left most worker s end [] (answer ∷ answers) is left later = absurd left.answered
 none_left most worker s end (query ∷ queries) [] is left later = absurd left.answered
 none_left most worker s end (query ∷ queries) (answer ∷ answers) is left later =
-    let one : IsAnswer end query answer = left.answered.1 in
+    let one : IsVersionedAnswer end query answer = left.answered.1 in
     let no : answer.version ≢ version_of s.batches = grind (arith, nat_tests, later) in
     let far = version_front end one.front one.begins in
     let same : version_of end ≡ version_of s.batches = ap version_of is in

@@ -8,7 +8,7 @@ use Rattle.live_versions.specs.Batches.{joined, version_of, StartsWith}
 use Rattle.desks.specs.declared.desk.Answer.{Answer}
 
 -- the version is that of whole batches, those published first, and the text is the query's over so many loads
-pub record IsAnswer (batches : List (List LoadValue)) (query : QueryValue) (answer : Answer) : Type 0 where
+pub record IsVersionedAnswer (batches : List (List LoadValue)) (query : QueryValue) (answer : Answer) : Type 0 where
   pub front : List (List LoadValue)
   pub begins : StartsWith batches front
   pub version_is : answer.version ≡ version_of front
@@ -18,5 +18,5 @@ pub record IsAnswer (batches : List (List LoadValue)) (query : QueryValue) (answ
 abbrev pub Answered : List (List LoadValue) → ℕ → List QueryValue → List Answer → Type 0
 Answered batches least [] [] = ⊤
 Answered batches least (query ∷ queries) (answer ∷ answers) = (least ≤ answer.version)
-    × IsAnswer batches query answer × Answered batches answer.version queries answers
+    × IsVersionedAnswer batches query answer × Answered batches answer.version queries answers
 Answered batches least _ _ = ⊥

@@ -4,7 +4,7 @@ use Rattle.live_versions.specs.Seen.{SeenValue}
 use Rattle.live_versions.specs.Batches.{version_of, StartsWith}
 use Rattle.desks.specs.declared.desk.Desk.{Desk}
 use Rattle.desks.specs.declared.desk.ServeFault.{ServeFault}
-use Rattle.desks.specs.declared.desk.ServeFault.TheVariants.{Ahead}
+use Rattle.desks.specs.declared.desk.ServeFault.TheVariants.{Ahead, Join}
 use Rattle.desks.specs.Answers.{Answered}
 
 -- it holds of a desk, at least (of two lists of desks, member by member, it is `AllZip` of the library that holds)
@@ -13,7 +13,7 @@ AtSome P [] = ⊥
 AtSome P (desk ∷ desks) = P desk ⊎ AtSome P desks
 
 -- the queries stay, and the reader stays in its store and has seen all that it had seen
-pub record IsKept (desk after : Desk) : Type 0 where
+pub record KeepsDesk (desk after : Desk) : Type 0 where
   pub queries : after.queries ≡ desk.queries
   pub book : after.reader.book ≡ desk.reader.book
   pub seen : StartsWith after.reader.batches desk.reader.batches
@@ -22,12 +22,14 @@ pub record IsKept (desk after : Desk) : Type 0 where
 -- is below what the reader had seen, nor below what was published at the start.
 pub record IsServed (start end : SeenValue) (desk after : Desk) : Type 0 where
   pub reader : after.reader ≡ end
+  pub later : StartsWith end.batches desk.reader.batches
   pub queries : after.queries ≡ desk.queries
   pub fault : after.fault ≡ None
   pub answered : Answered end.batches (max (version_of desk.reader.batches) (version_of start.batches))
       desk.queries.items after.answers.items
 
--- `Ahead` is answered only where a reader has seen more than is published at the end
+-- `Ahead` is answered only if a reader has seen more than is published at the end, and `Join` never
 abbrev pub EndsAhead : SeenValue → List Desk → ServeFault → Type 0
 EndsAhead end desks Ahead = AtSome (λ desk. version_of end.batches < version_of desk.reader.batches) desks
+EndsAhead end desks Join = ⊥
 EndsAhead end desks _ = ⊤

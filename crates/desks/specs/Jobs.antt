@@ -8,7 +8,7 @@ use Rattle.mo_file.specs.MoReading.{Mo as IsFileOf}
 use Rattle.live_versions.specs.declared.fault.StoreFault.{StoreFault}
 use Rattle.live_versions.specs.declared.fault.StoreFault.TheVariants.{Memory}
 use Rattle.live_versions.specs.Batches.{published}
-use Rattle.live_versions.specs.Store.{StoreValue, Adds, IsTextFault, IsFileFault, IsRefusedFor}
+use Rattle.live_versions.specs.Store.{StoreValue, AddsLoad, IsTextFault, IsFileFault, IsRefusedFor}
 use Rattle.desks.specs.declared.job.Source.{Source}
 use Rattle.desks.specs.declared.job.Source.TheVariants as source
 use Rattle.desks.specs.declared.job.Accepted.{Accepted}
@@ -53,14 +53,14 @@ IsSourceFault (Mo bytes) = IsFileFault bytes
 -- a job's load is accepted, with this answer: the map that its source brings is added
 abbrev pub IsAccepted : StoreValue → JobValue → Accepted → StoreValue → Type 0
 IsAccepted s job counts after = (map : List Entry) × Brings job.source counts map
-    × Adds s job.domain job.locale map after
+    × AddsLoad s job.domain job.locale map after
 
 -- it is refused for this reason
 abbrev pub IsRefused : StoreValue → JobValue → StoreFault → Type 0
 IsRefused s job fault = IsRefusedFor (IsSourceFault job.source) s job.domain job.locale fault
 
--- A job is done: its load is accepted and published as one batch, or it is refused and nothing changes. Want of memory
--- is no outcome.
+-- A job is done: its load is accepted and published as one batch, or it is refused and nothing changes. Running out of
+-- memory is no outcome.
 abbrev pub Does : StoreValue → JobValue → Outcome → StoreValue → Type 0
 Does s job (Ok counts) after = (loaded : StoreValue) × IsAccepted s job counts loaded × (after ≡ after_publish loaded)
 Does s job (Err Memory) after = ⊥

@@ -1,6 +1,6 @@
 -- One history of a store that was served: what the publishing thread did and each look-up, one after another.
-use Rattle.std.specs.Prelude.{◌≡◌, ◌≤◌, ◌==◌, ⊤, ℕ, if◌then◌else◌, List, [], ◌∷◌, ◌++◌, map, slice_index_or}
-use Rattle.std.specs.Prelude.{Ok, Err}
+use Rattle.std.specs.Prelude.{◌≡◌, ◌<◌, ◌≤◌, ◌==◌, ⊤, ℕ, if◌then◌else◌, List, [], ◌∷◌, ◌++◌, length, map}
+use Rattle.std.specs.Prelude.{slice_index_or, Ok, Err}
 use Rattle.std.specs.List.{AllZip}
 use Rattle.std.specs.String.{string_bytes}
 use Rattle.live_set.specs.Loads.{LoadValue}
@@ -8,7 +8,8 @@ use Rattle.live_set.specs.Asks.{QueryValue}
 use Rattle.live_set.specs.Asks.{IsAnswer as HasText}
 use Rattle.live_versions.specs.Batches.{joined, version_of}
 use Rattle.live_versions.specs.Store.{StoreValue}
-use Rattle.live_versions.specs.History.{Event, Accept, Refuse, Publish, Enter, State, after, state_from, IsLegalFrom}
+use Rattle.live_versions.specs.History.{Event, Accept, Refuse, Publish, Enter, Learn, State, after, state_from}
+use Rattle.live_versions.specs.History.{IsLegalFrom}
 use Rattle.desks.specs.declared.desk.Answer.{Answer}
 use Rattle.desks.specs.declared.desk.Desk.{Desk}
 use Rattle.desks.specs.declared.job.Accepted.{Accepted}
@@ -67,10 +68,11 @@ AreAnswersOf _ _ _ = ⊥
 
 -- ---- the publishing thread
 
--- the events that are no entries
+-- the events that are no reader's
 abbrev pub without_entries : List Event → List Event
 without_entries [] = []
 without_entries (Enter reader version ∷ events) = without_entries events
+without_entries (Learn reader version ∷ events) = without_entries events
 without_entries (event ∷ events) = event ∷ without_entries events
 
 -- the load that a job with this answer brings
@@ -103,6 +105,8 @@ pub record IsHistoryOf (s t : StoreValue) (jobs : List JobValue) (outcomes : Lis
   pub work : IsWork jobs outcomes (without_entries history)
   pub answers : (worker : ℕ) → AreAnswersOf (entries worker (start_of s before) history) (queries_of before worker)
       (answers_of after worker)
+  pub seen : (worker : ℕ) → worker < length after
+      → (state_from (start_of s before) history).seen worker ≡ seen_by after worker
 
 -- whatever the schedule of the threads was, there is one history
 abbrev pub HasOneHistory : Type 0

@@ -1,14 +1,21 @@
--- Private: what one job leaves, and what a worker, and the end of a service, do to a desk.
-use Rattle.std.specs.Prelude.{◌≡◌, ◌⊎◌, ◌≢◌, Some, None}
+-- What one job leaves, and what learning, working and settling do to a desk.
+use Rattle.std.specs.Prelude.{◌≡◌, ◌⊎◌, ⊤, IfSome, None}
 use Rattle.live_versions.specs.Seen.{SeenValue}
 use Rattle.live_versions.specs.Store.{StoreValue}
 use Rattle.live_versions.specs.Batches.{version_of, StartsWith}
 use Rattle.desks.specs.declared.desk.Desk.{Desk}
-use Rattle.desks.specs.declared.desk.ServeFault.TheVariants.{Ahead}
+use Rattle.desks.specs.declared.desk.ServeFault.{ServeFault}
+use Rattle.desks.specs.declared.desk.ServeFault.TheVariants.{Ahead, Join}
 use Rattle.desks.specs.declared.job.Accepted.{Accepted}
 use Rattle.desks.specs.Jobs.{JobValue, IsAccepted}
 use Rattle.desks.specs.Answers.{Answered}
-use Rattle.desks.specs.Desks.{IsKept}
+use Rattle.desks.specs.Desks.{KeepsDesk}
+
+-- what may end the work: memory that is refused, or a store that is closed
+abbrev pub OfWork : ServeFault → Type 0
+OfWork Ahead = ⊥
+OfWork Join = ⊥
+OfWork _ = ⊤
 
 -- a fault leaves a job's load pending, or nothing
 abbrev pub LeavesOne : StoreValue → JobValue → StoreValue → Type 0
@@ -23,8 +30,8 @@ pub record HasLearnt (start : SeenValue) (desk after : Desk) : Type 0 where
 
 -- a desk was worked: where there is no fault, each query has its answer in what the reader has now seen
 pub record Worked (desk after : Desk) : Type 0 where
-  pub kept : IsKept desk after
-  pub not_ahead : after.fault ≢ Some Ahead
+  pub kept : KeepsDesk desk after
+  pub of_work : IfSome after.fault OfWork
   pub answered : after.fault ≡ None
       → Answered after.reader.batches (version_of desk.reader.batches) desk.queries.items after.answers.items
 

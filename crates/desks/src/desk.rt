@@ -13,14 +13,14 @@ pub struct Answer {
 /// Why a service ended early.
 #[derive(Clone, Copy, Debug, PartialEq, Eq, Error)]
 pub enum ServeFault {
-    /// Want of memory, of a load or a publish too.
+    /// Memory was refused: for an answer, a load or a publish.
     #[error("out of memory")]
     Memory,
     /// A reader had seen more than is published at the end.
     #[error("a reader has seen more than is published")]
     Ahead,
-    /// A thread couldn't be made. It is never answered: where the system makes no thread, the work that it was for
-    /// is done in turn.
+    /// A thread couldn't be made. `serve` never answers it: if the system makes no thread, that thread's work is
+    /// done in turn.
     #[error("no thread")]
     Join,
     /// A reader found the store closed.
@@ -33,8 +33,8 @@ pub enum ServeFault {
 pub struct Desk {
     pub reader: Lookups,
     pub queries: Vec<Query>,
-    /// One answer for each query, in order, where `serve` answered `Ok`.
+    /// One answer for each query, in order, if `serve` answered `Ok`.
     pub answers: Vec<Answer>,
-    /// None where `serve` answered `Ok`.
+    /// `None` if `serve` answered `Ok`.
     pub fault: Option<ServeFault>,
 }

@@ -1,6 +1,6 @@
 //! Where a caller may hold a thread.
 
-/// Who stands at a gate.
+/// Which thread is at a gate.
 #[derive(Debug, Drop)]
 pub enum Place {
     /// The worker of the desk with this index, from 0.

@@ -1,7 +1,7 @@
-//! Queries of one to sixteen readers, answered beside a thread that loads and publishes.
+//! Queries of one to sixteen readers, answered while a thread loads and publishes.
 //!
-//! Each reader has a desk with its queries; the publisher has jobs, each a load, of a PO text or of an MO file, that is
-//! published by itself. `serve` works them all at once, and answers each query by one entry of the store.
+//! Each reader has a desk with its queries. The publisher has jobs: each loads a PO text or an MO file, which is then
+//! published by itself. `serve` does all of this at once, and answers each query from one entry of the store.
 #![tactic(auto)]
 
 mod desk;
@@ -17,4 +17,7 @@ pub use desk::{Answer, Desk, ServeFault};
 pub use gate::{Gate, Place};
 pub use job::{Accepted, Job, Source};
 pub use law::{one_end, one_history};
+pub use publish::load_job;
 pub use service::{Served, serve};
+pub use settle::{first_fault, learn_all, settle_all};
+pub use worker::work_all;

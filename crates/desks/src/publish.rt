@@ -1,8 +1,7 @@
 //! The publishing thread.
-ghost use Rattle.std.specs.Prelude.{◌≡◌, ◌≢◌, [], IfOk, OnErr, IfErr};
+ghost use Rattle.std.specs.Prelude.{◌≡◌, [], IfOk, OnErr, IfErr};
 ghost use Rattle.desks.specs.Jobs.{IsAccepted, IsRefused, Does, HasDone, Stops};
-ghost use Rattle.desks.specs.Working.{LeavesOne};
-ghost use Rattle.desks.specs.declared.desk.ServeFault.TheVariants.{Ahead};
+ghost use Rattle.desks.specs.Working.{LeavesOne, OfWork};
 
 use crate::desk::ServeFault;
 use crate::gate::{Gate, Place};
@@ -11,8 +10,9 @@ use live_versions::{Publisher, StoreFault};
 use std::alloc::Global;
 use std::sync::Wait;
 
-/// Loads what a job is of.
-fn load(alloc: Global, publisher: &mut Publisher, job: &Job) -> Result<Accepted, StoreFault>
+/// Loads what a job is of: a PO text by `Publisher::load`, an MO file by `Publisher::load_mo`. A refused load changes
+/// nothing.
+pub fn load_job(alloc: Global, publisher: &mut Publisher, job: &Job) -> Result<Accepted, StoreFault>
     ensures ok { IfOk result (λ counts. IsAccepted publisher.old job.now counts publisher.new) }
     ensures err { IfErr result (IsRefused publisher.old job.now) }
     ensures unchanged { OnErr result (publisher.new ≡ publisher.old) }
@@ -31,7 +31,7 @@ fn load(alloc: Global, publisher: &mut Publisher, job: &Job) -> Result<Accepted,
     }
 }
 
-/// Does one job: a load, which is published where it is accepted.
+/// Does one job: a load, which is published if it is accepted.
 fn do_job<R: Wait>(
     rt: &R,
     alloc: Global,
@@ -43,9 +43,9 @@ fn do_job<R: Wait>(
     ensures most { publisher.new.most ≡ publisher.old.most }
     ensures ok { IfOk result (λ outcome. Does publisher.old job.now outcome publisher.new) }
     ensures err { OnErr result (LeavesOne publisher.old job.now publisher.new) }
-    ensures fault { IfErr result (λ fault. fault ≢ Ahead) }
+    ensures fault { IfErr result OfWork }
 {
-    match load(alloc, publisher, job) {
+    match load_job(alloc, publisher, job) {
         Ok(counts) => {
             if publisher.publish(rt).is_err() {
                 return Err(ServeFault::Memory);
@@ -72,7 +72,7 @@ pub(crate) fn do_jobs<R: Wait, G: Gate>(
     ensures most { publisher.new.most ≡ publisher.old.most }
     ensures ok { IfOk result (λ _. HasDone publisher.old jobs.now outcomes.new.items publisher.new) }
     ensures stops { Stops publisher.old jobs.now publisher.new }
-    ensures fault { IfErr result (λ fault. fault ≢ Ahead) }
+    ensures fault { IfErr result OfWork }
 {
     outcomes.clear();
     if publisher.publish(rt).is_err() {

@@ -1,12 +1,11 @@
 //! The service as a whole.
 ghost use Rattle.std.specs.List.{AllZip, AllByRecursion};
 ghost use Rattle.std.specs.Thread.{IsSync};
-ghost use Rattle.std.specs.Prelude.{◌≡◌, ◌≢◌, ◌≤◌, All, IfOk, IfErr, vec_len, length};
+ghost use Rattle.std.specs.Prelude.{◌≡◌, ◌≤◌, All, IfOk, IfErr, vec_len, length};
 ghost use Rattle.live_versions.specs.Batches.{version_of};
-ghost use Rattle.desks.specs.Desks.{EndsAhead, IsKept, IsServed};
+ghost use Rattle.desks.specs.Desks.{EndsAhead, KeepsDesk, IsServed};
 ghost use Rattle.desks.specs.Jobs.{HasDone, Stops};
-ghost use Rattle.desks.specs.Working.{Worked};
-ghost use Rattle.desks.specs.declared.desk.ServeFault.TheVariants.{Ahead};
+ghost use Rattle.desks.specs.Working.{Worked, OfWork};
 
 use crate::desk::{Desk, ServeFault};
 use crate::gate::Gate;
@@ -26,7 +25,7 @@ pub struct Served {
     pub version: Version,
 }
 
-/// The jobs beside the work of all desks.
+/// The jobs and the work of all desks, at the same time if both have something to do.
 fn run_all<R: Threads + Wait + Sync, G: Gate + Sync>(
     rt: &R,
     alloc: Global,
@@ -41,10 +40,11 @@ fn run_all<R: Threads + Wait + Sync, G: Gate + Sync>(
     ensures most { publisher.new.most ≡ publisher.old.most }
     ensures done { IfOk result (λ _. HasDone publisher.old jobs.now outcomes.new.items publisher.new) }
     ensures stops { Stops publisher.old jobs.now publisher.new }
-    ensures fault { IfErr result (λ fault. fault ≢ Ahead) }
+    ensures fault { IfErr result OfWork }
     ensures worked { AllZip Worked desks.old desks.new }
 {
-    if jobs.is_empty() || are_idle(desks) {
+    // With nothing to publish, or nobody to answer, one half does nothing: no gate is called and nothing is waited for.
+    if (jobs.is_empty() && publisher.pending() == 0) || are_idle(desks) {
         let published = do_jobs(rt, gate, alloc, publisher, jobs, outcomes);
         work_all(rt, gate, alloc, 0, desks);
         return published;
@@ -74,7 +74,7 @@ fn serve_slice<R: Threads + Wait + Sync, G: Gate + Sync>(
     requires count { length desks.old ≤ 16 }
     ensures book { publisher.new.seen.book ≡ publisher.old.seen.book }
     ensures most { publisher.new.most ≡ publisher.old.most }
-    ensures kept { AllZip IsKept desks.old desks.new }
+    ensures kept { AllZip KeepsDesk desks.old desks.new }
     ensures store { AllByRecursion (λ d. d.reader.book ≡ publisher.new.seen.book) desks.new }
     ensures done { IfOk result (λ _. HasDone publisher.old jobs.now outcomes.new.items publisher.new) }
     ensures version { IfOk result (λ version. version ≡ version_of publisher.new.seen.batches) }
@@ -95,16 +95,16 @@ fn serve_slice<R: Threads + Wait + Sync, G: Gate + Sync>(
     }
 }
 
-/// Answers the queries of all desks, each query by one entry, while the publisher publishes what is pending and then
-/// does the jobs in turn, each a load that is published by itself where it is accepted.
+/// Answers the queries of all desks, each query from one entry, while the publisher publishes what is pending and then
+/// does the jobs in turn. Each job is a load; if it is accepted, it is published by itself.
 ///
-/// Desks with queries are worked side by side, each in a thread of its own, beside the thread that publishes; a desk
-/// without queries takes no thread, nor does the publishing where there are no jobs or no queries. At first each reader
-/// learns what is published, and at the end it settles with what is published then. Where the system makes no thread,
-/// the work is done in turn.
+/// Each desk with queries is worked in a thread of its own, while another thread publishes. A desk without queries
+/// takes no thread. Nor does the publishing, if nothing is pending and there are no jobs, or if there are no queries.
+/// First each reader learns what is published, and at the end it settles with what is published then. If the system
+/// makes no thread, that thread's work is done in turn.
 ///
-/// After a fault the desks' `answers` and `fault` are left open, and the store has the loads that it had, behind them
-/// those of some first jobs that were accepted, and no other; at most the last of these is pending.
+/// After a fault don't rely on the desks' `answers` and `fault`. The store has the loads that it had, followed by those
+/// of some first jobs that were accepted, and no other; at most the last of these is pending.
 pub fn serve<R: Threads + Wait + Sync, G: Gate + Sync>(
     rt: &R,
     alloc: Global,
@@ -117,7 +117,7 @@ pub fn serve<R: Threads + Wait + Sync, G: Gate + Sync>(
     requires count { (1 ≤ vec_len desks.old) × (vec_len desks.old ≤ 16) }
     ensures book { publisher.new.seen.book ≡ publisher.old.seen.book }
     ensures most { publisher.new.most ≡ publisher.old.most }
-    ensures kept { AllZip IsKept desks.old.items desks.new.items }
+    ensures kept { AllZip KeepsDesk desks.old.items desks.new.items }
 
     // The desks may be served again.
     ensures again { All (λ d. d.reader.book ≡ publisher.new.seen.book) desks.new.items }

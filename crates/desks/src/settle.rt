@@ -1,16 +1,16 @@
-//! What is done to all desks before and behind their work.
+//! What is done to all desks before and after their work.
 ghost use Rattle.std.specs.List.{AllZip, AllByRecursion};
-ghost use Rattle.std.specs.Prelude.{◌≡◌, ◌≢◌, ◌<◌, OnOk, IfErr, IfNone, None, Some};
+ghost use Rattle.std.specs.Prelude.{◌≡◌, ◌<◌, OnOk, IfErr, IfNone, IfSome, None};
 ghost use Rattle.live_versions.specs.Batches.{version_of};
 ghost use Rattle.desks.specs.declared.desk.ServeFault.TheVariants.{Ahead};
-ghost use Rattle.desks.specs.Desks.{AtSome, IsKept};
-ghost use Rattle.desks.specs.Working.{HasLearnt, Settled};
+ghost use Rattle.desks.specs.Desks.{AtSome, KeepsDesk};
+ghost use Rattle.desks.specs.Working.{HasLearnt, Settled, OfWork};
 
 use crate::desk::{Desk, ServeFault};
 use live_versions::Notice;
 
 /// Each reader learns a notice.
-pub(crate) fn learn_all(desks: &mut [Desk], opening: &Notice)
+pub fn learn_all(desks: &mut [Desk], opening: &Notice)
     requires { AllByRecursion (λ d. d.reader.book ≡ opening.now.book) desks.old }
     ensures { AllZip (HasLearnt opening.now) desks.old desks.new }
 {
@@ -21,11 +21,11 @@ pub(crate) fn learn_all(desks: &mut [Desk], opening: &Notice)
     learn_all(rest, opening);
 }
 
-/// The first worker's fault.
-pub(crate) fn first_fault(desks: &[Desk]) -> Option<ServeFault>
-    requires { AllByRecursion (λ d. d.fault ≢ Some Ahead) desks.now }
+/// The fault of the first desk that has one.
+pub fn first_fault(desks: &[Desk]) -> Option<ServeFault>
+    requires { AllByRecursion (λ d. IfSome d.fault OfWork) desks.now }
     ensures none { IfNone result (AllByRecursion (λ d. d.fault ≡ None) desks.now) }
-    ensures fault { result ≢ Some Ahead }
+    ensures fault { IfSome result OfWork }
 {
     let (desk, rest) = desks.split_first()?;
     match desk.fault {
@@ -35,11 +35,11 @@ pub(crate) fn first_fault(desks: &[Desk]) -> Option<ServeFault>
 }
 
 #[tactic(auto, using(crate::proofs::Desks::kept_all))]
-/// Each reader settles with the closing notice.
-pub(crate) fn settle_all(desks: &mut [Desk], closing: &Notice) -> Result<(), ServeFault>
+/// Each reader settles with a notice. `Ahead` only if one has seen more than the notice says.
+pub fn settle_all(desks: &mut [Desk], closing: &Notice) -> Result<(), ServeFault>
     requires { AllByRecursion (λ d. d.reader.book ≡ closing.now.book) desks.old }
     ensures settled { OnOk result (AllZip (Settled closing.now) desks.old desks.new) }
-    ensures kept { AllZip IsKept desks.old desks.new }
+    ensures kept { AllZip KeepsDesk desks.old desks.new }
     ensures fault { IfErr result (λ fault. fault ≡ Ahead) }
     ensures ahead { IfErr result (λ _.
         AtSome (λ d. version_of closing.now.batches < version_of d.reader.batches) desks.new) }

@@ -1,11 +1,10 @@
 //! The workers: each desk's queries.
 ghost use Rattle.std.specs.List.{AllZip};
 ghost use Rattle.std.specs.Thread.{IsSync};
-ghost use Rattle.std.specs.Prelude.{◌≡◌, ◌≢◌, ◌+◌, ◌<◌, ◌≤◌, ◌^◌, length, OnOk, IfErr};
+ghost use Rattle.std.specs.Prelude.{◌≡◌, ◌+◌, ◌<◌, ◌≤◌, ◌^◌, length, OnOk, IfErr};
 ghost use Rattle.live_versions.specs.Batches.{version_of, StartsWith};
 ghost use Rattle.desks.specs.Answers.{Answered};
-ghost use Rattle.desks.specs.Working.{Worked};
-ghost use Rattle.desks.specs.declared.desk.ServeFault.TheVariants.{Ahead};
+ghost use Rattle.desks.specs.Working.{Worked, OfWork};
 
 use crate::desk::{Answer, Desk, ServeFault};
 use crate::gate::{Gate, Place};
@@ -28,7 +27,7 @@ fn answer_all<G: Gate>(
     ensures later { StartsWith reader.new.batches reader.old.batches }
     ensures answered { OnOk result
         (Answered reader.new.batches (version_of reader.old.batches) queries.now answers.new.items) }
-    ensures fault { IfErr result (λ fault. fault ≢ Ahead) }
+    ensures fault { IfErr result OfWork }
 {
     answers.clear();
     if answers.reserve(queries.len()).is_err() {
@@ -49,7 +48,8 @@ fn answer_all<G: Gate>(
     Ok(())
 }
 
-/// One desk's work. What changes with each answer lies on the thread's own stack: the desks stand side by side.
+/// One desk's work. What changes with each answer is on the thread's own stack, since the desks are neighbours in
+/// memory.
 fn work<G: Gate>(gate: &G, alloc: Global, place: u32, desk: &mut Desk)
     ensures { Worked desk.old desk.new }
 {
@@ -71,9 +71,11 @@ pub(crate) fn are_idle(desks: &[Desk]) -> bool {
     desks.iter().all(|desk| desk.queries.is_empty())
 }
 
-/// The work of all desks, whose places are counted from this one: each in a thread of its own, but for those without
-/// queries, and for the last one that has some.
-pub(crate) fn work_all<R: Threads + Sync, G: Gate + Sync>(
+/// Answers the queries of all desks, whose places are counted from `place`. Each desk takes a thread of its own, but
+/// for those without queries and for the last one that has some.
+///
+/// A desk's fault is `Closed` or `Memory`; after one don't rely on its answers.
+pub fn work_all<R: Threads + Sync, G: Gate + Sync>(
     rt: &R,
     gate: &G,
     alloc: Global,

@@ -1,8 +1,8 @@
-//! Calls of `write_mo` and `read_mo`.
+//! Calls of `write_mo`, `read_mo`, `check` and `reread`.
 use crate::printing::{print_entries, print_hex};
 use crate::texts::{PLIK, SALUT};
 use catalogue::{Catalogue, Options, compile};
-use mo_file::{read_mo, write_mo};
+use mo_file::{check, read_mo, reread, write_mo};
 use std::io;
 
 /// A file of `a` to `x` and `ba` to `xx`, the first byte of each number first to last, with a hash table, and with
@@ -33,6 +33,11 @@ const CHANGES: [(&str, usize, &[u8]); 6] = [
     ),
 ];
 
+const PLAIN: Options = Options {
+    checked: false,
+    use_fuzzy: false,
+};
+
 /// Prints what a file is read as.
 fn read<R: Print + AllocGlobal>(rt: &R, label: &str, bytes: &[u8]) -> io::Result<()> {
     print!(rt; "read_mo, {label}, gives ")?;
@@ -46,6 +51,15 @@ fn read<R: Print + AllocGlobal>(rt: &R, label: &str, bytes: &[u8]) -> io::Result
     }
 }
 
+/// The first file with these bytes at a place.
+fn changed(at: usize, bytes: &[u8]) -> [u8; 78] {
+    let mut file = SWAPPED;
+    for (place, byte) in file.iter_mut().skip(at).zip(bytes) {
+        *place = *byte;
+    }
+    file
+}
+
 pub fn read_all<R: Print + AllocGlobal>(rt: &R) -> io::Result<()> {
     read(rt, "two messages", &SWAPPED)?;
     read(rt, "nothing", EMPTY)?;
@@ -53,11 +67,22 @@ pub fn read_all<R: Print + AllocGlobal>(rt: &R) -> io::Result<()> {
     read(rt, "without the last byte", &SWAPPED[..77])?;
     read(rt, "27 bytes", &SWAPPED[..27])?;
     for (label, at, bytes) in CHANGES {
-        let mut changed = SWAPPED;
-        for (place, byte) in changed.iter_mut().skip(at).zip(bytes) {
-            *place = *byte;
-        }
-        read(rt, label, &changed)?;
+        read(rt, label, &changed(at, bytes))?;
+    }
+    Ok(())
+}
+
+/// Prints why a file is refused, if it is.
+fn check_one<R: Print + AllocGlobal>(rt: &R, label: &str, bytes: &[u8]) -> io::Result<()> {
+    let answer = check(rt.alloc(), bytes);
+    println!(rt; "check, {label}, gives {answer:?}")
+}
+
+pub fn check_all<R: Print + AllocGlobal>(rt: &R) -> io::Result<()> {
+    check_one(rt, "two messages", &SWAPPED)?;
+    check_one(rt, "an unknown charset", KOI8)?;
+    for (label, at, bytes) in CHANGES {
+        check_one(rt, label, &changed(at, bytes))?;
     }
     Ok(())
 }
@@ -77,11 +102,7 @@ fn write<R: Print + AllocGlobal>(rt: &R, catalogue: &Catalogue) -> io::Result<()
 /// Prints the file of what a text compiles to.
 fn write_text<R: Print + AllocGlobal>(rt: &R, label: &str, text: &str) -> io::Result<()> {
     print!(rt; "write_mo, {label}, ")?;
-    let options = Options {
-        checked: false,
-        use_fuzzy: false,
-    };
-    match compile(rt.alloc(), text.as_bytes(), options) {
+    match compile(rt.alloc(), text.as_bytes(), PLAIN) {
         Ok(compiled) => write(rt, &compiled.catalogue),
         Err(_) => println!(rt; "isn't called: out of memory"),
     }
@@ -96,4 +117,26 @@ pub fn write_all<R: Print + AllocGlobal>(rt: &R) -> io::Result<()> {
         Ok(catalogue) => write(rt, &catalogue),
         Err(_) => println!(rt; "isn't called: out of memory"),
     }
+}
+
+/// Prints what a text compiles to, after it was written and read.
+fn reread_text<R: Print + AllocGlobal>(rt: &R, label: &str, text: &str) -> io::Result<()> {
+    print!(rt; "reread, {label}, ")?;
+    let Ok(compiled) = compile(rt.alloc(), text.as_bytes(), PLAIN) else {
+        return println!(rt; "isn't called: out of memory");
+    };
+    match reread(rt.alloc(), &compiled.catalogue) {
+        Ok(catalogue) => {
+            print!(rt; "gives Ok({}", catalogue.len())?;
+            print_entries(rt, &catalogue)?;
+            println!(rt; ")")
+        }
+        Err(fault) => println!(rt; "gives Err({fault:?})"),
+    }
+}
+
+pub fn reread_all<R: Print + AllocGlobal>(rt: &R) -> io::Result<()> {
+    reread_text(rt, "an entry", SALUT)?;
+    reread_text(rt, "nothing", "")?;
+    reread_text(rt, "three forms", PLIK)
 }

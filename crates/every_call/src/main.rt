@@ -1,4 +1,4 @@
-//! Makes each call that takes memory, and prints the whole answer of each on a line of its own, and what it left.
+//! Makes the calls that take memory, and prints the whole answer of each on a line of its own, and what it left.
 //! The tests refuse each of its requests for memory in turn. Printing takes none.
 //!
 //! A word names the calls that are made; without one all are.
@@ -19,17 +19,21 @@ use std::thread::Threads;
 use std::{env, io};
 
 /// The words, in the order in which all calls are made.
-const WORDS: [&str; 14] = [
+const WORDS: [&str; 18] = [
     "read_po",
     "parse_expr",
     "read_rule",
     "signature",
     "compile",
     "from_sorted",
+    "from_file",
     "write_mo",
     "read_mo",
+    "check",
+    "reread",
     "name",
     "absorb",
+    "try_clone",
     "open_store",
     "publish",
     "ask",
@@ -45,10 +49,14 @@ fn call<R: Threads + Wait + Print + AllocGlobal + Sync>(rt: &R, word: &str) -> i
         "signature" => formats::list_all(rt),
         "compile" => maps::compile_all(rt),
         "from_sorted" => maps::sorted_all(rt),
+        "from_file" => maps::copy_all(rt),
         "write_mo" => files::write_all(rt),
         "read_mo" => files::read_all(rt),
+        "check" => files::check_all(rt),
+        "reread" => files::reread_all(rt),
         "name" => sets::name_all(rt),
         "absorb" => sets::absorb_all(rt),
+        "try_clone" => sets::clone_all(rt),
         "open_store" => store::open_all(rt),
         "publish" => store::publish_all(rt),
         "ask" => store::ask_all(rt),

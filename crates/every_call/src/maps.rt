@@ -1,4 +1,4 @@
-//! Calls of `compile` and `from_sorted`.
+//! Calls of `compile`, `from_sorted` and `from_file`.
 use crate::printing::{print_entries, print_hex};
 use crate::texts::{PLIK, SALUT, TWICE};
 use catalogue::{Catalogue, Message, Options, compile};
@@ -179,4 +179,25 @@ pub fn sorted_all<R: Print + AllocGlobal>(rt: &R) -> io::Result<()> {
         forms: &["plik", "pliki", "plikow"],
     };
     sort_one(rt, "three forms", &[files])
+}
+
+/// Prints the catalogue of the file of what a text compiles to.
+fn copy_one<R: Print + AllocGlobal>(rt: &R, label: &str, text: &str) -> io::Result<()> {
+    print!(rt; "from_file, {label}, ")?;
+    let Ok(compiled) = compile(rt.alloc(), text.as_bytes(), PLAIN) else {
+        return println!(rt; "isn't called: out of memory");
+    };
+    match Catalogue::from_file(rt.alloc(), compiled.catalogue.file()) {
+        Ok(catalogue) => {
+            print!(rt; "gives Ok(")?;
+            print_catalogue(rt, &catalogue)
+        }
+        Err(fault) => println!(rt; "gives Err({fault:?})"),
+    }
+}
+
+pub fn copy_all<R: Print + AllocGlobal>(rt: &R) -> io::Result<()> {
+    copy_one(rt, "an entry", SALUT)?;
+    copy_one(rt, "nothing", "")?;
+    copy_one(rt, "three forms", PLIK)
 }

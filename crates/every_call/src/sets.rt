@@ -1,4 +1,4 @@
-//! Calls of `Name::new` and of a set's `absorb`.
+//! Calls of `Name::new`, of a set's `absorb`, and of `try_clone` on a name, a load and a set.
 use crate::texts::{HALLO, SALUT};
 use catalogue::{Options, compile};
 use live_set::{CatalogueSet, Load, Name};
@@ -73,4 +73,65 @@ pub fn absorb_all<R: Print + AllocGlobal>(rt: &R) -> io::Result<()> {
     absorb(rt, &mut set, "de", HALLO)?;
     absorb(rt, &mut set, "fr", HALLO)?;
     absorb(rt, &mut set, "sv", SALUT)
+}
+
+/// Prints a copy of a name.
+fn clone_name<R: Print + AllocGlobal>(rt: &R) -> io::Result<()> {
+    print!(rt; "try_clone, a name, ")?;
+    let Ok(name) = Name::new(rt.alloc(), "app") else {
+        return println!(rt; "isn't called: out of memory");
+    };
+    match name.try_clone() {
+        Ok(again) => println!(rt; "gives Ok({}), {}", again.as_str(), name.as_str()),
+        Err(fault) => println!(rt; "gives Err({fault:?}), {}", name.as_str()),
+    }
+}
+
+/// Prints a copy of a load.
+fn clone_load<R: Print + AllocGlobal>(rt: &R) -> io::Result<()> {
+    print!(rt; "try_clone, a load, ")?;
+    let Some(load) = load_of(rt.alloc(), "fr", SALUT) else {
+        return println!(rt; "isn't called: out of memory");
+    };
+    match load.try_clone() {
+        Ok(again) => {
+            let (domain, locale) = (again.domain.as_str(), again.locale.as_str());
+            print!(rt;
+                "gives Ok({domain} {locale} {}",
+                again.catalogue.gettext("hi")
+            )?;
+            println!(rt; "), {}", load.catalogue.gettext("hi"))
+        }
+        Err(fault) => println!(rt; "gives Err({fault:?}), {}", load.catalogue.gettext("hi")),
+    }
+}
+
+/// The set of a French and a German text, if there is memory for it.
+fn set_of_two(alloc: Global) -> Option<CatalogueSet> {
+    let mut set = CatalogueSet::new(alloc);
+    set.absorb(&load_of(alloc, "fr", SALUT)?).ok()?;
+    set.absorb(&load_of(alloc, "de", HALLO)?).ok()?;
+    Some(set)
+}
+
+/// Prints whether a set is copied, and the copy and the set then.
+fn clone_set<R: Print + AllocGlobal>(rt: &R) -> io::Result<()> {
+    print!(rt; "try_clone, a set, ")?;
+    let Some(set) = set_of_two(rt.alloc()) else {
+        return println!(rt; "isn't called: out of memory");
+    };
+    match set.try_clone(rt.alloc()) {
+        Ok(again) => {
+            println!(rt; "gives Ok")?;
+            print_set(rt, &again)?;
+        }
+        Err(fault) => println!(rt; "gives Err({fault:?})")?,
+    }
+    print_set(rt, &set)
+}
+
+pub fn clone_all<R: Print + AllocGlobal>(rt: &R) -> io::Result<()> {
+    clone_name(rt)?;
+    clone_load(rt)?;
+    clone_set(rt)
 }

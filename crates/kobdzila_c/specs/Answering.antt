@@ -45,5 +45,5 @@ key_of q = key_bytes (context_of q.call q.context) q.id
 
 -- the text of the entry that is asked for with the NUL behind it, and nothing where there is no such entry; bytes that
 -- are no text are no entry's key
-abbrev pub IsAnswer : List Entry → Question → List ℕ → Type 0
-IsAnswer m q text = IsTranslatedClosed m (entry_at m (key_of q)) (number_of q.call q.n) (some_of text)
+abbrev pub IsClosedAnswer : List Entry → Question → List ℕ → Type 0
+IsClosedAnswer m q text = IsTranslatedClosed m (entry_at m (key_of q)) (number_of q.call q.n) (some_of text)

@@ -11,7 +11,7 @@ use Rattle.live_set.specs.declared.name.NameFault.{NameFault}
 use Rattle.live_set.specs.declared.name.NameFault.TheVariants.{BadName, Memory}
 use Rattle.kobdzila_c.specs.declared.opened.Opened.{Opened}
 use Rattle.kobdzila_c.specs.declared.sets.MadeSet.{MadeSet}
-use Rattle.kobdzila_c.specs.Answering.{IsAnswer, Question, key_of}
+use Rattle.kobdzila_c.specs.Answering.{IsClosedAnswer, Question, key_of}
 
 -- the number of what refuses a name
 abbrev pub name_number : NameFault → ℕ
@@ -40,11 +40,12 @@ load_of domain locale map = record { domain = domain; locale = locale; map = map
 abbrev pub AreNames : List ℕ → List ℕ → Type 0
 AreNames domain locale = IsName domain × IsName locale
 
--- the set with one map more, or a refusal: one of the two is no name, or want of memory
+-- the set with one map more, or want of memory, if both are names; else the refusal of a name
 abbrev pub IsMore : MadeSet → List ℕ → List ℕ → List Entry → MadeSet → Type 0
 IsMore old domain locale map new =
-    (AreNames domain locale × IsMade (HasAbsorbed (load_of domain locale map) old.set) new)
-    ⊎ ((¬ AreNames domain locale × IsWithout (name_number BadName) new) ⊎ IsWithout (name_number Memory) new)
+    (AreNames domain locale
+    × (IsMade (HasAbsorbed (load_of domain locale map) old.set) new ⊎ IsWithout (name_number Memory) new))
+    ⊎ (¬ AreNames domain locale × IsWithout (name_number BadName) new)
 
 -- the same with the map of what was opened; its refusal, where it was refused
 abbrev pub IsWith : MadeSet → List ℕ → List ℕ → Opened → MadeSet → Type 0
@@ -61,6 +62,6 @@ answering s domain languages q = map_with (map_in s.set.held) domain languages (
 
 -- what a question is answered there; nothing where the domain or the list is no text
 pub record IsSetAnswer (s : MadeSet) (domain languages : List ℕ) (q : Question) (text : List ℕ) : Type 0 where
-  pub asked : IsUtf8 domain → IsUtf8 languages → IsAnswer (answering s domain languages q) q text
+  pub asked : IsUtf8 domain → IsUtf8 languages → IsClosedAnswer (answering s domain languages q) q text
   pub no_domain : ¬ IsUtf8 domain → text ≡ []
   pub no_languages : ¬ IsUtf8 languages → text ≡ []

@@ -29,18 +29,18 @@ pub record IsRefused (c : Opened) (fault line : ℕ) : Type 0 where
   pub line_is : c.line ≡ line
 
 -- a catalogue whose map is so, and no refusal
-pub record Holds (Is : List Entry → Type 0) (c : Opened) : Type 0 where
+pub record IsOpenedAs (Is : List Entry → Type 0) (c : Opened) : Type 0 where
   pub map : MatchOption c.catalogue ⊥ (λ shared. Is (arc_value shared))
   pub fault_is : c.fault ≡ 0
   pub line_is : c.line ≡ 0
 
 -- the catalogue of this map, or want of memory
-abbrev pub IsKept : List Entry → Opened → Type 0
-IsKept m c = Holds (λ map. map ≡ m) c ⊎ IsRefused c 12 0
+abbrev pub IsOpenedMap : List Entry → Opened → Type 0
+IsOpenedMap m c = IsOpenedAs (λ map. map ≡ m) c ⊎ IsRefused c 12 0
 
 -- the map of an MO file, or its first refusal, or want of memory
 abbrev pub IsOpenedMo : List ℕ → Opened → Type 0
-IsOpenedMo bytes c = Holds (Mo bytes) c ⊎ (fault : MoFault) × Refused bytes fault × IsRefused c (mo_number fault) 0
+IsOpenedMo bytes c = IsOpenedAs (Mo bytes) c ⊎ (fault : MoFault) × Refused bytes fault × IsRefused c (mo_number fault) 0
 
 -- the text compiles to this map
 abbrev pub MeansMap : List ℕ → Options → List Entry → Type 0
@@ -48,5 +48,5 @@ MeansMap text options m = (compiled : Compiled) × Means text options compiled �
 
 -- the map that a PO text compiles to, or its refusal, or want of memory
 abbrev pub IsOpenedPo : List ℕ → Options → Opened → Type 0
-IsOpenedPo text options c = Holds (MeansMap text options) c ⊎ (fault : LoadFault) × ((fault ≡ out_of_memory)
+IsOpenedPo text options c = IsOpenedAs (MeansMap text options) c ⊎ (fault : LoadFault) × ((fault ≡ out_of_memory)
     ⊎ Refuses text options fault.kind fault.line) × IsRefused c (po_number fault.kind) fault.line

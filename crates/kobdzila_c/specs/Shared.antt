@@ -14,7 +14,7 @@ use Rattle.kobdzila_c.specs.declared.opened.Opened.{Opened}
 use Rattle.kobdzila_c.specs.contracts.opened.Opened.{the_row}
 use Rattle.kobdzila_c.specs.declared.sets.MadeSet.{MadeSet}
 use Rattle.kobdzila_c.specs.contracts.sets.MadeSet.{the_row as set_row}
-use Rattle.kobdzila_c.specs.Answering.{IsAnswer, Question, map_of}
+use Rattle.kobdzila_c.specs.Answering.{IsClosedAnswer, Question, map_of}
 use Rattle.kobdzila_c.specs.Listing.{text}
 use Rattle.kobdzila_c.specs.Making.{IsSetAnswer}
 use Rattle.kobdzila_c.specs.Opening.{IsOpenedMo, IsOpenedPo}
@@ -41,7 +41,7 @@ Text κ = ShrSlice erased κ u8
 
 -- at out lies the answer to a question, shared for as long as κ
 abbrev pub answered : Lft → Ptr → Opened → Question → Fml
-answered κ out c q = fex (Bor (List ℕ)) (λ r. fex (IsAnswer (map_of c) q r.now)
+answered κ out c q = fex (Bor (List ℕ)) (λ r. fex (IsClosedAnswer (map_of c) q r.now)
     (λ _. lies_at (Text κ) full_share out r))
 
 -- at out lies a text of what is listed, shared for as long as κ

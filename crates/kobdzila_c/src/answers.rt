@@ -1,7 +1,7 @@
 //! What a catalogue that C holds is asked, and what it answers.
 ghost use Rattle.std.specs.Prelude.{◌≡◌, [], length, option_map, slice_get};
 ghost use Rattle.std.specs.Arc.{arc_value};
-ghost use Rattle.kobdzila_c.specs.Answering.{IsAnswer, context_of, map_of, number_of, question};
+ghost use Rattle.kobdzila_c.specs.Answering.{IsClosedAnswer, context_of, map_of, number_of, question};
 ghost use Rattle.kobdzila_c.specs.Listing.{entry_number, entry_text, form_at, number, text};
 
 use crate::Opened;
@@ -49,7 +49,7 @@ pub(crate) fn answer<'k>(
     call: u32,
     n: u64,
 ) -> &'k [u8]
-    ensures { IsAnswer (map_of opened.now) (question call context.now id.now n) result.now }
+    ensures { IsClosedAnswer (map_of opened.now) (question call context.now id.now n) result.now }
 {
     let Some(catalogue) = catalogue_of(opened) else {
         return &[]
@@ -62,7 +62,7 @@ pub(crate) fn answer<'k>(
 
 /// The text that answers gettext of a msgid, with its closing NUL; nothing where there is none.
 pub(crate) fn gettext<'k>(opened: &'k Opened, id: &[u8]) -> &'k [u8]
-    ensures { IsAnswer (map_of opened.now) (question 0 [] id.now 0) result.now }
+    ensures { IsClosedAnswer (map_of opened.now) (question 0 [] id.now 0) result.now }
 {
     answer(opened, &[], id, 0, 0)
 }

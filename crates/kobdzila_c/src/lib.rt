@@ -4,9 +4,11 @@
 //! `kobdzila.h` stands on; a program in C calls those of the header.
 #![tactic(auto)]
 
-ghost use Rattle.std.specs.Prelude.{◌≡◌, ◌↔◌, [], IsTrue};
+ghost use Rattle.std.specs.Prelude.{◌≡◌, ◌≤◌, ◌↔◌, [], IsTrue};
 ghost use base.Fml.{Lft, Share, flft};
+ghost use denote.Param.{layout};
 ghost use denote.RawPtr.{room_at};
+ghost use prog.Memory.{align, size};
 ghost use types.Logic.{sem};
 ghost use Rattle.live_set.specs.Names.{IsName};
 ghost use Rattle.kobdzila_c.specs.contracts.opened.Opened.{the_row};
@@ -33,9 +35,12 @@ pub struct Opaque {
     byte: u8,
 }
 
-/// How many bytes C sets aside for a catalogue.
+/// How many bytes C sets aside for a catalogue. `malloc` aligns them well enough.
 #[unsafe(no_mangle)]
-pub extern "C" fn kobdzila_size() -> usize {
+pub extern "C" fn kobdzila_size() -> usize
+    ensures size { result ≡ size (layout the_row) }
+    ensures alignment { align (layout the_row) ≤ 16 }
+{
     std::mem::size_of::<Opened>()
 }
 
@@ -142,9 +147,12 @@ pub extern "C" fn kobdzila_is_name(bytes: &[u8]) -> bool
     sets::is_name_of(bytes)
 }
 
-/// How many bytes C sets aside for a set of catalogues.
+/// How many bytes C sets aside for a set of catalogues. `malloc` aligns them well enough.
 #[unsafe(no_mangle)]
-pub extern "C" fn kobdzila_set_size() -> usize {
+pub extern "C" fn kobdzila_set_size() -> usize
+    ensures size { result ≡ size (layout set_row) }
+    ensures alignment { align (layout set_row) ≤ 16 }
+{
     std::mem::size_of::<MadeSet>()
 }
 

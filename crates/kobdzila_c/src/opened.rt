@@ -2,7 +2,7 @@
 ghost use Rattle.std.specs.Prelude.{◌≡◌, IfOk};
 ghost use Rattle.std.specs.Arc.{arc_value};
 ghost use Rattle.mo_file.specs.MoReading.{rank};
-ghost use Rattle.kobdzila_c.specs.Opening.{IsOpenedMo, IsOpenedPo, IsKept, IsRefused, options_of, po_number};
+ghost use Rattle.kobdzila_c.specs.Opening.{IsOpenedMo, IsOpenedPo, IsOpenedMap, IsRefused, options_of, po_number};
 
 use catalogue::{Catalogue, LoadFault, LoadKind, Options, compile};
 use mo_file::{MoFault, read_mo};
@@ -86,7 +86,7 @@ fn shared(alloc: Global, mut catalogue: Catalogue) -> Result<Arc<Catalogue>, All
 
 /// A catalogue as C holds it, or want of memory.
 fn kept(alloc: Global, catalogue: Catalogue) -> Opened
-    ensures { IsKept catalogue result }
+    ensures { IsOpenedMap catalogue result }
 {
     match shared(alloc, catalogue) {
         Ok(catalogue) => Opened {

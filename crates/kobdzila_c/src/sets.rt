@@ -1,18 +1,17 @@
 //! Sets of catalogues as C holds them. A set never changes; another one is made with one catalogue more.
-ghost use Rattle.std.specs.Prelude.{◌≡◌, ◌↔◌, IfOk, IfErr, IsTrue};
+ghost use Rattle.std.specs.Prelude.{◌≡◌, ◌↔◌, IfOk, IsTrue};
 ghost use Rattle.std.specs.Arc.{arc_value};
 ghost use Rattle.live_set.specs.Names.{IsName};
 ghost use Rattle.live_set.specs.Sets.{no_loads, HasAbsorbed};
-ghost use Rattle.live_set.specs.declared.name.NameFault.TheVariants.{BadName};
 ghost use Rattle.kobdzila_c.specs.Answering.{question};
-ghost use Rattle.kobdzila_c.specs.Making.{IsEmpty, IsMade, IsWith, IsWithout, load_of, name_number, set_number};
-ghost use Rattle.kobdzila_c.specs.Making.{IsSetAnswer};
+ghost use Rattle.kobdzila_c.specs.Making.{AreNames, IsEmpty, IsMade, IsWith, IsWithout, load_of, name_number};
+ghost use Rattle.kobdzila_c.specs.Making.{IsSetAnswer, set_number};
 
 use crate::Opened;
 use crate::answers::{context_in, number_in};
 use catalogue::Catalogue;
 use live_set::{CatalogueSet, Load, Name, NameFault, is_name};
-use std::alloc::{AllocError, Global};
+use std::alloc::Global;
 use std::str::from_utf8;
 use std::sync::Arc;
 
@@ -61,11 +60,16 @@ pub(crate) fn is_name_of(bytes: &[u8]) -> bool
     }
 }
 
+/// Whether both are names.
+fn are_names(domain: &[u8], locale: &[u8]) -> bool
+    ensures { IsTrue result ↔ AreNames domain.now locale.now }
+{
+    is_name_of(domain) && is_name_of(locale)
+}
+
 /// The name that these bytes are.
 fn name_of(alloc: Global, bytes: &[u8]) -> Result<Name, NameFault>
-    ensures name { IfOk result (λ name. name ≡ bytes.now) }
-    ensures good { IfOk result (λ _. IsName bytes.now) }
-    ensures bad { IfErr result (λ fault. fault ≡ BadName → ¬ IsName bytes.now) }
+    ensures { IfOk result (λ name. name ≡ bytes.now) }
 {
     match from_utf8(bytes) {
         Ok(text) => Name::new(alloc, text),
@@ -80,9 +84,7 @@ fn load_of(
     locale: &[u8],
     catalogue: &Arc<Catalogue>,
 ) -> Result<Load, NameFault>
-    ensures load { IfOk result (λ load. load ≡ load_of domain.now locale.now (arc_value catalogue.now)) }
-    ensures good { IfOk result (λ _. IsName domain.now × IsName locale.now) }
-    ensures bad { IfErr result (λ fault. fault ≡ BadName → ¬ (IsName domain.now × IsName locale.now)) }
+    ensures { IfOk result (λ load. load ≡ load_of domain.now locale.now (arc_value catalogue.now)) }
 {
     Ok(Load {
         domain: name_of(alloc, domain)?,
@@ -92,15 +94,23 @@ fn load_of(
 }
 
 /// The set with one load more; all its catalogues are shared.
-fn more(alloc: Global, set: &CatalogueSet, load: &Load) -> Result<CatalogueSet, AllocError>
-    ensures { IfOk result (λ more. HasAbsorbed load.now set.now more) }
+fn more(
+    alloc: Global,
+    set: &CatalogueSet,
+    domain: &[u8],
+    locale: &[u8],
+    catalogue: &Arc<Catalogue>,
+) -> Result<CatalogueSet, NameFault>
+    ensures { IfOk result (HasAbsorbed (load_of domain.now locale.now (arc_value catalogue.now)) set.now) }
 {
+    let load = load_of(alloc, domain, locale, catalogue)?;
     let mut more = set.try_clone(alloc)?;
-    more.absorb(load)?;
+    more.absorb(&load)?;
     Ok(more)
 }
 
-/// The set with one catalogue more, which takes the place of the one for its text domain and locale.
+/// The set with one catalogue more, which takes the place of the one for its text domain and locale. Memory is taken
+/// only if both are names.
 pub(crate) fn with_one(
     alloc: Global,
     made: &MadeSet,
@@ -113,11 +123,10 @@ pub(crate) fn with_one(
     let Some(catalogue) = &opened.catalogue else {
         return without(alloc, opened.fault);
     };
-    let load = match load_of(alloc, domain, locale, catalogue) {
-        Ok(load) => load,
-        Err(fault) => return without(alloc, name_number(fault)),
-    };
-    match more(alloc, &made.set, &load) {
+    if !are_names(domain, locale) {
+        return without(alloc, name_number(NameFault::BadName));
+    }
+    match more(alloc, &made.set, domain, locale, catalogue) {
         Ok(set) => MadeSet { set, fault: 0 },
         Err(_) => without(alloc, name_number(NameFault::Memory)),
     }

@@ -8,7 +8,7 @@ use prog.Atomic.{either}
 use Rattle.logbook.specs.Pages.{Cell, cell, keeps, no_nib, step, Moves, Goes}
 use Rattle.live_set.specs.Loads.{LoadValue}
 use Rattle.live_versions.specs.Batches.{version_of, NoneEmpty}
-use Rattle.live_versions.specs.Book.{IsKept, Adds}
+use Rattle.live_versions.specs.Book.{KeepsBatches, AddsBatch}
 use Rattle.live_versions.proofs.Joining.{whole, full_add, version-add}
 
 abbrev Batches : Type 0
@@ -23,8 +23,8 @@ moved xs ys n = Unit {0}
 adds_goes : (log v : Batches) (e a : List LoadValue) (old : ℕ) → version_of v ≡ old → 0 < length e
     → old + length e < 2 ^ 64 → NoneEmpty log → version_of log < 2 ^ 64 → IsPrefix v log
     → (b : Bool) → (version_of log == old) ≡ b
-    → Goes IsKept shown moved 0 (v, (no_nib, None)) (λ n. either (n == old) (old + length e) n)
-    (Adds e (step 0 old (old + length e) a) (v, (no_nib, None))) ((version_of log, true) ∷ (0, true) ∷ []) log
+    → Goes KeepsBatches shown moved 0 (v, (no_nib, None)) (λ n. either (n == old) (old + length e) n)
+    (AddsBatch e (step 0 old (old + length e) a) (v, (no_nib, None))) ((version_of log, true) ∷ (0, true) ∷ []) log
 adds_goes log v e a old len some room full fits pre true is =
     let here : version_of log ≡ old = grind (arith, nat_tests) in
     let same : log ≡ v = whole log v full (pre.0, sym pre.1) (here ∙ sym len) in
@@ -64,12 +64,12 @@ adds_goes log v e a old len some room full fits pre false is =
 
 pub adds_moves : (v : Batches) (e a : List LoadValue) (old : ℕ) → version_of v ≡ old → 0 < length e
     → old + length e < 2 ^ 64
-    → Moves IsKept shown moved 0 (v, (no_nib, None)) (λ n. either (n == old) (old + length e) n)
-    (Adds e (step 0 old (old + length e) a) (v, (no_nib, None)))
+    → Moves KeepsBatches shown moved 0 (v, (no_nib, None)) (λ n. either (n == old) (old + length e) n)
+    (AddsBatch e (step 0 old (old + length e) a) (v, (no_nib, None)))
 adds_moves v e a old len some room cs log kept pre away =
     let P : List Cell → Type 0 = λ c. (0 < length c) × ((cell c 0).1 ≡ true)
-    × Goes IsKept shown moved 0 (v, (no_nib, None)) (λ n. either (n == old) (old + length e) n)
-    (Adds e (step 0 old (old + length e) a) (v, (no_nib, None))) c log in
+    × Goes KeepsBatches shown moved 0 (v, (no_nib, None)) (λ n. either (n == old) (old + length e) n)
+    (AddsBatch e (step 0 old (old + length e) a) (v, (no_nib, None))) c log in
     subst P (sym kept.words) (
       omega arith,
       refl,

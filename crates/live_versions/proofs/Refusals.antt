@@ -2,7 +2,7 @@
 use Rattle.std.proofs.Common.{◌≡◌, ℕ, List, [], ◌∷◌, ◌++◌, refl, sym, ap, ◌∙◌, arith, inl, inr}
 use Rattle.std.proofs.lemmas.Bool.{cases_lt}
 use Rattle.catalogue.specs.Entry.{Entry}
-use Rattle.live_versions.specs.Store.{StoreValue, accepted, IsWithin, AreNames, HasRoom, Adds, IsRefusedFor}
+use Rattle.live_versions.specs.Store.{StoreValue, accepted, IsWithin, AreNames, HasRoom, AddsLoad, IsRefusedFor}
 use Rattle.live_versions.specs.LoadAnswers.{HasReason, HasOneReason}
 use Rattle.live_versions.specs.declared.fault.StoreFault.{StoreFault}
 use Rattle.live_versions.specs.declared.fault.StoreFault.TheVariants.{BadName, VersionsSpent, Refused, RefusedMo}
@@ -16,12 +16,12 @@ with_load s domain locale map = record s {
 
 -- a load of this map is added
 pub adds_load : (s : StoreValue) (domain locale : List ℕ) (map : List Entry) → AreNames domain locale → HasRoom s
-    → Adds s domain locale map (with_load s domain locale map)
+    → AddsLoad s domain locale map (with_load s domain locale map)
 adds_load s domain locale map names room = record { names = names; room = room; after_is = refl }
 
 -- one map is added in one way
 pub adds_one : (s t u : StoreValue) (domain locale : List ℕ) (map other : List Entry) → map ≡ other
-    → Adds s domain locale map t → Adds s domain locale other u → t ≡ u
+    → AddsLoad s domain locale map t → AddsLoad s domain locale other u → t ≡ u
 adds_one s t u domain locale map other same p q =
     p.after_is ∙ (ap (with_load s domain locale) same ∙ sym q.after_is)
 
@@ -51,7 +51,7 @@ reason_one P one s domain locale fault Memory p q = absurd (q.0 refl)
 
 -- where the bytes have no fault and their load is added, there is no reason
 pub added_or_refused : (P : StoreFault → Type 0) → ((fault : StoreFault) → P fault → ⊥) → (s after : StoreValue)
-    (domain locale : List ℕ) (map : List Entry) (fault : StoreFault) → Adds s domain locale map after
+    (domain locale : List ℕ) (map : List Entry) (fault : StoreFault) → AddsLoad s domain locale map after
     → HasReason (IsRefusedFor P s domain locale) fault → ⊥
 added_or_refused P none s after domain locale map BadName adds why = why.1 adds.names
 added_or_refused P none s after domain locale map VersionsSpent adds why = omega (arith, adds.room, why.1.1)

@@ -6,7 +6,7 @@ use Rattle.live_versions.specs.Batches.{version_of, NoneEmpty}
 use Rattle.live_versions.specs.Seen.{SeenValue}
 
 -- the first word of a book is the version; it has two words, of which this one leaves the second at 0
-pub record IsKept (cells : List Cell) (log : List (List LoadValue)) : Type 0 where
+pub record KeepsBatches (cells : List Cell) (log : List (List LoadValue)) : Type 0 where
   pub words : cells ≡ (version_of log, true) ∷ (0, true) ∷ []
   pub full : NoneEmpty log
   pub fits : version_of log < 2 ^ 64
@@ -16,9 +16,9 @@ abbrev pub head_of : Book → Named
 head_of b = record { tracked = true; key = 0; book = b }
 
 -- the batch was added to all that had been seen, or the book is further
-abbrev pub Adds : List LoadValue → Step (List LoadValue) → View (List LoadValue) ℕ → ℕ → View (List LoadValue) ℕ
+abbrev pub AddsBatch : List LoadValue → Step (List LoadValue) → View (List LoadValue) ℕ → ℕ → View (List LoadValue) ℕ
     → Type 0
-Adds batch s v found w = found ≡ s.old → w.0 ≡ v.0 ++ batch ∷ []
+AddsBatch batch s v found w = found ≡ s.old → w.0 ≡ v.0 ++ batch ∷ []
 
 -- a batch behind what was seen, if there is one
 abbrev pub claimed : SeenValue → Option (List LoadValue) → SeenValue

@@ -1,5 +1,5 @@
 -- What a publisher stands for, and what a load does to it.
-use Rattle.std.specs.Prelude.{◌≡◌, ◌≢◌, ⊤, ℕ, ◌+◌, ◌<◌, ◌≤◌, List, [], ◌∷◌, ◌++◌, length}
+use Rattle.std.specs.Prelude.{◌≡◌, ◌≢◌, ℕ, ◌+◌, ◌<◌, ◌≤◌, List, [], ◌∷◌, ◌++◌, length}
 use Rattle.catalogue.specs.Entry.{Entry}
 use Rattle.catalogue.specs.Meaning.{Means, Refuses}
 use Rattle.catalogue.specs.declared.Options.{Options}
@@ -39,7 +39,7 @@ abbrev pub HasRoom : StoreValue → Type 0
 HasRoom s = accepted s < s.most
 
 -- a load of this map is accepted: its names are names, there is room, and it becomes the last of the pending loads
-pub record Adds (s : StoreValue) (domain locale : List ℕ) (map : List Entry) (after : StoreValue) : Type 0 where
+pub record AddsLoad (s : StoreValue) (domain locale : List ℕ) (map : List Entry) (after : StoreValue) : Type 0 where
   pub names : AreNames domain locale
   pub room : HasRoom s
   pub after_is : after
@@ -51,14 +51,14 @@ pub record Accepts (s : StoreValue) (domain locale text : List ℕ) (options : O
   pub compiled : Compiled
   pub means : Means text options compiled
   pub stats_are : stats ≡ compiled.stats
-  pub adds : Adds s domain locale compiled.catalogue after
+  pub adds : AddsLoad s domain locale compiled.catalogue after
 
 -- the load of an MO file is accepted, with so many entries: the file's map is added
 pub record AcceptsMo (s : StoreValue) (domain locale bytes : List ℕ) (entries : ℕ) (after : StoreValue) : Type 0 where
   pub map : List Entry
   pub is_file : Mo bytes map
   pub entries_are : entries ≡ length map
-  pub adds : Adds s domain locale map after
+  pub adds : AddsLoad s domain locale map after
 
 -- a PO text is refused for this
 abbrev pub IsTextFault : List ℕ → Options → StoreFault → Type 0
@@ -70,11 +70,12 @@ abbrev pub IsFileFault : List ℕ → StoreFault → Type 0
 IsFileFault bytes (RefusedMo fault) = (fault ≢ mo_fault.Memory) × IsRefusedFile bytes fault
 IsFileFault bytes _ = ⊥
 
--- a load whose bytes are refused so is refused for this reason, and for none before it; want of memory says nothing
+-- a load whose bytes are refused so is refused for this reason, and for none before it; want of memory says that it has
+-- names and room, and nothing of the bytes
 abbrev pub IsRefusedFor : (StoreFault → Type 0) → StoreValue → List ℕ → List ℕ → StoreFault → Type 0
 IsRefusedFor IsBytesFault s domain locale BadName = ¬ AreNames domain locale
 IsRefusedFor IsBytesFault s domain locale VersionsSpent = AreNames domain locale × (accepted s ≡ s.most)
-IsRefusedFor IsBytesFault s domain locale Memory = ⊤
+IsRefusedFor IsBytesFault s domain locale Memory = AreNames domain locale × HasRoom s
 IsRefusedFor IsBytesFault s domain locale fault = AreNames domain locale × HasRoom s × IsBytesFault fault
 
 -- the load of a PO text is refused for this reason

@@ -26,9 +26,9 @@ impl Publisher {
     /// Reads an MO file for a domain and a locale (`mo_file::read_mo`), makes the catalogue's index, puts it behind the
     /// pending loads, and answers how many entries it has.
     ///
-    /// It is refused where the domain or the locale is no name (`live_set::Name::new`), else where the loads
-    /// that are published or pending are as many as the store takes, else for what the file is refused for.
-    /// Where memory is refused in the call, `Memory` may stand in place of any other answer. A refused load
+    /// It is refused if the domain or the locale is no name (`live_set::Name::new`), else if the loads that are
+    /// published or pending are as many as the store takes, else for what the file is refused for. Memory is taken
+    /// only for a load that has names and room: then `Memory` may stand in place of any other answer. A refused load
     /// changes nothing.
     pub fn load_mo(
         &mut self,

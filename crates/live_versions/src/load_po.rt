@@ -27,9 +27,9 @@ impl Publisher {
     /// Compiles a PO text for a domain and a locale (`catalogue::compile`), makes the catalogue's index, by which
     /// look-ups are quick (`catalogue::Catalogue::index`), and puts it behind the pending loads.
     ///
-    /// It is refused where the domain or the locale is no name (`live_set::Name::new`), else where the loads
-    /// that are published or pending are as many as the store takes, else for what the text is refused for.
-    /// Where memory is refused in the call, `Memory` may stand in place of any other answer. A refused load
+    /// It is refused if the domain or the locale is no name (`live_set::Name::new`), else if the loads that are
+    /// published or pending are as many as the store takes, else for what the text is refused for. Memory is taken
+    /// only for a load that has names and room: then `Memory` may stand in place of any other answer. A refused load
     /// changes nothing.
     pub fn load(
         &mut self,

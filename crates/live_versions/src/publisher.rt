@@ -1,10 +1,9 @@
 //! The publisher.
-ghost use Rattle.std.specs.Prelude.{◌≡◌, [], length, drop, IfOk, IfErr, OnOk, OnErr};
+ghost use Rattle.std.specs.Prelude.{◌≡◌, ◌≢◌, ◌↔◌, [], length, drop, IsTrue, IfOk, IfErr, OnOk, OnErr};
 ghost use Rattle.std.specs.Arc.{arc_value};
-ghost use Rattle.live_set.specs.Names.{IsName};
 ghost use Rattle.live_versions.specs.Batches.{version_of, published};
-ghost use Rattle.live_versions.specs.Loading.{NameFaultOf, IsUnread};
-ghost use Rattle.live_versions.specs.Store.{AreNames, HasRoom, IsWithin, Adds, IsRefusedFor};
+ghost use Rattle.live_versions.specs.Loading.{IsUnread};
+ghost use Rattle.live_versions.specs.Store.{AreNames, HasRoom, IsWithin, AddsLoad, IsRefusedFor};
 
 use crate::Version;
 use crate::fault::{PublishFault, StoreFault};
@@ -14,7 +13,7 @@ use crate::seal::{Seal, Sealing, bundle_of};
 use crate::seen::Seen;
 use crate::writer::{StoreWriter, append_load, append_seal, just_shown, publish_at};
 use catalogue::Catalogue;
-use live_set::{Load, Name, NameFault};
+use live_set::{Load, Name, is_name};
 use std::alloc::{AllocError, Global};
 use std::marker::Model;
 use std::snapshot::Snapshot;
@@ -51,15 +50,20 @@ impl Model for Publisher {
         × (version_of p.seen.batches + p.pending ≤ p.most) × (p.most < 2 ^ 64) };
 }
 
-/// The name with this text.
-fn name_of(alloc: Global, text: &str) -> Result<Name, StoreFault>
-    ensures ok { IfOk result (λ name. (name ≡ text.now) × IsName text.now) }
-    ensures err { IfErr result (NameFaultOf text.now) }
+/// Whether both are names. It takes no memory.
+fn are_names(domain: &str, locale: &str) -> bool
+    ensures { IsTrue result ↔ AreNames domain.now locale.now }
+{
+    is_name(domain) && is_name(locale)
+}
+
+/// The name with this text, which is one.
+fn name_of(alloc: Global, text: &str) -> Result<Name, AllocError>
+    ensures { IfOk result (λ name. name ≡ text.now) }
 {
     match Name::new(alloc, text) {
         Ok(name) => Ok(name),
-        Err(NameFault::BadName) => Err(StoreFault::BadName),
-        Err(NameFault::Memory) => Err(StoreFault::Memory),
+        Err(_) => Err(AllocError),
     }
 }
 
@@ -112,7 +116,7 @@ impl Publisher {
         Notice::new(&self.seen)
     }
 
-    /// The two names of a load, where both are names and one more load may be accepted.
+    /// The two names of a load, if both are names and one more load may be accepted. Memory is taken only then.
     pub(crate) fn admit(
         &self,
         alloc: Global,
@@ -123,12 +127,13 @@ impl Publisher {
         ensures ok { IfOk result (λ _. AreNames domain.now locale.now × HasRoom self.now) }
         ensures err { IfErr result (IsRefusedFor IsUnread self.now domain.now locale.now) }
     {
-        let domain = name_of(alloc, domain)?;
-        let locale = name_of(alloc, locale)?;
+        if !are_names(domain, locale) {
+            return Err(StoreFault::BadName);
+        }
         if self.most - self.seen.version() <= self.pending {
             return Err(StoreFault::VersionsSpent);
         }
-        Ok((domain, locale))
+        Ok((name_of(alloc, domain)?, name_of(alloc, locale)?))
     }
 
     /// Makes the catalogue's index, and puts the catalogue behind the pending loads.
@@ -141,7 +146,7 @@ impl Publisher {
     ) -> Result<(), AllocError>
         requires names { AreNames domain locale }
         requires room { HasRoom self.old }
-        ensures ok { OnOk result (Adds self.old domain locale catalogue self.new) }
+        ensures ok { OnOk result (AddsLoad self.old domain locale catalogue self.new) }
         ensures err { OnErr result (self.new ≡ self.old) }
         ensures seen { self.new.seen ≡ self.old.seen }
     {
@@ -171,6 +176,9 @@ impl Publisher {
         ensures version { IfOk result (λ version. version ≡ version_of self.new.seen.batches) }
         ensures empty { IfOk result (λ _. self.new.pending ≡ []) }
         ensures err { OnErr result (self.new ≡ self.old) }
+
+        // With nothing pending it takes no memory, and is never refused any.
+        ensures memory { OnErr result (self.old.pending ≢ []) }
         ensures most { self.new.most ≡ self.old.most }
 
         // It stays the publisher of the same store.

@@ -111,13 +111,15 @@ impl Lookups {
 
     /// One entry: its version and a copy of a query's text.
     ///
-    /// `Closed` leaves the reader as it was. Where memory was refused for the text, the entry may have been
-    /// made all the same.
+    /// `Closed` leaves the reader as it was. Memory is refused only for an answer that isn't empty, and the entry may
+    /// have been made all the same.
     pub fn ask(&mut self, alloc: Global, query: &Query) -> Result<(Version, String), AskFault>
         ensures ok { IfOk result (λ answer.
             (answer.0 ≡ version_of self.new.batches)
             × IsAnswer (joined self.new.batches) query.now (string_bytes answer.1)) }
         ensures closed { IfErr result (λ fault. (fault ≡ AskFault.Closed) → (self.new ≡ self.old)) }
+        ensures memory { IfErr result (λ fault. (fault ≡ AskFault.Memory)
+            → IsLonger (joined self.new.batches) query.now 0) }
         ensures later { StartsWith self.new.batches self.old.batches }
         ensures book { self.new.book ≡ self.old.book }
     {

@@ -31,9 +31,9 @@ pub(crate) struct BookRule;
 impl Rule<BookBatch, u64> for BookRule {
     ghost use Rattle.std.specs.Prelude.{⊤, []};
     ghost use base.Fml.{ftrue};
-    ghost use Rattle.live_versions.specs.Book.{IsKept};
+    ghost use Rattle.live_versions.specs.Book.{KeepsBatches};
 
-    ghost holds = { λ cells log. IsKept cells log };
+    ghost holds = { λ cells log. KeepsBatches cells log };
 
     ghost first = { [] };
 
@@ -57,9 +57,9 @@ impl Gain<BookBatch, u64> for Nothing {
 struct Adding;
 
 impl Play<BookBatch, u64> for Adding {
-    ghost use Rattle.live_versions.specs.Book.{Adds};
+    ghost use Rattle.live_versions.specs.Book.{AddsBatch};
 
-    ghost then = { λ s v found w. Adds s.ask s v found w };
+    ghost then = { λ s v found w. AddsBatch s.ask s v found w };
 }
 
 struct Offered;
@@ -143,7 +143,7 @@ impl Seen {
     }
 }
 
-/// Adds a batch of so many loads behind all that was seen. It does not where the book is further.
+/// AddsBatch a batch of so many loads behind all that was seen. It does not where the book is further.
 pub(crate) fn add_batch(head: &Head, seen: &Seen, loads: u64, bundle: &Bundle) -> Option<Seen>
     requires book { head.now.word.book ≡ seen.now.book }
     requires loads { (0 < loads) × (loads ≡ length bundle.now) }

@@ -6,6 +6,10 @@
 #[cfg(test)]
 mod page;
 #[cfg(test)]
+mod pending;
+#[cfg(test)]
 mod serving;
+#[cfg(test)]
+mod sizes;
 #[cfg(test)]
 mod tests;

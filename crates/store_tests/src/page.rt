@@ -1,6 +1,7 @@
 //! The programs of docs/LIVE.md, which quotes them.
 ghost use Rattle.std.specs.Prelude.{◌≡◌};
 
+use crate::tests::open_two;
 use catalogue::Options;
 use live_versions::{Lookups, OpenFault, Publisher, StoreFault, Version, open_store};
 use std::alloc::Global;
@@ -90,11 +91,7 @@ fn the_shop_greets(rt: HostRuntime) -> Result<(), Fail> {
 
 #[test]
 fn the_shop_greets_in_threads(rt: HostRuntime) -> Result<(), Fail> {
-    let (mut publisher, mut readers) = open_store(&rt, rt.alloc(), 2, 9)?;
-    let (Some(mut one), Some(mut other)) = (readers.pop(), readers.pop()) else {
-        publisher.end(&rt);
-        return Ok(());
-    };
+    let (mut publisher, mut one, mut other) = open_two(&rt, 9)?;
     let empty = greet(&mut one);
     let found = greet_twice(&rt, &mut publisher, &mut one, &mut other);
     let refused = load_german(rt.alloc(), &mut publisher, b"");

@@ -122,7 +122,7 @@ impl Gate for Counting {
     }
 }
 
-/// Holds each worker before its first query until all stand there.
+/// Holds each worker before its first query, and the publishing thread before its first job, until all stand there.
 #[derive(Drop)]
 struct AllStand {
     workers: u64,
@@ -132,7 +132,8 @@ struct AllStand {
 
 impl Gate for AllStand {
     fn pass(&self, place: Place, index: u64) {
-        if matches!(place, Place::Worker(_)) && index == 0 {
+        if index == 0 {
+            let _ = place;
             self.stood.fetch_add(1, Ordering::SeqCst);
             // Where one gave up, those behind it wait no more.
             if self.gave_up.load(Ordering::SeqCst) == 0 && !wait_for(&self.stood, self.workers) {
@@ -142,10 +143,11 @@ impl Gate for AllStand {
     }
 }
 
-/// Holds the publishing thread before its first job until the first worker has one answer, and that worker until
-/// the job is done.
+/// Holds a worker before its first query until the publishing thread stands before its first job, that thread until the
+/// worker has one answer, and then the worker until the job is done.
 #[derive(Drop)]
 struct Overlap {
+    held: u32,
     worker: AtomicU64,
     publishing: AtomicU64,
     gave_up: AtomicU64,
@@ -154,14 +156,18 @@ struct Overlap {
 impl Gate for Overlap {
     fn pass(&self, place: Place, index: u64) {
         let held = match (place, index) {
-            (Place::Publishing, 0) => wait_for(&self.worker, 1),
-            (Place::Publishing, 1) => {
+            (Place::Publishing, 0) => {
                 self.publishing.store(1, Ordering::SeqCst);
+                wait_for(&self.worker, 1)
+            }
+            (Place::Publishing, 1) => {
+                self.publishing.store(2, Ordering::SeqCst);
                 true
             }
-            (Place::Worker(0), 1) => {
+            (Place::Worker(number), 0) if number == self.held => wait_for(&self.publishing, 1),
+            (Place::Worker(number), 1) if number == self.held => {
                 self.worker.store(1, Ordering::SeqCst);
-                wait_for(&self.publishing, 1)
+                wait_for(&self.publishing, 2)
             }
             _ => true,
         };
@@ -202,7 +208,7 @@ fn desk_of(alloc: Global, reader: Lookups, queries: usize) -> Result<Desk, Alloc
 }
 
 /// A desk for each reader. Each has as many queries as the member of `queries` at its index says.
-fn desks_of(
+pub(crate) fn desks_of(
     alloc: Global,
     publisher: &Publisher,
     mut readers: Vec<Lookups>,
@@ -301,8 +307,8 @@ fn serve_new<R: Threads + Wait + Sync, G: Gate + Sync>(
     }
 }
 
-/// Whether each desk has so many answers, each of them `hi` at 0 or `salut` at 1 and none at 0 behind one at 1, no
-/// fault, and has seen this version.
+/// Whether each desk has so many answers, each of them `hi` at 0 or `salut` at a version up to this one, none below the
+/// one before it, no fault, and has seen this version.
 fn are_right(desks: &[Desk], answers: usize, version: Version) -> bool {
     for desk in desks {
         if desk.answers.len() != answers || desk.fault.is_some() || desk.reader.seen() != version {
@@ -311,7 +317,7 @@ fn are_right(desks: &[Desk], answers: usize, version: Version) -> bool {
         let mut last = 0;
         for answer in desk.answers.as_slice() {
             let text = if answer.version == 0 { "hi" } else { "salut" };
-            if answer.version < last || answer.version > 1 || answer.text.as_str() != text {
+            if answer.version < last || answer.version > version || answer.text.as_str() != text {
                 return false;
             }
             last = answer.version;
@@ -368,6 +374,23 @@ fn one_job_beside_one_two_and_sixteen(rt: HostRuntime) -> Result<(), Fail> {
     assert!(rt; one_job(&rt, rt.alloc(), 2)?);
     assert!(rt; one_job(&rt, rt.alloc(), 16)?);
     Ok(())
+}
+
+/// Serves this many queries of each of two desks, beside as many jobs. Answers whether all have what they are to have.
+pub fn serves_jobs<R: Threads + Wait + Sync>(
+    rt: &R,
+    alloc: Global,
+    count: usize,
+) -> Result<bool, Fail> {
+    let jobs = same_jobs(alloc, count)?;
+    let ran = serve_new(rt, alloc, 2, u64::MAX, false, &[count, count], jobs, &Open)?;
+    let served = ran.served?;
+    let version = count as u64;
+    Ok(
+        served.outcomes.len() == count
+            && (served.version, ran.version, ran.pending) == (version, version, 0)
+            && are_right(ran.desks.as_slice(), count, version),
+    )
 }
 
 #[test]
@@ -458,25 +481,27 @@ fn what_was_pending_is_published(rt: HostRuntime) -> Result<(), Fail> {
 #[test]
 fn all_workers_stand_together(rt: HostRuntime) -> Result<(), Fail> {
     for workers in 2..17 {
-        let gate = AllStand {
-            workers: workers as u64,
-            stood: AtomicU64::new(0),
-            gave_up: AtomicU64::new(0),
-        };
-        let ran = serve_new(
-            &rt,
-            rt.alloc(),
-            workers,
-            9,
-            false,
-            THREE,
-            Vec::new(rt.alloc()),
-            &gate,
-        )?;
-        let served = ran.served?;
-        assert_eq!(rt; gate.gave_up.load(Ordering::SeqCst), 0);
-        assert_eq!(rt; served.version, 0);
-        assert!(rt; are_right(ran.desks.as_slice(), 3, 0));
+        for jobs in 0..2u32 {
+            let gate = AllStand {
+                workers: (workers + jobs) as u64,
+                stood: AtomicU64::new(0),
+                gave_up: AtomicU64::new(0),
+            };
+            let ran = serve_new(
+                &rt,
+                rt.alloc(),
+                workers,
+                9,
+                false,
+                THREE,
+                same_jobs(rt.alloc(), jobs as usize)?,
+                &gate,
+            )?;
+            let served = ran.served?;
+            assert_eq!(rt; gate.gave_up.load(Ordering::SeqCst), 0);
+            assert_eq!(rt; served.version, jobs as u64);
+            assert!(rt; are_right(ran.desks.as_slice(), 3, jobs as u64));
+        }
     }
     Ok(())
 }
@@ -521,26 +546,33 @@ fn version_at(desks: &[Desk], desk: usize, query: usize) -> Option<Version> {
 
 #[test]
 fn publishing_overlaps_answering(rt: HostRuntime) -> Result<(), Fail> {
-    let gate = Overlap {
-        worker: AtomicU64::new(0),
-        publishing: AtomicU64::new(0),
-        gave_up: AtomicU64::new(0),
-    };
-    let ran = serve_new(
-        &rt,
-        rt.alloc(),
-        2,
-        9,
-        false,
-        &[2, 2],
-        same_jobs(rt.alloc(), 2)?,
-        &gate,
-    )?;
-    let served = ran.served?;
-    assert_eq!(rt; gate.gave_up.load(Ordering::SeqCst), 0);
-    assert_eq!(rt; served.version, 2);
-    assert_eq!(rt; version_at(ran.desks.as_slice(), 0, 0), Some(0));
-    let later = version_at(ran.desks.as_slice(), 0, 1).unwrap_or(0);
-    assert!(rt; later >= 1);
+    for held in 0..16u32 {
+        let gate = Overlap {
+            held,
+            worker: AtomicU64::new(0),
+            publishing: AtomicU64::new(0),
+            gave_up: AtomicU64::new(0),
+        };
+        let ran = serve_new(
+            &rt,
+            rt.alloc(),
+            16,
+            9,
+            false,
+            THREE,
+            same_jobs(rt.alloc(), 2)?,
+            &gate,
+        )?;
+        let served = ran.served?;
+        assert_eq!(rt; gate.gave_up.load(Ordering::SeqCst), 0, "{held}");
+        assert_eq!(rt; served.version, 2, "{held}");
+        assert_eq!(rt;
+            version_at(ran.desks.as_slice(), held as usize, 0),
+            Some(0),
+            "{held}"
+        );
+        let later = version_at(ran.desks.as_slice(), held as usize, 1).unwrap_or(0);
+        assert!(rt; later >= 1, "{held}");
+    }
     Ok(())
 }

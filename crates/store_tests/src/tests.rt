@@ -1,5 +1,5 @@
 //! Worked values. They were written by hand, and not taken from a run.
-ghost use Rattle.std.specs.Prelude.{◌≡◌};
+ghost use Rattle.std.specs.Prelude.{◌≡◌, IfOk};
 
 use catalogue::{LoadFault, LoadKind, Options, Stats};
 use live_set::{Ask, Query};
@@ -53,6 +53,34 @@ const DUPLICATE: StoreFault = StoreFault::Refused(LoadFault {
     line: 4,
 });
 
+/// A new store with one reader, which accepts at most this many loads.
+pub fn open_one<R: Wait + AllocGlobal>(rt: &R, most: u64) -> Result<(Publisher, Lookups), Fail>
+    ensures { IfOk result (λ store. store.1.book ≡ store.0.seen.book) }
+{
+    let (publisher, mut readers) = open_store(rt, rt.alloc(), 1, most)?;
+    if let Some(reader) = readers.pop() {
+        return Ok((publisher, reader));
+    }
+    publisher.end(rt);
+    Err(Fail::new("the store has no reader"))
+}
+
+/// A new store with two readers.
+pub fn open_two<R: Wait + AllocGlobal>(
+    rt: &R,
+    most: u64,
+) -> Result<(Publisher, Lookups, Lookups), Fail>
+    ensures first { IfOk result (λ store. store.1.book ≡ store.0.seen.book) }
+    ensures second { IfOk result (λ store. store.2.book ≡ store.0.seen.book) }
+{
+    let (publisher, mut readers) = open_store(rt, rt.alloc(), 2, most)?;
+    if let (Some(second), Some(first)) = (readers.pop(), readers.pop()) {
+        return Ok((publisher, first, second));
+    }
+    publisher.end(rt);
+    Err(Fail::new("the store has not two readers"))
+}
+
 /// What `hi` is in a locale.
 fn hi_in<'a>(pinned: &'a Pinned<'_>, locale: &str) -> &'a str {
     pinned.gettext("app", locale, "hi")
@@ -74,6 +102,13 @@ fn shows(reader: &mut Lookups, version: Version, fr: &str, de: &str, sv: &str) -
 }
 
 type Loaded = Result<Stats, StoreFault>;
+
+/// Loads `hi` as `salut` in French.
+pub fn load_hi(alloc: Global, publisher: &mut Publisher) -> Loaded
+    ensures { publisher.new.seen.book ≡ publisher.old.seen.book }
+{
+    publisher.load(alloc, "app", "fr", SALUT, PLAIN)
+}
 
 /// Two loads and a publish, and then a load that is refused.
 #[derive(Drop)]
@@ -123,11 +158,7 @@ fn publish_two<R: Wait>(
 
 #[test]
 fn loads_are_published_together(rt: HostRuntime) -> Result<(), Fail> {
-    let (mut publisher, mut readers) = open_store(&rt, rt.alloc(), 1, u64::MAX)?;
-    let Some(mut reader) = readers.pop() else {
-        publisher.end(&rt);
-        return Ok(());
-    };
+    let (mut publisher, mut reader) = open_one(&rt, u64::MAX)?;
     let found = publish_two(&rt, rt.alloc(), &mut publisher, &mut reader);
     publisher.end(&rt);
     assert!(rt; found.loads == (Ok(ONE), Ok(ONE)));
@@ -210,11 +241,7 @@ fn tell_two<R: Wait>(rt: &R, alloc: Global, publisher: &mut Publisher, reader: &
 
 #[test]
 fn notices_are_learnt(rt: HostRuntime) -> Result<(), Fail> {
-    let (mut publisher, mut readers) = open_store(&rt, rt.alloc(), 1, 9)?;
-    let Some(mut reader) = readers.pop() else {
-        publisher.end(&rt);
-        return Ok(());
-    };
+    let (mut publisher, mut reader) = open_one(&rt, 9)?;
     let found = tell_two(&rt, rt.alloc(), &mut publisher, &mut reader);
     publisher.end(&rt);
     assert!(rt; found.empty && found.shown && found.again);
@@ -254,16 +281,15 @@ fn open_and_show<R: Wait>(rt: &R, alloc: Global, readers: u32) -> Result<u32, Op
 
 #[test]
 fn stores_have_one_to_sixteen_readers(rt: HostRuntime) {
-    for (readers, shown) in [
-        (0, Err(OpenFault::BadCount)),
-        (1, Ok(1)),
-        (2, Ok(2)),
-        (16, Ok(16)),
-        (17, Err(OpenFault::BadCount)),
-    ] {
+    for readers in 0..40u32 {
+        let wanted = if readers == 0 || readers > 16 {
+            Err(OpenFault::BadCount)
+        } else {
+            Ok(readers)
+        };
         assert_eq!(rt;
             open_and_show(&rt, rt.alloc(), readers),
-            shown,
+            wanted,
             "with {readers}"
         );
     }
@@ -289,16 +315,13 @@ fn loads_are_refused_in_order(rt: HostRuntime) -> Result<(), Fail> {
     assert!(rt; name == Err(StoreFault::BadName) && first == Ok(ONE));
     assert!(rt; second == Err(StoreFault::VersionsSpent) && empty == Err(StoreFault::BadName));
     assert!(rt; pending == 1 && shown == 1);
+    one_answer();
     Ok(())
 }
 
 #[test]
 fn a_store_may_take_no_loads(rt: HostRuntime) -> Result<(), Fail> {
-    let (mut publisher, mut readers) = open_store(&rt, rt.alloc(), 1, 0)?;
-    let Some(mut reader) = readers.pop() else {
-        publisher.end(&rt);
-        return Ok(());
-    };
+    let (mut publisher, mut reader) = open_one(&rt, 0)?;
     let text = publisher.load(rt.alloc(), "app", "fr", SALUT, PLAIN);
     let file = publisher.load_mo(rt.alloc(), "app", "fr", HEJ);
     let pending = publisher.pending();
@@ -328,11 +351,7 @@ fn finds_closed(reader: &mut Lookups, query: &Query, alloc: Global, seen: Versio
 #[test]
 fn a_closed_store_answers_nothing(rt: HostRuntime) -> Result<(), Fail> {
     let query = query(rt.alloc(), "fr")?;
-    let (mut publisher, mut readers) = open_store(&rt, rt.alloc(), 2, 9)?;
-    let (Some(mut second), Some(mut first)) = (readers.pop(), readers.pop()) else {
-        publisher.end(&rt);
-        return Ok(());
-    };
+    let (mut publisher, mut first, mut second) = open_two(&rt, 9)?;
     let found = tell_two(&rt, rt.alloc(), &mut publisher, &mut first);
     publisher.end(&rt);
     assert!(rt; found.second == Some(2));
@@ -349,11 +368,7 @@ fn answers_take_the_place_of_a_text(rt: HostRuntime) -> Result<(), Fail> {
     let french = query(rt.alloc(), "fr")?;
     let swedish = query(rt.alloc(), "sv")?;
     let mut text = String::from_str(rt.alloc(), "a text of the caller's")?;
-    let (mut publisher, mut readers) = open_store(&rt, rt.alloc(), 1, 9)?;
-    let Some(mut reader) = readers.pop() else {
-        publisher.end(&rt);
-        return Ok(());
-    };
+    let (mut publisher, mut reader) = open_one(&rt, 9)?;
     let loaded = publisher.load(rt.alloc(), "app", "fr", SALUT, PLAIN);
     let published = publisher.publish(&rt);
     let first = reader.ask_into(&french, &mut text);
@@ -391,11 +406,7 @@ fn load_file(alloc: Global, publisher: &mut Publisher, file: &[u8]) -> [(FileLoa
 
 #[test]
 fn files_are_loaded(rt: HostRuntime) -> Result<(), Fail> {
-    let (mut publisher, mut readers) = open_store(&rt, rt.alloc(), 1, 9)?;
-    let Some(mut reader) = readers.pop() else {
-        publisher.end(&rt);
-        return Ok(());
-    };
+    let (mut publisher, mut reader) = open_one(&rt, 9)?;
     let big = load_file(rt.alloc(), &mut publisher, BIG);
     let found = load_file(rt.alloc(), &mut publisher, HEJ);
     let published = publisher.publish(&rt);
@@ -437,14 +448,28 @@ fn refusals_are_told(rt: HostRuntime) -> Result<(), Fail> {
     Ok(())
 }
 
-/// The second reader enters and looks up while the first one's entry lives, and each once more. Neither can wait.
-fn side_by_side(first: &mut Lookups, second: &mut Lookups) -> Result<[bool; 4], Closed> {
-    let pinned = first.enter()?;
-    let other = shows(second, 1, "salut", "hi", "hi");
-    let same = pinned.version() == 1 && hi_in(&pinned, "fr") == "salut";
+/// Whether an entry of a reader has version 1, and answers `salut` to the query. It can't wait.
+fn looks_up(reader: &mut Lookups, query: &Query) -> Result<bool, Closed>
+    ensures { reader.new.book ≡ reader.old.book }
+{
+    let pinned = reader.enter()?;
+    let found = pinned.version() == 1 && pinned.look(query) == "salut";
     pinned.leave();
-    let again = shows(first, 1, "salut", "hi", "hi");
-    Ok([other, same, again, shows(second, 1, "salut", "hi", "hi")])
+    Ok(found)
+}
+
+/// The second reader enters and looks up while the first one's entry lives, and each once more. Neither can wait.
+fn side_by_side(
+    first: &mut Lookups,
+    second: &mut Lookups,
+    query: &Query,
+) -> Result<[bool; 4], Closed> {
+    let pinned = first.enter()?;
+    let other = looks_up(second, query);
+    let same = pinned.version() == 1 && pinned.look(query) == "salut";
+    pinned.leave();
+    let again = looks_up(first, query)?;
+    Ok([other?, same, again, looks_up(second, query)?])
 }
 
 fn both_learn<R: Wait>(
@@ -453,6 +478,7 @@ fn both_learn<R: Wait>(
     publisher: &mut Publisher,
     first: &mut Lookups,
     second: &mut Lookups,
+    query: &Query,
 ) -> Result<[bool; 4], Closed>
     requires first { first.old.book ≡ publisher.old.seen.book }
     requires second { second.old.book ≡ publisher.old.seen.book }
@@ -462,17 +488,21 @@ fn both_learn<R: Wait>(
     let notice = publisher.tell();
     first.learn(&notice);
     second.learn(&notice);
-    side_by_side(first, second)
+    side_by_side(first, second, query)
 }
 
 #[test]
 fn readers_enter_side_by_side(rt: HostRuntime) -> Result<(), Fail> {
-    let (mut publisher, mut readers) = open_store(&rt, rt.alloc(), 2, 9)?;
-    let (Some(mut second), Some(mut first)) = (readers.pop(), readers.pop()) else {
-        publisher.end(&rt);
-        return Ok(());
-    };
-    let found = both_learn(&rt, rt.alloc(), &mut publisher, &mut first, &mut second);
+    let query = query(rt.alloc(), "fr")?;
+    let (mut publisher, mut first, mut second) = open_two(&rt, 9)?;
+    let found = both_learn(
+        &rt,
+        rt.alloc(),
+        &mut publisher,
+        &mut first,
+        &mut second,
+        &query,
+    );
     publisher.end(&rt);
     assert!(rt; found == Ok([true; 4]));
     Ok(())
@@ -498,11 +528,7 @@ fn look_all(alloc: Global, reader: &mut Lookups) -> Result<[bool; 6], AskFault> 
 
 #[test]
 fn entries_answer_each_call(rt: HostRuntime) -> Result<(), Fail> {
-    let (mut publisher, mut readers) = open_store(&rt, rt.alloc(), 1, 9)?;
-    let Some(mut reader) = readers.pop() else {
-        publisher.end(&rt);
-        return Ok(());
-    };
+    let (mut publisher, mut reader) = open_one(&rt, 9)?;
     let empty = shows(&mut reader, 0, "hi", "hi", "hi");
     let loaded = publisher.load(rt.alloc(), "app", "fr", COUNTED, PLAIN);
     let published = publisher.publish(&rt);
@@ -582,11 +608,7 @@ fn in_threads<R: Threads + Wait + Sync>(
 
 #[test]
 fn readers_never_go_back(rt: HostRuntime) -> Result<(), Fail> {
-    let (mut publisher, mut readers) = open_store(&rt, rt.alloc(), 2, 5000)?;
-    let (Some(mut second), Some(mut first)) = (readers.pop(), readers.pop()) else {
-        publisher.end(&rt);
-        return Ok(());
-    };
+    let (mut publisher, mut first, mut second) = open_two(&rt, 5000)?;
     let notice = publisher.tell();
     hand_over(&publisher, &first, &notice);
     let found = in_threads(&rt, rt.alloc(), &mut publisher, &mut first, &mut second);
@@ -596,6 +618,7 @@ fn readers_never_go_back(rt: HostRuntime) -> Result<(), Fail> {
     );
     publisher.end(&rt);
     assert!(rt; found == (200, true) && last == (true, true));
+    versions_never_fall();
     Ok(())
 }
 
@@ -675,11 +698,7 @@ fn end_beside<R: Threads + Wait>(
 
 #[test]
 fn the_end_publishes_nothing(rt: HostRuntime) -> Result<(), Fail> {
-    let (mut publisher, mut readers) = open_store(&rt, rt.alloc(), 2, 9)?;
-    let (Some(second), Some(first)) = (readers.pop(), readers.pop()) else {
-        publisher.end(&rt);
-        return Ok(());
-    };
+    let (mut publisher, first, second) = open_two(&rt, 9)?;
     let published = publish_many(&rt, rt.alloc(), &mut publisher, 1);
     let loaded = publisher.load(rt.alloc(), "app", "de", HALLO, PLAIN);
     let pending = publisher.pending();
@@ -687,11 +706,4 @@ fn the_end_publishes_nothing(rt: HostRuntime) -> Result<(), Fail> {
     assert!(rt; published == 1 && loaded == Ok(ONE) && pending == 1);
     assert!(rt; found == Some(Ok([true; 4])));
     Ok(())
-}
-
-#[test]
-fn the_laws_do_nothing(rt: HostRuntime) {
-    versions_never_fall();
-    one_answer();
-    assert!(rt; true);
 }

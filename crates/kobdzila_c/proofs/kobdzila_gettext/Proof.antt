@@ -33,7 +33,7 @@ use denote.Triple.Spec.{triple_of}
 use denote.Triple.Table.{framed}
 use denote.Triple.Walked.{Stays, walk_of, stay_dropped, Goes-dropped, ends_at}
 use Rattle.std.proofs.raw_atomic.Walks.{proved}
-use Rattle.kobdzila_c.specs.Answering.{IsAnswer, map_of, question}
+use Rattle.kobdzila_c.specs.Answering.{IsClosedAnswer, map_of, question}
 use Rattle.kobdzila_c.specs.Shared.{Text, reads}
 use Rattle.kobdzila_c.specs.contracts.kobdzila_gettext as f
 use Rattle.kobdzila_c.proofs.kobdzila_gettext.Statement.{statement}
@@ -100,9 +100,9 @@ kobdzila_gettext_spec 𝓤 𝓛 𝓜 𝓡 wired =
     (get ! refl) (and_then ! (get ! refl) (no_more !))) (λ v.
     use1 𝓛 (later (some (λ (r : Bor (List ℕ)). ((‵ (flft μ s) ⊛ (‵ (flft κs.0 qs.0) ⊛ ‵ ftrue)) ⊛ ‵ (R.own_val r
     (v ∷ []))) ⊛ some (λ (ws : Lasts g.ended z.0.0 z.0.3). ‵ (lasts g.ended z.0.0 z.0.3 ws)
-    ⊛ raw (fact 𝓤 (IsAnswer (map_of x) (question 0 [] id.now 0) r.now)))))) (id⊢ 𝓤 _) $
+    ⊛ raw (fact 𝓤 (IsClosedAnswer (map_of x) (question 0 [] id.now 0) r.now)))))) (id⊢ 𝓤 _) $
     await ! tt $ pick ! (λ r. split ! $ split ! $ move ! (2 ∷ []) $ pick ! (λ ws. split ! $ drop ! $
-    heard ! (IsAnswer (map_of x) (question 0 [] id.now 0) r.now) (λ ok. move ! (1 ∷ []) $
+    heard ! (IsClosedAnswer (map_of x) (question 0 [] id.now 0) r.now) (λ ok. move ! (1 ∷ []) $
     -- [the text; the tokens; the room]
     peeks ! R (Is R) (shows 𝓛 R) r (v ∷ []) (λ so. let typed = ((shr_slice_Lawful 𝓛 erased μ u8).typed r (v ∷ [])
     so).0 in lands_as ! refl refl typed $
@@ -110,9 +110,9 @@ kobdzila_gettext_spec 𝓤 𝓛 𝓜 𝓡 wired =
     sets ! (of_opd ! (unit_lit !)) refl (tt, tt) $
     returns ! (look_at ! 0 refl) $ free_all ! refl $
     move ! (2 ∷ 0 ∷ []) $ use2 𝓛 (‵ (part_at R full_share r b o)) (part_in 𝓛 R refl full_share r b o v) $
-    fpack ! (IsAnswer (map_of x) (question 0 [] id.now 0) r.now) (λ _. lies_at R full_share (block_ptr b
+    fpack ! (IsClosedAnswer (map_of x) (question 0 [] id.now 0) r.now) (λ _. lies_at R full_share (block_ptr b
     o) r) ok $
-    fpack ! (Bor (List ℕ)) (λ r'. fex (IsAnswer (map_of x) (question 0 [] id.now 0) r'.now) (λ _. lies_at
+    fpack ! (Bor (List ℕ)) (λ r'. fex (IsClosedAnswer (map_of x) (question 0 [] id.now 0) r'.now) (λ _. lies_at
     R full_share (block_ptr b o) r')) r $
     move ! (1 ∷ []) $ split ! $
     -- [the token of μ; the tokens; what was answered]

@@ -1,7 +1,7 @@
 use Rattle.std.proofs.Common.{rules, ◌≡◌, sym, ap, ◌∙◌}
 use Rattle.desks.specs.Jobs.{Mo, JobValue, source_value, IsRefused}
 use Rattle.desks.proofs.Jobs.{accepted_po, refused_mo}
-use Rattle.desks.proofs.publish.load.Goals as goal
+use Rattle.desks.proofs.publish.load_job.Goals as goal
 
 pub returns-in_ok-stats-in-Po-clause-ok : goal.returns-in_ok-stats-in-Po-clause-ok
 returns-in_ok-stats-in-Po-clause-ok c =
