@@ -1,0 +1,123 @@
+-- A store whose readers have settled has one history: the publisher's work, into which each reader's acts are put.
+use Rattle.std.specs.List.{AllZip, AllByRecursion}
+use Rattle.std.proofs.Common.{◌≡◌, ℕ, zero, suc, ◌+◌, ◌<◌, ◌==◌, false, List, [], ◌∷◌, refl, sym, ap, ◌∙◌, subst, arith}
+use Rattle.std.proofs.lemmas.Bool.Decides.{nat_tests}
+use Rattle.live_set.specs.Loads.{LoadValue}
+use Rattle.live_versions.specs.Batches.{version_of, StartsWith}
+use Rattle.live_versions.specs.History.{Event, Accept, Refuse, Publish, Enter, Learn, opened, state_of}
+use Rattle.desks.specs.ServedHistory.{without_entries}
+use Rattle.desks.proofs.Runs.{Level, level_trans, work_all}
+use Rattle.life.specs.Acts.{Act}
+use Rattle.life.specs.Reached.{NoneIsReaders, HasActed}
+use Rattle.life.specs.Life.{Met, met, IsStepOf, acts_of, seen_of}
+use Rattle.life.specs.Laws.{HasOneLife}
+use Rattle.life.proofs.Calls.{own_below, own_runs}
+use Rattle.life.proofs.Histories.{Goes, goes_legal, runs_go, AreUnder, not_met, seen_from}
+use Rattle.life.proofs.Weaving.{Woven, weave, left_here}
+
+own_under : (events : List Event) → NoneIsReaders events → AreUnder 0 events
+own_under [] own = tt
+own_under (Accept load ∷ events) own = (tt, own_under events own)
+own_under (Refuse ∷ events) own = (tt, own_under events own)
+own_under (Publish ∷ events) own = (tt, own_under events own)
+own_under (Enter reader version ∷ events) own = absurd own
+own_under (Learn reader version ∷ events) own = absurd own
+
+record AllWoven (most first : ℕ) (events : List Event) (acts : List (List Act))
+    (readers : List (List (List LoadValue))) : Type 0 where
+  pub history : List Event
+  pub goes : Goes most opened history
+  pub level : Level (state_of history) (state_of events)
+  pub work : without_entries history ≡ without_entries events
+  pub others : (reader : ℕ) → reader < first → met reader opened history ≡ met reader opened events
+  pub others_seen : (reader : ℕ) → reader < first → (state_of history).seen reader ≡ (state_of events).seen reader
+  pub mine : (reader worker : ℕ) → reader ≡ first + worker
+      → AllZip IsStepOf (acts_of acts worker) (met reader opened history)
+  pub seen : (reader worker : ℕ) → reader ≡ first + worker → (state_of history).seen reader ≡ seen_of readers worker
+
+weave_all : (most first : ℕ) (events : List Event) (fin : List (List LoadValue)) (acts : List (List Act))
+    (readers : List (List (List LoadValue))) → Goes most opened events → AreUnder first events
+    → fin ≡ (state_of events).batches → AllZip HasActed acts readers → AllByRecursion (StartsWith fin) readers
+    → AllWoven most first events acts readers
+weave_all most first events fin [] [] goes under is acted settled = record {
+  history = events;
+  goes = goes;
+  level = record { batches = refl; pending = refl };
+  work = refl;
+  others = λ reader less. refl;
+  others_seen = λ reader less. refl;
+  mine = λ reader worker this. subst (λ (l : List Met). AllZip IsStepOf [] l)
+      (sym (not_met first reader opened events under (omega (arith, this)))) tt;
+  seen = λ reader worker this. seen_from first reader opened events under (omega (arith, this));
+}
+weave_all most first events fin [] (r ∷ rs) goes under is acted settled = absurd acted
+weave_all most first events fin (a ∷ more) [] goes under is acted settled = absurd acted
+weave_all most first events fin (a ∷ more) (r ∷ rs) goes under is acted settled =
+    let one : Woven most first opened events a (version_of r) = weave most first opened events a r fin
+    goes under is settled.0 (left_here [] [] a r refl acted.0) in
+    let rest : AllWoven most (first + 1) one.history more rs = weave_all most (first + 1) one.history fin more rs
+    one.goes one.under (is ∙ sym one.level.batches) acted.1 settled.1 in
+    record {
+      history = rest.history;
+      goes = rest.goes;
+      level = level_trans (state_of rest.history) (state_of one.history) (state_of events) rest.level one.level;
+      work = work_of one rest;
+      others = λ reader less. others_of one rest reader less;
+      others_seen = λ reader less. others_seen_of one rest reader less;
+      mine = λ reader worker this. mine_of one rest reader worker this;
+      seen = λ reader worker this. seen_is one rest reader worker this;
+    } where
+      work_of : (one : Woven most first opened events a (version_of r))
+          (rest : AllWoven most (first + 1) one.history more rs)
+          → without_entries rest.history ≡ without_entries events
+      work_of one rest = rest.work ∙ one.work
+
+      others_of : (one : Woven most first opened events a (version_of r))
+          (rest : AllWoven most (first + 1) one.history more rs) (reader : ℕ) → reader < first
+          → met reader opened rest.history ≡ met reader opened events
+      others_of one rest reader less =
+          let no : (reader == first) ≡ false = grind (arith, nat_tests, less) in
+          rest.others reader (omega (arith, less)) ∙ one.others reader no
+
+      others_seen_of : (one : Woven most first opened events a (version_of r))
+          (rest : AllWoven most (first + 1) one.history more rs) (reader : ℕ) → reader < first
+          → (state_of rest.history).seen reader ≡ (state_of events).seen reader
+      others_seen_of one rest reader less =
+          let no : (reader == first) ≡ false = grind (arith, nat_tests, less) in
+          rest.others_seen reader (omega (arith, less)) ∙ one.others_seen reader no
+
+      mine_of : (one : Woven most first opened events a (version_of r))
+          (rest : AllWoven most (first + 1) one.history more rs) (reader worker : ℕ) → reader ≡ first + worker
+          → AllZip IsStepOf (acts_of (a ∷ more) worker) (met reader opened rest.history)
+      mine_of one rest reader zero this =
+          let same : reader ≡ first = omega (arith, this) in
+          let there : met reader opened rest.history ≡ met first opened one.history = rest.others reader
+          (omega (arith, this)) ∙ ap (λ (k : ℕ). met k opened one.history) same in
+          subst (λ (l : List Met). AllZip IsStepOf a l) (sym there) one.mine
+      mine_of one rest reader (suc worker) this = rest.mine reader worker (omega (arith, this))
+
+      seen_is : (one : Woven most first opened events a (version_of r))
+          (rest : AllWoven most (first + 1) one.history more rs) (reader worker : ℕ) → reader ≡ first + worker
+          → (state_of rest.history).seen reader ≡ seen_of (r ∷ rs) worker
+      seen_is one rest reader zero this =
+          let same : reader ≡ first = omega (arith, this) in
+          rest.others_seen reader (omega (arith, this)) ∙ (ap (λ (k : ℕ). (state_of one.history).seen k) same
+          ∙ one.seen)
+      seen_is one rest reader (suc worker) this = rest.seen reader worker (omega (arith, this))
+
+pub one_life : HasOneLife
+one_life s readers work acts reached settled =
+    let w = reached.worked in
+    let all : AllWoven s.most 0 work acts readers = weave_all s.most 0 work s.batches acts readers
+    (runs_go s.most opened work (own_runs s.most work w.legal w.own)) (own_under work w.own) (sym w.batches)
+    reached.acted settled in (
+      all.history,
+      record {
+        legal = goes_legal s.most all.history all.goes;
+        batches = all.level.batches ∙ w.batches;
+        pending = all.level.pending ∙ w.pending;
+        seen = λ reader. all.seen reader reader (omega arith);
+        work_is = all.work ∙ work_all work (own_below work w.own);
+        steps = λ reader. all.mine reader reader (omega arith);
+      },
+    )

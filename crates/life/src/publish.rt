@@ -1,0 +1,51 @@
+//! The publishing thread.
+ghost use Rattle.std.specs.Prelude.{◌≡◌, OnOk};
+ghost use Rattle.life.specs.PublisherWork.{Does, DoesAll, StopsAfter};
+
+use crate::command::{Command, Outcome};
+use desks::load_job;
+use live_versions::Publisher;
+use std::alloc::{AllocError, Global};
+use std::sync::Wait;
+
+/// Does a command.
+fn do_command<R: Wait>(
+    rt: &R,
+    alloc: Global,
+    publisher: &mut Publisher,
+    command: &Command,
+) -> Outcome
+    ensures book { publisher.new.seen.book ≡ publisher.old.seen.book }
+    ensures does { Does publisher.old command.now result publisher.new }
+{
+    match command {
+        Command::Load(job) => match load_job(alloc, publisher, job) {
+            Ok(counts) => Outcome::Loaded(counts),
+            Err(fault) => Outcome::Refused(fault),
+        },
+        Command::Publish => match publisher.publish(rt) {
+            Ok(version) => Outcome::Published(version),
+            Err(_) => Outcome::Unpublished,
+        },
+    }
+}
+
+/// Does the commands in turn.
+pub(crate) fn do_commands<R: Wait>(
+    rt: &R,
+    alloc: Global,
+    publisher: &mut Publisher,
+    commands: &[Command],
+    outcomes: &mut Vec<Outcome>,
+) -> Result<(), AllocError>
+    ensures book { publisher.new.seen.book ≡ publisher.old.seen.book }
+    ensures does { OnOk result (DoesAll publisher.old commands.now outcomes.new.items publisher.new) }
+    ensures stops { StopsAfter publisher.old commands.now publisher.new }
+{
+    outcomes.clear();
+    for index in 0..commands.len() {
+        let outcome = do_command(rt, alloc, publisher, &commands[index]);
+        outcomes.push(outcome)?;
+    }
+    Ok(())
+}
