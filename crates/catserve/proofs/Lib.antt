@@ -13,3 +13,4 @@ pub mod SessionHears
 pub mod SessionFront
 pub mod SessionTalk
 pub mod SessionEnds
+pub mod Stopping

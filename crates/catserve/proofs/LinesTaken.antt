@@ -12,7 +12,7 @@ use Rattle.std.proofs.lemmas.List.Folds.{concat-append}
 use Rattle.devices.specs.Devices.{RisesBy}
 use Rattle.line_input.specs.Lines.{lines, pieces, is_line_end}
 use Rattle.line_input.specs.Incoming.{Incoming, MayCome, EndsLine, EndsLines, LacksLines}
-use Rattle.line_input.specs.Arrivals.{Adds, AddsSome, Comes}
+use Rattle.line_input.specs.Arrivals.{AddsInput, AddsSome, Comes}
 use Rattle.line_input.proofs.Arriving.{consumes_none, consumes_both, rises_none, rises_both}
 use Rattle.line_input.specs.declared.fault.LineInputFault.{LineInputFault}
 use Rattle.line_input.specs.declared.fault.LineInputFault.TheVariants as line_fault
@@ -43,7 +43,7 @@ counts_both i j k a b = record {
   reads = rises_both 0 0 i.reads j.reads k.reads a.reads b.reads;
 }
 
-pub stays_whole : (i j : InputSeen) (x y : HearingValue) → Adds i.left j.left x.input y.input → CountsOn i j
+pub stays_whole : (i j : InputSeen) (x y : HearingValue) → AddsInput i.left j.left x.input y.input → CountsOn i j
     → y.number ≡ x.number → y.size ≡ x.size → Stays i j x y []
 stays_whole i j x y adds counts number size = record {
   got = record {

@@ -5,7 +5,9 @@ use Rattle.devices.specs.Devices.{RisesBy}
 use Rattle.script_text.specs.declared.fault.ScriptFault.{ScriptFault}
 use Rattle.script_text.specs.declared.fault.ScriptKind.{ScriptKind}
 use Rattle.script_text.specs.declared.fault.ScriptKind.TheVariants.{TooLarge, NotUtf8, BadLine, ReadFault, WriteFault}
-use Rattle.script_text.specs.Texts.{IsRefused}
+use Rattle.script_text.specs.declared.fault.ScriptKind.TheVariants.{Memory}
+use Rattle.script_text.specs.Script.{ScriptValue}
+use Rattle.script_text.specs.Texts.{IsRefused, IsScript}
 use Rattle.catserve.specs.Rounds.{HasOutput}
 
 -- what is known of a reader: the bytes still to be read, where they are told, and the counts of reads and failures
@@ -65,14 +67,23 @@ pub record IsUnwritable (i i' : InputSeen) (o o' : OutputSeen) : Type 0 where
   pub is : HasOutput text output
   pub failed : RisesBy 1 o.failures o'.failures
 
--- a run fails for this, at this line; after want of memory, of a thread or of a store nothing was written either
+-- the text that was read is a script, for which there is no store or no thread, and nothing was written
+pub record StopsScript (i i' : InputSeen) (o o' : OutputSeen) : Type 0 where
+  pub text : List ℕ
+  pub read : ReadsText i i' text
+  pub value : ScriptValue
+  pub is : IsScript text value
+  pub unwritten : o' ≡ o
+
+-- a run fails for this, at this line; after it ran out of memory nothing was written either
 abbrev pub Fails : InputSeen → InputSeen → OutputSeen → OutputSeen → ScriptKind → ℕ → Type 0
 Fails i i' o o' TooLarge line = RefusesText i i' o o' TooLarge line
 Fails i i' o o' NotUtf8 line = RefusesText i i' o o' NotUtf8 line
 Fails i i' o o' BadLine line = RefusesText i i' o o' BadLine line
 Fails i i' o o' ReadFault line = IsUnreadable i i' o o' × (line ≡ 0)
 Fails i i' o o' WriteFault line = IsUnwritable i i' o o' × (line ≡ 0)
-Fails i i' o o' kind line = (o' ≡ o) × (line ≡ 0)
+Fails i i' o o' Memory line = (o' ≡ o) × (line ≡ 0)
+Fails i i' o o' kind line = StopsScript i i' o o' × (line ≡ 0)
 
 -- what a run did, by its answer
 abbrev pub Runs : {T : Type 0} → InputSeen → InputSeen → OutputSeen → OutputSeen → Result T ScriptFault → Type 0

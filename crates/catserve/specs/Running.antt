@@ -12,9 +12,9 @@ use Rattle.desks.specs.declared.desk.Desk.{Desk}
 use Rattle.catserve.specs.Asking.{readers_of, AreAsked}
 use Rattle.script_text.specs.Script.{load_count}
 use Rattle.desks.specs.Jobs.{JobValue}
-use Rattle.script_text.specs.Script.{RoundValue}
+use Rattle.script_text.specs.Script.{RoundValue, ScriptValue}
 use Rattle.catserve.specs.Rounds.{Outcome, IsOutcome, outcome_line, accepted_load, Plays, PlaysAll}
-use Rattle.script_text.specs.Texts.{IsRefused}
+use Rattle.script_text.specs.Texts.{IsRefused, IsScript}
 use Rattle.catserve.specs.Run.{InputSeen, FailsToRead}
 
 -- the desks' readers are those of a store
@@ -88,8 +88,15 @@ EndsReading i i' ReadFault line = FailsToRead i i' × (line ≡ 0)
 EndsReading i i' Memory line = line ≡ 0
 EndsReading i i' _ line = ⊥
 
+-- the text is a script
+abbrev pub IsSomeScript : List ℕ → Type 0
+IsSomeScript text = (value : ScriptValue) × IsScript text value
+
 -- why a script that was read has given no output
 abbrev pub EndsPlaying : List ℕ → ScriptKind → ℕ → Type 0
 EndsPlaying text ReadFault line = ⊥
 EndsPlaying text WriteFault line = ⊥
+EndsPlaying text NoPlace line = IsSomeScript text × (line ≡ 0)
+EndsPlaying text Closed line = IsSomeScript text × (line ≡ 0)
+EndsPlaying text Join line = IsSomeScript text × (line ≡ 0)
 EndsPlaying text kind line = IsRefused text kind line

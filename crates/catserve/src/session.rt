@@ -81,9 +81,9 @@ fn converse_by_store<T: Threads + Wait + Sync, R: Source, W: Sink>(
 /// line that says something may give it, as in a script, or there are two. `NoPlace` is answered where it isn't 1 to
 /// 16.
 ///
-/// A round has at most 67,108,864 bytes, with the lines in it that say nothing, and a session at most 2^63 lines. After
-/// a fault the rounds that ended before it are answered, and nothing is written of the open one; what a failed write
-/// left is open.
+/// A round has at most 67,108,864 bytes, with the lines in it that say nothing, and a session at most 2^63 lines. For
+/// each line at most 134,217,728 reads are made; how many a session makes is not limited. After a fault the rounds that
+/// ended before it are answered, and nothing is written of the open one; what a failed write left is open.
 pub fn run_session<T: Threads + Wait + Sync, R: Source, W: Sink>(
     rt: &T,
     alloc: Global,

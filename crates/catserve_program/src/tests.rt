@@ -3,15 +3,15 @@
 use crate::tell;
 use catserve::{ScriptFault, ScriptKind, run_script};
 use devices::{Reading, Writing};
-use std::alloc::Global;
+use std::alloc::{AllocError, Global};
 use std::io;
 use std::io::{Read, Write};
 use std::sync::Wait;
 use std::test::Fail;
 use std::thread::Threads;
 
-/// Two rounds: the second one replaces a catalogue, and has a text that is refused and an MO file.
-const SCRIPT: &str = "\
+/// Two rounds, which are the program's stored run: the second one replaces a catalogue, and has a text that is refused.
+const ROUNDS: &str = "\
     load\tapp\tfr\t-\t2\n\
     msgid \"hi\"\n\
     msgstr \"salut\"\n\
@@ -33,6 +33,25 @@ const SCRIPT: &str = "\
     msgstr \"y\"\n\
     ask\t1\tapp\tfr\tgettext\thi\n\
     ask\t0\tapp\tfr\tpgettext\tmenu\thi\n\
+";
+
+/// What the rounds write.
+const ANSWERS: &str = "\
+    accepted\t1\t0\t0\n\
+    accepted\t1\t0\t0\n\
+    version\t2\n\
+    0\t2\tsalut\n\
+    0\t2\tfiles\n\
+    1\t2\thallo\n\
+    accepted\t1\t0\t0\n\
+    refused\t9\t4\n\
+    version\t3\n\
+    0\t3\thi\n\
+    1\t3\tbonjour\n\
+";
+
+/// Two more lines of the second round: an MO file, and a question to it.
+const FILE: &str = "\
     loadmo\tapp\tfr_CA\tde1204950000000001000000\
     1c00000024000000000000002c000000\
     020000002c000000050000002f000000\
@@ -40,8 +59,8 @@ const SCRIPT: &str = "\
     ask\t0\tapp\tfr_CA\tgettext\thi\n\
 ";
 
-/// What the script writes.
-const OUTPUT: &str = "\
+/// What the rounds write with these lines.
+const FILE_ANSWERS: &str = "\
     accepted\t1\t0\t0\n\
     accepted\t1\t0\t0\n\
     version\t2\n\
@@ -120,41 +139,77 @@ fn run_over<T: Threads + Wait + Sync>(
     (done, writer.inner.held)
 }
 
-#[test]
-fn a_script_is_run(rt: HostRuntime) {
-    let (done, written) = run_over(&rt, rt.alloc(), SCRIPT.as_bytes(), usize::MAX, usize::MAX);
-    assert!(rt; done == Ok(()));
-    assert!(rt; written.as_slice() == OUTPUT.as_bytes());
+/// The rounds and the two lines more.
+fn with_file(alloc: Global) -> Result<String, AllocError> {
+    format!(in alloc; "{ROUNDS}{FILE}")
+}
+
+/// Whether a script writes these answers over devices that don't fail.
+fn is_run<T: Threads + Wait + Sync>(rt: &T, alloc: Global, script: &str, answers: &str) -> bool {
+    let (done, written) = run_over(rt, alloc, script.as_bytes(), usize::MAX, usize::MAX);
+    done == Ok(()) && written.as_slice() == answers.as_bytes()
 }
 
 #[test]
-fn each_read_fails(rt: HostRuntime) -> Result<(), Fail> {
-    let alloc = rt.alloc();
+fn scripts_are_run(rt: HostRuntime) -> Result<(), Fail> {
+    let script = with_file(rt.alloc())?;
+    assert!(rt; is_run(&rt, rt.alloc(), ROUNDS, ANSWERS));
+    assert!(rt; is_run(&rt, rt.alloc(), script.as_str(), FILE_ANSWERS));
+    Ok(())
+}
+
+/// The first number of reads after which a failing one doesn't end the run before anything is written.
+fn find_wrong_read<T: Threads + Wait + Sync>(rt: &T, alloc: Global, script: &str) -> Option<usize> {
     // (the last of these reads finds the end)
-    for good in 0..SCRIPT.len().div_ceil(16) + 1 {
-        let (done, written) = run_over(&rt, alloc, SCRIPT.as_bytes(), good, usize::MAX);
+    for good in 0..script.len().div_ceil(16).saturating_add(1) {
+        let (done, written) = run_over(rt, alloc, script.as_bytes(), good, usize::MAX);
         let fault = ScriptFault {
             kind: ScriptKind::ReadFault,
             line: 0,
         };
-        assert_eq!(rt; done, Err(fault), "{good}");
-        assert!(rt; written.is_empty(), "{good}");
+        if done != Err(fault) || !written.is_empty() {
+            return Some(good);
+        }
     }
-    Ok(())
+    None
 }
 
 #[test]
-fn each_write_fails(rt: HostRuntime) -> Result<(), Fail> {
-    let alloc = rt.alloc();
-    for good in 0..OUTPUT.len().div_ceil(16) {
-        let (done, written) = run_over(&rt, alloc, SCRIPT.as_bytes(), usize::MAX, good);
+fn each_read_fails(rt: HostRuntime) -> Result<(), Fail> {
+    let script = with_file(rt.alloc())?;
+    assert_eq!(rt; find_wrong_read(&rt, rt.alloc(), ROUNDS), None);
+    assert_eq!(rt; find_wrong_read(&rt, rt.alloc(), script.as_str()), None);
+    Ok(())
+}
+
+/// The first number of writes after which a failing one doesn't end the run, with the first of the answers written.
+fn find_wrong_write<T: Threads + Wait + Sync>(
+    rt: &T,
+    alloc: Global,
+    script: &str,
+    answers: &str,
+) -> Option<usize> {
+    for good in 0..answers.len().div_ceil(16) {
+        let (done, written) = run_over(rt, alloc, script.as_bytes(), usize::MAX, good);
         let fault = ScriptFault {
             kind: ScriptKind::WriteFault,
             line: 0,
         };
-        assert_eq!(rt; done, Err(fault), "{good}");
-        assert!(rt; OUTPUT.as_bytes().starts_with(written.as_slice()), "{good}");
+        if done != Err(fault) || !answers.as_bytes().starts_with(written.as_slice()) {
+            return Some(good);
+        }
     }
+    None
+}
+
+#[test]
+fn each_write_fails(rt: HostRuntime) -> Result<(), Fail> {
+    let script = with_file(rt.alloc())?;
+    assert_eq!(rt; find_wrong_write(&rt, rt.alloc(), ROUNDS, ANSWERS), None);
+    assert_eq!(rt;
+        find_wrong_write(&rt, rt.alloc(), script.as_str(), FILE_ANSWERS),
+        None
+    );
     Ok(())
 }
 

@@ -20,9 +20,13 @@ lines that a round writes are out before the next line is waited for.
 
       --workers N  so many workers, 1 to 16; then no line `workers` may come
   -h, --help       print this help
+  -V, --version    print the version
 
 The lines of a script are described in FORMATS.md and in catserve(1).
 ";
+
+/// What `--version` prints: that of the file VERSION, with which `tests/release.sh` compares it.
+const VERSION: &str = "catsession (Kobdzila) 0.2.0\n";
 
 fn main(rt: HostRuntime) -> ExitCode {
     let alloc = rt.alloc();
@@ -38,7 +42,8 @@ fn main(rt: HostRuntime) -> ExitCode {
     };
     let workers = match read_words(words.as_slice()) {
         Ok(Asked::Session(workers)) => workers,
-        Ok(Asked::Help) => return help(&mut writer, &mut errors),
+        Ok(Asked::Help) => return print(HELP, &mut writer, &mut errors),
+        Ok(Asked::Version) => return print(VERSION, &mut writer, &mut errors),
         Err(fault) => return refuse_words(alloc, fault, &mut errors),
     };
     let mut reader = Reading::new(rt.stdin());
@@ -64,8 +69,9 @@ fn refuse<E: Sink>(error: &io::Error, errors: &mut E) -> ExitCode {
     }
 }
 
-fn help<W: Sink, E: Sink>(writer: &mut W, errors: &mut E) -> ExitCode {
-    match writer.write_all(HELP.as_bytes()) {
+/// Prints the help or the version.
+fn print<W: Sink, E: Sink>(text: &str, writer: &mut W, errors: &mut E) -> ExitCode {
+    match writer.write_all(text.as_bytes()) {
         Ok(()) => ExitCode::SUCCESS,
         Err(_) => fail("catsession: cannot write output\n", errors),
     }

@@ -5,6 +5,8 @@
 pub(crate) enum Asked {
     /// The help.
     Help,
+    /// The version.
+    Version,
     /// A session, and how many workers it has where that is given.
     Session(Option<u32>),
 }
@@ -30,7 +32,8 @@ fn count_of(word: &str) -> Option<u32> {
     (count >= 1 && count <= MOST_WORKERS).then_some(count)
 }
 
-/// What the words ask for, of which the first is the program's name. The first help or the first faulty word decides.
+/// What the words ask for, of which the first is the program's name. The first request for the help or
+/// the version, or the first faulty word, decides.
 pub(crate) fn read_words(words: &[String]) -> Result<Asked, WordsFault<'_>> {
     let mut workers = None;
     let mut wants_count = false;
@@ -44,6 +47,8 @@ pub(crate) fn read_words(words: &[String]) -> Result<Asked, WordsFault<'_>> {
             wants_count = false;
         } else if word == "-h" || word == "--help" {
             return Ok(Asked::Help);
+        } else if word == "-V" || word == "--version" {
+            return Ok(Asked::Version);
         } else if word == "--workers" && workers.is_none() {
             wants_count = true;
         } else {

@@ -5,7 +5,7 @@ use Rattle.std.proofs.lemmas.List.{append-nil}
 use Rattle.std.specs.Io.KnownBytes.{Consumes, IsAtEnd, Keeps}
 use Rattle.devices.specs.Devices.{RisesBy}
 use Rattle.line_input.specs.Incoming.{Incoming}
-use Rattle.line_input.specs.Arrivals.{Adds, AddsSome, Comes}
+use Rattle.line_input.specs.Arrivals.{AddsInput, AddsSome, Comes}
 use Rattle.line_input.specs.Seeking.{AddsBytes, LosesBytes}
 use Rattle.line_input.specs.declared.fault.LineInputFault.{LineInputFault}
 use Rattle.line_input.specs.declared.fault.LineInputFault.TheVariants.{TooLong, Unreadable, Memory}
@@ -34,7 +34,7 @@ grown_twice xs ys zs first second e f = f ∙ ap (λ ts. ts ++ second) e ∙ app
 pub both : (b : Bool) {X : Type 0} → b ≡ true → b ≡ false → X
 both b set unset = cc
 
-pub adds_none : (a : Option (List ℕ)) (input : Incoming) → Adds a a input input
+pub adds_none : (a : Option (List ℕ)) (input : Incoming) → AddsInput a a input input
 adds_none a input = record {
   more = [];
   behind = sym (append-nil input.left);
@@ -44,7 +44,7 @@ adds_none a input = record {
   idle = λ ended. refl;
 }
 
-pub adds_then : (a b c : Option (List ℕ)) (x y z : Incoming) → Adds a b x y → Adds b c y z → Adds a c x z
+pub adds_then : (a b c : Option (List ℕ)) (x y z : Incoming) → AddsInput a b x y → AddsInput b c y z → AddsInput a c x z
 adds_then a b c x y z first second = record {
   more = first.more ++ second.more;
   behind = grown_twice x.left y.left z.left first.more second.more first.behind second.behind;
@@ -54,7 +54,8 @@ adds_then a b c x y z first second = record {
   idle = λ ended. second.idle (ap (λ v. v.ended) (first.stays ended) ∙ ended) ∙ first.idle ended;
 }
 
-pub adds_some_then : (a b c : Option (List ℕ)) (x y z : Incoming) → Adds a b x y → AddsSome b c y z → AddsSome a c x z
+pub adds_some_then : (a b c : Option (List ℕ)) (x y z : Incoming) → AddsInput a b x y → AddsSome b c y z
+    → AddsSome a c x z
 adds_some_then a b c x y z first second = record {
   more = first.more ++ second.more;
   lost = second.lost;
@@ -66,7 +67,7 @@ adds_some_then a b c x y z first second = record {
 }
 
 -- nothing is lost
-pub adds_whole : (a b : Option (List ℕ)) (x y : Incoming) → Adds a b x y → AddsSome a b x y
+pub adds_whole : (a b : Option (List ℕ)) (x y : Incoming) → AddsInput a b x y → AddsSome a b x y
 adds_whole a b x y adds = record {
   more = adds.more;
   lost = [];
@@ -78,7 +79,7 @@ adds_whole a b x y adds = record {
 
 -- one read more
 pub adds_read : (a b : Option (List ℕ)) (x y : Incoming) → x.ended ≡ false → AddsBytes a b x.left y.left
-    → (y.ended ≡ true → IsAtEnd b) → Adds a b x y
+    → (y.ended ≡ true → IsAtEnd b) → AddsInput a b x y
 adds_read a b x y going read end = record {
   more = read.more;
   behind = read.behind;
@@ -101,7 +102,7 @@ adds_lost a b x y going read same = record {
 }
 
 pub comes_then : {T : Type 0} (a b c : Option (List ℕ)) (x y z : Incoming) (r : Result T LineInputFault)
-    → Adds a b x y → Comes b c y z r → Comes a c x z r
+    → AddsInput a b x y → Comes b c y z r → Comes a c x z r
 comes_then a b c x y z (Ok v) first second = adds_then a b c x y z first second
 comes_then a b c x y z (Err TooLong) first second = adds_then a b c x y z first second
 comes_then a b c x y z (Err Unreadable) first second = adds_some_then a b c x y z first second
@@ -112,7 +113,8 @@ abbrev pub failed : (T : Type 0) → LineInputFault → Result T LineInputFault
 failed T fault = Err fault
 
 -- a read that fails behind what came
-pub comes_lost : (S T : Type 0) (a b c : Option (List ℕ)) (x y z : Incoming) (fault : LineInputFault) → Adds a b x y
+pub comes_lost : (S T : Type 0) (a b c : Option (List ℕ)) (x y z : Incoming) (fault : LineInputFault)
+    → AddsInput a b x y
     → y.ended ≡ false → LosesBytes b c y.left z.left × (z.ended ≡ y.ended)
     → (IsErrOf (failed S fault) TooLong → ⊥) → Comes a c x z (failed T fault)
 comes_lost S T a b c x y z TooLong first going read short = absurd (short refl)

@@ -15,7 +15,7 @@ use Rattle.line_input.specs.Incoming.{Incoming, MayCome, HasLineEnd, HasEnd, Has
 use Rattle.line_input.specs.Incoming.{EndsFewer, LacksEnd, LacksLines}
 use Rattle.line_input.specs.declared.fault.LineInputFault.{LineInputFault}
 use Rattle.line_input.specs.declared.fault.LineInputFault.TheVariants.{TooLong, Unreadable, Memory}
-use Rattle.line_input.specs.Arrivals.{Adds, Comes}
+use Rattle.line_input.specs.Arrivals.{AddsInput, Comes}
 use Rattle.line_input.proofs.Arriving.{adds_none, adds_then, both, failed, rises_both, rises_none}
 use Rattle.line_input.proofs.Ends.{one_line}
 
@@ -75,7 +75,7 @@ ends_grown count x y from end more going grown had = record {
         rw (behind from text low, parts, behind end text had.within) (had.cut (more ++ text)
         (λ ended. both x.ended ended going))
 
-pub ends_later : (count : ℕ) (a b : Option (List ℕ)) (x y : Incoming) (from end : ℕ) → Adds a b x y
+pub ends_later : (count : ℕ) (a b : Option (List ℕ)) (x y : Incoming) (from end : ℕ) → AddsInput a b x y
     → EndsLines count x from end → EndsLines count y from end
 ends_later count a b x y from end adds had = elim (cases_Bool x.ended) [
   | inl ended ↦ subst (λ v. EndsLines count v from end) (sym (adds.stays ended)) had
@@ -219,7 +219,7 @@ has_end count n input from here below had (inr whole) = elim (cases_Bool input.e
 -- so many lines end at `end`
 pub record HasCounted (before after : Option (List ℕ)) (failed failed' reads reads' counted : ℕ) (old new : Incoming)
     (from end most : ℕ) : Type 0 where
-  pub came : Adds before after old new
+  pub came : AddsInput before after old new
   pub ends : EndsLines counted new from end
   pub within : 0 < counted → end ≤ most
   pub later : failed ≤ failed'
@@ -236,7 +236,8 @@ counted_none a failed reads input from most within = record {
 }
 
 pub counted_more : (a b c : Option (List ℕ)) (f f' f'' r r' r'' n : ℕ) (x y z : Incoming) (from end behind most : ℕ)
-    → HasCounted a b f f' r r' n x y from end most → Adds b c y z → EndsLine z end behind → behind ≤ most → f' ≤ f''
+    → HasCounted a b f f' r r' n x y from end most → AddsInput b c y z → EndsLine z end behind → behind ≤ most
+    → f' ≤ f''
     → RisesBy 0 r' r'' → HasCounted a c f f'' r r'' (n + 1) x z from behind most
 counted_more a b c f f' f'' r r' r'' n x y z from end behind most had adds line within later reads = record {
   came = adds_then a b c x y z had.came adds;
@@ -248,7 +249,7 @@ counted_more a b c f f' f'' r r' r'' n x y z from end behind most had adds line 
 
 -- the input ended before all were counted
 pub counted_all : (a b c : Option (List ℕ)) (f f' r r' n count : ℕ) (x y z : Incoming) (from end most : ℕ)
-    → HasCounted a b f f' r r' n x y from end most → Adds b c y z → n < count → (z.ended ≡ true)
+    → HasCounted a b f f' r r' n x y from end most → AddsInput b c y z → n < count → (z.ended ≡ true)
     × (length z.left ≡ end) → LacksLines count z from
 counted_all a b c f f' r r' n count x y z from end most had adds below none = lacks_lines count n z from end below
     (ends_later n b c y z from end adds had.ends) none.0 none.1

@@ -7,14 +7,14 @@ use Rattle.std.specs.Io.KnownBytes.{IsAtEnd}
 use Rattle.devices.specs.Devices.{RisesBy}
 use Rattle.line_input.specs.Lines.{is_line_end}
 use Rattle.line_input.specs.Incoming.{Incoming, LacksEnd, HasLineEnd, HasEnd}
-use Rattle.line_input.specs.Arrivals.{Adds}
+use Rattle.line_input.specs.Arrivals.{AddsInput}
 use Rattle.line_input.specs.Seeking.{AddsBytes, HasNoEnd, IsKnownEnd}
 use Rattle.line_input.proofs.Arriving.{adds_none, adds_read, adds_then, both, rises_both, rises_none}
 
 -- so many reads were made, and no LF stands from `from` to `searched`
 pub record HasSearched (before after : Option (List ℕ)) (failed failed' reads reads' turn : ℕ) (old new : Incoming)
     (from searched : ℕ) : Type 0 where
-  pub came : Adds before after old new
+  pub came : AddsInput before after old new
   pub low : from ≤ searched
   pub high : searched ≤ length new.left
   pub lacks : LacksEnd new.left from searched

@@ -6,7 +6,7 @@ use Rattle.line_input.specs.declared.fault.LineInputFault.{LineInputFault}
 use Rattle.line_input.specs.declared.fault.LineInputFault.TheVariants.{TooLong, Unreadable, Memory}
 
 -- what was read stands behind what was there; an input that has ended stays as it was
-pub record Adds (before after : Option (List ℕ)) (old new : Incoming) : Type 0 where
+pub record AddsInput (before after : Option (List ℕ)) (old new : Incoming) : Type 0 where
   pub more : List ℕ
   pub behind : new.left ≡ old.left ++ more
   pub consumed : Consumes before after more
@@ -26,7 +26,7 @@ pub record AddsSome (before after : Option (List ℕ)) (old new : Incoming) : Ty
 -- nothing is lost but by a reader that can't be read, and for want of memory
 abbrev pub Comes : {T : Type 0} → Option (List ℕ) → Option (List ℕ) → Incoming → Incoming → Result T LineInputFault
     → Type 0
-Comes before after old new (Ok _) = Adds before after old new
-Comes before after old new (Err TooLong) = Adds before after old new
+Comes before after old new (Ok _) = AddsInput before after old new
+Comes before after old new (Err TooLong) = AddsInput before after old new
 Comes before after old new (Err Unreadable) = AddsSome before after old new
 Comes before after old new (Err Memory) = AddsSome before after old new
