@@ -4,6 +4,7 @@
 
 #include "kobdzila.h"
 
+#include <errno.h>
 #include <stdalign.h>
 #include <stdatomic.h>
 #include <stdint.h>
@@ -37,6 +38,15 @@ static inline void *room_for(size_t size) {
     return counted;
 }
 
+/* free, which may change errno in a C library before glibc 2.33. GCC takes it that free doesn't, and would leave out
+ * the last line without the fence. */
+static inline void free_quietly(void *block) {
+    int cause = errno;
+    free(block);
+    atomic_signal_fence(memory_order_seq_cst);
+    errno = cause;
+}
+
 static inline void add_holder(void *handle) { atomic_fetch_add(&((struct counted *)handle)->holders, 1); }
 
 static inline int was_last_holder(void *handle) {
@@ -54,6 +64,8 @@ enum { GETTEXT = 0, IN_CONTEXT = 1, WITH_NUMBER = 2 }; /* calls; both are npgett
 static inline uint32_t call_of(kob_text context, const unsigned long long *n) {
     return (context.at ? IN_CONTEXT : GETTEXT) | (n ? WITH_NUMBER : GETTEXT);
 }
+
+static inline uint32_t in_context(const char *context) { return context ? IN_CONTEXT : GETTEXT; }
 
 /* A text that is missing is the empty one: a place is never NULL. */
 static inline kob_text present(kob_text text) { return text.at ? text : (kob_text){ "", 0 }; }

@@ -1,9 +1,7 @@
 /* The library's functions in C: memory, counts of holders, and files. What a catalogue is and what it answers stands in
  * crates/kobdzila_c, whose exports are declared here as Rattle gives them. */
+#include "file_bytes.h"
 #include "held.h"
-
-#include <errno.h>
-#include <stdio.h>
 
 size_t kobdzila_size(void);
 void kobdzila_open_mo(const unsigned char *bytes, size_t len, struct held *out);
@@ -12,14 +10,16 @@ void kobdzila_close(struct held *held);
 uint64_t kobdzila_number(const struct held *held, uint32_t which, uint64_t place);
 void kobdzila_text(const struct held *held, uint32_t part, uint64_t place, uint64_t form, struct lent *out);
 void kobdzila_gettext(const struct held *held, const unsigned char *msgid, size_t msgid_len, struct lent *out);
-void kobdzila_answer(const struct held *held, const unsigned char *context, size_t context_len, const unsigned char *msgid,
-                     size_t msgid_len, uint32_t call, uint64_t n, struct lent *out);
+void kobdzila_answer(const struct held *held, const unsigned char *context, size_t context_len,
+                     const unsigned char *msgid, size_t msgid_len, uint32_t call, uint64_t n, struct lent *out);
 
 enum { FAULT, LINE, COUNT, FORMS, HAS_CONTEXT, HAS_PLURAL };            /* numbers */
 enum { FILE_BYTES, CONTEXT, MSGID, PLURAL, FORM };                      /* texts */
 
 #define MOST_MO 268435456
 #define MOST_PO 67108864
+
+const char *kob_version(void) { return KOB_VERSION; }
 
 /* The catalogue that was opened, or NULL and its refusal. */
 static kob_catalogue *opened(kob_catalogue *c, kob_refusal *why) {
@@ -52,40 +52,13 @@ kob_catalogue *kob_open_po(const void *bytes, size_t len, unsigned options, kob_
     return opened(c, why);
 }
 
-/* The bytes of a file, at most `most` and one more; NULL where it can't be read or there is no memory. */
-static unsigned char *read_file(FILE *file, size_t most, size_t *len) {
-    size_t room = 65536;
-    unsigned char *bytes = malloc(room);
-    for (*len = 0; bytes;) {
-        *len += fread(bytes + *len, 1, room - *len, file);
-        if (ferror(file)) {
-            free(bytes);
-            return NULL;
-        }
-        if (*len < room || *len > most)
-            return bytes;
-        unsigned char *more = realloc(bytes, room *= 2);
-        if (!more)
-            free(bytes);
-        bytes = more;
-    }
-    errno = ENOMEM;
-    return NULL;
-}
-
 kob_catalogue *kob_open_file(const char *name, enum kob_kind kind, unsigned options, kob_refusal *why) {
-    FILE *file = fopen(name, "rb");
-    if (!file)
-        return refuse(why, KOB_UNREADABLE, 0);
     size_t len;
-    unsigned char *bytes = read_file(file, kind == KOB_PO ? MOST_PO : MOST_MO, &len);
-    int cause = errno;
-    fclose(file);
-    errno = cause;
+    unsigned char *bytes = file_bytes(name, ALL_FILES, kind == KOB_PO ? MOST_PO : MOST_MO, &len);
     if (!bytes)
         return refuse(why, errno == ENOMEM ? KOB_MEMORY : KOB_UNREADABLE, 0);
     kob_catalogue *c = kind == KOB_PO ? kob_open_po(bytes, len, options, why) : kob_open_mo(bytes, len, why);
-    free(bytes);
+    free_quietly(bytes);
     return c;
 }
 
@@ -97,35 +70,41 @@ kob_catalogue *kob_retain(kob_catalogue *c) {
 void kob_release(kob_catalogue *c) {
     if (!c || !was_last_holder(c))
         return;
+    int cause = errno;
     kobdzila_close(held_by(c));
-    free(c);
+    free_quietly(c);
+    errno = cause;
 }
 
 static struct lent ask(const kob_catalogue *c, kob_text context, kob_text msgid, uint32_t call, uint64_t n) {
     struct lent out;
-    kobdzila_answer(read_by(c), (const unsigned char *)context.at, context.len, (const unsigned char *)msgid.at, msgid.len,
-                    call, n, &out);
+    kobdzila_answer(read_by(c), (const unsigned char *)context.at, context.len, (const unsigned char *)msgid.at,
+                    msgid.len, call, n, &out);
     return out;
 }
 
 const char *kob_gettext(const kob_catalogue *c, const char *msgid) {
-    kob_text text = text_of(msgid);
+    if (!msgid)
+        return NULL;
     struct lent out;
-    kobdzila_gettext(read_by(c), bytes_of(text), text.len, &out);
+    kobdzila_gettext(read_by(c), (const unsigned char *)msgid, strlen(msgid), &out);
     return found_or(out, msgid);
 }
 
 const char *kob_pgettext(const kob_catalogue *c, const char *context, const char *msgid) {
-    return found_or(ask(c, text_of(context), text_of(msgid), IN_CONTEXT, 0), msgid);
+    return msgid ? found_or(ask(c, text_of(context), text_of(msgid), in_context(context), 0), msgid) : NULL;
 }
 
 const char *kob_ngettext(const kob_catalogue *c, const char *msgid, const char *plural, unsigned long long n) {
-    return found_or(ask(c, text_of(""), text_of(msgid), WITH_NUMBER, n), n == 1 ? msgid : plural);
+    return msgid ? found_or(ask(c, text_of(""), text_of(msgid), WITH_NUMBER, n), n == 1 ? msgid : plural) : NULL;
 }
 
 const char *kob_npgettext(const kob_catalogue *c, const char *context, const char *msgid, const char *plural,
                           unsigned long long n) {
-    return found_or(ask(c, text_of(context), text_of(msgid), IN_CONTEXT | WITH_NUMBER, n), n == 1 ? msgid : plural);
+    if (!msgid)
+        return NULL;
+    return found_or(ask(c, text_of(context), text_of(msgid), in_context(context) | WITH_NUMBER, n),
+                    n == 1 ? msgid : plural);
 }
 
 kob_text kob_find(const kob_catalogue *c, kob_text context, kob_text msgid, const unsigned long long *n) {

@@ -2,14 +2,13 @@
  * answers stands in crates/kobdzila_c, whose exports are declared here as Rattle gives them. */
 #include "held.h"
 
-#include <errno.h>
 #include <stdbool.h>
 #include <stdio.h>
 
 size_t kobdzila_set_size(void);
 void kobdzila_set_new(struct held *out);
-void kobdzila_set_with(const struct held *set, const unsigned char *domain, size_t domain_len, const unsigned char *locale,
-                       size_t locale_len, const struct held *catalogue, struct held *out);
+void kobdzila_set_with(const struct held *set, const unsigned char *domain, size_t domain_len,
+                       const unsigned char *locale, size_t locale_len, const struct held *catalogue, struct held *out);
 void kobdzila_set_close(struct held *set);
 uint64_t kobdzila_set_number(const struct held *set, uint32_t which);
 void kobdzila_set_answer(const struct held *set, const unsigned char *domain, size_t domain_len,
@@ -49,7 +48,8 @@ static int is_file_name(const char *name) {
     return kobdzila_is_name(bytes_of(text), text.len) && strcmp(name, ".") && strcmp(name, "..");
 }
 
-kob_set *kob_set_open(const kob_set *set, const char *folder, const char *domain, const char *locale, kob_refusal *why) {
+kob_set *kob_set_open(const kob_set *set, const char *folder, const char *domain, const char *locale,
+                      kob_refusal *why) {
     if (!is_file_name(domain) || !is_file_name(locale))
         return refuse(why, KOB_BAD_NAME, 0);
     size_t len = strlen(folder) + strlen(domain) + strlen(locale) + sizeof "//LC_MESSAGES/.mo";
@@ -58,11 +58,9 @@ kob_set *kob_set_open(const kob_set *set, const char *folder, const char *domain
         return refuse(why, KOB_MEMORY, 0);
     snprintf(name, len, "%s/%s/LC_MESSAGES/%s.mo", folder, locale, domain);
     kob_catalogue *catalogue = kob_open_file(name, KOB_MO, 0, why);
-    int cause = errno;
-    free(name);
+    free_quietly(name);
     kob_set *more = catalogue ? kob_set_with(set, domain, locale, catalogue, why) : NULL;
     kob_release(catalogue);
-    errno = cause;
     return more;
 }
 
@@ -74,8 +72,10 @@ kob_set *kob_set_retain(kob_set *set) {
 void kob_set_release(kob_set *set) {
     if (!set || !was_last_holder(set))
         return;
+    int cause = errno;
     kobdzila_set_close(held_by(set));
-    free(set);
+    free_quietly(set);
+    errno = cause;
 }
 
 unsigned long long kob_set_version(const kob_set *set) { return kobdzila_set_number(read_by(set), VERSION); }
@@ -89,24 +89,33 @@ static struct lent ask(const kob_set *set, kob_text domain, kob_text languages, 
 }
 
 const char *kob_set_gettext(const kob_set *set, const char *domain, const char *languages, const char *msgid) {
+    if (!msgid)
+        return NULL;
     return found_or(ask(set, text_of(domain), text_of(languages), text_of(""), text_of(msgid), GETTEXT, 0), msgid);
 }
 
 const char *kob_set_pgettext(const kob_set *set, const char *domain, const char *languages, const char *context,
                              const char *msgid) {
-    return found_or(ask(set, text_of(domain), text_of(languages), text_of(context), text_of(msgid), IN_CONTEXT, 0), msgid);
+    if (!msgid)
+        return NULL;
+    return found_or(ask(set, text_of(domain), text_of(languages), text_of(context), text_of(msgid),
+                        in_context(context), 0), msgid);
 }
 
 const char *kob_set_ngettext(const kob_set *set, const char *domain, const char *languages, const char *msgid,
                              const char *plural, unsigned long long n) {
+    if (!msgid)
+        return NULL;
     return found_or(ask(set, text_of(domain), text_of(languages), text_of(""), text_of(msgid), WITH_NUMBER, n),
                     n == 1 ? msgid : plural);
 }
 
 const char *kob_set_npgettext(const kob_set *set, const char *domain, const char *languages, const char *context,
                               const char *msgid, const char *plural, unsigned long long n) {
+    if (!msgid)
+        return NULL;
     return found_or(ask(set, text_of(domain), text_of(languages), text_of(context), text_of(msgid),
-                        IN_CONTEXT | WITH_NUMBER, n), n == 1 ? msgid : plural);
+                        in_context(context) | WITH_NUMBER, n), n == 1 ? msgid : plural);
 }
 
 kob_text kob_set_find(const kob_set *set, kob_text domain, kob_text languages, kob_text context, kob_text msgid,

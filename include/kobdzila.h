@@ -1,17 +1,28 @@
 /* Message catalogues of GNU gettext, looked up by a proved library. The man page is kobdzila(3).
  *
- * Every text is UTF-8. A text that is answered stands in the catalogue and lasts as long as it; its bytes are only to be
- * read. Any number of threads may ask one catalogue at once. None of these functions may be called from a signal
+ * Every text is UTF-8. A text that is answered stands in the catalogue and lasts as long as it; its bytes are only to
+ * be read. Any number of threads may ask one catalogue at once. None of these functions may be called from a signal
  * handler, nor in the forked child of a process that had several threads.
+ *
+ * NULL may be given only where that is said: for a msgid (the answer is NULL), a context (then there is none) and a
+ * plural; for a domain, a locale or a list of languages (it is the empty text, which is no name and finds nothing);
+ * for `why`; for `bytes` with the length 0; and for what is released. The calls that release keep errno.
  */
 #ifndef KOBDZILA_H
 #define KOBDZILA_H
 
 #include <stddef.h>
 
+/* The version of this header, as "0.2.0". */
+#define KOB_VERSION "0.2.0"
+
 #ifdef __cplusplus
 extern "C" {
 #endif
+
+/* The version of the library that the program runs with. Its first number is that of KOB_VERSION, and the others may be
+ * higher. */
+const char *kob_version(void);
 
 /* A catalogue: it never changes, and is let go of when its last holder has released it. */
 typedef struct kob_catalogue kob_catalogue;
@@ -79,14 +90,17 @@ kob_catalogue *kob_open_mo(const void *bytes, size_t len, kob_refusal *why);
 /* The same of a PO text, compiled by these options. */
 kob_catalogue *kob_open_po(const void *bytes, size_t len, unsigned options, kob_refusal *why);
 
-/* The same of a file of this name: an MO file, or a PO text compiled by these options. */
+/* The catalogue of the file of this name: an MO file, or a PO text compiled by these options. A regular file is read
+ * up to the size that it has at first; a FIFO, a device and the like as they come, up to the greatest size. A FIFO
+ * that nobody has open for writing is empty, and isn't waited for. The file is closed in programs that are started
+ * meanwhile. With KOB_UNREADABLE errno says why, for example ENOENT, or EMFILE if no file descriptor is left. */
 kob_catalogue *kob_open_file(const char *name, enum kob_kind kind, unsigned options, kob_refusal *why);
 
 /* One holder more. The answer is the catalogue. */
 kob_catalogue *kob_retain(kob_catalogue *catalogue);
 
-/* One holder less. The last one frees the catalogue: then no call for it may be running or follow, and none of its texts
- * may be read. NULL is passed over. */
+/* One holder less. The last one frees the catalogue: then no call for it may be running or follow, and none of its
+ * texts may be read. NULL is passed over. */
 void kob_release(kob_catalogue *catalogue);
 
 /* The translation of a message; the msgid itself where there is none. */

@@ -36,6 +36,7 @@ def _declared(name, result, *arguments):
 
 
 _library = ctypes.CDLL(LIBRARY)
+_version = _declared("kob_version", c_char_p)
 _open_mo = _declared("kob_open_mo", c_void_p, c_char_p, c_size_t, POINTER(_Refusal))
 _open_po = _declared("kob_open_po", c_void_p, c_char_p, c_size_t, c_uint, POINTER(_Refusal))
 _release = _declared("kob_release", None, c_void_p)
@@ -47,6 +48,7 @@ _form_at = _declared("kob_form_at", _Text, c_void_p, c_size_t, c_size_t)
 _mo_file = _declared("kob_mo_file", _Text, c_void_p)
 
 CHECKED, USE_FUZZY = 1, 2
+__version__ = _version().decode()  # of the library
 
 
 class Refused(ValueError):

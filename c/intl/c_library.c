@@ -1,0 +1,26 @@
+/* The C library's own functions, found once. */
+#define _GNU_SOURCE
+#include "intl.h"
+
+#include <dlfcn.h>
+#include <pthread.h>
+
+static struct c_library found;
+static pthread_once_t once = PTHREAD_ONCE_INIT;
+
+static void find(void) {
+    *(void **)&found.dcgettext = dlsym(RTLD_NEXT, "dcgettext");
+    *(void **)&found.dcngettext = dlsym(RTLD_NEXT, "dcngettext");
+    *(void **)&found.textdomain = dlsym(RTLD_NEXT, "textdomain");
+    *(void **)&found.bindtextdomain = dlsym(RTLD_NEXT, "bindtextdomain");
+    *(void **)&found.bind_textdomain_codeset = dlsym(RTLD_NEXT, "bind_textdomain_codeset");
+    *(void **)&found.setlocale = dlsym(RTLD_NEXT, "setlocale");
+}
+
+const struct c_library *c_library(void) {
+    pthread_once(&once, find);
+    return &found;
+}
+
+/* (before there are threads, where it can be: a child that is forked while one of them looks would wait for it) */
+__attribute__((constructor)) static void find_early(void) { c_library(); }

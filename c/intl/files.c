@@ -1,0 +1,68 @@
+/* Catalogues by the names of their files. A file is opened once, and lasts as long as the program. */
+#include "intl.h"
+
+#include "file_bytes.h"
+
+#include <errno.h>
+#include <stdlib.h>
+#include <string.h>
+#include <strings.h>
+
+#define MOST_MO 268435456
+#define LEAST_MO 48 /* the C library takes no file that is shorter */
+
+static struct file *files;
+
+struct file *file_of(const char *name) {
+    for (struct file *f = files; f; f = f->next)
+        if (!strcmp(f->name, name))
+            return f;
+    size_t len = strlen(name);
+    struct file *f = malloc(sizeof *f + len + 1);
+    if (!f)
+        return NULL;
+    *f = (struct file){ files, NULL, UNREAD };
+    memcpy(f->name, name, len + 1);
+    return files = f;
+}
+
+/* Whether the header says ASCII: then the C library refuses what isn't, and libkobdzila doesn't. */
+static int says_ascii(const kob_catalogue *catalogue) {
+    const kob_text none = { NULL, 0 }, header = { "", 0 };
+    const char *text = kob_find(catalogue, none, header, NULL).at;
+    const char *charset = text ? strstr(text, "charset=") : NULL;
+    return charset && strncasecmp(charset + strlen("charset="), "UTF", 3);
+}
+
+static enum standing standing_of_bytes(struct file *f, const unsigned char *bytes, size_t len) {
+    if (len < LEAST_MO)
+        return MISSING;
+    kob_refusal why;
+    kob_catalogue *catalogue = kob_open_mo(bytes, len, &why);
+    if (catalogue && !says_ascii(catalogue)) {
+        f->catalogue = catalogue;
+        return TAKEN;
+    }
+    kob_release(catalogue);
+    if (why.fault == KOB_MEMORY)
+        return UNREAD;
+    if (why.fault == KOB_MO_MAGIC)
+        return MISSING;
+    return is_read_well(bytes, len, why.fault) ? THEIRS : REFUSED;
+}
+
+/* Whether a call failed for want of something that may be there the next time. */
+static int may_pass(int cause) { return cause == ENOMEM || cause == EMFILE || cause == ENFILE; }
+
+enum standing standing_of(struct file *f) {
+    if (f->standing != UNREAD)
+        return f->standing;
+    size_t len;
+    unsigned char *bytes = file_bytes(f->name, REGULAR_FILES, MOST_MO, &len);
+    if (bytes)
+        f->standing = standing_of_bytes(f, bytes, len);
+    else if (!may_pass(errno))
+        f->standing = MISSING;
+    free(bytes);
+    return f->standing;
+}

@@ -1,0 +1,28 @@
+/* The lock: no thread that holds it is cancelled, and no fork comes while another thread holds it, so that a child
+ * finds it free. A thread may take it once more, for a function that fork calls while it holds the lock may ask
+ * gettext. */
+#include "intl.h"
+
+#include <pthread.h>
+
+static pthread_mutex_t lock = PTHREAD_MUTEX_INITIALIZER;
+static _Thread_local int depth, cancel_state;
+
+void take_lock(void) {
+    int before;
+    pthread_setcancelstate(PTHREAD_CANCEL_DISABLE, &before);
+    if (depth++)
+        return;
+    pthread_mutex_lock(&lock);
+    cancel_state = before;
+}
+
+void leave_lock(void) {
+    if (--depth)
+        return;
+    int before = cancel_state;
+    pthread_mutex_unlock(&lock);
+    pthread_setcancelstate(before, NULL);
+}
+
+__attribute__((constructor)) static void hold_at_fork(void) { pthread_atfork(take_lock, leave_lock, leave_lock); }

@@ -1,0 +1,437 @@
+/* A msgfmt for build systems: it takes GNU msgfmt's options, runs Kobdzila's msgfmt where that one can serve them, and
+ * GNU msgfmt in every other case and for every text that Kobdzila's refuses. Its man page is msgfmt-or-gnu(1). */
+#include "or_gnu.h"
+
+#include <errno.h>
+#include <fcntl.h>
+#include <stdio.h>
+#include <stdlib.h>
+#include <string.h>
+#include <sys/stat.h>
+#include <sys/statvfs.h>
+#include <sys/sysmacros.h>
+#include <time.h>
+#include <unistd.h>
+
+static const char guard[] = "MSGFMT_OR_GNU_RUNS";
+static const char version_line[] = "msgfmt-or-gnu (Kobdzila) " KOBDZILA_VERSION "\n";
+static const char help_lines[] =
+    "\nThis is msgfmt-or-gnu: Kobdzila's msgfmt compiles what it can, and GNU msgfmt everything else.\n"
+    "msgfmt-or-gnu --summary LOG prints the table of a log (MSGFMT_OR_GNU_LOG). Its page is msgfmt-or-gnu(1).\n";
+static const char in_gettext[] = "; it is in the package gettext\n";
+enum { TEXT_LIMIT = 67108864, EMPTY_MO = 28 }; /* bytes of a PO text that Kobdzila's compiles, of an empty MO file */
+
+/* A run of the driver. */
+struct run {
+    struct request *request;
+    char *ours;
+    char *gnu;        /* NULL: it wasn't looked for, or there is none */
+    bool looked;
+    char *input;      /* the PO file's path, where it was found */
+    char *input_name; /* what the two programs are given for it */
+    struct text text;
+    struct streams streams;
+    struct timespec start;
+};
+
+static void say(const char *what, const char *why) { dprintf(STDERR_FILENO, "msgfmt-or-gnu: %s%s\n", what, why); }
+
+_Noreturn static void stop(const char *what, const char *why) {
+    say(what, why);
+    _exit(1);
+}
+
+_Noreturn static void stop_for_memory(void) { stop("out of memory", ""); }
+
+static double milliseconds_of(const struct run *run) {
+    struct timespec now;
+    clock_gettime(CLOCK_MONOTONIC, &now);
+    return (double)(now.tv_sec - run->start.tv_sec) * 1e3 + (double)(now.tv_nsec - run->start.tv_nsec) / 1e6;
+}
+
+static bool has_gnu(struct run *run) {
+    if (!run->looked)
+        run->gnu = find_gnu(run->ours);
+    run->looked = true;
+    return run->gnu != NULL;
+}
+
+/* --- GNU msgfmt ------------------------------------------------------------------------------------------------- */
+
+/* The arguments for GNU msgfmt: those that were given, but for its name, and for a pipe that was read. */
+static char **words_for_gnu(struct run *run) {
+    struct request *request = run->request;
+    request->given[0] = run->gnu;
+    for (char **word = request->given; *word; word++)
+        if (run->input_name && request->input_count == 1 && *word == request->inputs[0])
+            *word = run->text.kept >= 0 ? run->input_name : *word;
+    return request->given;
+}
+
+/* Both are asked for by programs, which read what GNU msgfmt says; then comes what the driver adds. */
+static bool is_about_itself(const struct request *request) { return request->wants_version || request->wants_help; }
+
+static const char *own_lines(const struct request *request) {
+    return request->wants_version ? version_line : help_lines;
+}
+
+/* Hands the run to GNU msgfmt. Its status is the driver's. */
+_Noreturn static void end_by_gnu(struct run *run, const char *why) {
+    const char *log = getenv("MSGFMT_OR_GNU_LOG");
+    bool asks = is_about_itself(run->request);
+    if (run->text.kept >= 0)
+        lseek(run->text.kept, 0, SEEK_SET);
+    char **words = words_for_gnu(run);
+    if (!asks && (!log || !*log)) {
+        int failure = become_program(run->gnu, words, run->streams);
+        dprintf(STDERR_FILENO, "msgfmt-or-gnu: cannot run %s: %s\n", run->gnu, strerror(failure));
+        _exit(1);
+    }
+    struct ending ending = run_program(run->gnu, words, run->streams);
+    if (ending.failure) {
+        dprintf(STDERR_FILENO, "msgfmt-or-gnu: cannot run %s: %s\n", run->gnu, strerror(ending.failure));
+        ending.status = 1;
+    }
+    if (!asks)
+        log_files(run->request, "GNU", ending.status, why, milliseconds_of(run));
+    else if (ending.status == 0 && !write_all(STDOUT_FILENO, own_lines(run->request), strlen(own_lines(run->request))))
+        ending.status = 1;
+    end_as(ending);
+}
+
+/* What only GNU msgfmt can do, on a machine without one. */
+_Noreturn static void end_without_gnu(struct run *run) {
+    const struct request *request = run->request;
+    if (is_about_itself(request)) {
+        const char *lines = own_lines(request) + (request->wants_version ? 0 : 1);
+        _exit(write_all(STDOUT_FILENO, lines, strlen(lines)) ? 0 : 1);
+    }
+    dprintf(STDERR_FILENO, "msgfmt-or-gnu: %s: this needs GNU msgfmt, and there is none on the PATH%s", request->why,
+            in_gettext);
+    char why[WHY_SIZE + sizeof "; no GNU msgfmt"];
+    snprintf(why, sizeof why, "%s; no GNU msgfmt", request->why);
+    log_files(request, "ours", 1, why, milliseconds_of(run));
+    _exit(1);
+}
+
+/* --- the PO file ------------------------------------------------------------------------------------------------ */
+
+static bool is_standard_input(const char *name) { return !strcmp(name, "-") || !strcmp(name, "/dev/stdin"); }
+
+/* Opens a file as GNU msgfmt looks for it: in each folder of -D, as it is named and with .po and .pot added. */
+static int open_input(struct run *run) {
+    static const char *const endings[] = {"", ".po", ".pot"};
+    const struct request *request = run->request;
+    const char *name = request->inputs[0];
+    bool is_relative = *name != '/' && request->folder_count > 0;
+    for (int folder = 0; folder < (is_relative ? request->folder_count : 1); folder++)
+        for (int ending = 0; ending < 3; ending++) {
+            const char *at = is_relative && strcmp(request->folders[folder], ".") ? request->folders[folder] : "";
+            const char *slash = *at && at[strlen(at) - 1] != '/' ? "/" : "";
+            free(run->input);
+            if (asprintf(&run->input, "%s%s%s%s", at, slash, name, endings[ending]) < 0)
+                stop_for_memory();
+            int file = raised(open(run->input, O_RDONLY | O_NOCTTY));
+            if (file >= 0 || errno != ENOENT)
+                return file;
+        }
+    free(run->input);
+    run->input = strdup(name);
+    errno = ENOENT;
+    return -1;
+}
+
+static bool is_null_device(const struct stat *about) {
+    return S_ISCHR(about->st_mode) && about->st_rdev == makedev(1, 3);
+}
+
+/* The number of a path such as /dev/fd/63, or -1. */
+static int number_of(const char *path) {
+    int number = -1, len = 0;
+    if (sscanf(path, "/dev/fd/%d%n", &number, &len) == 1 && !path[len])
+        return number;
+    if (sscanf(path, "/proc/self/fd/%d%n", &number, &len) == 1 && !path[len])
+        return number;
+    return -1;
+}
+
+/* Keeps what came from a pipe, so that both programs can read it: as standard input, or under the descriptor's name. */
+static bool keep_input(struct run *run) {
+    run->text.kept = unnamed_file();
+    if (run->text.kept < 0 || !write_all(run->text.kept, run->text.bytes, run->text.len))
+        return false;
+    lseek(run->text.kept, 0, SEEK_SET);
+    int number = is_standard_input(run->request->inputs[0]) ? STDIN_FILENO : number_of(run->input);
+    if (number == STDIN_FILENO) {
+        run->streams.input = run->text.kept;
+        return true;
+    }
+    run->streams.extra = run->text.kept;
+    run->streams.extra_as = number > STDERR_FILENO ? number : 9;
+    if (number <= STDERR_FILENO) {
+        free(run->input);
+        run->input = strdup("/dev/fd/9");
+    }
+    return run->input != NULL;
+}
+
+/* Reads the PO text. Its answer is why that isn't possible, or 0. */
+static int read_text(struct run *run, char *why) {
+    const char *name = run->request->inputs[0];
+    struct stat about;
+    bool is_stream = is_standard_input(name);
+    int file = is_stream ? STDIN_FILENO : open_input(run);
+    if (is_stream && !(run->input = strdup(name)))
+        stop_for_memory();
+    if (file < 0 || fstat(file, &about) < 0)
+        return errno;
+    if (!is_stream && S_ISREG(about.st_mode) && about.st_size > TEXT_LIMIT) {
+        snprintf(why, WHY_SIZE, "file too large");
+        close(file);
+        return 0;
+    }
+    run->text.bytes = read_all(file, &run->text.len);
+    int cause = errno;
+    if (!is_stream)
+        close(file);
+    if (!run->text.bytes)
+        return cause;
+    if ((is_stream || !S_ISREG(about.st_mode)) && !is_null_device(&about) && !keep_input(run))
+        return errno;
+    return 0;
+}
+
+/* --- Kobdzila's msgfmt ------------------------------------------------------------------------------------------ */
+
+/* What Kobdzila's msgfmt said of a run, and how it ended. */
+struct answer {
+    struct ending ending;
+    char *said;
+    size_t len;
+};
+
+static bool wants_statistics(const struct request *request) {
+    return request->wants_statistics || request->verbosity > 0;
+}
+
+/* Runs Kobdzila's msgfmt. With -c it checks the header and formats, so either one asks for it. */
+static struct answer run_ours(struct run *run, const char *output, int standard_output) {
+    const struct request *request = run->request;
+    struct answer answer = {0};
+    char *named = NULL;
+    struct streams streams = run->streams;
+    if (asprintf(&named, "--output-file=%s", output) < 0)
+        stop_for_memory();
+    char *words[8] = {run->ours, named};
+    int count = 2;
+    if (request->checks_format || request->checks_header)
+        words[count++] = "--check";
+    if (request->keeps_fuzzy)
+        words[count++] = "--use-fuzzy";
+    if (wants_statistics(request) || request->checks_compatibility)
+        words[count++] = "--statistics";
+    words[count++] = "--";
+    words[count++] = run->input_name;
+    if (run->text.kept >= 0)
+        lseek(run->text.kept, 0, SEEK_SET);
+    streams.output = standard_output;
+    streams.errors = unnamed_file();
+    if (streams.errors < 0)
+        stop("cannot keep the error output: ", strerror(errno));
+    answer.ending = run_program(run->ours, words, streams);
+    lseek(streams.errors, 0, SEEK_SET);
+    answer.said = read_all(streams.errors, &answer.len);
+    close(streams.errors);
+    free(named);
+    if (!answer.said)
+        stop_for_memory();
+    return answer;
+}
+
+/* Whether the statistics count messages that -C is to tell of. */
+static bool leaves_messages_out(const struct run *run, const struct answer *answer) {
+    return run->request->checks_compatibility && memmem(answer->said, answer->len, ", ", 2);
+}
+
+/* Compiles the text. It is compiled to memory first where it may be that no file is to be written: without -o, if
+ * nothing is translated, as GNU msgfmt does, and with -C, which is another program's if messages are left out. */
+static struct answer compile(struct run *run) {
+    struct stat made;
+    const char *output = run->request->output;
+    if (output && !run->request->checks_compatibility)
+        return run_ours(run, output, -1);
+    int memory = unnamed_file();
+    if (memory < 0)
+        stop("cannot keep an MO file: ", strerror(errno));
+    struct answer answer = run_ours(run, "-", memory);
+    bool is_empty = !output && fstat(memory, &made) == 0 && made.st_size <= EMPTY_MO;
+    close(memory);
+    if (answer.ending.failure || answer.ending.status || is_empty || leaves_messages_out(run, &answer))
+        return answer;
+    free(answer.said);
+    return run_ours(run, output ? output : "messages.mo", -1);
+}
+
+/* The reason of a refusal of the text, `NAME:LINE: REASON`, or NULL where it is another one. */
+static char *refusal_of(const struct run *run, const struct answer *answer) {
+    if (answer->ending.status != 1)
+        return NULL;
+    size_t len = strlen(run->input_name);
+    for (char *line = answer->said, *next; *line; line = next) {
+        char *end = strchrnul(line, '\n');
+        next = *end ? end + 1 : end;
+        if (strncmp(line, run->input_name, len) || line[len] != ':')
+            continue;
+        size_t digits = strspn(line + len + 1, "0123456789");
+        char *reason = line + len + 1 + digits;
+        if (digits && !strncmp(reason, ": ", 2) && strncmp(reason, ": warning: ", 11))
+            return strndup(reason + 2, (size_t)(end - reason - 2));
+    }
+    return NULL;
+}
+
+/* Prints what Kobdzila's msgfmt said: warnings where they are asked for, and statistics as GNU msgfmt prints them. */
+static bool pass_on(const struct run *run, const struct answer *answer) {
+    const struct request *request = run->request;
+    bool has_compiled = answer->ending.status == 0;
+    char *lines = NULL;
+    size_t len = 0;
+    FILE *to = open_memstream(&lines, &len);
+    if (!to)
+        stop_for_memory();
+    for (char *line = answer->said, *end; *line; line = *end ? end + 1 : end) {
+        end = strchrnul(line, '\n');
+        bool is_last = !*end || !end[1];
+        bool is_warning = memmem(line, (size_t)(end - line), ": warning: header field '", 25);
+        if (is_warning ? !request->checks_header : has_compiled && is_last && !wants_statistics(request))
+            continue;
+        if (has_compiled && is_last && !is_warning && request->wants_statistics + request->verbosity >= 2)
+            fprintf(to, "%s: ", request->inputs[0]);
+        fprintf(to, "%.*s\n", (int)(end - line), line);
+    }
+    if (fclose(to))
+        stop_for_memory();
+    bool done = write_all(STDERR_FILENO, lines, len);
+    free(lines);
+    return done;
+}
+
+/* Why a file can't be written, as far as it can be seen afterwards; 0 where it can't. */
+static int why_not_written(const char *name) {
+    struct statvfs room;
+    int file = open(name, O_WRONLY | O_NONBLOCK | O_NOCTTY | O_CLOEXEC);
+    if (file < 0 && errno != ENOENT)
+        return errno;
+    close(file);
+    char *folder = strdup(name), *slash = folder ? strrchr(folder, '/') : NULL;
+    if (slash)
+        slash[slash == folder] = '\0';
+    const char *in = slash ? folder : ".";
+    int cause = access(in, W_OK | X_OK) < 0 ? errno : 0;
+    if (!cause && statvfs(in, &room) == 0 && room.f_bavail == 0)
+        cause = ENOSPC;
+    free(folder);
+    return cause;
+}
+
+static void say_why_not_written(const struct run *run, const struct answer *answer) {
+    static const char unwritten[] = "msgfmt: cannot write ";
+    const char *name = run->request->output ? run->request->output : "messages.mo";
+    if (answer->ending.status == 0 || strncmp(answer->said, unwritten, strlen(unwritten)) || !strcmp(name, "-"))
+        return;
+    int cause = why_not_written(name);
+    if (cause)
+        dprintf(STDERR_FILENO, "msgfmt-or-gnu: %s: %s\n", name, strerror(cause));
+}
+
+/* The end of a run by Kobdzila's msgfmt, whose answer is the driver's. */
+_Noreturn static void end_by_ours(struct run *run, struct answer *answer, const char *why) {
+    if (answer->ending.failure)
+        stop(run->ours, ": this is not Kobdzila's msgfmt, or can't be run");
+    if (!pass_on(run, answer) && answer->ending.status == 0)
+        answer->ending.status = 1;
+    say_why_not_written(run, answer);
+    char reason[WHY_SIZE + sizeof "; no GNU msgfmt"];
+    snprintf(reason, sizeof reason, "%s%s", why, *why ? "; no GNU msgfmt" : "");
+    if (*why)
+        dprintf(STDERR_FILENO, "msgfmt-or-gnu: no GNU msgfmt on the PATH to run in its place (%s)%s", why, in_gettext);
+    log_files(run->request, "ours", answer->ending.status, reason, milliseconds_of(run));
+    end_as(answer->ending);
+}
+
+/* --- a run ------------------------------------------------------------------------------------------------------ */
+
+enum { FIRST_WITH_FLAG_LINES = 26 }; /* GNU gettext 0.26 */
+
+/* A text with flags in lines `#=`, which Kobdzila's msgfmt and older ones of GNU's take for comments. */
+_Noreturn static void end_with_flag_lines(struct run *run, unsigned long long line) {
+    int version = has_gnu(run) ? gnu_version(run->gnu) : 0;
+    if (version >= FIRST_WITH_FLAG_LINES)
+        end_by_gnu(run, "flags in #=");
+    char which[WHY_SIZE] = "there is none on the PATH; it is in the package gettext\n";
+    if (run->gnu)
+        snprintf(which, sizeof which, "%.150s is %d.%d\n", run->gnu, version / 1000, version % 1000);
+    dprintf(STDERR_FILENO, "%s:%llu: flags in a line #= are known to GNU msgfmt since 0.26, and %s",
+            run->request->inputs[0], line, which);
+    log_files(run->request, run->gnu ? "GNU" : "ours", 1, "flags in #=; no GNU msgfmt 0.26", milliseconds_of(run));
+    _exit(1);
+}
+
+_Noreturn static void compile_text(struct run *run, const char *why) {
+    struct answer answer = compile(run);
+    char *refusal = answer.ending.failure ? NULL : refusal_of(run, &answer);
+    if (!refusal && answer.ending.status == 0 && leaves_messages_out(run, &answer))
+        refusal = strdup("-C and messages that are left out");
+    if (refusal && has_gnu(run))
+        end_by_gnu(run, refusal);
+    const char *reason = *why ? why : refusal ? refusal : "";
+    end_by_ours(run, &answer, refusal || answer.ending.status ? reason : "");
+}
+
+_Noreturn static void drive(struct run *run) {
+    struct request *request = run->request;
+    char why[WHY_SIZE] = "";
+    if (request->why[0]) {
+        if (has_gnu(run))
+            end_by_gnu(run, request->why);
+        end_without_gnu(run);
+    }
+    int failure = read_text(run, why);
+    run->input_name = run->input;
+    if (failure) {
+        snprintf(why, sizeof why, "%s", strerror(failure));
+        if (has_gnu(run))
+            end_by_gnu(run, why);
+        dprintf(STDERR_FILENO, "msgfmt-or-gnu: cannot read %s: %s\n", request->inputs[0], why);
+        log_files(request, "ours", 1, why, milliseconds_of(run));
+        _exit(1);
+    }
+    struct needs needs = needs_of(request, run->text.bytes, run->text.len);
+    if (needs.line)
+        end_with_flag_lines(run, needs.line);
+    if (!why[0])
+        memcpy(why, needs.why, sizeof why);
+    if (!why[0] && !is_utf8(run->input))
+        snprintf(why, sizeof why, "a name that isn't UTF-8");
+    if (why[0] && has_gnu(run))
+        end_by_gnu(run, why);
+    compile_text(run, why);
+}
+
+int main(int count, char **words) {
+    struct run run = {.text.kept = -1, .streams = {-1, -1, -1, -1, -1}};
+    clock_gettime(CLOCK_MONOTONIC, &run.start);
+    if (getenv(guard)) {
+        write_all(STDERR_FILENO, taken, strlen(taken));
+        return 1;
+    }
+    if (count == 3 && !strcmp(words[1], "--summary"))
+        return summarise(words[2]);
+    run.ours = find_ours();
+    run.request = read_words(count, words);
+    if (!run.ours || !run.request || setenv(guard, "1", 1) < 0)
+        stop_for_memory();
+    if (access(run.ours, X_OK) < 0)
+        stop("there is no ", run.ours);
+    drive(&run);
+}

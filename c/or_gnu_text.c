@@ -1,0 +1,221 @@
+/* What a PO text has that only GNU msgfmt compiles or checks. It is looked for before either program runs, so that no
+ * program runs in vain. A guess that is wrong costs time alone: what Kobdzila's msgfmt refuses is given to GNU's. */
+#include "or_gnu_text.h"
+#include "or_gnu.h"
+
+#include <stdio.h>
+#include <string.h>
+#include <strings.h>
+
+/* What the lines so far said. */
+struct scan {
+    const struct request *request;
+    struct needs needs;
+    unsigned long long line;
+    bool has_macros; /* `<PRI` is somewhere in the text */
+    bool saw_charset;
+    bool flagged_c, flagged_fuzzy; /* comments before this entry have these flags */
+    bool has_msgstr;               /* this entry has come to its msgstr */
+    struct newlines newlines;
+    bool after_context;
+    enum { NO_HEADER, HEADER_ID, HEADER_TEXT, HEADER } header;
+};
+
+static bool is_blank(char byte) { return byte == ' ' || byte == '\t' || byte == '\r' || byte == '\v' || byte == '\f'; }
+
+static struct part trimmed(struct part part) {
+    while (part.at < part.end && is_blank(*part.at))
+        part.at++;
+    while (part.at < part.end && is_blank(part.end[-1]))
+        part.end--;
+    return part;
+}
+
+bool begins(struct part part, const char *word) {
+    size_t len = strlen(word);
+    return (size_t)(part.end - part.at) >= len && !memcmp(part.at, word, len);
+}
+
+static bool is(struct part part, const char *word) {
+    return begins(part, word) && (size_t)(part.end - part.at) == strlen(word);
+}
+
+static const char *find(struct part part, const char *word) {
+    return memmem(part.at, (size_t)(part.end - part.at), word, strlen(word));
+}
+
+static void needs_gnu(struct scan *scan, const char *before, struct part what) {
+    if (!scan->needs.why[0])
+        snprintf(scan->needs.why, sizeof scan->needs.why, "%s%.*s", before,
+                 (int)(what.end - what.at < 80 ? what.end - what.at : 80), what.at);
+}
+
+static void needs_gnu_for(struct scan *scan, const char *why) { needs_gnu(scan, why, (struct part){why, why}); }
+
+/* A flag of an entry: formats of other languages than C are checked by GNU msgfmt alone. */
+static void look_at_flag(struct scan *scan, struct part flag) {
+    static const char ending[] = "-format";
+    size_t len = (size_t)(flag.end - flag.at), ending_len = sizeof ending - 1;
+    scan->flagged_c |= is(flag, "c-format");
+    scan->flagged_fuzzy |= is(flag, "fuzzy");
+    if (is(flag, "fuzzy") && scan->request->checks_compatibility)
+        needs_gnu_for(scan, "-C and a fuzzy message");
+    if (scan->request->checks_format && !is(flag, "c-format") && len > ending_len &&
+        !memcmp(flag.end - ending_len, ending, ending_len) && !begins(flag, "no-") && !begins(flag, "impossible-"))
+        needs_gnu(scan, "", flag);
+}
+
+/* A comment, from its `#`. `#,` and `#=` are followed by flags (GNU gettext manual, "The Format of PO Files"). */
+static void look_at_comment(struct scan *scan, struct part comment) {
+    if (begins(comment, "#~")) /* the flags were an obsolete entry's */
+        scan->flagged_c = scan->flagged_fuzzy = false;
+    if (comment.end - comment.at < 2 || (comment.at[1] != ',' && comment.at[1] != '='))
+        return;
+    bool is_new = comment.at[1] == '=';
+    comment.at += 2;
+    while (comment.at < comment.end) {
+        const char *comma = memchr(comment.at, ',', (size_t)(comment.end - comment.at));
+        struct part flag = trimmed((struct part){comment.at, comma ? comma : comment.end});
+        if (is_new && flag.at < flag.end && scan->needs.line == 0)
+            scan->needs.line = scan->line;
+        look_at_flag(scan, flag);
+        comment.at = comma ? comma + 1 : comment.end;
+    }
+}
+
+/* The comment at the end of a line with keywords and strings, or NULL. */
+static const char *comment_in(struct part line) {
+    bool in_string = false;
+    if (!memchr(line.at, '#', (size_t)(line.end - line.at)))
+        return NULL;
+    for (const char *at = line.at; at < line.end; at++) {
+        if (in_string && *at == '\\')
+            at++;
+        else if (*at == '"')
+            in_string = !in_string;
+        else if (*at == '#' && !in_string)
+            return at;
+    }
+    return NULL;
+}
+
+/* Whether a string, or a keyword and its string, has anything between its quotes. */
+static bool has_text(struct part line) {
+    const char *quote = memchr(line.at, '"', (size_t)(line.end - line.at));
+    return quote && quote + 1 < line.end && quote[1] != '"';
+}
+
+/* Whether this line goes on to say that the text has a header: an empty msgid without context, and its msgstr. */
+static void look_for_header(struct scan *scan, struct part line) {
+    if (scan->header == HEADER)
+        return;
+    if (begins(line, "msgctxt")) {
+        scan->after_context = true;
+    } else if (begins(line, "msgid") && !begins(line, "msgid_plural")) {
+        scan->header = has_text(line) || scan->after_context ? NO_HEADER : HEADER_ID;
+        scan->after_context = false;
+    } else if (begins(line, "msgstr")) {
+        if (scan->header == HEADER_ID)
+            scan->header = has_text(line) ? HEADER : HEADER_TEXT;
+    } else if (begins(line, "\"") && has_text(line)) {
+        scan->header = scan->header == HEADER_TEXT ? HEADER : NO_HEADER;
+    }
+}
+
+/* The charset that the header names: the first in the text. */
+static void look_for_charset(struct scan *scan, struct part line) {
+    static const char *const accepted[] = {"UTF-8", "UTF8", "US-ASCII", "ASCII", "CHARSET"};
+    const char *at = find(line, "charset=");
+    if (!at)
+        return;
+    scan->saw_charset = true;
+    struct part name = {at + strlen("charset="), at + strlen("charset=")};
+    while (name.end < line.end && !strchr(" \t\\\"", *name.end))
+        name.end++;
+    for (size_t place = 0; place < sizeof accepted / sizeof *accepted; place++)
+        if (strlen(accepted[place]) == (size_t)(name.end - name.at) &&
+            !strncasecmp(accepted[place], name.at, (size_t)(name.end - name.at)))
+            return;
+    needs_gnu(scan, "charset=", name);
+}
+
+/* The end of an entry: a comment follows its msgstr, or the next msgid or msgctxt, or the text ends. */
+static void leave_entry(struct scan *scan) {
+    if (end_entry(&scan->newlines) && (!scan->flagged_fuzzy || scan->request->keeps_fuzzy))
+        needs_gnu_for(scan, "newlines differ");
+    scan->has_msgstr = scan->flagged_c = scan->flagged_fuzzy = false;
+}
+
+static void look_at_words(struct scan *scan, struct part line) {
+    if (scan->has_msgstr && *line.at != '"' && !begins(line, "msgstr"))
+        leave_entry(scan);
+    scan->has_msgstr |= begins(line, "msgstr");
+    look_for_newlines(&scan->newlines, line);
+    if (!scan->saw_charset)
+        look_for_charset(scan, line);
+    look_for_header(scan, line);
+    if (scan->has_macros && scan->flagged_c && find(line, "<PRI"))
+        needs_gnu_for(scan, "system-dependent format");
+    if (scan->request->checks_compatibility && begins(line, "msgid_plural"))
+        needs_gnu_for(scan, "-C and a plural message");
+}
+
+static void look_at_line(struct scan *scan, struct part line) {
+    line = trimmed(line);
+    if (line.at == line.end)
+        return;
+    if (*line.at != '#') {
+        const char *comment = comment_in(line);
+        look_at_words(scan, (struct part){line.at, comment ? comment : line.end});
+        if (comment)
+            look_at_comment(scan, (struct part){comment, line.end});
+        return;
+    }
+    if (scan->has_msgstr)
+        leave_entry(scan);
+    look_at_comment(scan, line);
+}
+
+struct needs needs_of(const struct request *request, const char *bytes, size_t len) {
+    struct scan scan = {.request = request, .newlines.is_empty = true};
+    struct part rest = {bytes, bytes + len};
+    scan.has_macros = find(rest, "<PRI") != NULL;
+    if (begins(rest, "\xef\xbb\xbf"))
+        needs_gnu_for(&scan, "a byte order mark");
+    while (rest.at < rest.end) {
+        const char *end = memchr(rest.at, '\n', (size_t)(rest.end - rest.at));
+        struct part line = {rest.at, end ? end : rest.end};
+        scan.line++;
+        look_at_line(&scan, line);
+        rest.at = end ? end + 1 : rest.end;
+    }
+    leave_entry(&scan);
+    if (request->checks_header && scan.header != HEADER)
+        needs_gnu_for(&scan, "no header");
+    return scan.needs;
+}
+
+/* How many bytes follow the first byte of a character, or -1 where none begins with it. */
+static int bytes_after(unsigned char first) {
+    if (first < 0x80)
+        return 0;
+    if (first < 0xc2 || first > 0xf4)
+        return -1;
+    return first < 0xe0 ? 1 : first < 0xf0 ? 2 : 3;
+}
+
+bool is_utf8(const char *name) {
+    for (const unsigned char *at = (const unsigned char *)name; *at;) {
+        unsigned char first = *at++;
+        int more = bytes_after(first);
+        if (more < 0)
+            return false;
+        if ((first == 0xe0 && *at < 0xa0) || (first == 0xed && *at > 0x9f) || (first == 0xf0 && *at < 0x90) ||
+            (first == 0xf4 && *at > 0x8f))
+            return false;
+        for (; more > 0; more--)
+            if ((*at++ & 0xc0) != 0x80)
+                return false;
+    }
+    return true;
+}
