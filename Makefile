@@ -1,50 +1,72 @@
 # Kobdzila: builds, checks, measures and installs.
 #
-#   make            builds the programs into bin/ and compiles the PO files of examples/ with them
+#   make            builds the programs into bin/ and libkobdzila into build/lib, msgfmt first, and compiles the PO files
+#                   of examples/ with it. The first time proves everything; tools/build says how far it is
+#   make msgfmt     builds bin/msgfmt alone; so do `make catserve` and `make catsession`
 #   make check      every check: the proofs and tests of the gate (rt ci), then the scripts of tests/
 #   make bench      times bin/msgfmt beside GNU msgfmt, scripts and a session; N=7 says how many rounds
-#   make library    builds libkobdzila, the look-ups for C, into build/lib, where there is a C compiler; `make` does too
-#   make install    installs the programs, their man pages and completions under PREFIX (/usr/local), below DESTDIR
-#                   where it is given. PROGRAM_PREFIX=kob- names them kob-msgfmt and so on, beside GNU's. The library is
-#                   installed, too, where it was built; `make install_library` installs it alone
+#   make driver     builds bin/msgfmt-or-gnu, the msgfmt for build systems, if there is a C compiler; `make` does too
+#   make library    builds libkobdzila, the look-ups for C, into build/lib, if there is a C compiler; `make` does too.
+#                   CC, CPPFLAGS, CFLAGS and LDFLAGS count
+#   make install    installs the programs, their man pages and completions under PREFIX (/usr/local), below DESTDIR if it
+#                   is given. PROGRAM_PREFIX=kob- names them kob-msgfmt and so on, next to GNU's. What is in C is
+#                   installed, too, if it was built; `make install_library` installs the library alone. LIBDIR is its
+#                   folder (PREFIX/lib): LIBDIR=/usr/lib64, or /usr/lib/$(cc -print-multiarch) on Debian
+#   make dist       packs build/dist/kobdzila-VERSION-MACHINE-linux.tar.gz of what was built, with static programs
+#   make deb        packs it as three Debian packages, into build/deb
+#   make verify TARBALL=FILE   proves and builds the commit that a tarball names, and compares every byte
 #   make uninstall  removes what `make install` with the same variables has put there
 #   make clean      removes what was built, and what the prover kept (crates/*/out)
 #
 # Beside the Rattle toolchain (the command rt) it needs make, bash and Python 3. The checks and the bench also
-# use gettext, gcc and valgrind; tests/needs installs what is missing where it can, else that part is skipped.
+# use gettext, gcc and valgrind; tests/needs installs what is missing where it can, else that part is skipped. A release
+# needs git, gcc and binutils, and `make deb` debhelper. STATIC= installs the programs that use the shared C library.
 
 PREFIX = /usr/local
 DESTDIR =
 PROGRAM_PREFIX =
+DOCUMENTS = $(PROGRAM_PREFIX)kobdzila
+libdir = $(PREFIX)/lib
+LIBDIR = $(libdir)
+STATIC = build/static
 STRIP = strip
 N = 7
 RT = rt
 export RT
+version = $(shell cat VERSION)
 
 EXAMPLES = fr pl
 PROGRAMS = msgfmt catserve catsession
-SCRIPTS = msgfmt-or-gnu
-PAGES = $(PROGRAMS) $(SCRIPTS)
-COMPLETED = msgfmt catsession
+DRIVER = msgfmt-or-gnu
+COMPLETED = msgfmt msgfmt-or-gnu catsession
 
-bindir = $(DESTDIR)$(PREFIX)/bin
-mandir = $(DESTDIR)$(PREFIX)/share/man/man1
-docdir = $(DESTDIR)$(PREFIX)/share/doc/$(PROGRAM_PREFIX)kobdzila
-completiondir = $(DESTDIR)$(PREFIX)/share/bash-completion/completions
+bindir = $(PREFIX)/bin
+mandir = $(PREFIX)/share/man
+docdir = $(PREFIX)/share/doc/$(DOCUMENTS)
+completiondir = $(PREFIX)/share/bash-completion/completions
 
-libdir = $(DESTDIR)$(PREFIX)/lib
-includedir = $(DESTDIR)$(PREFIX)/include
-callsdir = $(DESTDIR)$(PREFIX)/share/man/man3
+includedir = $(PREFIX)/include
+# (the library that is put before a program's own has a folder of its own, where no linker looks for one)
+preloaddir = $(LIBDIR)/kobdzila
 SHARED = libkobdzila.so.0
+PRELOADED = libkobdzila-intl.so
 
-.PHONY: all programs examples library check bench install install_library uninstall uninstall_library clean
+.PHONY: all $(PROGRAMS) programs examples compiled_examples driver library check bench dist deb verify
+.PHONY: install install_program install_library uninstall uninstall_library clean
 
-all: examples library
+all:
+	@tools/build
+	@tools/build_driver
+
+$(PROGRAMS):
+	@tools/build $@
 
 programs:
-	@tools/build
+	@tools/build $(PROGRAMS)
 
-examples: programs
+examples: msgfmt compiled_examples
+
+compiled_examples:
 	@mkdir -p build/examples
 	@for name in $(EXAMPLES); do \
 	  bin/msgfmt -o build/examples/$$name.mo examples/$$name.po || exit 1; \
@@ -52,10 +74,13 @@ examples: programs
 	done
 
 $(PROGRAMS:%=bin/%):
-	@tools/build
+	@tools/build $(@F)
+
+driver:
+	@tools/build_driver
 
 library:
-	@tools/build_library
+	@tools/build library
 
 check:
 	@tests/run --gate
@@ -65,51 +90,68 @@ bench: programs
 	@bench/scripts/run $(N)
 	@bench/session/run $(N)
 
+dist:
+	@tools/dist
+
+deb:
+	@tools/deb
+
+verify:
+	@tools/verify_release "$(TARBALL)"
+
 # (the pages and the completions name the programs and the documents as they are installed; without a program `strip`
-# the programs keep their symbols)
-capitals = $$(printf %s '$(PROGRAM_PREFIX)' | tr '[:lower:]' '[:upper:]')
-in_place = sed -e 's|/usr/local|$(PREFIX)|g' -e 's|/doc/|/doc/$(PROGRAM_PREFIX)|g' -e "/^\.TH /s|TH |TH $(capitals)|"
+# the programs and libraries keep their symbols. Programs that were linked without libraries are the ones to install)
+page = tools/installed_page '$(PREFIX)' '$(PROGRAM_PREFIX)' '$(DOCUMENTS)'
 completions = sed 's|@PREFIX@|$(PROGRAM_PREFIX)|g' tools/completion
+to = $(DESTDIR)
+strip = ! command -v $(STRIP) > /dev/null || $(STRIP)
 
 install: $(PROGRAMS:%=bin/%)
-	install -d "$(bindir)" "$(mandir)" "$(docdir)" "$(completiondir)"
-	for name in $(PROGRAMS); do \
-	  install -m 755 bin/$$name "$(bindir)/$(PROGRAM_PREFIX)$$name" || exit 1; \
-	  ! command -v $(STRIP) > /dev/null || $(STRIP) "$(bindir)/$(PROGRAM_PREFIX)$$name" || exit 1; \
-	done
-	for name in $(SCRIPTS); do install -m 755 tools/$$name "$(bindir)/$(PROGRAM_PREFIX)$$name" || exit 1; done
-	for name in $(PAGES); do \
-	  $(in_place) docs/man/$$name.1 > "$(mandir)/$(PROGRAM_PREFIX)$$name.1" || exit 1; \
-	  chmod 644 "$(mandir)/$(PROGRAM_PREFIX)$$name.1" || exit 1; \
-	done
-	install -m 644 docs/FORMATS.md "$(docdir)/FORMATS.md"
-	for name in $(COMPLETED); do \
-	  $(completions) > "$(completiondir)/$(PROGRAM_PREFIX)$$name" || exit 1; \
-	  chmod 644 "$(completiondir)/$(PROGRAM_PREFIX)$$name" || exit 1; \
-	done
+	install -d "$(to)$(docdir)"
+	install -m 644 docs/FORMATS.md "$(to)$(docdir)/FORMATS.md"
+	for name in $(PROGRAMS); do $(MAKE) -s install_program NAME=$$name || exit 1; done
+	if [ -f bin/$(DRIVER) ]; then $(MAKE) -s install_program NAME=$(DRIVER); fi
 	if [ -f build/lib/$(SHARED) ]; then $(MAKE) -s install_library; fi
 
+# one program, $(NAME), with its page and its completion
+install_program:
+	install -d "$(to)$(bindir)" "$(to)$(mandir)/man1" "$(to)$(completiondir)"
+	made=$(STATIC)/$(NAME); [ -n "$(STATIC)" ] && [ -x $$made ] || made=bin/$(NAME); \
+	install -m 755 $$made "$(to)$(bindir)/$(PROGRAM_PREFIX)$(NAME)"
+	$(strip) "$(to)$(bindir)/$(PROGRAM_PREFIX)$(NAME)"
+	$(page) docs/man/$(NAME).1 > "$(to)$(mandir)/man1/$(PROGRAM_PREFIX)$(NAME).1"
+	chmod 644 "$(to)$(mandir)/man1/$(PROGRAM_PREFIX)$(NAME).1"
+	case " $(COMPLETED) " in *" $(NAME) "*) \
+	  $(completions) > "$(to)$(completiondir)/$(PROGRAM_PREFIX)$(NAME)" && \
+	  chmod 644 "$(to)$(completiondir)/$(PROGRAM_PREFIX)$(NAME)" ;; esac
+
 install_library:
-	install -d "$(libdir)/pkgconfig" "$(includedir)" "$(callsdir)"
-	install -m 644 build/lib/libkobdzila.a "$(libdir)/libkobdzila.a"
-	install -m 755 build/lib/$(SHARED) "$(libdir)/$(SHARED)"
-	ln -sf $(SHARED) "$(libdir)/libkobdzila.so"
-	install -m 755 build/lib/libkobdzila-intl.so "$(libdir)/libkobdzila-intl.so"
-	install -m 644 include/kobdzila.h "$(includedir)/kobdzila.h"
-	sed 's|@PREFIX@|$(PREFIX)|g' c/kobdzila.pc.in > "$(libdir)/pkgconfig/kobdzila.pc"
-	chmod 644 "$(libdir)/pkgconfig/kobdzila.pc"
-	install -m 644 docs/man/kobdzila.3 "$(callsdir)/kobdzila.3"
+	install -d "$(to)$(LIBDIR)/pkgconfig" "$(to)$(preloaddir)" "$(to)$(includedir)" "$(to)$(mandir)/man3"
+	install -m 644 build/lib/libkobdzila.a "$(to)$(LIBDIR)/libkobdzila.a"
+	$(strip) --strip-debug "$(to)$(LIBDIR)/libkobdzila.a"
+	install -m 755 build/lib/$(SHARED) "$(to)$(LIBDIR)/$(SHARED)"
+	ln -sf $(SHARED) "$(to)$(LIBDIR)/libkobdzila.so"
+	install -m 755 build/lib/$(PRELOADED) "$(to)$(preloaddir)/$(PRELOADED)"
+	$(strip) --strip-unneeded "$(to)$(LIBDIR)/$(SHARED)" "$(to)$(preloaddir)/$(PRELOADED)"
+	install -m 644 include/kobdzila.h "$(to)$(includedir)/kobdzila.h"
+	sed -e 's|@PREFIX@|$(PREFIX)|g' -e 's|@LIBDIR@|$(LIBDIR:$(PREFIX)/%=$${prefix}/%)|g' -e 's|@VERSION@|$(version)|' \
+	  c/kobdzila.pc.in > "$(to)$(LIBDIR)/pkgconfig/kobdzila.pc"
+	chmod 644 "$(to)$(LIBDIR)/pkgconfig/kobdzila.pc"
+	$(page) docs/man/kobdzila.3 > "$(to)$(mandir)/man3/kobdzila.3"
+	chmod 644 "$(to)$(mandir)/man3/kobdzila.3"
 
 uninstall_library:
-	rm -f "$(libdir)/libkobdzila.a" "$(libdir)/$(SHARED)" "$(libdir)/libkobdzila.so" "$(includedir)/kobdzila.h"
-	rm -f "$(libdir)/pkgconfig/kobdzila.pc" "$(libdir)/libkobdzila-intl.so" "$(callsdir)/kobdzila.3"
+	rm -f "$(to)$(LIBDIR)/libkobdzila.a" "$(to)$(LIBDIR)/$(SHARED)" "$(to)$(LIBDIR)/libkobdzila.so"
+	rm -f "$(to)$(includedir)/kobdzila.h" "$(to)$(LIBDIR)/pkgconfig/kobdzila.pc" "$(to)$(mandir)/man3/kobdzila.3"
+	rm -f "$(to)$(preloaddir)/$(PRELOADED)"
+	rmdir "$(to)$(preloaddir)" 2> /dev/null || true
 
 uninstall: uninstall_library
-	for name in $(PROGRAMS) $(SCRIPTS); do rm -f "$(bindir)/$(PROGRAM_PREFIX)$$name"; done
-	for name in $(PAGES); do rm -f "$(mandir)/$(PROGRAM_PREFIX)$$name.1"; done
-	for name in $(COMPLETED); do rm -f "$(completiondir)/$(PROGRAM_PREFIX)$$name"; done
-	rm -f "$(docdir)/FORMATS.md"
-	rmdir "$(docdir)" 2> /dev/null || true
+	for name in $(PROGRAMS) $(DRIVER); do rm -f "$(to)$(bindir)/$(PROGRAM_PREFIX)$$name"; done
+	for name in $(PROGRAMS) $(DRIVER); do rm -f "$(to)$(mandir)/man1/$(PROGRAM_PREFIX)$$name.1"; done
+	for name in $(COMPLETED); do rm -f "$(to)$(completiondir)/$(PROGRAM_PREFIX)$$name"; done
+	rm -f "$(to)$(docdir)/FORMATS.md"
+	rmdir "$(to)$(docdir)" 2> /dev/null || true
 
 clean:
 	rm -rf bin build crates/*/out
