@@ -1,0 +1,216 @@
+#!/usr/bin/env bash
+# The release: the version is the same wherever it is told; the C interface is what the last release promised; a tarball
+# packed twice, in two folders, by two users, is the same bytes, holds what it says, runs where there is no C library, and
+# is installed and removed without root; and the Debian packages are the same bytes twice, and pass lintian.
+#
+# tests/debian tries both in minimal systems of several Debian releases; it isn't a part of `make check`.
+no_program=1
+. "$(dirname "$0")/common"
+version=$(cat VERSION)
+name=kobdzila-$version-$(uname -m)-linux
+
+# says NAME WANTED GOT
+says() { if [ "$2" = "$3" ]; then ok "$1"; else failed "$1" "'$3' and not '$2'"; fi; }
+
+# --- the version --------------------------------------------------------------------------------------------------
+
+says 'version: kobdzila.h' "$version" "$(sed -n 's/^#define KOB_VERSION "\(.*\)"/\1/p' include/kobdzila.h)"
+says 'version: CHANGELOG.md' 1 "$(grep -c "^## \[$version\]" CHANGELOG.md)"
+if [ -f build/lib/libkobdzila.so.0 ] && command -v python3 > /dev/null; then
+  says 'version: the library and the Python module' "$version" "$(LIBKOBDZILA=$PWD/build/lib/libkobdzila.so.0 \
+    PYTHONPATH=examples/python python3 -B -c 'import kobdzila; print(kobdzila.__version__)' 2>&1 | tail -n 1)"
+else
+  skipped 'version: the library and the Python module' 'no library was built, or there is no python3'
+fi
+if [ -x bin/catsession ]; then
+  says 'version: catsession' "catsession (Kobdzila) $version" "$(bin/catsession --version 2>&1)"
+else
+  skipped 'version: catsession' 'it was not built'
+fi
+
+# --- the C interface ----------------------------------------------------------------------------------------------
+
+if command -v python3 > /dev/null && command -v readelf > /dev/null && [ -f build/lib/libkobdzila.so.0 ]; then
+  if said=$(tests/c_interface.py build/lib/libkobdzila.so.0 2>&1); then
+    ok "the C interface: $said"
+  else
+    failed 'the C interface' "$said"
+  fi
+else
+  skipped 'the C interface' 'no python3, no binutils, or no library was built'
+fi
+
+# --- the tarball, packed twice ------------------------------------------------------------------------------------
+
+if ! git rev-parse HEAD > /dev/null 2>&1; then
+  skipped 'the release' 'this is no clone with git'
+  exit 0
+fi
+if [ ! -x build/static/msgfmt ] || [ ! -f build/lib/libkobdzila.so.0 ]; then
+  skipped 'the release' 'no static programs were built: there is no C compiler, or no static C library'
+  exit 0
+fi
+
+# copied FOLDER WORD..: makes a clone in it, with the sources as they are here and what was built; with further words for
+# tar. (Its files get another owner, so none may be a link to one here.)
+copied() {
+  git clone -q -n --no-hardlinks . "$1"
+  { git ls-files -z; find bin build/static build/lib ! -type d -print0; } | tar --null -T - -cf - | tar -C "$1" "${@:2}" -xf -
+  git -C "$1" add -A
+}
+
+# as_another FOLDER WORD..: runs the words in a folder of another user, if this is root, with other settings
+as_another() {
+  local folder=$1
+  shift
+  set -- env -i PATH="$PATH" HOME="$folder" TZ=Asia/Kathmandu LC_ALL=C.UTF-8 ${RT:+RT="$RT"} ${CC:+CC="$CC"} "$@"
+  [ "$(id -u)" != 0 ] || { chown -R nobody "$folder" && set -- setpriv --reuid=nobody --regid=65534 --clear-groups "$@"; }
+  (cd "$folder" && umask 077 && "$@")
+}
+
+chmod 755 "$room"
+copied "$room/one"
+copied "$room/another/folder" --touch
+said=$(cd "$room/one" && tools/dist --as-built 2>&1)
+if [ ! -f "$room/one/build/dist/$name.tar.gz" ]; then
+  failed 'the tarball' "$said"
+  exit 0
+fi
+tarball=$room/one/build/dist/$name.tar.gz
+said=$(as_another "$room/another/folder" tools/dist --as-built 2>&1)
+other=$room/another/folder/build/dist/$name.tar.gz
+whom='two users'
+[ "$(id -u)" = 0 ] || whom='one user'
+if cmp "$tarball" "$other" > "$room/cmp" 2>&1; then
+  ok "the tarball: the same bytes in two folders, by $whom"
+else
+  failed "the tarball: the same bytes in two folders, by $whom" "$(cat "$room/cmp"); $said"
+fi
+if said=$(cd "$room/one" && tools/verify_release --as-built "$tarball" 2>&1); then
+  ok 'the tarball: verified'
+else
+  failed 'the tarball: verified' "$said"
+fi
+mkdir "$room/unpacked" "$room/changed"
+tar -xzf "$tarball" -C "$room/unpacked"
+if said=$(cd "$room/unpacked/$name" && sha256sum --quiet -c SHA256SUMS 2>&1 && cd .. &&
+  find . -type f ! -name SHA256SUMS | wc -l | cmp - <(wc -l < "$name/SHA256SUMS") 2>&1); then
+  ok 'the tarball: SHA256SUMS has each file'
+else
+  failed 'the tarball: SHA256SUMS has each file' "$said"
+fi
+# (a program with one byte more, and sums to match, has to be found)
+cp -R "$room/unpacked/$name" "$room/changed"
+(cd "$room/changed/$name" && printf x >> bin/msgfmt &&
+  find . -type f ! -name SHA256SUMS | sort | sed 's|^\./||' | xargs sha256sum > SHA256SUMS)
+(cd "$room/changed" && tar -czf "$name.tar.gz" "$name")
+if said=$(cd "$room/one" && tools/verify_release --as-built "$room/changed/$name.tar.gz" 2>&1); then
+  failed 'the tarball: a changed program is found' 'it passed'
+elif grep -q 'bin/msgfmt differ' <<< "$said"; then
+  ok 'the tarball: a changed program is found'
+else
+  failed 'the tarball: a changed program is found' "$said"
+fi
+
+# --- what is in it ------------------------------------------------------------------------------------------------
+
+program=$room/unpacked/$name/bin/msgfmt
+if [ "$(id -u)" = 0 ]; then
+  mkdir "$room/nothing"
+  cp "$room/unpacked/$name/bin"/{msgfmt,catserve,catsession} "$room/nothing"
+  if said=$(chroot "$room/nothing" /msgfmt -o - - < crates/msgfmt/stdin 2>&1 | cmp - crates/msgfmt/stdout 2>&1) &&
+    [ "$(echo go | chroot "$room/nothing" /catserve)" = "$(printf 'version\t0')" ] &&
+    [ "$(echo go | chroot "$room/nothing" /catsession)" = "$(printf 'version\t0')" ]; then
+    ok 'the programs run in a folder without a C library'
+  else
+    failed 'the programs run in a folder without a C library' "$said"
+  fi
+else
+  skipped 'the programs run in a folder without a C library' 'only root can call chroot'
+fi
+
+# installed PREFIX: by install.sh into a folder, without root: programs, page, library, and removed again
+installed() {
+  local as="install.sh ${1:-without a prefix}" to=$room/home/$1local left
+  mkdir -p "$room/home"
+  if ! said=$(PREFIX=$to PROGRAM_PREFIX=$1 "$room/unpacked/$name/install.sh" 2>&1); then
+    failed "$as" "$said"
+    return
+  fi
+  if "$to/bin/$1msgfmt" -o - - < crates/msgfmt/stdin | cmp -s - crates/msgfmt/stdout &&
+    "$to/bin/$1msgfmt-or-gnu" -o - - < crates/msgfmt/stdin | cmp -s - crates/msgfmt/stdout; then
+    ok "$as: the programs run"
+  else
+    failed "$as: the programs run" 'they answer otherwise'
+  fi
+  says "$as: the pages have the version" "Kobdzila $version" \
+    "$(sed -n 's/^\.TH.*"\(Kobdzila [^"]*\)".*/\1/p' "$to"/share/man/man?/* | sort -u)"
+  said=$(grep -o "$to/[^ ]*FORMATS.md" "$to/share/man/man1/$1msgfmt.1" | head -n 1)
+  if [ -s "$said" ]; then ok "$as: the page names FORMATS.md"; else failed "$as: the page names FORMATS.md" "'$said'"; fi
+  if grep -q "^complete .* $1msgfmt\$" "$to/share/bash-completion/completions/$1msgfmt"; then
+    ok "$as: completions"
+  else
+    failed "$as: completions" "$(grep ^complete "$to/share/bash-completion/completions/$1msgfmt")"
+  fi
+  if tests/needs cc gcc libc6-dev && tests/needs pkg-config pkg-config; then
+    links "$as" "$to"
+  else
+    skipped "$as: a program in C" 'no C compiler or no pkg-config, and they could not be installed'
+  fi
+  PREFIX=$to PROGRAM_PREFIX=$1 "$room/unpacked/$name/install.sh" remove
+  left=$(find "$to" ! -type d)
+  if [ -z "$left" ]; then ok "$as: removed"; else failed "$as: removed" "$left"; fi
+}
+
+# links NAME FOLDER: a program in C finds the library by pkg-config, the shared one and the static one
+links() {
+  local flags said
+  export PKG_CONFIG_PATH=$2/lib/pkgconfig
+  says "$1: pkg-config knows the version" "$version" "$(pkg-config --modversion kobdzila 2>&1)"
+  read -r -a flags < <(pkg-config --cflags --libs kobdzila)
+  said=$(cc -o "$room/shared" tests/installed.c "${flags[@]}" 2>&1 && LD_LIBRARY_PATH=$2/lib "$room/shared" tests/installed.po 2>&1)
+  says "$1: a program in C" "$version: fichiers" "$said"
+  read -r -a flags < <(pkg-config --cflags kobdzila)
+  said=$(cc -o "$room/static" tests/installed.c "${flags[@]}" "$2/lib/libkobdzila.a" 2>&1 && "$room/static" tests/installed.po 2>&1)
+  says "$1: a program in C, with the static library" "$version: fichiers" "$said"
+}
+
+installed ''
+installed kob-
+
+# the shared library runs with the C library of Debian 11, whose number is 2.31
+newest=$(readelf -W --dyn-syms "$room/unpacked/$name/lib/libkobdzila.so.0" | grep -o 'GLIBC_[0-9.]*' | sort -u -V | tail -n 1)
+if [ "$(printf '%s\n' "$newest" GLIBC_2.31 | sort -V | tail -n 1)" = GLIBC_2.31 ]; then
+  ok "the shared library needs $newest, and Debian 11 has GLIBC_2.31"
+else
+  failed 'the shared library needs at most GLIBC_2.31' "it needs $newest"
+fi
+
+# --- the Debian packages ------------------------------------------------------------------------------------------
+
+if ! tests/needs dh debhelper dpkg-dev; then
+  skipped 'the Debian packages' 'no debhelper, and it could not be installed'
+  exit 0
+fi
+tests/needs lintian lintian
+as_another "$room/another/folder" tools/deb --as-built > "$room/other_deb" 2>&1 &
+(cd "$room/one" && tools/deb --as-built) > "$room/deb" 2>&1
+status=$?
+wait
+if [ "$status" = 0 ]; then
+  ok "the Debian packages: $(find "$room/one/build/deb" -name '*.deb' | wc -l)"
+else
+  failed 'the Debian packages' "$(grep -v '^[IW]:' "$room/deb" | tail -n 5)"
+fi
+if ! command -v lintian > /dev/null; then
+  skipped 'the Debian packages, lintian' 'no lintian, and it could not be installed'
+elif grep -q '^E: ' "$room/deb"; then
+  failed 'the Debian packages, lintian' "$(grep '^E: ' "$room/deb")"
+else
+  ok "the Debian packages, lintian: no error, $(grep -c '^W: ' "$room/deb") warnings"
+fi
+if cmp "$room"/one/build/deb/SHA256SUMS "$room"/another/folder/build/deb/SHA256SUMS > "$room/cmp" 2>&1; then
+  ok "the Debian packages: the same bytes in two folders, by $whom"
+else
+  failed "the Debian packages: the same bytes in two folders, by $whom" "$(cat "$room/cmp" "$room/other_deb" | tail -n 5 | tr '\n' ' ')"
+fi
