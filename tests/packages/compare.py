@@ -15,7 +15,7 @@ from collections import Counter
 from concurrent.futures import ThreadPoolExecutor
 from pathlib import Path
 
-DATE = re.compile(rb'^"POT-Creation-Date:(?:[^"\\]|\\[^n])*\\n"\n', re.M)
+DATE = re.compile(rb'^"POT-Creation-Date:(?:[^"\\]|\\[^n])*\\n"\r*\n', re.M)
 REFUSAL = re.compile(r":\d+: (?!warning: )(.*)\Z", re.S)
 NUMBER = re.compile(r"(?<=fails at )\d+")
 REVISION = slice(4, 8)  # where an MO file has it
