@@ -19,7 +19,7 @@ MSGFMT_PAGE = "docs/man/msgfmt.1"
 CATSERVE_PAGE = "docs/man/catserve.1"
 SESSION_PAGE = "docs/man/catsession.1"
 DRIVER_PAGE = "docs/man/msgfmt-or-gnu.1"
-DRIVER = "tools/msgfmt-or-gnu"
+DRIVER_OPTIONS = "c/or_gnu_words.c"
 HEADER = "include/kobdzila.h"
 COMPLETION = "tools/completion"
 LEAST_LIMIT = 10_000_000  # a number of the documents from here on is one of the limits
@@ -42,9 +42,13 @@ def section(name, title):
 
 
 def variants(path, enum):
-    """The variants of an enum of faults: each name with its text."""
-    body = re.search(rf"pub enum {enum} \{{(.*?)^\}}", read(path), re.M | re.S)[1]
-    return re.findall(r'#\[error\("([^"]*)"\)\]\s*(\w+)', body)
+    """The variants of an enum of faults: each name with its text, which is an attribute or the arm of a match."""
+    code = read(path)
+    body = re.search(rf"pub enum {enum} \{{(.*?)^\}}", code, re.M | re.S)[1]
+    if found := re.findall(r'#\[error\("([^"]*)"\)\]\s*(\w+)', body):
+        return found
+    texts = dict(re.findall(rf'^\s*{enum}::(\w+) => "([^"]*)",$', code, re.M))
+    return [(texts.get(name, ""), name) for name in re.findall(r"^\s*(\w+),$", body, re.M)]
 
 
 def kinds(path, enum):
@@ -136,23 +140,29 @@ def faults_of_the_header():
         "c/kobdzila.c", [text for text in texts if text not in ("no fault", "out of memory")], told)
 
 
-def texts_of_the_driver():
-    """the texts by which the driver takes GNU msgfmt"""
-    known = {text for _, text in kinds(*LOADS).values()} | {"bad command line"}
-    case = re.search(r"^reason\(\) \{(.*?)^\}", read(DRIVER), re.M | re.S)[1]
-    taken = set(re.findall(r"echo '([^']*)'", case))
-    matched = set(re.findall(r"(?:: |msgfmt: )([^':]+)'\) echo", case))
-    named = {text for text in known if text in page(DRIVER_PAGE).split("ENVIRONMENT")[0]}
-    head = re.sub(r"^# ?", "", read(DRIVER).split("set -u")[0], flags=re.M)
-    heads = {text for text in known if text in " ".join(head.split())}
-    readme = {text for text in known if f"`{text}`" in " ".join(section("README.md", "Using msgfmt").split())}
-    return (
-        differences(f"{DRIVER}, its cases", matched, taken)
-        + [f"{DRIVER}: no text of msgfmt: {text}" for text in sorted(taken - known)]
-        + differences(DRIVER_PAGE, named, taken)
-        + differences(f"{DRIVER}, its head", heads, taken)
-        + differences("README.md", readme, taken)
+def options_of_the_driver():
+    """the options of GNU msgfmt that msgfmt-or-gnu knows: code, man page, completions"""
+    code = read(DRIVER_OPTIONS)
+    wanted = {f"--{name}" for name in re.findall(r'^    \{"([a-z0-9-]+)",', code, re.M)}
+    wanted |= {f"-{letter}" for letter in re.search(r'letters\[\] = "([^"]*)"', code)[1] if letter != ":"}
+    table = re.search(r"^option of GNU msgfmt.*?^\.TE$", read(DRIVER_PAGE), re.M | re.S)[0].replace("\\-", "-")
+    by_letters = {"--language", "--locale", "--resource", "--properties-input"}  # as the page names them
+    completed = re.search(r"msgfmt_or_gnu\(\).*?local options='([^']*)'", read(COMPLETION), re.S)[1]
+    in_page, in_completion = (
+        set(re.findall(r"(?<![\w-])(--?[A-Za-z][\w-]*)", text)) for text in (re.sub(r"\\f[A-Z]", " ", table), completed)
     )
+    return differences(DRIVER_PAGE, in_page | by_letters, wanted) + differences(
+        f"{COMPLETION}, msgfmt-or-gnu", in_completion - {"--summary"}, wanted)
+
+
+def warnings_of_the_driver():
+    """the lines of msgfmt that msgfmt-or-gnu looks for"""
+    source = read("c/msgfmt_or_gnu.c")
+    warning = re.search(r'": (warning: header field \')"', source)
+    unwritten = re.search(r'unwritten\[\] = "([^"]*)"', source)
+    code = read("crates/msgfmt_tool/src/texts.rt") + read("crates/msgfmt_tool/src/steps.rt")
+    return [f"c/msgfmt_or_gnu.c: no text of msgfmt: {found and found[1]}" for found in (warning, unwritten)
+            if not found or found[1] not in code]
 
 
 def lines_of_the_command():
@@ -188,7 +198,7 @@ def help_of(program):
 
 
 def options_in(text):
-    return set(re.findall(r"(?<![\w-])(--?[a-z][\w-]*)", text))
+    return set(re.findall(r"(?<![\w-])(--?[A-Za-z][\w-]*)", text))
 
 
 def options():
@@ -222,7 +232,7 @@ def options_of_a_session():
     found = [(f"{SESSION_PAGE}, its synopsis", short), (SESSION_PAGE, heads), (COMPLETION, completed)]
     if SESSION:
         found.append(("the help of catsession", help_of(SESSION)))
-    if named := re.findall(r'"(--?[a-z]+)"', code_of_a_session()):
+    if named := re.findall(r'"(--?[A-Za-z]+)"', code_of_a_session()):
         found.append(("the code of catsession", " ".join(named)))
     return [why for name, text in found for why in differences(name, options_in(text), wanted)]
 
@@ -239,7 +249,7 @@ def faults_of_a_session():
     texts = {cell.strip("`") for row in table for cell in row if cell.startswith("`")}
     manual = re.search(r"^\.TS\n.*?^\.TE$", read(SESSION_PAGE).replace("\\-", "-"), re.M | re.S)[0]
     here = {line.split(";")[0] for line in manual.splitlines()[3:-1]}
-    words = {"unknown word WORD", "--workers takes a number from 1 to 16"}
+    words = {"a word is not UTF-8", "unknown word WORD", "--workers takes a number from 1 to 16"}
     numbers = len(kinds(*SCRIPTS)) + 1
     code = code_of_a_session()
     pages = {FORMATS: " ".join(section(FORMATS, "A session").split()), SESSION_PAGE: page(SESSION_PAGE)}
@@ -385,7 +395,8 @@ RULES = (
     kinds_of_scripts,
     texts_of_kinds,
     faults_of_the_header,
-    texts_of_the_driver,
+    options_of_the_driver,
+    warnings_of_the_driver,
     lines_of_the_command,
     fields_of_a_header,
     options,

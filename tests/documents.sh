@@ -63,6 +63,8 @@ docs/FORMATS.md^no place for a reader^no room for a reader
 docs/FORMATS.md^catsession [--workers N]^catsession [--worker N]
 docs/FORMATS.md^`store closed`^`the store closed`
 docs/FORMATS.md^unknown word WORD^no such word WORD
+docs/FORMATS.md^a word is not UTF-8^a word is no UTF-8
+docs/man/catsession.1^a word is not UTF\-8^a word is no UTF\-8
 docs/FORMATS.md^A round has at most 67,108,864^A round has at most 67,108,863
 docs/man/msgfmt.1^\-\-no\-hash ]^\-\-nohash ]
 docs/man/msgfmt.1^\-\-verbose^\-\-loud
@@ -74,13 +76,14 @@ docs/man/catsession.1^.BI \-\-workers^.BI \-\-threads
 docs/man/catsession.1^round too large;^round is too large;
 docs/man/catsession.1^an MO file 268,435,456^an MO file 268,435,455
 docs/man/catsession.1^from 1 to 16, and^from 1 to 17, and
-docs/man/msgfmt-or-gnu.1^not UTF\-8^not in UTF\-8
+docs/man/msgfmt-or-gnu.1^\-\-tcl^\-\-tk
 tools/completion^--use-fuzzy^--fuzzy
 include/kobdzila.h^KOB_MO_ORDER = 9^KOB_MO_ORDER = 8
 c/kobdzila.c^"newlines differ"^"lines differ"
-tools/completion^'--workers --help -h'^'--workers --help'
-tools/msgfmt-or-gnu^': unsupported charset'^': charset'
-README.md^`unsupported charset`^`charset`
+tools/completion^'--workers --help --version -h -V'^'--workers --help --version -h'
+tools/completion^--stringtable-input^--stringtable
+c/or_gnu_words.c^{"java2",^{"java3",
+c/msgfmt_or_gnu.c^warning: header field^warning: field
 README.md^(docs/LIVE.md)^(docs/ALIVE.md)
 crates.txt^po_text: bstr^po_words: bstr
 docs/ARCHITECTURE.md^`Lexing`, ^

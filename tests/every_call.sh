@@ -1,5 +1,5 @@
 #!/usr/bin/env bash
-# Makes each call that takes memory by the program crates/every_call, compares what all of them answer with what was
+# Makes the calls that take memory by the program crates/every_call, compares what all of them answer with what was
 # worked out by hand (crates/every_call/stdout), and then refuses each of its requests for memory in turn. Each line
 # must be the one of the run that nothing is refused, or say that memory was refused; none may be missing, and what a
 # refused call was given must be as it was. tests/every_call.py says which lines may stand where.
@@ -10,7 +10,8 @@ if [ ! -x "$program" ]; then
   failed every_call "there is no $program: the gate builds it (make check), and so does 'rt run' in crates/every_call"
   exit 0
 fi
-words='read_po parse_expr read_rule signature compile from_sorted write_mo read_mo name absorb open_store publish ask serve'
+words='read_po parse_expr read_rule signature compile from_sorted from_file write_mo read_mo check reread name absorb'
+words+=' try_clone open_store publish ask serve'
 
 "$program" > "$room/all"
 if cmp -s "$room/all" crates/every_call/stdout; then

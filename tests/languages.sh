@@ -141,7 +141,7 @@ END
 # the rule is that of the catalogue that has the message; contexts; a list that leads nowhere
 polish='nplurals=3; plural=n==1 ? 0 : n%%10>=2 && n%%10<=4 && (n%%100<10 || n%%100>=20) ? 1 : 2;'
 : > "$room/loads"
-load de 'msgid ""\nmsgstr "Plural-Forms: nplurals=2; plural=n != 1;"\n'"$(message x y)"
+load de 'msgid ""\nmsgstr "nplurals=2; plural=n-1;"\n'"$(message x y)"
 load pl "msgid \"\"\nmsgstr \"Plural-Forms: ${polish//%%/%}\"\nmsgid \"file\"\nmsgid_plural \"files\"
 msgstr[0] \"plik\"\nmsgstr[1] \"pliki\"\nmsgstr[2] \"plikow\"\nmsgctxt \"menu\"\nmsgid \"open\"\nmsgstr \"otworz\"\n"
 table << END

@@ -168,6 +168,29 @@ def two_texts_by_turns(size):
     return mo(originals, originals, [text, text]), "refusal 11"
 
 
+def irregular_copies(size):
+    """Copies of one random text, with gaps between them of which no two are alike, and all ends of the whole as keys. At
+    each offset in the copies one chain of keys stands in every s-th copy, so that each pair of copies is compared once
+    and no comparison answers for another. The work grows as size ** (4 / 3)."""
+    picked = random.Random(5)
+    letters = bytes(range(33, 127))
+    length = round(size ** (2 / 3))
+    count = int(size / length * 0.93)
+    copied = bytes(picked.choices(letters, k=length))
+    text, starts = bytearray(), []
+    for copy in range(count):
+        starts.append(len(text))
+        # (two bytes after each copy, in rising order, so that the keys of a chain rise)
+        text += copied + bytes([40 + copy // 80, 40 + copy % 80])
+        text += bytes(picked.choices(letters, k=picked.randrange(1, 4000)))
+    chains = [range(first, count, step) for step in range(1, count) for first in range(step) if first + step < count]
+    offsets = sorted(range(min(len(chains), length * 3 // 5)), key=lambda offset: copied[offset : offset + 24])
+    keys = [starts[copy] + offset for chain, offset in zip(chains, offsets) for copy in chain]
+    start = strings_start(len(keys))
+    rows = [(len(text) - place, start + place) for place in keys]
+    return mo(rows, [(0, start + len(text))] * len(keys), [text, b"\0"]), SWOLLEN
+
+
 def tiny_entries(size):
     count = size // 6
     keys, originals = numbered(count)
@@ -187,6 +210,7 @@ SHAPES = (
     wrong_order_at_the_end,
     wrong_order_of_endings,
     two_texts_by_turns,
+    irregular_copies,
     tiny_entries,
 )
 

@@ -1,5 +1,5 @@
 #!/usr/bin/env bash
-# Scripts of bin/catserve: the stored one, worked cases, devices that fail, threads that can't be made, and each request
+# Scripts of bin/catserve: two stored ones, worked cases, devices that fail, threads that can't be made, and each request
 # for memory refused in turn. A run whose request is refused must say `catserve: 9 0`, end with 1 and write nothing, or
 # answer just as the run that nothing is refused. A run that is refused threads always does the latter.
 . "$(dirname "$0")/common"
@@ -9,7 +9,9 @@ if [ ! -x "$program" ]; then
   failed scripts "there is no $program: make builds it"
   exit 0
 fi
-stored=crates/catserve_program
+# (a worked script of PO texts, which is the program's stored run, and one that also loads an MO file)
+worked=crates/catserve_program/stdin worked_answers=crates/catserve_program/stdout
+with_file=tests/stored/rounds_with_file.script with_file_answers=tests/stored/rounds_with_file.answers
 
 # answers NAME STATUS OUTPUT ERRORS: runs the program on $room/in, and compares what it answers
 answers() {
@@ -23,11 +25,17 @@ answers() {
   fi
 }
 
-if "$program" < $stored/stdin 2> "$room/err" | cmp -s - $stored/stdout && [ ! -s "$room/err" ]; then
-  ok 'script, two rounds'
-else
-  failed 'script, two rounds' "$(cat "$room/err")"
-fi
+# is_as_stored NAME SCRIPT ANSWERS: it writes the stored answers
+is_as_stored() {
+  if "$program" < "$2" 2> "$room/err" | cmp -s - "$3" && [ ! -s "$room/err" ]; then
+    ok "$1"
+  else
+    failed "$1" "$(cat "$room/err")"
+  fi
+}
+
+is_as_stored 'script, two rounds' "$worked" "$worked_answers"
+is_as_stored 'script, two rounds with an MO file' "$with_file" "$with_file_answers"
 
 # is_answered NAME SCRIPT OUTPUT: it writes this
 is_answered() {
@@ -43,12 +51,14 @@ is_bad() {
 
 . tests/script_rows
 
-head -n 2 $stored/stdin > "$room/in"
+head -n 2 "$worked" > "$room/in"
 answers 'script, cut' 1 '' 'catserve: 3 1'
 printf 'go\n\377' > "$room/in"
 answers 'script, not UTF-8' 1 '' 'catserve: 2 0'
 printf 'load\tapp\tfr\t-\t0\n%.0s' $(seq 300) > "$room/in"
 answers 'script, three hundred loads' 0 "$(printf 'accepted\\t0\\t0\\t0\\n%.0s' $(seq 300))version\\t300\\n" ''
+printf 'go\n%.0s' $(seq 1200) > "$room/in"
+answers 'script, twelve hundred rounds' 0 "$(printf 'version\\t0\\n%.0s' $(seq 1200))" ''
 
 head -c 67108865 /dev/zero > "$room/in"
 answers 'script, too large' 1 '' 'catserve: 1 0'
@@ -64,7 +74,7 @@ else
 fi
 if [ ! -c /dev/full ]; then
   skipped 'script, a writer that fails' 'no /dev/full'
-elif "$program" < $stored/stdin > /dev/full 2> "$room/err" || [ "$(cat "$room/err")" != 'catserve: 5 0' ]; then
+elif "$program" < "$worked" > /dev/full 2> "$room/err" || [ "$(cat "$room/err")" != 'catserve: 5 0' ]; then
   failed 'script, a writer that fails' "'$(cat "$room/err")'"
 else
   ok 'script, a writer that fails'
@@ -95,7 +105,8 @@ are_run_without_threads() {
 
 if makes_library refuse_threads 'script, no threads'; then
   # (each round answers the last of its workers in the thread that it has)
-  are_run_without_threads 2 $stored/stdin $stored/stdout
+  are_run_without_threads 2 "$worked" "$worked_answers"
+  are_run_without_threads 2 "$with_file" "$with_file_answers"
   {
     printf 'workers\t16\n'
     printf 'ask\t%d\tapp\tfr\tgettext\thi\n' $(seq 0 15)
@@ -109,23 +120,29 @@ fi
 
 makes_refuser 'script, memory' || exit 0
 
-# is_refused: the run on $stored/stdin says that memory was refused, and wrote nothing
+# is_refused STATUS: the last run says that memory was refused, and wrote nothing
 is_refused() { [ "$1" = 1 ] && [ ! -s "$room/out" ] && [ "$(cat "$room/err")" = 'catserve: 9 0' ]; }
 
-n=0 spoke=0 name='script, memory'
-while refuses $((n + 1)) "$program" < $stored/stdin > "$room/out" 2> "$room/err"; do
-  n=$((n + 1))
-  if is_refused $status; then
-    spoke=$((spoke + 1))
-  elif [ $status != 0 ] || [ -s "$room/err" ] || ! cmp -s "$room/out" $stored/stdout; then
-    failed "$name" "request $n refused: status $status, $(wc -c < "$room/out") bytes, '$(cat "$room/err")'"
-    exit 0
+# sweep NAME SCRIPT ANSWERS: refuses each request for memory of the run on SCRIPT in turn
+sweep() {
+  local n=0 spoke=0
+  while refuses $((n + 1)) "$program" < "$2" > "$room/out" 2> "$room/err"; do
+    n=$((n + 1))
+    if is_refused $status; then
+      spoke=$((spoke + 1))
+    elif [ $status != 0 ] || [ -s "$room/err" ] || ! cmp -s "$room/out" "$3"; then
+      failed "$1" "request $n refused: status $status, $(wc -c < "$room/out") bytes, '$(cat "$room/err")'"
+      return
+    fi
+  done
+  if [ $n = 0 ]; then
+    failed "$1" 'no request was refused: is the program linked with the C library at run time?'
+  elif [ $status != 0 ] || ! cmp -s "$room/out" "$3"; then
+    failed "$1" "with $n requests and none refused: '$(cat "$room/err")'"
+  else
+    ok "$1: $n requests refused in turn, $spoke of them told, the others without effect"
   fi
-done
-if [ $n = 0 ]; then
-  failed "$name" 'no request was refused: is the program linked with the C library at run time?'
-elif [ $status != 0 ] || ! cmp -s "$room/out" $stored/stdout; then
-  failed "$name" "with $n requests and none refused: '$(cat "$room/err")'"
-else
-  ok "$name: $n requests refused in turn, $spoke of them told, the others without effect"
-fi
+}
+
+sweep 'script, memory' "$worked" "$worked_answers"
+sweep 'script with an MO file, memory' "$with_file" "$with_file_answers"

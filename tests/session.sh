@@ -10,7 +10,7 @@ if [ ! -x "$session" ]; then
   failed session "there is no $session: make builds it"
   exit 0
 fi
-stored=crates/catserve_program
+script=tests/stored/rounds_with_file.script answers=tests/stored/rounds_with_file.answers
 number=100
 
 # row NAME SCRIPT OUTPUT ERR [WORD..]: the session writes OUTPUT on SCRIPT, and says ERR; SCRIPT and OUTPUT are formats
@@ -42,7 +42,8 @@ stored_row() {
   cp "$2" "$room/rows/$((number - 1))/script"
   cp "$3" "$room/rows/$((number - 1))/out"
 }
-stored_row 'the stored script' $stored/stdin $stored/stdout
+stored_row 'the stored script of catserve' crates/catserve_program/stdin crates/catserve_program/stdout
+stored_row 'the stored script with an MO file' $script $answers
 stored_row 'the example of a script' examples/shop.script examples/shop.answers
 row 'three hundred loads' "$(printf 'load\\tapp\\tfr\\t-\\t0\\n%.0s' $(seq 300))" \
   "$(printf 'accepted\\t0\\t0\\t0\\n%.0s' $(seq 300))version\\t300\\n" ''
@@ -154,6 +155,8 @@ tells 'an unknown letter' 'catsession: unknown word -w' -w
 tells 'a file as a word' 'catsession: unknown word examples/shop\.script' examples/shop.script
 tells 'a second number' 'catsession: unknown word 3' --workers 2 3
 tells 'an unknown word behind the number' 'catsession: unknown word x y' --workers 2 'x y'
+tells 'a word that is not UTF-8' 'catsession: a word is not UTF-8' $'\377'
+tells 'an unknown word before one that is not UTF-8' 'catsession: a word is not UTF-8' gone $'x\303'
 tells '--workers without a number' "$no_number" --workers
 for it in 0 17 '' x -1 +2 1.5 '2 ' 18446744073709551617; do tells "--workers '$it'" "$no_number" --workers "$it"; done
 for it in -h --help; do
@@ -210,7 +213,7 @@ if [ "$(head -c 2 "$session")" = '#!' ]; then
 fi
 
 # as_ever: the last run answered the stored script as it does where nothing is refused
-as_ever() { [ $status = 0 ] && [ ! -s "$room/err" ] && cmp -s "$room/out" $stored/stdout; }
+as_ever() { [ $status = 0 ] && [ ! -s "$room/err" ] && cmp -s "$room/out" $answers; }
 
 if makes_library refuse_threads 'session, threads refused'; then
   n=0 wrong=
@@ -219,7 +222,7 @@ if makes_library refuse_threads 'session, threads refused'; then
     n=$((n + 1))
     rm -f "$room/refused"
     timeout 20 env REFUSE_FROM=$n REFUSED="$room/refused" LD_PRELOAD="$room/refuse_threads.so" "$session" \
-      < $stored/stdin > "$room/out" 2> "$room/err"
+      < $script > "$room/out" 2> "$room/err"
     status=$?
     as_ever || wrong+="from $n on: status $status, '$(cat "$room/err")'; "
   done
@@ -232,11 +235,11 @@ fi
 
 makes_refuser 'session, memory refused' || exit 0
 # (what has been written when there is no memory: nothing, the first round, or both)
-head -n 6 $stored/stdout > "$room/first"
-is_front() { [ ! -s "$room/out" ] || cmp -s "$room/out" "$room/first" || cmp -s "$room/out" $stored/stdout; }
+head -n 6 $answers > "$room/first"
+is_front() { [ ! -s "$room/out" ] || cmp -s "$room/out" "$room/first" || cmp -s "$room/out" $answers; }
 
 n=0 spoke=0 name='session, memory refused'
-while refuses $((n + 1)) "$session" < $stored/stdin > "$room/out" 2> "$room/err"; do
+while refuses $((n + 1)) "$session" < $script > "$room/out" 2> "$room/err"; do
   n=$((n + 1))
   if [ $status = 1 ] && [ "$(cat "$room/err")" = 'catsession: out of memory' ] && is_front; then
     spoke=$((spoke + 1))
