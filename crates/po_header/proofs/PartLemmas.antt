@@ -68,7 +68,7 @@ built-part parts at p lt e =
     ∙ ap (λ (k : ℕ). built (take at parts ++ (p ∷ [])) k) (sym len)
     ∙ built-last (take at parts) p
 
--- there is no part from here on
+-- past the last part, the tree is the variable
 pub built-past : (parts : List Part) (k : ℕ) → length parts ≤ k → built parts k ≡ Variable
 built-past parts k le = get_or_past (trees_of parts) k Variable (omega (arith, length-trees_of parts))
 

@@ -1,4 +1,4 @@
--- Values that repeat every hundred, and the values at 0 and up.
+-- Values that repeat every hundred, and the precomputed values.
 use Rattle.std.proofs.Common.{◌≡◌, ℕ, ◌+◌, ◌*◌, ◌/◌, ◌%◌, ◌<◌, sym, ap, ◌∙◌, arith, List, length}
 use Rattle.std.proofs.Math.Nat.{mul-add-mod_self_left, div-add-mod, mul_assoc}
 use Rattle.po_header.specs.Grammar.{Tree}
@@ -19,7 +19,7 @@ part_of m some e = record {
   same = λ n. mod_folded n 100 m (100 / m) (sym (div-add-mod 100 m) ∙ omega (arith, e));
 }
 
--- the values at the numbers below n
+-- the values at all numbers below n
 pub record Values (values : List ℕ) (tree : Tree) (n : ℕ) : Type 0 where
   pub as_many : length values ≡ n
   pub are : AreFirst values tree

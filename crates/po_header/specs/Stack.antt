@@ -5,7 +5,7 @@ use Rattle.po_header.specs.declared.token.Token.{Token}
 use Rattle.po_header.specs.declared.token.Token.TheVariants.{Count, Number, Open, Close, Question, Colon, Bang, Sign}
 use Rattle.po_header.specs.Grammar.{Tree, Variable, Constant, Negation, Binary, Choice, level}
 
--- what waits for its operand
+-- what waits on the stack for its operand
 pub data Waiting : Type 0 where
   BracketWaits : Waiting
   BangWaits : Waiting

@@ -18,8 +18,8 @@ fn before_white(text: &str) -> &str
     }
 }
 
-/// The charset that a header's text names: what follows its first `charset=`, up to a space, a tab, LF or the end (GNU
-/// gettext manual, "Header Entry"). None without a `charset=`.
+/// The charset that a header's text names: what follows its first `charset=`, up to a space, a tab, LF or the end
+/// (GNU gettext manual, "Header Entry"). None without a `charset=`.
 pub fn charset_of(text: &str) -> Option<&str>
     ensures { NamesCharset text.now (option_copied result) }
 {

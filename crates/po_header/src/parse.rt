@@ -19,7 +19,7 @@ use crate::{EXPRESSION_LIMIT, ExprFault};
 use memchr::memchr2;
 use std::alloc::{AllocError, Global};
 
-/// What waits for its operand.
+/// What waits on the stack for its operand.
 #[derive(Drop)]
 pub(crate) enum Frame {
     Bracket,
@@ -285,8 +285,8 @@ fn expression_at(text: &[u8]) -> &[u8]
     front
 }
 
-/// Reads the expression at the front of a text, which ends before the first `;` or LF, or at the end of the text (GNU
-/// gettext manual, "Plural forms").
+/// Reads the expression at the front of a text, which ends before the first `;` or LF, or at the end of the text
+/// (GNU gettext manual, "Plural forms").
 ///
 /// Fails with `TooLong` if the expression has more than `EXPRESSION_LIMIT` bytes, with `Malformed` if it isn't one, and
 /// with `Memory` if memory runs out.

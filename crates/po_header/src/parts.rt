@@ -63,7 +63,7 @@ fn decide(operator: Operator, left: u64) -> Option<u64>
     }
 }
 
-/// The value at `n` of a part whose operands are in `below`.
+/// The value at `n` of a part whose operands are in `below`; None if a division by 0 is evaluated.
 #[cycle(evaluation)]
 fn part_value(part: Part, below: &[Part], n: u64) -> Option<u64>
     ensures { result ≡ value (part_tree (trees_of below.now) part) n }
@@ -98,7 +98,8 @@ fn part_value(part: Part, below: &[Part], n: u64) -> Option<u64>
     }
 }
 
-/// The value at `n` of the part with this index, if there is one.
+/// The value at `n` of the part with this index, or `n` if the index is past the end; None if a division by 0 is
+/// evaluated.
 #[cycle(evaluation)]
 pub(crate) fn value_at(parts: &[Part], at: usize, n: u64) -> Option<u64>
     ensures { result ≡ value (built parts.now at) n }

@@ -33,12 +33,12 @@ fn number_at(text: &[u8]) -> Option<u64>
     number_of(digits)
 }
 
-/// Reads the plural rule in a header's text, from the first `nplurals=` and the first `plural=` (GNU gettext manual,
-/// "Plural forms"). Fails only if memory runs out.
+/// Reads the plural rule in a header's text, from the first `nplurals=` and the first `plural=`
+/// (GNU gettext manual, "Plural forms"). Fails only if memory runs out.
 pub fn read_rule(alloc: Global, text: &str) -> Result<RuleRead, AllocError>
     ensures ok { IfOk result (λ rule. HasRule text.now (rule_of rule)) }
 
-    // A text without a rule needs no memory.
+    // Reading a text without a rule can't run out of memory.
     ensures no_memory { HasRule text.now Absent → IsOk result }
 {
     let Some(count) = behind(text, "nplurals=") else {

@@ -168,7 +168,7 @@ fn next_step(n: u64, modulus: u64, low: u64, high: u64, inside: usize, outside: 
     }
 }
 
-/// The value at `n` of the steps, begun at index `start`.
+/// Runs the steps from index `start`, and returns the value at `n` that they reach.
 pub(crate) fn run(steps: &[Step], start: usize, n: u64) -> Option<u64>
     ensures { result ≡ reached steps.now start n }
 {

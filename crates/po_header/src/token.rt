@@ -135,7 +135,7 @@ pub(crate) fn skip_blanks(text: &[u8]) -> &[u8]
     rest
 }
 
-/// A number with one more digit; None from 2 ^ 64 on.
+/// A number with one more digit; None if that is 2 ^ 64 or more.
 fn shift_in(value: u64, digit: u8) -> Option<u64>
     ensures { result ≡ below_limit (10 * value + (digit - 48)) }
 {
@@ -143,7 +143,7 @@ fn shift_in(value: u64, digit: u8) -> Option<u64>
     shifted.checked_add(u64::from(digit.saturating_sub(b'0')))
 }
 
-/// The number that digits spell; None from 2 ^ 64 on.
+/// The number that digits spell; None if it is 2 ^ 64 or more.
 pub(crate) fn number_of(digits: &[u8]) -> Option<u64>
     ensures { result ≡ below_limit (decimal_value digits.now) }
 {
@@ -157,7 +157,7 @@ pub(crate) fn number_of(digits: &[u8]) -> Option<u64>
     Some(value)
 }
 
-/// Reads the numeral at the front; None from 2 ^ 64 on.
+/// Reads the numeral at the front; None if it is 2 ^ 64 or more.
 fn numeral_at(text: &[u8]) -> Option<(Token, &[u8])>
     requires { 0 < prefix_len is_ascii_digit text.now }
     ensures some { IfSome result (λ x. Begins (x.0 ∷ []) text.now x.1.now) }
@@ -189,7 +189,7 @@ fn long_token_at(text: &[u8]) -> Option<(Token, &[u8])>
     }
 }
 
-/// Reads the token at the front; None if there is none, or a numeral from 2 ^ 64 on.
+/// Reads the token at the front; None if there is none, or if it is a numeral of 2 ^ 64 or more.
 pub(crate) fn token_at(text: &[u8]) -> Option<(Token, &[u8])>
     requires { StopsBlanks text.now }
     ensures some { IfSome result (λ x. Begins (x.0 ∷ []) text.now x.1.now) }
