@@ -77,7 +77,8 @@ fn is_allowed(argument: Argument, number: Option<u32>) -> bool
     }
 }
 
-/// Reads a directive, from after its `%`; fails with `SystemDependent` if it names a macro, else with `Invalid`.
+/// Reads a directive, from after its `%`. If it can't be read, the fault is `SystemDependent` for a macro, else
+/// `Invalid`.
 pub(crate) fn read_directive(text: &[u8]) -> Result<(Directive, &[u8]), FormatFault>
     ensures ok { IfOk result (λ found. ReadsDirective found.0 (percent ∷ text.now) found.1.now) }
     ensures err { IfErr result (λ fault. Refuses fault (percent ∷ text.now)) }

@@ -1,4 +1,4 @@
-//! Tests of `c_signature`: each call once, and how lists compare. The formats of the C standard's table are in
+//! Tests of `c_signature`: each call once, and how lists compare. The formats of the C standard's table are cases of
 //! crates/answers.
 use c_signature::ArgKind::{Signed, Text, Unsigned};
 use c_signature::Size::Plain;

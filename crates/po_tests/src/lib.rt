@@ -1,5 +1,5 @@
 //! Public-API tests of `po_text`, `po_header` and `c_signature`: each call once, inputs of many sizes, and what can't
-//! be a line of the cases in crates/answers.
+//! be a case of crates/answers.
 //!
 //! They are a crate of their own because a crate with tests is proved twice, with them and without.
 #![tactic(auto)]

@@ -1,4 +1,5 @@
-//! Tests of `po_text`: each call once, and the limits. The worked texts are in crates/answers.
+//! Tests of `po_text`: each call once, and the limits. More texts, with their expected entries, are cases of
+//! crates/answers.
 use po_text::{EntryBuffer, PoFault, PoKind, one_outcome, open_text, read_po};
 use std::test::Fail;
 

@@ -75,7 +75,7 @@ fn is_simple_byte(byte: u8) -> bool
     1 <= byte && byte < 128
 }
 
-/// The number of simple bytes that the vector at `at` begins with.
+/// The number of simple bytes, ASCII other than NUL, that the vector at `at` begins with.
 #[inline(always)]
 fn simple_lanes(text: &[u8], at: usize) -> usize
     requires { at + LANES ≤ length text.now }

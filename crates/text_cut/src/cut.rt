@@ -50,7 +50,7 @@ pub fn split_bytes_at(bytes: &[u8], byte: u8) -> Option<(&[u8], &[u8])>
     Some((&bytes[..at], &bytes[at + 1..]))
 }
 
-/// Whether the bytes don't contain this one.
+/// Whether none of the bytes is this one.
 pub fn lacks_byte(bytes: &[u8], byte: u8) -> bool
     ensures { IsTrue result ↔ (place_of byte bytes.now ≡ length bytes.now) }
 {

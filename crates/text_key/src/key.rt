@@ -31,7 +31,7 @@ impl<'a> Model for TextKey<'a> {
 /// The number of bytes in a front.
 const FRONT_LEN: usize = 8;
 
-/// Whether two texts have one length, and no bytes after their fronts.
+/// Whether two texts are equally long and no longer than a front.
 fn are_short(text: &str, other: &str) -> bool
     ensures { IsTrue result → (length text.now ≡ length other.now) × (length text.now ≤ 8) }
 {
