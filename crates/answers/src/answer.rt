@@ -1,4 +1,4 @@
-// The answer to a case.
+//! Answers to cases.
 use crate::case::{CaseFault, number, spelled, spelled_bytes, two_fields};
 use crate::entries;
 use c_signature::{FormatFault, signature};
@@ -18,7 +18,7 @@ fn expression(alloc: Global, question: &str) -> Result<String, CaseFault> {
     }
 }
 
-/// The word for a rule.
+/// The word for a rule in an answer.
 fn word_of(rule: &RuleRead) -> &'static str {
     match rule {
         RuleRead::Given { .. } => "given",
@@ -27,7 +27,7 @@ fn word_of(rule: &RuleRead) -> &'static str {
     }
 }
 
-/// The forms that some numbers take by a rule.
+/// The indices of the forms that a rule selects for some numbers.
 fn rule(alloc: Global, question: &str) -> Result<String, CaseFault> {
     let (text, numbers) = two_fields(question)?;
     let text = spelled(alloc, text)?;
@@ -39,7 +39,8 @@ fn rule(alloc: Global, question: &str) -> Result<String, CaseFault> {
     Ok(answer)
 }
 
-/// The forms that all numbers below 200 take by a rule, ten in a word, and then those of 200, 1000000 and 1999999.
+/// The indices of the forms that a rule selects for all numbers below 200, ten to a word, and then for 200, 1000000 and
+/// 1999999.
 fn language(alloc: Global, question: &str) -> Result<String, CaseFault> {
     let text = spelled(alloc, question)?;
     let rule = read_rule(alloc, text.as_str())?;
@@ -89,7 +90,7 @@ fn format(alloc: Global, question: &str) -> Result<String, CaseFault> {
     }
 }
 
-/// The entries of a PO text, or its fault, by both readers.
+/// The entries of a PO text, or its fault, as both readers give them; an answer with both if they differ.
 fn po(alloc: Global, question: &str) -> Result<String, CaseFault> {
     let text = spelled_bytes(alloc, question)?;
     let together = entries::read_together(alloc, &text)?;
@@ -101,7 +102,7 @@ fn po(alloc: Global, question: &str) -> Result<String, CaseFault> {
     }
 }
 
-/// The answer to a question of this kind.
+/// The answer to a question of this kind; `NotACase` for an unknown kind.
 pub fn answer(alloc: Global, kind: &str, question: &str) -> Result<String, CaseFault> {
     match kind {
         "expression" => expression(alloc, question),

@@ -1,4 +1,4 @@
-// One case, as a line of the file writes it.
+//! A case, as it is written on a line of the file.
 use std::alloc::{AllocError, AllocFailed, Global};
 use thiserror::Error;
 
@@ -23,20 +23,19 @@ impl<T: Drop> From<AllocFailed<T>> for CaseFault {
     }
 }
 
-/// A case, its fields as they are written.
+/// A case, with its fields as they are written.
 #[derive(Clone, Copy)]
 pub struct Case<'a> {
     /// What is asked about.
     pub kind: &'a str,
     /// What is asked, in one or more fields.
     pub question: &'a str,
-    /// The answer that is wanted.
+    /// The expected answer.
     pub wanted: &'a str,
 }
 
 impl<'a> Case<'a> {
-    /// The case on a line: a kind, what is asked and an answer, with tabs between them. None is on a comment and
-    /// on an empty line.
+    /// The case on a line: a kind, a question and an answer, separated by tabs. None for a comment or an empty line.
     pub fn on_line(line: &'a str) -> Option<Case<'a>> {
         if line.is_empty() || line.starts_with('#') {
             return None;
@@ -51,12 +50,12 @@ impl<'a> Case<'a> {
     }
 }
 
-/// The two fields of a question.
+/// Splits a question into its two fields, at the last tab.
 pub fn two_fields(question: &str) -> Result<(&str, &str), CaseFault> {
     question.rsplit_once('\t').ok_or(CaseFault::NotACase)
 }
 
-/// A number in a field.
+/// The number in a field.
 pub fn number(field: &str) -> Result<u64, CaseFault> {
     match field.parse::<u64>() {
         Ok(number) => Ok(number),
@@ -64,8 +63,8 @@ pub fn number(field: &str) -> Result<u64, CaseFault> {
     }
 }
 
-/// Adds what braces stand for: `{lf}`, `{tab}` and `{cr}`, a byte in hexadecimal digits as `{ff}`, and a text that
-/// stands a number of times, as `{999*ab}`.
+/// Appends what braces spell: `{lf}`, `{tab}` and `{cr}`, a byte in hexadecimal digits such as `{ff}`, or a repeated
+/// text such as `{999*ab}`.
 fn push_braces(bytes: &mut Vec<u8>, inner: &str) -> Result<(), CaseFault> {
     if let Some((count, text)) = inner.split_once('*') {
         for _ in 0..number(count)? {

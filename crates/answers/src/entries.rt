@@ -1,11 +1,11 @@
-// The entries of a PO text in words, as `2: fuzzy msgctxt "k" msgid "a" msgstr "b"`.
+//! The entries of a PO text as answers print them, such as `2: fuzzy msgctxt "k" msgid "a" msgstr "b"`.
 ghost use Rattle.std.specs.Prelude.{◌<◌, length};
 
 use crate::case::CaseFault;
 use po_text::{EntryBuffer, PoEntry, PoFault, PoKind, open_text, read_po};
 use std::alloc::{AllocError, Global};
 
-/// What stands in front of an entry's forms.
+/// What is printed before the forms of an entry.
 #[derive(Drop)]
 struct Front<'a> {
     line: u32,
@@ -16,7 +16,7 @@ struct Front<'a> {
     plural: Option<&'a str>,
 }
 
-/// Adds the front of an entry.
+/// Appends the front of an entry, after a separator if it isn't the first.
 fn push_front(answer: &mut String, front: &Front) -> Result<(), AllocError> {
     if !answer.is_empty() {
         answer.push_str("; ")?;
@@ -38,7 +38,7 @@ fn push_front(answer: &mut String, front: &Front) -> Result<(), AllocError> {
     answer.push_str(" msgstr")
 }
 
-/// Adds an entry.
+/// Appends an entry.
 fn push_entry(answer: &mut String, entry: &PoEntry) -> Result<(), AllocError> {
     let front = Front {
         line: entry.line,
@@ -55,7 +55,7 @@ fn push_entry(answer: &mut String, entry: &PoEntry) -> Result<(), AllocError> {
     Ok(())
 }
 
-/// Adds the entry in these buffers.
+/// Appends the entry in a buffer.
 fn push_buffer(answer: &mut String, buffer: &EntryBuffer) -> Result<(), AllocError> {
     let front = Front {
         line: buffer.line(),
@@ -72,7 +72,7 @@ fn push_buffer(answer: &mut String, buffer: &EntryBuffer) -> Result<(), AllocErr
     Ok(())
 }
 
-/// A fault in words.
+/// The answer for a fault.
 fn told(alloc: Global, fault: PoFault) -> Result<String, CaseFault> {
     match fault.kind {
         PoKind::Memory => Err(CaseFault::Memory),
@@ -80,7 +80,7 @@ fn told(alloc: Global, fault: PoFault) -> Result<String, CaseFault> {
     }
 }
 
-/// The entries of a text that are read together.
+/// The entries of a text, read by one call, or its fault.
 pub fn read_together(alloc: Global, text: &[u8]) -> Result<String, CaseFault> {
     let mut answer = String::new(alloc);
     match read_po(alloc, text) {
@@ -94,7 +94,7 @@ pub fn read_together(alloc: Global, text: &[u8]) -> Result<String, CaseFault> {
     }
 }
 
-/// The entries of a text that are read one by one.
+/// The entries of a text, read one at a time, or its fault.
 pub fn read_singly(alloc: Global, text: &[u8]) -> Result<String, CaseFault> {
     let mut answer = String::new(alloc);
     let mut reader = match open_text(alloc, text) {
@@ -102,7 +102,7 @@ pub fn read_singly(alloc: Global, text: &[u8]) -> Result<String, CaseFault> {
         Err(fault) => return told(alloc, fault),
     };
     let mut buffer = EntryBuffer::new(alloc);
-    // An entry has a byte at least.
+    // Each entry has at least one byte, so this many rounds suffice.
     for _ in 0..text.len().saturating_add(1) {
         match reader.next_entry(&mut buffer) {
             Ok(true) => push_buffer(&mut answer, &buffer)?,

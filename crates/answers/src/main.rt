@@ -1,5 +1,5 @@
-//! Reads a file of cases and prints each one whose answer isn't the one that its line gives, and at the end how
-//! many of each kind are as written. `data/cases` says how a case is written.
+//! Reads a file of cases, prints each case whose answer isn't the one on its line, and then prints how many cases of
+//! each kind are as written. `data/cases` describes the format.
 #![tactic(auto)]
 
 mod answer;
@@ -12,14 +12,14 @@ use std::alloc::Global;
 use std::collections::BTreeMap;
 use std::{env, fs, io};
 
-/// How many cases of a kind there are, and how many of them are as written.
+/// The number of cases of a kind, and how many of them are as written.
 #[derive(Clone, Copy)]
 struct Tally {
     cases: u32,
     as_written: u32,
 }
 
-/// What is wrong with the answer of a case, if anything.
+/// The answer to a case, if it isn't as written.
 fn failure(alloc: Global, case: Case) -> Result<Option<String>, CaseFault> {
     let wanted = spelled(alloc, case.wanted)?;
     let answer = answer(alloc, case.kind, case.question)?;
@@ -30,7 +30,7 @@ fn failure(alloc: Global, case: Case) -> Result<Option<String>, CaseFault> {
     }
 }
 
-/// Whether a case's answer is as written. Prints it where it isn't.
+/// Whether the answer to a case is as written; prints the answer if it isn't.
 fn is_as_written<R: Print + AllocGlobal>(rt: &R, line: usize, case: Case) -> io::Result<bool> {
     let Case { kind, question, .. } = case;
     match failure(rt.alloc(), case) {
@@ -41,7 +41,7 @@ fn is_as_written<R: Print + AllocGlobal>(rt: &R, line: usize, case: Case) -> io:
     Ok(false)
 }
 
-/// Asks each case of a file's text.
+/// Answers all cases of a file, and prints the tallies.
 fn ask_all<R: Print + AllocGlobal>(rt: &R, text: &str) -> io::Result<()> {
     let mut tallies: BTreeMap<&str, Tally> = BTreeMap::new(rt.alloc());
     for (index, line) in text.lines().enumerate() {

@@ -1,4 +1,4 @@
--- Directives: that a text begins with one at most, and which can't be read.
+-- Directives: a text begins with at most one, and which can't be read.
 use Rattle.std.proofs.Common.{◌≡◌, ℕ, ◌<◌, true, List, [], ◌∷◌, ◌++◌, length, take, drop, get_or}
 use Rattle.std.proofs.Common.{Option, None, Some, refl, sym, ap, ◌∙◌, arith, inl, inr, append_assoc}
 use Rattle.std.proofs.lemmas.List.{take-append-drop, append_cancel_left}
@@ -17,7 +17,7 @@ use Rattle.c_signature.proofs.Runs.{one_run}
 use Rattle.c_signature.proofs.PartLemmas.{longest_one, number_value, flags_value, width_value}
 use Rattle.c_signature.proofs.PartLemmas.{precision_value, modifier_value, not_at}
 
--- two heads of one text
+-- two heads of one text are equal
 pub head_one : (h k : Head) (text rest more : List ℕ) → HeadAt h text rest → HeadAt k text more → (h ≡ k)
     × (rest ≡ more)
 head_one h k text rest more x y =
@@ -36,7 +36,7 @@ head_one h k text rest more x y =
         → h ≡ k
     same_head h k e f g i = rw (e, f, g, i) refl
 
--- two tails of one text
+-- two tails of one text are equal
 pub tail_one : (d e : Directive) (text rest more : List ℕ) → TailAt d text rest → TailAt e text more
     → (d.modifier ≡ e.modifier) × (d.conversion ≡ e.conversion) × (rest ≡ more)
 tail_one d e text rest more x y =
@@ -45,7 +45,7 @@ tail_one d e text rest more x y =
     let whole : d.conversion ∷ rest ≡ e.conversion ∷ more = sym x.conversion_at ∙ modifiers.1 ∙ y.conversion_at in
     (modifiers.0, cc whole, cc whole)
 
--- a text begins with one directive at most
+-- a text begins with at most one directive
 pub directive_one : (d e : Directive) (text rest more : List ℕ) → DirectiveAt d text rest → DirectiveAt e text more
     → (d ≡ e) × (rest ≡ more)
 directive_one d e text rest more x y =
@@ -55,7 +55,7 @@ directive_one d e text rest more x y =
 
 -- ---- macros
 
--- what stands in a macro, by the run of the bytes of its name
+-- the parts of a macro, by the run of the bytes of its name
 pub macro_parts : (text behind name over : List ℕ) (conversion : ℕ) → text ≡ codes "<PRI" ++ conversion ∷ behind
     → IsRun is_name_byte behind name over → BeginsMacro text → (is_macro_conversion conversion ≡ true)
     × (0 < length name) × ((rest : List ℕ) × (over ≡ 62 ∷ rest))
@@ -110,7 +110,7 @@ modifier_at_angle (Of SizeT) front t rest f e = absurd (not_at 60 t front rest (
 modifier_at_angle (Of PtrDiff) front t rest f e = absurd (not_at 60 t front rest (codes "t") f e (λ g. omega arith))
 modifier_at_angle LongDouble front t rest f e = absurd (not_at 60 t front rest (codes "L") f e (λ g. omega arith))
 
--- where a macro stands, no directive ends
+-- where a macro is, no directive ends
 no_tail : (d : Directive) (text rest : List ℕ) → BeginsMacro text → TailAt d text rest → ⊥
 no_tail d text rest m x =
     let t : List ℕ = 80 ∷ 82 ∷ 73 ∷ m.conversion ∷ ((m.name ++ codes ">") ++ m.rest) in
@@ -157,7 +157,7 @@ tail_needs d m text more at x =
     let modifiers = longest_one ModifierForm modifier_value m d.modifier text [] x.behind_modifier at x.modifier_at in
     cc (modifiers.1, x.conversion_at)
 
--- and one that is allowed
+-- a tail needs a conversion that is allowed
 pub tail_allows : (d : Directive) (h : Head) (m : Modifier) (conversion : ℕ) (text rest more : List ℕ)
     → Longest ModifierForm m text (conversion ∷ rest) → (IsAllowed (argument_of conversion m) h.number → ⊥) → d.head ≡ h
     → TailAt d text more → ⊥

@@ -1,4 +1,4 @@
--- A text has one cut, and so one outcome.
+-- A text is cut in one way, and so has one outcome.
 use Rattle.std.proofs.Common.{◌≡◌, ℕ, zero, suc, ◌+◌, ◌<◌, length, List, [], ◌∷◌}
 use Rattle.std.proofs.Common.{◌++◌, Some, refl, sym, ap, subst, ◌∙◌, arith, inl, inr}
 use Rattle.std.specs.Prelude.{slice_get, ◌⊎◌}
@@ -26,7 +26,7 @@ plain_one : (text at stop : List ℕ) → SkipsPlain text at → SkipsPlain text
 plain_one text at stop p q stops halts = (one_run is_plain p.plain at q.plain stop p.no_percent stops q.no_percent halts
     (sym p.text_is ∙ q.text_is)).1
 
--- behind plain bytes the text ends, or no directive can be read
+-- after plain bytes the text ends, or no directive can be read
 pub record Ends (last stop : List ℕ) : Type 0 where
   plain : SkipsPlain last stop
   nothing : (stop ≡ []) ⊎ IsUnreadable stop
@@ -35,7 +35,7 @@ end_stops : (stop : List ℕ) → (stop ≡ []) ⊎ IsUnreadable stop → Stops 
 end_stops stop (inl e) = rw e tt
 end_stops stop (inr bad) = percent_stops stop bad.behind bad.begins
 
--- no directive begins at an end
+-- no directive begins where the cut ends
 no_directive : (d : Directive) (last stop at after : List ℕ) → Ends last stop → SkipsPlain last at
     → DirectiveAt d at after → ⊥
 no_directive d last stop at after ends plain x = go (plain_one last stop at ends.plain plain
@@ -95,7 +95,7 @@ same_gets (x ∷ xs) (y ∷ ys) there back =
     let tails = same_gets xs ys (λ i z e. there (suc i) z e) (λ i z e. back (suc i) z e) in
     cc (heads, tails)
 
--- what has a place in one list has it in the other
+-- what is at an index of one list is there in the other
 same_place : (asked : List Request) (kinds others : List ArgKind) → ByNumber asked kinds → ByNumber asked others
     → (i : ℕ) (x : ArgKind) → slice_get kinds i ≡ Some x → slice_get others i ≡ Some x
 same_place asked kinds others p q i x e =
@@ -109,7 +109,7 @@ same_place asked kinds others p q i x e =
     let kind : Some there.0.kind ≡ Some x = sym here.2 ∙ ap (λ (k : ℕ). slice_get kinds k) here_at ∙ e in
     sym (ap (λ (k : ℕ). slice_get others k) also_at) ∙ also.2 ∙ kind
 
--- only the empty list is in order and by number
+-- only the empty list is both in order and by number
 both_ways : (asked : List Request) (kinds others : List ArgKind) → InOrder asked kinds → ByNumber asked others → kinds
     ≡ others
 both_ways (r ∷ more) kinds others order number =
@@ -167,7 +167,7 @@ next_percent (b ∷ text) = elim (cases_eq b percent) [
       no_percent = rw (ne_eqb b percent differs) skips.no_percent;
     }
 
--- from a place that a cut reaches
+-- from a position that a cut reaches
 some_from_there : (n : ℕ) (text last : List ℕ) (ds : List Directive) → length last < n → Cuts ds text last
     → ((kinds : List ArgKind) → Lists text kinds → ⊥) → (IsInvalid text → ⊥) → (IsSystemDependent text → ⊥) → ⊥
 some_from_there zero text last ds short cut no_list valid independent = omega arith

@@ -1,4 +1,4 @@
--- What the parts of a directive are, one by one: that a value has one form, and which front is the longest.
+-- The parts of a directive: each value has one form, and which front is the longest.
 use Rattle.std.proofs.Common.{◌≡◌, ℕ, zero, suc, ◌<◌, ◌≤◌, ◌^◌, true, false, List, [], ◌∷◌, ◌++◌, length}
 use Rattle.std.proofs.Common.{take, drop, get_or, Option, None, Some, refl, sym, ap, ◌∙◌, arith, inl, inr}
 use Rattle.std.proofs.lemmas.List.{append_cancel_right, append_assoc, take_at, drop_at}
@@ -17,7 +17,7 @@ use Rattle.c_signature.proofs.Runs.{run_longest, one_run}
 
 -- ---- one reading
 
--- two longest fronts are one, and their values, where a front has one value
+-- two longest fronts are equal, and so are their values if a front has one value
 pub longest_one : {V : Type 0} (Form : V → List ℕ → Type 0) →
     ((v w : V) (front : List ℕ) → Form v front → Form w front → v ≡ w) → (v w : V) (text rest more : List ℕ)
     → Longest Form v text rest → Longest Form w text more → (v ≡ w) × (rest ≡ more)
@@ -67,7 +67,7 @@ numeral_digits (b ∷ more) (first, others) =
     and_from (is_ascii_digit b) (list_all is_ascii_digit more)
     (and_from (nat_le 48 b) (nat_le b 57) (le-leb 48 b (omega arith)) both.1) others
 
--- a digit at a place
+-- the digit at an index
 pub digit_at : (digits : List ℕ) (i : ℕ) → list_all is_ascii_digit digits ≡ true → i < length digits
     → (48 ≤ get_or digits i 0) × (get_or digits i 0 ≤ 57)
 digit_at [] i pass lt = absurd (omega arith)
@@ -75,7 +75,7 @@ digit_at (b ∷ more) zero pass lt = digit_bounds b (and_parts (is_ascii_digit b
 digit_at (b ∷ more) (suc i) pass lt = digit_at more i (and_parts (is_ascii_digit b) (list_all is_ascii_digit more)
     pass).1 (omega arith)
 
--- what a number of so few digits is below
+-- the value of at most 8 digits, which leaves room for a ninth
 pub number_room : (v i n : ℕ) → v < 10 ^ i → i < n → n ≤ 9 → v < 100000000
 number_room v i n small lt le =
     let le8 : i ≤ 8 = omega arith in
@@ -127,13 +127,13 @@ longest_none text none = record { front = []; text_is = refl; form = refl; longe
     longest_there None longer more e form = rw form (omega arith)
     longest_there (Some k) longer more e (ds, f, num, few, also) = absurd (none ds more (rw f at e) num few)
 
--- digits and no dollar sign
+-- digits without a dollar sign
 pub no_dollar : (text digits after : List ℕ) → IsRun is_ascii_digit text digits after
     → ((rest : List ℕ) → after ≡ dollar ∷ rest → ⊥) → Longest NumberForm None text text
 no_dollar text digits after is none = longest_none text (λ ds more e num few. none more
     (number_run text digits after ds more is e num).1)
 
--- digits that are no number of an argument
+-- digits that are no argument number
 pub no_number : (text digits after : List ℕ) → IsRun is_ascii_digit text digits after → IsNumberOf digits None
     → Longest NumberForm None text text
 no_number text digits after is none = longest_none text (λ ds more e num few.
@@ -172,7 +172,7 @@ precision_value (Asked m) (Asked n) front (after, f, form) (later, g, other) =
     let same : after ≡ later = cc (f, g) in
     ap Asked (number_value m n later (rw same at form) other)
 
--- `*` and the number behind it
+-- `*` and the number after it
 pub width_star : (n : Option ℕ) (after rest : List ℕ) → Longest NumberForm n after rest
     → Longest WidthForm (Asked n) (star ∷ after) rest
 width_star n after rest p = record {
@@ -226,7 +226,7 @@ width_digits (b ∷ text) digits rest first is = record {
         let here : is_first_digit star ≡ true = rw same at first in
         absurd (cc here)
 
--- neither
+-- neither `*` nor digits
 pub width_none : (text : List ℕ) → ((rest : List ℕ) → text ≡ star ∷ rest → ⊥) → (BeginsNumber text → ⊥)
     → Longest WidthForm Fixed text text
 width_none text no_star no_digit = record { front = []; text_is = refl; form = inl refl; longest = longest_there }
@@ -239,7 +239,7 @@ width_none text no_star no_digit = record { front = []; text_is = refl; form = i
     longest_there (Asked k) longer more e (later, f, form) = absurd
         (no_star (later ++ more) (e ∙ ap (λ (t : List ℕ). t ++ more) f))
 
--- `.*` and the number behind it
+-- `.*` and the number after it
 pub precision_star : (n : Option ℕ) (after rest : List ℕ) → Longest NumberForm n after rest
     → Longest PrecisionForm (Asked n) (dot ∷ star ∷ after) rest
 precision_star n after rest p = record {
@@ -295,7 +295,7 @@ precision_none text none = record { front = []; text_is = refl; form = inl refl;
 
 -- ---- length modifiers
 
--- the modifier that a text is
+-- the modifier that a text spells
 spelled : List ℕ → Option Modifier
 spelled front =
     if bytes_eq front [] then Some (Of Plain) else

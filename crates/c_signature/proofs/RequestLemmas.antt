@@ -1,4 +1,4 @@
--- What is asked for, in two lists, and its list by number.
+-- What is asked for, in two lists, and the list by number.
 use Rattle.std.proofs.Common.{◌≡◌, ℕ, zero, suc, ◌+◌, ◌-◌, ◌<◌, ◌≤◌, List, [], ◌∷◌, ◌++◌, map, length, take}
 use Rattle.std.proofs.Common.{drop, get_or, Option, None, Some, refl, sym, ap, subst, ◌∙◌, arith, inl, inr, true, false}
 use Rattle.std.specs.Prelude.{Contains, slice_get, ◌⊎◌, ◌==◌}
@@ -68,7 +68,7 @@ map_contains {A} f (y ∷ xs) x c = elim (contains_cases y x xs c) [
   | inr more ↦ contains_cons (f y) (f x) (map f xs) (map_contains f xs x more)
 ]
 
--- ---- where one of the two lists is empty
+-- ---- if one of the two lists is empty
 
 -- all without a number
 pub all_next : (asked : List Request) → filter_map row_of asked ≡ [] → asked
@@ -143,7 +143,7 @@ next_in_order kinds = record {
     kinds_of [] = refl
     kinds_of (kind ∷ more) = ap (λ (t : List ArgKind). kind ∷ t) (kinds_of more)
 
--- a list by number has no argument without one
+-- a list by number has no argument without a number
 pub mixed : (asked : List Request) (kinds : List ArgKind) → (filter_map unnumbered_kind asked ≡ [] → ⊥)
     → (filter_map row_of asked ≡ [] → ⊥) → AsksFor asked kinds → ⊥
 mixed asked kinds next rows (inl order) = let there = one_row asked rows in cc
@@ -188,7 +188,7 @@ number_next asked kinds kind so_far = record {
   ];
 }
 
--- a number that has its place, with the same kind
+-- a number that is already in the list, with an equal kind
 number_again : (asked : List Request) (kinds : List ArgKind) (i : ℕ) (kind : ArgKind) → ByNumber asked kinds
     → slice_get kinds i ≡ Some kind → ByNumber (asked ++ request (Some (i + 1)) kind ∷ []) kinds
 number_again asked kinds i kind so_far at = record {
@@ -203,7 +203,7 @@ number_again asked kinds i kind so_far at = record {
   );
 }
 
--- the rows up to and with one
+-- the rows up to and including one
 rows_more : (rows : List Row) (i : ℕ) (d : Row) → i < length rows → map request_of (take (i + 1) rows)
     ≡ map request_of (take i rows) ++ request_of (get_or rows i d) ∷ []
 rows_more rows i d lt = map_more request_of rows i d lt
@@ -223,7 +223,7 @@ rows_again rows i place d kinds lt so_far is at =
 
 -- ---- rows with no list
 
--- the place of a row
+-- a row is at its index of the list
 row_placed : (rows : List Row) (i : ℕ) (d : Row) (kinds : List ArgKind) → i < length rows
     → ByNumber (map request_of rows) kinds → HasPlace kinds (request_of (get_or rows i d))
 row_placed rows i d kinds lt all = all.placed _ (map_contains request_of rows (get_or rows i d)
@@ -236,7 +236,7 @@ zero_has_none rows i d kinds lt none all =
     let e : (get_or rows i d).number ≡ place.0 + 1 = cc place.1 in
     none (omega (arith, e))
 
--- two kinds at one place
+-- two kinds at one index
 clash : (kinds : List ArgKind) (place : ℕ) (r q : Request) → HasPlace kinds r → HasPlace kinds q → r.number
     ≡ Some (place + 1) → q.number ≡ Some (place + 1) → r.kind ≡ q.kind
 clash kinds place r q (i, e, at) (j, f, there) is also =
@@ -306,7 +306,7 @@ wrong_has_none rows i place d so_far kinds lt rising front (some, at) not_next d
       | inr past ↦ gap_has_none rows i place d so_far kinds lt rising front is (omega arith) all
     ]
 
--- one row more, where it has a place
+-- one more row, if it fits the list
 pub row_next : (rows : List Row) (i place : ℕ) (d : Row) (kinds new : List ArgKind) → i < length rows
     → ByNumber (map request_of (take i rows)) kinds → (1 ≤ (get_or rows i d).number)
     × (place ≡ (get_or rows i d).number - 1) → place ≡ length kinds → new ≡ kinds ++ (get_or rows i d).kind ∷ []

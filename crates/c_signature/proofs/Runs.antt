@@ -26,7 +26,7 @@ pub run_is : (p : ℕ → Bool) (text front back : List ℕ) (n : ℕ) → n ≡
     ≡ drop n text → IsRun p text front back
 run_is p text front back n e f g = rw (f, g, e) (prefix_run p text)
 
--- no other front that passes is longer
+-- no other front that passes is longer than the run
 pub front_within : (p : ℕ → Bool) (run rest other more : List ℕ) → Stops p rest → run ++ rest ≡ other ++ more
     → list_all p other ≡ true → length other ≤ length run
 front_within p run rest [] more stops e pass = omega arith
@@ -45,7 +45,7 @@ pub run_longest : (p : ℕ → Bool) (text run rest other more : List ℕ) → I
     → list_all p other ≡ true → length other ≤ length run
 run_longest p text run rest other more is e pass = front_within p run rest other more is.stops (sym is.text_is ∙ e) pass
 
--- a text begins with one run
+-- a text begins with exactly one run
 pub one_run : (p : ℕ → Bool) (run rest other more : List ℕ) → list_all p run ≡ true → Stops p rest → list_all p other
     ≡ true → Stops p more → run ++ rest ≡ other ++ more → (run ≡ other) × (rest ≡ more)
 one_run p [] rest [] more pass stops also halts e = (refl, e)

@@ -4,7 +4,7 @@ use Rattle.c_signature.specs.declared.ArgKind.{ArgKind}
 use Rattle.c_signature.specs.declared.Strictness.{Strictness}
 use Rattle.c_signature.specs.declared.Strictness.TheVariants.{Same, Prefix}
 
--- they are the same, or the first ones of the original
+-- they are equal, or the first ones of the original
 abbrev pub Agrees : List ArgKind → List ArgKind → Strictness → Type 0
 Agrees original form Same = original ≡ form
 Agrees original form Prefix = (more : List ArgKind) × (original ≡ form ++ more)

@@ -10,7 +10,7 @@ use Rattle.c_signature.specs.declared.ArgKind.TheVariants.{WideChar, Text, WideT
 use Rattle.c_signature.specs.Pieces.{Modifier, Of}
 use Rattle.c_signature.specs.Pieces as parts
 
--- what a pair of conversion and length modifier takes: it has no meaning; no argument; one
+-- what a conversion with a length modifier takes: it is undefined; no argument; one argument
 pub data Argument : Type 0 where
   Undefined : Argument
   Nothing : Argument
@@ -28,7 +28,7 @@ floating (Of Long) = One Double
 floating parts.LongDouble = One LongDouble
 floating _ = Undefined
 
--- one kind without a length modifier, and the other with `l`
+-- one kind without a length modifier, and another with `l`
 abbrev pub narrow_or_wide : ArgKind → ArgKind → Modifier → Argument
 narrow_or_wide narrow wide (Of Plain) = One narrow
 narrow_or_wide narrow wide (Of Long) = One wide
@@ -38,7 +38,7 @@ abbrev pub count : Modifier → Argument
 count (Of size) = One (Count size)
 count parts.LongDouble = Undefined
 
--- a conversion that may have no length modifier
+-- a conversion that allows no length modifier
 abbrev pub alone : Argument → Modifier → Argument
 alone argument (Of Plain) = argument
 alone argument _ = Undefined
@@ -58,7 +58,7 @@ table =
     ∷ (codes "m%", alone Nothing)
     ∷ []
 
--- the row of a conversion, at a length modifier
+-- the row of a conversion, applied to a length modifier
 abbrev pub find_in : List (List ℕ × (Modifier → Argument)) → ℕ → Modifier → Argument
 find_in [] conversion modifier = Undefined
 find_in (row ∷ rows) conversion modifier =

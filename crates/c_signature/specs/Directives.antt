@@ -6,7 +6,7 @@ use Rattle.c_signature.specs.Pieces.{Amount, Modifier, Longest, NumberForm, Flag
 use Rattle.c_signature.specs.Pieces.{WidthForm, PrecisionForm, ModifierForm, percent}
 use Rattle.c_signature.specs.Conversions.{Argument, Undefined, Nothing, One, argument_of}
 
--- what stands before the length modifier
+-- what comes before the length modifier
 pub record Head : Type 0 where
   pub number : Option ℕ
   pub flags : List ℕ
@@ -18,11 +18,11 @@ pub record Directive : Type 0 where
   pub modifier : Modifier
   pub conversion : ℕ
 
--- the argument of its own
+-- the argument of the conversion itself
 abbrev pub own_argument : Directive → Argument
 own_argument d = argument_of d.conversion d.modifier
 
--- 7.21.6.1, 4: text is `%`, a number, flags, a width and a precision, and then rest
+-- 7.21.6.1, 4: text is `%`, a number, flags, a width and a precision, followed by rest
 pub record HeadAt (head : Head) (text rest : List ℕ) : Type 0 where
   pub behind_percent : List ℕ
   pub behind_number : List ℕ
@@ -34,20 +34,20 @@ pub record HeadAt (head : Head) (text rest : List ℕ) : Type 0 where
   pub width_at : Longest WidthForm head.width behind_flags behind_width
   pub precision_at : Longest PrecisionForm head.precision behind_width rest
 
--- 7.21.6.1, 9: the pair of conversion and length modifier has a meaning, and what takes no argument has no number
+-- 7.21.6.1, 9: the conversion is defined with its length modifier, and a directive without an argument has no number
 abbrev pub IsAllowed : Argument → Option ℕ → Type 0
 IsAllowed Undefined number = ⊥
 IsAllowed Nothing number = number ≡ None
 IsAllowed (One kind) number = Unit {0}
 
--- 7.21.6.1, 4: text is the length modifier and the conversion of a directive, and then rest
+-- 7.21.6.1, 4: text is the length modifier and the conversion of a directive, followed by rest
 pub record TailAt (d : Directive) (text rest : List ℕ) : Type 0 where
   pub behind_modifier : List ℕ
   pub modifier_at : Longest ModifierForm d.modifier text behind_modifier
   pub conversion_at : behind_modifier ≡ d.conversion ∷ rest
   pub allowed : IsAllowed (own_argument d) d.head.number
 
--- text is the directive, and then rest
+-- text is the directive, followed by rest
 pub record DirectiveAt (d : Directive) (text rest : List ℕ) : Type 0 where
   pub behind_head : List ℕ
   pub head : HeadAt d.head text behind_head
@@ -71,14 +71,14 @@ pub record BeginsMacro (text : List ℕ) : Type 0 where
   pub name_is : list_all is_name_byte name ≡ true
   pub some : 0 < length name
 
--- the directive at the front of text names a macro in the place of length modifier and conversion
+-- the directive at the front of text names a macro in place of a length modifier and a conversion
 pub record NamesMacro (text : List ℕ) : Type 0 where
   pub head : Head
   pub rest : List ℕ
   pub head_at : HeadAt head text rest
   pub begins : BeginsMacro rest
 
--- a directive begins at the front of text, and can't be read
+-- a directive begins at the front of text but can't be read
 pub record IsUnreadable (text : List ℕ) : Type 0 where
   pub behind : List ℕ
   pub begins : text ≡ percent ∷ behind

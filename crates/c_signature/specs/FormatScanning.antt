@@ -1,4 +1,4 @@
--- Private: what the readers of the pieces of a directive, and of directives, promise one another.
+-- Private: what the readers of directives and of their parts guarantee to one another.
 use Rattle.std.specs.Prelude.{◌≡◌, ℕ, ◌≤◌, Bool, true, false, List, [], ◌∷◌, ◌++◌, length, Option, None, Some}
 use Rattle.std.specs.List.{list_all}
 use Rattle.c_signature.specs.declared.FormatFault.{FormatFault}
@@ -37,39 +37,39 @@ asked_by d =
     amount_requests (amount_view d.width) ++ amount_requests (amount_view d.precision)
     ++ argument_requests d.number (argument_view d.argument)
 
--- text is a directive that asks for this, and then rest
+-- text is a directive that asks for this, followed by rest
 abbrev pub ReadsDirective : code_directive.Directive → List ℕ → List ℕ → Type 0
 ReadsDirective directive text rest = (d : Directive) × DirectiveAt d text rest × (requests d ≡ asked_by directive)
 
 -- ---- runs and numbers
 
--- no byte that passes stands at the front
+-- no byte that passes the test is at the front
 abbrev pub Stops : (ℕ → Bool) → List ℕ → Type 0
 Stops test [] = Unit {0}
 Stops test (b ∷ more) = test b ≡ false
 
--- text is bytes that pass, as many as there are, and then rest
+-- text is the longest run of bytes that pass the test, followed by rest
 pub record IsRun (test : ℕ → Bool) (text run rest : List ℕ) : Type 0 where
   pub text_is : text ≡ run ++ rest
   pub passes : list_all test run ≡ true
   pub stops : Stops test rest
 
--- a number that doesn't begin with 0 stands at the front
+-- a number without a leading 0 is at the front
 abbrev pub BeginsNumber : List ℕ → Type 0
 BeginsNumber [] = ⊥
 BeginsNumber (b ∷ more) = is_first_digit b ≡ true
 
--- the digits of a number of an argument
+-- the digits of an argument number
 pub record IsNumber (digits : List ℕ) : Type 0 where
   pub numeral : IsNumeral digits
   pub short : length digits ≤ 9
 
--- the number that the digits are, or that they are none
+-- the argument number that the digits spell, or None if they spell none
 abbrev pub IsNumberOf : List ℕ → Option ℕ → Type 0
 IsNumberOf digits None = ¬ IsNumber digits
 IsNumberOf digits (Some m) = IsNumber digits × (m ≡ decimal_value digits)
 
--- the directive at the front of text can't be read, and why
+-- why the directive at the front of text can't be read
 abbrev pub Refuses : FormatFault → List ℕ → Type 0
 Refuses Invalid text = IsUnreadable text × ¬ NamesMacro text
 Refuses SystemDependent text = IsUnreadable text × NamesMacro text

@@ -1,4 +1,4 @@
--- The parts of a directive (C standard, 7.21.6.1, 4), with the numbers of arguments of POSIX.
+-- The parts of a directive (C standard, 7.21.6.1, 4), with the argument numbers of POSIX.
 use Rattle.std.specs.Prelude.{◌≡◌, ℕ, ◌+◌, ◌-◌, ◌*◌, ◌≤◌, Bool, true, ◌&&◌, ◌==◌, nat_le}
 use Rattle.std.specs.Prelude.{List, [], ◌∷◌, ◌++◌, length, Option, None, Some, ◌⊎◌, codes}
 use Rattle.std.specs.List.{fold, list_all, list_any}
@@ -6,7 +6,7 @@ use Rattle.std.specs.Char.{is_ascii_digit}
 use Rattle.c_signature.specs.declared.Size.{Size}
 use Rattle.c_signature.specs.declared.Size.TheVariants.{Byte, Short, Plain, Long, LongLong, Max, SizeT, PtrDiff}
 
--- ---- the signs of formats
+-- ---- the special characters of formats
 
 abbrev pub percent : ℕ
 percent = 37
@@ -20,10 +20,10 @@ star = 42
 abbrev pub dot : ℕ
 dot = 46
 
--- ---- a part of a text, as long as it can be
+-- ---- a part of a text, as long as possible
 
--- The front of text has this form, at this value, and no longer front has it, at any value; behind the front stands
--- rest.
+-- The front of text has this form with this value, no longer front has this form with any value, and rest follows the
+-- front.
 pub record Longest {V : Type 0} (Form : V → List ℕ → Type 0) (value : V) (text rest : List ℕ) : Type 0 where
   pub front : List ℕ
   pub text_is : text ≡ front ++ rest
@@ -40,7 +40,7 @@ decimal_value digits = fold (λ n d. 10 * n + (d - 48)) 0 digits
 abbrev pub is_first_digit : ℕ → Bool
 is_first_digit b = nat_le 49 b && nat_le b 57
 
--- digits, of which the first isn't 0
+-- digits, the first of which isn't 0
 abbrev pub IsNumeral : List ℕ → Type 0
 IsNumeral [] = ⊥
 IsNumeral (b ∷ more) = (is_first_digit b ≡ true) × (list_all is_ascii_digit more ≡ true)
@@ -62,23 +62,23 @@ is_flag b = list_any (λ flag. b == flag) (codes " +-#0'I")
 abbrev pub FlagsForm : List ℕ → List ℕ → Type 0
 FlagsForm flags front = (front ≡ flags) × (list_all is_flag flags ≡ true)
 
--- how a width or a precision is given: not at all or in digits; or by an argument, the next one or that of a number
+-- how a width or a precision is given: left out or in digits; or by an argument, the next one or a numbered one
 pub data Amount : Type 0 where
   Fixed : Amount
   Asked : (number : Option ℕ) → Amount
 
--- 7.21.6.1, 4: nothing, a number that doesn't begin with 0, `*` or `*m$`
+-- 7.21.6.1, 4: nothing, a number without a leading 0, `*` or `*m$`
 abbrev pub WidthForm : Amount → List ℕ → Type 0
 WidthForm Fixed front = (front ≡ []) ⊎ IsNumeral front
 WidthForm (Asked number) front = (after : List ℕ) × (front ≡ star ∷ after) × NumberForm number after
 
--- 7.21.6.1, 4: nothing, a dot and digits, none or more, or `.*` or `.*m$`
+-- 7.21.6.1, 4: nothing, a dot and any number of digits, `.*` or `.*m$`
 abbrev pub PrecisionForm : Amount → List ℕ → Type 0
 PrecisionForm Fixed front =
     (front ≡ []) ⊎ ((digits : List ℕ) × (front ≡ dot ∷ digits) × (list_all is_ascii_digit digits ≡ true))
 PrecisionForm (Asked number) front = (after : List ℕ) × (front ≡ dot ∷ star ∷ after) × NumberForm number after
 
--- a length modifier: one of integers, or none; `L`
+-- a length modifier: one for integers, or none; or `L`
 pub data Modifier : Type 0 where
   Of : (size : Size) → Modifier
   LongDouble : Modifier

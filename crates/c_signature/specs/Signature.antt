@@ -14,7 +14,7 @@ use Rattle.c_signature.specs.Directives.{Directive, own_argument, DirectiveAt, I
 
 -- ---- what directives ask for
 
--- an argument that is asked for: the next one, or that of a number (POSIX, fprintf)
+-- an argument that is asked for: the next one, or the one with a number (POSIX, fprintf)
 pub record Request : Type 0 where
   pub number : Option ℕ
   pub kind : ArgKind
@@ -39,16 +39,16 @@ requests d =
 
 -- ---- the list of what is asked for
 
--- nothing is numbered: the kinds in the order of the text
+-- nothing is numbered: the kinds are in the order of the text
 pub record InOrder (asked : List Request) (kinds : List ArgKind) : Type 0 where
   pub unnumbered : (r : Request) → Contains asked r → r.number ≡ None
   pub kinds_are : kinds ≡ map (λ r. r.kind) asked
 
--- the argument of number i + 1 has place i of the list
+-- the argument with number i + 1 is at index i of the list
 abbrev pub HasPlace : List ArgKind → Request → Type 0
 HasPlace kinds r = (i : ℕ) × (r.number ≡ Some (i + 1)) × (slice_get kinds i ≡ Some r.kind)
 
--- POSIX, fprintf: everything is numbered, each with its place in the list, and no place is left out
+-- POSIX, fprintf: everything is numbered and at its index in the list, and no number is left out
 pub record ByNumber (asked : List Request) (kinds : List ArgKind) : Type 0 where
   pub placed : (r : Request) → Contains asked r → HasPlace kinds r
   pub complete : (i : ℕ) → i < length kinds → (r : Request) × Contains asked r × (r.number ≡ Some (i + 1))
@@ -65,24 +65,24 @@ HasNoList asked = (kinds : List ArgKind) → ¬ AsksFor asked kinds
 abbrev pub is_plain : ℕ → Bool
 is_plain b = not (b == percent)
 
--- C standard, 7.21.6.1, 3: text is bytes other than `%`, and then rest
+-- C standard, 7.21.6.1, 3: text is bytes other than `%`, followed by rest
 pub record SkipsPlain (text rest : List ℕ) : Type 0 where
   pub plain : List ℕ
   pub text_is : text ≡ plain ++ rest
   pub no_percent : list_all is_plain plain ≡ true
 
--- text is plain pieces and these directives, one after another, and then rest
+-- text is these directives with plain text between them, followed by rest
 abbrev pub Cuts : List Directive → List ℕ → List ℕ → Type 0
 Cuts [] text rest = text ≡ rest
 Cuts (d ∷ more) text rest = (at after : List ℕ) × SkipsPlain text at × DirectiveAt d at after × Cuts more after rest
 
--- the whole text is plain pieces and these directives
+-- the whole text is these directives and plain text
 pub record IsFormat (text : List ℕ) (directives : List Directive) : Type 0 where
   pub last : List ℕ
   pub cut : Cuts directives text last
   pub end : SkipsPlain last []
 
--- behind plain pieces and directives stands the first directive that can't be read, from `stop` on
+-- after directives and plain text, the first directive that can't be read begins at `stop`
 pub record StopsAt (text stop : List ℕ) : Type 0 where
   pub directives : List Directive
   pub last : List ℕ
@@ -97,7 +97,7 @@ abbrev pub Lists : List ℕ → List ArgKind → Type 0
 Lists text kinds =
     (directives : List Directive) × IsFormat text directives × AsksFor (flat_map requests directives) kinds
 
--- the first directive that can't be read names no macro, or what is asked for has no list
+-- the first directive that can't be read names no macro, or all can be read but what they ask for has no list
 abbrev pub IsInvalid : List ℕ → Type 0
 IsInvalid text = ((stop : List ℕ) × StopsAt text stop × ¬ NamesMacro stop)
     ⊎ ((directives : List Directive) × IsFormat text directives × HasNoList (flat_map requests directives))
@@ -106,7 +106,7 @@ IsInvalid text = ((stop : List ℕ) × StopsAt text stop × ¬ NamesMacro stop)
 abbrev pub IsSystemDependent : List ℕ → Type 0
 IsSystemDependent text = (stop : List ℕ) × StopsAt text stop × NamesMacro stop
 
--- a fault that a text has; nothing is said of when memory runs out
+-- the text has this fault; Memory says nothing about the text
 abbrev pub HasFormatFault : List ℕ → FormatFault → Type 0
 HasFormatFault text Invalid = IsInvalid text
 HasFormatFault text SystemDependent = IsSystemDependent text

@@ -1,10 +1,10 @@
-// Whether the arguments of a translation agree with those of its original.
+//! Whether the arguments of a translation agree with those of its original.
 ghost use Rattle.std.specs.Prelude.{◌↔◌, IsTrue};
 ghost use Rattle.c_signature.specs.Agreement.{Agrees};
 
 use crate::{ArgKind, Strictness};
 
-/// Whether the arguments of a form agree with those of the original.
+/// Whether the arguments of a form agree with those of the original, as strictly as `rule` asks.
 pub fn agrees(original: &[ArgKind], form: &[ArgKind], rule: Strictness) -> bool
     ensures { IsTrue result ↔ Agrees original.now form.now rule }
 {

@@ -1,4 +1,4 @@
-// Conversions, and the arguments that they take.
+//! Conversions, and the arguments that they take.
 ghost use Rattle.std.specs.Prelude.{◌≡◌};
 ghost use Rattle.c_signature.specs.Conversions as table;
 ghost use Rattle.c_signature.specs.FormatScanning.{argument_view, modifier_view};
@@ -6,12 +6,12 @@ ghost use Rattle.c_signature.specs.FormatScanning.{argument_view, modifier_view}
 use crate::parts::Modifier;
 use crate::{ArgKind, Size};
 
-/// The argument that a directive takes by its conversion and length modifier.
+/// The argument that a directive takes, given its conversion and length modifier.
 #[derive(Clone, Copy)]
 pub(crate) enum Argument {
-    /// The pair has no meaning.
+    /// The conversion is undefined with this length modifier.
     Undefined,
-    /// None, as for `%%`.
+    /// No argument, as for `%%`.
     Nothing,
     One(ArgKind),
 }
@@ -36,7 +36,7 @@ fn floating(modifier: Modifier) -> Argument
     }
 }
 
-/// One kind without a length modifier, and the other with `l`.
+/// The `narrow` kind without a length modifier, and the `wide` one with `l`.
 fn narrow_or_wide(modifier: Modifier, narrow: ArgKind, wide: ArgKind) -> Argument
     ensures { argument_view result ≡ table.narrow_or_wide narrow wide (modifier_view modifier) }
 {
@@ -56,7 +56,7 @@ fn count(modifier: Modifier) -> Argument
     }
 }
 
-/// An argument of a conversion that may have no length modifier.
+/// The argument of a conversion that allows no length modifier.
 fn alone(modifier: Modifier, argument: Argument) -> Argument
     ensures { argument_view result ≡ table.alone (argument_view argument) (modifier_view modifier) }
 {
@@ -66,7 +66,7 @@ fn alone(modifier: Modifier, argument: Argument) -> Argument
     }
 }
 
-/// The argument that a conversion takes with a length modifier.
+/// The argument that a conversion takes with this length modifier.
 pub(crate) fn argument_of(conversion: u8, modifier: Modifier) -> Argument
     ensures { argument_view result ≡ table.argument_of conversion (modifier_view modifier) }
 {

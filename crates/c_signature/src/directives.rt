@@ -1,4 +1,4 @@
-// Directives, each read behind its `%`.
+//! Directives, each read from after its `%`.
 ghost use Rattle.std.specs.Prelude.{◌≡◌, ◌↔◌, ◌++◌, ◌∷◌, ◌<◌, List, ℕ, IfOk, IfErr, IsTrue, length};
 ghost use Rattle.std.specs.List.{prefix_len};
 ghost use Rattle.c_signature.specs.Directives.{BeginsMacro, IsAllowed, is_macro_conversion, is_name_byte};
@@ -12,7 +12,7 @@ use crate::parts::{
     split_byte,
 };
 
-/// A directive, by what it takes.
+/// A directive, reduced to the arguments that it takes.
 #[derive(Clone, Copy)]
 pub(crate) struct Directive {
     /// `m$`, the number of its argument
@@ -28,28 +28,28 @@ fn may_name(byte: u8) -> bool
     byte.is_ascii_uppercase() || byte.is_ascii_digit()
 }
 
-/// How many bytes at the front may stand in the name of a macro.
+/// The number of bytes at the front that may be in the name of a macro.
 fn name_len(text: &[u8]) -> usize
     ensures { result ≡ prefix_len is_name_byte text.now }
 {
     text.iter().take_while(|byte| may_name(**byte)).count()
 }
 
-/// The bytes at the front that may stand in the name of a macro, and the rest.
+/// Splits off the bytes at the front that may be in the name of a macro.
 fn split_name(text: &[u8]) -> (&[u8], &[u8])
     ensures { IsRun is_name_byte text.now result.0.now result.1.now }
 {
     text.split_at(name_len(text))
 }
 
-/// Whether a macro may stand for this conversion.
+/// Whether `<inttypes.h>` has macros for this conversion.
 fn has_macros(conversion: u8) -> bool
     ensures { result ≡ is_macro_conversion conversion }
 {
     matches!(conversion, b'd' | b'i' | b'o' | b'u' | b'x' | b'X')
 }
 
-/// Whether the name of a macro stands at the front, as `<PRId64>`.
+/// Whether the name of a macro is at the front, such as `<PRId64>`.
 fn begins_macro(text: &[u8]) -> bool
     ensures { IsTrue result ↔ BeginsMacro text.now }
 {
@@ -66,7 +66,7 @@ fn begins_macro(text: &[u8]) -> bool
     after_byte(behind, b'>').is_some()
 }
 
-/// Whether a directive may take this argument, with this number.
+/// Whether a directive may take this argument, given the argument number that it has.
 fn is_allowed(argument: Argument, number: Option<u32>) -> bool
     ensures { IsTrue result ↔ IsAllowed (argument_view argument) number }
 {
@@ -77,7 +77,8 @@ fn is_allowed(argument: Argument, number: Option<u32>) -> bool
     }
 }
 
-/// Reads a directive behind its `%`.
+/// Reads a directive, from after its `%`. If it can't be read, the fault is `SystemDependent` for a macro, else
+/// `Invalid`.
 pub(crate) fn read_directive(text: &[u8]) -> Result<(Directive, &[u8]), FormatFault>
     ensures ok { IfOk result (λ found. ReadsDirective found.0 (percent ∷ text.now) found.1.now) }
     ensures err { IfErr result (λ fault. Refuses fault (percent ∷ text.now)) }

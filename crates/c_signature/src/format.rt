@@ -1,4 +1,4 @@
-// Whole texts: the cut into plain pieces and directives.
+//! Whole formats: directives, and the plain text between them.
 ghost use Rattle.std.specs.Prelude.{◌≡◌, ℕ, List, [], ◌∷◌, IfOk, IfErr, MatchOption};
 ghost use Rattle.c_signature.specs.Pieces.{percent};
 ghost use Rattle.c_signature.specs.Signature.{HasFormatFault, IsInvalid, IsSystemDependent, Lists, SkipsPlain};
@@ -10,7 +10,7 @@ use crate::{ArgKind, FormatFault};
 use memchr::memchr;
 use std::alloc::Global;
 
-/// What stands behind the next `%`.
+/// What follows the next `%`, if there is one.
 fn next_directive(text: &[u8]) -> Option<&[u8]>
     ensures { MatchOption result (SkipsPlain text.now [])
         (λ rest. SkipsPlain text.now (percent ∷ rest.now)) }
@@ -19,13 +19,13 @@ fn next_directive(text: &[u8]) -> Option<&[u8]>
     Some(&text[place + 1..])
 }
 
-/// The arguments that a C format takes, in their order (C standard, 7.21.6.1; numbered ones as in
-/// POSIX, by a number of at most 9 digits).
+/// The arguments that a C format takes, in order (C standard, 7.21.6.1; numbered arguments as in POSIX, by numbers of
+/// at most 9 digits).
 ///
-/// The first directive that can't be read decides: `SystemDependent` where it names a macro, as
-/// `%<PRId64>`, else `Invalid`. Without one, `Invalid` says that some arguments are numbered and some
-/// aren't, that a number is left out, or that a number has two kinds. `Memory` comes only where a
-/// growth was refused.
+/// The first directive that can't be read decides the fault: `SystemDependent` if it names a macro, such as
+/// `%<PRId64>`, else `Invalid`. If every directive can be read, `Invalid` means that some arguments are numbered and
+/// some aren't, that a number is left out, or that a number has two kinds. `Memory` is returned only if an allocation
+/// fails.
 pub fn signature(alloc: Global, text: &str) -> Result<Vec<ArgKind>, FormatFault>
     ensures ok { IfOk result (λ kinds. Lists text.now kinds.items) }
     ensures err { IfErr result (λ fault. HasFormatFault text.now fault) }
@@ -40,7 +40,7 @@ pub fn signature(alloc: Global, text: &str) -> Result<Vec<ArgKind>, FormatFault>
     requests.list()
 }
 
-/// A text has one outcome: a list of arguments, and just one, or one of the two faults. No text has none.
+/// A law, without code: every text has exactly one outcome, which is one list of arguments or one of the two faults.
 pub fn one_outcome()
     ensures list { (text : List ℕ) (kinds others : List Kind) →
         Lists text kinds → Lists text others → kinds ≡ others }

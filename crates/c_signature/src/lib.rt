@@ -1,5 +1,5 @@
-//! Argument lists of C formats: what `printf` takes for a format, in what order and of what kind, and whether
-//! the arguments of a translation agree with those of its original.
+//! Argument lists of C formats: which arguments `printf` takes for a format, in what order and of what kinds, and
+//! whether the arguments of a translation agree with those of its original.
 #![tactic(auto)]
 
 ghost use Rattle.std.specs.Prelude.{◌≡◌};
@@ -48,7 +48,7 @@ pub enum ArgKind {
     Unsigned(Size),
     /// `a`, `e`, `f`, `g` and their capitals
     Double,
-    /// the same with `L`
+    /// `a`, `e`, `f`, `g` and their capitals, with `L`
     LongDouble,
     /// `c`
     Char,
@@ -60,28 +60,29 @@ pub enum ArgKind {
     WideText,
     /// `p`
     Pointer,
-    /// `n`: a pointer to an integer that gets the count of what was written
+    /// `n`: a pointer to an integer that receives the number of characters written
     Count(Size),
 }
 
 /// How the arguments of a translation must agree with those of its original.
 #[derive(Clone, Copy, Debug, PartialEq, Eq)]
 pub enum Strictness {
-    /// They are the same.
+    /// They are equal.
     Same,
-    /// They are the first ones of the original, or all.
+    /// They are the first ones of the original, or all of them.
     Prefix,
 }
 
-/// Why a text has no list of arguments: it is no format, or what it asks for has no list (`Invalid`);
-/// it names a macro of `<inttypes.h>`, whose size differs from system to system (`SystemDependent`);
-/// or a growth was refused (`Memory`).
+/// Why a text has no list of arguments.
 #[derive(Clone, Copy, Debug, PartialEq, Eq, Error)]
 pub enum FormatFault {
+    /// The text isn't a C format, or the arguments that it asks for form no list.
     #[error("invalid format")]
     Invalid,
+    /// The text names a macro of `<inttypes.h>`, whose size differs from system to system.
     #[error("system-dependent format")]
     SystemDependent,
+    /// An allocation failed; this says nothing about the text.
     #[error("out of memory")]
     Memory,
 }

@@ -1,5 +1,5 @@
-// The parts of a directive, from the `%` to the length modifier. Each reader takes the text from where
-// its part may stand, and gives what the part says and the text behind it.
+//! The parts of a directive, from after the `%` to the length modifier. Each reader takes the text from where its part
+//! may begin, and returns the part and the rest.
 ghost use Rattle.std.specs.Prelude.{◌≡◌, ◌≢◌, ◌↔◌, IsTrue, ℕ, ◌∷◌, [], List, true, MatchOption};
 ghost use Rattle.std.specs.List.{list_all, prefix_len};
 ghost use Rattle.std.specs.Char.{is_ascii_digit};
@@ -12,22 +12,22 @@ use crate::Size;
 /// How a width or a precision is given.
 #[derive(Clone, Copy)]
 pub(crate) enum Amount {
-    /// Left out, or in digits: it takes no argument.
+    /// Left out or in digits: it takes no argument.
     Fixed,
-    /// `*`, or `*m$`: it takes the next argument, or the one of this number.
+    /// `*` or `*m$`: it takes the next argument, or the one with this number.
     Asked(Option<u32>),
 }
 
 /// A length modifier.
 #[derive(Clone, Copy)]
 pub(crate) enum Modifier {
-    /// The modifiers of integers, and none.
+    /// A modifier of integers, or none.
     Of(Size),
     /// `L`
     LongDouble,
 }
 
-/// The first byte and the rest.
+/// Splits off the first byte.
 pub(crate) fn split_byte(text: &[u8]) -> Option<(u8, &[u8])>
     ensures { MatchOption result (text.now ≡ []) (λ found. text.now ≡ found.0 ∷ found.1.now) }
 {
@@ -37,7 +37,7 @@ pub(crate) fn split_byte(text: &[u8]) -> Option<(u8, &[u8])>
     }
 }
 
-/// The text behind this byte, where it begins with it.
+/// What follows this byte, if the text begins with it.
 pub(crate) fn after_byte(text: &[u8], byte: u8) -> Option<&[u8]>
     ensures { MatchOption result ((rest : List ℕ) → text.now ≢ byte ∷ rest)
         (λ rest. text.now ≡ byte ∷ rest.now) }
@@ -46,21 +46,21 @@ pub(crate) fn after_byte(text: &[u8], byte: u8) -> Option<&[u8]>
     if first == byte { Some(rest) } else { None }
 }
 
-/// How many digits stand at the front.
+/// The number of digits at the front.
 fn digits_len(text: &[u8]) -> usize
     ensures { result ≡ prefix_len is_ascii_digit text.now }
 {
     text.iter().take_while(|byte| byte.is_ascii_digit()).count()
 }
 
-/// The digits at the front, as many as there are, and the rest.
+/// Splits off the digits at the front.
 fn split_digits(text: &[u8]) -> (&[u8], &[u8])
     ensures { IsRun is_ascii_digit text.now result.0.now result.1.now }
 {
     text.split_at(digits_len(text))
 }
 
-/// The number that digits are, where it may be the number of an argument.
+/// The number that digits spell, if it can be an argument number.
 fn number_of(digits: &[u8]) -> Option<u32>
     requires { list_all is_ascii_digit digits.now ≡ true }
     ensures { IsNumberOf digits.now result }
@@ -75,7 +75,7 @@ fn number_of(digits: &[u8]) -> Option<u32>
     Some(number)
 }
 
-/// Reads `m$`, the number of an argument.
+/// Reads `m$`, an argument number, if there is one.
 pub(crate) fn read_number(text: &[u8]) -> (Option<u32>, &[u8])
     ensures { Longest NumberForm result.0 text.now result.1.now }
 {
@@ -96,14 +96,14 @@ fn is_flag_byte(byte: u8) -> bool
     matches!(byte, b' ' | b'+' | b'-' | b'#' | b'0' | b'\'' | b'I')
 }
 
-/// How many flags stand at the front.
+/// The number of flags at the front.
 fn flags_len(text: &[u8]) -> usize
     ensures { result ≡ prefix_len is_flag text.now }
 {
     text.iter().take_while(|byte| is_flag_byte(**byte)).count()
 }
 
-/// Skips the flags.
+/// Skips the flags at the front.
 pub(crate) fn skip_flags(text: &[u8]) -> &[u8]
     ensures { (flags : List ℕ) × Longest FlagsForm flags text.now result.now }
 {
@@ -111,7 +111,7 @@ pub(crate) fn skip_flags(text: &[u8]) -> &[u8]
     rest
 }
 
-/// Whether a number that doesn't begin with 0 stands at the front.
+/// Whether a number without a leading 0 is at the front.
 fn begins_number(text: &[u8]) -> bool
     ensures { IsTrue result ↔ BeginsNumber text.now }
 {
@@ -121,7 +121,7 @@ fn begins_number(text: &[u8]) -> bool
     }
 }
 
-/// Reads a width.
+/// Reads a width, which may be left out.
 pub(crate) fn read_width(text: &[u8]) -> (Amount, &[u8])
     ensures { Longest WidthForm (amount_view result.0) text.now result.1.now }
 {
@@ -136,7 +136,7 @@ pub(crate) fn read_width(text: &[u8]) -> (Amount, &[u8])
     (Amount::Fixed, rest)
 }
 
-/// Reads a precision.
+/// Reads a precision, which may be left out.
 pub(crate) fn read_precision(text: &[u8]) -> (Amount, &[u8])
     ensures { Longest PrecisionForm (amount_view result.0) text.now result.1.now }
 {
@@ -151,7 +151,7 @@ pub(crate) fn read_precision(text: &[u8]) -> (Amount, &[u8])
     (Amount::Fixed, rest)
 }
 
-/// Reads a length modifier.
+/// Reads a length modifier, which may be left out.
 pub(crate) fn read_modifier(text: &[u8]) -> (Modifier, &[u8])
     ensures { Longest ModifierForm (modifier_view result.0) text.now result.1.now }
 {

@@ -1,4 +1,4 @@
-// The arguments that directives ask for, and their list.
+//! The arguments that directives ask for, and their list.
 ghost use Rattle.std.specs.Prelude.{◌≡◌, ◌↔◌, IsTrue, slice_get, [], ◌∷◌, List, map, OnOk, IfOk, IfErr};
 ghost use Rattle.c_signature.specs.Signature.{amount_requests, AsksFor, ByNumber, HasNoList, Request, request};
 ghost use Rattle.c_signature.specs.declared.ArgKind.{ArgKind as Kind};
@@ -11,21 +11,21 @@ use crate::parts::Amount;
 use crate::{ArgKind, FormatFault, Size};
 use std::alloc::{AllocError, Global};
 
-/// An argument that is asked for by number.
+/// A numbered argument.
 #[derive(Clone, Copy)]
 pub(crate) struct Row {
     pub(crate) number: u32,
     pub(crate) kind: ArgKind,
 }
 
-/// The arguments asked for so far, those with a number apart.
+/// The arguments asked for so far, with the numbered ones kept separately.
 #[derive(Drop)]
 pub(crate) struct Requests {
     pub(crate) unnumbered: Vec<ArgKind>,
     pub(crate) numbered: Vec<Row>,
 }
 
-/// Whether this kind has this place.
+/// Whether the kind at index `place` is this one.
 fn is_at(kinds: &[ArgKind], place: usize, kind: ArgKind) -> bool
     ensures { IsTrue result ↔ (slice_get kinds.now place ≡ Some kind) }
 {
@@ -35,7 +35,7 @@ fn is_at(kinds: &[ArgKind], place: usize, kind: ArgKind) -> bool
     }
 }
 
-/// The kinds by number: the rows are in order of their numbers.
+/// The kinds in the order of their numbers; `rows` must be sorted by number.
 fn list_rows(rows: &[Row], mut kinds: Vec<ArgKind>) -> Result<Vec<ArgKind>, FormatFault>
     requires empty { kinds.items ≡ [] }
     requires rising { IsRising rows.now }
@@ -66,7 +66,7 @@ impl Requests {
         }
     }
 
-    /// AddsAsked an argument: the next one, or that of a number.
+    /// Adds an argument: the next one, or the one with this number.
     fn ask(&mut self, number: Option<u32>, kind: ArgKind) -> Result<(), AllocError>
         ensures { OnOk result (AddsAsked self.old self.new (request number kind ∷ [])) }
     {
@@ -86,7 +86,7 @@ impl Requests {
         }
     }
 
-    /// AddsAsked the arguments of a directive.
+    /// Adds the arguments of a directive.
     pub(crate) fn add(&mut self, directive: Directive) -> Result<(), AllocError>
         ensures { OnOk result (AddsAsked self.old self.new (asked_by directive)) }
     {
@@ -98,7 +98,7 @@ impl Requests {
         }
     }
 
-    /// The list of what was asked for.
+    /// The list of the arguments asked for; `Invalid` if they form none.
     pub(crate) fn list(self) -> Result<Vec<ArgKind>, FormatFault>
         ensures ok { IfOk result (λ kinds.
             (asked : List Request) → KeepsAsked asked self → AsksFor asked kinds.items) }

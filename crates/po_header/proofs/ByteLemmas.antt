@@ -1,4 +1,4 @@
--- Searches for a byte against runs of bytes.
+-- Searches for a byte, compared with runs of bytes.
 use Rattle.std.proofs.Common.{◌≡◌, ℕ, ◌-◌, true, false, Bool, List, take, length}
 use Rattle.std.proofs.Common.{refl, sym, arith, ap, ◌∙◌, Some, None, Option}
 use Rattle.std.specs.Option.{unwrap_or}

@@ -1,4 +1,4 @@
--- Faults, and what they say.
+-- Faults, and what they imply.
 use Rattle.std.proofs.Common.{◌≡◌, ◌≢◌, ℕ, true, false, List, [], ◌∷◌, length, Result, Ok, Err, inl, inr, refl, arith}
 use Rattle.std.specs.Prelude.{◌==◌, IfOk, IfErr}
 use Rattle.std.proofs.lemmas.Bool.{ne_eqb}

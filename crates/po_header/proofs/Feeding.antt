@@ -1,4 +1,4 @@
--- The parser's steps find the tree that tokens derive.
+-- The parser's steps find the tree that the tokens derive.
 use Rattle.std.proofs.Common.{◌≡◌, ℕ, ◌<◌, ◌≤◌, List, [], ◌∷◌, ◌++◌, Option, Some, refl, sym, ap, ◌∙◌, arith}
 use Rattle.std.proofs.lemmas.Bool.{le-leb, lt-leb}
 use Rattle.po_header.specs.declared.token.Operator.{Operator}
@@ -54,7 +54,7 @@ level_some (Chosen c a b) = omega arith
 
 -- ---- what waits
 
--- an operand of this level may come behind what waits
+-- an operand of this level may follow what waits
 abbrev pub Fits : List Waiting → ℕ → Type 0
 Fits [] k = Unit {0}
 Fits (BracketWaits ∷ ws) k = Unit {0}
@@ -71,7 +71,7 @@ Fits-le (LeftWaits op left ∷ ws) j k le h = omega arith
 Fits-le (ConditionWaits c ∷ ws) j k le h = tt
 Fits-le (BranchWaits c a ∷ ws) j k le h = tt
 
--- what waits on looser levels goes on waiting
+-- what waits on looser levels keeps waiting
 joined-Fits : (k : ℕ) (ws : List Waiting) (t : Tree) → 2 ≤ k → Fits ws k → joined k ws t ≡ (ws, t)
 joined-Fits k [] t some h = refl
 joined-Fits k (BracketWaits ∷ ws) t some h = refl
@@ -94,7 +94,7 @@ steps-append (t ∷ a) b s = steps-append a b (step s t)
 
 -- ---- derivations
 
--- behind these the derivation's tokens leave an operand that joins as the derivation's tree does
+-- after what waits, the derivation's tokens leave an operand that joins as the derivation's tree does
 pub record Reads (d : Derivation) (ws : List Waiting) : Type 0 where
   pub waiting : List Waiting
   pub operand : Tree
@@ -118,7 +118,7 @@ tight_feeds d h = record {
   };
 }
 
--- behind the tokens of a, and then more
+-- the first of two derivations, followed by more tokens
 after_first : (d : Derivation) (ws : List Waiting) (more : List Token) → (r : Reads d ws)
     → steps (wanting ws) (tokens_of d ++ more) ≡ steps (having (r.waiting, r.operand)) more
 after_first d ws more r = steps-append (tokens_of d) more (wanting ws) ∙ ap (λ (s : Option State). steps s more) r.after

@@ -27,7 +27,7 @@ boundary_at (suc n) text utf8 e =
     rw m at (IsCharBoundary-after_ascii text n utf8 (omega arith)
     (blank_ascii _ (prefix_len_passes is_blank text n 0 lt)))
 
--- a text may be cut behind its blanks
+-- a text may be cut after its blanks
 pub blanks_boundary : (text : List ℕ) → IsUtf8 text → IsCharBoundary text (prefix_len is_blank text)
 blanks_boundary text utf8 = boundary_at (prefix_len is_blank text) text utf8 refl
 

@@ -1,4 +1,4 @@
--- The code's frames against what waits.
+-- The code's frames, compared with what waits.
 use Rattle.std.proofs.Common.{◌≡◌, ℕ, ◌-◌, take, arith, true, false, List, [], ◌∷◌, ◌++◌, Some, None, refl, ap, ◌∙◌}
 use Rattle.po_header.specs.declared.parse.Frame.{Frame}
 use Rattle.po_header.specs.declared.parse.Frame.TheVariants.{Bracket, Bang, Left, Condition, Branch}
@@ -33,7 +33,7 @@ joined-stays k all frames new frame t e stays f = rw (
       frame f,
 ) refl
 
--- the last frame was taken from none
+-- popping from an empty stack leaves it empty
 pub none_left : (all frames : List Frame) (n : ℕ) → all ≡ frames ++ [] → frames ≡ take (n - 1) all → n ≡ 0 → (all ≡ [])
     × (frames ≡ [])
 none_left all frames n e rest none =
@@ -69,7 +69,7 @@ pub wanting-push : (old new : List Frame) (frame : Frame) → new ≡ old ++ fra
     → wanting (frame_waits frame ∷ stack_of old) ≡ Some (state_of new None)
 wanting-push old new frame e = rw (stack_of-push new old frame e) refl
 
--- nothing but a condition waits for a colon
+-- only a condition waits for a colon
 pub colon-other : (all frames : List Frame) (frame : Frame) (t : Tree) → all ≡ frames ++ frame ∷ []
     → ((c : Node) → frame ≡ Condition c → ⊥) → colon (stack_of all, t) ≡ None
 colon-other all frames Bracket t e other = rw (stack_of-push all frames Bracket e) refl
@@ -78,7 +78,7 @@ colon-other all frames (Left op left) t e other = rw (stack_of-push all frames (
 colon-other all frames (Condition c) t e other = absurd (other c refl)
 colon-other all frames (Branch c a) t e other = rw (stack_of-push all frames (Branch c a) e) refl
 
--- nothing but a bracket waits for a closing bracket
+-- only a bracket waits for a closing bracket
 pub close-other : (all frames : List Frame) (frame : Frame) (t : Tree) → all ≡ frames ++ frame ∷ []
     → (frame ≡ Bracket → ⊥) → close (stack_of all, t) ≡ None
 close-other all frames Bracket t e other = absurd (other refl)

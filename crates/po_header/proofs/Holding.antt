@@ -1,4 +1,4 @@
--- What the parser's steps find is derived by the tokens.
+-- The tree that the parser's steps find is derived by the tokens.
 use Rattle.std.proofs.Common.{◌≡◌, ℕ, ◌<◌, ◌≤◌, List, [], ◌∷◌, ◌++◌, Option}
 use Rattle.std.proofs.Common.{Some, None, refl, ap, ◌∙◌, arith, append_assoc, inl, inr}
 use Rattle.std.proofs.lemmas.List.{append-nil}
@@ -14,13 +14,13 @@ use Rattle.po_header.specs.Stack.{joined, negated, colon, close, begin, go_on, s
 use Rattle.po_header.specs.Stack.{step_at, steps, start, ended, finish_at, finish}
 use Rattle.po_header.proofs.Feeding.{Fits, Fits-le, level_low, level_high}
 
--- a derivation of a tree, with what the place of its parts asks
+-- a derivation of a tree, as the position of its parts allows
 pub record Part (tree : Tree) (low : ℕ) (d : Derivation) : Type 0 where
   pub grouped : IsGrouped d
   pub high : low ≤ level_of d
   pub tree_is : tree ≡ derived_tree d
 
--- the tokens that stand before the operand
+-- the tokens before the operand
 abbrev pub Holds : List Waiting → List Token → Type 0
 Holds [] ts = ts ≡ []
 Holds (BracketWaits ∷ ws) ts = (before : List Token) × Holds ws before × (ts ≡ before ++ (Open ∷ []))
@@ -32,7 +32,7 @@ Holds (ConditionWaits c ∷ ws) ts = (before : List Token) × (d : Derivation) �
 Holds (BranchWaits c a ∷ ws) ts = (before : List Token) × (d e : Derivation) × Holds ws before × Fits ws 1 × Part c 2 d
     × Part a 1 e × (ts ≡ before ++ (tokens_of d ++ (Question ∷ tokens_of e ++ (Colon ∷ []))))
 
--- the tokens up to an operand, which stands on this level or a tighter one
+-- the tokens up to and including an operand of this level or a tighter one
 pub record Operand (low : ℕ) (ws : List Waiting) (t : Tree) (ts : List Token) : Type 0 where
   pub before : List Token
   pub derivation : Derivation
@@ -72,7 +72,7 @@ chosen_part c t other a b d k p q r = record {
   tree_is = let e = p.tree_is in let f = q.tree_is in let g = r.tree_is in cc (e, f, g);
 }
 
--- ---- tokens, one behind another
+-- ---- tokens, one after another
 
 ends_with : (ts before b d e : List Token) (token : Token) → ts ≡ before ++ e → before ≡ b ++ (d ++ (token ∷ [])) → ts
     ≡ b ++ (d ++ (token ∷ e))
@@ -92,7 +92,7 @@ adds_token ts before e token x = rw x (append_assoc before e (token ∷ []))
 
 -- ---- joining
 
--- an operand that is joined as far as this level asks
+-- an operand that is joined as far as this level requires
 pub record JoinedTo (k : ℕ) (p : List Waiting × Tree) (ts : List Token) : Type 0 where
   pub operand : Operand k p.0 p.1 ts
   pub stops : Fits p.0 k
@@ -180,7 +180,7 @@ abbrev pub IsReadAt : List Waiting → Option Tree → List Token → Type 0
 IsReadAt ws None ts = Holds ws ts
 IsReadAt ws (Some t) ts = Operand 8 ws t ts
 
--- the state, if there is one, stands for the tokens so far
+-- the state, if there is one, is what the tokens so far lead to
 abbrev pub IsRead : Option State → List Token → Type 0
 IsRead None ts = Unit {0}
 IsRead (Some s) ts = IsReadAt s.waiting s.operand ts
@@ -232,7 +232,7 @@ closes (LeftWaits op left ∷ ws) t ts o = tt
 closes (ConditionWaits c ∷ ws) t ts o = tt
 closes (BranchWaits c a ∷ ws) t ts o = tt
 
--- where nothing that waits is looser than 2, nothing that joins on level 1 but a branch waits
+-- where an operand of level 2 may come, so may one of level 1
 Fits-loose : (ws : List Waiting) → Fits ws 2 → Fits ws 1
 Fits-loose [] h = tt
 Fits-loose (BracketWaits ∷ ws) h = tt

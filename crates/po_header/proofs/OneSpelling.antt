@@ -1,4 +1,4 @@
--- A text spells one list of tokens.
+-- A text spells at most one list of tokens.
 use Rattle.std.proofs.Common.{◌≡◌, ◌≢◌, ℕ, true, false, List, [], ◌∷◌, ◌++◌, Option}
 use Rattle.std.proofs.Common.{Some, None, refl, sym, ap, ◌∙◌, subst, arith, inl, inr}
 use Rattle.std.specs.Prelude.{if◌then◌else◌}
@@ -16,7 +16,7 @@ use Rattle.po_header.specs.Tokens.{tokens_of_pieces, Begins, Spells, is_blank, s
 use Rattle.po_header.specs.ExprParsing.{IsStray}
 use Rattle.po_header.proofs.TokenLemmas.{nothing_stray, blank_is, digit_no_blank, digit_no_symbol, digit_no_long}
 
--- ---- which piece stands at the front
+-- ---- which piece is at the front
 
 abbrev pub kind_at : List ℕ → ℕ
 kind_at [] = 4
@@ -135,14 +135,14 @@ stray_spells : (rest : List ℕ) (ps : List Piece) → IsStray rest → Chain Pi
 stray_spells rest [] stray e = e
 stray_spells rest (p ∷ ps) stray (m, at, more) = absurd (stray p m at)
 
--- behind tokens stands what is none: the text spells no tokens
+-- what follows the tokens is no token, so the text spells no tokens
 pub stray_behind : (tokens all : List Token) (text rest : List ℕ) → Begins tokens text rest → IsStray rest → rest ≢ []
     → ¬ Spells text all
 stray_behind tokens all text rest b stray some s =
     let r = spelled_after tokens all text rest b s in
     some (stray_spells rest r.2.pieces stray r.2.each)
 
--- a text spells one list of tokens
+-- a text spells at most one list of tokens
 pub Spells-one : (text : List ℕ) (tokens others : List Token) → Spells text tokens → Spells text others → tokens
     ≡ others
 Spells-one text tokens others p q =

@@ -1,4 +1,4 @@
--- Parts in a row, and the trees that they are.
+-- Lists of parts, and the trees that they stand for.
 use Rattle.std.proofs.Common.{◌≡◌, ℕ, ◌+◌, ◌<◌, ◌≤◌, List, [], ◌∷◌, ◌++◌, take, drop, length}
 use Rattle.std.proofs.Common.{get_or, refl, sym, ap, ◌∙◌, arith, length-append, append_assoc, Result, Ok, Err}
 use Rattle.std.specs.Prelude.{IfOk}
@@ -37,20 +37,20 @@ trees_from-keeps (p ∷ parts) trees k lt =
 length-trees_of : (parts : List Part) → length (trees_of parts) ≡ length parts
 length-trees_of parts = omega (arith, length-trees_from parts [])
 
--- more parts change nothing of the earlier ones
+-- appending parts leaves the earlier ones unchanged
 built-append : (old more : List Part) (k : ℕ) → k < length old → built (old ++ more) k ≡ built old k
 built-append old more k lt =
     ap (λ (ts : List Tree). tree_at ts k) (trees_from-append old more [])
     ∙ trees_from-keeps more (trees_of old) k (omega (arith, length-trees_of old))
 
--- the part that was added last
+-- the part that was appended last
 built-last : (old : List Part) (p : Part) → built (old ++ (p ∷ [])) (length old) ≡ part_tree (trees_of old) p
 built-last old p =
     ap (λ (ts : List Tree). tree_at ts (length old)) (trees_from-append old (p ∷ []) [])
     ∙ ap (λ (k : ℕ). tree_at (trees_of old ++ (part_tree (trees_of old) p ∷ [])) k) (sym (length-trees_of old))
     ∙ get_or-append_seam (trees_of old) (part_tree (trees_of old) p) [] Variable
 
--- a part stands behind the parts before it
+-- a part comes after the parts before it
 cut_part : (parts : List Part) (at : ℕ) (p : Part) → at < length parts → get_or parts at p ≡ p → parts
     ≡ (take at parts ++ (p ∷ [])) ++ drop (at + 1) parts
 cut_part parts at p lt e =
@@ -68,7 +68,7 @@ built-part parts at p lt e =
     ∙ ap (λ (k : ℕ). built (take at parts ++ (p ∷ [])) k) (sym len)
     ∙ built-last (take at parts) p
 
--- none from there on
+-- past the last part, the tree is the variable
 pub built-past : (parts : List Part) (k : ℕ) → length parts ≤ k → built parts k ≡ Variable
 built-past parts k le = get_or_past (trees_of parts) k Variable (omega (arith, length-trees_of parts))
 
@@ -83,7 +83,7 @@ Builds-part old new p i e f = record {
   is = ap (λ (t : List Part). built t i) f ∙ ap (λ (k : ℕ). built (old ++ (p ∷ [])) k) e ∙ built-last old p;
 }
 
--- what was there before is what it was
+-- earlier parts stand for the trees that they stood for before
 Builds-keeps : (old new : List Part) (i : ℕ) (t : Tree) (k : ℕ) → Builds old new i t → k < length old → built new k
     ≡ built old k
 Builds-keeps old new i t k h lt = ap (λ (ps : List Part). built ps k) h.grown ∙ built-append old h.more k lt

@@ -1,10 +1,10 @@
--- Values that repeat by hundreds, and the values at the first numbers.
+-- Values that repeat every hundred, and the precomputed values.
 use Rattle.std.proofs.Common.{◌≡◌, ℕ, ◌+◌, ◌*◌, ◌/◌, ◌%◌, ◌<◌, sym, ap, ◌∙◌, arith, List, length}
 use Rattle.std.proofs.Math.Nat.{mul-add-mod_self_left, div-add-mod, mul_assoc}
 use Rattle.po_header.specs.Grammar.{Tree}
 use Rattle.po_header.specs.Repeats.{AreFirst, IsPart}
 
--- a part of a number divides what is folded by it
+-- folding by a multiple of m keeps the remainder by m
 mod_folded : (n w m k : ℕ) → w ≡ m * k → (w + n % w) % m ≡ n % m
 mod_folded n w m k e =
     let whole : n ≡ m * (k * (n / w)) + n % w =
@@ -19,7 +19,7 @@ part_of m some e = record {
   same = λ n. mod_folded n 100 m (100 / m) (sym (div-add-mod 100 m) ∙ omega (arith, e));
 }
 
--- the values at the numbers below one
+-- the values at all numbers below n
 pub record Values (values : List ℕ) (tree : Tree) (n : ℕ) : Type 0 where
   pub as_many : length values ≡ n
   pub are : AreFirst values tree

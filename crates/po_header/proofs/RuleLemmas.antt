@@ -1,4 +1,4 @@
--- A text has one rule.
+-- A text has exactly one plural rule.
 use Rattle.std.proofs.Common.{◌≡◌, ℕ, List, Option, Some, None, refl, sym, ap, subst, arith, inl, inr}
 use Rattle.std.specs.Prelude.{◌⊎◌, codes}
 use Rattle.po_header.specs.declared.token.Token.{Token}
@@ -61,7 +61,7 @@ option_cases : {A : Type 0} (o : Option A) → (o ≡ None) ⊎ ((x : A) × (o �
 option_cases None = inl refl
 option_cases (Some x) = inr (x, refl)
 
--- a text that has both parts
+-- a text with both `nplurals=` and `plural=` has a rule
 some_of_both : (text count expr : List ℕ) → HasBoth text count expr → ((rule : Rule) → HasRule text rule → ⊥) → ⊥
 some_of_both text count expr both none = elim (option_cases (leading_number count)) [
   | inl e ↦ none Broken (record { count = count; expr = expr; both = both; fails = inl e })

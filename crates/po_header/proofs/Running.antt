@@ -1,4 +1,4 @@
--- The parser's steps along a text.
+-- The parser's steps through a text.
 use Rattle.std.proofs.Common.{◌≡◌, ◌≢◌, List, [], ◌∷◌, ◌++◌, Option, Some, None, refl, sym, ap, ◌∙◌}
 use Rattle.po_header.specs.declared.token.Token.{Token}
 use Rattle.po_header.specs.declared.tree.Node.{Node}
@@ -45,7 +45,7 @@ steps-none : (tokens : List Token) → steps None tokens ≡ None
 steps-none [] = refl
 steps-none (t ∷ tokens) = steps-none tokens
 
--- a token is refused: the text derives no tree
+-- a token is refused, so the text derives no tree
 pub refuses_token : (text rest later : List ℕ) (frames : List Frame) (operand : Option Node) (token : Token)
     → HasRead text rest frames operand → Begins (token ∷ []) rest later → step (Some (state_of frames operand)) token
     ≡ None → (tree : Tree) → ¬ SpellsTree text tree
@@ -60,7 +60,7 @@ refuses_token text rest later frames operand token h b e tree s =
     let f = ap finish none in
     absurd (cc (found, f))
 
--- no token stands where one has to
+-- no token is where one is needed
 pub refuses_stray : (text rest : List ℕ) (frames : List Frame) (operand : Option Node)
     → HasRead text rest frames operand → IsStray rest → rest ≢ [] → (tree : Tree) → ¬ SpellsTree text tree
 refuses_stray text rest frames operand h stray some tree s = stray_behind h.tokens s.tokens text rest h.begins stray

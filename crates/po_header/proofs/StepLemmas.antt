@@ -1,4 +1,4 @@
--- Steps, and what they reach.
+-- Steps, and the values that they reach.
 use Rattle.std.proofs.Common.{◌≡◌, ℕ, ◌+◌, ◌-◌, ◌<◌, ◌≤◌, Bool, true, false, cond, List}
 use Rattle.std.proofs.Common.{[], ◌∷◌, ◌++◌, take, drop, length, get_or, Option, Some, None, Result}
 use Rattle.std.proofs.Common.{Ok, Err, refl, sym, ap, ◌∙◌, arith, inl, inr, length-append, append_assoc}
@@ -43,13 +43,13 @@ values_from-keeps (s ∷ steps) found n k lt =
 length-step_values : (steps : List Step) (n : ℕ) → length (step_values n steps) ≡ length steps
 length-step_values steps n = omega (arith, length-values_from steps [] n)
 
--- more steps change nothing of the earlier ones
+-- appending steps leaves the earlier ones unchanged
 pub reached-append : (old more : List Step) (n k : ℕ) → k < length old → reached (old ++ more) k n ≡ reached old k n
 reached-append old more n k lt =
     ap (λ (vs : List (Option ℕ)). value_at vs k) (values_from-append old more [] n)
     ∙ values_from-keeps more (step_values n old) n k (omega (arith, length-step_values old n))
 
--- the step that was added last
+-- the step that was appended last
 pub reached-last : (old : List Step) (s : Step) (n : ℕ) → reached (old ++ (s ∷ [])) (length old) n
     ≡ step_value (step_values n old) n s
 reached-last old s n =
@@ -80,7 +80,7 @@ AddsSteps-step old new s i e f = record {
       ∙ reached-last old s n;
 }
 
--- what was there before reaches what it reached
+-- earlier steps reach what they reached before
 pub AddsSteps-keeps : (old new : List Step) (i : ℕ) (f : ℕ → Option ℕ) (k n : ℕ) → AddsSteps old new i f
     → k < length old
     → reached new k n ≡ reached old k n
@@ -219,7 +219,7 @@ test-at_least m k here there some found n = by_not _ _ (value_at found here) (va
 
 -- ---- running
 
--- a step stands behind the steps before it
+-- a step comes after the steps before it
 cut_step : (steps : List Step) (at : ℕ) (s : Step) → at < length steps → get_or steps at s ≡ s → steps
     ≡ (take at steps ++ (s ∷ [])) ++ drop (at + 1) steps
 cut_step steps at s lt e =
@@ -244,7 +244,7 @@ reached-earlier steps at k n lt less =
     sym (ap (λ (t : List Step). reached t k n) (sym (take-append-drop at steps))
     ∙ reached-append (take at steps) (drop at steps) n k (omega (arith, length-take at steps)))
 
--- none from there on
+-- there is no step from here on
 pub reached-none : (steps : List Step) (k n : ℕ) → length steps ≤ k → value_at (step_values n steps) k ≡ None
 reached-none steps k n le = get_or_past (step_values n steps) k None (omega (arith, length-step_values steps n))
 
@@ -256,7 +256,7 @@ IfFound-map (Ok None) f h = tt
 IfFound-map (Ok (Some i)) f h = f i h
 IfFound-map (Err e) f h = tt
 
--- either side: the steps of the left side, behind those of the right side
+-- either side: the steps of the left side, after those of the right side
 pub adds_either : (old mid new : List Step) (whole left right : Node) (here there rest i : ℕ)
     → ((n : ℕ) → node_value whole n ≡ either (node_value left n) (node_value right n)) → here < length old
     → AddsSteps old mid rest (chosen_step old right here there) → AddsSteps mid new i (chosen_step mid left here rest)
@@ -285,7 +285,7 @@ adds_both_sides old mid new whole left right here there rest i is lt h k =
     ∙ ap (λ (v : Option ℕ). choice v (reached old here n) (reached old there n)) (sym (is n)))
     (AddsSteps-both old mid new rest i (chosen_step old right here there) (chosen_step mid left rest there) h k)
 
--- a choice: the steps of its condition, behind those of its sides
+-- a choice: the steps of its condition, after those of its sides
 pub adds_choice : (old first second new : List Step) (whole condition chosen other : Node) (here there i : ℕ)
     → ((n : ℕ) → node_value whole n ≡ choice (node_value condition n) (node_value chosen n) (node_value other n))
     → AddsSteps old first here (node_value chosen) → AddsSteps first second there (node_value other)
@@ -304,7 +304,7 @@ adds_choice old first second new whole condition chosen other here there i is h 
 pub reached-past : (steps : List Step) (at n : ℕ) → false ≡ nat_lt at (length steps) → None ≡ reached steps at n
 reached-past steps at n e = sym (reached-none steps at n (ltb-false at (length steps) (sym e)))
 
--- the sides of an operator, behind their boxes
+-- the sides of an operator, as its boxes hold them
 pub sides_are : (f : Option ℕ → Option ℕ → Option ℕ) (left right boxed_left boxed_right : Node) (n : ℕ) → left
     ≡ boxed_left → right ≡ boxed_right → f (node_value boxed_left n) (node_value boxed_right n)
     ≡ f (node_value left n) (node_value right n)

@@ -46,7 +46,7 @@ behind_first-none (b ∷ text) word some lacks =
     let first : LacksTextAt word (b ∷ text) 0 = lacks 0 (omega arith) in
     rw (begins_not word (b ∷ text) first) (behind_first-none text word some (λ k le. lacks (suc k) (omega arith)))
 
--- in the words of `split_once`
+-- as `split_once` finds the word
 pub behind_first-split : (word text back : List ℕ) (i j : ℕ) → 0 < length word
     → ((k : ℕ) → k < i → LacksTextAt word text k) → HasTextAt word text i j → back ≡ drop j text
     → behind_first word text ≡ Some back
@@ -109,7 +109,7 @@ after_is : (word text before after : List ℕ) → text ≡ before ++ word ++ af
 after_is word text before after e = sym (drop-append_seam (before ++ word) after)
     ∙ rw (length-append before word, e) refl
 
--- at most one text follows the first place
+-- at most one text follows the first occurrence
 pub Follows-one : (word text after other : List ℕ) → Follows word text after → Follows word text other → after ≡ other
 Follows-one word text after other (b, s) (c, t) =
     let le = s.first c other t.split in

@@ -1,4 +1,4 @@
--- Tokens at the front of a text, and where none stands.
+-- Tokens at the front of a text, and where there is none.
 use Rattle.std.proofs.Common.{◌≡◌, ◌≢◌, ℕ, ◌+◌, ◌-◌, ◌*◌, ◌<◌, ◌≤◌, ◌^◌, true, false}
 use Rattle.std.proofs.Common.{List, [], ◌∷◌, ◌++◌, take, drop, length, get_or, Option, Some, None}
 use Rattle.std.proofs.Common.{refl, sym, ap, ◌∙◌, subst, arith, inl, inr, one-add}
@@ -34,7 +34,7 @@ limit_value m v e = elim (cases_Bool (nat_lt m (2 ^ 64))) [
   | inr above ↦ let f : Some v ≡ None = rw above at e in absurd (cc f)
 ]
 
--- below the limit, and the number itself
+-- a number below the limit is itself
 limit_some : (m : ℕ) → m < 2 ^ 64 → below_limit m ≡ Some m
 limit_some m lt = rw (lt-ltb m (2 ^ 64) lt) refl
 
@@ -57,7 +57,7 @@ pub limit_next : (digits : List ℕ) (i value : ℕ) → Some value ≡ below_li
     ≡ below_limit (decimal_value (take (i + 1) digits))
 limit_next digits i value e lt = rw (decimal_value-next digits i lt, limit_value _ _ e) refl
 
--- digits whose front is too large already
+-- digits that begin with a number that is already too large
 pub limit_passed : (digits : List ℕ) (i value : ℕ) → Some value ≡ below_limit (decimal_value (take i digits))
     → i < length digits → None ≡ below_limit (10 * value + (get_or digits i 0 - 48)) → None
     ≡ below_limit (decimal_value digits)
@@ -133,7 +133,7 @@ blank_is b e = elim (cases_eq b 32) [
   ]
 ]
 
--- the first of some digits
+-- the first byte of some digits
 pub first_digit : (text : List ℕ) (b : ℕ) (more : List ℕ) → 0 < prefix_len is_ascii_digit text → text ≡ b ∷ more
     → is_ascii_digit b ≡ true
 first_digit text b more some e = elim (cases_Bool (is_ascii_digit b)) [
@@ -144,7 +144,7 @@ first_digit text b more some e = elim (cases_Bool (is_ascii_digit b)) [
 no_symbol : (token : Token) (o : Option Token) → o ≡ None → o ≡ Some token → ⊥
 no_symbol token o e f = absurd (cc (e, f))
 
--- ---- where no piece stands
+-- ---- where no piece begins
 
 pub large_numeral : (text : List ℕ) → 0 < prefix_len is_ascii_digit text → None
     ≡ below_limit (decimal_value (take_while is_ascii_digit text)) → IsStray text
@@ -184,7 +184,7 @@ byte_stray text b more e stops long digit short (Short c token) rest p =
 byte_stray text b more e stops long digit short (Long a c token) rest p =
     no_symbol token _ (sym (ap long_at p.0) ∙ long) p.1
 
--- ---- where a piece stands
+-- ---- where a piece begins
 
 -- one piece, of one token
 pub Begins-piece : (piece : Piece) (token : Token) (text rest : List ℕ) → PieceAt piece text rest → piece_token piece

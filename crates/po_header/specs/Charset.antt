@@ -3,16 +3,16 @@ use Rattle.std.specs.Prelude.{◌≡◌, ◌≢◌, ℕ, ◌≤◌, not, ◌||�
 use Rattle.std.specs.List.{take_while, Contains}
 use Rattle.std.specs.Str.{str_to_ascii_lowercase}
 
--- the word stands in the text, between before and after, and nowhere with a shorter before
+-- the word occurs in the text between before and after, and nowhere after a shorter before
 pub record StandsFirst (word text before after : List ℕ) : Type 0 where
   pub split : text ≡ before ++ word ++ after
   pub first : (b a : List ℕ) → text ≡ b ++ word ++ a → length before ≤ length b
 
--- what follows the first place where the word stands
+-- what follows the first occurrence of the word
 abbrev pub Follows : List ℕ → List ℕ → List ℕ → Type 0
 Follows word text after = (before : List ℕ) × StandsFirst word text before after
 
--- the word stands nowhere in the text
+-- the word doesn't occur in the text
 abbrev pub LacksWord : List ℕ → List ℕ → Type 0
 LacksWord word text = (before after : List ℕ) → text ≢ before ++ word ++ after
 
@@ -20,13 +20,12 @@ LacksWord word text = (before after : List ℕ) → text ≢ before ++ word ++ a
 abbrev pub up_to_white : List ℕ → List ℕ
 up_to_white text = take_while (λ b. not (b == 32 || b == 9 || b == 10)) text
 
--- the charset that the text names: what follows its first `charset=`, up to white space; none where it has no
--- `charset=`
+-- the charset that the text names: what follows its first `charset=`, up to white space; none without a `charset=`
 abbrev pub NamesCharset : List ℕ → Option (List ℕ) → Type 0
 NamesCharset text (Some name) = (after : List ℕ) × Follows (codes "charset=") text after × (name ≡ up_to_white after)
 NamesCharset text None = LacksWord (codes "charset=") text
 
--- the charsets of UTF-8 and of its ASCII part, and the word that templates have in their place
+-- UTF-8, its subset ASCII, and the placeholder that templates have for a charset
 abbrev pub accepted_charsets : List (List ℕ)
 accepted_charsets = codes "utf-8" ∷ codes "utf8" ∷ codes "us-ascii" ∷ codes "ascii" ∷ codes "charset" ∷ []
 

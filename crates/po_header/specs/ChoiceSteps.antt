@@ -1,4 +1,4 @@
--- Private: the steps by which the code decides for a form.
+-- Private: the steps with which the code chooses a form.
 use Rattle.std.specs.Prelude.{◌≡◌, ℕ, ◌<◌, ◌%◌, Bool, ◌&&◌, ◌==◌, nat_le, if◌then◌else◌}
 use Rattle.std.specs.Prelude.{List, [], ◌∷◌, ◌++◌, length, slice_index_or, Option, None, Some}
 use Rattle.po_header.specs.declared.steps.Step.{Step}
@@ -8,7 +8,7 @@ use Rattle.po_header.specs.declared.tree.Node.{Node}
 use Rattle.po_header.specs.Nodes.{node_tree}
 use Rattle.po_header.specs.TreeValue.{value, choice, combined}
 
--- n, or its remainder
+-- n, or its remainder if the modulus isn't 0
 abbrev pub measured : ℕ → ℕ → ℕ
 measured modulus n = if modulus == 0 then n else n % modulus
 
@@ -18,7 +18,7 @@ is_within low high x = nat_le low x && nat_le x high
 abbrev pub value_at : List (Option ℕ) → ℕ → Option ℕ
 value_at found i = slice_index_or found i None
 
--- the value of a step, behind steps of these values
+-- the value of a step after steps with these values
 abbrev pub step_value : List (Option ℕ) → ℕ → Step → Option ℕ
 step_value found n (Value v) = Some v
 step_value found n (Test modulus low high inside outside) =
@@ -36,7 +36,7 @@ step_values n steps = values_from [] n steps
 abbrev pub reached : List Step → ℕ → ℕ → Option ℕ
 reached steps i n = value_at (step_values n steps) i
 
--- steps were added at the end, and the one with this index has these values
+-- steps were appended, and the one with this index has these values
 pub record AddsSteps (old new : List Step) (i : ℕ) (f : ℕ → Option ℕ) : Type 0 where
   pub more : List Step
   pub grown : new ≡ old ++ more
@@ -47,11 +47,11 @@ pub record AddsSteps (old new : List Step) (i : ℕ) (f : ℕ → Option ℕ) : 
 abbrev pub node_value : Node → ℕ → Option ℕ
 node_value node n = value (node_tree node) n
 
--- one of two steps, by a node's value
+-- the value of one of two steps, chosen by the value of a node
 abbrev pub chosen_step : List Step → Node → ℕ → ℕ → ℕ → Option ℕ
 chosen_step steps node here there n = choice (node_value node n) (reached steps here n) (reached steps there n)
 
--- the step tests how n, or its remainder, compares with the bound, and goes on here where it does, else there
+-- the step continues at here if n, or its remainder, compares so with the bound, else at there
 abbrev pub IsTest : Step → Operator → ℕ → ℕ → ℕ → ℕ → Type 0
 IsTest step operator modulus bound here there =
     (found : List (Option ℕ)) (n : ℕ) → step_value found n step

@@ -1,12 +1,12 @@
--- Private: what functions promise of tokens and blanks.
+-- Private: what functions guarantee about tokens and blanks.
 use Rattle.std.specs.Prelude.{◌≡◌, ℕ, false, List, [], ◌∷◌}
 use Rattle.po_header.specs.Tokens.{PieceAt, Piece, is_blank}
 
--- no blank stands at the front
+-- no blank is at the front
 abbrev pub StopsBlanks : List ℕ → Type 0
 StopsBlanks [] = Unit {0}
 StopsBlanks (b ∷ more) = is_blank b ≡ false
 
--- no piece stands at the front
+-- no piece is at the front
 abbrev pub IsStray : List ℕ → Type 0
 IsStray text = (piece : Piece) (rest : List ℕ) → ¬ PieceAt piece text rest

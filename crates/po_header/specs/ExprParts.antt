@@ -1,4 +1,4 @@
--- Private: the trees that parts in a row stand for, each part behind its operands; `tree_of` cites `built`.
+-- Private: the trees that a list of parts stands for, each part after its operands; `tree_of` cites `built`.
 use Rattle.std.specs.Prelude.{◌≡◌, ℕ, ◌<◌, List, [], ◌∷◌, ◌++◌, length, slice_index_or}
 use Rattle.po_header.specs.declared.parts.Part.{Part}
 use Rattle.po_header.specs.declared.parts.Part.TheVariants.{Count, Number, OfCount, OfRemainder}
@@ -9,7 +9,7 @@ use Rattle.po_header.specs.Grammar.{Tree, Variable, Constant, Negation, Binary, 
 abbrev pub tree_at : List Tree → ℕ → Tree
 tree_at trees i = slice_index_or trees i Variable
 
--- the tree of a part, behind parts of these trees
+-- the tree of a part after parts with these trees
 abbrev pub part_tree : List Tree → Part → Tree
 part_tree trees Count = Variable
 part_tree trees (Number value) = Constant value
@@ -33,7 +33,7 @@ trees_of parts = trees_from [] parts
 abbrev pub built : List Part → ℕ → Tree
 built parts i = tree_at (trees_of parts) i
 
--- parts were added at the end, and the one with this index is this tree
+-- parts were appended, and the one with this index stands for this tree
 pub record Builds (old new : List Part) (i : ℕ) (tree : Tree) : Type 0 where
   pub more : List Part
   pub grown : new ≡ old ++ more

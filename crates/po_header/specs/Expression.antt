@@ -13,7 +13,7 @@ is_inside b = not (b == 59 || b == 10)
 abbrev pub expression : List ℕ → List ℕ
 expression text = take_while is_inside text
 
--- an expression has more than 1,000 bytes (a limit of our own)
+-- the expression has more than 1,000 bytes (a limit of our own)
 abbrev pub IsTooLong : List ℕ → Type 0
 IsTooLong text = 1000 < length (expression text)
 
@@ -27,6 +27,6 @@ pub record SpellsTree (text : List ℕ) (tree : Tree) : Type 0 where
 abbrev pub IsReadAs : List ℕ → Tree → Type 0
 IsReadAs text tree = SpellsTree (expression text) tree
 
--- it derives none
+-- the expression at the front of the text derives no tree
 abbrev pub IsMalformed : List ℕ → Type 0
 IsMalformed text = (tree : Tree) → ¬ IsReadAs text tree

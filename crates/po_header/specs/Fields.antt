@@ -16,11 +16,11 @@ lines text = slice_split is_line_end text
 abbrev pub has_name : List ℕ → List ℕ → Bool
 has_name name line = starts_with nat_eq line (name ++ (58 ∷ []))
 
--- what follows them, without the spaces and tabs in front
+-- what follows the name and `:`, without leading spaces and tabs
 abbrev pub value_of : List ℕ → List ℕ → List ℕ
 value_of name line = behind_blanks (drop (length name + 1) line)
 
--- the value of the first line that has the name
+-- the value of the first line that has the name, if one has
 abbrev pub field_value : List ℕ → List ℕ → Option (List ℕ)
 field_value text name = option_map (value_of name) (find (has_name name) (lines text))
 

@@ -1,4 +1,4 @@
--- Private: the tree of an expression in the form in which it is computed.
+-- Private: the tree of an expression in the form in which it is evaluated.
 use Rattle.po_header.specs.declared.formula.Formula.{Formula}
 use Rattle.po_header.specs.Grammar.{Tree}
 use Rattle.po_header.specs.ExprParts.{built}

@@ -14,7 +14,7 @@ pub data Tree : Type 0 where
   Binary : (operator : Operator) (left right : Tree) → Tree
   Choice : (condition chosen other : Tree) → Tree
 
--- the table of levels, loosest first: 1 is that of `? :`, and 8 that of `!`, n, numerals and brackets
+-- the levels of precedence, loosest first: 1 is that of `? :`, and 8 that of `!`, n, numerals and brackets
 abbrev pub level : Operator → ℕ
 level Or = 2
 level And = 3
@@ -39,14 +39,14 @@ pub data Derivation : Type 0 where
   Joined : (operator : Operator) (left right : Derivation) → Derivation
   Chosen : (condition chosen other : Derivation) → Derivation
 
--- the level on which it stands
+-- the level of a derivation
 abbrev pub level_of : Derivation → ℕ
 level_of (Joined operator left right) = level operator
 level_of (Chosen condition chosen other) = 1
 level_of _ = 8
 
--- each part stands on a level that its place allows: operators group to the left, `? :` to the right,
--- and what stands in brackets, between `?` and `:` and behind `:` is any expression
+-- each operand has a level that its position allows: operators group to the left, `? :` to the right, and any
+-- expression is allowed in brackets, between `?` and `:`, and after `:`
 abbrev pub IsGrouped : Derivation → Type 0
 IsGrouped Name = Unit {0}
 IsGrouped (Numeral value) = Unit {0}
@@ -66,7 +66,7 @@ tokens_of (Joined operator left right) = tokens_of left ++ (Sign operator ∷ to
 tokens_of (Chosen condition chosen other) =
     tokens_of condition ++ (Question ∷ tokens_of chosen ++ (Colon ∷ tokens_of other))
 
--- its tree, which has no brackets
+-- the tree of a derivation, which has no brackets
 abbrev pub derived_tree : Derivation → Tree
 derived_tree Name = Variable
 derived_tree (Numeral value) = Constant value

@@ -1,4 +1,4 @@
--- Private: expressions whose values from 100 on hang on the last two digits.
+-- Private: expressions whose values from 100 on depend only on the last two digits.
 use Rattle.std.specs.Prelude.{◌≡◌, ℕ, ◌<◌, ◌≤◌, ◌+◌, ◌%◌, List, length, slice_index, Some}
 use Rattle.po_header.specs.declared.token.Operator.{Operator}
 use Rattle.po_header.specs.Grammar.{Tree}
@@ -8,20 +8,20 @@ use Rattle.po_header.specs.TreeValue.{value, combined}
 abbrev pub folded : ℕ → ℕ
 folded n = 100 + n % 100
 
--- the value at n is that at the number that n is folded to
+-- from 100 on, folding n keeps the value
 pub record Repeats (tree : Tree) : Type 0 where
   pub again : (n : ℕ) → 100 ≤ n → value tree (folded n) ≡ value tree n
 
--- n compares with the bound as what it is folded to does
+-- from 100 on, folding n keeps how it compares with the bound
 pub record IsSettled (operator : Operator) (bound : ℕ) : Type 0 where
   pub same : (n : ℕ) → 100 ≤ n
       → combined operator (Some (folded n)) (Some bound) ≡ combined operator (Some n) (Some bound)
 
--- remainders by the modulus are those of what a number is folded to
+-- folding n keeps its remainder by the modulus
 pub record IsPart (modulus : ℕ) : Type 0 where
   pub some : 0 < modulus
   pub same : (n : ℕ) → folded n % modulus ≡ n % modulus
 
--- the values at the first numbers
+-- the values at 0, 1, 2 and so on, as far as the list goes
 pub record AreFirst (values : List ℕ) (tree : Tree) : Type 0 where
   pub at : (n : ℕ) → n < length values → value tree n ≡ Some (slice_index values n)

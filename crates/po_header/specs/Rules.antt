@@ -1,4 +1,4 @@
--- The rule that the code read (GNU gettext manual, "Plural forms").
+-- The plural rule that the code read (GNU gettext manual, "Plural forms").
 use Rattle.po_header.specs.declared.rule.RuleRead.{RuleRead}
 use Rattle.po_header.specs.declared.rule.RuleRead.TheVariants as read
 use Rattle.po_header.specs.Expr.{tree_of}

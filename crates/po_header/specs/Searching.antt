@@ -3,7 +3,7 @@ use Rattle.std.specs.Prelude.{ℕ, Bool, not, ◌||◌, ◌==◌, nat_eq, if◌t
 use Rattle.std.specs.Prelude.{[], ◌∷◌, length, drop, Option, None, Some}
 use Rattle.std.specs.List.{starts_with}
 
--- what follows the first place where the word stands
+-- what follows the first occurrence of the word
 abbrev pub behind_first : List ℕ → List ℕ → Option (List ℕ)
 behind_first word [] = None
 behind_first word (b ∷ text) =

@@ -5,7 +5,7 @@ use Rattle.po_header.specs.declared.token.Token.{Token}
 use Rattle.po_header.specs.declared.token.Token.TheVariants.{Count, Number, Open, Close, Question, Colon, Bang, Sign}
 use Rattle.po_header.specs.Grammar.{Tree, Variable, Constant, Negation, Binary, Choice, level}
 
--- what waits for the operand behind it
+-- what waits on the stack for its operand
 pub data Waiting : Type 0 where
   BracketWaits : Waiting
   BangWaits : Waiting
@@ -13,12 +13,12 @@ pub data Waiting : Type 0 where
   ConditionWaits : (condition : Tree) → Waiting
   BranchWaits : (condition chosen : Tree) → Waiting
 
--- what waits, the newest first, and the operand that was read last
+-- what waits, the newest first, and the operand that was just read
 pub record State : Type 0 where
   pub waiting : List Waiting
   pub operand : Option Tree
 
--- an operand has to come
+-- an operand is expected
 abbrev pub wanting : List Waiting → Option State
 wanting ws = Some (record { waiting = ws; operand = None })
 
@@ -26,19 +26,19 @@ wanting ws = Some (record { waiting = ws; operand = None })
 abbrev pub having : List Waiting × Tree → Option State
 having p = Some (record { waiting = p.0; operand = Some p.1 })
 
--- whether it joins with an operand that ends before an operator of this level
+-- whether it takes an operand that is followed by an operator of this level
 abbrev pub joins_on : ℕ → Waiting → Bool
 joins_on k (LeftWaits op left) = nat_le k (level op)
 joins_on k (BranchWaits c a) = nat_le k 1
 joins_on k w = false
 
--- what it makes of the operand
+-- what it and its operand become
 abbrev pub join_tree : Waiting → Tree → Tree
 join_tree (LeftWaits op left) t = Binary op left t
 join_tree (BranchWaits c a) t = Choice c a t
 join_tree w t = t
 
--- the operand, joined with what waits for it on this level or a tighter one
+-- the operand, joined with what waits for it at this level or a tighter one
 abbrev pub joined : ℕ → List Waiting → Tree → List Waiting × Tree
 joined k [] t = ([], t)
 joined k (w ∷ ws) t = if joins_on k w then joined k ws (join_tree w t) else (w ∷ ws, t)
@@ -47,7 +47,7 @@ abbrev pub is_bang_waits : Waiting → Bool
 is_bang_waits BangWaits = true
 is_bang_waits w = false
 
--- the operand, negated for each `!` in front of it
+-- the operand, negated once for each `!` before it
 abbrev pub negated : List Waiting → Tree → List Waiting × Tree
 negated [] t = ([], t)
 negated (w ∷ ws) t = if is_bang_waits w then negated ws (Negation t) else (w ∷ ws, t)
@@ -60,7 +60,7 @@ abbrev pub close : List Waiting × Tree → Option State
 close (BracketWaits ∷ ws, t) = having (negated ws t)
 close (ws, t) = None
 
--- a token where an operand has to come
+-- a token where an operand is expected
 abbrev pub begin : List Waiting → Token → Option State
 begin ws Count = having (negated ws Variable)
 begin ws (Number v) = having (negated ws (Constant v))
@@ -74,7 +74,7 @@ left_waits op p = wanting (LeftWaits op p.1 ∷ p.0)
 abbrev pub condition_waits : List Waiting × Tree → Option State
 condition_waits p = wanting (ConditionWaits p.1 ∷ p.0)
 
--- a token behind an operand
+-- a token after an operand
 abbrev pub go_on : List Waiting → Tree → Token → Option State
 go_on ws t (Sign op) = left_waits op (joined (level op) ws t)
 go_on ws t Question = condition_waits (joined 2 ws t)
@@ -105,7 +105,7 @@ abbrev pub finish_at : List Waiting → Option Tree → Option Tree
 finish_at ws None = None
 finish_at ws (Some t) = ended (joined 1 ws t)
 
--- the tree of all tokens
+-- the tree of all tokens, if they form one
 abbrev pub finish : Option State → Option Tree
 finish None = None
 finish (Some s) = finish_at s.waiting s.operand

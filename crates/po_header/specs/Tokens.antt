@@ -14,11 +14,11 @@ use Rattle.po_header.specs.Chain.{Chain}
 abbrev pub is_blank : ℕ → Bool
 is_blank b = b == 32 || b == 9
 
--- what follows the blanks at the front
+-- the text without its leading blanks
 abbrev pub behind_blanks : List ℕ → List ℕ
 behind_blanks text = drop (prefix_len is_blank text) text
 
--- the symbols of two bytes, one row each (C standard, 6.4.6 "Punctuators")
+-- the two-byte symbols, one row each (C standard, 6.4.6 "Punctuators")
 abbrev pub long_symbol : List ℕ → Option Token
 long_symbol symbol =
     if bytes_eq symbol (codes "||") then Some (Sign Or) else
@@ -28,7 +28,7 @@ long_symbol symbol =
     if bytes_eq symbol (codes "<=") then Some (Sign AtMost) else
     if bytes_eq symbol (codes ">=") then Some (Sign AtLeast) else None
 
--- the symbols of one byte; `n` is the variable
+-- the one-byte symbols; `n` is the variable
 abbrev pub short_symbol : List ℕ → Option Token
 short_symbol symbol =
     if bytes_eq symbol (codes "n") then Some Count else
@@ -45,7 +45,7 @@ short_symbol symbol =
     if bytes_eq symbol (codes "/") then Some (Sign Divide) else
     if bytes_eq symbol (codes "%") then Some (Sign Remainder) else None
 
--- the symbol of two bytes at the front
+-- the two-byte symbol at the front, if there is one
 abbrev pub long_at : List ℕ → Option Token
 long_at [] = None
 long_at (a ∷ []) = None
@@ -55,19 +55,19 @@ long_at (a ∷ b ∷ more) = long_symbol (a ∷ b ∷ [])
 abbrev pub decimal_value : List ℕ → ℕ
 decimal_value digits = fold (λ n d. 10 * n + (d - 48)) 0 digits
 
--- the number, where it is below 2 ^ 64 (an unsigned long of 64 bits)
+-- the number, if it is below 2 ^ 64 (an unsigned long of 64 bits)
 abbrev pub below_limit : ℕ → Option ℕ
 below_limit n = if nat_lt n (2 ^ 64) then Some n else None
 
--- what an expression is cut into
+-- what an expression is split into
 pub data Piece : Type 0 where
   Blank : (byte : ℕ) → Piece
   Digits : (digits : List ℕ) → Piece
   Short : (byte : ℕ) (token : Token) → Piece
   Long : (first second : ℕ) (token : Token) → Piece
 
--- text is the piece, as long as it can be, and then rest: a numeral is all digits at the front, and is below 2 ^ 64; a
--- symbol of one byte stands only where none of two bytes does
+-- the text is the piece, as long as possible, followed by the rest: a numeral takes all digits at the front and is
+-- below 2 ^ 64, and a one-byte symbol needs that no two-byte symbol is there
 abbrev pub PieceAt : Piece → List ℕ → List ℕ → Type 0
 PieceAt (Blank b) text rest = (text ≡ b ∷ rest) × (is_blank b ≡ true)
 PieceAt (Digits digits) text rest =
@@ -76,7 +76,7 @@ PieceAt (Digits digits) text rest =
 PieceAt (Short b token) text rest = (text ≡ b ∷ rest) × (long_at text ≡ None) × (short_symbol (b ∷ []) ≡ Some token)
 PieceAt (Long a b token) text rest = (text ≡ a ∷ b ∷ rest) × (long_symbol (a ∷ b ∷ []) ≡ Some token)
 
--- the token that a piece is, if it is one
+-- the token of a piece, if it is one
 abbrev pub piece_token : Piece → Option Token
 piece_token (Blank b) = None
 piece_token (Digits digits) = Some (Number (decimal_value digits))
@@ -86,12 +86,12 @@ piece_token (Long a b token) = Some token
 abbrev pub tokens_of_pieces : List Piece → List Token
 tokens_of_pieces pieces = filter_map piece_token pieces
 
--- the text begins with these tokens, with blanks round them, and rest follows
+-- the text begins with these tokens, perhaps with blanks around them, followed by the rest
 pub record Begins (tokens : List Token) (text rest : List ℕ) : Type 0 where
   pub pieces : List Piece
   pub each : Chain PieceAt pieces text rest
   pub tokens_are : tokens ≡ tokens_of_pieces pieces
 
--- the text is these tokens, with blanks round them
+-- the text is these tokens, perhaps with blanks around them
 abbrev pub Spells : List ℕ → List Token → Type 0
 Spells text tokens = Begins tokens text []

@@ -19,28 +19,28 @@ truth_of x = truth (not (x == 0))
 abbrev pub opposite : ℕ → ℕ
 opposite x = truth (x == 0)
 
--- the operator on two values; none where one of them isn't there
+-- the operator applied to two values; none if either is missing
 abbrev pub both : (ℕ → ℕ → Option ℕ) → Option ℕ → Option ℕ → Option ℕ
 both f None right = None
 both f (Some x) None = None
 both f (Some x) (Some y) = f x y
 
--- `||`: the right side counts only where the left is 0 (C standard, 6.5.14)
+-- `||`: the right side is evaluated only if the left is 0 (C standard, 6.5.14)
 abbrev pub either : Option ℕ → Option ℕ → Option ℕ
 either None right = None
 either (Some x) right = if x == 0 then option_map truth_of right else Some 1
 
--- `&&`: the right side counts only where the left isn't 0 (C standard, 6.5.13)
+-- `&&`: the right side is evaluated only if the left isn't 0 (C standard, 6.5.13)
 abbrev pub conjoined : Option ℕ → Option ℕ → Option ℕ
 conjoined None right = None
 conjoined (Some x) right = if x == 0 then Some 0 else option_map truth_of right
 
--- `? :`: only the side that is chosen counts (C standard, 6.5.15)
+-- `? :`: only the side that is chosen is evaluated (C standard, 6.5.15)
 abbrev pub choice : Option ℕ → Option ℕ → Option ℕ → Option ℕ
 choice None chosen other = None
 choice (Some x) chosen other = if x == 0 then other else chosen
 
--- an operator on the values of its sides; division and remainder by 0 have none (C standard, 6.5.5)
+-- an operator applied to the values of its sides; division and remainder by 0 have no value (C standard, 6.5.5)
 abbrev pub combined : Operator → Option ℕ → Option ℕ → Option ℕ
 combined Or left right = either left right
 combined And left right = conjoined left right

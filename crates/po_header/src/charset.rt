@@ -1,4 +1,4 @@
-// The charset that a header names.
+//! The charset that a header names.
 ghost use Rattle.std.specs.Prelude.{◌≡◌, ℕ, ◌↔◌, IsTrue, List, Option};
 ghost use Rattle.std.specs.List.{take_while};
 ghost use Rattle.std.specs.Option.{option_copied};
@@ -8,7 +8,7 @@ ghost use Rattle.po_header.specs.Searching.{is_charset_byte};
 use crate::search::behind;
 use memchr::memchr3;
 
-/// The front of a text, up to a space, a tab, LF or the end.
+/// The text up to the first space, tab or LF, or all of it.
 fn before_white(text: &str) -> &str
     ensures { result.now ≡ take_while is_charset_byte text.now }
 {
@@ -18,8 +18,8 @@ fn before_white(text: &str) -> &str
     }
 }
 
-/// The charset that a header's text names: what follows its first `charset=`, up to a space, a tab, LF or
-/// the end (GNU gettext manual, "Header Entry").
+/// The charset that a header's text names: what follows its first `charset=`, up to a space, a tab, LF or the end
+/// (GNU gettext manual, "Header Entry"). None without a `charset=`.
 pub fn charset_of(text: &str) -> Option<&str>
     ensures { NamesCharset text.now (option_copied result) }
 {
@@ -27,7 +27,7 @@ pub fn charset_of(text: &str) -> Option<&str>
     Some(before_white(after))
 }
 
-/// Whether texts in this charset can be read: it is UTF-8, ASCII or the template's `CHARSET`, in any ASCII case.
+/// Whether texts in this charset can be read: UTF-8, ASCII or the template's placeholder `CHARSET`, in any ASCII case.
 pub fn charset_accepted(name: &str) -> bool
     ensures { IsTrue result ↔ IsAcceptedCharset name.now }
 {
@@ -38,7 +38,7 @@ pub fn charset_accepted(name: &str) -> bool
         || name.eq_ignore_ascii_case("CHARSET")
 }
 
-/// Whether a header's text names no charset, or one in which texts can be read (`charset_accepted`).
+/// Whether a header's text names no charset, or one that [`charset_accepted`] accepts.
 pub fn has_accepted_charset(text: &str) -> bool
     ensures { IsTrue result ↔ HasAcceptedCharset text.now }
 {

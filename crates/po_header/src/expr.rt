@@ -10,25 +10,25 @@ use crate::tree::Node;
 use std::alloc::{AllocError, Global};
 use std::fmt;
 
-/// For how many numbers the values are kept: for those from 100 to 199 too, at which the values of most rules stand
-/// that all greater numbers have.
+/// How many values are precomputed. The values for 100 to 199 are included because most rules repeat them for all
+/// greater numbers.
 const FIRST_COUNT: u64 = 200;
 
-/// An expression of a plural rule, as a number of forms that depends on `n`.
+/// The expression of a plural rule, which selects a form by `n`.
 #[derive(Drop)]
 pub struct PluralExpr {
     formula: Formula,
 
-    // The values at the first numbers.
+    // The precomputed values, for 0 and up.
     first: Vec<u8>,
     ghost first_are: { AreFirst first.items (formula_tree formula) } by { Prim.hlevel props },
 
-    // The values from 100 on hang on the last two digits.
+    // Whether the values from 100 on are known to depend only on the last two digits.
     repeats: bool,
     ghost again: { IsTrue repeats → Repeats (formula_tree formula) } by { Prim.hlevel props },
 }
 
-/// The values at the first numbers, up to one whose value fits no byte.
+/// The values for 0 and up, up to the first that is undefined or doesn't fit a byte.
 fn first_values(alloc: Global, formula: &Formula) -> Result<Vec<u8>, AllocError>
     ensures { IfOk result (λ values. AreFirst values.items (formula_tree formula.now)) }
 {
@@ -65,7 +65,7 @@ impl PluralExpr {
         })
     }
 
-    /// The number itself, or a small one that has the same value.
+    /// The number itself, or a smaller one that has the same value.
     fn folded(&self, n: u64) -> u64
         ensures { value (tree_of self.now) result ≡ value (tree_of self.now) n }
     {
@@ -76,8 +76,8 @@ impl PluralExpr {
         }
     }
 
-    /// The value at `n`, without signs and modulo 2 ^ 64 (GNU gettext manual, "Plural forms"; C standard,
-    /// 6.5). None where a divisor that is needed is 0.
+    /// The value at `n`, in unsigned arithmetic modulo 2 ^ 64 (GNU gettext manual, "Plural forms"; C standard, 6.5).
+    /// None if a division by 0 is evaluated.
     pub fn eval(&self, n: u64) -> Option<u64>
         ensures { result ≡ value (tree_of self.now) n }
     {

@@ -1,4 +1,4 @@
-// The fields of a header.
+//! The fields of a header.
 ghost use Rattle.std.specs.Prelude.{◌≡◌, ℕ, ◌≤◌, List, Option, length, is_none};
 ghost use Rattle.std.specs.Option.{option_copied};
 ghost use Rattle.po_header.specs.Tokens.{behind_blanks};
@@ -6,7 +6,7 @@ ghost use Rattle.po_header.specs.Fields.{field_value, line_value, missing};
 
 use crate::token::blanks_len;
 
-/// The fields that a header is expected to have, in the order in which missing ones are named.
+/// The fields that a header is expected to have, in the order in which missing ones are reported.
 pub const FIELD_NAMES: [&str; 8] = [
     "Project-Id-Version",
     "PO-Revision-Date",
@@ -18,14 +18,14 @@ pub const FIELD_NAMES: [&str; 8] = [
     "Language",
 ];
 
-/// A text without the spaces and tabs at its front.
+/// A text without its leading spaces and tabs.
 fn trim_blanks(text: &str) -> &str
     ensures { result.now ≡ behind_blanks text.now }
 {
     &text[blanks_len(text.as_bytes())..]
 }
 
-/// The value of a line, if it begins with the name and `:`.
+/// The value of a line that begins with the name and `:`; None for any other line.
 fn value_in<'a>(line: &'a str, name: &str) -> Option<&'a str>
     ensures { option_copied result ≡ line_value name.now line.now }
 {
@@ -34,8 +34,8 @@ fn value_in<'a>(line: &'a str, name: &str) -> Option<&'a str>
     Some(trim_blanks(value))
 }
 
-/// The value of a field: what follows the name and `:` in the first line that begins so, without the spaces
-/// and tabs in front (GNU gettext manual, "Header Entry").
+/// The value of a field: what follows the name and `:` on the first line that begins with them, without leading spaces
+/// and tabs (GNU gettext manual, "Header Entry"). None if no line does.
 pub fn field<'a>(text: &'a str, name: &str) -> Option<&'a str>
     ensures { option_copied result ≡ field_value text.now name.now }
 {
@@ -56,7 +56,7 @@ fn lacks(text: &str, name: &str) -> bool
     field(text, name).is_none()
 }
 
-/// Which of `FIELD_NAMES` a header's text lacks.
+/// Which of [`FIELD_NAMES`] a header's text lacks, in their order.
 pub fn missing_fields(text: &str) -> [bool; 8]
     ensures { result ≡ missing text.now }
 {

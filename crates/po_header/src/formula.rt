@@ -1,4 +1,4 @@
-//! Expressions in the form in which they are computed.
+//! Plural expressions, in the form in which they are evaluated.
 ghost use Rattle.std.specs.Prelude.{◌≡◌, ℕ, ◌<◌, IfOk, length};
 ghost use Rattle.std.proofs.Props.{props};
 ghost use Rattle.po_header.specs.TreeValue.{value};
@@ -10,13 +10,13 @@ use crate::steps::{Step, run};
 use crate::tree::Node;
 use std::alloc::{AllocError, Global};
 
-/// An expression, computed part by part or step by step.
+/// An expression in the form in which it is evaluated: as parts, or as steps where it has them.
 #[derive(Drop)]
 pub(crate) struct Formula {
     parts: Vec<Part>,
     root: usize,
 
-    // The same as steps, for the many rules that are choices between numbers; else none.
+    // The expression as steps, for the many rules that choose between numbers; empty for all others.
     steps: Vec<Step>,
     start: usize,
     ghost agrees: { (n : ℕ) → 0 < length steps.items →
@@ -49,7 +49,7 @@ impl Formula {
         }
     }
 
-    /// The value at `n`.
+    /// The value at `n`; None if a division by 0 is evaluated.
     pub(crate) fn value(&self, n: u64) -> Option<u64>
         ensures { result ≡ value (formula_tree self.now) n }
     {

@@ -1,4 +1,4 @@
-//! The header of a PO file: charset, fields and the rule for plural forms.
+//! The header of a PO file: charset, fields and plural rule.
 #![tactic(auto)]
 
 ghost use Rattle.std.specs.Prelude.{◌≡◌};
@@ -25,16 +25,19 @@ pub use rule::{RuleRead, one_rule, read_rule, rule_in};
 use std::alloc::{AllocError, AllocFailed};
 use thiserror::Error;
 
-/// How many bytes an expression may have.
+/// The maximum length of an expression, in bytes.
 pub const EXPRESSION_LIMIT: usize = 1000;
 
-/// Why a text was not read as an expression.
+/// Why a text could not be read as an expression.
 #[derive(Clone, Copy, Debug, PartialEq, Eq, Error)]
 pub enum ExprFault {
+    /// The expression has more than [`EXPRESSION_LIMIT`] bytes.
     #[error("expression too long")]
     TooLong,
+    /// The text isn't an expression of the syntax for plural rules.
     #[error("malformed expression")]
     Malformed,
+    /// An allocation failed; this says nothing about the text.
     #[error("out of memory")]
     Memory,
 }

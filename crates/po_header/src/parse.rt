@@ -1,4 +1,5 @@
-// Reading plural expressions: operands and operators one after another, with a stack of what waits for an operand.
+//! The parser of plural expressions: takes operands and operators one after another, and keeps a stack of what waits
+//! for its operand.
 ghost use Rattle.std.specs.Prelude.{◌≡◌, ◌≢◌, ℕ, ◌<◌, ◌⊎◌, List, [], ◌∷◌, ◌++◌};
 ghost use Rattle.std.specs.Prelude.{Option, None, Some, MatchOption, IfOk, IfErr, IsErrOf, ◌↔◌, length};
 ghost use Rattle.po_header.specs.Grammar.{Tree, Derives, level};
@@ -18,7 +19,7 @@ use crate::{EXPRESSION_LIMIT, ExprFault};
 use memchr::memchr2;
 use std::alloc::{AllocError, Global};
 
-/// What waits for the operand behind it.
+/// What waits on the stack for its operand.
 #[derive(Drop)]
 pub(crate) enum Frame {
     Bracket,
@@ -29,7 +30,7 @@ pub(crate) enum Frame {
 }
 
 impl Operator {
-    /// The operator's level: a tighter one has a higher number.
+    /// The operator's level of precedence: a higher level binds tighter.
     fn level(self) -> u8
         ensures { result ≡ level self }
     {
@@ -45,7 +46,7 @@ impl Operator {
 }
 
 impl Frame {
-    /// Whether it joins with an operand that ends before an operator of this level.
+    /// Whether it takes an operand that is followed by an operator of this level.
     fn joins(&self, level: u8) -> bool
         ensures { result ≡ joins_on level (frame_waits self.now) }
     {
@@ -65,7 +66,7 @@ impl Frame {
         }
     }
 
-    /// The operand with what waited for it.
+    /// Completes what waited, with its operand.
     fn join(self, alloc: Global, operand: Node) -> Result<Node, AllocError>
         ensures { IfOk result (λ node. node_tree node ≡ join_tree (frame_waits self) (node_tree operand)) }
     {
@@ -77,7 +78,7 @@ impl Frame {
     }
 }
 
-/// Joins the operand with what waits for it on this level or a tighter one.
+/// Completes all that waits at this level or a tighter one, with the operand.
 fn join_above(
     alloc: Global,
     waiting: &mut Vec<Frame>,
@@ -98,7 +99,7 @@ fn join_above(
     Ok(operand)
 }
 
-/// Negates the operand for each `!` in front of it.
+/// Negates the operand once for each `!` before it.
 fn negate(alloc: Global, waiting: &mut Vec<Frame>, operand: Node) -> Result<Node, AllocError>
     ensures { IfOk result (λ node.
         negated (stack_of waiting.old.items) (node_tree operand) ≡ (stack_of waiting.new.items, node_tree node)) }
@@ -114,7 +115,7 @@ fn negate(alloc: Global, waiting: &mut Vec<Frame>, operand: Node) -> Result<Node
     Ok(operand)
 }
 
-/// Takes a token where an operand has to come, and gives the operand, if one is there.
+/// Takes a token where an operand is expected; returns the operand, if the token completes one.
 fn begin_operand(
     alloc: Global,
     waiting: &mut Vec<Frame>,
@@ -145,7 +146,7 @@ fn begin_operand(
     }
 }
 
-/// Takes a closing bracket behind an operand.
+/// Takes a closing bracket after an operand.
 fn close_bracket(
     alloc: Global,
     waiting: &mut Vec<Frame>,
@@ -167,7 +168,7 @@ fn close_bracket(
     }
 }
 
-/// Takes the colon of a choice behind an operand.
+/// Takes the colon of a choice after an operand.
 fn begin_other(waiting: &mut Vec<Frame>, chosen: Node) -> Result<Option<Node>, ExprFault>
     ensures ok { IfOk result (λ operand.
         colon (stack_of waiting.old.items, node_tree chosen) ≡ Some (state_of waiting.new.items operand)) }
@@ -185,7 +186,7 @@ fn begin_other(waiting: &mut Vec<Frame>, chosen: Node) -> Result<Option<Node>, E
     }
 }
 
-/// Takes a token behind an operand.
+/// Takes a token after an operand.
 fn go_on_from(
     alloc: Global,
     waiting: &mut Vec<Frame>,
@@ -238,7 +239,7 @@ fn take_token(
     }
 }
 
-/// The whole expression, when its tokens have been taken.
+/// The whole expression, once all its tokens have been taken.
 fn finish_node(
     alloc: Global,
     waiting: &mut Vec<Frame>,
@@ -257,7 +258,7 @@ fn finish_node(
     }
 }
 
-/// The node of a whole text.
+/// Parses a whole text as an expression.
 fn parse_node(alloc: Global, text: &[u8]) -> Result<Node, ExprFault>
     ensures ok { IfOk result (λ node. SpellsTree text.now (node_tree node)) }
     ensures err { IfErr result (λ fault. IsFault fault ((tree : Tree) → ¬ SpellsTree text.now tree)) }
@@ -275,7 +276,7 @@ fn parse_node(alloc: Global, text: &[u8]) -> Result<Node, ExprFault>
     finish_node(alloc, &mut waiting, operand)
 }
 
-/// The bytes before the first `;` or LF, or the end.
+/// The bytes up to the first `;` or LF, or to the end.
 fn expression_at(text: &[u8]) -> &[u8]
     ensures { result.now ≡ expression text.now }
 {
@@ -284,13 +285,16 @@ fn expression_at(text: &[u8]) -> &[u8]
     front
 }
 
-/// Reads the expression at the front of a text, which ends before the first `;` or LF, or at the end
-/// (GNU gettext manual, "Plural forms"). It has at most `EXPRESSION_LIMIT` bytes.
+/// Reads the expression at the front of a text, which ends before the first `;` or LF, or at the end of the text
+/// (GNU gettext manual, "Plural forms").
+///
+/// Fails with `TooLong` if the expression has more than `EXPRESSION_LIMIT` bytes, with `Malformed` if it isn't one, and
+/// with `Memory` if memory runs out.
 pub fn parse_expr(alloc: Global, text: &str) -> Result<PluralExpr, ExprFault>
     ensures ok { IfOk result (λ expr. IsReadAs text.now (tree_of expr)) }
     ensures too_long { IsErrOf result TooLong ↔ IsTooLong text.now }
 
-    // An expression that is too long is not malformed.
+    // An expression that is too long is never reported as malformed.
     ensures malformed { IsErrOf result Malformed → IsMalformed text.now }
 {
     let front = expression_at(text.as_bytes());
@@ -302,7 +306,7 @@ pub fn parse_expr(alloc: Global, text: &str) -> Result<PluralExpr, ExprFault>
     Ok(expr)
 }
 
-/// Tokens derive at most one tree.
+/// A law, without code: tokens derive at most one tree.
 pub fn one_tree()
     ensures { (tokens : List Token) (tree other : Tree) → Derives tokens tree → Derives tokens other → tree ≡ other }
 {}

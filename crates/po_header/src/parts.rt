@@ -1,5 +1,5 @@
-// Plural expressions as parts in a row, each behind its operands, and their values. No part holds another:
-// so the prover finds at once that a rule may go to another thread.
+//! Plural expressions as a list of parts, each after its operands, and their values. No part owns another, so the
+//! prover sees at once that a rule can be sent to another thread.
 ghost use Rattle.std.specs.Prelude.{◌≡◌, ℕ, Option, None, Some, IfOk, IfSome, IfNone};
 ghost use Rattle.po_header.specs.TreeValue.{combined, truth, value};
 ghost use Rattle.po_header.specs.Nodes.{node_tree};
@@ -9,7 +9,7 @@ use crate::token::Operator;
 use crate::tree::Node;
 use std::alloc::AllocError;
 
-/// A part of an expression. An operand is the index of an earlier part.
+/// A part of an expression; each operand is the index of an earlier part.
 #[derive(Clone, Copy)]
 pub(crate) enum Part {
     Count,
@@ -23,14 +23,14 @@ pub(crate) enum Part {
     Choose(usize, usize, usize),
 }
 
-/// 1 or 0.
+/// 1 for true, 0 for false.
 fn number_of_truth(holds: bool) -> u64
     ensures { result ≡ truth holds }
 {
     if holds { 1 } else { 0 }
 }
 
-/// An operator on two values.
+/// Applies an operator to two values; None for a division by 0.
 fn apply(operator: Operator, left: u64, right: u64) -> Option<u64>
     ensures { result ≡ combined operator (Some left) (Some right) }
 {
@@ -51,7 +51,7 @@ fn apply(operator: Operator, left: u64, right: u64) -> Option<u64>
     }
 }
 
-/// The value where the left side alone decides.
+/// The value of `||` or `&&`, if the left side alone decides it.
 fn decide(operator: Operator, left: u64) -> Option<u64>
     ensures some { IfSome result (λ v. (right : Option ℕ) → combined operator (Some left) right ≡ Some v) }
     ensures none { IfNone result (combined operator (Some left) None ≡ None) }
@@ -63,7 +63,7 @@ fn decide(operator: Operator, left: u64) -> Option<u64>
     }
 }
 
-/// The value at `n` of a part that stands behind these.
+/// The value at `n` of a part whose operands are in `below`; None if a division by 0 is evaluated.
 #[cycle(evaluation)]
 fn part_value(part: Part, below: &[Part], n: u64) -> Option<u64>
     ensures { result ≡ value (part_tree (trees_of below.now) part) n }
@@ -98,7 +98,8 @@ fn part_value(part: Part, below: &[Part], n: u64) -> Option<u64>
     }
 }
 
-/// The value at `n` of the part with this index, if there is one.
+/// The value at `n` of the part with this index, or `n` if the index is past the end; None if a division by 0 is
+/// evaluated.
 #[cycle(evaluation)]
 pub(crate) fn value_at(parts: &[Part], at: usize, n: u64) -> Option<u64>
     ensures { result ≡ value (built parts.now at) n }
@@ -110,7 +111,7 @@ pub(crate) fn value_at(parts: &[Part], at: usize, n: u64) -> Option<u64>
     part_value(*part, below, n)
 }
 
-/// Adds a part, and gives its index.
+/// Appends a part and returns its index.
 fn add(parts: &mut Vec<Part>, part: Part) -> Result<usize, AllocError>
     ensures { IfOk result (λ i. Builds parts.old.items parts.new.items i (part_tree (trees_of parts.old.items) part)) }
 {
@@ -120,7 +121,7 @@ fn add(parts: &mut Vec<Part>, part: Part) -> Result<usize, AllocError>
 }
 
 impl Node {
-    /// Adds the node's parts, and gives the index of the last, which is the whole.
+    /// Appends the parts of the node, and returns the index of the last one, which is the whole node.
     pub(crate) fn add_parts(&self, parts: &mut Vec<Part>) -> Result<usize, AllocError>
         ensures { IfOk result (λ i. Builds parts.old.items parts.new.items i (node_tree self.now)) }
     {

@@ -1,4 +1,4 @@
-//! Expressions whose values repeat by hundreds, as those of most rules do: from 100 on only the last two digits count.
+//! Expressions whose values repeat every hundred, as for most rules: from 100 on, only the last two digits count.
 ghost use Rattle.std.specs.Prelude.{IsTrue};
 ghost use Rattle.po_header.specs.Nodes.{node_tree};
 ghost use Rattle.po_header.specs.Repeats.{IsPart, IsSettled, Repeats};
@@ -6,7 +6,7 @@ ghost use Rattle.po_header.specs.Repeats.{IsPart, IsSettled, Repeats};
 use crate::token::Operator;
 use crate::tree::Node;
 
-/// Whether a comparison with this bound says the same of all numbers from 100 on.
+/// Whether a comparison with this bound has one result for all numbers from 100 on.
 fn is_settled(operator: Operator, bound: u64) -> bool
     ensures { IsTrue result → IsSettled operator bound }
 {
@@ -29,7 +29,7 @@ fn is_part(modulus: u64) -> bool
 }
 
 impl Node {
-    /// Whether the values from 100 on are known to hang on the last two digits.
+    /// Whether the values from 100 on are known to depend only on the last two digits.
     pub(crate) fn repeats(&self) -> bool
         ensures { IsTrue result → Repeats (node_tree self.now) }
     {

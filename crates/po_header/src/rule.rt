@@ -1,4 +1,4 @@
-// The rule for plural forms.
+//! The plural rule.
 ghost use Rattle.std.specs.Prelude.{◌≡◌, ℕ, List, IfOk, IsOk, option_map};
 ghost use Rattle.po_header.specs.Rule.{Absent, Rule, HasRule, HasRuleIn, leading_number, place};
 ghost use Rattle.po_header.specs.Rules.{rule_of};
@@ -10,18 +10,18 @@ use crate::search::behind;
 use crate::token::{digits_len, number_of, skip_blanks};
 use std::alloc::{AllocError, Global};
 
-/// The rule for plural forms in a header's text.
+/// The plural rule in a header's text.
 #[derive(Debug, Drop)]
 pub enum RuleRead {
-    /// The number of forms, and the expression that says which one a number takes.
+    /// The number of forms, and the expression that selects the form of a number.
     Given { nplurals: u64, expr: PluralExpr },
     /// The text has no `nplurals=` or no `plural=`.
     Absent,
-    /// The text has both, and one of them can't be read.
+    /// The text has both, but at least one of them can't be read.
     Broken,
 }
 
-/// The number at the front of a text, behind spaces and tabs.
+/// The number at the front of a text, after spaces and tabs.
 fn number_at(text: &[u8]) -> Option<u64>
     ensures { result ≡ leading_number text.now }
 {
@@ -33,12 +33,12 @@ fn number_at(text: &[u8]) -> Option<u64>
     number_of(digits)
 }
 
-/// Reads the rule in a header's text, by the first `nplurals=` and the first `plural=`
-/// (GNU gettext manual, "Plural forms").
+/// Reads the plural rule in a header's text, from the first `nplurals=` and the first `plural=`
+/// (GNU gettext manual, "Plural forms"). Fails only if memory runs out.
 pub fn read_rule(alloc: Global, text: &str) -> Result<RuleRead, AllocError>
     ensures ok { IfOk result (λ rule. HasRule text.now (rule_of rule)) }
 
-    // A text without a rule takes no memory.
+    // Reading a text without a rule can't run out of memory.
     ensures no_memory { HasRule text.now Absent → IsOk result }
 {
     let Some(count) = behind(text, "nplurals=") else {
@@ -58,7 +58,8 @@ pub fn read_rule(alloc: Global, text: &str) -> Result<RuleRead, AllocError>
     }
 }
 
-/// The rule in the text of a header, where there is a header; without one it is absent.
+/// Reads the plural rule in the text of a header; without a header, the rule is `Absent`. Fails only if memory runs
+/// out.
 pub fn rule_in(alloc: Global, header: Option<&str>) -> Result<RuleRead, AllocError>
     ensures ok { IfOk result (λ rule. HasRuleIn (option_map (λ text. text.now) header.entry) (rule_of rule)) }
     ensures no_memory { HasRuleIn (option_map (λ text. text.now) header.entry) Absent → IsOk result }
@@ -70,8 +71,8 @@ pub fn rule_in(alloc: Global, header: Option<&str>) -> Result<RuleRead, AllocErr
 }
 
 impl RuleRead {
-    /// Which form a number takes: the expression's value, where that is a form's number, else the first form;
-    /// without a rule, the first form for 1 and the second for other numbers.
+    /// The index of the form that a number takes: the expression's value if that is below `nplurals`, else 0. Without a
+    /// rule, or with a broken one, it is 0 for 1 and 1 for all other numbers.
     pub fn form_index(&self, n: u64) -> u64
         ensures { result ≡ place (rule_of self.now) n }
     {
@@ -85,7 +86,8 @@ impl RuleRead {
     }
 }
 
-/// A law, and no code: a text has one rule. So `read_rule` says which one, but for want of memory.
+/// A law, without code: every text has exactly one rule. So the result of `read_rule` is determined, unless memory runs
+/// out.
 pub fn one_rule()
     ensures one { (text : List ℕ) (rule other : Rule) → HasRule text rule → HasRule text other → rule ≡ other }
     ensures some { (text : List ℕ) → ¬ ¬ ((rule : Rule) × HasRule text rule) }

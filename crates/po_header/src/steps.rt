@@ -1,5 +1,5 @@
-// Expressions as steps, one after another, each of which is a value or a test of `n` that says at which
-// earlier step to go on. Most rules are choices between numbers by such tests.
+//! Plural expressions as a list of steps: each is a value, or a test of `n` that continues at one of two earlier steps.
+//! Most rules are choices between numbers by such tests.
 ghost use Rattle.std.specs.Prelude.{◌≡◌, ℕ, ◌<◌, ◌++◌, ◌∷◌, [], List, Option, Some, IfOk, IfSome, IfNone, length};
 ghost use Rattle.po_header.specs.TreeValue.{choice, combined};
 ghost use Rattle.po_header.specs.ChoiceSteps.{AddsSteps, IsTest, chosen_step, is_within, measured};
@@ -9,12 +9,12 @@ use crate::token::Operator;
 use crate::tree::Node;
 use std::alloc::AllocError;
 
-/// A step of a decision.
+/// A step: a value, or a test.
 #[derive(Clone, Copy)]
 pub(crate) enum Step {
     Value(u64),
-    /// Goes on at one of two earlier steps, by whether `n`, or its remainder where the modulus isn't 0, is
-    /// from `low` to `high`.
+    /// Continues at step `inside` if `n`, or its remainder if the modulus isn't 0, is from `low` to `high`, else at
+    /// step `outside`.
     Test {
         modulus: u64,
         low: u64,
@@ -38,7 +38,7 @@ impl Step {
     }
 }
 
-/// AddsSteps a step, and gives its index.
+/// Appends a step and returns its index.
 fn add(steps: &mut Vec<Step>, step: Step) -> Result<usize, AllocError>
     ensures { IfOk result (λ i. AddsSteps steps.old.items steps.new.items i (λ n.
         step_value (step_values n steps.old.items) n step)) }
@@ -48,7 +48,8 @@ fn add(steps: &mut Vec<Step>, step: Step) -> Result<usize, AllocError>
     Ok(i)
 }
 
-/// The test whether `n`, or its remainder, compares so with a number. None where no test says that.
+/// The step that tests how `n`, or its remainder, compares with `bound`, and continues at `here` or `there`; None if no
+/// test of a range can.
 fn test_of(operator: Operator, modulus: u64, bound: u64, here: usize, there: usize) -> Option<Step>
     ensures { IfSome result (λ step. IsTest step operator modulus bound here there) }
 {
@@ -63,7 +64,7 @@ fn test_of(operator: Operator, modulus: u64, bound: u64, here: usize, there: usi
     }
 }
 
-/// AddsSteps a test whether `n`, or its remainder, compares so with a number. None where no test says that.
+/// Appends the step that tests how `n`, or its remainder, compares with `bound`; None if no test of a range can.
 fn add_test(
     steps: &mut Vec<Step>,
     operator: Operator,
@@ -84,8 +85,8 @@ fn add_test(
 }
 
 impl Node {
-    /// AddsSteps steps that go on at one step where the node's value isn't 0, and else at another. None where
-    /// the node is no test.
+    /// Appends steps that continue at `here` if the node's value isn't 0, else at `there`, and returns where they
+    /// begin; None if the node doesn't consist of tests.
     fn add_condition(
         &self,
         steps: &mut Vec<Step>,
@@ -122,7 +123,8 @@ impl Node {
         }
     }
 
-    /// AddsSteps steps to the node's value. None where the node is more than choices between numbers by tests.
+    /// Appends steps that give the node's value, and returns where they begin; None if the node isn't a choice between
+    /// numbers by tests.
     pub(crate) fn add_value(&self, steps: &mut Vec<Step>) -> Result<Option<usize>, AllocError>
         ensures { IfOk result (λ found. IfSome found (λ i.
             AddsSteps steps.old.items steps.new.items i (node_value self.now))) }
@@ -146,7 +148,7 @@ impl Node {
     }
 }
 
-/// Whether `n`, or its remainder where the modulus isn't 0, lies between two bounds.
+/// Whether `n`, or its remainder if the modulus isn't 0, is from `low` to `high`.
 fn lies_within(n: u64, modulus: u64, low: u64, high: u64) -> bool
     ensures { result ≡ is_within low high (measured modulus n) }
 {
@@ -154,7 +156,7 @@ fn lies_within(n: u64, modulus: u64, low: u64, high: u64) -> bool
     low <= x && x <= high
 }
 
-/// Where a test goes on.
+/// The step at which a test continues.
 fn next_step(n: u64, modulus: u64, low: u64, high: u64, inside: usize, outside: usize) -> usize
     ensures { (found : List (Option ℕ)) →
         step_value found n (Step.Test modulus low high inside outside) ≡ value_at found result }
@@ -166,7 +168,7 @@ fn next_step(n: u64, modulus: u64, low: u64, high: u64, inside: usize, outside: 
     }
 }
 
-/// The value at `n` of the step with this index.
+/// Runs the steps from index `start`, and returns the value at `n` that they reach.
 pub(crate) fn run(steps: &[Step], start: usize, n: u64) -> Option<u64>
     ensures { result ≡ reached steps.now start n }
 {

@@ -1,4 +1,4 @@
-// The tokens of a plural expression.
+//! The tokens of a plural expression.
 ghost use Rattle.std.specs.Prelude.{◌≡◌, ℕ, ◌+◌, ◌-◌, ◌*◌, ◌<◌, ◌≤◌, ◌^◌, ◌++◌, ◌∷◌, []};
 ghost use Rattle.std.specs.Prelude.{List, Bool, length, MatchOption, IfSome, IfNone, Some, None, if◌then◌else◌, nat_lt};
 ghost use Rattle.std.specs.List.{prefix_len, take_while};
@@ -38,7 +38,7 @@ pub(crate) enum Token {
     Sign(Operator),
 }
 
-/// The first byte and the rest.
+/// Splits off the first byte.
 pub(crate) fn split_byte(text: &[u8]) -> Option<(u8, &[u8])>
     ensures { MatchOption result (text.now ≡ []) (λ x. text.now ≡ x.0 ∷ x.1.now) }
 {
@@ -48,7 +48,7 @@ pub(crate) fn split_byte(text: &[u8]) -> Option<(u8, &[u8])>
     }
 }
 
-/// A token of two bytes.
+/// The token that two bytes spell, if they spell one.
 fn long_token(first: u8, second: u8) -> Option<Token>
     ensures { result ≡ long_symbol (first ∷ second ∷ []) }
 {
@@ -69,7 +69,7 @@ fn long_token(first: u8, second: u8) -> Option<Token>
     }
 }
 
-/// A token of one byte.
+/// The token that one byte spells, if it spells one.
 fn short_token(byte: u8) -> Option<Token>
     ensures { result ≡ short_symbol (byte ∷ []) }
 {
@@ -98,7 +98,7 @@ pub(crate) fn is_blank_byte(byte: u8) -> bool
     byte == b' ' || byte == b'\t'
 }
 
-/// How many digits stand at the front.
+/// The number of digits at the front.
 #[tactic(auto, using(std::proofs::lemmas::List::Sums::prefix_len_is))]
 pub(crate) fn digits_len(text: &[u8]) -> usize
     ensures { result ≡ prefix_len is_ascii_digit text.now }
@@ -111,7 +111,7 @@ pub(crate) fn digits_len(text: &[u8]) -> usize
     text.len()
 }
 
-/// How many blanks stand at the front.
+/// The number of blanks at the front.
 #[tactic(auto, using(std::proofs::lemmas::List::Sums::prefix_len_is))]
 pub(crate) fn blanks_len(text: &[u8]) -> usize
     ensures { result ≡ prefix_len is_blank text.now }
@@ -124,7 +124,7 @@ pub(crate) fn blanks_len(text: &[u8]) -> usize
     text.len()
 }
 
-/// Cuts off the blanks at the front.
+/// Skips the blanks at the front.
 pub(crate) fn skip_blanks(text: &[u8]) -> &[u8]
     ensures value { result.now ≡ behind_blanks text.now }
     ensures blanks { Begins [] text.now result.now }
@@ -135,7 +135,7 @@ pub(crate) fn skip_blanks(text: &[u8]) -> &[u8]
     rest
 }
 
-/// A number with one more digit, where that is below 2 ^ 64.
+/// A number with one more digit; None if that is 2 ^ 64 or more.
 fn shift_in(value: u64, digit: u8) -> Option<u64>
     ensures { result ≡ below_limit (10 * value + (digit - 48)) }
 {
@@ -143,7 +143,7 @@ fn shift_in(value: u64, digit: u8) -> Option<u64>
     shifted.checked_add(u64::from(digit.saturating_sub(b'0')))
 }
 
-/// The number that digits spell, where it is below 2 ^ 64.
+/// The number that digits spell; None if it is 2 ^ 64 or more.
 pub(crate) fn number_of(digits: &[u8]) -> Option<u64>
     ensures { result ≡ below_limit (decimal_value digits.now) }
 {
@@ -157,7 +157,7 @@ pub(crate) fn number_of(digits: &[u8]) -> Option<u64>
     Some(value)
 }
 
-/// Reads the numeral at the front.
+/// Reads the numeral at the front; None if it is 2 ^ 64 or more.
 fn numeral_at(text: &[u8]) -> Option<(Token, &[u8])>
     requires { 0 < prefix_len is_ascii_digit text.now }
     ensures some { IfSome result (λ x. Begins (x.0 ∷ []) text.now x.1.now) }
@@ -171,7 +171,7 @@ fn numeral_at(text: &[u8]) -> Option<(Token, &[u8])>
     }
 }
 
-/// Reads the token of two bytes at the front.
+/// Reads the two-byte token at the front, if there is one.
 fn long_token_at(text: &[u8]) -> Option<(Token, &[u8])>
     ensures some { IfSome result (λ x. Begins (x.0 ∷ []) text.now x.1.now) }
     ensures shorter { IfSome result (λ x. length x.1.now < length text.now) }
@@ -189,7 +189,7 @@ fn long_token_at(text: &[u8]) -> Option<(Token, &[u8])>
     }
 }
 
-/// Reads the token at the front.
+/// Reads the token at the front; None if there is none, or if it is a numeral of 2 ^ 64 or more.
 pub(crate) fn token_at(text: &[u8]) -> Option<(Token, &[u8])>
     requires { StopsBlanks text.now }
     ensures some { IfSome result (λ x. Begins (x.0 ∷ []) text.now x.1.now) }

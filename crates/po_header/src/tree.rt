@@ -1,4 +1,4 @@
-// Plural expressions as the parser makes them.
+//! Plural expressions, as the parser builds them.
 ghost use Rattle.std.specs.Prelude.{◌≡◌, IfOk};
 ghost use Rattle.po_header.specs.Grammar.{Negation, Binary, Choice};
 ghost use Rattle.po_header.specs.Nodes.{node_tree};
@@ -6,7 +6,7 @@ ghost use Rattle.po_header.specs.Nodes.{node_tree};
 use crate::token::Operator;
 use std::alloc::{AllocError, Global};
 
-/// An expression. The two forms on `n` hold what most rules are made of.
+/// An expression. `OfCount` and `OfRemainder` are what most rules are made of.
 #[derive(Drop)]
 pub(crate) enum Node {
     Count,

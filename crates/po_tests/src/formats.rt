@@ -1,4 +1,5 @@
-// Each call once, and how lists compare. The formats of the C standard's table are in crates/answers.
+//! Tests of `c_signature`: each call once, and how lists compare. The formats of the C standard's table are cases of
+//! crates/answers.
 use c_signature::ArgKind::{Signed, Text, Unsigned};
 use c_signature::Size::Plain;
 use c_signature::{ArgKind, FormatFault, Strictness, agrees, one_outcome, signature};

@@ -1,4 +1,4 @@
-// Each call once. The worked values are in crates/answers.
+//! Tests of `po_header`: each call once. More headers, with their expected values, are cases of crates/answers.
 use po_header::{
     RuleRead, charset_accepted, charset_of, field, missing_fields, one_rule, one_tree, parse_expr,
     read_rule,

@@ -1,7 +1,7 @@
-//! Tests of `po_text`, `po_header` and `c_signature` by their public calls: each call once, many sizes, and
-//! what can't be a line of the worked texts, which are in crates/answers.
+//! Public-API tests of `po_text`, `po_header` and `c_signature`: each call once, inputs of many sizes, and what can't
+//! be a case of crates/answers.
 //!
-//! They stand in a crate of their own, since a crate with tests is proved twice, with them and without.
+//! They are a crate of their own because a crate with tests is proved twice, with them and without.
 #![tactic(auto)]
 
 #[cfg(test)]

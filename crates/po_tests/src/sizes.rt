@@ -1,17 +1,16 @@
-//! Expressions, formats and texts of many sizes. Every call may answer that memory was refused; here there is enough
-//! for all.
+//! Tests of expressions, formats and texts of many sizes. Any call may run out of memory; here there is enough for all.
 use c_signature::signature;
 use po_header::parse_expr;
 use po_text::read_po;
 use std::alloc::{AllocError, Global};
 use std::test::Fail;
 
-/// Powers of two and their neighbours. All numbers up to 40 are tried besides.
+/// Powers of two and their neighbours; all numbers up to 40 are tried, too.
 const SIZES: [usize; 18] = [
     63, 64, 65, 127, 128, 129, 255, 256, 257, 511, 512, 513, 1023, 1024, 1025, 2047, 2048, 2049,
 ];
 
-/// This many copies of a text, one after another.
+/// `count` copies of a text, one after another.
 fn copies(alloc: Global, text: &str, count: usize) -> Result<String, AllocError> {
     let mut whole = String::new(alloc);
     for _ in 0..count {
@@ -20,7 +19,7 @@ fn copies(alloc: Global, text: &str, count: usize) -> Result<String, AllocError>
     Ok(whole)
 }
 
-/// Whether `n` with this many parentheses around it, or with as many sums behind it, is an expression.
+/// Whether `n` in `count` pairs of parentheses, and `n` followed by `+n` `count` times, are both expressions.
 fn is_expression(alloc: Global, count: usize) -> Result<bool, AllocError> {
     let (open, close) = (copies(alloc, "(", count)?, copies(alloc, ")", count)?);
     let nested = format!(in alloc; "{open}n{close}")?;
@@ -30,7 +29,7 @@ fn is_expression(alloc: Global, count: usize) -> Result<bool, AllocError> {
 
 #[test]
 fn expressions_of_any_length(rt: HostRuntime) -> Result<(), Fail> {
-    // (499 pairs and `n` are 999 bytes, of 1,000 that an expression may have)
+    // 499 pairs and `n` are 999 bytes, and an expression may have 1,000.
     for count in 0..500usize {
         assert!(rt; is_expression(rt.alloc(), count)?, "{count}");
     }

@@ -1,4 +1,5 @@
-//! Each call once, and the limits. The worked texts are in crates/answers.
+//! Tests of `po_text`: each call once, and the limits. More texts, with their expected entries, are cases of
+//! crates/answers.
 use po_text::{EntryBuffer, PoFault, PoKind, one_outcome, open_text, read_po};
 use std::test::Fail;
 
@@ -43,7 +44,7 @@ fn reads_each(rt: HostRuntime) -> Result<(), Fail> {
     Ok(())
 }
 
-/// 64 MiB, and one byte more, which may be one that UTF-8 has not.
+/// A text of 64 MiB is read; one byte more is too much, whether or not that byte is UTF-8.
 #[test]
 fn bounds_texts(rt: HostRuntime) -> Result<(), Fail> {
     let mut text = vec![in rt.alloc(); b' '; 67_108_864]?;
@@ -60,7 +61,7 @@ fn bounds_texts(rt: HostRuntime) -> Result<(), Fail> {
     Ok(())
 }
 
-/// A fault is given again at each later call.
+/// A fault is returned again by every later call.
 #[test]
 fn keeps_faults(rt: HostRuntime) -> Result<(), Fail> {
     let wanted = PoFault {

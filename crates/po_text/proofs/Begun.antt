@@ -43,7 +43,7 @@ text_can places.IndexClose n k bytes q d e h = absurd (cc e)
 text_can places.IndexedWord n k bytes q d e h = h
 text_can places.IndexedText n k bytes q d e h = h
 
--- a token that may stand here may be added
+-- a token that is allowed here may be added
 pub can_add : (p : code.Place) (n k : ℕ) (t : code_token.Token) (bytes : List ℕ) (q : Place) (d : Draft)
     → step (place_view p n) (token_view t bytes) ≡ Some q → IsLawfulToken (token_view t bytes)
     → HasForm (place_view p n) d → CanAdd (token_view t bytes) (place_view p k) d

@@ -1,4 +1,4 @@
--- What the reader of the grammar takes to the end is derived.
+-- What the parser takes to the end of an entry is derived.
 use Rattle.std.proofs.Common.{◌≡◌, ◌≢◌, ℕ, zero, suc, ◌+◌, true, false, List, [], ◌∷◌, ◌++◌}
 use Rattle.std.proofs.Common.{Some, None, refl, sym, ap, ◌∙◌, subst, inl, inr, append_assoc, arith}
 use Rattle.std.specs.Prelude.{nat_eq}
@@ -19,7 +19,7 @@ NoFour parts = ¬ Contains (concat parts) 4
 abbrev pub Derived : List Token → Type 0
 Derived ts = (ds : List Derivation) × AllByRecursion IsLawfulEntry ds × (ts ≡ flat_map tokens_of ds)
 
--- what ends a run of forms: the strings of one form, further forms, and entries
+-- what completes a run of forms: the strings of one form, further forms, and entries
 abbrev Forms : ℕ → List Token → Strings → Type 0
 Forms k ts form = (forms : List Strings) × (later : List Token) × AllByRecursion IsOneOrMore forms × Derived later
     × (ts ≡ texts form ++ (form_tokens (k + 1) forms ++ later))
@@ -76,7 +76,7 @@ no_four_cons b parts first rest m = elim (Contains-append_cases b (concat parts)
 dead : (ts : List Token) (q : Place) → run None ts ≡ Some q → ⊥
 dead ts q e = let f = run-none ts in absurd (cc (e, f))
 
--- an entry in front of others
+-- an entry before others
 plain_entry : (id : Strings) (part : Part) (later ts : List Token) → IsKeyText id → IsLawfulPart part → Derived later
     → ts ≡ texts id ++ (part_tokens part ++ later) → Derived (Id ∷ ts)
 plain_entry id part later ts key lawful (ds, all, is) e = (
@@ -107,7 +107,7 @@ left_end p q e b = go_end p (let same : p ≡ q = cc e in subst (λ (x : Place).
     go_end (IndexedText k) b = ([], ([], [], tt, ([], tt, refl), refl))
     go_end _ b = absurd b
 
--- after a step by a key text, which had no byte 4
+-- after a step by a string of a context or msgid, which had no byte 4
 key_was : (bytes : List ℕ) (p q : Place) (ts : List Token) → run (key_text bytes p) ts ≡ Some q
     → (has_four bytes ≡ false) × (run (Some p) ts ≡ Some q)
 key_was bytes p q ts e = elim (cases_Bool (has_four bytes)) [
@@ -251,6 +251,6 @@ left (Context ∷ ts) (IndexedText k) q e b = (
 left (Id ∷ ts) (IndexedText k) q e b = ([], ([], Id ∷ ts, tt, opens_id ts (left ts IdWord q e b), refl))
 left (t ∷ ts) p q e b = absurd (dead ts q e)
 
--- a list that the reader takes to the end of an entry is entries
+-- a list that the parser takes to the end of an entry consists of entries
 pub derived : (ts : List Token) (q : Place) → run (Some Start) ts ≡ Some q → IsBoundary q → Derived ts
 derived ts q e b = left ts Start q e b

@@ -1,4 +1,4 @@
--- A draft is of one entry.
+-- A draft comes from at most one entry.
 use Rattle.std.proofs.Common.{◌≡◌, ℕ, ◌+◌, List, [], ◌∷◌, ◌++◌, map, length, refl, sym, ap, ◌∙◌, arith}
 use Rattle.std.specs.List.{concat, AllByRecursion}
 use Rattle.std.proofs.lemmas.List.{append-nil, map-append}
@@ -31,7 +31,7 @@ forms_one k (f ∷ f' ∷ fs) (g ∷ g' ∷ gs) e o =
     let rest = forms_one (k + length f) (f' ∷ fs) (g' ∷ gs) cut.1 (cc (o, next)) in
     cc (same, rest)
 
--- entries whose fields are equal
+-- entries with equal fields are equal
 pub same_entry : (e e' : Entry) → e.line ≡ e'.line → e.fuzzy ≡ e'.fuzzy → e.c_format ≡ e'.c_format → e.context
     ≡ e'.context → e.id ≡ e'.id → e.plural ≡ e'.plural → e.forms ≡ e'.forms → e ≡ e'
 same_entry e e' line fuzzy c_format context id plural forms =
@@ -121,7 +121,7 @@ drafts_one (x ∷ es) (y ∷ fs) e =
     let tail = drafts_one es fs (cc e) in
     cc (head, tail)
 
--- the last of some drafts that are of entries is of an entry
+-- if some drafts come from entries, so does the last one
 pub split_last : (P : Entry → Type 0) (done : List Draft) (d : Draft) (es : List Entry) → AllByRecursion P es → done
     ++ (d ∷ []) ≡ map draft_of es → (e : Entry) × (d ≡ draft_of e) × P e
 split_last P [] d [] all e = absurd (cc e)

@@ -1,4 +1,4 @@
--- The end of a text, as it gets shorter, and what is lent of it.
+-- The end of a text as it gets shorter, and the parts that are borrowed from it.
 use Rattle.std.proofs.Common.{◌≡◌, ℕ, ◌+◌, ◌<◌, Bool, false, List, [], ◌∷◌, ◌++◌, length, get_or, drop, sym, ap}
 use Rattle.std.proofs.Common.{◌∙◌, subst, arith, append_assoc, length-append, add-zero}
 use Rattle.std.specs.List.{Contains}
@@ -15,7 +15,7 @@ use Rattle.po_text.specs.Spelling.{StringUnit, Plain, Escape, Octal, UnitAt, Pie
 use Rattle.po_text.specs.Spelling.{CloseBracket, Quoted, PieceAt}
 use Rattle.po_text.specs.declared.lexer.Token as code
 
--- ---- what is behind a part
+-- ---- what follows a part
 
 pub ends_behind : (is_free : Bool) (x rest text : List ℕ) → text ≡ x ++ rest → EndsText is_free text
     → EndsText is_free rest
@@ -59,7 +59,7 @@ token_ends is_free token bytes text rest h (p, at, is) =
     let (x, e) = piece_front p text rest at in
     ends_behind is_free x rest text e h
 
--- ---- what is lent
+-- ---- what is borrowed
 
 before_ascii : (x : List ℕ) (b : ℕ) (rest : List ℕ) → b < 128 → IsUtf8 (x ++ (b ∷ rest)) → IsUtf8 x
 before_ascii x b rest small utf8 =

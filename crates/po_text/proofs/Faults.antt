@@ -1,4 +1,4 @@
--- The faults of grammar, from what was put together.
+-- The grammar faults, from what was built.
 use Rattle.std.proofs.Common.{◌≡◌, ℕ, ◌+◌, List, [], ◌∷◌, ◌++◌, Option, Some}
 use Rattle.std.proofs.Common.{None, refl, sym, ap, ◌∙◌, subst, inl, inr, append_assoc}
 use Rattle.std.specs.Prelude.{◌⊎◌, nat_eq}
@@ -20,7 +20,7 @@ use Rattle.po_text.proofs.Grammar.{run, run-none, run-append, live_front, closes
 use Rattle.po_text.proofs.OpenLists.{taken_open}
 use Rattle.po_text.proofs.Feeding.{feeds-none, feeds_place, chain_feeds}
 
--- ---- what stands behind a place
+-- ---- what precedes a place
 
 abbrev pub BehindKey : List Lexeme → ℕ → Type 0
 BehindKey before k = (front : List Lexeme) × (keyword : Lexeme) × (others : List Lexeme) × (parts : Strings)
@@ -110,7 +110,7 @@ unfolding step
 open_to (IndexOpen k) q e = (k, sym (cc e))
 open_to p q e = absurd (cc e)
 
--- places with nothing to know behind them
+-- places about whose tokens nothing needs to be known
 abbrev Plain : Place → Type 0
 Plain p = (before : List Lexeme) (k : ℕ) → Behind before p k
 
@@ -146,7 +146,7 @@ unfolding step
 number_to n (IndexNumber k) q e = plain_from (IndexClose k) q (index_to n k q e) (λ before k. tt)
 number_to n p q e = absurd (cc e)
 
--- the keyword's line after a token
+-- the line of the last context or msgid keyword, after a token
 abbrev line_after : Token → ℕ → ℕ → ℕ
 line_after Context line k = line
 line_after Id line k = line
@@ -220,7 +220,7 @@ feeds_behind (l ∷ ls) before s s' e h = next (λ (s2 : State) (g : feeds (Some
 pub behind : (found : List Lexeme) (s : State) → feeds (Some start) found ≡ Some s → Behind found s.place s.keyword
 behind found s e = feeds_behind found [] start s e tt
 
--- ---- places, told by the tokens behind them
+-- ---- places, recognized by the tokens before them
 
 abbrev pub IsKeyPlace : Place → Type 0
 IsKeyPlace ContextWord = Unit {0}
@@ -396,7 +396,7 @@ token_closes before x Str p k at h t e = other_order before x (λ b f. absurd (c
 token_closes before x Open p k at h t e = other_order before x (λ b f. absurd (cc (t, f))) (λ n f. absurd (cc (t, f)))
 token_closes before x Close p k at h t e = other_order before x (λ b f. absurd (cc (t, f))) (λ n f. absurd (cc (t, f)))
 
--- a token that can't stand is the fault of grammar
+-- a token that isn't allowed is the grammar fault
 pub refused_closes : (found more : List Lexeme) (x : Lexeme) (s : State) → feeds (Some start) found ≡ Some s
     → step s.place x.token ≡ None
     → ClosesAt (found ++ (x ∷ more)) (refusal x.token s.place x.line s.keyword).kind
@@ -414,7 +414,7 @@ refused_closes found more x s fed refused =
       how = token_closes found x x.token s.place s.keyword at (behind found s fed) refl refused;
     }
 
--- lexemes that end within an entry
+-- the lexemes end in the middle of an entry
 pub ends_early : (found : List Lexeme) (s : State) (line : ℕ) → feeds (Some start) found ≡ Some s → ¬ IsBoundary s.place
     → EndsOn found line → EndsEarly found line
 ends_early found s line fed inside (inl none) =

@@ -1,4 +1,4 @@
--- What is put together from the lexemes of derived entries is those entries.
+-- The entries built from the lexemes of derived entries are those entries.
 use Rattle.std.proofs.Common.{◌≡◌, ℕ, ◌+◌, false, List, [], ◌∷◌, ◌++◌, map, length, Option}
 use Rattle.std.proofs.Common.{Some, None, refl, sym, ap, ◌∙◌, subst, append_assoc, length-append, zero-add}
 use Rattle.std.specs.Option.{option_map}
@@ -283,7 +283,7 @@ adds_indexed k = record { here = λ b e. refl; puts = λ b d. refl }
 
 -- ---- an entry
 
--- at the end of an entry, with these entries before it and this one in the buffer
+-- at the end of an entry, with these entries before it and this one under way
 abbrev pub EndsAs : List Draft → Draft → Flags → Option State → Type 0
 EndsAs done d f o = (q : Place) × (k : ℕ) × IsBoundary q × ((e : List Draft) (x : Draft) → drafts_at q e x ≡ e
     ++ (x ∷ [])) × (o ≡ Some (at_state q done d f k))
@@ -296,7 +296,7 @@ number_step : (k : ℕ) → step (IndexNumber k) (Number k) ≡ Some (IndexClose
 unfolding step
 number_step k = rw (eq-eqb k k refl) refl
 
--- [ k ] behind a msgstr
+-- [ k ] after msgstr
 index_feed : (k : ℕ) (o n c : Lexeme) (ls : List Lexeme) (done : List Draft) (d : Draft) (f : Flags) (w : ℕ) → o.token
     ≡ Open → n.token ≡ Number k → c.token ≡ Close
     → feeds (Some (at_state (IndexOpen k) done d f w)) (o ∷ n ∷ c ∷ ls)
@@ -328,7 +328,7 @@ form_feed k form [] more done d f w e some = absurd (cc e)
 form_feed k form (o ∷ []) more done d f w e some = absurd (cc e)
 form_feed k form (o ∷ n ∷ []) more done d f w e some = absurd (cc e)
 
--- the draft with these forms behind those that it has
+-- the draft with these forms after its own
 abbrev with_forms : Draft → List (List ℕ) → Draft
 with_forms d forms = record {
   line = d.line;
@@ -461,7 +461,7 @@ part_feed (PluralPart plural (form ∷ forms)) (l ∷ ls) done line flags contex
         ∙ ap (λ (x : List Lexeme). flags_through (flags_over f2 l.marks) x) (sym is))
         (ends_from done _ _ _ _ (first ∙ second) rest)
 
--- behind the keyword msgid
+-- after the keyword msgid
 id_feed : (id : Strings) (part : Part) (ls : List Lexeme) (done : List Draft) (line : ℕ) (flags : Flags)
     (context : Option (List ℕ)) (f : Flags) (w : ℕ) → all_tokens ls ≡ texts id ++ part_tokens part → IsKeyText id
     → IsLawfulPart part
@@ -645,7 +645,7 @@ chain_of (d ∷ ds) marks found all e =
       ),
     )
 
--- ---- the place of what is put together
+-- ---- the place of what was built
 
 pub feeds_place : (ls : List Lexeme) (s s' : State) → feeds (Some s) ls ≡ Some s' → run (Some s.place) (all_tokens ls)
     ≡ Some s'.place
@@ -672,7 +672,7 @@ feeds_place (l ∷ ls) s s' e = go_place (λ (s2 : State) (h : feeds (Some s2) l
         after_place None p = refl
         after_place (Some context) p = refl
 
--- what was put together up to the end of an entry is what the lexemes derive
+-- what was built up to the end of an entry is what the lexemes derive
 pub put_together : (found : List Lexeme) (s : State) → feeds (Some start) found ≡ Some s → IsBoundary s.place
     → (entries : List Entry) × Derives found entries × (drafts_at s.place s.done s.draft ≡ map draft_of entries)
 put_together found s e b =

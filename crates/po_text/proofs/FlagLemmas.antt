@@ -12,7 +12,7 @@ use Rattle.po_text.specs.Building.{fuzzy_of, c_format_of, flags_over, no_flags}
 use Rattle.po_text.specs.Lexing.{is_no_separator}
 use Rattle.std.proofs.lemmas.Bool.{cases_Bool}
 
--- no mark that takes back flags
+-- a mark that cancels no flags
 abbrev is_no_clear : Mark → Bool
 is_no_clear mark = not (mark_eq Clear mark)
 
@@ -31,7 +31,7 @@ c_format_of-append b (Clear ∷ xs) ys = c_format_of-append false xs ys
 pub flags_over-append : (f : Flags) (xs ys : List Mark) → flags_over f (xs ++ ys) ≡ flags_over (flags_over f xs) ys
 flags_over-append f xs ys = rw (fuzzy_of-append f.fuzzy xs ys, c_format_of-append f.c_format xs ys) refl
 
--- ---- a flag stands behind the last Clear
+-- ---- a flag comes after the last Clear
 
 fuzzy_next : (mark : Mark) (marks : List Mark) → fuzzy_of false (reverse marks)
     ≡ list_any (mark_eq Fuzzy) (take_while is_no_clear marks) → fuzzy_of false (reverse (mark ∷ marks))

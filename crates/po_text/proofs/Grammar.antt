@@ -34,7 +34,7 @@ pub run-none : (xs : List Token) → run None xs ≡ None
 run-none [] = refl
 run-none (x ∷ xs) = run-none xs
 
--- what begins a list that the reader takes is taken
+-- the front of a list that the parser takes is taken, too
 pub live_front : (p q : Place) (xs ys : List Token) → run (Some p) (xs ++ ys) ≡ Some q → (r : Place)
     × (run (Some p) xs ≡ Some r)
 live_front p q xs ys e = at (run (Some p) xs) refl
@@ -52,7 +52,7 @@ no_four_here b h = elim (cases_Bool (has_four b)) [
   | inr is ↦ is
 ]
 
--- the places where the strings of a context or a msgid stand
+-- the places of the strings of a context or a msgid
 key_texts : (p : Place) → ((bytes : List ℕ) → step p (Text bytes) ≡ key_text bytes p) → (parts : Strings)
     → ¬ Contains (concat parts) 4 → run (Some p) (texts parts) ≡ Some p
 key_texts p here [] h = refl
@@ -165,7 +165,7 @@ entries_run p (d ∷ ds) h all =
     ends_from _ _ (run-over (Some p) (Some one.0) _ (tokens_of d) (flat_map tokens_of ds) one.2 refl)
     (entries_run one.0 ds one.1 all.1)
 
--- where a list is open, the reader that has taken it is at a place
+-- if a list is open, the parser takes it
 pub open_run : (tokens : List Token) → IsOpenList tokens → (r : Place) × (run (Some Start) tokens ≡ Some r)
 open_run tokens o =
     let before = entries_run Start o.whole tt o.each in
@@ -178,7 +178,7 @@ open_run tokens o =
           ∙ run-over (Some Start) (Some before.0) _ (flat_map tokens_of o.whole) o.front before.2 front.1,
     )
 
--- a token that the reader can't take at its place closes the list
+-- a token that the parser can't take at its place closes the list
 pub closes : (tokens : List Token) (t : Token) (p : Place) → run (Some Start) tokens ≡ Some p → step p t ≡ None
     → ¬ IsOpenList (tokens ++ t ∷ [])
 closes tokens t p at refused o =

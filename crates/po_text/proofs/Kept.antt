@@ -1,4 +1,4 @@
--- What stays true of the buffers of an entry.
+-- The invariant of an entry's buffers.
 use Rattle.std.proofs.Common.{◌≡◌, ◌≢◌, ℕ, zero, suc, ◌+◌, ◌-◌, ◌<◌, ◌≤◌}
 use Rattle.std.proofs.Common.{Bool, add-one, get_or, true, false, List, [], ◌∷◌, ◌++◌}
 use Rattle.std.proofs.Common.{length, take, drop, Option, None, Some, refl, sym, ap}
@@ -22,7 +22,7 @@ use Rattle.po_text.specs.Buffers.{cut_forms, entry_in, draft_in, IsWellBuilt, Ca
 use Rattle.po_text.proofs.Drafts.{same_entry}
 use Rattle.po_text.proofs.Lawful.{lawful_nil, lawful_append}
 
--- ---- forms cut out of their bytes
+-- ---- forms cut out of the bytes of all forms
 
 end_of : (forms : List (List ℕ)) (k size : ℕ) → k + length (concat forms) ≡ size → first_or (offsets k forms) size ≡ k
 end_of [] k size e = sym e ∙ add-zero k
@@ -67,7 +67,7 @@ is_kept b e same lawful =
     let is = entry_is b e same in
     record { laid_out = same ∙ ap draft_of (sym is); lawful = subst IsLawfulTexts (sym is) lawful }
 
--- the draft of buffers that are kept
+-- well-built buffers hold the draft of their entry
 pub draft_is : (b : Inside) → IsWellBuilt b → draft_of (entry_in b) ≡ draft_in b
 draft_is b h = sym h.laid_out
 
@@ -102,7 +102,7 @@ begun_lawful line flags b = record {
   forms = tt;
 }
 
--- ---- a string more
+-- ---- one more string
 
 grown_lawful : (o : Option (List ℕ)) (bytes : List ℕ) → IsLawfulIf o → IsLawful bytes → IsLawfulIf (grown o bytes)
 grown_lawful None bytes h l = tt
@@ -115,7 +115,7 @@ grown_free : (o : Option (List ℕ)) (bytes : List ℕ) → HasNoFourIf o → ¬
 grown_free None bytes h l = tt
 grown_free (Some old) bytes h l = free_append old bytes h l
 
--- the bytes go to the last form
+-- the last form with these bytes appended
 abbrev add_last : List (List ℕ) → List ℕ → List (List ℕ)
 add_last [] bytes = []
 add_last (f ∷ []) bytes = (f ++ bytes) ∷ []
@@ -139,7 +139,7 @@ last_lawful [] bytes h l = tt
 last_lawful (f ∷ []) bytes h l = (lawful_append f bytes h.0 l, tt)
 last_lawful (f ∷ g ∷ forms) bytes h l = (h.0, last_lawful (g ∷ forms) bytes h.1 l)
 
--- what an entry becomes
+-- there is a lawful entry of this draft
 abbrev pub Becomes : Draft → Type 0
 Becomes d = (e : Entry) × (d ≡ draft_of e) × IsLawfulTexts e
 
@@ -275,7 +275,7 @@ text_added PluralWord e bytes l can h = plural_added e bytes l h
 text_added PluralText e bytes l can h = plural_added e bytes l h
 text_added _ e bytes l can h = form_added e bytes e.forms refl l can h
 
--- ---- a token more
+-- ---- one more token
 
 offsets-new : (k : ℕ) (forms : List (List ℕ)) → offsets k forms ++ ((k + length (concat forms)) ∷ [])
     ≡ offsets k (forms ++ ([] ∷ []))
@@ -345,7 +345,7 @@ kept_as b d is (e, same, lawful) = is_kept b e (is ∙ same) lawful
 
 -- ---- buffers that grow
 
--- what grew, or stayed where no memory was there
+-- the field that grew, or didn't if memory ran out
 pub grew : (ok : Bool) (new old bytes : List ℕ) (make : List ℕ → Draft) (target : Draft) → make (old ++ bytes) ≡ target
     → new ≡ (if ok then old ++ bytes else old) → make new ≡ (if ok then target else make old)
 grew true new old bytes make target at e = ap make e ∙ at
@@ -354,7 +354,7 @@ grew false new old bytes make target at e = ap make e
 abbrev pub Grows : Bool → Draft → Draft → Draft → Type 0
 Grows ok new old target = new ≡ (if ok then target else old)
 
--- the draft of what is kept
+-- the draft of well-built buffers that hold this entry
 pub draft_of_view : (b : Inside) (e : Entry) → entry_in b ≡ e → IsWellBuilt b → draft_in b ≡ draft_of e
 draft_of_view b e view h = h.laid_out ∙ ap draft_of view
 
@@ -381,7 +381,7 @@ grown_if : (b : Bool) (old bytes : List ℕ) → some_if b (old ++ bytes) ≡ gr
 grown_if true old bytes = refl
 grown_if false old bytes = refl
 
--- each text of an entry, by the place behind which the string stands
+-- each text of an entry, by the place before the string
 pub context_grows : (p : code.Place) (k : ℕ) (ok : Bool) (new bytes : List ℕ) (b : Inside) → (p ≡ places.ContextWord)
     ⊎ (p ≡ places.ContextText) → new ≡ (if ok then b.context.items ++ bytes else b.context.items)
     → Grows ok (record {
@@ -557,7 +557,7 @@ length-offsets k (f ∷ forms) = ap suc (length-offsets (k + length f) forms)
 pub count_is : (b : Inside) (e : Entry) → entry_in b ≡ e → IsWellBuilt b → length b.starts.items ≡ length e.forms
 count_is b e view h = ap (λ (d : Draft). length d.starts) (draft_of_view b e view h) ∙ length-offsets 0 e.forms
 
--- where the form with this index stands
+-- where the form with this index is
 pub record FormAt (flat starts : List ℕ) (forms : List (List ℕ)) (k : ℕ) : Type 0 where
   pub form : List ℕ
   pub is : slice_get forms k ≡ Some form
@@ -612,7 +612,7 @@ form_at b e k view h lt =
 pub forms_lawful : (b : Inside) (e : Entry) → entry_in b ≡ e → IsWellBuilt b → AllByRecursion IsLawful e.forms
 forms_lawful b e view h = (lawful_view b e view h).forms
 
--- one form more was copied
+-- one more form was copied
 pub take_more : {A : Type 0} (xs : List A) (k : ℕ) (x : A) → slice_get xs k ≡ Some x → take k xs ++ (x ∷ [])
     ≡ take (suc k) xs
 take_more [] k x e = absurd (cc e)

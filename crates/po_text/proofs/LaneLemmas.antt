@@ -1,4 +1,4 @@
--- From the mask of a vector to the bytes at the front that pass a test.
+-- From the mask of a vector to the number of bytes at the front that pass a test.
 use Rattle.std.proofs.Common.{◌≡◌, ℕ, ◌+◌, ◌%◌, ◌^◌, ◌<◌, ◌≤◌, eqb, Bool, true, not, cond, List, [], ◌∷◌, map}
 use Rattle.std.proofs.Common.{◌-◌, subst, length, drop, get_or, Fits, w8, refl, sym, ap, ap₂, ◌∙◌, arith, inl, inr}
 use Rattle.std.proofs.lemmas.Bool.{agree_below, agree_below_at, eq-eqb, ne_eqb, cases_eq, cond-true, cond-false}
@@ -16,7 +16,7 @@ zip2-map : (f g : ℕ → ℕ) (v : List ℕ) → zip2 bit_or (map f v) (map g v
 zip2-map f g [] = refl
 zip2-map f g (x ∷ xs) = ap (λ r. bit_or (f x) (g x) ∷ r) (zip2-map f g xs)
 
--- two vectors joined that were computed lane by lane from v
+-- the disjunction of two vectors that were computed lane by lane from v
 pub either : (f g : ℕ → ℕ) (v : List ℕ) {a b : List ℕ} → a ≡ map f v → b ≡ map g v
     → zip2 bit_or a b ≡ map (λ x. bit_or (f x) (g x)) v
 either f g v p q = ap₂ (zip2 bit_or) p q ∙ zip2-map f g v
@@ -35,7 +35,7 @@ first_is p v n long few = elim (cases_eq (mask_l (map p v)) 0) [
   | inr some ↦ cond-false _ _ _ (ne_eqb _ _ some) ∙ trailing_mask_l p 64 v (omega arith) (omega arith)
 ]
 
--- the lanes z were computed from n bytes at i, and stop just where q fails: r bytes pass it
+-- the lanes z were computed from n bytes at i and stop exactly where q fails, so r bytes pass
 pub lanes_run : (q : ℕ → Bool) (d : List ℕ) (i n r : ℕ) (f : ℕ → ℕ) (z : List ℕ) → i + n ≤ length d → n ≤ 64
     → ((k : ℕ) → Fits w8 (get_or d k 0)) → z ≡ map f (chunk i n d)
     → agree_below (λ x. not (top 7 (f x))) q 256 ≡ true → r ≡ first_set (mask_l (map (top 7) z) % 2 ^ 64) n

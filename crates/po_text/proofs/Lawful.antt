@@ -24,7 +24,7 @@ part_forms (PlainPart form) h = (λ e. absurd (cc e), λ _. refl)
 part_forms (PluralPart plural []) h = absurd (h.1 refl)
 part_forms (PluralPart plural (form ∷ forms)) h = (λ e. absurd (cc e), λ e. absurd (cc e))
 
--- a derived entry has its forms
+-- a derived entry has at least one form, and exactly one without a plural
 pub derived_forms : (entries : List Entry) (now later : Remaining) → Chain EntryAt entries now later
     → AllByRecursion HasItsForms entries
 derived_forms [] now later c = tt

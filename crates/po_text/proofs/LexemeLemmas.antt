@@ -12,7 +12,7 @@ use Rattle.po_text.specs.declared.fault.PoKind.{PoKind}
 use Rattle.po_text.proofs.Chains.{Chain-append}
 use Rattle.po_text.proofs.GapLemmas.{line_of-append}
 
--- over a gap only the line and the marks change
+-- a gap changes only the line and the marks
 over_gap : (line end : ℕ) (marks : List Mark) (gap more : List Piece) → AllByRecursion IsGapPiece gap → end + 1
     ≡ line + line_of gap
     → lexemes line marks (gap ++ more) ≡ lexemes end (marks ++ gap_marks gap) more
@@ -44,7 +44,7 @@ token_line OpenBracket token e = refl
 token_line CloseBracket token e = refl
 token_line (Quoted bytes) token e = refl
 
--- the lexeme that comes next
+-- the next lexeme
 abbrev pub lexeme_of : (token : code.Token) (bytes : List ℕ) (line : ℕ) (gap : List Piece) → Lexeme
 lexeme_of token bytes line gap = record { marks = gap_marks gap; line = line; token = token_view token bytes }
 

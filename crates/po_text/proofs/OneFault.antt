@@ -1,4 +1,4 @@
--- A text has one lexical fault, and none where it spells lexemes.
+-- A text has at most one lexical fault, and none if it spells lexemes.
 use Rattle.std.proofs.Common.{◌≡◌, ◌≢◌, ℕ, ◌<◌, ◌≤◌, Bool, true, false, List, [], ◌∷◌}
 use Rattle.std.proofs.Common.{◌++◌, Some, None, refl, sym, ap, ◌∙◌, subst, arith, inl, inr}
 use Rattle.std.specs.Prelude.{◌==◌, ◌||◌}
@@ -16,7 +16,7 @@ use Rattle.po_text.proofs.OneReading.{same_kind, word_no_white, nothing_stops, P
 use Rattle.po_text.proofs.Unique.{Chain-one, UnitsAt-one, Stops, plain_no_slash}
 use Rattle.po_text.proofs.Unique.{head_is, octal_no_escape, octal_run-none, quote_stops}
 
--- a backslash before what is neither a letter of an escape nor octal digits up to 255
+-- no unit begins with a backslash before neither the letter of an escape nor octal digits up to 255
 slash_stops : (s m : List ℕ) → s ≡ 92 ∷ m → ((c v : ℕ) (n : List ℕ) → m ≡ c ∷ n → escaped c ≡ Some v → ⊥)
     → ((digits n : List ℕ) → m ≡ digits ++ n → octal_run m ≡ digits → digits ≢ [] → octal_value digits ≤ 255 → ⊥)
     → Stops UnitAt s
@@ -73,7 +73,7 @@ open_stops (b ∷ c ∷ more) (inr e) = slash_stops (b ∷ c ∷ more) (c ∷ mo
     (λ digits n f run some small. let octal : is_octal c ≡ false = ap is_octal e.1 in some
     (sym run ∙ octal_run-none c more octal))
 
--- ---- the kinds are apart
+-- ---- the kinds exclude one another
 
 quote_no_open : (m : List ℕ) → IsOpenEnd (34 ∷ m) → ⊥
 quote_no_open [] (inl e) = absurd (omega arith)
@@ -101,7 +101,7 @@ bad_no_open s (inr (more, e, large)) h =
     let empty = no_octals more (subst (λ (t : List ℕ). IsOpenEnd t) e h) in
     let zero_value : octal_value (octal_run more) ≡ 0 = ap octal_value empty in absurd (omega arith)
 
--- ---- no piece stands where a fault does
+-- ---- no piece is where a fault is
 
 or_false : (x y : Bool) → (x || y) ≡ false → (x ≡ false) × (y ≡ false)
 or_false true y e = absurd (cc e)
@@ -135,7 +135,7 @@ word_fault_stops rest at none (Word bytes token) m h = let e = h.2 in let f = ap
 word_fault_stops rest at none p m h = let k = same_kind 1 (piece_kind p) rest at (starts p rest m h) in absurd
     (omega arith)
 
--- only a string stands behind a quote
+-- only a string follows a quote
 quote_fault_stops : (inner rest : List ℕ) → rest ≡ 34 ∷ inner
     → ((bytes m : List ℕ) → UnitsAt bytes inner (34 ∷ m) → IsLawful bytes → ⊥) → Stops PieceAt rest
 quote_fault_stops inner rest e never (Quoted bytes) m h =
@@ -176,7 +176,7 @@ no_both text found kind line p q =
     no_fault_at_end BadText (values, inner, stop, e, h, i) = absurd (cc e)
     no_fault_at_end _ h = absurd h
 
--- and the place and the line of the fault are the only ones
+-- the place and the line of a lexical fault are unique
 pub one_place : (text : List ℕ) (kind kind' : PoKind) (line line' : ℕ) → (p : HasFault text kind line)
     → (q : HasFault text kind' line') → (p.rest ≡ q.rest) × (line ≡ line')
 one_place text kind kind' line line' p q =
@@ -184,7 +184,7 @@ one_place text kind kind' line line' p q =
     (fault_stops kind p.rest p.fault) (fault_stops kind' q.rest q.fault) in
     (same.1, p.line_is ∙ ap line_of same.0 ∙ sym q.line_is)
 
--- ---- and its kind
+-- ---- so is its kind
 
 word_no_quote : (rest inner : List ℕ) → FaultAt BadWord rest → rest ≡ 34 ∷ inner → ⊥
 word_no_quote rest inner (inl (b, more, e, word, none)) f = let k = same_kind 1 5 rest (b, more, e, word_kind b word)

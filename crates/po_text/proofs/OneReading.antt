@@ -1,4 +1,4 @@
--- A text has one cut into pieces, up to where no piece can stand.
+-- A text is cut into pieces in one way, up to where no piece begins.
 use Rattle.std.proofs.Common.{◌≡◌, ℕ, ◌≤◌, true, false, List, [], ◌∷◌, ◌++◌, Some}
 use Rattle.std.proofs.Common.{None, refl, sym, ap, ◌∙◌, subst, arith, inl, inr}
 use Rattle.std.specs.Prelude.{◌==◌, if◌then◌else◌}

@@ -1,4 +1,4 @@
--- A list that the reader takes is open: from each place an entry can be completed.
+-- A list of tokens that the parser takes is open: an entry can be completed from every place.
 use Rattle.std.proofs.Common.{◌≡◌, ℕ, List, [], ◌∷◌, ◌++◌, Option, Some, None}
 use Rattle.std.proofs.Common.{refl, sym, ap, ◌∙◌, inl, inr, append_assoc, arith}
 use Rattle.std.specs.Prelude.{◌⊎◌}
@@ -21,7 +21,7 @@ index_end k = Number k ∷ Close ∷ form_end
 abbrev id_end : List Token
 id_end = Text [] ∷ Str ∷ form_end
 
--- tokens that end the entry
+-- tokens that complete the entry
 abbrev completion : Place → List Token
 completion Start = []
 completion ContextWord = Text [] ∷ Id ∷ id_end
@@ -67,7 +67,7 @@ completes (IndexClose k) = (IndexedText k, tt, refl)
 completes (IndexedWord k) = (IndexedText k, tt, refl)
 completes (IndexedText k) = (IndexedText k, tt, refl)
 
--- where two lists joined are two others joined, the first begins the third, or goes past it
+-- two cuts of one list: the first part of one begins that of the other, or extends it
 pub two_cuts : {A : Type 0} (xs ys a b : List A) → xs ++ ys ≡ a ++ b → ((c : List A) × (a ≡ xs ++ c))
     ⊎ ((c : List A) × (xs ≡ a ++ c) × (c ++ ys ≡ b))
 two_cuts [] ys a b e = inl (a, refl)
@@ -131,7 +131,7 @@ begins_open (d ∷ ds) xs ys all e = elim (two_cuts xs ys (tokens_of d) (flat_ma
       }
 ]
 
--- what the reader takes is open
+-- what the parser takes is open
 pub taken_open : (xs : List Token) (p : Place) → run (Some Start) xs ≡ Some p → IsOpenList xs
 taken_open xs p e =
     let end = completes p in

@@ -1,4 +1,4 @@
--- A text has one outcome.
+-- A text has at most one outcome.
 use Rattle.std.proofs.Common.{◌≡◌, ℕ, ◌<◌, ◌≤◌, List, [], ◌∷◌, ◌++◌, length, Some}
 use Rattle.std.proofs.Common.{None, refl, sym, ap, ◌∙◌, subst, inl, inr, arith, append_assoc}
 use Rattle.std.specs.Prelude.{◌⊎◌}
@@ -38,7 +38,7 @@ derives_open found entries (later, chain) =
     tt in
     taken_open (all_tokens found) q (feeds_place found start (at_state q done d f k) end)
 
--- what begins an open list is open
+-- the front of an open list is open
 front_open : (xs ys : List Lexeme) → IsOpenList (all_tokens (xs ++ ys)) → IsOpenList (all_tokens xs)
 front_open xs ys o =
     let (p, at) = open_run (all_tokens (xs ++ ys)) o in
@@ -54,9 +54,9 @@ closed_whole found kind line c o =
     c.closed (front_open (c.before ++ (c.x ∷ [])) c.after (subst (λ (ls : List Lexeme). IsOpenList (all_tokens ls))
     (c.split ∙ sym (append_assoc c.before (c.x ∷ []) c.after)) o))
 
--- ---- one fault of grammar
+-- ---- one grammar fault
 
--- the later of two closing tokens would stand behind a closed front
+-- the later of two closing tokens would follow a front that is already closed
 not_later : (before : List Lexeme) (x : Lexeme) (c : List Lexeme) (before' : List Lexeme) → before' ≡ before ++ (x ∷ c)
     → IsOpenList (all_tokens before') → ¬ IsOpenList (all_tokens (before ++ (x ∷ []))) → ⊥
 not_later before x c before' is o closed = closed (front_open (before ++ (x ∷ [])) c
@@ -100,7 +100,7 @@ same_place before before' x x' after after' e o o' c c' = elim (two_cuts before 
 
 -- ---- one kind and line
 
--- the last keyword behind which only strings stand is one
+-- the last keyword followed only by strings is unique
 no_keyword : (t : Token) → IsKeyword t → (b : List ℕ) → t ≡ Text b → ⊥
 no_keyword t (inl e) b f = absurd (cc (e, f))
 no_keyword t (inr e) b f = absurd (cc (e, f))
@@ -254,7 +254,7 @@ pub gives_or_refuses : (text : List ℕ) (entries : List Entry) (kind : PoKind) 
     → Refuses text kind line → ⊥
 gives_or_refuses text entries kind line g r = gives_no_refusal text entries kind line g (refusal_is text kind line r)
 
--- a fault of the text behind the mark is the refusal
+-- a fault of the text after its byte order mark is the text's refusal
 pub faulty_refuses : (text : List ℕ) (kind : PoKind) (line : ℕ) → IsReadable text → IsFaulty (body text) kind line
     → Refuses text kind line
 faulty_refuses text TooLarge line r (inl f) = absurd f.fault

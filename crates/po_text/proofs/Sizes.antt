@@ -1,4 +1,4 @@
--- What the entries of a text take in an MO file is at most twice the text.
+-- The entries of a text take at most twice its size in an MO file.
 use Rattle.std.proofs.Common.{◌≡◌, ℕ, ◌+◌, ◌*◌, ◌≤◌, Bool, true, false, cond, List, [], ◌∷◌}
 use Rattle.std.proofs.Common.{◌++◌, map, drop, take, length, Option, Some, None, refl, ap, arith, length-append}
 use Rattle.std.specs.Prelude.{◌&&◌, codes}
@@ -32,7 +32,7 @@ abbrev pub forms_size : List (List ℕ) → ℕ
 forms_size [] = 0
 forms_size (form ∷ more) = text_size form + forms_size more
 
--- its row of 8 bytes in each of the two tables, and its strings
+-- an entry's row of 8 bytes in each of the two tables, and its strings
 abbrev pub entry_size : Entry → ℕ
 entry_size e = 16 + option_size e.context + text_size e.id + option_size e.plural + forms_size e.forms
 
@@ -40,7 +40,7 @@ abbrev pub entries_size : List Entry → ℕ
 entries_size [] = 0
 entries_size (e ∷ es) = entry_size e + entries_size es
 
--- ---- what a token takes in a text, at least
+-- ---- the least that a token takes in a text
 
 abbrev token_size : Token → ℕ
 token_size Context = 7
@@ -60,7 +60,7 @@ tokens_size-append : (xs ys : List Token) → tokens_size (xs ++ ys) ≡ tokens_
 tokens_size-append [] ys = omega arith
 tokens_size-append (x ∷ xs) ys = omega (arith, tokens_size-append xs ys)
 
--- a unit has a byte or more, and one value
+-- a unit takes at least one byte and has one value
 unit_size : (u : StringUnit) (s t : List ℕ) → UnitAt u s t → 1 + length t ≤ length s
 unit_size (Plain b) s t at = omega (arith, ap length at.0)
 unit_size (Escape c v) s t at = omega (arith, ap length at.0)
@@ -79,7 +79,7 @@ values_size values s t h = omega (
       unit_value,
 )
 
--- a word that is tested for a keyword
+-- a word that is compared with a keyword
 keyword_size : (word keyword : List ℕ) (t token : Token) (other : Option Token) → length keyword ≡ token_size t
     → (other ≡ Some token → token_size token ≤ length word)
     → cond (bytes_eq word keyword) (Some t) other ≡ Some token → token_size token ≤ length word
@@ -211,7 +211,7 @@ body_size : (text : List ℕ) → length (body text) ≤ length text
 body_size text = cond_both (bytes_eq (take 3 text) byte_order_mark) (drop 3 text) text
     (λ (t : List ℕ). length t ≤ length text) (λ e. omega (arith, length-drop 3 text)) (λ e. omega arith)
 
--- the entries of a text take at most twice as much
+-- the entries of a text take at most twice its size
 pub gives_size : (text : List ℕ) (entries : List Entry) → Gives text entries → entries_size entries ≤ 2 * length text
 gives_size text entries h = omega (arith, reads_size (body text) entries h.reads, body_size text)
 

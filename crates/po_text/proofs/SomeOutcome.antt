@@ -1,5 +1,4 @@
--- A text has an outcome: it leads to ⊥ that it has none. On the way to ⊥ any case may be split, whether or not there
--- is a test for it.
+-- A text has an outcome: that it has none leads to ⊥. On the way to ⊥ any case may be split, decidable or not.
 use Rattle.std.proofs.Common.{◌≡◌, ℕ, zero, suc, ◌+◌, ◌<◌, ◌≤◌, true, List, [], ◌∷◌, ◌++◌, length, take}
 use Rattle.std.proofs.Common.{drop, Option, Some, None, refl, sym, ap, ◌∙◌, subst, arith, inl, inr, append_assoc}
 use Rattle.std.specs.Prelude.{◌⊎◌}
@@ -87,7 +86,7 @@ unit_next (b ∷ more) = elim (cases_eq b 34) [
   ]
 ]
 
--- the units at the front of a text, and where they end
+-- the units at the front of a text, and where they stop
 record UnitsTo (text : List ℕ) : Type 0 where
   values : List ℕ
   stop : List ℕ
@@ -213,7 +212,7 @@ last_of : (x : Lexeme) (xs : List Lexeme) → (ys : List Lexeme) × (y : Lexeme)
 last_of x [] = ([], x, refl)
 last_of x (z ∷ xs) = let (ys, y, e) = last_of z xs in (x ∷ ys, y, ap (λ (t : List Lexeme). x ∷ t) e)
 
--- an open list to its end
+-- an open list, from its end
 ends : (found : List Lexeme) → IsOpenList (all_tokens found) → ((entries : List Entry) → Derives found entries → ⊥)
     → ((kind : PoKind) (line : ℕ) → HasGrammarFault found kind line → ⊥) → ⊥
 ends [] opened no_entries no_fault = no_entries [] ([], refl)

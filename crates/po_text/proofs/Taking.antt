@@ -1,4 +1,4 @@
--- Tokens taken by the entry reader, one after another.
+-- Tokens taken by the parser, one after another.
 use Rattle.std.proofs.Common.{◌≡◌, ℕ, Bool, true, false, List, [], ◌∷◌, ◌++◌, map, Option}
 use Rattle.std.proofs.Common.{Some, None, refl, sym, ap, ◌∙◌, subst, inl, inr, append_assoc}
 use Rattle.std.specs.Prelude.{◌⊎◌}
@@ -83,7 +83,7 @@ feed_open p t q n m c done d g k line e f =
     ∙ ap (λ (x : Option (List ℕ)). Some (at_state (place_view q m) (drafts_at p done d) (begin line g x) no_flags line))
     v.1
 
--- ---- a lexeme more
+-- ---- one more lexeme
 
 -- the marks of the gap may be counted before the token
 feed_flags : (o : Option (Option (List ℕ))) (p : Place) (done : List Draft) (d : Draft) (f : Flags) (k : ℕ)
@@ -119,7 +119,7 @@ taken_push text b c m t p done d f g k s token bytes h next e =
 pub at_start : (p : Place) (done : List Draft) (d : Draft) → p ≡ Start → drafts_at p done d ≡ done
 at_start p done d e = ap (λ (x : Place). drafts_at x done d) e
 
--- ---- what the reader of entries has read
+-- ---- what the parser has read
 
 true_false : (b : Bool) {A : Type 0} → b ≡ true → b ≡ false → A
 true_false b e f = absurd (cc (e, f))
@@ -159,7 +159,7 @@ at_end_read text entries r done reads = record {
       _. reads;
 }
 
--- the text ended where it may
+-- the text ended where it may end
 pub end_goes_on : (ended : Bool) (text : List ℕ) (entries : List Entry) (line : ℕ) (rest : List ℕ) (old new : Parser)
     (e : Entry) (f : Flags) (k : ℕ)
     → HasTaken text line rest (at_state (place_view old.place old.count) (map draft_of entries) (draft_of e) f k)
@@ -193,7 +193,7 @@ end_goes_on false text entries line rest old new e f k h end empty done =
     ) in
     (reads, at_end_read text entries new done reads)
 
--- the text ended too early
+-- the text ended in the middle of an entry
 pub end_is_faulty : (text : List ℕ) (line : ℕ) (rest : List ℕ) (p : Place) (done : List Draft) (d : Draft) (f : Flags)
     (k : ℕ) (kind : PoKind) (at : ℕ) → HasTaken text line rest (at_state p done d f k) → HasEnd f line rest
     → ¬ IsBoundary p → kind ≡ BadOrder → at ≡ line → IsFaulty text kind at
@@ -208,7 +208,7 @@ end_is_faulty text line rest p done d f k kind at h end inside is line_is =
       ),
     )
 
--- a token can't stand here
+-- a token isn't allowed here
 pub taken_refused : (text : List ℕ) (b c : ℕ) (m t : List ℕ) (p : Place) (done : List Draft) (d : Draft) (f g : Flags)
     (k : ℕ) (token : code_token.Token) (bytes : List ℕ) → HasTaken text b m (at_state p done d f k)
     → HasNext token bytes f b m g c t

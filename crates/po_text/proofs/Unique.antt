@@ -1,4 +1,4 @@
--- A text has one reading: the units of a string, and the pieces of a text, up to where none can stand.
+-- A text is read in one way, units and pieces alike, up to where none begins.
 use Rattle.std.proofs.Common.{◌≡◌, ◌≢◌, ℕ, ◌≤◌, true, false, List, [], ◌∷◌, ◌++◌, map}
 use Rattle.std.proofs.Common.{Some, None, refl, sym, ap, ◌∙◌, subst, arith, inl, inr}
 use Rattle.std.proofs.lemmas.Bool.{ne_eqb, cases_Bool}
@@ -15,7 +15,7 @@ Stops {A} {S} Step s = (a : A) (m : S) → ¬ Step a s m
 abbrev pub IsOneWay : {A S : Type 0} → (A → S → S → Type 0) → Type 0
 IsOneWay {A} {S} Step = (a b : A) (s m n : S) → Step a s m → Step b s n → (a ≡ b) × (m ≡ n)
 
--- where each step is the only one, a chain that can't go on is the only one
+-- if each step is the only one from its state, a chain that can't continue is the only one
 pub Chain-one : {A S : Type 0} (Step : A → S → S → Type 0) → IsOneWay Step → (xs ys : List A) (s t u : S)
     → Chain Step xs s t → Chain Step ys s u → Stops Step t → Stops Step u → (xs ≡ ys) × (t ≡ u)
 Chain-one Step one [] [] s t u e f stop stop' = (refl, sym e ∙ f)
@@ -98,7 +98,7 @@ Unit-one (Octal digits) (Octal digits') s m n p q =
     let same = octal_one digits m digits' n (cc (e, f)) p.1 q.1 in
     (ap Octal same.0, same.1)
 
--- ---- where no unit stands
+-- ---- where no unit begins
 
 pub quote_stops : (m : List ℕ) → Stops UnitAt (34 ∷ m)
 quote_stops m (Plain b) n p = let e = p.0 in let same : 34 ≡ b = cc e in let plain : is_plain 34

@@ -32,7 +32,7 @@ UnitsAt-append a b s m t p q = record {
   values_are = rw (p.values_are, q.values_are) (sym (map-append unit_value p.units q.units));
 }
 
--- plain bytes are units of themselves
+-- plain bytes are their own units
 pub plain_units : (k : ℕ) (text : List ℕ) → k ≤ length text → ((i : ℕ) → i < k → is_plain (get_or text i 0) ≡ true)
     → UnitsAt (take k text) text (drop k text)
 plain_units zero text le plain = UnitsAt-nil text
@@ -94,7 +94,7 @@ goes_unit a b new s m t value p q e = rw e (TakesUnits-append a b (b ++ value �
 pub fails_there : (kind : PoKind) (a b s m : List ℕ) → TakesUnits a b s m → StopsBadly kind m → UnitsFail kind s
 fails_there kind a b s m p bad = (p.values, m, p.units, bad)
 
--- what is left of text behind k bytes that are plain
+-- what is left of text after k plain bytes
 pub cut_plain : (text front back : List ℕ) (k : ℕ) → front ≡ take k text → back ≡ drop k text → k ≤ length text
     → ((i : ℕ) → i < k → is_plain (get_or text i 0) ≡ true) → UnitsAt front text back
 cut_plain text front back k e f le plain = rw (e, f) (plain_units k text le plain)
@@ -105,7 +105,7 @@ octal_window text n k e f =
     let m : k ≡ min 3 (length text) = omega arith in
     f ∙ rw (m, take_min) refl
 
--- what stops plain bytes, and is no quote and no backslash, is LF
+-- a byte that isn't plain and is neither a quote nor a backslash is LF
 pub is_line_end : (b : ℕ) → is_plain b ≡ false → (b ≡ 34 → ⊥) → (b ≡ 92 → ⊥) → b ≡ 10
 is_line_end b stops no_quote no_slash = elim (cases_eq b 10) [
   | inl e ↦ e
@@ -117,7 +117,7 @@ pub open_at_line_end : (b : ℕ) (more : List ℕ) → b ≡ 10 → IsOpenEnd (b
 open_at_line_end b [] e = inl e
 open_at_line_end b (c ∷ more) e = inl e
 
--- ---- units behind a run
+-- ---- units after a run
 
 pub ok_behind : (r : Result (Bor (List ℕ)) PoKind) (old run out text after : List ℕ) → old ≡ run
     → UnitsAt run text after → IfOk r (λ rest. TakesUnits old out after (34 ∷ rest.now))

@@ -1,4 +1,4 @@
--- Private: an entry as it lies in its buffers.
+-- Private: an entry as its buffers store it.
 use Rattle.std.specs.Prelude.{◌≡◌, ◌≢◌, ℕ, ◌-◌, List, [], ◌∷◌, length, take, drop}
 use Rattle.std.specs.List.{Contains}
 use Rattle.po_text.specs.declared.buffer.EntryBuffer.TheInside.{Inside}
@@ -9,12 +9,12 @@ use Rattle.po_text.specs.Places.{Place, ContextWord, ContextText, IdWord, IdText
 use Rattle.po_text.specs.Places.{PluralWord, PluralText, IndexOpen, IndexNumber, IndexClose, IndexedWord, IndexedText}
 use Rattle.po_text.specs.Building.{Draft, draft_of, some_if, first_or}
 
--- the forms that start at these places, each up to the next one or the end
+-- the forms that start at these offsets, each up to the next one or the end
 abbrev pub cut_forms : List ℕ → List ℕ → List (List ℕ)
 cut_forms flat [] = []
 cut_forms flat (start ∷ later) = take (first_or later (length flat) - start) (drop start flat) ∷ cut_forms flat later
 
--- the entry in the buffers
+-- the entry that the buffers hold
 abbrev pub entry_in : Inside → Entry
 entry_in b = record {
   line = b.line;
@@ -26,7 +26,7 @@ entry_in b = record {
   forms = cut_forms b.forms.items b.starts.items;
 }
 
--- the same without cutting
+-- the draft that the buffers hold, its forms uncut
 abbrev pub draft_in : Inside → Draft
 draft_in b = record {
   line = b.line;
@@ -38,12 +38,12 @@ draft_in b = record {
   starts = b.starts.items;
 }
 
--- the forms stand one behind the other, and the texts are lawful
+-- the forms are stored back to back, and the texts are lawful
 pub record IsWellBuilt (b : Inside) : Type 0 where
   pub laid_out : draft_in b ≡ draft_of (entry_in b)
   pub lawful : IsLawfulTexts (entry_in b)
 
--- a form was begun, where the place is in one
+-- a form was begun, if the place is in one
 abbrev pub HasForm : Place → Draft → Type 0
 HasForm FormWord d = d.starts ≢ []
 HasForm FormText d = d.starts ≢ []
@@ -54,7 +54,7 @@ HasForm (IndexedWord k) d = d.starts ≢ []
 HasForm (IndexedText k) d = d.starts ≢ []
 HasForm _ d = Unit {0}
 
--- a string with these bytes may be added behind this place
+-- a string with these bytes may be added at this place
 abbrev pub CanAddText : Place → List ℕ → Draft → Type 0
 CanAddText ContextWord bytes d = ¬ Contains bytes 4
 CanAddText ContextText bytes d = ¬ Contains bytes 4
@@ -64,7 +64,7 @@ CanAddText PluralWord bytes d = Unit {0}
 CanAddText PluralText bytes d = Unit {0}
 CanAddText _ bytes d = d.starts ≢ []
 
--- so may this token
+-- this token may be added at this place
 abbrev pub CanAdd : Token → Place → Draft → Type 0
 CanAdd (Text bytes) p d = IsLawful bytes × CanAddText p bytes d
 CanAdd _ p d = Unit {0}

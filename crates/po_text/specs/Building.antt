@@ -1,4 +1,4 @@
--- Private: entries put together, one lexeme after another.
+-- Private: entries built from one lexeme after another.
 use Rattle.std.specs.Prelude.{ℕ, ◌+◌, Bool, true, false, List, [], ◌∷◌, ◌++◌, length, Option, Some, None}
 use Rattle.std.specs.Option.{option_map}
 use Rattle.std.specs.List.{concat}
@@ -14,7 +14,7 @@ fuzzy_of flag (Fuzzy ∷ marks) = fuzzy_of true marks
 fuzzy_of flag (CFormat ∷ marks) = fuzzy_of flag marks
 fuzzy_of flag (Clear ∷ marks) = fuzzy_of false marks
 
--- the same for `c-format`
+-- whether the entry is flagged `c-format` after these marks, mark by mark
 abbrev pub c_format_of : Bool → List Mark → Bool
 c_format_of flag [] = flag
 c_format_of flag (Fuzzy ∷ marks) = c_format_of flag marks
@@ -28,7 +28,7 @@ flags_over f marks = record { fuzzy = fuzzy_of f.fuzzy marks; c_format = c_forma
 abbrev pub no_flags : Flags
 no_flags = record { fuzzy = false; c_format = false }
 
--- an entry as it lies in a buffer: the forms one behind the other, and where each begins
+-- an entry as a buffer stores it: its forms back to back, and where each begins
 pub record Draft : Type 0 where
   pub line : ℕ
   pub flags : Flags
@@ -42,12 +42,12 @@ abbrev pub some_if : Bool → List ℕ → Option (List ℕ)
 some_if true bytes = Some bytes
 some_if false bytes = None
 
--- the first of these, or the end
+-- the first offset, or the end if there is none
 abbrev pub first_or : List ℕ → ℕ → ℕ
 first_or [] end = end
 first_or (start ∷ later) end = start
 
--- where each begins, the first at k
+-- where each form begins, if the first begins at k
 abbrev pub offsets : ℕ → List (List ℕ) → List ℕ
 offsets k [] = []
 offsets k (form ∷ more) = k ∷ offsets (k + length form) more
@@ -63,7 +63,7 @@ draft_of e = record {
   starts = offsets 0 e.forms;
 }
 
--- an entry of which only the opening keyword was read
+-- an entry with only its opening keyword read
 abbrev pub begin : ℕ → Flags → Option (List ℕ) → Draft
 begin line flags context =
     record { line = line; flags = flags; context = context; id = []; plural = None; flat = []; starts = [] }
@@ -138,7 +138,7 @@ new_form d = record {
   starts = d.starts ++ (length d.flat ∷ []);
 }
 
--- a string, by the place behind which it stands
+-- a string is added to the part of the entry that the place is in
 abbrev pub put_text : Place → List ℕ → Draft → Draft
 put_text ContextWord bytes d = add_context d bytes
 put_text ContextText bytes d = add_context d bytes
@@ -148,14 +148,14 @@ put_text PluralWord bytes d = add_plural d bytes
 put_text PluralText bytes d = add_plural d bytes
 put_text _ bytes d = add_form d bytes
 
--- a token that opens no entry
+-- a token that doesn't open an entry
 abbrev pub put : Token → Place → Draft → Draft
 put (Text bytes) p d = put_text p bytes d
 put Plural p d = new_plural d
 put Str p d = new_form d
 put _ p d = d
 
--- what was read so far
+-- the state of the parser: what it has read so far
 pub record State : Type 0 where
   pub place : Place
   pub done : List Draft
@@ -166,12 +166,12 @@ pub record State : Type 0 where
 abbrev pub at_state : Place → List Draft → Draft → Flags → ℕ → State
 at_state p done d f k = record { place = p; done = done; draft = d; flags = f; keyword = k }
 
--- the entries, with the one that is under way
+-- the entries, including the one under way
 abbrev pub drafts_at : Place → List Draft → Draft → List Draft
 drafts_at Start done d = done
 drafts_at _ done d = done ++ (d ∷ [])
 
--- the context with which this token opens an entry at this place
+-- the context with which this token begins an entry at this place, if it opens one
 abbrev pub opens_id : Place → Option (Option (List ℕ))
 opens_id ContextText = None
 opens_id _ = Some None
@@ -181,7 +181,7 @@ opens Context p = Some (Some [])
 opens Id p = opens_id p
 opens _ p = None
 
--- the line of the last keyword of a context or a msgid
+-- the line of the last `msgctxt` or `msgid`
 abbrev pub keyword_line : Token → ℕ → ℕ → ℕ
 keyword_line Id line k = line
 keyword_line _ line k = k

@@ -19,7 +19,7 @@ pub data Part : Type 0 where
   PlainPart : (form : Strings) → Part
   PluralPart : (plural : Strings) (forms : List Strings) → Part
 
--- an entry: perhaps msgctxt Strings, then msgid Strings, then a plain or a plural part
+-- an entry: optionally msgctxt Strings, then msgid Strings, then a plain or a plural part
 pub record Derivation : Type 0 where
   pub context : Option Strings
   pub id : Strings
@@ -32,7 +32,7 @@ abbrev pub context_tokens : Option Strings → List Token
 context_tokens None = []
 context_tokens (Some parts) = Context ∷ texts parts
 
--- the plural forms, numbered from k on
+-- the plural forms, numbered from k
 abbrev pub form_tokens : ℕ → List Strings → List Token
 form_tokens k [] = []
 form_tokens k (form ∷ more) = Str ∷ Open ∷ Number k ∷ Close ∷ texts form ++ form_tokens (k + 1) more
@@ -45,13 +45,13 @@ part_tokens (PluralPart plural forms) = Plural ∷ texts plural ++ form_tokens 0
 abbrev pub tokens_of : Derivation → List Token
 tokens_of d = context_tokens d.context ++ (Id ∷ texts d.id ++ part_tokens d.part)
 
--- ---- its conditions
+-- ---- conditions
 
 abbrev pub IsOneOrMore : {A : Type 0} → List A → Type 0
 IsOneOrMore xs = xs ≢ []
 
--- a context or a msgid: one or more strings, and no byte 4 when they are joined, since MO files join the two by it
--- (that only these two are looked at is ours)
+-- a context or a msgid: one or more strings, without byte 4 once joined, since MO files put that between the two (that
+-- only these two are checked is ours)
 abbrev pub IsKeyText : Strings → Type 0
 IsKeyText parts = IsOneOrMore parts × ¬ Contains (concat parts) 4
 
@@ -70,7 +70,7 @@ pub record IsLawfulEntry (d : Derivation) : Type 0 where
 
 -- ---- entries
 
--- what an entry says: an empty context isn't the same as none
+-- the contents of an entry; an empty context differs from no context
 pub record Entry : Type 0 where
   pub line : ℕ
   pub fuzzy : Bool
@@ -80,7 +80,7 @@ pub record Entry : Type 0 where
   pub plural : Option (List ℕ)
   pub forms : List (List ℕ)
 
--- nothing was read yet
+-- the entry before anything is read
 abbrev pub no_entry : Entry
 no_entry = record { line = 0; fuzzy = false; c_format = false; context = None; id = []; plural = None; forms = [] }
 
@@ -91,11 +91,11 @@ mark_eq CFormat CFormat = true
 mark_eq Clear Clear = true
 mark_eq _ _ = false
 
--- the marks behind the last Clear, or all where none is; the last mark first
+-- the marks after the last Clear, or all if there is none; the last mark first
 abbrev pub behind_clear : List Mark → List Mark
 behind_clear marks = take_while (λ mark. not (mark_eq Clear mark)) (reverse marks)
 
--- whether the flag stands behind the last Clear
+-- whether the flag comes after the last Clear
 abbrev pub is_flagged : Mark → List Mark → Bool
 is_flagged flag marks = list_any (mark_eq flag) (behind_clear marks)
 
@@ -111,7 +111,7 @@ abbrev pub forms_of : Part → List (List ℕ)
 forms_of (PlainPart form) = concat form ∷ []
 forms_of (PluralPart plural forms) = map concat forms
 
--- the entry that is derived so, whose opening keyword stands on this line behind these marks
+-- the entry of this derivation, if its opening keyword is on this line after these marks
 abbrev pub entry_of : ℕ → List Mark → Derivation → Entry
 entry_of line marks d = record {
   line = line;
@@ -127,7 +127,7 @@ entry_of line marks d = record {
 abbrev pub Remaining : Type 0
 Remaining = List Mark × List Lexeme
 
--- the entry stands at the front; `first` is its opening keyword, and the marks behind it wait for the next entry (ours)
+-- the entry is at the front; `first` is its opening keyword, and the marks after it are kept for the next entry (ours)
 pub record EntryAt (e : Entry) (now later : Remaining) : Type 0 where
   pub first : Lexeme
   pub others : List Lexeme
@@ -138,13 +138,13 @@ pub record EntryAt (e : Entry) (now later : Remaining) : Type 0 where
   pub entry : e ≡ entry_of first.line (now.0 ++ first.marks) derivation
   pub marks : later.0 ≡ flat_map (λ (l : Lexeme). l.marks) others
 
--- the lexemes derive these entries: one after another, and nothing is left
+-- the lexemes derive these entries, one after another, and nothing is left over
 abbrev pub Derives : List Lexeme → List Entry → Type 0
 Derives found entries = (marks : List Mark) × Chain EntryAt entries ([], found) (marks, [])
 
--- ---- faults of grammar
+-- ---- grammar faults
 
--- whole entries, and a front of one more, perhaps empty, cut behind any token
+-- whole entries and the beginning of one more, perhaps empty, which may end after any token
 pub record IsOpenList (tokens : List Token) : Type 0 where
   pub whole : List Derivation
   pub front : List Token
@@ -165,7 +165,7 @@ IsKeyword token = (token ≡ Context) ⊎ (token ≡ Id)
 abbrev pub IsNumber : Token → Type 0
 IsNumber token = (n : ℕ) × (token ≡ Number n)
 
--- x puts byte 4 into the context or msgid whose keyword stands on this line
+-- x puts byte 4 into the context or msgid whose keyword is on this line
 pub record PutsFour (before : List Lexeme) (x : Lexeme) (line : ℕ) : Type 0 where
   pub front : List Lexeme
   pub keyword : Lexeme
@@ -179,7 +179,7 @@ pub record PutsFour (before : List Lexeme) (x : Lexeme) (line : ℕ) : Type 0 wh
   pub four : Contains bytes 4
   pub line_is : line ≡ keyword.line
 
--- x is a number behind an opening bracket, where an index stands
+-- x is a number after an opening bracket, where an index belongs
 pub record IsIndexPlace (before : List Lexeme) (x : Lexeme) : Type 0 where
   pub front : List Lexeme
   pub bracket : Lexeme
@@ -187,14 +187,14 @@ pub record IsIndexPlace (before : List Lexeme) (x : Lexeme) : Type 0 where
   pub bracket_is : bracket.token ≡ Open
   pub number : IsNumber x.token
 
--- what is wrong with x behind these, and on which line
+-- what is wrong with x after these lexemes, and on which line
 abbrev pub ClosesBy : PoKind → List Lexeme → Lexeme → ℕ → Type 0
 ClosesBy BadText before x line = PutsFour before x line
 ClosesBy BadIndex before x line = IsIndexPlace before x × (line ≡ x.line)
 ClosesBy BadOrder before x line = ((n : ℕ) → ¬ PutsFour before x n) × ¬ IsIndexPlace before x × (line ≡ x.line)
 ClosesBy _ before x line = ⊥
 
--- x is the first lexeme with which the list stops being open
+-- x is the first lexeme that makes the list no longer open
 pub record ClosesAt (found : List Lexeme) (kind : PoKind) (line : ℕ) : Type 0 where
   pub before : List Lexeme
   pub x : Lexeme
@@ -204,7 +204,7 @@ pub record ClosesAt (found : List Lexeme) (kind : PoKind) (line : ℕ) : Type 0 
   pub closed : ¬ IsOpenList (all_tokens (before ++ x ∷ []))
   pub how : ClosesBy kind before x line
 
--- the list is open to the end and derives nothing; x is its last lexeme
+-- the list stays open to the end but derives no entries; x is its last lexeme
 pub record EndsEarly (found : List Lexeme) (line : ℕ) : Type 0 where
   pub before : List Lexeme
   pub x : Lexeme

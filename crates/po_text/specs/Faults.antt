@@ -1,10 +1,10 @@
--- Want of memory beside the other faults.
+-- Running out of memory, which has no line, next to the faults of a text.
 use Rattle.std.specs.Prelude.{ℕ}
 use Rattle.po_text.specs.declared.fault.PoKind.{PoKind}
 use Rattle.po_text.specs.declared.fault.PoKind.TheVariants.{Memory}
 use Rattle.po_text.specs.declared.fault.PoFault.{PoFault}
 
--- the answer where memory was refused; it has no line
+-- the fault when memory runs out; it has no line
 abbrev pub out_of_memory : PoFault
 out_of_memory = record { kind = Memory; line = 0 }
 

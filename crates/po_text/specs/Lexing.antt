@@ -1,4 +1,4 @@
--- Private: what the lexer takes of a text.
+-- Private: what the lexer takes from a text.
 use Rattle.std.specs.Prelude.{◌≡◌, ◌≢◌, ℕ, ◌<◌, ◌≤◌, Bool, false, not, List, [], ◌∷◌, ◌++◌, length, Option, Some, ◌+◌}
 use Rattle.std.specs.Prelude.{None, IfSome, if◌then◌else◌, ◌==◌, ◌&&◌, nat_le, nat_lt}
 use Rattle.std.specs.Int.{w64, trailing_zeros}
@@ -22,41 +22,41 @@ use Rattle.po_text.specs.Spelling.{UnitsAt, unit_value, IsBadEscape, IsOpenEnd, 
 abbrev pub is_no_separator : ℕ → Bool
 is_no_separator b = not (is_separator b)
 
--- the place of the lowest bit that is set, or how many there are
+-- the index of the lowest set bit, or the number of lanes if no bit is set
 abbrev pub first_set : ℕ → ℕ → ℕ
 first_set mask lanes = if mask == 0 then lanes else trailing_zeros w64 mask
 
--- ASCII, and not NUL
+-- ASCII, but not NUL
 abbrev pub is_simple : ℕ → Bool
 is_simple b = nat_le 1 b && nat_lt b 128
 
--- no plain byte stands at the front
+-- no plain byte is at the front
 abbrev pub StopsPlain : List ℕ → Type 0
 StopsPlain [] = Unit {0}
 StopsPlain (b ∷ more) = is_plain b ≡ false
 
--- text is a unit of this value, and then rest
+-- text is a unit with this value, followed by rest
 abbrev pub ReadsUnit : List ℕ → ℕ → List ℕ → Type 0
 ReadsUnit text value rest = (u : StringUnit) × UnitAt u text rest × (unit_value u ≡ value)
 
--- no unit stands at the front, and this is the fault
+-- no unit is at the front, and the fault is this one
 abbrev pub StopsBadly : PoKind → List ℕ → Type 0
 StopsBadly BadEscape text = IsBadEscape text
 StopsBadly OpenString text = IsOpenEnd text
 StopsBadly Memory text = Unit {0}
 StopsBadly _ text = ⊥
 
--- units, and then what stops them badly
+-- units, followed by a fault in place of the next unit
 abbrev pub UnitsFail : PoKind → List ℕ → Type 0
 UnitsFail kind text = (values stop : List ℕ) × UnitsAt values text stop × StopsBadly kind stop
 
--- text is units whose values went to the end of old, which gave new, and then rest
+-- text is units followed by rest, and new is old with their values appended
 pub record TakesUnits (old new text rest : List ℕ) : Type 0 where
   pub values : List ℕ
   pub units : UnitsAt values text rest
   pub grown : new ≡ old ++ values
 
--- the bytes of the string that was read last
+-- the bytes of the last string read
 abbrev pub bytes_of : Option (Bor (List ℕ)) → List ℕ → List ℕ
 bytes_of None decoded = decoded
 bytes_of (Some plain) decoded = plain.now
@@ -64,11 +64,11 @@ bytes_of (Some plain) decoded = plain.now
 abbrev pub string_of : StringBytes → List ℕ
 string_of s = bytes_of s.plain s.decoded.items
 
--- what is lent of a text is a part of it
+-- what is borrowed from the text is a part of it
 abbrev pub HoldsPart : Bool → StringBytes → Type 0
 HoldsPart is_free s = IfSome s.plain (λ plain. IsPart is_free plain.now)
 
--- the token that the code's token stands for, where a string's bytes stand in text
+-- the specification's token for the code's token; text is the bytes of a string
 abbrev pub token_view : code.Token → List ℕ → Token
 token_view kinds.Context text = Context
 token_view kinds.Id text = Id
@@ -79,7 +79,7 @@ token_view kinds.Open text = Open
 token_view kinds.Close text = Close
 token_view kinds.Text text = Text text
 
--- a string's bytes are lawful
+-- the bytes of a string are lawful
 abbrev pub IsLawfulToken : Token → Type 0
 IsLawfulToken (Text bytes) = IsLawful bytes
 IsLawfulToken _ = Unit {0}
@@ -93,18 +93,18 @@ IsGapPiece (White b) = Unit {0}
 IsGapPiece (Comment after) = Unit {0}
 IsGapPiece _ = ⊥
 
--- no white byte and no comment stands at the front
+-- neither white space nor a comment is at the front
 abbrev pub StopsGap : List ℕ → Type 0
 StopsGap [] = Unit {0}
 StopsGap (b ∷ more) = (is_white b ≡ false) × (b ≢ 35)
 
--- the marks of a gap
+-- the marks of the comments in a gap
 abbrev pub gap_marks : List Piece → List Mark
 gap_marks [] = []
 gap_marks (Comment after ∷ more) = comment_marks after ++ gap_marks more
 gap_marks (_ ∷ more) = gap_marks more
 
--- from one line and rest to another over a gap, which changes the flags
+-- a gap leads from one line and rest to another, and changes the flags
 pub record TakesGap (old_flags : Flags) (old_line : ℕ) (old_rest : List ℕ) (new_flags : Flags) (new_line : ℕ)
     (new_rest : List ℕ) : Type 0 where
   pub pieces : List Piece
@@ -115,15 +115,15 @@ pub record TakesGap (old_flags : Flags) (old_line : ℕ) (old_rest : List ℕ) (
   pub room : new_line + length new_rest ≤ old_line + length old_rest
   pub falls : length new_rest ≤ length old_rest
 
--- text is one token, whose string's bytes stand in bytes, and then rest
+-- text is one token followed by rest; bytes is its string
 abbrev pub TakesToken : code.Token → List ℕ → List ℕ → List ℕ → Type 0
 TakesToken token bytes text rest = (p : Piece) × PieceAt p text rest × (piece_token p ≡ Some (token_view token bytes))
 
--- behind a gap the text ends
+-- after a gap the text ends
 abbrev pub HasEnd : Flags → ℕ → List ℕ → Type 0
 HasEnd flags line rest = (new_flags : Flags) × (last : ℕ) × TakesGap flags line rest new_flags last []
 
--- behind a gap stands a token, on the new line
+-- after a gap there is a token, on the new line
 pub record HasNext (token : code.Token) (bytes : List ℕ) (old_flags : Flags) (old_line : ℕ) (old_rest : List ℕ)
     (new_flags : Flags) (new_line : ℕ) (new_rest : List ℕ) : Type 0 where
   pub middle : List ℕ
@@ -131,14 +131,14 @@ pub record HasNext (token : code.Token) (bytes : List ℕ) (old_flags : Flags) (
   pub takes : TakesToken token bytes middle new_rest
   pub shorter : length new_rest < length middle
 
--- behind a gap stands a lexical fault
+-- after a gap there is a lexical fault
 pub record HasFaultFrom (flags : Flags) (old_line : ℕ) (old_rest : List ℕ) (kind : PoKind) (line : ℕ) : Type 0 where
   pub middle : List ℕ
   pub new_flags : Flags
   pub gap : TakesGap flags old_line old_rest new_flags line middle
   pub fault : FaultAt kind middle
 
--- from one line and rest to another over these lexemes, the last of which ends there
+-- these lexemes lead from one line and rest to another, and the last one ends there
 pub record TakesLexemes (found : List Lexeme) (old_line : ℕ) (old_rest : List ℕ) (new_line : ℕ) (new_rest : List ℕ) :
     Type 0 where
   pub pieces : List Piece

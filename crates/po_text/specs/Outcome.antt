@@ -1,6 +1,6 @@
 -- What a text gives: its entries, or its first fault (GNU gettext manual, "PO Files").
 
--- The order of the faults is this project's: size, UTF-8, the first lexical fault, the first fault of grammar.
+-- This project chose the order of the faults: size, UTF-8, the first lexical fault, the first grammar fault.
 use Rattle.std.specs.Prelude.{◌≡◌, ℕ, ◌+◌, ◌<◌, ◌≤◌, List, [], ◌∷◌, take, drop, length, ◌⊎◌, if◌then◌else◌}
 use Rattle.std.specs.Str.{IsUtf8, bytes_eq}
 use Rattle.std.specs.Str.Lossy.{utf8_valid_len}
@@ -9,15 +9,15 @@ use Rattle.po_text.specs.declared.fault.PoKind.TheVariants.{TooLarge, NotUtf8, B
 use Rattle.po_text.specs.Spelling.{Lexeme, Spells, HasFault, newlines}
 use Rattle.po_text.specs.Entries.{Entry, Derives, ClosesAt, EndsEarly}
 
--- the lexemes aren't entries: from the first one on that can't stand at its place, or they end too early
+-- the lexemes aren't entries: one of them isn't allowed where it is, or they end in the middle of an entry
 abbrev pub HasGrammarFault : List Lexeme → PoKind → ℕ → Type 0
 HasGrammarFault found kind line = ClosesAt found kind line ⊎ ((kind ≡ BadOrder) × EndsEarly found line)
 
--- a text behind its byte order mark: its entries
+-- the entries of a text after its byte order mark
 abbrev pub Reads : List ℕ → List Entry → Type 0
 Reads text entries = (found : List Lexeme) × Spells text found × Derives found entries
 
--- or its fault; only a text without a lexical fault has one of grammar
+-- the fault of such a text, a grammar fault only if there is no lexical one
 abbrev pub IsFaulty : List ℕ → PoKind → ℕ → Type 0
 IsFaulty text kind line =
     HasFault text kind line ⊎ ((found : List Lexeme) × Spells text found × HasGrammarFault found kind line)
@@ -26,15 +26,15 @@ IsFaulty text kind line =
 abbrev pub byte_order_mark : List ℕ
 byte_order_mark = 239 ∷ 187 ∷ 191 ∷ []
 
--- the text behind one byte order mark, if it begins with one (ours)
+-- the text without its byte order mark, if it begins with one (ours)
 abbrev pub body : List ℕ → List ℕ
 body text = if bytes_eq (take 3 text) byte_order_mark then drop 3 text else text
 
--- the most bytes that a text may have, its byte order mark included: 64 MiB
+-- the maximum size of a text in bytes, its byte order mark included: 64 MiB
 abbrev pub max_text : ℕ
 max_text = 67108864
 
--- the text may be looked at: it isn't too large, and is UTF-8
+-- the text can be read: it isn't too large, and it is UTF-8
 pub record IsReadable (text : List ℕ) : Type 0 where
   pub size : length text ≤ max_text
   pub utf8 : IsUtf8 text
@@ -50,7 +50,7 @@ pub record Gives (text : List ℕ) (entries : List Entry) : Type 0 where
   pub readable : IsReadable text
   pub reads : Reads (body text) entries
 
--- the text is refused, by one kind on one line
+-- the text is refused, with this kind of fault on this line
 abbrev pub Refuses : List ℕ → PoKind → ℕ → Type 0
 Refuses text TooLarge line = (max_text < length text) × (line ≡ 0)
 Refuses text NotUtf8 line = IsUndecodable text line

@@ -1,4 +1,4 @@
--- Private: what the parser has taken of a text.
+-- Private: what the parser has taken from a text.
 use Rattle.std.specs.Prelude.{◌≡◌, ℕ, ◌+◌, ◌<◌, ◌^◌, Bool, true, false, List, []}
 use Rattle.std.specs.Prelude.{◌∷◌, ◌++◌, map, length, Option, Some, None, ◌⊎◌, IsTrue}
 use Rattle.po_text.specs.declared.parser.Parser.{Parser}
@@ -22,7 +22,7 @@ abbrev pub is_context : code_token.Token → Bool
 is_context kinds.Context = true
 is_context _ = false
 
--- what `opens` says of this token, where it opens an entry or doesn't
+-- what `opens` says of this token, if it opens an entry or if it doesn't
 abbrev pub opened : Bool → code_token.Token → Option (Option (List ℕ))
 opened true t = Some (some_if (is_context t) [])
 opened false t = None
@@ -31,11 +31,11 @@ abbrev pub is_context_word : code.Place → Bool
 is_context_word places.ContextWord = true
 is_context_word _ = false
 
--- the reader's own state, where this draft is under way
+-- the parser's own state, if this draft is under way
 abbrev pub state_with : Parser → Draft → List Draft → State
 state_with r d done = at_state (place_view r.place r.count) done d r.lexer.flags r.keyword_line
 
--- the entry whose opening keyword was read
+-- the entry whose opening keyword was read, as it begins
 abbrev pub pending : Parser → Draft
 pending r = begin r.line r.entry_flags (some_if (is_context_word r.place) [])
 
@@ -43,19 +43,19 @@ abbrev pub StartTest : Bool → Place → Type 0
 StartTest true p = p ≡ Start
 StartTest false p = (done : List Draft) (d : Draft) → drafts_at p done d ≡ done ++ (d ∷ [])
 
--- no lexeme, or the last one on this line
+-- there are no lexemes, or the last one is on this line
 abbrev pub EndsOn : List Lexeme → ℕ → Type 0
 EndsOn found line =
     (found ≡ []) ⊎ ((before : List Lexeme) × (x : Lexeme) × (found ≡ before ++ (x ∷ [])) × (x.line ≡ line))
 
--- the lexemes of the text up to this place were taken, with this outcome
+-- the lexemes of the text up to this place were taken, and lead to this state
 pub record HasTaken (text : List ℕ) (line : ℕ) (rest : List ℕ) (s : State) : Type 0 where
   pub found : List Lexeme
   pub takes : TakesLexemes found 1 text line rest
   pub last : EndsOn found line
   pub fed : feeds (Some start) found ≡ Some s
 
--- the reader has taken the lexemes of the text up to its place, with this draft under way behind these
+-- the parser has taken the lexemes up to its place; this draft is under way, after those that are done
 abbrev pub HasTakenTo : List ℕ → List Draft → Draft → Parser → Type 0
 HasTakenTo text done d r = HasTaken text r.lexer.line r.lexer.rest.now (state_with r d done)
 
@@ -70,13 +70,13 @@ is_opening places.ContextWord = true
 is_opening places.IdWord = true
 is_opening _ = false
 
--- the next entry can be read: lines and counts have room, and no more than its opening keyword was read
+-- the next entry can be read: lines and counts can't overflow, and at most its opening keyword was read
 pub record IsReady (r : Parser) : Type 0 where
   pub lines : r.lexer.line + length r.lexer.rest.now < 2 ^ 32
   pub counts : r.count + length r.lexer.rest.now < 2 ^ 32
   pub opening : r.finished ≡ false → is_opening r.place ≡ true
 
--- how much is left, which falls with each entry
+-- 1 until the text has ended, so that `left_in` falls with each entry
 abbrev pub one_unless : Bool → ℕ
 one_unless true = 0
 one_unless false = 1
@@ -84,12 +84,12 @@ one_unless false = 1
 abbrev pub left_in : Parser → ℕ
 left_in r = length r.lexer.rest.now + one_unless r.finished
 
--- the next entry was read, or there is none
+-- the next entry was read, or there are no more
 abbrev pub ParsesOn : Bool → List ℕ → List Entry → Entry → Parser → Type 0
 ParsesOn true text entries e r = HasItsForms e × HasParsed text (entries ++ (e ∷ [])) r
 ParsesOn false text entries e r = Reads text entries × HasParsed text entries r
 
--- a token was taken that leads to this place; true where it opens the next entry
+-- a token was taken that leads to this place; true if it opens the next entry
 abbrev pub TakesToken : Bool → List Draft → Token → ℕ → Parser → Entry → Parser → Entry → Type 0
 TakesToken true done t line old old_entry new entry =
     IsBoundary (place_view old.place old.count) × (drafts_at (place_view old.place old.count) done (draft_of old_entry)
@@ -100,19 +100,19 @@ TakesToken true done t line old old_entry new entry =
 TakesToken false done t line old old_entry new entry =
     feed_at (state_with old (draft_of old_entry) done) [] line t ≡ Some (state_with new (draft_of entry) done)
 
--- a form was begun where the place behind the token is in one, unless the token opened an entry
+-- a form was begun, if the place after the token is in one, unless the token opened an entry
 abbrev pub KeepsForm : Bool → Parser → Entry → Type 0
 KeepsForm true new entry = IsTrue (is_opening new.place)
 KeepsForm false new entry = HasForm (place_view new.place new.count) (draft_of entry)
 
--- the text ends here, as it may where true and false
+-- the text may end here: true after an entry, false before any
 abbrev pub EndsRight : Bool → Parser → Type 0
 EndsRight true r =
     IsBoundary (place_view r.place r.count)
     × ((done : List Draft) (d : Draft) → drafts_at (place_view r.place r.count) done d ≡ done ++ (d ∷ []))
 EndsRight false r = place_view r.place r.count ≡ Start
 
--- the kind and the line of the fault at a token that can't stand at the place
+-- the fault of a string that isn't allowed here: byte 4 in a context or msgid, or else its place
 abbrev pub key_refusal : Place → ℕ → ℕ → PoFault
 key_refusal ContextWord line k = record { kind = BadText; line = k }
 key_refusal ContextText line k = record { kind = BadText; line = k }
@@ -129,7 +129,7 @@ refusal (Text bytes) p line k = key_refusal p line k
 refusal (Number n) p line k = number_refusal p line
 refusal _ p line k = record { kind = BadOrder; line = line }
 
--- the last token of the text that was taken can't stand at the place where it was read
+-- the last token taken isn't allowed at the place where it was read
 pub record Refused (text : List ℕ) (line : ℕ) (rest : List ℕ) (p : Place) (k : ℕ) (t : Token) : Type 0 where
   pub found : List Lexeme
   pub x : Lexeme

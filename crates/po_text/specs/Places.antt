@@ -1,4 +1,4 @@
--- Private: where a reader of lexemes stands in the grammar.
+-- Private: the places in the grammar of entries, and where each token leads.
 use Rattle.std.specs.Prelude.{ℕ, ◌+◌, Bool, List, Option, Some, None, ◌==◌, nat_eq, if◌then◌else◌}
 use Rattle.std.specs.List.{list_any}
 use Rattle.po_text.specs.declared.places.Place as code
@@ -33,7 +33,7 @@ IsBoundary _ = ⊥
 abbrev pub has_four : List ℕ → Bool
 has_four bytes = list_any (nat_eq 4) bytes
 
--- a keyword that opens an entry
+-- the place after a token that opens an entry
 abbrev pub opening : Token → Option Place
 opening Context = Some ContextWord
 opening Id = Some IdWord
@@ -76,7 +76,7 @@ step (IndexedText k) (Text bytes) = Some (IndexedText k)
 step (IndexedText k) Str = Some (IndexOpen (k + 1))
 step (IndexedText k) t = opening t
 
--- the place, where k forms of the entry are complete
+-- the specification's place for the code's place, if k forms of the entry are complete
 abbrev pub place_view : code.Place → ℕ → Place
 place_view places.Start k = Start
 place_view places.ContextWord k = ContextWord
@@ -93,7 +93,7 @@ place_view places.IndexClose k = IndexClose k
 place_view places.IndexedWord k = IndexedWord k
 place_view places.IndexedText k = IndexedText k
 
--- how many forms are complete after this token at this place, where there were k
+-- the number of complete forms after this token at this place, if there were k before it
 abbrev pub next_count : code.Place → code_token.Token → ℕ → ℕ
 next_count places.PluralText t k = 0
 next_count places.IndexedText kinds.Str k = k + 1

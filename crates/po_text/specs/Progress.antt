@@ -1,6 +1,6 @@
 -- What a reader of entries has read of its text.
 
--- Callers carry `HasRead` from call to call and need not look into it.
+-- Callers pass `HasRead` on from call to call and need not look into it.
 use Rattle.std.specs.Prelude.{◌≡◌, ℕ, Bool, true, false, List, [], ◌∷◌, ◌++◌, Option, Some, None, ◌⊎◌}
 use Rattle.po_text.specs.declared.reader.EntryReader.{EntryReader}
 use Rattle.po_text.specs.declared.fault.PoFault.{PoFault}
@@ -10,11 +10,11 @@ use Rattle.po_text.specs.Lawful.{HasItsForms}
 use Rattle.po_text.specs.Outcome.{Reads, IsFaulty}
 use Rattle.po_text.specs.Parsing.{HasParsed, left_in}
 
--- the fault that the reader gave, and gives from then on
+-- the fault that the reader returned, and returns from then on
 abbrev pub fault_of : EntryReader → Option PoFault
 fault_of r = r.fault
 
--- want of memory, or the fault of the text
+-- out of memory, or a fault of the text
 abbrev pub IsMemoryOrFaulty : List ℕ → PoFault → Type 0
 IsMemoryOrFaulty text fault = (fault ≡ out_of_memory) ⊎ IsFaulty text fault.kind fault.line
 
@@ -23,7 +23,7 @@ pub record HasRead (text : List ℕ) (entries : List Entry) (r : EntryReader) : 
   pub reading : r.fault ≡ None → HasParsed text entries r.parser
   pub failed : (fault : PoFault) → r.fault ≡ Some fault → IsMemoryOrFaulty text fault
 
--- how much is left to read; it falls with each entry
+-- how much is left to read, which falls with each entry
 abbrev pub left_of : EntryReader → ℕ
 left_of r = left_in r.parser
 

@@ -1,7 +1,7 @@
 -- Which tokens a text spells, and which lexical fault it has (GNU gettext manual, "PO Files"; C standard, 6.4.4.4
 -- and 6.4.5: escapes in strings).
 
--- What neither says is marked (ours).
+-- Rules of our own, which neither document has, are marked (ours).
 use Rattle.std.specs.Prelude.{◌≡◌, ◌≢◌, ℕ, ◌+◌, ◌-◌, ◌*◌, ◌<◌, ◌≤◌, Bool, true}
 use Rattle.std.specs.Prelude.{false, not, ◌&&◌, ◌||◌, ◌==◌, nat_le, if◌then◌else◌, List, [], ◌∷◌}
 use Rattle.std.specs.Prelude.{◌++◌, map, length, take, Option, None, Some, ◌⊎◌, codes}
@@ -83,7 +83,7 @@ escaped c =
     if c == backslash then Some backslash else
     if c == quote then Some quote else None
 
--- the octal digits at the front, as many as there are and three at most (C 6.4.4.4)
+-- the octal digits at the front, at most three (C 6.4.4.4)
 unfoldable pub octal_run : List ℕ → List ℕ
 octal_run text = take_while is_octal (take 3 text)
 
@@ -101,7 +101,7 @@ unit_value (Plain b) = b
 unit_value (Escape c v) = v
 unit_value (Octal digits) = octal_value digits
 
--- the text is the unit and then the rest; octal digits are as many as they can be, and at most 255 (ours)
+-- the text is the unit followed by the rest; an octal escape takes as many digits as it can, and is at most 255 (ours)
 abbrev pub UnitAt : StringUnit → List ℕ → List ℕ → Type 0
 UnitAt (Plain b) text rest = (text ≡ b ∷ rest) × (is_plain b ≡ true)
 UnitAt (Escape c v) text rest = (text ≡ backslash ∷ c ∷ rest) × (escaped c ≡ Some v)
@@ -109,26 +109,27 @@ UnitAt (Octal digits) text rest =
     (text ≡ backslash ∷ digits ++ rest) × (octal_run (digits ++ rest) ≡ digits) × (digits ≢ [])
     × (octal_value digits ≤ 255)
 
--- the text is units of these values and then the rest
+-- the text is units with these values, followed by the rest
 pub record UnitsAt (values text rest : List ℕ) : Type 0 where
   pub units : List StringUnit
   pub each : Chain UnitAt units text rest
   pub values_are : values ≡ map unit_value units
 
--- a backslash with which no escape begins, before another byte of the line; or octal digits above 255
+-- a backslash that begins no escape, before another byte of the line; or octal digits above 255
 abbrev pub IsBadEscape : List ℕ → Type 0
 IsBadEscape text =
     ((c : ℕ) × (more : List ℕ) × (text ≡ backslash ∷ c ∷ more) × (c ≢ line_feed) × (is_octal c ≡ false)
     × (escaped c ≡ None))
     ⊎ ((more : List ℕ) × (text ≡ backslash ∷ more) × (255 < octal_value (octal_run more)))
 
--- the line or the text ends here, perhaps behind a backslash (C 6.4.5: a string stands on one line)
+-- the line or the text ends here, perhaps after a backslash (C 6.4.5: a string is on one line)
 abbrev pub IsOpenEnd : List ℕ → Type 0
 IsOpenEnd [] = Unit {0}
 IsOpenEnd (b ∷ []) = (b ≡ line_feed) ⊎ (b ≡ backslash)
 IsOpenEnd (b ∷ c ∷ more) = (b ≡ line_feed) ⊎ ((b ≡ backslash) × (c ≡ line_feed))
 
--- what a string may say: no NUL, since MO files end their texts by it, and UTF-8 by itself (ours)
+-- what a string may contain: no NUL, since MO files end their texts with it, and only UTF-8, in each string alone
+-- (ours)
 pub record IsLawful (bytes : List ℕ) : Type 0 where
   pub no_nul : ¬ (Contains bytes 0)
   pub utf8 : IsUtf8 bytes
@@ -155,7 +156,7 @@ number_of word =
     if list_all is_ascii_digit word && (nat_le 1 (length word) && nat_le (length word) 9)
     then Some (Number (decimal_value word)) else None
 
--- the token that a word is, if it is one
+-- the token that a word spells, if it is one
 abbrev pub word_token : List ℕ → Option Token
 word_token word =
     if bytes_eq word (codes "msgctxt") then Some Context else
@@ -165,7 +166,7 @@ word_token word =
 
 -- ---- comments
 
--- what a comment says of the next entry: a flag, or (ours) that an obsolete line takes back the flags before it
+-- what a comment says about the next entry: a flag, or (ours) that an obsolete line cancels the flags before it
 pub data Mark : Type 0 where
   Fuzzy : Mark
   CFormat : Mark
@@ -175,13 +176,13 @@ pub data Mark : Type 0 where
 abbrev pub is_separator : ℕ → Bool
 is_separator b = b == comma || is_white b
 
--- the flags `fuzzy` and `c-format`; other words say nothing here
+-- the flags `fuzzy` and `c-format`; other words have no meaning here
 abbrev pub flag_mark : List ℕ → Option Mark
 flag_mark word =
     if bytes_eq word (codes "fuzzy") then Some Fuzzy else if bytes_eq word (codes "c-format") then Some CFormat
     else None
 
--- the marks of a comment, by what stands behind its `#`: flags behind `#,`, Clear for `#~`, none for the others
+-- the marks of a comment, given what follows its `#`: flags after `#,`, Clear for `#~`, none for other comments
 abbrev pub comment_marks : List ℕ → List Mark
 comment_marks [] = []
 comment_marks (b ∷ more) =
@@ -190,7 +191,7 @@ comment_marks (b ∷ more) =
 
 -- ---- whole texts
 
--- what a text is cut into: tokens, and the white space and comments that may stand between any two of them
+-- what a text is split into: tokens, and the white space and comments allowed between any two of them
 pub data Piece : Type 0 where
   White : (b : ℕ) → Piece
   Comment : (after : List ℕ) → Piece
@@ -199,8 +200,8 @@ pub data Piece : Type 0 where
   CloseBracket : Piece
   Quoted : (bytes : List ℕ) → Piece
 
--- the text is the piece and then the rest; a comment goes up to the next LF or the end, and a word is as long as it can
--- be
+-- the text is the piece followed by the rest; a comment extends to the next LF or the end, and a word is as long as
+-- possible
 abbrev pub PieceAt : Piece → List ℕ → List ℕ → Type 0
 PieceAt (White b) text rest = (text ≡ b ∷ rest) × (is_white b ≡ true)
 PieceAt (Comment after) text rest =
@@ -221,17 +222,17 @@ piece_token OpenBracket = Some Open
 piece_token CloseBracket = Some Close
 piece_token (Quoted bytes) = Some (Text bytes)
 
--- a token with its line and the marks between it and the token before it
+-- a token with its line and the marks since the token before it
 pub record Lexeme : Type 0 where
   pub marks : List Mark
   pub line : ℕ
   pub token : Token
 
--- how many lines end in the text
+-- the number of lines that end in the text
 abbrev pub newlines : List ℕ → ℕ
 newlines text = count_by (λ b. b == line_feed) text
 
--- the lexemes of the pieces, where the first piece stands on this line behind these marks; only white space holds LF
+-- the lexemes of the pieces, if the first piece is on this line after these marks; only white space contains LF
 abbrev pub lexemes : ℕ → List Mark → List Piece → List Lexeme
 lexemes line marks [] = []
 lexemes line marks (White b ∷ more) = lexemes (line + newlines (b ∷ [])) marks more
@@ -243,7 +244,7 @@ lexemes line marks (CloseBracket ∷ more) = record { marks = marks; line = line
 lexemes line marks (Quoted bytes ∷ more) =
     record { marks = marks; line = line; token = Text bytes } ∷ lexemes line [] more
 
--- the line behind the pieces: 1 and the LF bytes before it
+-- the line after the pieces: 1 plus the number of LF bytes in them
 abbrev pub line_of : List Piece → ℕ
 line_of [] = 1
 line_of (White b ∷ more) = newlines (b ∷ []) + line_of more
@@ -257,12 +258,12 @@ pub record Spells (text : List ℕ) (found : List Lexeme) : Type 0 where
 
 -- ---- faults
 
--- the bytes with which something begins: white space, a word, a string, a comment, a bracket
+-- the bytes that can begin something: white space, a word, a string, a comment, a bracket
 abbrev pub is_start_byte : ℕ → Bool
 is_start_byte b =
     (is_white b || is_word_byte b) || ((b == quote || b == number_sign) || (b == open_bracket || b == close_bracket))
 
--- the rest begins with this fault: a word that is no token, or a byte with which nothing begins; a string with a bad
+-- the rest begins with this fault: a word that is no token, or a byte that can't begin anything; a string with a bad
 -- escape; a string that isn't closed on its line; a closed string that isn't lawful
 abbrev pub FaultAt : PoKind → List ℕ → Type 0
 FaultAt BadWord rest =
@@ -277,7 +278,7 @@ FaultAt BadText rest =
     (values inner stop : List ℕ) × (rest ≡ quote ∷ inner) × UnitsAt values inner (quote ∷ stop) × ¬ IsLawful values
 FaultAt _ rest = ⊥
 
--- behind pieces the text has this lexical fault, at this line
+-- after some pieces the text has this lexical fault, on this line
 pub record HasFault (text : List ℕ) (kind : PoKind) (line : ℕ) : Type 0 where
   pub pieces : List Piece
   pub rest : List ℕ

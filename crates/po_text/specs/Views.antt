@@ -1,4 +1,4 @@
--- Entries in strings of their own, as what they say.
+-- What entries with strings of their own say.
 use Rattle.std.specs.Prelude.{List, map}
 use Rattle.std.specs.Option.{option_map}
 use Rattle.std.specs.String.{string_bytes}

@@ -1,4 +1,4 @@
-// An entry in buffers that are used again.
+//! `EntryBuffer`: an entry in buffers that are reused.
 ghost use Rattle.std.specs.Prelude.{◌≡◌, ℕ, ◌+◌, ◌-◌, ◌<◌, ◌≤◌, [], drop, length};
 ghost use Rattle.std.specs.Prelude.{take, OnOk, IfOk, Some, map, slice_get, slice_index, string_bytes};
 ghost use Rattle.std.specs.Option.{option_map};
@@ -18,11 +18,11 @@ use crate::places::Place;
 use std::alloc::{AllocError, Global};
 use std::marker::Model;
 
-/// An entry in buffers that are used again, so that reading one allocates only where it is larger
-/// than those before it. Its forms stand one behind the other.
+/// An entry in reusable buffers: reading allocates only when an entry is larger than those before it. Its plural forms
+/// are stored back to back.
 ///
-/// Contracts see the entry. Its texts are always UTF-8 without NUL, and its context and msgid have
-/// no byte 4; they are lent.
+/// Contracts see the entry that it holds. The strings that the methods return are borrowed from the buffers; they are
+/// always UTF-8 without NUL, and the context and the msgid have no byte 4.
 #[derive(Drop)]
 pub struct EntryBuffer {
     line: u32,
@@ -48,7 +48,7 @@ impl Model for EntryBuffer {
     ghost invariant = { IsWellBuilt };
 }
 
-/// These bytes as a text.
+/// These bytes as a string slice.
 fn text_of(bytes: &[u8]) -> &str
     requires { IsUtf8 bytes.now }
     ensures { result.now ≡ bytes.now }
@@ -56,7 +56,7 @@ fn text_of(bytes: &[u8]) -> &str
     unsafe { str::from_utf8_unchecked(bytes) }
 }
 
-/// The text between two places of these bytes.
+/// The bytes from `start` to `end` as a string slice.
 fn text_between(bytes: &[u8], start: usize, end: usize) -> &str
     requires rises { start ≤ end }
     requires within { end ≤ length bytes.now }
@@ -66,7 +66,7 @@ fn text_between(bytes: &[u8], start: usize, end: usize) -> &str
     text_of(&bytes[start..end])
 }
 
-/// Where a form ends that is followed by these: where the next one starts, or at the end.
+/// Where a form ends: where the next one starts, or at `end` for the last form.
 fn form_end(later: &[usize], end: usize) -> usize
     ensures { result ≡ first_or later.now end }
 {
@@ -76,7 +76,7 @@ fn form_end(later: &[usize], end: usize) -> usize
     }
 }
 
-/// Where the form with this index starts and ends.
+/// Where the form with index `k` starts and ends.
 fn form_bounds(starts: &[usize], end: usize, k: usize) -> (usize, usize)
     requires { k < length starts.now }
     ensures start { result.0 ≡ slice_index starts.now k }
@@ -85,7 +85,7 @@ fn form_bounds(starts: &[usize], end: usize, k: usize) -> (usize, usize)
     (starts[k], form_end(&starts[k + 1..], end))
 }
 
-/// A string of its own for a text, if there is one.
+/// An owned copy of a text, if there is one.
 fn copy_of(alloc: Global, text: Option<&str>) -> Result<Option<String>, AllocError>
     ensures { IfOk result (λ copy.
         option_map (λ s. string_bytes s) copy ≡ option_map (λ s. s.now) text.entry) }
@@ -102,7 +102,7 @@ fn copy_of(alloc: Global, text: Option<&str>) -> Result<Option<String>, AllocErr
 impl EntryBuffer {
     ghost use Rattle.po_text.specs.Buffers.{CanAdd, CanAddText};
 
-    /// Buffers without an entry. Nothing is allocated.
+    /// An empty buffer; allocates nothing.
     pub fn new(alloc: Global) -> EntryBuffer
         ensures { result ≡ no_entry }
     {
@@ -179,7 +179,7 @@ impl EntryBuffer {
         self.starts.len()
     }
 
-    /// The form with this index.
+    /// The form with index `k`, counted from 0.
     pub fn form(&self, k: usize) -> &str
         requires { k < length self.now.forms }
         ensures { slice_get self.now.forms k ≡ Some result.now }
@@ -188,7 +188,7 @@ impl EntryBuffer {
         text_between(&self.forms, start, end)
     }
 
-    /// The entry in strings of its own.
+    /// Copies the entry into strings of its own; fails only if memory runs out.
     pub fn to_entry(&self, alloc: Global) -> Result<PoEntry, AllocError>
         ensures { IfOk result (λ entry. entry_view entry ≡ self.now) }
     {
@@ -207,7 +207,7 @@ impl EntryBuffer {
         })
     }
 
-    /// A string of its own for each form.
+    /// An owned copy of each form.
     fn copy_forms(&self, alloc: Global) -> Result<Vec<String>, AllocError>
         ensures { IfOk result (λ forms.
             map (λ form. string_bytes form) forms.items ≡ self.now.forms) }
@@ -221,7 +221,7 @@ impl EntryBuffer {
         Ok(forms)
     }
 
-    /// Begins an entry whose opening keyword stands at this line.
+    /// Begins an entry whose opening keyword is on this line.
     pub(crate) fn begin(&mut self, line: u32, flags: Flags, has_context: bool)
         ensures { draft_of self.new ≡ begin line flags (some_if has_context []) }
     {
@@ -236,7 +236,7 @@ impl EntryBuffer {
         self.starts.clear();
     }
 
-    /// Adds a string, by the place behind which it stands.
+    /// Appends a string to the part of the entry that `place` is in.
     fn put_text(&mut self, place: Place, bytes: &[u8]) -> Result<(), AllocError>
         requires lawful { IsLawful bytes.now }
         requires stands { (k : ℕ) → CanAddText (place_view place k) bytes.now (draft_of self.old) }
@@ -251,7 +251,7 @@ impl EntryBuffer {
         }
     }
 
-    /// Adds a token that opens no entry.
+    /// Adds a token that doesn't open an entry.
     pub(crate) fn put(&mut self, place: Place, token: Token, bytes: &[u8]) -> Result<(), AllocError>
         requires { (k : ℕ) →
             CanAdd (token_view token bytes.now) (place_view place k) (draft_of self.old) }

@@ -1,6 +1,6 @@
-// An entry in strings of its own.
+//! An entry that owns its strings.
 
-/// An entry of a PO text.
+/// An entry of a PO text, with strings of its own.
 #[derive(Debug, Drop, PartialEq, Eq)]
 pub struct PoEntry {
     /// The line of its first keyword, counted from 1.
@@ -9,12 +9,12 @@ pub struct PoEntry {
     pub fuzzy: bool,
     /// Whether it is flagged `c-format`.
     pub c_format: bool,
-    /// Its `msgctxt`, which may be empty, or None where it has none.
+    /// Its `msgctxt`, if it has one; an empty one is kept.
     pub context: Option<String>,
     /// Its `msgid`.
     pub id: String,
     /// Its `msgid_plural`, if it has one.
     pub plural: Option<String>,
-    /// Its `msgstr`: one or more, and one where it has no `msgid_plural`.
+    /// Its `msgstr` forms: at least one, and exactly one if it has no `msgid_plural`.
     pub forms: Vec<String>,
 }

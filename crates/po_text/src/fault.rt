@@ -1,4 +1,4 @@
-// Why a text is refused.
+//! Why a text is refused.
 ghost use Rattle.std.specs.Prelude.{◌≡◌};
 ghost use Rattle.po_text.specs.Faults.{fault_on, out_of_memory};
 ghost use Rattle.po_text.specs.declared.fault.PoKind.TheVariants.{Memory};
@@ -21,19 +21,19 @@ pub enum PoKind {
     /// A line or the text ends inside a string.
     #[error("string not closed")]
     OpenString,
-    /// A word is neither a keyword nor a number, or a byte can begin no token.
+    /// A word is neither a keyword nor a number, or a byte can't begin any token.
     #[error("unknown word")]
     BadWord,
     /// A string holds NUL or isn't UTF-8, or a context or msgid holds byte 4.
     #[error("bad text")]
     BadText,
-    /// A token can't stand at its place, or the text ends too early.
+    /// A token isn't allowed where it is, or the text ends in the middle of an entry.
     #[error("out of order")]
     BadOrder,
     /// The index of a plural form isn't the next one.
     #[error("wrong plural index")]
     BadIndex,
-    /// Memory was refused. This says nothing of the text.
+    /// An allocation failed; this says nothing about the text.
     #[error("out of memory")]
     Memory,
 }
@@ -54,19 +54,19 @@ impl<T: Drop> From<AllocFailed<T>> for PoKind {
     }
 }
 
-/// What is wrong with a text, and in which line, counted from 1. The line is 0 for a text that is
-/// too large and for want of memory.
+/// What is wrong with a text, and on which line, counted from 1. The line is 0 if the text is too large or memory runs
+/// out.
 #[derive(Clone, Copy, Debug, PartialEq, Eq, Error)]
 #[error("line {line}: {kind}")]
 pub struct PoFault {
     /// What is wrong.
     pub kind: PoKind,
-    /// The line where it stands.
+    /// The line of the fault.
     pub line: u32,
 }
 
 impl PoFault {
-    /// A fault on this line. Want of memory has no line.
+    /// A fault on this line; `Memory` is always on line 0.
     pub(crate) fn new(kind: PoKind, line: u32) -> PoFault
         ensures { result ≡ fault_on kind line }
     {

@@ -1,4 +1,4 @@
-// The flags of an entry, and how comments set them.
+//! The flags of an entry, and how comments set them.
 ghost use Rattle.std.specs.Prelude.{◌≡◌, ◌∷◌, []};
 ghost use Rattle.std.specs.List.{filter_map, prefix_len, slice_split};
 ghost use Rattle.po_text.specs.Building.{flags_over};
@@ -27,7 +27,7 @@ fn is_separator_byte(byte: u8) -> bool
     byte == b',' || is_white_byte(byte)
 }
 
-/// The longest front without a separator.
+/// The length of the front up to the first separator.
 #[tactic(auto, using(std::proofs::lemmas::List::Sums::prefix_len_is))]
 fn flag_len(words: &[u8]) -> usize
     ensures { result ≡ prefix_len is_no_separator words.now }
@@ -75,7 +75,7 @@ fn flag_words(words: &[u8], flags: Flags) -> Flags
     }
 }
 
-/// The flags after a comment, by what stands after its `#`.
+/// The flags after a comment, given what follows its `#`.
 pub(crate) fn comment_flags(comment: &[u8], flags: Flags) -> Flags
     ensures { result ≡ flags_over flags (comment_marks comment.now) }
 {

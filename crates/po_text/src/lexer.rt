@@ -1,4 +1,4 @@
-// Tokens, one after another, and the gaps before them.
+//! The lexer: splits a text into tokens, and skips the white space and comments between them.
 ghost use Rattle.std.specs.Prelude.{◌≡◌, ℕ, ◌+◌, ◌-◌, ◌*◌, ◌<◌, ◌≤◌, ◌^◌, ◌↔◌, ◌⊎◌, ◌++◌};
 ghost use Rattle.std.specs.Prelude.{◌∷◌, [], List, Bool, length, IfOk, IfErr, IfSome, IsTrue, MatchOption, false};
 ghost use Rattle.std.specs.List.{filter_map, prefix_len, slice_split, take_while};
@@ -19,7 +19,7 @@ use crate::flags::{Flags, comment_flags};
 use crate::scan::{is_free_of_nul, is_white_byte, split_byte, split_line};
 use crate::strings::StringBytes;
 
-/// A token; the bytes of a string stand apart.
+/// A token; the bytes of a string are kept in a `StringBytes`.
 #[derive(Clone, Copy)]
 pub(crate) enum Token {
     Context,
@@ -32,11 +32,11 @@ pub(crate) enum Token {
     Text,
 }
 
-/// A text from some place on, with the flags collected since the last opening keyword.
+/// The rest of a text, its line, and the flags collected since the last opening keyword.
 #[derive(Drop)]
 pub(crate) struct Lexer<'a> {
     pub(crate) rest: &'a [u8],
-    /// Whether there is no NUL in it.
+    /// Whether `rest` is known to be free of NUL.
     is_free: bool,
     pub(crate) line: u32,
     pub(crate) flags: Flags,
@@ -49,7 +49,7 @@ fn is_letter_digit(byte: u8) -> bool
     byte.is_ascii_alphanumeric() || byte == b'_'
 }
 
-/// The longest word at the front, perhaps empty, and the rest.
+/// The length of the longest word at the front, 0 if there is none.
 #[tactic(auto, using(std::proofs::lemmas::List::Sums::prefix_len_is))]
 fn word_len(text: &[u8]) -> usize
     ensures { result ≡ prefix_len is_word_byte text.now }
@@ -62,7 +62,7 @@ fn word_len(text: &[u8]) -> usize
     text.len()
 }
 
-/// The number that a word of digits is.
+/// The number that a word spells, if it is one to nine decimal digits.
 fn number(word: &[u8]) -> Option<Token>
     ensures { (bytes : List ℕ) → word_view result bytes ≡ number_of word.now }
 {
@@ -79,7 +79,7 @@ fn number(word: &[u8]) -> Option<Token>
     Some(Token::Number(value))
 }
 
-/// The token that a word is.
+/// The token that a word spells, if it is a keyword or a number.
 fn token_of(word: &[u8]) -> Option<Token>
     ensures { (bytes : List ℕ) → word_view result bytes ≡ word_token word.now }
 {
@@ -96,7 +96,7 @@ fn token_of(word: &[u8]) -> Option<Token>
     }
 }
 
-/// Reads the word at the front.
+/// Reads the keyword or number at the front; any other word, or none, is a `BadWord`.
 fn read_word(text: &[u8]) -> Result<(Token, &[u8]), PoKind>
     ensures ok { IfOk result (λ x. (token : spec.Token)
         × PieceAt (Word (take_while is_word_byte text.now) token) text.now x.1.now
@@ -115,7 +115,7 @@ fn read_word(text: &[u8]) -> Result<(Token, &[u8]), PoKind>
     }
 }
 
-/// Reads the string behind an opening quote.
+/// Reads a string, from after its opening quote to its closing one.
 fn read_string<'a>(
     inner: &'a [u8],
     is_free: bool,
@@ -167,7 +167,7 @@ impl<'a> Lexer<'a> {
     ghost use Rattle.po_text.specs.Lexing.{TakesGap, TakesLexemes};
     ghost use Rattle.po_text.specs.Spelling.{HasFault, Lexeme, Spells};
 
-    /// A lexer at the front of a text.
+    /// A lexer at the start of a text.
     pub(crate) fn new(text: &'a [u8]) -> Lexer<'a>
         requires { EndsText false text.now }
         ensures rest { result.rest.now ≡ text.now }
@@ -182,7 +182,7 @@ impl<'a> Lexer<'a> {
         }
     }
 
-    /// Skips white space and comments.
+    /// Skips white space and comments, counting lines and collecting flags.
     fn skip_gap(&mut self)
         requires { self.old.line + length self.old.rest.now < 2 ^ 32 }
         ensures gap { TakesGap self.old.flags self.old.line self.old.rest.now
@@ -205,7 +205,7 @@ impl<'a> Lexer<'a> {
         }
     }
 
-    /// Reads the next token behind a gap, with `line` its line; None at the end.
+    /// Skips to the next token and reads it, leaving its line in `line`; None at the end of the text.
     pub(crate) fn next_token(
         &mut self,
         bytes: &mut StringBytes<'a>,
@@ -236,7 +236,7 @@ impl<'a> Lexer<'a> {
         }
     }
 
-    /// Reads all tokens up to the end.
+    /// Reads all remaining tokens, only to see whether they have a lexical fault.
     pub(crate) fn skip_tokens(&mut self, bytes: &mut StringBytes<'a>) -> Result<(), PoFault>
         requires { self.old.line + length self.old.rest.now < 2 ^ 32 }
         ensures ok { IfOk result (λ _. (text : List ℕ) (found : List Lexeme) →

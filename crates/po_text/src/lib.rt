@@ -1,7 +1,7 @@
 //! Reads PO texts, the message catalogues of GNU gettext, into entries.
 //!
-//! [`read_po`] gives all entries of a text; [`open_text`] gives an [`EntryReader`], which reads
-//! them one after another into an [`EntryBuffer`] that is used again.
+//! [`read_po`] returns all entries of a text; [`open_text`] returns an [`EntryReader`], which reads them one at a time
+//! into a reusable [`EntryBuffer`].
 #![tactic(auto)]
 
 mod buffer;

@@ -1,4 +1,4 @@
-// Whether a text can be read, and where it begins.
+//! Whether a text can be read, and where its entries begin.
 ghost use Rattle.std.specs.Prelude.{◌≡◌, ◌+◌, ◌<◌, ◌≤◌, ◌^◌, [], IfOk, IfErr, None, false, length};
 ghost use Rattle.std.specs.Str.{IsUtf8};
 ghost use Rattle.po_text.specs.Ends.{EndsText};
@@ -11,7 +11,7 @@ use crate::reader::EntryReader;
 use simdutf8::compat::from_utf8;
 use std::alloc::Global;
 
-/// The line behind the text.
+/// The line on which the text ends.
 fn line_behind(text: &[u8]) -> u32
     requires { length text.now < 2 ^ 31 }
     ensures { result ≡ newlines text.now + 1 }
@@ -19,7 +19,7 @@ fn line_behind(text: &[u8]) -> u32
     text.iter().filter(|byte| **byte == b'\n').count() as u32 + 1
 }
 
-/// The text behind a byte order mark.
+/// The text without its byte order mark, if it begins with one.
 fn skip_mark(text: &[u8]) -> &[u8]
     ensures is { result.now ≡ body text.now }
     ensures shorter { length result.now ≤ length text.now }
@@ -33,13 +33,13 @@ fn skip_mark(text: &[u8]) -> &[u8]
     }
 }
 
-/// How many bytes a PO text may have (our choice).
+/// The maximum size of a PO text in bytes, its byte order mark included: 64 MiB (our choice).
 pub const MAX_TEXT: usize = 67_108_864;
 
-/// A reader of the entries of a PO text, behind its byte order mark.
+/// Opens a PO text for reading its entries; a byte order mark at the front is skipped.
 ///
-/// Refuses a text of more than 67,108,864 bytes, on line 0, and one that isn't UTF-8, on the line of
-/// the first byte that can't be decoded. Nothing is allocated.
+/// Refuses a text of more than 67,108,864 bytes with `TooLarge` on line 0, and one that isn't UTF-8 with `NotUtf8` on
+/// the line of the first byte that can't be decoded. Allocates nothing.
 pub fn open_text(alloc: Global, text: &[u8]) -> Result<EntryReader, PoFault>
     ensures readable { IfOk result (λ _. IsReadable text.now) }
     ensures read { IfOk result (λ reader. HasRead (body text.now) [] reader) }

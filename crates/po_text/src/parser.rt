@@ -1,4 +1,4 @@
-// Entries, put together from one token after another.
+//! The parser: takes one token after another, and completes an entry when the next one begins or the text ends.
 ghost use Rattle.std.specs.Prelude.{◌≡◌, ℕ, ◌+◌, ◌<◌, ◌≤◌, ◌^◌, ◌⊎◌, [], List, length, IfOk, IfErr, Some, false, true};
 ghost use Rattle.std.specs.Bool.{OnTrue};
 ghost use Rattle.po_text.specs.declared.fault.PoKind.TheVariants.{BadOrder};
@@ -20,20 +20,20 @@ use crate::places::{Place, forms_after, next_place, opens_entry};
 use crate::strings::StringBytes;
 use std::alloc::{AllocError, Global};
 
-/// A text whose entries are put together one after another. Between two of them the opening keyword
-/// of the next one was read.
+/// Parses a text into entries, one at a time. Between two entries, the opening keyword of the next one has already been
+/// read.
 #[derive(Drop)]
 pub(crate) struct Parser<'a> {
     lexer: Lexer<'a>,
-    /// The bytes of the string that was read last.
+    /// The bytes of the last string read.
     bytes: StringBytes<'a>,
-    /// What was read last.
+    /// The place in the grammar, after the last token.
     place: Place,
-    /// How many plural forms of the entry are complete.
+    /// The number of the entry's plural forms that are complete.
     count: u32,
     /// The line of the entry's opening keyword.
     line: u32,
-    /// The flags of the entry.
+    /// The entry's flags.
     entry_flags: Flags,
     /// The line of the last `msgctxt` or `msgid`.
     keyword_line: u32,
@@ -53,7 +53,7 @@ fn is_start(place: Place) -> bool
     matches!(place, Place::Start)
 }
 
-/// The line of the last keyword of a context or a msgid.
+/// The line of the last `msgctxt` or `msgid` once `token` is taken, if it was `old` before.
 fn keyword_after(token: Token, line: u32, old: u32) -> u32
     ensures { (bytes : List ℕ) → result ≡ keyword_line (token_view token bytes) line old }
 {
@@ -63,7 +63,7 @@ fn keyword_after(token: Token, line: u32, old: u32) -> u32
     }
 }
 
-/// The fault at a token that can't stand at the place.
+/// The fault of a token that isn't allowed at this place.
 fn refusal_of(place: Place, token: Token, line: u32, keyword_line: u32) -> PoFault
     ensures { (bytes : List ℕ) (k : ℕ) →
         result ≡ refusal (token_view token bytes) (place_view place k) line keyword_line }
@@ -80,7 +80,7 @@ impl<'a> Parser<'a> {
     ghost use Rattle.po_text.specs.Parsing.{HasParsed, IsReady, TakesToken, KeepsForm};
     ghost use Rattle.po_text.specs.Parsing.{EndsRight, ParsesOn, Refused, left_in};
 
-    /// A parser at the front of a text.
+    /// A parser at the start of a text.
     pub(crate) fn new(alloc: Global, text: &'a [u8]) -> Parser<'a>
         requires ends { EndsText false text.now }
         requires short { length text.now + 1 < 2 ^ 32 }
@@ -99,7 +99,7 @@ impl<'a> Parser<'a> {
         }
     }
 
-    /// Takes a token that may stand here and leads to `place`; true where it opens the next entry.
+    /// Takes a token that leads to `place`; returns true if the token ends the entry by opening the next one.
     fn take(
         &mut self,
         token: Token,
@@ -139,7 +139,8 @@ impl<'a> Parser<'a> {
         Ok(true)
     }
 
-    /// At the end of the text: whether an entry ended there.
+    /// Handles the end of the text: true if it ends an entry, false if the text has no entries, and `BadOrder` on line
+    /// `last` if it ends in the middle of an entry.
     fn end(&mut self, last: u32) -> Result<bool, PoFault>
         ensures right { IfOk result (λ ended. EndsRight ended self.old) }
         ensures finished { IfOk result (λ _. self.new.finished ≡ true) }
@@ -163,7 +164,8 @@ impl<'a> Parser<'a> {
         }
     }
 
-    /// The fault of a text whose token, read last, can't stand here: that of grammar, or a later lexical one.
+    /// The fault of a text whose last token isn't allowed here; a lexical fault in the rest of the text takes
+    /// precedence.
     fn refuse(&mut self, token: Token) -> PoFault
         requires { self.old.lexer.line + length self.old.lexer.rest.now < 2 ^ 32 }
         ensures { (result ≡ out_of_memory) ⊎ ((text : List ℕ) →
@@ -179,7 +181,7 @@ impl<'a> Parser<'a> {
         }
     }
 
-    /// Reads the next entry into the buffers; false where there is none.
+    /// Reads the next entry into `into`; returns false if there are no more.
     pub(crate) fn next_entry(&mut self, into: &mut EntryBuffer) -> Result<bool, PoFault>
         requires { IsReady self.old }
         ensures read { IfOk result (λ more. (text : List ℕ) (entries : List Entry) →

@@ -1,4 +1,4 @@
-// Entries, built from one token after another.
+//! The grammar of entries: the places in it, and where each token leads.
 ghost use Rattle.std.specs.Prelude.{List, ◌≡◌, ℕ, ◌+◌, ◌<◌, ◌≤◌, ◌^◌};
 ghost use Rattle.po_text.specs.Lexing.{token_view};
 ghost use Rattle.po_text.specs.Places.{step, place_view, has_four, opening, next_count};
@@ -8,7 +8,7 @@ ghost use Rattle.std.specs.Option.{option_map};
 
 use crate::lexer::Token;
 
-/// What was read last of the entry that is being read.
+/// A place in the grammar: what was read last of the current entry.
 #[derive(Clone, Copy)]
 pub(crate) enum Place {
     Start,
@@ -33,7 +33,7 @@ fn holds_four(text: &[u8]) -> bool
     text.contains(&4)
 }
 
-/// How many forms are complete after the token, where `forms` were.
+/// The number of complete forms after `token`, if there were `forms` before it.
 pub(crate) fn forms_after(place: Place, token: Token, forms: u32) -> u32
     requires { forms + 1 < 2 ^ 32 }
     ensures is { result ≡ next_count place token forms }
@@ -46,7 +46,7 @@ pub(crate) fn forms_after(place: Place, token: Token, forms: u32) -> u32
     }
 }
 
-/// Whether the token, which may stand at the place, opens an entry.
+/// Whether the token, which is allowed at this place, opens an entry.
 pub(crate) fn opens_entry(place: Place, token: Token) -> bool
     ensures { (bytes : List ℕ) (k : ℕ) →
         opens (token_view token bytes) (place_view place k) ≡ opened result token }
@@ -59,7 +59,8 @@ pub(crate) fn opens_entry(place: Place, token: Token) -> bool
     }
 }
 
-/// The place after the token, whose string is `bytes`, where `forms` are complete.
+/// The place after `token`, whose string is `bytes`, if `forms` forms are complete; None if the token isn't allowed
+/// here.
 #[tactic(auto, unfolding(crate::specs::Places::step))]
 pub(crate) fn next_place(place: Place, token: Token, forms: u32, bytes: &[u8]) -> Option<Place>
     ensures { step (place_view place forms) (token_view token bytes.now)

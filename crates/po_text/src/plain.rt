@@ -1,5 +1,5 @@
-// The plain bytes at the front of a string, a vector at a time: most strings end within a few vectors, where a call
-// to a search costs more than the bytes.
+//! Scans for plain bytes one vector at a time: most strings end within a few vectors, where calling a search function
+//! costs more than the bytes.
 ghost use Rattle.std.specs.Prelude.{◌≡◌, ◌+◌, ◌≤◌, drop, length, take, IsTrue};
 ghost use Rattle.std.specs.List.{prefix_len};
 ghost use Rattle.po_text.specs.Lexing.{first_set, is_simple};
@@ -7,7 +7,7 @@ ghost use Rattle.po_text.specs.Spelling.{is_plain, IsLawful};
 
 use std::simd::prelude::*;
 
-/// How many bytes a vector has.
+/// The number of bytes in a vector.
 const LANES: usize = 16;
 
 fn is_plain_byte(byte: u8) -> bool
@@ -16,7 +16,7 @@ fn is_plain_byte(byte: u8) -> bool
     byte != b'"' && byte != b'\\' && byte != b'\n'
 }
 
-/// The place of the lowest bit that is set, or the number of lanes.
+/// The index of the lowest set bit, or the number of lanes if no bit is set.
 #[inline(always)]
 fn first_set(mask: u64) -> usize
     ensures { result ≡ first_set mask LANES }
@@ -28,7 +28,7 @@ fn first_set(mask: u64) -> usize
     }
 }
 
-/// How many plain bytes stand at the front of a vector's bytes.
+/// The number of plain bytes that the vector at `at` begins with.
 #[inline(always)]
 fn plain_lanes(text: &[u8], at: usize) -> usize
     requires { at + LANES ≤ length text.now }
@@ -41,7 +41,7 @@ fn plain_lanes(text: &[u8], at: usize) -> usize
     first_set(stops.to_bitmask())
 }
 
-/// How many plain bytes stand at the front, a byte at a time.
+/// The number of plain bytes at the front, found one byte at a time.
 #[tactic(auto, using(std::proofs::lemmas::List::Sums::prefix_len_is))]
 fn plain_bytes(text: &[u8]) -> usize
     ensures { result ≡ prefix_len is_plain text.now }
@@ -54,7 +54,7 @@ fn plain_bytes(text: &[u8]) -> usize
     text.len()
 }
 
-/// How many plain bytes stand at the front.
+/// The number of plain bytes at the front.
 pub(crate) fn plain_len(text: &[u8]) -> usize
     ensures { result ≡ prefix_len is_plain text.now }
 {
@@ -75,7 +75,7 @@ fn is_simple_byte(byte: u8) -> bool
     1 <= byte && byte < 128
 }
 
-/// How many simple bytes stand at the front of a vector's bytes.
+/// The number of simple bytes, ASCII other than NUL, that the vector at `at` begins with.
 #[inline(always)]
 fn simple_lanes(text: &[u8], at: usize) -> usize
     requires { at + LANES ≤ length text.now }
@@ -86,7 +86,7 @@ fn simple_lanes(text: &[u8], at: usize) -> usize
     first_set(stops.to_bitmask())
 }
 
-/// How many simple bytes stand at the front, a byte at a time.
+/// The number of simple bytes at the front, found one byte at a time.
 #[tactic(auto, using(std::proofs::lemmas::List::Sums::prefix_len_is))]
 fn simple_bytes(text: &[u8]) -> usize
     ensures { result ≡ prefix_len is_simple text.now }
@@ -99,8 +99,8 @@ fn simple_bytes(text: &[u8]) -> usize
     text.len()
 }
 
-/// Whether all bytes are ASCII and not NUL: then they are lawful, and no search and no decoder has to look at them.
-/// The last vector may overlap the one before it.
+/// Whether all bytes are ASCII other than NUL. Such bytes are lawful without a search for NUL or a UTF-8 decoder. The
+/// last vector may overlap the one before it.
 pub(crate) fn are_simple(bytes: &[u8]) -> bool
     ensures { IsTrue result → IsLawful bytes.now }
 {

@@ -1,4 +1,4 @@
-// All entries of a text.
+//! Reads all entries of a text at once.
 ghost use Rattle.std.specs.Prelude.{◌≡◌, ℕ, ◌+◌, ◌<◌, ◌≤◌, ◌⊎◌, List, []};
 ghost use Rattle.std.specs.Prelude.{◌∷◌, ◌++◌, length, map, IfOk, IfErr, slice_get, Some};
 ghost use Rattle.po_text.specs.declared.fault.PoKind.{PoKind as KindOfFault};
@@ -13,10 +13,10 @@ use crate::fault::PoFault;
 use crate::open::open_text;
 use std::alloc::Global;
 
-/// Reads all entries of a PO text (the GNU gettext manual, "PO Files"), in their order.
+/// Reads all entries of a PO text (the GNU gettext manual, "PO Files"), in order.
 ///
-/// Refuses a text of more than 67,108,864 bytes, one that isn't UTF-8, and else gives the first
-/// fault of a token, or the first fault of the grammar where each token can be read.
+/// Refuses a text of more than 67,108,864 bytes or one that isn't UTF-8. Otherwise the first lexical fault is returned,
+/// or the first grammar fault if there is no lexical one. If memory runs out, the fault is `Memory`, on line 0.
 pub fn read_po(alloc: Global, text: &[u8]) -> Result<Vec<PoEntry>, PoFault>
     ensures ok { IfOk result (λ entries. Gives text.now (entries_view entries.items)) }
     ensures err { IfErr result (λ fault.
@@ -32,8 +32,8 @@ pub fn read_po(alloc: Global, text: &[u8]) -> Result<Vec<PoEntry>, PoFault>
     Ok(entries)
 }
 
-/// A law, and no code: a text gives one list of entries, or is refused for one kind on one line, and
-/// not both. So what `read_po` answers is exact, but for want of memory.
+/// A law, without code: every text either gives one list of entries or is refused with one kind of fault on one line,
+/// never both. So the result of `read_po` is determined, unless memory runs out.
 pub fn one_outcome()
     ensures entries { (text : List ℕ) (entries others : List Entry) →
         Gives text entries → Gives text others → entries ≡ others }

@@ -1,4 +1,4 @@
-// White space, and the fronts of slices.
+//! White space, and the first byte and line of a slice.
 ghost use Rattle.std.specs.Prelude.{◌≡◌, ◌≤◌, ◌++◌, ◌∷◌, [], length, IsTrue, MatchOption};
 ghost use Rattle.std.specs.List.{take_while, Contains};
 ghost use Rattle.po_text.specs.Spelling.{is_white, is_not_line_end};
@@ -12,7 +12,7 @@ pub(crate) fn is_white_byte(byte: u8) -> bool
     (9 <= byte && byte <= 13) || byte == b' '
 }
 
-/// The first byte and the rest.
+/// Splits off the first byte.
 pub(crate) fn split_byte(text: &[u8]) -> Option<(u8, &[u8])>
     ensures { MatchOption result (text.now ≡ []) (λ x. text.now ≡ x.0 ∷ x.1.now) }
 {
@@ -22,7 +22,7 @@ pub(crate) fn split_byte(text: &[u8]) -> Option<(u8, &[u8])>
     }
 }
 
-/// Whether no byte is NUL; a search by vectors, for a whole text.
+/// Whether no byte is NUL; a vectorized search, meant for whole texts.
 pub(crate) fn is_free_of_nul(text: &[u8]) -> bool
     ensures { IsTrue result → ¬ Contains text.now 0 }
 {

@@ -1,4 +1,4 @@
-// The string that was read last.
+//! The bytes of the last string read, borrowed or decoded.
 ghost use Rattle.std.specs.Prelude.{◌≡◌, ◌<◌, ◌↔◌, ◌∷◌, [], Bool, length, IfOk, IfErr, IsTrue};
 ghost use Rattle.po_text.specs.Ends.{EndsText};
 ghost use Rattle.po_text.specs.Lexing.{HoldsPart, UnitsFail, string_of};
@@ -11,15 +11,15 @@ use crate::units::{plain_run, read_units};
 use simdutf8::is_utf8;
 use std::alloc::Global;
 
-/// The bytes of the string that was read last. One without an escape is lent from the text; another one is
-/// decoded into a buffer that is used again.
+/// The bytes of the last string read. A string without escapes is borrowed from the text; any other is decoded into a
+/// reused buffer.
 #[derive(Drop)]
 pub(crate) struct StringBytes<'a> {
     plain: Option<&'a [u8]>,
     decoded: Vec<u8>,
 }
 
-/// Whether a string may hold these bytes.
+/// Whether a string may contain these bytes: they are UTF-8 without NUL.
 fn is_lawful(bytes: &[u8]) -> bool
     ensures { IsTrue result ↔ IsLawful bytes.now }
 {
@@ -27,7 +27,7 @@ fn is_lawful(bytes: &[u8]) -> bool
 }
 
 impl<'a> StringBytes<'a> {
-    /// No bytes. Nothing is allocated.
+    /// An empty string; allocates nothing.
     pub(crate) fn new(alloc: Global) -> StringBytes<'a> {
         StringBytes {
             plain: None,
@@ -35,7 +35,7 @@ impl<'a> StringBytes<'a> {
         }
     }
 
-    /// The bytes.
+    /// The string's bytes.
     pub(crate) fn as_slice(&self) -> &[u8]
         ensures { result.now ≡ string_of self.now }
     {
@@ -45,7 +45,7 @@ impl<'a> StringBytes<'a> {
         }
     }
 
-    /// Reads the units of a string and its closing quote, behind the opening one.
+    /// Reads the units of a string and its closing quote, from after the opening one; returns what follows them.
     pub(crate) fn read(&mut self, inner: &'a [u8]) -> Result<&'a [u8], PoKind>
         ensures ok { IfOk result (λ rest. UnitsAt (string_of self.new) inner.now (34 ∷ rest.now)) }
         ensures shorter { IfOk result (λ rest. length rest.now < length inner.now) }
@@ -63,7 +63,7 @@ impl<'a> StringBytes<'a> {
         read_units(after, &mut self.decoded)
     }
 
-    /// Whether a string may hold the bytes. Those that are lent need no decoder.
+    /// Whether a string may contain these bytes; borrowed ones are known to be UTF-8.
     pub(crate) fn is_lawful(&self, is_free: bool) -> bool
         requires { HoldsPart is_free self.now }
         ensures { IsTrue result ↔ IsLawful (string_of self.now) }

@@ -1,4 +1,4 @@
-// The units of a string: plain bytes, escapes and octal digits.
+//! The units of a string: plain bytes, escapes and octal digits.
 ghost use Rattle.std.specs.Prelude.{◌≢◌, ◌≡◌, ℕ, ◌+◌, ◌-◌, ◌*◌, ◌<◌, ◌≤◌, ◌↔◌, ◌++◌};
 ghost use Rattle.std.specs.Prelude.{◌∷◌, List, Bool, length, IfOk, IfErr, IsTrue, MatchOption, []};
 ghost use Rattle.std.specs.List.{prefix_len};
@@ -10,7 +10,7 @@ use crate::fault::PoKind;
 use crate::plain::plain_len;
 use crate::scan::split_byte;
 
-/// The byte that a backslash and this letter stand for.
+/// The byte that a backslash followed by this letter stands for.
 fn escape_value(letter: u8) -> Option<u8>
     ensures { result ≡ escaped letter }
 {
@@ -34,7 +34,7 @@ fn is_octal_digit(byte: u8) -> bool
     b'0' <= byte && byte <= b'7'
 }
 
-/// Cuts off the plain bytes at the front.
+/// Splits off the plain bytes at the front.
 pub(crate) fn plain_run(text: &[u8]) -> (&[u8], &[u8])
     ensures parts { text.now ≡ result.0.now ++ result.1.now }
     ensures units { UnitsAt result.0.now text.now result.1.now }
@@ -44,7 +44,7 @@ pub(crate) fn plain_run(text: &[u8]) -> (&[u8], &[u8])
     text.split_at(plain_len(text))
 }
 
-/// How many octal digits stand at the front.
+/// The number of octal digits at the front.
 #[tactic(auto, using(std::proofs::lemmas::List::Sums::prefix_len_is))]
 fn octal_len(window: &[u8]) -> usize
     ensures { result ≡ prefix_len is_octal window.now }
@@ -57,7 +57,7 @@ fn octal_len(window: &[u8]) -> usize
     window.len()
 }
 
-/// The octal digits at the front, three at most, and what follows them.
+/// The octal digits at the front, at most three, and the rest.
 fn octal_digits(text: &[u8]) -> (&[u8], &[u8])
     ensures digits { result.0.now ≡ octal_run text.now }
     ensures rest { text.now ≡ result.0.now ++ result.1.now }
@@ -86,14 +86,14 @@ fn octal_number(digits: &[u8]) -> u16
     }
 }
 
-/// Reads the octal digits behind a backslash, of which there are some.
+/// Reads the octal digits after a backslash, of which there is at least one; `BadEscape` above 255.
 fn read_octal(text: &[u8]) -> Result<(u8, &[u8]), PoKind>
     requires { 0 < length (octal_run text.now) }
     ensures ok { IfOk result (λ found. ReadsUnit (92 ∷ text.now) found.0 found.1.now) }
     ensures shorter { IfOk result (λ found. length found.1.now < length text.now) }
     ensures err { IfErr result (λ kind. StopsBadly kind (92 ∷ text.now)) }
 
-    // It allocates nothing.
+    // This allocates nothing.
     ensures no_memory { IfErr result (λ kind. kind ≢ Memory) }
 {
     let (digits, rest) = octal_digits(text);
@@ -104,13 +104,13 @@ fn read_octal(text: &[u8]) -> Result<(u8, &[u8]), PoKind>
     Ok((value as u8, rest))
 }
 
-/// Reads what stands behind a backslash.
+/// Reads an escape, from after its backslash.
 fn read_escape(text: &[u8]) -> Result<(u8, &[u8]), PoKind>
     ensures ok { IfOk result (λ found. ReadsUnit (92 ∷ text.now) found.0 found.1.now) }
     ensures shorter { IfOk result (λ found. length found.1.now < length text.now) }
     ensures err { IfErr result (λ kind. StopsBadly kind (92 ∷ text.now)) }
 
-    // It allocates nothing.
+    // This allocates nothing.
     ensures no_memory { IfErr result (λ kind. kind ≢ Memory) }
 {
     let Some((letter, rest)) = split_byte(text) else {
@@ -128,7 +128,7 @@ fn read_escape(text: &[u8]) -> Result<(u8, &[u8]), PoKind>
     }
 }
 
-/// Reads the units of a string and its closing quote, and adds their values to `out`.
+/// Reads the units of a string and its closing quote, and appends their values to `out`.
 pub(crate) fn read_units<'a>(text: &'a [u8], out: &mut Vec<u8>) -> Result<&'a [u8], PoKind>
     ensures ok { IfOk result (λ rest. TakesUnits out.old.items out.new.items text.now (34 ∷ rest.now)) }
     ensures shorter { IfOk result (λ rest. length rest.now < length text.now) }

@@ -1,4 +1,4 @@
--- Texts cut at the first byte of a kind.
+-- Texts, split at the first occurrence of a byte.
 use Rattle.std.proofs.Common.{◌≡◌, ℕ, ◌+◌, ◌-◌, ◌<◌, ◌≤◌, ◌↔◌, Bool, true, false, not, cond, List, length, take, drop}
 use Rattle.std.proofs.Common.{get_or}
 use Rattle.std.proofs.Common.{Option, Some, None, refl, sym, ap, ◌∙◌, arith}
@@ -16,7 +16,7 @@ place byte text = position_or_len (is_byte byte) text
 abbrev parts : ℕ → List ℕ → List ℕ × List ℕ
 parts byte text = (before_first (is_byte byte) text, after_first (is_byte byte) text)
 
--- ---- what a search for the byte says
+-- ---- what a search for the byte finds
 
 pub place_found : (byte : ℕ) (text : List ℕ) (k : ℕ) → IsFirstByte (is_byte byte) text (Some k) → place byte text ≡ k
 place_found byte text k found = position_or_len_is (is_byte byte) text k 0 (omega (arith, found.0.high))
@@ -26,7 +26,7 @@ pub place_none : (byte : ℕ) (text : List ℕ) → IsFirstByte (is_byte byte) t
 place_none byte text none = position_or_len_is (is_byte byte) text (length text) 0 (omega arith)
     (λ i lt. false_from_ne_true _ (none i (omega arith) lt)) (λ lt. absurd (omega arith))
 
--- the parts at a place where the byte was found
+-- the parts around the index where the byte was found
 pub cut_at : (byte : ℕ) (text front behind : List ℕ) (k : ℕ) → IsFirstByte (is_byte byte) text (Some k) → front
     ≡ slice_range text 0 k → behind ≡ drop (k + 1) text → IsCut byte text front behind
 cut_at byte text front behind k found e f =
@@ -52,7 +52,7 @@ pub cut_is : (byte : ℕ) (text front behind : List ℕ) → IsCut byte text fro
 cut_is byte text front behind at = ap (λ f. Some (f, behind)) at.front_is
     ∙ ap (λ b. Some (before_first (is_byte byte) text, b)) at.behind_is ∙ sym (cut_there byte text at.within)
 
--- a text without the byte is all in front of it
+-- a text without the byte is all before it
 pub front_whole : (byte : ℕ) (text : List ℕ) → place byte text ≡ length text → text ≡ before_first (is_byte byte) text
 front_whole byte text none = sym (take_all (place byte text) text (omega (arith, none)))
 
@@ -68,7 +68,7 @@ lacks_is byte text (Some k) false first some = (
   (λ none. absurd (omega (arith, place_found byte text k first, first.0.high, none))),
 )
 
--- ---- a place that is known
+-- ---- a known index
 
 pub byte_there : (byte : ℕ) (text : List ℕ) (at : ℕ) → at ≡ place byte text → at < length text
     → get_or text at 0 ≡ byte
@@ -77,7 +77,7 @@ byte_there byte text at is lt = eqb-true _ _ (rw is (passes_at_first (is_byte by
 pub place_within : (byte : ℕ) (text : List ℕ) → place byte text ≤ length text
 place_within byte text = prefix_len-le-length (λ b. not (is_byte byte b)) text
 
--- the parts at the first such byte
+-- the parts around the first such byte
 pub cut_known : (byte : ℕ) (text front behind : List ℕ) (at : ℕ) → at ≡ place byte text → at < length text
     → front ≡ slice_range text 0 at → behind ≡ drop (at + 1) text → IsCut byte text front behind
 cut_known byte text front behind at is lt e f =

@@ -1,4 +1,4 @@
--- The first place of a byte, from vectors.
+-- The first index of a byte, found by vectors.
 use Rattle.std.proofs.Common.{◌≡◌, ℕ, ◌+◌, ◌<◌, ◌≤◌, ◌==◌, Bool, true, false, not, List, length, get_or, Some, None}
 use Rattle.std.proofs.Common.{arith, inl, inr}
 use Rattle.std.specs.List.{prefix_len}
@@ -7,7 +7,7 @@ use Rattle.std.proofs.lemmas.Simd.{run_in_chunk_fails, run_in_chunk_stops}
 use Rattle.bstr.specs.Find.{IsFirstByte, is_byte}
 use lib.Lanes.{chunk}
 
--- n bytes of d at a place, of which r stand in front of the first such byte, and none before the place `from`
+-- n bytes of d at an index, r of them before the first such byte; no byte of d before `from` is one
 pub record Looked (byte : ℕ) (d : List ℕ) (at n r from : ℕ) : Type 0 where
   pub room : at + n ≤ length d
   pub counted : r ≡ prefix_len (λ x. not (x == byte)) (chunk at n d)

@@ -1,10 +1,10 @@
-//! Texts and bytes cut at a byte.
+//! Splitting texts and bytes at a byte.
 ghost use Rattle.std.specs.Prelude.{◌≡◌, ◌<◌, ◌≤◌, ◌↔◌, IsTrue, MatchOption, length, option_map};
 ghost use Rattle.text_cut.specs.Cut.{cut, place_of, IsCut};
 
 use crate::place::place_in;
 
-/// Where the first such byte stands; the length of bytes without one.
+/// The index of the first such byte, or the length if there is none.
 pub fn place_of(bytes: &[u8], byte: u8) -> usize
     ensures place { result ≡ place_of byte bytes.now }
     ensures within { result ≤ length bytes.now }
@@ -15,8 +15,8 @@ pub fn place_of(bytes: &[u8], byte: u8) -> usize
     }
 }
 
-/// What stands before the first such byte of a text, and behind it, where that byte is known to stand at this place;
-/// None where the text has no such byte, and the place is its length. The byte is ASCII.
+/// Splits a text before and after its first such byte, given its index `at`; None if there is no such byte, in which
+/// case `at` is the length of the text. The byte must be ASCII.
 #[inline(always)]
 pub fn split_at_place(text: &str, byte: u8, at: usize) -> Option<(&str, &str)>
     requires ascii { byte < 128 }
@@ -32,8 +32,7 @@ pub fn split_at_place(text: &str, byte: u8, at: usize) -> Option<(&str, &str)>
     }
 }
 
-/// What stands before the first such byte of a text, and behind it; None where the text has no such byte. The byte is
-/// ASCII.
+/// Splits a text before and after its first such byte; None if there is none. The byte must be ASCII.
 pub fn split_at_byte(text: &str, byte: u8) -> Option<(&str, &str)>
     requires { byte < 128 }
     ensures cut { option_map (λ p. (p.0.now, p.1.now)) result ≡ cut byte text.now }
@@ -43,7 +42,7 @@ pub fn split_at_byte(text: &str, byte: u8) -> Option<(&str, &str)>
     split_at_place(text, byte, place_of(text.as_bytes(), byte))
 }
 
-/// The same of bytes, which may be no text.
+/// Splits bytes, which need not be UTF-8, before and after the first such byte; None if there is none.
 pub fn split_bytes_at(bytes: &[u8], byte: u8) -> Option<(&[u8], &[u8])>
     ensures { option_map (λ p. (p.0.now, p.1.now)) result ≡ cut byte bytes.now }
 {
@@ -51,7 +50,7 @@ pub fn split_bytes_at(bytes: &[u8], byte: u8) -> Option<(&[u8], &[u8])>
     Some((&bytes[..at], &bytes[at + 1..]))
 }
 
-/// Whether no byte is this one.
+/// Whether none of the bytes is this one.
 pub fn lacks_byte(bytes: &[u8], byte: u8) -> bool
     ensures { IsTrue result ↔ (place_of byte bytes.now ≡ length bytes.now) }
 {

@@ -1,5 +1,5 @@
-//! Texts cut at a byte: at the NUL between the forms of a message, at the byte between a context and a msgid, at the
-//! end of a line.
+//! Splits texts at a byte: at the NUL between the forms of a message, at the byte between a context and a msgid, or at
+//! the end of a line.
 #![tactic(auto)]
 
 mod cut;

@@ -1,5 +1,5 @@
-//! The place of a byte in a text, a vector at a time: most texts end within a few vectors, where a call to a search
-//! costs more than the bytes.
+//! Finds a byte one vector at a time: most texts end within a few vectors, where calling a search function costs more
+//! than the bytes.
 ghost use Rattle.std.specs.Prelude.{◌≡◌, ◌+◌, ◌<◌, ◌≤◌, ◌==◌, drop, length, not, take};
 ghost use Rattle.std.specs.List.{prefix_len};
 ghost use Rattle.bstr.specs.Find.{IsFirstByte, is_byte};
@@ -7,7 +7,7 @@ ghost use Rattle.text_cut.specs.Lanes.{first_set};
 
 use std::simd::prelude::*;
 
-/// The place of the lowest bit that is set, or the number of lanes.
+/// The index of the lowest set bit, or the number of lanes if no bit is set.
 #[inline(always)]
 fn first_set(mask: u64, lanes: usize) -> usize
     ensures { result ≡ first_set mask lanes }
@@ -19,7 +19,7 @@ fn first_set(mask: u64, lanes: usize) -> usize
     }
 }
 
-/// How many bytes stand in front of the first such one in the bytes of a vector of N lanes.
+/// The number of bytes before the first such one in the vector of N lanes at `at`; N if it isn't there.
 #[inline(always)]
 fn lanes_before<const N: usize>(bytes: &[u8], at: usize, byte: u8) -> usize
     requires few { N ≤ 64 }
@@ -31,7 +31,7 @@ fn lanes_before<const N: usize>(bytes: &[u8], at: usize, byte: u8) -> usize
     first_set(found.to_bitmask(), N)
 }
 
-/// The place of the first such byte, by vectors of N lanes. The last vector may overlap the one before it.
+/// The index of the first such byte, found by vectors of N lanes. The last vector may overlap the one before it.
 #[inline(always)]
 fn place_by<const N: usize>(bytes: &[u8], byte: u8) -> Option<usize>
     requires some { 0 < N }
@@ -52,7 +52,7 @@ fn place_by<const N: usize>(bytes: &[u8], byte: u8) -> Option<usize>
     if run < N { Some(last + run) } else { None }
 }
 
-/// The place of the first such byte, a byte at a time.
+/// The index of the first such byte, found one byte at a time.
 fn place_by_bytes(bytes: &[u8], byte: u8) -> Option<usize>
     ensures { IsFirstByte (is_byte byte) bytes.now result }
 {
@@ -64,7 +64,7 @@ fn place_by_bytes(bytes: &[u8], byte: u8) -> Option<usize>
     None
 }
 
-/// The place of the first such byte.
+/// The index of the first such byte, if there is one.
 pub(crate) fn place_in(bytes: &[u8], byte: u8) -> Option<usize>
     ensures { IsFirstByte (is_byte byte) bytes.now result }
 {

@@ -1,4 +1,4 @@
--- Texts beside the numbers that their first bytes spell.
+-- Texts, compared with the numbers that their first bytes spell.
 use Rattle.std.proofs.Common.{◌≡◌, ℕ, zero, suc, ◌+◌, ◌*◌, ◌^◌, ◌<◌, ◌≤◌, List, [], ◌∷◌, length, Ordering, refl, sym}
 use Rattle.std.proofs.Common.{ap, ◌∙◌, arith, inl, inr}
 use Rattle.std.specs.Prelude.{drop, slice_index, ◌≢◌}
@@ -13,7 +13,7 @@ use Rattle.byteorder.specs.Endian.{big_from, big_number}
 use Rattle.byteorder.specs.Numbers.{big_from-lt}
 use Rattle.text_key.specs.Front.{leading, HaveOneFront, IsFrontOf}
 
--- ---- the number behind the first byte
+-- ---- the number after the first byte
 
 abbrev Bytes : List ℕ → Type 0
 Bytes xs = (k : ℕ) → slice_index xs k < 256
@@ -33,7 +33,7 @@ none i (suc n) = omega (arith, ap (λ x. x * 256 ^ n) (empty i), none (suc i) n)
 bytes_behind : (x : ℕ) (xs : List ℕ) → Bytes (x ∷ xs) → Bytes xs
 bytes_behind x xs h = λ k. h (suc k)
 
--- ---- a lesser number is that of a lesser text
+-- ---- the smaller number belongs to the smaller text
 
 lower : (n u v : ℕ) (us vs : List ℕ) → Bytes vs → big_number (suc n) (u ∷ us) < big_number (suc n) (v ∷ vs) → u ≤ v
 lower n u v us vs small lt = elim (cases_lt v u) [
@@ -67,7 +67,7 @@ less (suc n) (u ∷ us) (v ∷ vs) a b lt = elim (cases_lt u v) [
       ∙ less n us vs (bytes_behind u us a) (bytes_behind v vs b) (behind n u v us vs same lt)
 ]
 
--- texts with other numbers lie as those do
+-- texts with different numbers are ordered as the numbers are
 pub by_fronts : (us vs : List ℕ) (m n : ℕ) → IsFrontOf us m → IsFrontOf vs n → m ≢ n → nat_cmp m n
     ≡ slice_cmp nat_cmp us vs
 unfolding leading
@@ -80,7 +80,7 @@ by_fronts us vs m n a b differ = elim (cases_lt m n) [
       ∙ sym (nat_list_cmp_total.antisymm us vs)
 ]
 
--- ---- texts of one number begin alike
+-- ---- texts with equal numbers begin with equal bytes
 
 lesser_head : (n u v : ℕ) (us vs : List ℕ) → Bytes us → u < v
     → big_number (suc n) (u ∷ us) < big_number (suc n) (v ∷ vs)
@@ -105,7 +105,7 @@ same_behind n u v us vs same e =
     let top : u * 256 ^ n ≡ v * 256 ^ n = ap (λ x. x * 256 ^ n) same in
     omega (arith, e, top, later 0 n u us, later 0 n v vs)
 
--- the same of numbers behind the first bytes, where those are the same
+-- if the first bytes are equal, the numbers after them order the texts
 less_behind : (n m : ℕ) (us vs : List ℕ) → Bytes us → Bytes vs → big_number n us ≡ big_number n vs
     → big_number m (drop n us) < big_number m (drop n vs) → slice_cmp nat_cmp us vs ≡ Less
 less_behind zero m us vs a b same lt = less m us vs a b lt
@@ -119,7 +119,7 @@ less_behind (suc n) m (u ∷ us) (v ∷ vs) a b same lt =
     ap (λ r. head_then r us vs) (sym (nat_cmp_is u v Equal head))
     ∙ less_behind n m us vs small small' (same_behind n u v us vs head same) lt
 
--- texts of one front, with other numbers behind it, lie as those do
+-- texts with equal fronts but different next numbers are ordered as those are
 pub by_next : (us vs : List ℕ) (m n : ℕ) → HaveOneFront us vs → IsFrontOf (drop 8 us) m → IsFrontOf (drop 8 vs) n
     → m ≢ n → nat_cmp m n ≡ slice_cmp nat_cmp us vs
 unfolding leading
@@ -133,7 +133,7 @@ by_next us vs m n one a b differ = elim (cases_lt m n) [
       ∙ sym (nat_list_cmp_total.antisymm us vs)
 ]
 
--- ---- short texts of one number are the same
+-- ---- short texts with equal numbers are equal
 
 one_longer : (u v : ℕ) (us vs : List ℕ) → u ≡ v → us ≡ vs → u ∷ us ≡ v ∷ vs
 one_longer u v us vs e f = cc
@@ -151,7 +151,7 @@ same_short (suc n) (u ∷ us) (v ∷ vs) a b lens fits e =
     one_longer u v us vs head (same_short n us vs small small' (omega (arith, lens)) (omega (arith, fits))
     (same_behind n u v us vs head e))
 
--- texts of one front, as long as one another and no longer than it, are the same
+-- texts of equal fronts and lengths, no longer than a front, are equal
 pub by_lengths : (us vs : List ℕ) (m n : ℕ) → IsFrontOf us m → IsFrontOf vs n → m ≡ n → length us ≡ length vs
     → length us ≤ 8 → us ≡ vs
 unfolding leading

@@ -9,7 +9,7 @@ use byteorder::{BigEndian, ByteOrder};
 use std::cmp::Ordering;
 use std::marker::Model;
 
-/// A text, and its front. Contracts see it as the text's bytes.
+/// A text with its front, for fast comparisons. Contracts see it as the text's bytes.
 #[derive(Drop)]
 pub struct TextKey<'a> {
     text: &'a str,
@@ -28,17 +28,17 @@ impl<'a> Model for TextKey<'a> {
     ghost invariant = { λ key. IsFrontOf key.text.now key.front };
 }
 
-/// How many bytes a front spells.
+/// The number of bytes in a front.
 const FRONT_LEN: usize = 8;
 
-/// Whether two texts are as long as one another, and no longer than their fronts.
+/// Whether two texts are equally long and no longer than a front.
 fn are_short(text: &str, other: &str) -> bool
     ensures { IsTrue result → (length text.now ≡ length other.now) × (length text.now ≤ 8) }
 {
     text.len() == other.len() && text.len() <= FRONT_LEN
 }
 
-/// The byte at a place, or 0 behind the end.
+/// The byte at index `i`, or 0 past the end.
 fn byte_at(bytes: &[u8], i: usize) -> u8
     ensures { result ≡ slice_index bytes.now i }
 {
@@ -48,7 +48,7 @@ fn byte_at(bytes: &[u8], i: usize) -> u8
     }
 }
 
-/// The front of a text's bytes.
+/// The front of a text, given its bytes.
 fn front_in(bytes: &[u8]) -> u64
     ensures { IsFrontOf bytes.now result }
 {
@@ -68,15 +68,14 @@ fn front_in(bytes: &[u8]) -> u64
     BigEndian::read_u64(&first)
 }
 
-/// The front of a text: the number that its first eight bytes spell, the first one highest; zeros stand for
-/// bytes that it lacks.
+/// The front of a text: its first eight bytes as a big-endian number, padded with zeros if the text is shorter.
 pub fn front_of(text: &str) -> u64
     ensures { IsFrontOf text.now result }
 {
     front_in(text.as_bytes())
 }
 
-/// The front of what a text has behind its first eight bytes.
+/// The front of what follows a text's first eight bytes.
 pub(crate) fn next_of(text: &str) -> u64
     ensures { IsFrontOf (drop 8 text.now) result }
 {
@@ -95,7 +94,7 @@ impl<'a> TextKey<'a> {
         }
     }
 
-    /// The key of a text whose front is known already (`front_of`).
+    /// The key of a text whose front, as [`front_of`] computes it, is already known.
     pub fn with_front(text: &'a str, front: u64) -> TextKey<'a>
         requires { IsFrontOf text.now front }
         ensures { result ≡ text.now }
@@ -110,7 +109,7 @@ impl<'a> TextKey<'a> {
         self.text
     }
 
-    /// Which of two texts comes first, by their bytes.
+    /// The order of two texts, by their bytes.
     pub fn compare(&self, other: &TextKey<'_>) -> Ordering
         ensures { result ≡ slice_cmp nat_cmp self.now other.now }
     {
@@ -123,7 +122,7 @@ impl<'a> TextKey<'a> {
         self.as_str().cmp(other.as_str())
     }
 
-    /// Whether two texts have one front.
+    /// Whether two texts have equal fronts.
     pub(crate) fn has_front_of(&self, other: &TextKey<'_>) -> bool
         ensures { IsTrue result → HaveOneFront self.now other.now }
     {

@@ -1,4 +1,5 @@
-//! Texts with the number that their first eight bytes spell, by which most of them are told apart at once.
+//! Keys of texts: a text with the number that its first eight bytes spell, which tells most texts apart in one
+//! comparison.
 #![tactic(auto)]
 
 mod key;

@@ -1,5 +1,5 @@
-//! The key of a text of which sixteen bytes are at hand, for a sort of many texts: a comparison that has to look at the
-//! texts themselves waits for memory.
+//! Keys that hold the first sixteen bytes of a text, for sorting many texts: a comparison that has to read the texts
+//! themselves waits for memory.
 ghost use Rattle.std.specs.Prelude.{◌≡◌, drop};
 ghost use Rattle.std.specs.Ordering.{nat_cmp};
 ghost use Rattle.std.specs.Cmp.Lexicographic.{slice_cmp};
@@ -48,7 +48,7 @@ impl<'a> LongKey<'a> {
         self.key.as_str()
     }
 
-    /// Which of two texts comes first, by their bytes.
+    /// The order of two texts, by their bytes.
     pub fn compare(&self, other: &LongKey<'_>) -> Ordering
         ensures { result ≡ slice_cmp nat_cmp self.now other.now }
     {

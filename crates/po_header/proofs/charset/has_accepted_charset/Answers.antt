@@ -3,7 +3,7 @@ use Rattle.po_header.specs.Charset.{up_to_white, NamesCharset, IsAcceptedCharset
 use Rattle.po_header.proofs.TextLemmas.{Follows-one}
 use Rattle.po_header.proofs.charset.has_accepted_charset.Goals as goal
 
--- a text names one charset
+-- a text names at most one charset
 charset_one : (text a b : List ℕ) → NamesCharset text (Some a) → NamesCharset text (Some b) → a ≡ b
 charset_one text a b n m = n.2 ∙ ap up_to_white (Follows-one _ text n.0 m.0 n.1 m.1) ∙ sym m.2
 

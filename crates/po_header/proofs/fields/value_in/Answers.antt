@@ -8,7 +8,7 @@ pub returns-in_err-after : goal.returns-in_err-after
 returns-in_err-after c = ap option_copied c.from_residual.ensures
     ∙ sym (line_value-other c.args.name.now c.args.line.now c.in_err-after.ensures.cases)
 
--- what `strip_prefix` says of a text
+-- the line after its name, as `strip_prefix` returns it
 behind_name : (name line after : List ℕ) (n : ℕ) → line ≡ name ++ drop n line → after ≡ drop n line → line ≡ name
     ++ after
 behind_name name line after n split rest = split ∙ ap (λ (t : List ℕ). name ++ t) (sym rest)
