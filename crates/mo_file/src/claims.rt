@@ -311,7 +311,8 @@ fn byte_at(bytes: &[u8], place: usize) -> u8
     }
 }
 
-/// Whether all claims hold. They may come in any order, but `in_order` makes this fast.
+/// Whether all claims hold. They may come in any order; after `in_order`, shared bytes are compared once for each
+/// distance.
 pub(crate) fn all_hold(bytes: &[u8], claims: &[Claim]) -> bool
     requires { All (ClaimLies bytes.now) claims.now }
     ensures { IsTrue result ↔ All (ClaimHolds bytes.now) claims.now }
