@@ -73,7 +73,7 @@ outline_of options number e = record {
   texts = texts_if_kept options e;
 }
 
--- the outlines of entries, the first of which has this index
+-- the outlines of entries, numbered from this index on
 abbrev pub outlines_from : Options → ℕ → List po.Entry → List Outline
 outlines_from options number [] = []
 outlines_from options number (e ∷ es) = outline_of options number e ∷ outlines_from options (number + 1) es

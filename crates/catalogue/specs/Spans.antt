@@ -52,7 +52,7 @@ kept_span t = record { plural = option_map length t.0; translation = length t.1 
 abbrev pub span_of : Outline → SpanValue
 span_of r = record { key = length r.key; kept = option_map kept_span r.texts; line = r.line; standing = r.standing }
 
--- ---- the outline that stands in front, by its span
+-- ---- the first outline of a text, by its span
 
 abbrev pub plural_size : Option ℕ → ℕ
 plural_size None = 0

@@ -17,13 +17,13 @@ use std::alloc::{AllocError, Global};
 /// What the checks have found so far: for each check, the line of the first kept entry that fails it.
 #[derive(Clone, Copy)]
 pub struct Findings {
-    /// The first entry with a c-format text that is system-dependent.
+    /// The line of the first entry with a system-dependent c-format text.
     pub system_dependent: Option<u32>,
-    /// The first entry with a form whose arguments differ from its original's.
+    /// The line of the first entry with a form whose arguments differ from its original's.
     pub mismatch: Option<u32>,
-    /// The first entry of which some texts begin or end with a newline and others don't.
+    /// The line of the first entry with some texts that begin or end with a newline and others that don't.
     pub newlines: Option<u32>,
-    /// The plural entries.
+    /// The plural entries so far.
     pub plurals: Plurals,
 }
 
