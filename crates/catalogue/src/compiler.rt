@@ -91,7 +91,7 @@ fn missing_in(header: Option<&str>, options: Options) -> [bool; 8]
 /// from 0 to 1000; or if the formats or the newlines of a kept entry differ. Each refusal names the line of the first
 /// such entry or of the header. `missing` then says which of the eight header fields the kept header lacks.
 ///
-/// If an allocation fails, `Memory` is reported instead of any other result.
+/// If an allocation fails, `Memory` may be reported instead of any other result.
 pub fn compile(alloc: Global, text: &[u8], options: Options) -> Result<Compiled, LoadFault>
     ensures ok { IfOk result (Means text.now options) }
     ensures err { IfErr result (λ fault. (fault ≡ out_of_memory) ⊎ Refuses text.now options fault.kind fault.line) }

@@ -146,7 +146,7 @@ impl Catalogue {
         self.find_bytes(context.map(str::as_bytes), id.as_bytes())
     }
 
-    /// Finds the entry of a msgid by its bytes, which needn't be UTF-8: no entry has a key that isn't.
+    /// Finds the entry of a msgid by its bytes, which needn't be UTF-8; a key that isn't is never found.
     #[inline(always)]
     pub fn find_bytes(&self, context: Option<&[u8]>, id: &[u8]) -> Option<EntryRef<'_>>
         ensures { result ≡ entry_at self.now (key_bytes (option_map (λ s. s.now) context.entry) id.now) }

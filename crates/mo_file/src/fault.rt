@@ -7,7 +7,7 @@ use std::error::Error;
 use std::fmt;
 
 /// Why bytes are refused as an MO file. If several reasons apply, the first in this list is reported. If an allocation
-/// fails, `Memory` is reported instead of any other result.
+/// fails, `Memory` may be reported instead of any other result.
 #[derive(Clone, Copy, Debug, PartialEq, Eq)]
 pub enum MoFault {
     /// There are more than 268,435,456 bytes.

@@ -1,5 +1,5 @@
-//! The tests of an MO file, one per refusal. Each scans the whole file, so that we report the first refusal in their
-//! order rather than the first place in the file where any of them applies.
+//! The tests of an MO file, one per refusal. Each scans the whole file, so the refusal that is reported is the first in
+//! their order, wherever in the file it applies.
 ghost use Rattle.std.specs.Prelude.{◌≡◌, ◌↔◌, ◌≤◌, length, IsTrue, OnOk, IfOk, IfErr};
 ghost use Rattle.byteorder.specs.Endian.{little_number};
 ghost use Rattle.mo_file.specs.Rows.{rows_in, AreSound};
@@ -106,7 +106,7 @@ fn passes_order<T: ByteOrder>(
     Ok(keys_rise::<T>(bytes, originals, word::<T>(bytes, COUNT_AT)))
 }
 
-/// Whether the header, if there is one, names an accepted charset.
+/// Whether the header, if there is one, names an accepted charset or none.
 fn passes_charset<T: ByteOrder>(bytes: &[u8]) -> bool
     requires long { 28 ≤ length bytes.now }
     requires lies { Passes (file_by T.number_of bytes.now) MoFault.Bounds }

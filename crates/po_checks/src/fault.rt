@@ -7,7 +7,7 @@ use std::alloc::{AllocError, AllocFailed};
 use thiserror::Error;
 
 /// The kinds of refusal. If several apply, the first in this order is reported; among `TooLarge` to `BadIndex`, the PO
-/// reader decides which one is.
+/// reader decides which.
 #[derive(Clone, Copy, Debug, PartialEq, Eq, Error)]
 pub enum LoadKind {
     /// The text has more than 67,108,864 bytes.

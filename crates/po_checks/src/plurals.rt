@@ -133,7 +133,7 @@ impl Plurals {
         }
     }
 
-    /// Returns the first fault by the rule in a header on this line, whether it was read or not.
+    /// Returns the first fault by the rule in a header on this line, whether or not the rule could be read.
     pub(crate) fn fault(&self, rule: &RuleRead, header_line: u32) -> Option<LoadFault>
         ensures { (entries : List PoEntry) → HasPlurals entries self.now
             → FirstFault (RuleRefuses (rule_of rule.now) entries header_line) result }
