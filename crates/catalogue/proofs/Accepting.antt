@@ -22,7 +22,7 @@ use Rattle.catalogue.specs.declared.sorted.Message.{Message}
 use Rattle.mo_image.proofs.MoLengths.{length-closed, closed_joined}
 use Rattle.mo_image.proofs.FileSizes.{file_size}
 
--- ---- what is tested of each
+-- ---- tests of each message
 
 each_within : {X Y : Type 0} (f : X → Y) (P : Y → Type 0) (xs : List X) → AllWithin (λ x. P (f x)) xs 0 (length xs)
     → AllByRecursion P (map f xs)
@@ -132,7 +132,7 @@ pool_size (s ∷ forms) =
     ∙ length-append (closed (string_bytes s)) (pool (map (λ t. string_bytes t) forms)) in
     omega (arith, e, pool_size forms, length-closed (string_bytes s), sum_by-cons form_size s forms)
 
--- a translation has its NUL, also where it has no form
+-- a translation has its NUL even without a form
 pub translation_size : (e : Entry) → length (closed (translation e)) ≡ max (length (pool e.forms)) 1
 translation_size e = of e.forms
   where

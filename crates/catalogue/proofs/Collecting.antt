@@ -1,4 +1,4 @@
--- The texts so far are those of the entries that were read.
+-- The texts so far are those of the entries that have been read.
 use Rattle.std.proofs.Common.{◌≡◌, ℕ, ◌+◌, true, false, List, [], ◌∷◌, ◌++◌, length, map, sym, ap, ◌∙◌, inl, inr}
 use Rattle.std.proofs.Common.{arith}
 use Rattle.std.specs.List.{AllByRecursion, flat_map}
@@ -36,7 +36,7 @@ lawful_push : (es : List po.Entry) (e : po.Entry) → AllByRecursion IsLawfulMes
 lawful_push [] e all one = (one, tt)
 lawful_push (x ∷ es) e all one = (all.0, lawful_push es e all.1 one)
 
--- how many drafts there are
+-- the number of drafts
 pub drafts_are : (o : Options) (drafts : List Draft) (entries : List po.Entry) → outlines drafts
     ≡ outlines_from o 0 entries → length drafts ≡ length entries
 drafts_are o drafts entries e = sym (length-map drafts outline) ∙ ap length e ∙ length-outlines_from o 0 entries
@@ -107,13 +107,13 @@ collects_all text o reader next texts spans findings e readable c ends = record 
   found = c.found;
 }
 
--- want of memory is no fault of a text
+-- running out of memory is no fault of a text
 no_memory : (text : List ℕ) (line : ℕ) → outcome.Refuses text kinds.Memory line → ⊥
 no_memory text line (readable, inl fault) = fault.fault
 no_memory text line (readable, inr (found, spells, inl closes)) = closes.how
 no_memory text line (readable, inr (found, spells, inr (is, early))) = absurd (cc is)
 
--- a refusal of the PO text is the compiler's
+-- a refusal of the PO text is a refusal by the compiler
 pub text_refuses : (text : List ℕ) (o : Options) (fault : PoKind) (line : ℕ) → outcome.Refuses text fault line
     → Refuses text o (kind_of fault) line
 text_refuses text o kinds.TooLarge line r = r

@@ -1,4 +1,4 @@
--- What the compiler's steps come to.
+-- What the steps of the compiler add up to.
 use Rattle.std.proofs.Common.{◌≡◌, ℕ, ◌+◌, ◌^◌, ◌<◌, Bool, List, [], ◌∷◌, length, get_or, Option, None, Some, sym, ap}
 use Rattle.std.proofs.Common.{◌∙◌, subst, arith}
 use Rattle.std.specs.Prelude.{IfSome, option_map, if◌then◌else◌}
@@ -50,7 +50,7 @@ as_refusal text o es BadOrder line gives f = absurd f.holds
 as_refusal text o es BadIndex line gives f = absurd f.holds
 as_refusal text o es _ line gives f = (es, gives, f)
 
--- there are few drafts
+-- the number of drafts fits in 32 bits
 pub few : (text : List ℕ) (o : Options) (drafts : List Draft) (found : Findings) → HasCollected text o drafts found
     → length drafts < 2 ^ 32
 few text o drafts found c = omega (
@@ -60,7 +60,7 @@ few text o drafts found c = omega (
   c.gives.readable.size,
 )
 
--- what the sort gave
+-- the sorted drafts
 pub record Sorts (before after : List Draft) : Type 0 where
   pub same : IsPermutation before after
   pub sorted : IsSortedBy comes_before after
@@ -102,14 +102,14 @@ no_repeat : (after : List Draft) → FirstRepeat (outlines after) (length after)
     → ¬ IsRepeat (outlines after) j
 no_repeat after none j repeats = none j (omega (arith, repeats.within, length-map after outline)) repeats
 
--- the keys are distinct, then
+-- without a repeat, the keys are distinct
 distinct_keys : (text : List ℕ) (o : Options) (before after : List Draft) (found : Findings)
     → (c : HasCollected text o before found) → Sorts before after → FirstRepeat (outlines after) (length after) None
     → HasDistinctKeys c.entries
 distinct_keys text o before after found c s none = all_distinct o c.entries (outlines after)
     (ordered text o before after found c s) (no_repeat after none)
 
--- what was read of the header: its line, and its text where there is one
+-- what was read of the header: its line, and its text if there is one
 pub record IsHeader (drafts : List Draft) (header : Option (Bor (List ℕ))) (line : ℕ) : Type 0 where
   pub line_is : line ≡ option_map_or (λ d. d.line) (find (λ d. is_kept_header (outline d)) drafts) 0
   pub text_is : option_map (λ text. text.now) header ≡ header_text_in drafts
@@ -143,7 +143,7 @@ header_accepted : (text : List ℕ) (o : Options) (before : List Draft) (found :
 header_accepted text o before found header line c h named = accepted o c.entries
     (text_accepted header (header_text_of o c.entries) (header_text text o before found header line c h) named)
 
--- the header names another charset
+-- the header names a charset that isn't accepted
 pub foreign : (text : List ℕ) (o : Options) (before after : List Draft) (found : Findings)
     (header : Option (Bor (List ℕ))) (line : ℕ) → HasCollected text o before found → Sorts before after
     → FirstRepeat (outlines after) (length after) None → IsHeader before header line → (NamesCharsets header → ⊥)
@@ -187,7 +187,7 @@ lawful_map text o before after found header line m c s none h named kept_are =
       fits = fits o text c.entries (outlines after) c.gives sorted c.lawful;
     })
 
--- what was counted of the drafts
+-- the counts of the drafts
 pub record Counts (drafts : List Draft) (stats : Stats) : Type 0 where
   pub translated : stats.translated ≡ count_by (λ d. counts_as Translated (outline d)) drafts
   pub fuzzy : stats.fuzzy ≡ count_by (λ d. counts_as Fuzzy (outline d)) drafts
@@ -199,7 +199,7 @@ stats_eq s t a b c =
     ap (λ n. of n s.fuzzy s.untranslated) a ∙ ap (λ n. of t.translated n s.untranslated) b
     ∙ ap (λ n. of t.translated t.fuzzy n) c
 
--- which fields were looked for
+-- the fields that were looked for
 abbrev pub Lacks : Options → Option (Bor (List ℕ)) → List Bool → Type 0
 Lacks o header missing = missing ≡ (if o.checked then lacking (option_map (λ text. text.now) header) else none_missing)
 

@@ -1,4 +1,4 @@
--- The catalogue of a text within its limit has an MO file within its limit.
+-- A text within its size limit has a catalogue whose MO file is within its own.
 use Rattle.std.proofs.Common.{◌≡◌, ℕ, ◌+◌, ◌≤◌, Bool, true, false, List, [], ◌∷◌, length, Option, Some, None}
 use Rattle.std.proofs.Common.{refl, ap, ◌∙◌, arith, length-append}
 use Rattle.std.specs.List.{AllByRecursion, cons_option, sum_by}

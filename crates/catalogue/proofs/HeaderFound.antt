@@ -124,7 +124,7 @@ pub accepted : (o : Options) (es : List po.Entry) → IfSome (header_text_of o e
     → IfSome (kept_header o es) NamesAcceptedCharset
 accepted o es named = accepted_by (kept_header o es) named
 
--- the header names another charset
+-- the header names a charset that isn't accepted
 pub record NamesAnother (o : Options) (es : List po.Entry) : Type 0 where
   pub header : po.Entry
   pub is : kept_header o es ≡ Some header
@@ -141,7 +141,7 @@ another o es no_name = another_by o es (kept_header o es) refl no_name
 
 -- ---- the header of the catalogue
 
--- entries with one key are one, where keys are distinct
+-- entries with equal keys are the same entry, if keys are distinct
 one_of : (es : List po.Entry) (x y : po.Entry) → HasDistinctKeys es → Contains es x → Contains es y → key_of x
     ≡ key_of y → x ≡ y
 one_of es x y distinct (i, li, ix) (j, lj, jy) same =
@@ -172,7 +172,7 @@ header_key None [] e = refl
 header_key None (b ∷ id) e = absurd (false≢true e)
 header_key (Some context) id e = absurd (false≢true e)
 
--- what a search finds passes and was there; what passes lets it find something
+-- what a search finds passes and is a member; if a member passes, the search finds something
 pub record Finds (p : po.Entry → Bool) (es : List po.Entry) (e : po.Entry) : Type 0 where
   pub found : po.Entry
   pub is : find p es ≡ Some found

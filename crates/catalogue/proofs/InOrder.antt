@@ -1,4 +1,4 @@
--- The outlines of a text in rising order: where a key stands twice, and which entry has it first again.
+-- The outlines of a text in rising order: where a key occurs twice, and which entry repeats it first.
 use Rattle.std.proofs.Common.{◌≡◌, ℕ, zero, suc, ◌+◌, ◌-◌, ◌<◌, ◌≤◌, Bool, true, false, cond, eqb, List, [], ◌∷◌, ◌++◌}
 use Rattle.std.proofs.Common.{length, map, get_or, take, drop, Ordering, refl, sym, ap, ◌∙◌, subst, arith, inl, inr}
 use Rattle.std.specs.Prelude.{Contains}
@@ -48,7 +48,7 @@ outline_at o k (x ∷ es) zero d e lt = ap (λ n. outline_of o n x) (omega arith
 outline_at o k (x ∷ es) (suc i) d e lt = outline_at o (k + 1) es i d e (omega arith)
     ∙ ap (λ n. outline_of o n (get_or es i e)) (omega arith)
 
--- the outline of the i-th entry is among the outlines in order, at some place
+-- the outline of the i-th entry is among the sorted outlines, at some place
 pub record Stands (o : Options) (rs : List Outline) (i : ℕ) (e : po.Entry) : Type 0 where
   pub place : ℕ
   pub within : place < length rs
@@ -83,7 +83,7 @@ comes o entries rs ordered r has =
           ∙ ap (λ n. outline_of o n (get_or entries found.0 e)) (omega arith);
     }
 
--- ---- keys side by side
+-- ---- comparing keys
 
 abbrev key_total : IsTotalOrder (slice_cmp nat_cmp)
 key_total = nat_list_cmp_total
@@ -91,12 +91,12 @@ key_total = nat_list_cmp_total
 equal_keys : (a b : List ℕ) → slice_cmp nat_cmp a b ≡ Equal → a ≡ b
 equal_keys a b e = slice_cmp-IsAntisymmetric nat_cmp-IsAntisymmetric a b e
 
--- what comes before by the key alone
+-- what comes first by its key alone
 not_less : (a b : Outline) → outline_lt a b ≡ false → slice_cmp nat_cmp a.key b.key ≡ Less → ⊥
 not_less a b later less = false≢true (sym later ∙ ap (λ (o : Ordering). is_lt
     (ordering_then o (nat_cmp a.number b.number))) less)
 
--- with one key, by the numbers
+-- with equal keys, by the numbers
 number_after : (a b : Outline) → outline_lt a b ≡ false → a.key ≡ b.key → b.number ≤ a.number
 number_after a b later same =
     let tie : slice_cmp nat_cmp a.key b.key ≡ Equal = ap (λ k. slice_cmp nat_cmp k b.key) same
@@ -117,7 +117,7 @@ by_order a b Less e l g = absurd (l refl)
 by_order a b Equal e l g = refl
 by_order a b Greater e l g = absurd (g refl)
 
--- between two outlines with one key stand outlines with this key
+-- all outlines between two with one key have this key
 between : (x y z : Outline) → outline_lt y x ≡ false → outline_lt z y ≡ false → x.key ≡ z.key → y.key ≡ z.key
 between x y z xy yz same =
     let yx : slice_cmp nat_cmp y.key z.key ≡ Less → ⊥ = λ less. not_less y x xy
@@ -128,7 +128,7 @@ between x y z xy yz same =
 
 -- ---- two entries with one key
 
--- of two entries with one key, the outline of the later one stands behind an outline with this key
+-- the outline of the later of two entries with one key follows an outline with this key
 pub record Repeats (rs : List Outline) (number : ℕ) : Type 0 where
   pub place : ℕ
   pub repeats : IsRepeat rs place
@@ -178,7 +178,7 @@ key_at : (es : List po.Entry) (i : ℕ) (d : List ℕ) (e : po.Entry) → i < le
     ≡ key_of (get_or es i e)
 key_at es i d e lt = get_or-map key_of es i e d lt
 
--- entries are all different where no repeat has a number below n
+-- all entries are different if no repeat has a number below n
 distinct_below : (o : Options) (entries : List po.Entry) (rs : List Outline) → AreOrdered o entries rs → (n : ℕ)
     → n ≤ length entries → ((b : ℕ) → b < n → Repeats rs b → ⊥) → HasDistinctKeys (take n entries)
 distinct_below o [] rs ordered n le none i j d lt within same = absurd
@@ -204,7 +204,7 @@ pub all_distinct : (o : Options) (entries : List po.Entry) (rs : List Outline) �
 all_distinct o entries rs ordered none = subst HasDistinctKeys (take_all entries)
     (distinct_below o entries rs ordered (length entries) (omega arith) (λ b lt r. none r.place r.repeats))
 
--- ---- no number stands twice
+-- ---- no number occurs twice
 
 numbered : ℕ → Outline → Bool
 numbered n r = eqb r.number n

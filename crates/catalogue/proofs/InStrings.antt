@@ -1,4 +1,4 @@
--- The strings of messages: those so far, and the messages of the rest.
+-- The strings of the messages so far, and the messages of the rest.
 use Rattle.std.proofs.Common.{◌≡◌, ℕ, List, [], ◌∷◌, ◌++◌, map, Some, option_map, String, Global, sym, ap, ◌∙◌, subst}
 use Rattle.std.proofs.Common.{append_assoc}
 use Rattle.std.specs.Prelude.{slice_get}

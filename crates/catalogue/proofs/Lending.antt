@@ -1,4 +1,4 @@
--- The pool of the entries that were read: what it lends are their outlines.
+-- The pool of the entries that were read lends their outlines.
 use Rattle.std.proofs.Common.{◌≡◌, ℕ, suc, ◌+◌, ◌≤◌, true, false, Bool, List, [], ◌∷◌, ◌++◌, length, map, take, drop}
 use Rattle.std.proofs.Common.{slice_get, Option, Some, None, refl, sym, ap, ◌∙◌, subst, append_assoc, arith}
 use Rattle.std.specs.Prelude.{option_map, IfSome}
@@ -24,7 +24,7 @@ use Rattle.catalogue.specs.declared.drafts.Draft.{Draft}
 use Rattle.catalogue.specs.Spans.{SpanValue}
 use Rattle.mo_image.proofs.Originals.{key_utf8, translation_utf8}
 
--- ---- an outline in front
+-- ---- the first outline
 
 in_front : (a b : List ℕ) (text : List ℕ) → text ≡ a ++ b → take (length a) text ≡ a
 in_front a b text is = ap (take (length a)) is ∙ take-append_seam a b
@@ -194,7 +194,7 @@ lent text o texts spans found drafts h rows_are = record {
   found = h.found;
 }
 
--- ---- one outline after another is lent
+-- ---- outlines are lent one after another
 
 -- the drafts so far, and the outlines in what is left, are the outlines of the pool
 pub record Lends (drafts : List Draft) (number : ℕ) (rest : List ℕ) (texts : List ℕ) (spans : List SpanValue) :
@@ -243,12 +243,12 @@ lends_all drafts i rest texts spans l all = sym (append-nil (outlines drafts))
     ∙ sym (ap (λ (ss : List SpanValue). outlines drafts ++ outlines_at i rest ss) (drop_of_length-le spans all))
     ∙ l.rows_are
 
--- ---- where a text is cut
+-- ---- cutting a text
 
 pub cut_at : (text : List ℕ) (n : ℕ) → IsUtf8 text → HoldsText text n → IsCharBoundary text n
 cut_at text n utf8 holds = IsCharBoundary-from_take text n utf8 holds.within holds.utf8
 
--- what is behind a text is one, too
+-- the rest after a text is a text, too
 pub behind_plural : (text : List ℕ) (plural : Option ℕ) → IsUtf8 text → HoldsPlural text plural
     → IsUtf8 (drop (plural_size plural) text)
 behind_plural text None utf8 holds = utf8

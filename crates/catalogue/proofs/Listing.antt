@@ -1,4 +1,4 @@
--- The entries that are kept of the outlines in order are the map of the text.
+-- The kept entries of the sorted outlines are the map of the text.
 use Rattle.std.proofs.Common.{◌≡◌, ◌≢◌, ℕ, suc, ◌+◌, ◌<◌, Bool, true, false, cond, List, [], ◌∷◌, length, map, get_or}
 use Rattle.std.proofs.Common.{Option, Some, None, Ordering, refl, sym, ap, ◌∙◌, subst, arith}
 use Rattle.std.specs.Prelude.{Contains, option_map}
@@ -36,7 +36,7 @@ kept_is o n e lawful yes_kept = rw yes_kept (ap (λ (m : Entry). Some m) (entry_
 pub left_out : (o : Options) (n : ℕ) (e : po.Entry) → is_kept o e ≡ false → kept_entry (outline_of o n e) ≡ None
 left_out o n e not_kept = rw not_kept refl
 
--- what an outline gives has its key
+-- the entry of an outline has the outline's key
 kept_key : (r : Outline) (m : Entry) → kept_entry r ≡ Some m → key m ≡ r.key
 kept_key r m e = of r.texts refl
   where
@@ -50,7 +50,7 @@ kept_key r m e = of r.texts refl
 
 -- ---- keys rise
 
--- a key above which others rise
+-- the first key is below the second
 above : List ℕ → List ℕ → Type 0
 above a b = slice_cmp nat_cmp a b ≡ Less
 
@@ -58,7 +58,7 @@ rises_on : (k : List ℕ) (ks : List (List ℕ)) → Rises (k ∷ ks) → Rises 
 rises_on k [] rises = tt
 rises_on k (l ∷ ks) rises = rises.1
 
--- a lower key in front still rises
+-- keys still rise if a lower key replaces the first
 rises_under : (j k : List ℕ) (ks : List (List ℕ)) → slice_cmp nat_cmp j k ≡ Less → Rises (k ∷ ks) → Rises (j ∷ ks)
 rises_under j k [] less rises = tt
 rises_under j k (l ∷ ks) less rises = (nat_list_cmp_total.trans j k l less rises.0, rises.1)
@@ -88,7 +88,7 @@ kept_all_rise (r ∷ rs) rises = of (kept_all_rise rs (rises_on r.key (row_keys 
     of rest (Some m) is = rw is (subst (λ l. Rises (l ∷ map key (filter_map kept_entry rs))) (sym (kept_key r m is))
         (kept_rise r.key rs rises))
 
--- neighbours in order with different keys rise
+-- sorted neighbours with different keys rise
 by_less : (o : Ordering) (m n : ℕ) → is_lt (ordering_then (Rattle.std.specs.Ordering.ordering_reverse o) (nat_cmp n m))
     ≡ false → (o ≡ Equal → ⊥) → o ≡ Less
 by_less Less m n later differ = refl

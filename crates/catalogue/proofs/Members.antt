@@ -1,4 +1,4 @@
--- What std lacks on the members of a list.
+-- Lemmas that std lacks about the members of a list.
 use Rattle.std.proofs.Common.{◌≡◌, zero, suc, Bool, true, false, cond, List, [], ◌∷◌, map, Option, Some, None, refl}
 use Rattle.std.proofs.Common.{sym, ap, ◌∙◌, arith, inl, inr}
 use Rattle.std.specs.Prelude.{◌⊎◌, Contains}
@@ -34,7 +34,7 @@ has_filter p (y ∷ xs) x h pass = elim (has_cases x y xs h) [
     step true h = has_tail x y (filter p xs) h
     step false h = h
 
--- what is given of a member is a member of what is given
+-- the image of a member is a member of the image
 pub has_filter_map : {X Y : Type 0} (f : X → Option Y) (xs : List X) (x : X) (y : Y) → Contains xs x → f x ≡ Some y
     → Contains (filter_map f xs) y
 has_filter_map f [] x y h e = absurd (omega (arith, h.1))
@@ -56,7 +56,7 @@ from_map f (x ∷ xs) y h = elim (has_cases y (f x) (map f xs) h) [
   | inr t ↦ let m = from_map f xs y t in (m.0, has_tail m.0 x xs m.1, m.2)
 ]
 
--- what stays was there
+-- what stays was a member before
 pub from_filter : {X : Type 0} (p : X → Bool) (xs : List X) (x : X) → Contains (filter p xs) x → Contains xs x
 from_filter p [] x h = h
 from_filter p (y ∷ xs) x h = step (p y) h (λ t. from_filter p xs x t)
@@ -70,7 +70,7 @@ from_filter p (y ∷ xs) x h = step (p y) h (λ t. from_filter p xs x t)
     ]
     step false h rest = has_tail x y xs (rest h)
 
--- what a search finds is there, and passes
+-- what a search finds is a member, and passes
 pub from_find : {X : Type 0} (p : X → Bool) (xs : List X) (x : X) → find p xs ≡ Some x → Contains xs x × (p x ≡ true)
 from_find p [] x e = absurd cc
 from_find p (y ∷ xs) x e = step (p y) refl e (λ t. from_find p xs x t)

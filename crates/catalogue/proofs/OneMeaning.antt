@@ -36,7 +36,7 @@ pub rises_behind : (k : List ℕ) (ks : List (List ℕ)) → Rises (k ∷ ks) �
 rises_behind k [] rises = tt
 rises_behind k (l ∷ ks) rises = rises.1
 
--- a key is below those of the members behind it
+-- a key is below those of the members after it
 pub below_members : (k : List ℕ) (m : List Entry) (e : Entry) → Rises (k ∷ map key m) → Contains m e
     → slice_cmp nat_cmp k (key e) ≡ Less
 below_members k [] e rises has = absurd (omega (arith, has.1))
@@ -51,7 +51,7 @@ not_below_itself k less = let tie = tied_itself total k in absurd (cc (less, tie
 not_behind_itself : (e : Entry) (m : List Entry) → Rises (key e ∷ map key m) → Contains m e → ⊥
 not_behind_itself e m rises has = not_below_itself (key e) (below_members (key e) m e rises has)
 
--- a member of the one list is a member of the other
+-- a member of one list is a member of the other
 abbrev AreMembers : List Entry → List Entry → Type 0
 AreMembers m n = (e : Entry) → Contains m e → Contains n e
 
@@ -66,7 +66,7 @@ same_head d e m n rises rises' within within' = elim (has_cases d e n (within d 
   ]
 ]
 
--- without the head the members are the same still
+-- without their heads, the lists still have equal members
 rest_within : (d e : Entry) (m n : List Entry) → Rises (key d ∷ map key m) → d ≡ e → AreMembers (d ∷ m) (e ∷ n)
     → AreMembers m n
 rest_within d e m n rises same within x has = elim (has_cases x e n (within x (has_tail x d m has))) [

@@ -1,4 +1,4 @@
--- The first repeat among outlines, looked for pair by pair.
+-- The first repeat among outlines, found pair by pair.
 use Rattle.std.proofs.Common.{◌≡◌, ℕ, ◌+◌, ◌-◌, ◌<◌, ◌≤◌, Bool, true, false, List, length, get_or, Option, Some, None}
 use Rattle.std.proofs.Common.{refl, sym, ap, ◌∙◌, subst, arith, inl, inr}
 use Rattle.std.proofs.lemmas.Bool.{cases_lt, ltb-true, false≢true}
@@ -10,7 +10,7 @@ use Rattle.catalogue.specs.Drafts.{Outline, outline, outlines, IsRepeat, IsFirst
 use Rattle.catalogue.specs.Drafts.{earlier}
 use Rattle.catalogue.specs.declared.drafts.Draft.{Draft}
 
--- what holds of the pairs before i, and of the one that ends at i, holds of those up to i
+-- what holds for the pairs before i and for the one that ends at i holds for those up to i
 up_to : (P : ℕ → Type 0) (i : ℕ) → 1 ≤ i → ((j : ℕ) → j + 1 < i → P j) → P (i - 1) → (j : ℕ) → j + 1 < i + 1 → P j
 up_to P i some before here j lt =
     elim (cases_lt (j + 1) i) [
@@ -18,7 +18,7 @@ up_to P i some before here j lt =
       | inr at ↦ let same : i - 1 ≡ j = omega arith in subst P same here
     ]
 
--- what is known when the outline r at i is looked at behind the one before it
+-- what is known when the outline r at i is compared with the one before it
 pub record Looks (rs : List Outline) (i : ℕ) (before r : Outline) : Type 0 where
   pub some : 1 ≤ i
   pub within : i < length rs
@@ -42,7 +42,7 @@ same_here : (rs : List Outline) (i : ℕ) (before r : Outline) → Looks rs i be
 same_here rs i before r l repeats = sym (ap (λ (x : Outline). x.key) (l.before_is r)) ∙ repeats.same r
     ∙ ap (λ (x : Outline). x.key) (behind rs i before r l r)
 
--- no outline before r comes first in the text
+-- no earlier outline comes first in the text
 abbrev LeastBefore : List Outline → ℕ → ℕ → Type 0
 LeastBefore rs i n = (j : ℕ) → j + 1 < i → (d : Outline) → IsRepeat rs j → n ≤ (get_or rs (j + 1) d).number
 
@@ -66,7 +66,7 @@ taken rs i before r first l same is_first so_far = record {
       (λ d _. let e = ap (λ (x : Outline). x.number) (behind rs i before r l d) in omega (arith, e)) j lt d repeats;
 }
 
--- the first one stays, where the pair is no repeat or comes later
+-- the first repeat stays, if the pair is no repeat or comes later
 stays : (rs : List Outline) (i : ℕ) (first : Option Outline) → 1 ≤ i → FirstRepeat rs i first
     → ((other : Outline) → first ≡ Some other → IsRepeat rs (i - 1) → (d : Outline)
     → other.number ≤ (get_or rs (i - 1 + 1) d).number) → (first ≡ None → ¬ IsRepeat rs (i - 1))

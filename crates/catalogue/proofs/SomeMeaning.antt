@@ -1,4 +1,4 @@
--- A text has a meaning or a refusal: it leads to ⊥ that it has neither.
+-- A text has a meaning or a refusal: assuming neither leads to ⊥.
 use Rattle.std.proofs.Common.{◌≡◌, ℕ, zero, suc, ◌+◌, ◌<◌, Bool, true, false, cond, List, [], ◌∷◌, ◌++◌, map, length}
 use Rattle.std.proofs.Common.{Ordering, refl, sym, ap, ◌∙◌, subst, arith, inl, inr, append_assoc}
 use Rattle.std.specs.Prelude.{◌⊎◌, ◌≢◌, Contains, All}
@@ -36,7 +36,7 @@ all_from P [] h = All-nil P
 all_from P (x ∷ xs) h = All-cons P x xs (h x (has_head x x xs refl))
     (all_from P xs (λ y has. h y (has_tail y x xs has)))
 
--- ---- an entry more in a map
+-- ---- one more entry in a map
 
 abbrev total : IsTotalOrder (slice_cmp nat_cmp)
 total = nat_list_cmp_total
@@ -102,7 +102,7 @@ inserts x (d ∷ m) rises new =
           ];
         }
 
--- ---- the map of entries of which none is a duplicate
+-- ---- the map of entries without duplicates
 
 -- the map of these messages
 record MapOf (messages m : List Entry) : Type 0 where
@@ -127,7 +127,7 @@ map_with x messages m is i = record {
 abbrev messages_of : Options → List po.Entry → List Entry
 messages_of o es = map message_of (kept o es)
 
--- one entry more
+-- one more entry
 messages_push : (o : Options) (es : List po.Entry) (e : po.Entry) (b : Bool) → is_kept o e ≡ b
     → messages_of o (es ++ e ∷ []) ≡ messages_of o es ++ cond b (message_of e ∷ []) []
 messages_push o es e b is =
@@ -196,7 +196,7 @@ some_map o entries no_repeat no_map =
 
 -- ---- the first refusal
 
--- where something fails, something is the first to fail
+-- if something fails, something is the first to fail
 some_first : (n : ℕ) (Failing : LoadKind → ℕ → Type 0) → ((kind : LoadKind) (line : ℕ) → IsFirst Failing kind line → ⊥)
     → (kind : LoadKind) (line : ℕ) → rank kind < n → Failing kind line → ⊥
 some_first zero Failing none kind line lt fails = absurd (omega arith)

@@ -1,4 +1,4 @@
--- Private: what single messages are tested for, on the way to a lawful map.
+-- Private: what each message is checked for, on the way to a lawful map.
 use Rattle.std.specs.Prelude.{Bool, [], IfSome}
 use Rattle.std.specs.List.{AllByRecursion}
 use Rattle.std.specs.Ordering.{nat_cmp, is_lt}
@@ -8,25 +8,25 @@ use Rattle.mo_image.specs.Entry.{Entry, key, IsText, IsKeyText, HasForms}
 use Rattle.catalogue.specs.Messages.{message_entry}
 use Rattle.catalogue.specs.declared.sorted.Message.{Message}
 
--- the texts of a lawful entry's key
+-- the context and the msgid are lawful
 pub record HasLawfulKey (e : Entry) : Type 0 where
   pub context : IfSome e.context IsKeyText
   pub id : IsKeyText e.id
 
--- its forms
+-- the forms and their number are lawful
 pub record HasLawfulForms (e : Entry) : Type 0 where
   pub texts : AllByRecursion IsText e.forms
   pub counted : HasForms e.plural e.forms
 
--- its texts beside the key
+-- the texts other than the key are lawful
 pub record HasLawfulTexts (e : Entry) : Type 0 where
   pub plural : IfSome e.plural IsText
   pub forms : HasLawfulForms e
 
--- the key of the first is below that of the second
+-- the key of the first message is below that of the second
 abbrev pub is_below : Message → Message → Bool
 is_below first second = is_lt (slice_cmp nat_cmp (key (message_entry first)) (key (message_entry second)))
 
--- the key is that of the header
+-- the message is the header: its key is empty
 abbrev pub is_header : Message → Bool
 is_header message = bytes_eq (key (message_entry message)) []

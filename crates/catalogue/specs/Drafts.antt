@@ -1,4 +1,4 @@
--- Private: what the compiler's own functions promise of the entries until they are in order.
+-- Private: what the compiler's own functions promise about the entries until they are sorted.
 use Rattle.std.specs.Prelude.{◌≡◌, ℕ, ◌+◌, ◌<◌, ◌≤◌, Bool, List, [], ◌∷◌, length, map, Option, Some, None, option_map}
 use Rattle.std.specs.Prelude.{if◌then◌else◌, ◌&&◌, nat_lt, true, false, is_some, ◌==◌}
 use denote.Ref.{Bor}
@@ -21,11 +21,11 @@ use Rattle.catalogue.specs.declared.drafts.Standing.{Standing}
 use Rattle.catalogue.specs.declared.drafts.Standing.TheVariants.{Header, Untranslated, Fuzzy, Translated}
 use Rattle.catalogue.specs.declared.drafts.Texts.{Texts}
 
--- what is kept of an entry beside its key
+-- what is kept of an entry besides its key: its plural, and its forms with NUL between them
 abbrev pub Kept : Type 0
 Kept = Option (List ℕ) × List ℕ
 
--- an entry by its place in the text, its line, its key and how it counts, and what is kept of it
+-- an entry by its index in the PO text, its line, its key, how it counts, and what is kept of it
 pub record Outline : Type 0 where
   pub number : ℕ
   pub line : ℕ
@@ -52,18 +52,18 @@ outlines drafts = map outline drafts
 abbrev pub texts_of : po.Entry → Kept
 texts_of e = (e.plural, translation (message_of e))
 
--- how an entry counts
+-- how an entry counts in the statistics
 abbrev pub standing_of : po.Entry → Standing
 standing_of e =
     if is_header e then Header else
     if is_untranslated e then Untranslated else
     if e.fuzzy then Fuzzy else Translated
 
--- what is kept of an entry that is kept
+-- what is kept of an entry, if it is kept at all
 abbrev pub texts_if_kept : Options → po.Entry → Option Kept
 texts_if_kept options e = if is_kept options e then Some (texts_of e) else None
 
--- the outline of the entry with this number
+-- the outline of the entry with this index
 abbrev pub outline_of : Options → ℕ → po.Entry → Outline
 outline_of options number e = record {
   number = number;
@@ -73,23 +73,23 @@ outline_of options number e = record {
   texts = texts_if_kept options e;
 }
 
--- the outlines of entries, the first of which has this number
+-- the outlines of entries, numbered from this index on
 abbrev pub outlines_from : Options → ℕ → List po.Entry → List Outline
 outlines_from options number [] = []
 outlines_from options number (e ∷ es) = outline_of options number e ∷ outlines_from options (number + 1) es
 
--- by keys, and those with one key in the order of the text
+-- compares outlines by key, and those with equal keys by their order in the PO text
 abbrev pub outline_cmp : Outline → Outline → Ordering
 outline_cmp a b = ordering_then (slice_cmp nat_cmp a.key b.key) (nat_cmp a.number b.number)
 
 abbrev pub comes_before : Draft → Draft → Bool
 comes_before a b = is_lt (outline_cmp (outline a) (outline b))
 
--- what is kept of an outline
+-- the entry of an outline, if it is kept
 abbrev pub kept_entry : Outline → Option Entry
 kept_entry r = option_map (λ t. entry_from r.key t.0 t.1) r.texts
 
--- the entry of an outline that is kept; else one with its key alone
+-- the entry of an outline that is kept, else an entry with the key alone
 abbrev pub entry_with : List ℕ → Option Kept → Entry
 entry_with key None = entry_from key None []
 entry_with key (Some t) = entry_from key t.0 t.1
@@ -100,12 +100,12 @@ draft_entry d = entry_with d.key (option_map kept_texts d.texts)
 abbrev pub drafts_entries : List Draft → List Entry
 drafts_entries drafts = map draft_entry drafts
 
--- the outline behind i has the key of the one at i
+-- the outline after the i-th has the key of the i-th
 pub record IsRepeat (rs : List Outline) (i : ℕ) : Type 0 where
   pub within : i + 1 < length rs
   pub same : (d : Outline) → (slice_index_or rs i d).key ≡ (slice_index_or rs (i + 1) d).key
 
--- of the first n outlines that have the key of the one before them, this one comes first in the text
+-- of the first n outlines that have the key of the one before them, this one comes first in the PO text
 pub record IsFirstRepeat (rs : List Outline) (n : ℕ) (r : Outline) : Type 0 where
   pub place : ℕ
   pub within : place + 1 < n
@@ -117,12 +117,12 @@ abbrev pub FirstRepeat : List Outline → ℕ → Option Outline → Type 0
 FirstRepeat rs n None = (j : ℕ) → j + 1 < n → ¬ IsRepeat rs j
 FirstRepeat rs n (Some r) = IsFirstRepeat rs n r
 
--- whether an outline comes before another one in the text, or there is no other one
+-- whether an outline precedes another one in the PO text, or there is no other one
 abbrev pub is_earlier : Outline → Option Outline → Bool
 is_earlier r None = true
 is_earlier r (Some other) = nat_lt r.number other.number
 
--- the first repeat, with one more outline behind another
+-- the first repeat so far, given one more pair of neighbours
 abbrev pub earlier : Outline → Outline → Option Outline → Option Outline
 earlier before r first = if bytes_eq before.key r.key && is_earlier r first then Some r else first
 
@@ -136,7 +136,7 @@ same_standing Fuzzy Fuzzy = true
 same_standing Translated Translated = true
 same_standing _ _ = false
 
--- the outline counts so
+-- the outline has this standing
 abbrev pub counts_as : Standing → Outline → Bool
 counts_as standing r = same_standing r.standing standing
 
@@ -147,7 +147,7 @@ is_kept_header r = counts_as Header r && is_some r.texts
 abbrev pub IsLawfulMessage : po.Entry → Type 0
 IsLawfulMessage e = IsLawfulEntry (message_of e)
 
--- the drafts and the findings are those of the entries that the text gives
+-- the drafts and the findings are those of the entries that the PO text gives
 pub record HasCollected (text : List ℕ) (options : Options) (drafts : List Draft) (findings : Findings) : Type 0 where
   pub entries : List po.Entry
   pub gives : Gives text entries
@@ -155,13 +155,15 @@ pub record HasCollected (text : List ℕ) (options : Options) (drafts : List Dra
   pub lawful : AllByRecursion IsLawfulMessage entries
   pub found : HasFound options entries findings
 
--- the text of the kept header, if there is one: its first form
+-- the first form of an outline, if it is kept
 abbrev pub outline_text : Outline → Option (List ℕ)
 outline_text r = option_map (λ t. first_form (slice_split (λ b. b == 0) t.1)) r.texts
 
+-- the first form of the outline that was found, if it is kept
 abbrev pub text_found : Option Outline → Option (List ℕ)
 text_found None = None
 text_found (Some r) = outline_text r
 
+-- the text of the kept header among the drafts, if there is one
 abbrev pub header_text_in : List Draft → Option (List ℕ)
 header_text_in drafts = text_found (option_map outline (find (λ d. is_kept_header (outline d)) drafts))

@@ -19,13 +19,13 @@ use Rattle.po_checks.specs.declared.fault.LoadKind.TheVariants.{BadText, BadOrde
 use Rattle.catalogue.specs.declared.compiler.Stats.{Stats}
 use Rattle.catalogue.specs.declared.compiler.Compiled.{Compiled}
 
--- the map of the kept entries: it lists these, and nothing else, in rising order of their keys
+-- the map of the kept entries: it lists them and nothing else, in rising order of their keys
 pub record IsMapOf (entries : List po.Entry) (m : List Entry) : Type 0 where
   pub rises : Rises (map key m)
   pub listed : All (Contains m) (map message_of entries)
   pub nothing_else : All (Contains (map message_of entries)) m
 
--- what the statistics count: entries other than the header, and what of them is untranslated, else fuzzy, else
+-- the entries that the statistics count: all but the header; of these, each is untranslated, else fuzzy, else
 -- translated
 abbrev pub counted : List po.Entry → List po.Entry
 counted entries = filter (λ e. not (is_header e)) entries
@@ -43,7 +43,7 @@ stats_of entries = record {
   untranslated = count_by is_untranslated (counted entries);
 }
 
--- none of the eight fields
+-- no field is missing
 abbrev pub none_missing : List Bool
 none_missing = false ∷ false ∷ false ∷ false ∷ false ∷ false ∷ false ∷ false ∷ []
 
@@ -52,13 +52,13 @@ abbrev pub lacking : Option (List ℕ) → List Bool
 lacking None = none_missing
 lacking (Some text) = missing text
 
--- those that the kept header lacks, looked for at the checked level
+-- which of the eight fields the kept header lacks, at the checked level; none at the other
 abbrev pub missing_of : Options → List po.Entry → List Bool
 missing_of options entries = if options.checked then lacking (header_text_of options entries) else none_missing
 
 -- ---- the text
 
--- the text compiles to this: nothing refuses its entries
+-- the text compiles to this, and nothing refuses its entries
 pub record Means (text : List ℕ) (options : Options) (compiled : Compiled) : Type 0 where
   pub entries : List po.Entry
   pub gives : po_outcome.Gives text entries
@@ -68,7 +68,8 @@ pub record Means (text : List ℕ) (options : Options) (compiled : Compiled) : T
   pub header_line_is : compiled.header_line ≡ header_line_of options entries
   pub missing_is : compiled.missing ≡ missing_of options entries
 
--- the text is refused by this kind at this line: the faults of the PO text first, then what its entries are refused for
+-- the text is refused with this kind at this line: first come the faults of the PO text, then the refusals of its
+-- entries
 abbrev pub Refuses : List ℕ → Options → LoadKind → ℕ → Type 0
 Refuses text options TooLarge line = po_outcome.Refuses text po_kind.TooLarge line
 Refuses text options NotUtf8 line = po_outcome.Refuses text po_kind.NotUtf8 line

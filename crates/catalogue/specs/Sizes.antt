@@ -1,5 +1,6 @@
--- Private: numbers that stop at the largest one.
+-- Private: sums that saturate at the largest number of 64 bits.
 use Rattle.std.specs.Prelude.{ℕ, ◌-◌, ◌^◌, min}
 
+-- a number, or 2^64 - 1 if it is larger
 abbrev pub capped : ℕ → ℕ
 capped n = min n (2 ^ 64 - 1)

@@ -1,4 +1,5 @@
--- Private: the texts of the entries that were read, in one text: those of one entry behind those of another.
+-- Private: the texts of all entries that were read, one after another in a single string, and the spans that cut them
+-- apart.
 use Rattle.std.specs.Prelude.{◌≡◌, ℕ, ◌+◌, ◌≤◌, List, [], ◌∷◌, ◌++◌, length, map, take, drop, ⊤, Option, Some, None}
 use Rattle.std.specs.Prelude.{option_map, IfSome}
 use Rattle.std.specs.List.{AllByRecursion, flat_map}
@@ -16,7 +17,7 @@ use Rattle.catalogue.specs.declared.spans.Share.TheVariants.{Dropped, Plain, Plu
 
 -- ---- the lengths of an entry's texts
 
--- how long the texts of an entry are, and how it stands in the text that was read
+-- the lengths of an entry's texts, its line, and how it counts
 pub record SpanValue : Type 0 where
   pub key : ℕ
   pub kept : Option KeptSpan
@@ -51,7 +52,7 @@ kept_span t = record { plural = option_map length t.0; translation = length t.1 
 abbrev pub span_of : Outline → SpanValue
 span_of r = record { key = length r.key; kept = option_map kept_span r.texts; line = r.line; standing = r.standing }
 
--- ---- the outline that stands in front, by its span
+-- ---- the first outline of a text, by its span
 
 abbrev pub plural_size : Option ℕ → ℕ
 plural_size None = 0
@@ -88,7 +89,7 @@ outlines_at number text (s ∷ spans) = outline_at number text s ∷ outlines_at
 
 -- ---- where texts may be cut
 
--- so many bytes in front are a text
+-- the first n bytes are a text
 pub record HoldsText (text : List ℕ) (n : ℕ) : Type 0 where
   pub within : n ≤ length text
   pub utf8 : IsUtf8 (take n text)
@@ -110,12 +111,12 @@ HoldsAll text (s ∷ spans) = HoldsSpan text s × HoldsAll (drop (size s) text) 
 
 -- ---- the texts of a whole PO text
 
--- the texts are those of these outlines, and nothing else
+-- the texts and the spans are those of these outlines, and nothing else
 pub record AreTextsOf (texts : List ℕ) (spans : List SpanValue) (rs : List Outline) : Type 0 where
   pub texts_are : texts ≡ flat_map stored rs
   pub spans_are : spans ≡ map span_of rs
 
--- the texts, their spans and the findings are those of the entries that the text gives
+-- the texts, their spans and the findings are those of the entries that the PO text gives
 pub record HasGathered (text : List ℕ) (options : Options) (texts : List ℕ) (spans : List SpanValue)
     (findings : Findings) : Type 0 where
   pub entries : List po.Entry

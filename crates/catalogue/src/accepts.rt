@@ -1,4 +1,4 @@
-//! Whether messages list a lawful map, so that a catalogue can be made of them. The tests take no memory.
+//! Checks whether messages list a lawful map, so that a catalogue can be made of them, without allocating.
 ghost use Rattle.std.specs.Prelude.{◌≡◌, ◌≤◌, ◌↔◌, [], length, map, IsTrue, IfSome, option_map, string_bytes};
 ghost use Rattle.std.specs.List.{AllByRecursion, find};
 ghost use Rattle.std.specs.Ordering.{nat_cmp, is_lt};
@@ -21,21 +21,21 @@ fn lacks(text: &str, byte: u8) -> bool
     !text.as_bytes().contains(&byte)
 }
 
-/// Whether a text may stand in a catalogue.
+/// Whether a text may be part of a catalogue: it holds no NUL.
 fn is_text(text: &str) -> bool
     ensures { IsTrue result ↔ IsText text.now }
 {
     lacks(text, 0)
 }
 
-/// Whether a text may stand in a key.
+/// Whether a text may be part of a key: it holds neither NUL nor byte 4.
 fn is_key_text(text: &str) -> bool
     ensures { IsTrue result ↔ IsKeyText text.now }
 {
     lacks(text, 0) && lacks(text, 4)
 }
 
-/// The same of a text where there is one.
+/// Whether the context, if there is one, may be part of a key.
 fn is_context(context: &Option<String>) -> bool
     ensures { IsTrue result ↔ IfSome (option_map (λ s. string_bytes s) context.now) IsKeyText }
 {
@@ -45,7 +45,7 @@ fn is_context(context: &Option<String>) -> bool
     }
 }
 
-/// The same of the plural.
+/// Whether the plural, if there is one, may be part of a catalogue.
 fn is_plural(plural: &Option<String>) -> bool
     ensures { IsTrue result ↔ IfSome (option_map (λ s. string_bytes s) plural.now) IsText }
 {
@@ -61,7 +61,7 @@ fn are_texts(forms: &[String]) -> bool
     forms.iter().all(|form| is_text(form.as_str()))
 }
 
-/// Whether there is a form, and without a plural just one.
+/// Whether there is at least one form, and exactly one without a plural.
 fn is_counted(message: &Message) -> bool
     ensures { let e = message_entry message.now in IsTrue result ↔ HasForms e.plural e.forms }
 {
@@ -71,21 +71,21 @@ fn is_counted(message: &Message) -> bool
     }
 }
 
-/// Whether the key's texts are lawful.
+/// Whether the context and the msgid are lawful.
 fn has_lawful_key(message: &Message) -> bool
     ensures { IsTrue result ↔ Accepted.HasLawfulKey (message_entry message.now) }
 {
     is_context(&message.context) && is_key_text(message.id.as_str())
 }
 
-/// Whether the forms are lawful, by themselves and by their number.
+/// Whether the forms and their number are lawful.
 fn has_lawful_forms(message: &Message) -> bool
     ensures { IsTrue result ↔ Accepted.HasLawfulForms (message_entry message.now) }
 {
     are_texts(message.forms.as_slice()) && is_counted(message)
 }
 
-/// Whether the texts beside the key are lawful.
+/// Whether the texts other than the key are lawful.
 fn has_lawful_texts(message: &Message) -> bool
     ensures { IsTrue result ↔ Accepted.HasLawfulTexts (message_entry message.now) }
 {
@@ -118,14 +118,14 @@ fn is_below(first: &Message, second: &Message) -> bool
     .is_lt()
 }
 
-/// Whether each key is above the one before.
+/// Whether each key is above the one before it.
 fn keys_rise(messages: &[Message]) -> bool
     ensures { IsTrue result ↔ Rises (map key (messages_of messages.now)) }
 {
     messages.is_sorted_by(|first, second| is_below(first, second))
 }
 
-/// Whether the message has no context and the empty msgid.
+/// Whether the message is the header: it has no context and the empty msgid.
 fn is_header(message: &Message) -> bool
     ensures { result ≡ Accepted.is_header message.now }
 {
@@ -138,7 +138,7 @@ fn header(messages: &[Message]) -> Option<&Message>
     messages.iter().find(|message| is_header(message))
 }
 
-/// The first form; the empty text, where there is none.
+/// Returns the first form, or the empty text if there is none.
 fn first_form(forms: &[String]) -> &str
     ensures { result.now ≡ first_form (map (λ s. string_bytes s) forms.now) }
 {
@@ -148,7 +148,7 @@ fn first_form(forms: &[String]) -> &str
     }
 }
 
-/// Whether the header, if there is one, names no charset or one that is accepted.
+/// Whether the header, if there is one, names an accepted charset or none.
 fn header_is_lawful(messages: &[Message]) -> bool
     ensures { IsTrue result ↔ IfSome (header_text (messages_of messages.now)) HasAcceptedCharset }
 {
@@ -158,7 +158,7 @@ fn header_is_lawful(messages: &[Message]) -> bool
     }
 }
 
-/// Whether the MO file of the messages isn't too large.
+/// Whether the MO file of the messages is within the size limit.
 fn fits(messages: &[Message]) -> bool
     ensures { IsTrue result ↔ (length (spelling (messages_of messages.now)) ≤ 268435456) }
 {
@@ -166,10 +166,10 @@ fn fits(messages: &[Message]) -> bool
 }
 
 impl Catalogue {
-    /// Whether the messages list a lawful map, as `from_sorted` wants them: no text holds NUL, no context
-    /// or msgid byte 4; each message has a form, and just one where it has no plural; each key is above the
-    /// one before, by bytes; the header, if there is one, names no charset or one that is accepted; and the
-    /// MO file has at most 268,435,456 bytes.
+    /// Checks whether the messages list a lawful map, as `from_sorted` requires: no text holds NUL; no context or msgid
+    /// holds byte 4; each message has at least one form, and exactly one without a plural; each key is above the one
+    /// before it, by bytes; the header, if there is one, names an accepted charset or none; and the MO file has at most
+    /// 268,435,456 bytes.
     pub fn accepts(messages: &[Message]) -> bool
         ensures { IsTrue result ↔ IsLawful (messages_of messages.now) }
     {

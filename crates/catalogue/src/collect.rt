@@ -1,4 +1,4 @@
-//! The entries of a text as drafts, in the order of the text.
+//! Reads the entries of a PO text, in their order.
 ghost use Rattle.std.specs.Prelude.{◌≡◌, ◌⊎◌, ◌++◌, length, IfOk, IfErr, OnOk, string_bytes, option_map};
 ghost use Rattle.po_text.specs.Lawful.{IsLawfulTexts};
 ghost use Rattle.mo_image.specs.Entry.{translation};
@@ -18,7 +18,7 @@ use po_checks::{Findings, LoadFault, Options, is_header, is_kept, is_untranslate
 use po_text::{EntryBuffer, open_text};
 use std::alloc::{AllocError, Global};
 
-/// How an entry counts in the statistics.
+/// Says how an entry counts in the statistics.
 fn standing_of(entry: &EntryBuffer) -> Standing
     ensures { result ≡ Drafts.standing_of entry.now }
 {
@@ -33,7 +33,7 @@ fn standing_of(entry: &EntryBuffer) -> Standing
     }
 }
 
-/// Adds the bytes of the entry's key, and says how many they are.
+/// Appends the entry's key, and returns its length in bytes.
 fn add_key(texts: &mut String, entry: &EntryBuffer) -> Result<usize, AllocError>
     ensures added { OnOk result (string_bytes texts.new ≡ string_bytes texts.old ++ Meaning.key_of entry.now) }
     ensures len { IfOk result (λ len. len ≡ length (Meaning.key_of entry.now)) }
@@ -43,7 +43,7 @@ fn add_key(texts: &mut String, entry: &EntryBuffer) -> Result<usize, AllocError>
     Ok(texts.len() - start)
 }
 
-/// Adds the plural, and says how many bytes it has.
+/// Appends the plural, if there is one, and returns its length in bytes.
 fn add_plural(texts: &mut String, entry: &EntryBuffer) -> Result<Option<usize>, AllocError>
     ensures added { OnOk result (string_bytes texts.new ≡ string_bytes texts.old ++ plural_bytes entry.now.plural) }
     ensures len { IfOk result (λ len. len ≡ option_map length entry.now.plural) }
@@ -57,7 +57,7 @@ fn add_plural(texts: &mut String, entry: &EntryBuffer) -> Result<Option<usize>, 
     }
 }
 
-/// Adds the forms, with NUL between them, and says how many bytes they are.
+/// Appends the forms, with NUL between them, and returns their length in bytes.
 fn add_forms(texts: &mut String, entry: &EntryBuffer) -> Result<usize, AllocError>
     ensures added { OnOk result (string_bytes texts.new ≡ string_bytes texts.old
         ++ translation (message_of entry.now)) }
@@ -70,7 +70,7 @@ fn add_forms(texts: &mut String, entry: &EntryBuffer) -> Result<usize, AllocErro
     Ok(texts.len() - start)
 }
 
-/// Adds what a catalogue keeps of an entry beside its key, and says how long it is.
+/// Appends what a catalogue keeps of an entry besides its key, and returns the lengths.
 fn add_kept(texts: &mut String, entry: &EntryBuffer) -> Result<KeptSpan, AllocError>
     ensures added { OnOk result (string_bytes texts.new ≡ string_bytes texts.old
         ++ kept_bytes (Drafts.texts_of entry.now)) }
@@ -82,7 +82,7 @@ fn add_kept(texts: &mut String, entry: &EntryBuffer) -> Result<KeptSpan, AllocEr
     })
 }
 
-/// The same of an entry that is kept.
+/// Appends what a catalogue keeps of an entry besides its key, if the entry is kept at all.
 fn add_if_kept(
     texts: &mut String,
     entry: &EntryBuffer,
@@ -100,7 +100,7 @@ fn add_if_kept(
     Ok(Some(span))
 }
 
-/// Adds the texts of an entry to those before, and gives their span.
+/// Appends the texts of an entry, and returns their span.
 fn add_entry(texts: &mut String, entry: &EntryBuffer, options: Options) -> Result<Span, AllocError>
     ensures lawful { OnOk result (IsLawfulTexts entry.now) }
     ensures added { OnOk result (string_bytes texts.new ≡ string_bytes texts.old
@@ -112,18 +112,18 @@ fn add_entry(texts: &mut String, entry: &EntryBuffer, options: Options) -> Resul
     Ok(Span::new(key, kept, entry.line(), standing_of(entry)))
 }
 
-/// What was read of a text.
+/// What was read of a PO text.
 #[derive(Drop)]
 pub(crate) struct Collected {
-    /// The texts of its entries: the key of each, and behind it the plural and the forms of one that is kept.
+    /// The texts of the entries one after another: each key, and for an entry that is kept its plural and its forms.
     pub(crate) texts: String,
-    /// Its entries, in its order.
+    /// The spans of the entries, in the order of the PO text.
     pub(crate) spans: Vec<Span>,
     /// What the checks found.
     pub(crate) findings: Findings,
 }
 
-/// Reads the entries of a text.
+/// Reads and checks the entries of a PO text.
 pub(crate) fn collect(alloc: Global, text: &[u8], options: Options) -> Result<Collected, LoadFault>
     ensures ok { IfOk result (IsReadOf text.now options) }
     ensures err { IfErr result (λ fault. (fault ≡ out_of_memory) ⊎ Refuses text.now options fault.kind fault.line) }

@@ -1,4 +1,4 @@
-//! From a PO text to a catalogue.
+//! Compiles a PO text to a catalogue.
 ghost use Rattle.std.specs.Prelude.{◌≡◌, ◌<◌, ◌^◌, ◌⊎◌, ◌↔◌, ℕ, List, IfOk, IfErr, IfSome, IsTrue, length};
 ghost use Rattle.std.specs.Prelude.{if◌then◌else◌, option_map};
 ghost use Rattle.std.specs.List.{count_by};
@@ -20,7 +20,7 @@ use po_header::{has_accepted_charset, missing_fields};
 use std::alloc::Global;
 use std::mem::size_of;
 
-/// Counts of the entries of a text other than its header, kept or not.
+/// Counts of the entries of a PO text other than its header, kept or not.
 #[derive(Clone, Copy, Debug, PartialEq, Eq)]
 pub struct Stats {
     pub translated: u32,
@@ -30,19 +30,19 @@ pub struct Stats {
     pub untranslated: u32,
 }
 
-/// What a text compiles to.
+/// What a PO text compiles to.
 #[derive(Drop)]
 pub struct Compiled {
     pub catalogue: Catalogue,
     pub stats: Stats,
-    /// Which of the eight fields (`po_header::FIELD_NAMES`) the kept header lacks; none where the level isn't
-    /// checked, or no header is kept.
+    /// Which of the eight fields (`po_header::FIELD_NAMES`) the kept header lacks; all `false` unless `checked` was set
+    /// and there is a kept header.
     pub missing: [bool; 8],
-    /// The line of the kept header, or 0 where there is none.
+    /// The line of the kept header, or 0 if there is none.
     pub header_line: u32,
 }
 
-/// How the entries count.
+/// Counts the drafts by their standing.
 fn stats_of(drafts: &[Draft<'_>]) -> Stats
     requires { length drafts.now < 2 ^ 32 }
     ensures translated { result.translated ≡ count_by (λ d. counts_as Standing.Translated (outline d)) drafts.now }
@@ -57,7 +57,7 @@ fn stats_of(drafts: &[Draft<'_>]) -> Stats
     }
 }
 
-/// Whether the header's text, if there is one, names no charset, or one that is accepted.
+/// Whether the header names an accepted charset or none, or there is no header.
 fn is_accepted(header: Option<&str>) -> bool
     ensures { IsTrue result ↔ IfSome header.entry (λ text. HasAcceptedCharset text.now) }
 {
@@ -67,7 +67,7 @@ fn is_accepted(header: Option<&str>) -> bool
     }
 }
 
-/// Which of the eight header fields the header's text lacks, if there is one; none at the unchecked level.
+/// Reports which of the eight header fields the header lacks; none unless `checked` is set and there is a header.
 fn missing_in(header: Option<&str>, options: Options) -> [bool; 8]
     ensures { result
         ≡ (if options.checked then lacking (option_map (λ text. text.now) header.entry) else none_missing) }
@@ -78,21 +78,20 @@ fn missing_in(header: Option<&str>, options: Options) -> [bool; 8]
     }
 }
 
-/// Compiles a PO text: its kept entries become a catalogue.
+/// Compiles a PO text: its kept entries become a catalogue (GNU gettext manual, "msgfmt Invocation").
 ///
-/// An untranslated entry isn't kept, and a fuzzy one only with `use_fuzzy`, but for the header.
-/// The text is refused by the first fault of the PO text (see `po_text::read_po`), else where an
-/// entry has the key of an earlier one, kept or not, else where the kept header names a charset
-/// that isn't accepted (`po_header::charset_accepted`), else where a kept c-format entry has a
-/// system-dependent text (`c_signature::signature`).
+/// Untranslated entries aren't kept, and fuzzy ones only with `use_fuzzy`; a fuzzy header always is.
 ///
-/// At the checked level it is refused, too, where there are kept plural entries and no rule for them
-/// in the header, or one that can't be read; where one of them has another number of forms than the
-/// rule says; where the rule has no form for a number of 0 to 1000; where the formats of a kept entry
-/// differ; or its newlines. Each refusal names the line of the first such entry or of the header.
-/// `missing` says which of the eight header fields the kept header lacks.
+/// The first fault of the PO text is reported (see `po_text::read_po`). If it has none, the text is refused if an entry
+/// has the key of an earlier one, kept or not; if the kept header names a charset that isn't accepted
+/// (`po_header::charset_accepted`); or if a kept c-format entry has a system-dependent text (`c_signature::signature`).
 ///
-/// Where memory is refused in the call, `Memory` may stand in place of any other answer.
+/// With `checked`, it is also refused if there are kept plural entries and the header has no rule for them, or one that
+/// can't be read; if one of them has another number of forms than the rule says; if the rule has no form for a number
+/// from 0 to 1000; or if the formats or the newlines of a kept entry differ. Each refusal names the line of the first
+/// such entry or of the header. `missing` then says which of the eight header fields the kept header lacks.
+///
+/// If an allocation fails, `Memory` may be reported instead of any other result.
 pub fn compile(alloc: Global, text: &[u8], options: Options) -> Result<Compiled, LoadFault>
     ensures ok { IfOk result (Means text.now options) }
     ensures err { IfErr result (λ fault. (fault ≡ out_of_memory) ⊎ Refuses text.now options fault.kind fault.line) }
@@ -101,8 +100,9 @@ pub fn compile(alloc: Global, text: &[u8], options: Options) -> Result<Compiled,
     compile_collected(alloc, collected, options, Vec::new(alloc))
 }
 
-/// The same of a text that is handed over. The MO file is written over it when its entries have been read, so the two
-/// are not held at once, and a large one takes no memory that is new to the program.
+/// Compiles a PO text as `compile` does, but takes ownership of it. Once the entries have been read, the MO file is
+/// written into the text's memory, so the two are never held at once, and a large file takes no memory that is new to
+/// the program.
 pub fn compile_owned(alloc: Global, text: Vec<u8>, options: Options) -> Result<Compiled, LoadFault>
     ensures ok { IfOk result (Means text.items options) }
     ensures err { IfErr result (λ fault. (fault ≡ out_of_memory) ⊎ Refuses text.items options fault.kind fault.line) }
@@ -112,9 +112,9 @@ pub fn compile_owned(alloc: Global, text: Vec<u8>, options: Options) -> Result<C
     compile_collected(alloc, collected, options, memory)
 }
 
-/// How many bytes of a text's memory are kept for the MO file: as many as that has at most, less those of the spans.
-/// Its header counts, and of each entry two rows, and a NUL behind the key, the plural and the forms. The spans are
-/// freed before the memory grows to the file's size, so it doesn't raise the peak.
+/// The number of bytes of a text's memory to keep for the MO file: the most that the file can take, less the bytes of
+/// the spans. The file has a header, and for each entry two rows and a NUL after the key, the plural and the forms. The
+/// spans are freed before the memory grows to the file's size, so this doesn't raise the peak.
 fn kept_room(collected: &Collected) -> usize {
     let count = collected.spans.len();
     let entries = count.saturating_mul(2 * ROW_LEN + 3);
@@ -126,7 +126,7 @@ fn kept_room(collected: &Collected) -> usize {
     most.saturating_sub(count.saturating_mul(size_of::<Span>()))
 }
 
-/// The memory of a text, of which no more is kept than so many bytes.
+/// Empties a text and keeps at most `most` bytes of its memory.
 fn room_over(text: Vec<u8>, most: usize) -> Vec<u8> {
     let mut memory = text;
     memory.clear();
@@ -134,7 +134,7 @@ fn room_over(text: Vec<u8>, most: usize) -> Vec<u8> {
     memory
 }
 
-/// What a text compiles to of which this was read. The MO file is written over `memory`.
+/// Turns the collected entries into a compiled catalogue, with its MO file in `memory`.
 fn compile_collected(
     alloc: Global,
     collected: Collected,

@@ -1,4 +1,4 @@
-//! The entries of a text on their way into a catalogue: read, put in order, and looked through for duplicates.
+//! The entries of a PO text on their way into a catalogue: sorted, checked for duplicates, and filtered.
 ghost use Rattle.std.specs.Prelude.{◌≡◌, ◌<◌, ◌+◌, ◌^◌, ℕ, length, IfOk, option_map};
 ghost use Rattle.std.specs.List.{count_by, filter_map, find};
 ghost use Rattle.std.specs.Option.{option_map_or};
@@ -11,7 +11,7 @@ use mo_image::{EntryList, EntryStrings, split_form};
 use std::cmp::Ordering;
 use text_key::LongKey;
 
-/// What a catalogue keeps of an entry beside its key.
+/// What a catalogue keeps of an entry besides its key.
 #[derive(Drop)]
 pub(crate) struct Texts<'a> {
     pub(crate) plural: Option<&'a str>,
@@ -22,23 +22,23 @@ pub(crate) struct Texts<'a> {
 /// How an entry counts in the statistics.
 #[derive(Clone, Copy, PartialEq, Eq)]
 pub(crate) enum Standing {
-    /// The header doesn't count.
+    /// The header, which isn't counted.
     Header,
     Untranslated,
     Fuzzy,
     Translated,
 }
 
-/// An entry that was read. Its texts are lent: drafts are moved when they are sorted.
+/// An entry that was read. It borrows its texts, since drafts are moved when they are sorted.
 #[derive(Drop)]
 pub(crate) struct Draft<'a> {
-    /// The bytes of the entry's key.
+    /// The entry's key.
     pub(crate) key: LongKey<'a>,
-    /// How many entries stand before it in the text.
+    /// The index of the entry in the PO text.
     pub(crate) number: usize,
     pub(crate) line: u32,
     pub(crate) standing: Standing,
-    /// None for an entry that isn't kept.
+    /// `None` if the entry isn't kept.
     pub(crate) texts: Option<Texts<'a>>,
 }
 
@@ -48,7 +48,7 @@ fn counts_as(draft: &Draft<'_>, standing: Standing) -> bool
     draft.standing == standing
 }
 
-/// How many drafts count so.
+/// Counts the drafts of this standing.
 pub(crate) fn count(drafts: &[Draft<'_>], standing: Standing) -> usize
     ensures { result ≡ count_by (λ d. Drafts.counts_as standing (outline d)) drafts.now }
 {
@@ -70,7 +70,7 @@ fn kept_header<'d, 'a>(drafts: &'d [Draft<'a>]) -> Option<&'d Draft<'a>>
     drafts.iter().find(|draft| is_kept_header(draft))
 }
 
-/// The line of the kept header, or 0 where there is none.
+/// Returns the line of the kept header, or 0 if there is none.
 pub(crate) fn header_line(drafts: &[Draft<'_>]) -> u32
     ensures { result ≡ option_map_or (λ d. d.line) (find (λ d. Drafts.is_kept_header (outline d)) drafts.now) 0 }
 {
@@ -80,7 +80,7 @@ pub(crate) fn header_line(drafts: &[Draft<'_>]) -> u32
     }
 }
 
-/// The first form of a draft that is kept.
+/// Returns the first form of a draft, if the draft is kept.
 fn first_form_of<'a>(draft: &Draft<'a>) -> Option<&'a str>
     ensures { option_map (λ text. text.now) result ≡ outline_text (outline draft.now) }
 {
@@ -90,7 +90,7 @@ fn first_form_of<'a>(draft: &Draft<'a>) -> Option<&'a str>
     }
 }
 
-/// The text of the kept header, if there is one.
+/// Returns the text of the kept header, if there is one.
 pub(crate) fn header_text<'a>(drafts: &[Draft<'a>]) -> Option<&'a str>
     ensures { option_map (λ text. text.now) result ≡ header_text_in drafts.now }
 {
@@ -100,14 +100,14 @@ pub(crate) fn header_text<'a>(drafts: &[Draft<'a>]) -> Option<&'a str>
     }
 }
 
-/// Which of two comes first: by key, and by their places in the text where the keys are the same.
+/// Compares two drafts by key, and those with equal keys by their order in the PO text.
 fn compare(a: &Draft<'_>, b: &Draft<'_>) -> Ordering
     ensures { result ≡ outline_cmp (outline a.now) (outline b.now) }
 {
     a.key.compare(&b.key).then(a.number.cmp(&b.number))
 }
 
-/// Puts the drafts in rising order of their keys; those with one key stand in the order of the text.
+/// Sorts the drafts by key; those with equal keys stay in the order of the PO text.
 pub(crate) fn sort(drafts: &mut Vec<Draft<'_>>)
     ensures same { IsPermutation drafts.old.items drafts.new.items }
     ensures sorted { IsSortedBy comes_before drafts.new.items }
@@ -115,7 +115,7 @@ pub(crate) fn sort(drafts: &mut Vec<Draft<'_>>)
     drafts.sort_unstable_by(|a, b| compare(a, b));
 }
 
-/// Whether the draft comes before the other one in the text, or there is no other one.
+/// Whether the draft precedes the other one in the PO text, or there is no other one.
 fn is_earlier(draft: &Draft<'_>, other: Option<&Draft<'_>>) -> bool
     ensures { result ≡ Drafts.is_earlier (outline draft.now) (outline_if other.entry) }
 {
@@ -125,7 +125,7 @@ fn is_earlier(draft: &Draft<'_>, other: Option<&Draft<'_>>) -> bool
     }
 }
 
-/// The first repeat, with one more draft behind another.
+/// Returns the first repeat so far, given one more pair of neighbours.
 fn earlier<'d, 'a>(
     before: &Draft<'_>,
     draft: &'d Draft<'a>,
@@ -140,8 +140,8 @@ fn earlier<'d, 'a>(
     }
 }
 
-/// The first entry in the text that has the key of an earlier one. The drafts are sorted, so such an
-/// entry stands behind one with its key.
+/// Returns the first entry of the PO text that has the key of an earlier one. In sorted drafts, such an entry directly
+/// follows one with its key.
 pub(crate) fn first_repeat<'d, 'a>(drafts: &'d [Draft<'a>]) -> Option<&'d Draft<'a>>
     ensures { FirstRepeat (outlines drafts.now) (length drafts.now) (outline_if result) }
 {
@@ -152,7 +152,7 @@ pub(crate) fn first_repeat<'d, 'a>(drafts: &'d [Draft<'a>]) -> Option<&'d Draft<
     first
 }
 
-/// Leaves the drafts that are kept.
+/// Drops the drafts that aren't kept.
 pub(crate) fn keep(drafts: &mut Vec<Draft<'_>>)
     ensures { drafts_entries drafts.new.items ≡ filter_map kept_entry (outlines drafts.old.items) }
 {

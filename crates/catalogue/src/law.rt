@@ -1,10 +1,9 @@
-//! What holds of the meaning of every text.
+//! The law of what PO texts mean.
 ghost use Rattle.catalogue.specs.Laws.{HasOneMeaning, HasOneRefusal, MeansOrIsRefused, HasSomeMeaning};
 
-/// A text has one meaning at given options: it compiles to one catalogue with its counts, or is refused
-/// with one kind at one line, and never both nor neither. So what `compile` answers is settled by the
-/// text and the options alone, but for `Memory`. It does nothing when it is called; its contract is the
-/// law.
+/// A PO text has exactly one meaning at given options: it compiles to one catalogue with its counts, or it is refused
+/// with one kind at one line, and never both nor neither. So the text and the options alone determine the result of
+/// `compile`, except for `Memory`. The function does nothing; its contract is the law.
 pub fn one_meaning()
     ensures meaning { HasOneMeaning }
     ensures refusal { HasOneRefusal }

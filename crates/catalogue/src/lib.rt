@@ -1,7 +1,7 @@
-//! Message catalogues: what a PO text compiles to, the entries that it lists, and the look-ups of gettext.
+//! Message catalogues: what a PO text compiles to, the entries of a catalogue, and the look-ups of gettext.
 //!
-//! A catalogue is a finite map from keys to entries. A key is a msgid, alone or in a context; an entry
-//! has besides the msgid_plural of a plural message, and its translated forms.
+//! A catalogue is a finite map from keys to entries. A key is a msgid, alone or in a context. An entry also has
+//! translated forms and, if the message has a plural, its msgid_plural.
 #![tactic(auto)]
 
 mod accepts;

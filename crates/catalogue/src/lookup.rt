@@ -1,4 +1,4 @@
-//! The look-ups of gettext. They take no memory, and lend their answer from the catalogue or from an argument.
+//! The look-ups of gettext. They don't allocate; a result borrows from the catalogue or from an argument.
 ghost use Rattle.std.specs.Prelude.{◌≡◌, ◌<◌, ℕ, List, length, slice_get, Some, None, option_map};
 ghost use Rattle.mo_image.specs.Entry.{key_bytes};
 ghost use Rattle.mo_image.specs.Map.{entry_at};
@@ -10,7 +10,7 @@ use crate::Catalogue;
 use mo_image::EntryRef;
 use po_header::RuleRead;
 
-/// The place of the form that a number takes by this rule; that of the first one, where the entry has no such form.
+/// Returns the index of the form that the rule selects for `n`, or 0 if the entry has no such form.
 #[inline(always)]
 fn place_by(entry: &EntryRef<'_>, rule: &RuleRead, n: u64) -> usize
     ensures within { result < length entry.now.forms }
@@ -25,15 +25,15 @@ fn place_by(entry: &EntryRef<'_>, rule: &RuleRead, n: u64) -> usize
     }
 }
 
-/// The text that stands in place of a form where there is no translation: the msgid for 1, and the plural for other
-/// numbers (GNU gettext manual, "Plural forms").
+/// Returns the text to use if there is no translation: the msgid for 1, and the plural for any other number (GNU
+/// gettext manual, "Plural forms").
 pub fn untranslated<'a>(id: &'a str, plural: &'a str, n: u64) -> &'a str
     ensures { result.now ≡ text_by n id.now plural.now }
 {
     if n == 1 { id } else { plural }
 }
 
-/// The first form of the entry that was found, or the msgid.
+/// Returns the first form of the entry that was found, or the msgid.
 #[inline(always)]
 fn first_form<'a>(found: Option<EntryRef<'a>>, id: &'a str) -> &'a str
     ensures { IsFirstForm found.entry id.now result.now }
@@ -45,8 +45,8 @@ fn first_form<'a>(found: Option<EntryRef<'a>>, id: &'a str) -> &'a str
 }
 
 impl Catalogue {
-    /// The form of an entry of this catalogue that a number takes by the rule in the catalogue's header; the first
-    /// form, where the entry has no such form (GNU gettext manual, "Plural forms").
+    /// Returns the form of an entry of this catalogue that the rule in the header selects for `n`, or the first form if
+    /// the entry has no such form (GNU gettext manual, "Plural forms").
     #[inline(always)]
     pub fn form_for<'a>(&self, entry: &EntryRef<'a>, n: u64) -> &'a str
         ensures { IsMapFormFor self.now n entry.now.forms result.now }
@@ -54,7 +54,7 @@ impl Catalogue {
         entry.form(place_by(entry, self.rule(), n))
     }
 
-    /// The form of the entry that was found, or one of the texts.
+    /// Returns the form for `n` of the entry that was found, or else the msgid or the plural.
     #[inline(always)]
     fn counted<'a>(
         &'a self,
@@ -71,23 +71,25 @@ impl Catalogue {
         }
     }
 
-    /// The translation of a msgid: the first form of its entry, or the msgid itself where there is none.
+    /// Translates a msgid: returns the first form of its entry, or the msgid itself if there is no entry (GNU gettext
+    /// manual, "Interface to gettext").
     pub fn gettext<'a>(&'a self, id: &'a str) -> &'a str
         ensures { IsFirstForm (entry_at self.now (key_bytes None id.now)) id.now result.now }
     {
         first_form(self.find(None, id), id)
     }
 
-    /// The translation of a msgid in a context, or the msgid itself where there is none.
+    /// Translates a msgid in a context, or returns the msgid itself if there is no entry (GNU gettext manual,
+    /// "Contexts").
     pub fn pgettext<'a>(&'a self, context: &str, id: &'a str) -> &'a str
         ensures { IsFirstForm (entry_at self.now (key_bytes (Some context.now) id.now)) id.now result.now }
     {
         first_form(self.find(Some(context), id), id)
     }
 
-    /// The translation of a message with a number: the form of its entry that the number takes by the rule
-    /// in the catalogue's header; the first form, where the entry has no such form. Where there is no
-    /// entry, the msgid for 1, and the plural for other numbers.
+    /// Translates a message with a number: returns the form of its entry that the rule in the header selects for `n`,
+    /// or the first form if the entry has no such form. If there is no entry, returns the msgid for 1 and the plural
+    /// for any other number (GNU gettext manual, "Plural forms").
     pub fn ngettext<'a>(&'a self, id: &'a str, plural: &'a str, n: u64) -> &'a str
         ensures { IsCounted self.now (entry_at self.now (key_bytes None id.now)) n (text_by n id.now plural.now)
             result.now }
@@ -95,7 +97,7 @@ impl Catalogue {
         self.counted(self.find(None, id), id, plural, n)
     }
 
-    /// The same of a message in a context.
+    /// Translates a message with a number in a context, as `ngettext` does without one.
     pub fn npgettext<'a>(&'a self, context: &str, id: &'a str, plural: &'a str, n: u64) -> &'a str
         ensures { IsCounted self.now (entry_at self.now (key_bytes (Some context.now) id.now)) n
             (text_by n id.now plural.now) result.now }
@@ -103,7 +105,7 @@ impl Catalogue {
         self.counted(self.find(Some(context), id), id, plural, n)
     }
 
-    /// The place of the form of an entry of this catalogue that is asked for: the first, or that of a number.
+    /// Returns the index of the form that is asked for: 0 without a number, else that of the form for the number.
     #[inline(always)]
     fn asked_place(&self, entry: &EntryRef<'_>, n: Option<u64>) -> usize
         requires { 0 < length entry.now.forms }
@@ -117,8 +119,9 @@ impl Catalogue {
         }
     }
 
-    /// The text of a message in a context, or in none: the first form of its entry, or with a number the form that it
-    /// takes, as in `npgettext`. None exactly where there is no such entry; the text is lent from the catalogue alone.
+    /// Translates a message in a context or in none: returns the first form of its entry or, with a number, the form
+    /// that `npgettext` would return. `None` means that there is no such entry. The result borrows from the catalogue
+    /// alone.
     pub fn translated(&self, context: Option<&str>, id: &str, n: Option<u64>) -> Option<&str>
         ensures { IsTranslated self.now (entry_at self.now (key_bytes (option_map (λ s. s.now) context.entry) id.now))
             n (option_map (λ s. s.now) result) }
@@ -127,19 +130,19 @@ impl Catalogue {
         Some(entry.form(self.asked_place(&entry, n)))
     }
 
-    /// The form of an entry of this catalogue, and one NUL behind it, which makes it a string of C: the first form, or
-    /// with a number the form that it takes.
+    /// Returns a form of an entry of this catalogue, followed by a NUL, which makes it a C string: the first form or,
+    /// with a number, the form that the rule selects.
     #[inline(always)]
     pub fn closed_form_for<'a>(&self, entry: &EntryRef<'a>, n: Option<u64>) -> &'a [u8]
         ensures { IsClosedFormFor self.now n entry.now.forms result.now }
     {
-        // (what is true of every entry is known where its translation is lent)
+        // Calling `translation` tells the prover that the entry is lawful, and so has a form.
         let _translation = entry.translation();
         entry.closed_form(self.asked_place(entry, n))
     }
 
-    /// The same of a message in a context, or in none, by their bytes, which may be no text. None exactly where there
-    /// is no such entry; so an empty text differs from none.
+    /// Translates a message by its bytes, which needn't be UTF-8, as `translated` does; the result is a C string.
+    /// `None` means that there is no such entry, so an empty translation differs from none.
     #[inline(always)]
     pub fn translated_closed(
         &self,

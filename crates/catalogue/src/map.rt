@@ -1,4 +1,4 @@
-//! Catalogues: entries in order, with the rule for plural forms in their header.
+//! Catalogues: the entries in order, with the rule for plural forms in their header.
 ghost use Rattle.std.specs.Prelude.{◌≡◌, ◌<◌, ◌↔◌, List, length, slice_get, Some, IfOk, IsTrue, option_map};
 ghost use Rattle.po_header.specs.Rules.{rule_of};
 ghost use Rattle.mo_image.specs.Entry.{Entry, key_bytes};
@@ -14,14 +14,14 @@ use std::alloc::{AllocError, Global};
 use std::marker::Model;
 use std::sync::ledger::Ledger;
 
-/// A message catalogue: a finite map from keys to entries, listed in rising order of the keys' bytes.
+/// A message catalogue: a finite map from keys to entries, in rising order of the keys' bytes.
 ///
 /// Its MO file has at most 268,435,456 bytes.
 #[derive(Drop)]
 pub struct Catalogue {
     /// The entries, in rising order of the keys' bytes.
     entries: Entries,
-    /// The rule in the header's text.
+    /// The rule for plural forms in the header.
     rule: RuleRead,
 }
 
@@ -39,7 +39,8 @@ impl Model for Catalogue {
     ghost invariant = { λ c. HasMapRule c.entries (rule_of c.rule) };
 }
 
-/// The rule for plural forms of these entries.
+/// Reads the rule for plural forms in the header of the entries. With `checked`, the checks have read it once before,
+/// to test it.
 fn rule_of_header(alloc: Global, entries: &Entries) -> Result<RuleRead, AllocError>
     ensures { IfOk result (λ rule. HasMapRule entries.now (rule_of rule)) }
 {
@@ -50,8 +51,8 @@ fn rule_of_header(alloc: Global, entries: &Entries) -> Result<RuleRead, AllocErr
 }
 
 impl Catalogue {
-    /// The catalogue of the entries that have these strings. They list a lawful map, in rising order of
-    /// their keys' bytes. Answers AllocError where memory is refused.
+    /// Makes a catalogue of the entries that have these strings. They have to list a lawful map, in rising order of
+    /// their keys' bytes. The only error is a failed allocation.
     pub fn from_strings(
         alloc: Global,
         strings: Vec<EntryStrings<'_>>,
@@ -62,8 +63,8 @@ impl Catalogue {
         Catalogue::from_list(alloc, &strings)
     }
 
-    /// The catalogue whose one MO file this is: what `file` lent, and was kept or sent. It is one copy.
-    /// Answers AllocError where memory is refused.
+    /// Makes a catalogue of its MO file: the bytes that `file` returned, kept or sent elsewhere in the meantime. The
+    /// file is copied once. The only error is a failed allocation.
     pub fn from_file(alloc: Global, file: &[u8]) -> Result<Catalogue, AllocError>
         requires { (m : List Entry) × IsFileOf file.now m }
         ensures { IfOk result (λ catalogue. IsFileOf file.now catalogue) }
@@ -71,7 +72,7 @@ impl Catalogue {
         Catalogue::from_image(alloc, Image::copied(alloc, file)?)
     }
 
-    /// The catalogue of the entries of a list.
+    /// Makes a catalogue of a list of entries.
     pub(crate) fn from_list<L: EntryList>(alloc: Global, list: &L) -> Result<Catalogue, AllocError>
         requires { IsLawful (L.entries list.now) }
         ensures { IfOk result (λ catalogue. catalogue ≡ L.entries list.now) }
@@ -79,7 +80,7 @@ impl Catalogue {
         Catalogue::from_image(alloc, Image::spelled(alloc, list)?)
     }
 
-    /// The same; its MO file is written over this memory.
+    /// Makes a catalogue of a list of entries, with its MO file in `memory`.
     pub(crate) fn from_list_over<L: EntryList>(
         alloc: Global,
         memory: Vec<u8>,
@@ -91,6 +92,7 @@ impl Catalogue {
         Catalogue::from_image(alloc, Image::spelled_over(memory, list)?)
     }
 
+    /// Makes a catalogue of an image, and reads the rule in its header.
     fn from_image(alloc: Global, image: Image) -> Result<Catalogue, AllocError>
         ensures { IfOk result (λ catalogue. catalogue ≡ image) }
     {
@@ -99,22 +101,22 @@ impl Catalogue {
         Ok(Catalogue { entries, rule })
     }
 
-    /// Makes look-ups quick by an index of the keys' hashes, for a catalogue that is asked often: one
-    /// comparison of keys instead of a search by halves, for some 40 bytes an entry. The entries stay as
-    /// they are. Answers AllocError where memory is refused, and nothing is changed then.
+    /// Indexes the entries by the hashes of their keys, for a catalogue that is asked often. A look-up then compares
+    /// one key instead of running a binary search; the index takes some 40 bytes per entry. The entries don't change.
+    /// If an allocation fails, nothing is changed.
     ///
-    /// Look-ups of keys that share a hash, of 64 bits, go on by halves.
+    /// Hashes have 32 bits. Keys that share one are still found by binary search.
     pub fn index(&mut self, alloc: Global) -> Result<(), AllocError>
         ensures { self.new ≡ self.old }
     {
         self.entries.index(alloc)
     }
 
-    /// How many entries the catalogue has.
+    /// The number of entries.
     pub fn len(&self) -> usize
         ensures len { result ≡ length self.now }
 
-        // Every catalogue stands for a lawful map.
+        // Every catalogue represents a lawful map.
         ensures lawful { IsLawful self.now }
     {
         self.entries.image().len()
@@ -127,7 +129,7 @@ impl Catalogue {
         self.entries.image().is_empty()
     }
 
-    /// The i-th entry, in rising order of the keys' bytes.
+    /// Returns the i-th entry, in rising order of the keys' bytes.
     pub fn entry(&self, i: usize) -> EntryRef<'_>
         requires { i < length self.now }
         ensures { slice_get self.now i ≡ Some result }
@@ -135,8 +137,8 @@ impl Catalogue {
         self.entries.image().entry(i)
     }
 
-    /// The entry of this msgid in this context, or in none; None exactly where there is no such entry.
-    /// Two keys are the same where their bytes are.
+    /// Finds the entry of a msgid, in a context or in none. `None` means that there is no such entry. Keys are compared
+    /// byte by byte.
     #[inline(always)]
     pub fn find(&self, context: Option<&str>, id: &str) -> Option<EntryRef<'_>>
         ensures { result ≡ entry_at self.now (key_bytes (option_map (λ s. s.now) context.entry) id.now) }
@@ -144,7 +146,7 @@ impl Catalogue {
         self.find_bytes(context.map(str::as_bytes), id.as_bytes())
     }
 
-    /// The same by bytes, which may be no text. No entry has such a key.
+    /// Finds the entry of a msgid by its bytes, which needn't be UTF-8; a key that isn't is never found.
     #[inline(always)]
     pub fn find_bytes(&self, context: Option<&[u8]>, id: &[u8]) -> Option<EntryRef<'_>>
         ensures { result ≡ entry_at self.now (key_bytes (option_map (λ s. s.now) context.entry) id.now) }
@@ -152,9 +154,8 @@ impl Catalogue {
         self.entries.find(context, id)
     }
 
-    /// The same as `find`, which also adds its steps to a count: a step is one comparison of the key that
-    /// is asked for with the key of one entry. It takes at most as many as the number of entries has
-    /// binary digits.
+    /// Finds the entry of a msgid as `find` does, and adds its steps to a count. A step is one comparison of the key
+    /// with that of an entry; there are at most as many as the number of entries has binary digits.
     pub fn find_counted<L: Ledger>(
         &self,
         context: Option<&str>,
@@ -168,18 +169,18 @@ impl Catalogue {
         self.entries.find_counted(context, id.as_bytes(), steps)
     }
 
-    /// The one MO file of the catalogue: revision 0, words low byte first, no hash table and no padding
-    /// (GNU gettext manual, "MO Files").
+    /// Returns the one MO file of the catalogue: revision 0, little-endian, no hash table and no padding (GNU gettext
+    /// manual, "MO Files").
     pub fn file(&self) -> &[u8]
         ensures file { result.now ≡ spelling self.now }
 
-        // Every catalogue stands for a lawful map.
+        // Every catalogue represents a lawful map.
         ensures lawful { IsLawful self.now }
     {
         self.entries.image().file()
     }
 
-    /// The rule for plural forms in the header's text.
+    /// The rule for plural forms in the header.
     pub(crate) fn rule(&self) -> &RuleRead
         ensures { HasMapRule self.now (rule_of result.now) }
     {

@@ -1,4 +1,4 @@
-//! How many bytes the MO file of messages has. Numbers stop at 2^64 - 1.
+//! The size of the MO file of messages, in bytes. Sums saturate at 2^64 - 1.
 ghost use Rattle.std.specs.Prelude.{◌≡◌, ◌+◌, length, map, max, string_bytes};
 ghost use Rattle.mo_image.specs.Entry.{key, original};
 ghost use Rattle.mo_image.specs.MoFile.{pool, spelling, entry_size};
@@ -8,10 +8,10 @@ ghost use Rattle.catalogue.specs.Sizes.{capped};
 use crate::Message;
 use mo_image::{HEADER_LEN, ROW_LEN};
 
-/// How many bytes the two rows of an entry have, in the tables of originals and of translations.
+/// The size of an entry's two rows, one in each table.
 const ROWS_LEN: usize = 2 * ROW_LEN;
 
-/// How many bytes the key has.
+/// The length of the key.
 fn key_len(message: &Message) -> usize
     ensures { result ≡ length (key (message_entry message.now)) }
 {
@@ -21,7 +21,7 @@ fn key_len(message: &Message) -> usize
     }
 }
 
-/// How many bytes the plural takes behind the key, with the NUL before it.
+/// The length that the plural adds to the original, with the NUL before it.
 fn plural_len(message: &Message) -> usize
     ensures { let e = message_entry message.now in length (original e) ≡ length (key e) + result }
 {
@@ -31,7 +31,7 @@ fn plural_len(message: &Message) -> usize
     }
 }
 
-/// How many bytes the forms take, each with the NUL behind it.
+/// The length of the forms, each followed by a NUL.
 fn forms_len(forms: &[String]) -> usize
     ensures { result ≡ capped (length (pool (map (λ s. string_bytes s) forms.now))) }
 {
@@ -42,7 +42,7 @@ fn forms_len(forms: &[String]) -> usize
     len
 }
 
-/// How many bytes the translation takes, with the NUL behind it, which it has also without a form.
+/// The length of the translation with its NUL, which it has even without a form.
 fn translation_len(forms: &[String]) -> usize
     ensures { result ≡ capped (max (length (pool (map (λ s. string_bytes s) forms.now))) 1) }
 {
@@ -52,7 +52,7 @@ fn translation_len(forms: &[String]) -> usize
     }
 }
 
-/// How many bytes a message takes: two outlines, and two strings, each with the NUL behind it.
+/// The size of a message in the file: two rows and two strings, each followed by a NUL.
 fn message_len(message: &Message) -> usize
     ensures { result ≡ capped (entry_size (message_entry message.now)) }
 {
@@ -64,7 +64,7 @@ fn message_len(message: &Message) -> usize
         .saturating_add(ROWS_LEN)
 }
 
-/// How many bytes the file has.
+/// The size of the file.
 pub(crate) fn file_len(messages: &[Message]) -> usize
     ensures { result ≡ capped (length (spelling (messages_of messages.now))) }
 {

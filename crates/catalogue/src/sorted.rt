@@ -1,4 +1,4 @@
-//! Catalogues of messages that stand in order already.
+//! Catalogues of messages that are sorted already.
 ghost use Rattle.std.specs.Prelude.{◌≡◌, IfOk, map, option_map, string_bytes};
 ghost use Rattle.std.specs.List.{join_with_byte};
 ghost use Rattle.mo_image.specs.Entry.{key, translation};
@@ -9,18 +9,18 @@ use crate::Catalogue;
 use mo_image::{OwnedStrings, joined_key, push_form};
 use std::alloc::{AllocError, Global};
 
-/// A message, with texts of its own.
+/// A message that owns its texts.
 #[derive(Drop)]
 pub struct Message {
     pub context: Option<String>,
     pub id: String,
-    /// The msgid_plural of a message with a plural.
+    /// The msgid_plural, if the message has one.
     pub plural: Option<String>,
-    /// The translated forms: just one, where the message has no plural.
+    /// The translated forms: exactly one if the message has no plural.
     pub forms: Vec<String>,
 }
 
-/// The forms, with NUL between them.
+/// Joins the forms, with NUL between them.
 fn translation_of(alloc: Global, forms: &[String]) -> Result<String, AllocError>
     ensures { IfOk result (λ text. string_bytes text ≡ join_with_byte 0 (map (λ s. string_bytes s) forms.now)) }
 {
@@ -43,7 +43,7 @@ impl Message {
         }
     }
 
-    /// The strings of the message, as an MO file has them.
+    /// Turns the message into its strings in an MO file.
     fn into_strings(self, alloc: Global) -> Result<OwnedStrings, AllocError>
         ensures { let e = message_entry self in IfOk result (λ strings. stored_entry strings
             ≡ entry_from (key e) e.plural (translation e)) }
@@ -62,8 +62,8 @@ impl Catalogue {
     ghost use Rattle.mo_image.specs.Map.{IsLawful};
     ghost use Rattle.catalogue.specs.Messages.{messages_of};
 
-    /// The catalogue of these messages. They list a lawful map, in rising order of their keys' bytes.
-    /// Answers AllocError where memory is refused.
+    /// Makes a catalogue of messages. They have to list a lawful map, in rising order of their keys' bytes; `accepts`
+    /// checks that. The only error is a failed allocation.
     pub fn from_sorted(alloc: Global, messages: Vec<Message>) -> Result<Catalogue, AllocError>
         requires { IsLawful (messages_of messages.items) }
         ensures { IfOk result (λ catalogue. catalogue ≡ messages_of messages.items) }

@@ -1,4 +1,4 @@
-//! The texts of the entries that were read, in one text: those of one entry behind those of another.
+//! The texts of all entries that were read, one after another in a single string, and the spans that cut them apart.
 ghost use Rattle.std.specs.Prelude.{◌≡◌, IfOk, drop, option_map};
 ghost use Rattle.catalogue.specs.Drafts.{kept_texts, outline, outlines};
 ghost use Rattle.catalogue.specs.Spans.{kept_at, kept_size, plural_at, plural_size, outline_at, outlines_at, size};
@@ -9,27 +9,27 @@ use std::alloc::{AllocError, Global};
 use std::marker::Model;
 use text_key::LongKey;
 
-/// How long the texts are that are kept of an entry beside its key.
+/// The lengths of what is kept of an entry besides its key, in bytes.
 #[derive(Clone, Copy)]
 pub(crate) struct KeptSpan {
     pub(crate) plural: Option<usize>,
-    /// That of the forms, with NUL between them.
+    /// The length of the forms, with NUL between them.
     pub(crate) translation: usize,
 }
 
-/// What is kept of an entry beside its key.
+/// What is kept of an entry besides its key.
 #[derive(Clone, Copy)]
 enum Share {
-    /// Nothing.
+    /// Nothing: the entry isn't kept.
     Dropped,
-    /// Its form.
+    /// Its only form.
     Plain,
     /// Its plural and its forms.
     Plural,
 }
 
-/// How long the texts of an entry are, and how it stands in the text that was read. A large text has millions of them,
-/// so it is packed: contracts see the lengths of what is kept as an option.
+/// The lengths of an entry's texts, its line, and how it counts. A large PO text has millions of entries, so a span is
+/// packed; contracts see the lengths of what is kept as an option.
 #[derive(Drop)]
 pub(crate) struct Span {
     key: usize,
@@ -54,7 +54,7 @@ impl Model for Span {
 }
 
 impl Span {
-    /// The span of an entry with this key; `kept` is None for one that isn't kept.
+    /// Packs the span of an entry; `kept` is `None` if the entry isn't kept.
     pub(crate) fn new(key: usize, kept: Option<KeptSpan>, line: u32, standing: Standing) -> Span
         ensures { result ≡ record { key = key; kept = kept; line = line; standing = standing } }
     {
@@ -83,14 +83,14 @@ impl Span {
         }
     }
 
-    /// The number of bytes of the key.
+    /// The length of the key in bytes.
     fn key(&self) -> usize
         ensures { result ≡ self.now.key }
     {
         self.key
     }
 
-    /// The lengths of what is kept; None for an entry that isn't.
+    /// The lengths of what is kept, or `None` if the entry isn't kept.
     fn kept(&self) -> Option<KeptSpan>
         ensures { result ≡ self.now.kept }
     {
@@ -105,7 +105,7 @@ impl Span {
         })
     }
 
-    /// The line of the text on which the entry begins.
+    /// The line of the PO text on which the entry begins.
     fn line(&self) -> u32
         ensures { result ≡ self.now.line }
     {
@@ -120,7 +120,7 @@ impl Span {
     }
 }
 
-/// The plural, if there is one, and what is behind it.
+/// Splits the plural, if there is one, off the front of `texts`.
 fn lend_plural(texts: &str, plural: Option<usize>) -> (Option<&str>, &str)
     requires { HoldsPlural texts.now plural }
     ensures plural { option_map (λ text. text.now) result.0 ≡ plural_at texts.now plural }
@@ -135,7 +135,7 @@ fn lend_plural(texts: &str, plural: Option<usize>) -> (Option<&str>, &str)
     }
 }
 
-/// What is kept beside the key, and what is behind it.
+/// Splits off what is kept of an entry besides its key.
 fn lend_kept<'a>(texts: &'a str, span: &KeptSpan) -> (Texts<'a>, &'a str)
     requires { HoldsKept texts.now span.now }
     ensures kept { kept_texts result.0 ≡ kept_at texts.now span.now }
@@ -152,7 +152,7 @@ fn lend_kept<'a>(texts: &'a str, span: &KeptSpan) -> (Texts<'a>, &'a str)
     )
 }
 
-/// The entry in front, before which so many stand in the text, and what is behind it.
+/// Splits the first entry off `texts`. `number` is its index in the PO text.
 fn lend_entry<'a>(texts: &'a str, number: usize, span: &Span) -> (Draft<'a>, &'a str)
     requires { HoldsSpan texts.now span.now }
     ensures draft { outline result.0 ≡ outline_at number texts.now span.now }
@@ -176,7 +176,7 @@ fn lend_entry<'a>(texts: &'a str, number: usize, span: &Span) -> (Draft<'a>, &'a
     (draft, behind)
 }
 
-/// The entries that have these spans, in their order, with their texts lent.
+/// Cuts `texts` into the entries of these spans, in order. The drafts borrow from `texts`.
 pub(crate) fn lend<'a>(
     alloc: Global,
     texts: &'a str,

@@ -1,8 +1,8 @@
-//! Messages that a catalogue can be made of, and messages that it can't. What is wanted was written by hand
+//! Messages that a catalogue can be made of, and messages that it can't. The expected results were worked out by hand
 //! from the rules.
 //!
-//! A list of messages is one text: `/` stands between two messages, and `|` between a message's context, msgid,
-//! msgid_plural and forms. Where there is no context or no plural, `-` stands in its place.
+//! A list of messages is a single string: `/` separates messages, and `|` separates a message's context, msgid,
+//! msgid_plural and forms. `-` means no context or no plural.
 use catalogue::{Catalogue, Message};
 use std::alloc::{AllocError, Global};
 use std::test::Fail;
@@ -11,17 +11,17 @@ const LAWFUL: [&str; 12] = [
     "",
     "-|a|-|x/-|ba|-|xx",
     "-|a|-|",
-    // Forms: any number beside a plural, which may hold byte 4, as forms may.
+    // Forms: any number with a plural, and byte 4 in plurals and forms.
     "-|a|b\u{4}|x\u{4}",
     "-|a|b|x|y||z",
     // Headers.
     "-||-|charset=utf-8\n",
     "-||-|charset=CHARSET/-|a|-|x",
     "-||-|",
-    // A charset elsewhere than in the header.
+    // A charset outside the header.
     "-|a|-|charset=KOI8-R",
     "||-|charset=KOI8-R",
-    // Byte 4 stands behind a context, and so these keys rise.
+    // Byte 4 follows a context, so these keys rise.
     "|b|-|x/-|b|-|2/k|b|-|x",
     "a\u{1}|z|-|x/a|a|-|x/a|b|-|x/a\u{5}|a|-|x/-|a\u{5}a|-|x",
 ];
@@ -105,7 +105,7 @@ fn refuses_unlawful_messages(rt: HostRuntime) -> Result<(), Fail> {
     Ok(())
 }
 
-/// A message `a` whose one form has so many bytes.
+/// Makes a message `a` with one form of `len` bytes.
 fn long_message(alloc: Global, len: usize) -> Result<Vec<Message>, Fail> {
     let mut list = messages(alloc, "-|a|-")?;
     if let Some(message) = list.first_mut() {
@@ -116,7 +116,7 @@ fn long_message(alloc: Global, len: usize) -> Result<Vec<Message>, Fail> {
     Ok(list)
 }
 
-/// The file has a header of 28 bytes, two rows of 8, `a` and the form, each with a NUL behind it.
+/// The file has a header of 28 bytes, two rows of 8, and `a` and the form, each with a NUL after it.
 #[test]
 fn accepts_by_size(rt: HostRuntime) -> Result<(), Fail> {
     let longest = long_message(rt.alloc(), 268_435_409)?;

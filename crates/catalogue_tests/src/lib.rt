@@ -1,8 +1,7 @@
-//! Tests of `catalogue` by its public calls: what a caller sees of compiled texts, searches, and what `accepts`
-//! takes. The texts with what they compile to and what look-ups answer stand in tests/texts.txt, which
-//! tests/texts.sh runs the programs on.
+//! Tests of `catalogue` through its public functions: compiled PO texts, searches, and what `accepts` takes. PO texts
+//! with the expected catalogues and look-ups are in tests/texts.txt, on which tests/texts.sh runs the programs.
 //!
-//! They stand in a crate of their own, so that the wrong bodies of `catalogue` are tried without a wait for them.
+//! The tests have a crate of their own, so that the mutations of `catalogue` don't wait for them.
 #![tactic(auto)]
 
 #[cfg(test)]

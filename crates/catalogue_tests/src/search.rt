@@ -12,7 +12,7 @@ const PLAIN: Options = Options {
     use_fuzzy: false,
 };
 
-/// Adds the last digits of a number, which has six at most.
+/// Appends the last `places` digits of a number, which has at most six.
 fn push_digits(text: &mut String, n: u32, places: usize) -> Result<(), AllocError> {
     let digits = [n / 100_000, n / 10_000, n / 1_000, n / 100, n / 10, n];
     for digit in digits.into_iter().skip(6usize.saturating_sub(places)) {
@@ -21,14 +21,14 @@ fn push_digits(text: &mut String, n: u32, places: usize) -> Result<(), AllocErro
     Ok(())
 }
 
-/// Makes the text the key of a number: `k`, and its last digits.
+/// Makes `key` the key of a number: `k` and its last digits.
 fn write_key(key: &mut String, n: u32, places: usize) -> Result<(), AllocError> {
     key.clear();
     key.push('k')?;
     push_digits(key, n, places)
 }
 
-/// A PO text of so many messages: `k` and a number's digits, translated by the digits.
+/// Returns a PO text of `count` messages: `k` and the digits of a number, translated as the digits.
 fn numbered(alloc: Global, count: u32, places: usize) -> Result<String, AllocError> {
     let mut text = String::new(alloc);
     for n in 0..count {
@@ -41,7 +41,7 @@ fn numbered(alloc: Global, count: u32, places: usize) -> Result<String, AllocErr
     Ok(text)
 }
 
-/// Whether the key is found, with this translation, or isn't found.
+/// Whether the key is found with this translation or, if none is wanted, isn't found.
 fn is_found(catalogue: &Catalogue, key: &str, wanted: Option<&str>) -> bool {
     match catalogue.find(None, key) {
         Some(entry) => entry.id() == key && Some(entry.translation()) == wanted,
@@ -49,7 +49,7 @@ fn is_found(catalogue: &Catalogue, key: &str, wanted: Option<&str>) -> bool {
     }
 }
 
-/// The same by the counted search, which takes at most ten steps among so few entries.
+/// Checks the key as `is_found` does, by the counted search, which takes at most ten steps among a thousand entries.
 fn is_found_in_ten<L: Ledger>(
     catalogue: &Catalogue,
     key: &str,
@@ -114,7 +114,7 @@ fn finds_among_a_thousand(rt: HostRuntime) -> Result<(), Fail> {
     Ok(())
 }
 
-/// Whether keys are the same where their bytes are.
+/// Whether keys are equal only if their bytes are.
 fn tells_contexts_apart(catalogue: &Catalogue) -> bool {
     catalogue.pgettext("c", "a") == "x"
         && catalogue.pgettext("", "a") == "y"
@@ -140,8 +140,9 @@ fn finds_contexts_by_an_index(rt: HostRuntime) -> Result<(), Fail> {
     Ok(())
 }
 
-/// The hash function's seed is fixed, so keys can be picked that have one hash: in the context `euf` the first eight
-/// bytes of these msgids make nought of what it multiplies them by, and their last sixteen are alike.
+/// The hash function has a fixed seed, so keys can be chosen that share a hash: in the context `euf`, the first eight
+/// bytes of these msgids make a factor of the hasher's product zero, so the next eight don't count, and their last
+/// sixteen are equal.
 const ONE_HASH: [&str; 4] = [
     "EZ1T{u9^aaaaaaaathe same end of.",
     "EZ1T{u9^bbbbbbbbthe same end of.",
@@ -149,8 +150,8 @@ const ONE_HASH: [&str; 4] = [
     "EZ1T{u9^ddddddddthe same end of.",
 ];
 
-/// Whether the first three of these keys are found, and the fourth isn't; and others are that differ from one another
-/// in where the context ends, or in whether there is one.
+/// Whether the first three of these keys are found and the fourth isn't, and so are keys that differ only in where the
+/// context ends, or in whether there is one.
 fn tells_hashes_apart(catalogue: &Catalogue) -> bool {
     catalogue.pgettext("euf", ONE_HASH[0]) == "1"
         && catalogue.pgettext("euf", ONE_HASH[1]) == "2"
@@ -193,7 +194,7 @@ fn finds_nothing_by_an_empty_index(rt: HostRuntime) -> Result<(), Fail> {
     Ok(())
 }
 
-/// Whether `find` and the four look-ups are right of the key of a number.
+/// Whether `find` and the four look-ups return the right results for the key of a number.
 fn looks_up(catalogue: &Catalogue, key: &str) -> bool {
     let Some(digits) = key.strip_prefix('k') else {
         return false;
@@ -205,7 +206,7 @@ fn looks_up(catalogue: &Catalogue, key: &str) -> bool {
         && catalogue.npgettext("z", key, "plural", 1) == key
 }
 
-/// Whether all of these keys are looked up right.
+/// Whether all of these keys are looked up correctly.
 fn looks_up_each(alloc: Global, catalogue: &Catalogue, count: u32) -> Result<bool, AllocError> {
     let mut key = String::new(alloc);
     for n in 0..count {
@@ -217,7 +218,7 @@ fn looks_up_each(alloc: Global, catalogue: &Catalogue, count: u32) -> Result<boo
     Ok(true)
 }
 
-/// A look-up that walks over the entries doesn't end in the time of a test.
+/// A look-up that scanned the entries wouldn't finish in the time of a test.
 #[test]
 fn looks_up_among_half_a_million(rt: HostRuntime) -> Result<(), Fail> {
     let text = numbered(rt.alloc(), 500_000, 6)?;
@@ -229,7 +230,7 @@ fn looks_up_among_half_a_million(rt: HostRuntime) -> Result<(), Fail> {
     Ok(())
 }
 
-/// The strings of the file of two entries lie where the format has them.
+/// The file of two entries, byte by byte as the format defines it.
 #[test]
 fn keeps_its_file(rt: HostRuntime) -> Result<(), Fail> {
     let text: &[u8] =

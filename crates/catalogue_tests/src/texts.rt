@@ -1,4 +1,4 @@
-//! What a caller sees of compiled texts. Many more texts, and what look-ups answer, stand in tests/texts.txt.
+//! What a caller sees of compiled PO texts. Many more texts, with the expected look-ups, are in tests/texts.txt.
 use catalogue::{
     Catalogue, Compiled, EntryRef, LoadFault, LoadKind, Options, Stats, compile, one_meaning,
 };
@@ -15,11 +15,11 @@ const CHECKED: Options = Options {
     use_fuzzy: false,
 };
 
-/// Three messages with one msgid.
+/// Three messages with the same msgid.
 const CONTEXTS: &[u8] = b"msgctxt \"\"\nmsgid \"b\"\nmsgstr \"1\"\nmsgid \"b\"\nmsgstr \"2\"\n\
     msgctxt \"k\"\nmsgid \"b\"\nmsgstr \"3\"\n";
 
-/// A message of every standing, the header last.
+/// One message of every standing, with the header last.
 const EVERY: &[u8] = b"msgid \"d\"\nmsgstr \"\"\n#, fuzzy\nmsgid \"c\"\nmsgstr \"1\"\n\
     msgctxt \"k\"\nmsgid \"b\"\nmsgid_plural \"bs\"\nmsgstr[0] \"2\"\nmsgstr[1] \"3\"\nmsgstr[2] \"4\"\n\
     msgid \"\"\nmsgstr \"Language: fr\\n\"\n";
@@ -28,13 +28,13 @@ const POLISH: &[u8] = b"msgid \"\"\nmsgstr \"Plural-Forms: nplurals=3; plural=n=
     n%10>=2 && n%10<=4 && (n%100<10 || n%100>=20) ? 1 : 2;\\n\"\n\nmsgid \"file\"\nmsgid_plural \"files\"\n\
     msgstr[0] \"plik\"\nmsgstr[1] \"pliki\"\nmsgstr[2] \"plikow\"\n";
 
-/// Adds the text, or `-` where there is none.
+/// Appends the text, or `-` if there is none.
 fn push_optional(line: &mut String, text: Option<&str>) -> Result<(), AllocError> {
     line.push('|')?;
     line.push_str(text.unwrap_or("-"))
 }
 
-/// Adds a line: the entry's key, context, msgid, msgid_plural and translation, and its forms.
+/// Appends a line with the entry's key, context, msgid, msgid_plural, translation and forms.
 fn push_entry(line: &mut String, entry: &EntryRef) -> Result<(), AllocError> {
     line.push_str(entry.key())?;
     push_optional(line, entry.context())?;
@@ -47,7 +47,7 @@ fn push_entry(line: &mut String, entry: &EntryRef) -> Result<(), AllocError> {
     line.push('\n')
 }
 
-/// A line for each entry.
+/// Returns a line for each entry.
 fn entries(alloc: Global, catalogue: &Catalogue) -> Result<String, AllocError> {
     let mut lines = String::new(alloc);
     for i in 0..catalogue.len() {
@@ -56,7 +56,7 @@ fn entries(alloc: Global, catalogue: &Catalogue) -> Result<String, AllocError> {
     Ok(lines)
 }
 
-/// Whether the forms by their numbers are those that are gone over, and no form follows the last.
+/// Whether the iterator yields the forms that `form` returns for each index, and then ends.
 fn has_its_forms(entry: &EntryRef) -> bool {
     let mut forms = entry.forms();
     for k in 0..entry.form_count() {
@@ -75,7 +75,7 @@ fn finds(catalogue: &Catalogue, entry: &EntryRef) -> bool {
     }
 }
 
-/// Whether each entry is found, and has its forms.
+/// Whether every entry is found, and has its forms.
 fn finds_each(catalogue: &Catalogue) -> bool {
     for i in 0..catalogue.len() {
         let entry = catalogue.entry(i);
@@ -86,7 +86,7 @@ fn finds_each(catalogue: &Catalogue) -> bool {
     true
 }
 
-/// Whether these are the numbers of translated, fuzzy and untranslated entries, and the header's line.
+/// Whether the counts of translated, fuzzy and untranslated entries and the header's line are these.
 fn counts(compiled: &Compiled, numbers: (u32, u32, u32), header_line: u32) -> bool {
     let Stats {
         translated,
@@ -96,7 +96,7 @@ fn counts(compiled: &Compiled, numbers: (u32, u32, u32), header_line: u32) -> bo
     (translated, fuzzy, untranslated) == numbers && compiled.header_line == header_line
 }
 
-/// Whether the text compiles to these entries, in these numbers, and with the header at this line.
+/// Whether the text compiles to these entries, with these counts and the header on this line.
 fn lists(
     alloc: Global,
     text: &[u8],
@@ -124,7 +124,7 @@ fn lists_entries(rt: HostRuntime) -> Result<(), Fail> {
     Ok(())
 }
 
-/// More than 64 MiB.
+/// A text of more than 64 MiB is refused.
 #[test]
 fn refuses_large_texts(rt: HostRuntime) -> Result<(), Fail> {
     let text = vec![in rt.alloc(); b' '; 67_108_865]?;
@@ -139,7 +139,7 @@ fn refuses_large_texts(rt: HostRuntime) -> Result<(), Fail> {
     Ok(())
 }
 
-/// Whether none of these is found: a context, with an empty one for none, and a msgid.
+/// Whether no entry is found for any of these msgids in this context.
 fn finds_none(catalogue: &Catalogue, context: Option<&str>, ids: &[&str]) -> bool {
     for id in ids {
         if catalogue.find(context, id).is_some() {
@@ -149,7 +149,7 @@ fn finds_none(catalogue: &Catalogue, context: Option<&str>, ids: &[&str]) -> boo
     true
 }
 
-/// Whether just the keys of `CONTEXTS` are found. A msgid that holds byte 4 is a key with a context.
+/// Whether exactly the keys of `CONTEXTS` are found. A msgid that holds byte 4 is a key with a context.
 fn finds_contexts(catalogue: &Catalogue) -> bool {
     finds_none(catalogue, None, &["", "\u{4}", "a", "bb", "k", "z"])
         && finds_none(catalogue, Some(""), &[""])
@@ -166,7 +166,7 @@ fn finds_in_contexts(rt: HostRuntime) -> Result<(), Fail> {
     Ok(())
 }
 
-/// The look-ups of `POLISH`.
+/// Whether the look-ups in `POLISH` return the right forms.
 fn looks_up(catalogue: &Catalogue) -> bool {
     catalogue.gettext("file") == "plik"
         && catalogue.pgettext("k", "file") == "file"
@@ -174,7 +174,7 @@ fn looks_up(catalogue: &Catalogue) -> bool {
         && catalogue.npgettext("k", "file", "files", 22) == "files"
 }
 
-/// A file that was kept is the same catalogue once more.
+/// A catalogue that is made of another one's file has the same look-ups.
 #[test]
 fn looks_up_in_a_copy(rt: HostRuntime) -> Result<(), Fail> {
     let compiled = compile(rt.alloc(), POLISH, CHECKED)?;
@@ -185,7 +185,7 @@ fn looks_up_in_a_copy(rt: HostRuntime) -> Result<(), Fail> {
     Ok(())
 }
 
-/// Whether these are the fields that the text's header lacks, and its line.
+/// Whether the text's header lacks exactly these fields and is on this line.
 fn lacks(alloc: Global, text: &[u8], options: Options, missing: [bool; 8], line: u32) -> bool {
     match compile(alloc, text, options) {
         Ok(compiled) => compiled.missing == missing && compiled.header_line == line,
@@ -193,7 +193,7 @@ fn lacks(alloc: Global, text: &[u8], options: Options, missing: [bool; 8], line:
     }
 }
 
-/// The same at the checked level; at the other, nothing is missing.
+/// Whether `lacks` holds at the checked level, and nothing is missing at the other.
 fn lacks_checked(alloc: Global, text: &[u8], missing: [bool; 8], line: u32) -> bool {
     lacks(alloc, text, CHECKED, missing, line) && lacks(alloc, text, PLAIN, [false; 8], line)
 }
@@ -207,7 +207,7 @@ fn names_missing_fields(rt: HostRuntime) {
     assert!(rt; lacks_checked(alloc, POLISH, [true; 8], 1));
     assert!(rt; lacks_checked(alloc, some, without, 1));
     assert!(rt; lacks_checked(alloc, b"msgid \"a\"\nmsgstr \"b\"\n", [false; 8], 0));
-    // A header that isn't kept lacks nothing, and a fuzzy one is kept.
+    // A header that isn't kept lacks nothing, and a fuzzy header is kept.
     assert!(rt; lacks_checked(alloc, b"msgid \"\"\nmsgstr \"\"\n", [false; 8], 0));
     assert!(rt; lacks_checked(alloc, b"#, fuzzy\nmsgid \"\"\nmsgstr \"x\"\n", [true; 8], 2));
 }

@@ -1,4 +1,4 @@
--- A key's entry, found by a slot.
+-- The entry of a key, found by a slot.
 use Rattle.std.proofs.Common.{◌≡◌, ℕ, length, ◌+◌, ◌<◌, true, false, List, ◌∷◌, ◌++◌, ◌-◌, Some, None, slice_get, refl}
 use Rattle.std.proofs.Common.{sym, ap, ◌∙◌, subst, arith, inl, inr, []}
 use Rattle.std.specs.Prelude.{Contains, IfSome, Option}
@@ -26,7 +26,7 @@ differs_unless k asked never = elim (bytes_eq k asked) as (λ r. bytes_eq k aske
   | false ↦ λ e. refl
 ] refl
 
--- an entry with this key has a slot of the hash by which it is asked for
+-- an entry with this key has a slot of the hash by which the key is looked up
 slot_of_key : (m : List Entry) (index : IndexValue) (asked : List ℕ) (h : ℕ) (j : ℕ) (d : Entry) → IsIndex m index
     → FindsBy asked h → slice_get m j ≡ Some d → bytes_eq (key d) asked ≡ true → HasSlotOf m index.slots j h
 slot_of_key m index asked h j d is finds here same =
@@ -43,7 +43,7 @@ absent_without_slot m value asked h index finds none = find_none m asked (λ j d
 abbrev pub LeadsTo : List Entry → Slot → Entry → Type 0
 LeadsTo m slot e = (i : ℕ) → AreExtentsOf (spelling m) (length m) i slot.extents → slice_get m i ≡ Some e
 
--- the only slot of this hash is that of another key
+-- the only slot of this hash belongs to another key
 pub absent_by_slot : (m : List Entry) (value : IndexValue) (asked : List ℕ) (h : ℕ) (slot : Slot) (e : Entry)
     → IsIndex m value → FindsBy asked h → HasNoSlot value.shared h → Contains value.slots slot → slot.hash ≡ h
     → LeadsTo m slot e → bytes_eq (key e) asked ≡ false → entry_at m asked ≡ None
@@ -63,7 +63,7 @@ pub found_by_slot : (m : List Entry) (i : ℕ) (e : Entry) (asked : List ℕ) �
 found_by_slot m i e asked lawful here same = find_some m i e asked lawful.rises here
     ((bytes_eq-Decides (key e) asked).0 same)
 
--- keys are the same where they tie
+-- keys are equal if they compare as equal
 pub tied_same : (x y : List ℕ) → is_eq (slice_cmp nat_cmp x y) ≡ bytes_eq x y
 tied_same x y = elim (slice_cmp nat_cmp x y) as (λ o. slice_cmp nat_cmp x y ≡ o → is_eq o ≡ bytes_eq x y) [
   | Less ↦ λ e. sym (apart x y Less e less_ne)
@@ -76,7 +76,7 @@ one_digit n old new step some =
     let e : new - old ≡ 1 = omega (arith, step) in
     few_steps n old new (omega (arith, step)) (rw e (omega (arith, some)))
 
--- ---- the hashes by which a key is asked for
+-- ---- the hashes by which a key is looked up
 
 first_of : (x y : ℕ) (xs ys : List ℕ) → x ∷ xs ≡ y ∷ ys → x ≡ y
 first_of x y xs ys same = cc
@@ -95,7 +95,7 @@ holds_separator : (context id : List ℕ) → LacksByte 4 (context ++ (4 ∷ id)
 holds_separator [] id lacks = lacks.0 refl
 holds_separator (x ∷ context) id lacks = holds_separator context id lacks.1
 
--- a key is cut in one way alone, where the parts hold no separator
+-- a key can be split in only one way, if the parts hold no separator
 same_parts : (c d a b : List ℕ) → LacksByte 4 c → LacksByte 4 a → c ++ (4 ∷ a) ≡ d ++ (4 ∷ b) → (c ≡ d) × (a ≡ b)
 same_parts [] [] a b lc la same = (refl, cc)
 same_parts [] (y ∷ d) a b lc la same = absurd (holds_separator d b

@@ -1,4 +1,4 @@
--- The slots of an index: listed, put in order, and spread out.
+-- The slots of an index: listed, sorted and spread out.
 use Rattle.std.proofs.Common.{◌≡◌, ℕ, ◌+◌, ◌<◌, ◌≤◌, List, [], ◌∷◌, ◌++◌, length, length-append, ◌-◌, get_or, Some}
 use Rattle.std.proofs.Common.{slice_get, sym, ap, ◌∙◌, subst, arith, inl, inr}
 use Rattle.std.specs.Prelude.{Contains, Option, None, ◌⊎◌}
@@ -54,7 +54,7 @@ named m slots l = record {
   only = l.only;
 }
 
--- ---- a slot put behind others
+-- ---- a slot appended to others
 
 pub among_more : (slots more : List Slot) (slot : Slot) → more ≡ slots ++ (slot ∷ []) → (x : Slot)
     → Contains slots x → Contains more x
@@ -89,7 +89,7 @@ pushed_or_before slots more slot is x h = elim (cases_lt h.0 (length slots)) [
       inr (sym (at_end_of slots more slot x is) ∙ ap (λ (k : ℕ). get_or more k x) last ∙ h.2)
 ]
 
--- the extents of the i-th entry, by a slot put behind others
+-- the extents of the i-th entry, by a slot that is appended to others
 of_pushed : (m : List Entry) (i : ℕ) (slots more : List Slot) (slot : Slot) → more ≡ slots ++ (slot ∷ [])
     → AreExtentsOf (spelling m) (length m) i slot.extents → (x : Slot) → Contains more x
     → Contains slots x ⊎ AreExtentsOf (spelling m) (length m) i x.extents
@@ -119,7 +119,7 @@ adds_one m i e slots more slot here at hashed none is = record {
       (slot, among_pushed slots more slot is, at, hashed ∙ one);
 }
 
--- an entry with a context has two
+-- an entry with a context has two hashes
 pub adds_two : (m : List Entry) (i : ℕ) (e : Entry) (context : List ℕ) (slots more most : List Slot) (a b : Slot)
     → slice_get m i ≡ Some e → AreExtentsOf (spelling m) (length m) i a.extents
     → AreExtentsOf (spelling m) (length m) i b.extents → a.hash ≡ hash_alone (key e)
@@ -156,9 +156,9 @@ named_in_order m slots sorted moves n = record {
   only = λ x h. n.only x (Contains-permutation sorted slots x (IsPermutation-sym slots sorted moves) h);
 }
 
--- ---- hashes that rise
+-- ---- rising hashes
 
--- of the first n slots, each has a greater hash than those before it, or a hash that one of the shared has
+-- each of the first n slots has a greater hash than those before it, or a shared hash
 abbrev pub HashesRise : List Slot → List Slot → ℕ → Type 0
 HashesRise slots shared n = (p q : ℕ) (d : Slot) → p < q → q < n → HasNoSlot shared (get_or slots q d).hash
     → (get_or slots p d).hash < (get_or slots q d).hash
@@ -175,7 +175,7 @@ one_higher slots n d climbs some lt = climbs (n - 1) n d (omega arith) lt
 at_last : (n : ℕ) → n + 1 - 1 ≡ n
 at_last n = omega arith
 
--- the hash of the next slot is another one
+-- the next slot has another hash
 pub shared_same : (slots shared : List Slot) (n : ℕ) (first : Slot) → Climbs slots → Shared slots n shared → 1 ≤ n
     → n < length slots → ((get_or slots (n - 1) first).hash ≡ (get_or slots n first).hash → ⊥)
     → Shared slots (n + 1) shared

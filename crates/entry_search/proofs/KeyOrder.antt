@@ -1,4 +1,4 @@
--- Keys with contexts, side by side.
+-- Comparing keys with contexts.
 use Rattle.std.proofs.Common.{◌≡◌, ℕ, ◌≤◌, List, [], ◌∷◌, ◌++◌, length, take, drop, Ordering, refl, sym, ap, ◌∙◌, arith}
 use Rattle.std.proofs.Common.{append_assoc}
 use Rattle.std.specs.Ordering.{nat_cmp, ordering_then, ordering_reverse}
@@ -7,7 +7,7 @@ use Rattle.std.proofs.lemmas.Cmp.{nat_list_cmp_total}
 use Rattle.std.proofs.lemmas.List.{take-append-drop, length-take-le}
 use Rattle.mo_image.proofs.KeyParts.{cmp-append, then_assoc}
 
--- two keys with contexts, cut where the first context ends
+-- compares two keys with contexts, split where the first context ends
 pub cmp_cut : (c d i j : List ℕ) → length c ≤ length d → slice_cmp nat_cmp (c ++ (4 ∷ i)) (d ++ (4 ∷ j))
     ≡ ordering_then (slice_cmp nat_cmp c (take (length c) d)) (slice_cmp nat_cmp (4 ∷ i) (drop (length c) d ++ (4 ∷ j)))
 cmp_cut c d i j le =
@@ -53,12 +53,12 @@ longer_none c d i j front rest o q u le ef er none eo eq eu =
     no_items [] e = refl
     no_items (x ∷ xs) e = absurd (omega (arith, e))
 
--- the other way round
+-- compares the two the other way round
 pub reversed : (a b : List ℕ) (o r : Ordering) → o ≡ slice_cmp nat_cmp b a → r ≡ ordering_reverse o → r
     ≡ slice_cmp nat_cmp a b
 reversed a b o r eo er = er ∙ ap ordering_reverse eo ∙ sym (nat_list_cmp_total.antisymm a b)
 
--- a key with a context, and one without
+-- compares a key with a context and one without
 pub mixed : (t i j context id other : List ℕ) (o r : Ordering) → context ≡ t → id ≡ i → other ≡ j → o
     ≡ slice_cmp nat_cmp other (context ++ (4 ∷ id)) → r ≡ ordering_reverse o → r ≡ slice_cmp nat_cmp (t ++ (4 ∷ i)) j
 mixed t i j context id other o r et ei ej eo er = reversed (t ++ (4 ∷ i)) j o r (rw (et, ei, ej) at eo) er

@@ -1,4 +1,4 @@
--- The place of a key among rising keys, and a search for it by halves.
+-- The place of a key among rising keys, and a binary search for it.
 use Rattle.std.proofs.Common.{◌≡◌, ℕ, zero, suc, ◌+◌, ◌<◌, ◌≤◌, true, false, List, [], ◌∷◌, length, map, Option, Some}
 use Rattle.std.proofs.Common.{None, Ordering, slice_get, refl, sym, ap, ◌∙◌, subst, arith, lit≤, inl, inr}
 use Rattle.std.specs.Prelude.{IfSome, ◌-◌, ◌*◌, ◌/◌, ◌^◌}
@@ -21,11 +21,11 @@ use Rattle.mo_image.specs.Map.{Rises, entry_at}
 use Rattle.entry_search.specs.Search.{AtMostDigits, digits}
 use Rattle.mo_image.proofs.Lists.{slice_get-map}
 
--- the entries before `low` have lesser keys than the one asked for
+-- the entries before `low` have lesser keys than the one to look up
 abbrev pub AllBelow : List Entry → ℕ → List ℕ → Type 0
 AllBelow m low asked = (j : ℕ) (e : Entry) → j < low → slice_get m j ≡ Some e → slice_cmp nat_cmp (key e) asked ≡ Less
 
--- those from `high` on have greater ones
+-- the entries from `high` on have greater keys
 abbrev pub AllAbove : List Entry → ℕ → List ℕ → Type 0
 AllAbove m high asked = (j : ℕ) (e : Entry) → high ≤ j → slice_get m j ≡ Some e → slice_cmp nat_cmp (key e) asked
     ≡ Greater
@@ -49,7 +49,7 @@ rises_rest k (l ∷ ks) rises = rises.1
 mapped : (m : List Entry) (j : ℕ) (e : Entry) → slice_get m j ≡ Some e → slice_get (map key m) j ≡ Some (key e)
 mapped m j e h = slice_get-map key m j e h
 
--- of two places the later has the greater key
+-- the later of two places has the greater key
 pub rises_pair : (m : List Entry) (i j : ℕ) (d e : Entry) → Rises (map key m) → i < j → slice_get m i ≡ Some d
     → slice_get m j ≡ Some e → slice_cmp nat_cmp (key d) (key e) ≡ Less
 rises_pair [] i j d e rises lt di ej = absurd cc
@@ -98,7 +98,7 @@ greater_above m mid e asked rises here greater j d le there =
           subst (λ (x : Entry). slice_cmp nat_cmp (key x) asked ≡ Greater) e-is greater
     ]
 
--- a key that compares otherwise is another key
+-- a key that doesn't compare as equal is another key
 pub apart : (x y : List ℕ) (o : Ordering) → slice_cmp nat_cmp x y ≡ o → (o ≡ Equal → ⊥) → bytes_eq x y ≡ false
 apart x y o h ne =
     elim (bytes_eq x y) as (λ r. bytes_eq x y ≡ r → r ≡ false) [
@@ -113,7 +113,7 @@ less_ne e = cc
 pub greater_ne : Greater ≡ Equal → ⊥
 greater_ne e = cc
 
--- no key is the one asked for
+-- no key is the one to look up
 pub find_none : (m : List Entry) (asked : List ℕ) → ((j : ℕ) (e : Entry) → slice_get m j ≡ Some e
     → bytes_eq (key e) asked ≡ false) → entry_at m asked ≡ None
 find_none [] asked none = refl
@@ -143,7 +143,7 @@ pub found_equal : (m : List Entry) (i : ℕ) (e : Entry) (asked : List ℕ) → 
 found_equal m i e asked rises here equal = find_some m i e asked rises here
     (slice_cmp-IsAntisymmetric nat_cmp-IsAntisymmetric (key e) asked equal)
 
--- what a comparison with the message at a place says of that message
+-- what a comparison says about the message at a place
 pub order_at : (m : List Entry) (i : ℕ) (e : Entry) (asked : List ℕ) (o : Ordering)
     → IfSome (slice_get m i) (λ x. o ≡ slice_cmp nat_cmp (key x) asked) → slice_get m i ≡ Some e
     → slice_cmp nat_cmp (key e) asked ≡ o
@@ -157,7 +157,7 @@ enough_digits n =
     subst (λ (value : ℕ). value < 2 ^ digits n) (number_digits_of 2 n (lit≤ tt))
     (number_lt 2 (digits_of 2 n) (all_below_base_digits_of 2 n (lit≤ tt)))
 
--- each step but the last halves what is left
+-- each step but the last halves the range
 pub few_steps : (n old new : ℕ) → old ≤ new → 2 ^ (new - old) ≤ 2 * n + 1 → AtMostDigits n old new
 few_steps n old new counted small = record {
   counted = counted;
@@ -180,7 +180,7 @@ halved s t p n some half left =
     let two = mul-le (2 * t) p s p half (omega arith) in
     (omega (arith, one, left), omega (arith, two, left))
 
--- ---- a turn of the search
+-- ---- one round of the search
 
 pub record Range (m : List Entry) (asked : List ℕ) (old now low high : ℕ) : Type 0 where
   pub ordered : low ≤ high

@@ -38,7 +38,7 @@ no_slot slots t cut climbs is lt other slot has same = elim (cases_lt has.0 cut)
 
 -- ---- slots near a place
 
--- what is among the first of the slots from a place on is among all of them
+-- a slot among the first slots from a place on is among all of them
 pub among_all : (slots behind near : List Slot) (place n : ℕ) (found : Option (Bor Slot))
     → behind ≡ slice_range slots place (length slots) → length behind + place ≡ length slots
     → IsFirstChunk behind near n → IfSome found (λ slot. Contains near slot.now)

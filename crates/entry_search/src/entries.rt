@@ -13,8 +13,8 @@ use std::alloc::{AllocError, Global};
 use std::marker::Model;
 use std::sync::ledger::Ledger;
 
-/// The entries of a catalogue, in rising order of the keys' bytes, and where look-ups find them, once `index` was
-/// called. Contracts see it as the list of the entries.
+/// The entries of a catalogue, in rising order of the keys' bytes, with an index once `index` has been called.
+/// Contracts see it as the list of the entries.
 #[derive(Drop)]
 pub struct Entries {
     image: Image,
@@ -36,7 +36,7 @@ impl Model for Entries {
 }
 
 impl Entries {
-    /// The entries of an image, without an index.
+    /// Makes the entries of an image, without an index.
     pub fn new(image: Image) -> Entries
         ensures { result ≡ image }
     {
@@ -50,9 +50,10 @@ impl Entries {
         &self.image
     }
 
-    /// Makes an index of the keys' hashes, by which a search is one comparison of keys. The entries stay as they are.
-    /// Answers AllocError where memory is refused, and nothing is changed then. Where several keys have one hash, of 64
-    /// bits, searches for these go on by halves.
+    /// Builds an index of the keys' hashes, with which a search is a single comparison of keys. The entries don't
+    /// change. If an allocation fails, nothing is changed.
+    ///
+    /// Hashes have 32 bits. Keys that share one are still found by binary search.
     pub fn index(&mut self, alloc: Global) -> Result<(), AllocError>
         ensures { self.new ≡ self.old }
     {
@@ -60,7 +61,7 @@ impl Entries {
         Ok(())
     }
 
-    /// The entry of this msgid in this context, or in none, by their bytes, which may be no text; None exactly where
+    /// Finds the entry of a msgid, in a context or in none, by their bytes, which needn't be UTF-8. `None` means that
     /// there is no such entry.
     #[inline(always)]
     pub fn find(&self, context: Option<&[u8]>, id: &[u8]) -> Option<EntryRef<'_>>
@@ -69,7 +70,8 @@ impl Entries {
         find_in(&self.image, self.index.as_ref(), context, id)
     }
 
-    /// The same, with its steps counted: at most as many as the number of entries has binary digits.
+    /// Finds the entry of a msgid as `find` does, and counts the steps: at most as many as the number of entries has
+    /// binary digits.
     pub fn find_counted<L: Ledger>(
         &self,
         context: Option<&[u8]>,

@@ -20,7 +20,7 @@ use std::marker::{Brand, Model};
 use std::sync::ledger::{Blank, Ledger};
 use text_cut::lacks_byte;
 
-/// The key that is asked for, seen as its bytes.
+/// The key to look up. Contracts see it as its bytes.
 #[derive(Drop)]
 struct Asked<'a> {
     context: Option<&'a [u8]>,
@@ -36,12 +36,12 @@ impl<'a> Model for Asked<'a> {
     ghost view = { λ a. key_bytes (option_map (λ s. s.now) a.context) a.id.now };
 }
 
-/// The same, for a search by halves.
+/// The key to look up by binary search. Contracts see it as its bytes.
 #[derive(Drop)]
 struct Sought<'a> {
     context: Option<&'a [u8]>,
     id: &'a [u8],
-    /// The msgid has no NUL, which makes comparisons quick. No entry's has one.
+    /// The msgid has no NUL, which makes comparisons fast. No entry's msgid has one.
     is_text: bool,
 }
 
@@ -56,15 +56,15 @@ impl<'a> Model for Sought<'a> {
     ghost invariant = { λ a. IsTrue a.is_text → LacksByte 0 a.id.now };
 }
 
-/// Whether a NUL stands at this place in an original.
+/// Whether an original has a NUL at this place.
 fn has_nul_at(original: &[u8], place: usize) -> bool
     ensures { IsTrue result ↔ HasNulAt original.now place }
 {
     place < original.len() && original[place] == 0
 }
 
-/// The key of an original beside a msgid. The original is compared as it is, since a plural behind the key
-/// changes the order of no other key than the msgid itself.
+/// Compares the key of an original with a msgid. The original is compared as a whole: a plural after the key changes
+/// the result only if the key is the msgid itself.
 fn cmp_id(original: &str, id: &[u8]) -> Ordering
     requires { LacksByte 0 id.now }
     ensures { result ≡ slice_cmp nat_cmp (key_part original.now) id.now }
@@ -84,7 +84,7 @@ impl<'a> Asked<'a> {
         Asked { context, id }
     }
 
-    /// A hash of the entry that has this key, if there is one.
+    /// Returns the hash under which an index has the entry with this key, if there is one. It has 32 bits.
     #[inline(always)]
     fn hash(&self) -> u32
         ensures { FindsBy self.now result }
@@ -95,7 +95,7 @@ impl<'a> Asked<'a> {
         }
     }
 
-    /// Whether the key of an entry is this one.
+    /// Whether this is the key of an entry.
     #[inline(always)]
     fn is_key_of(&self, entry: &EntryRef<'_>) -> bool
         ensures { result ≡ bytes_eq (key entry.now) self.now }
@@ -119,7 +119,7 @@ impl<'a> Sought<'a> {
         }
     }
 
-    /// The key of an original beside this one.
+    /// Compares the key of an original with this one.
     fn cmp_original(&self, original: &str) -> Ordering
         ensures { result ≡ slice_cmp nat_cmp (key_part original.now) self.now }
     {
@@ -131,7 +131,7 @@ impl<'a> Sought<'a> {
     }
 }
 
-/// The place in the middle of those from `low` on and before `high`.
+/// Returns the place in the middle of those from `low` up to `high`.
 fn middle(low: usize, high: usize) -> usize
     requires { low < high }
     ensures { result ≡ low + (high - low) / 2 }
@@ -139,7 +139,7 @@ fn middle(low: usize, high: usize) -> usize
     low + (high - low) / 2
 }
 
-/// How the key of an original compares with the one asked for, which is one step.
+/// Compares the key of an original with the one to look up, which counts as a step.
 fn compare<L: Ledger>(original: &str, sought: &Sought<'_>, steps: &mut Steps<L>) -> Ordering
     ensures order { result ≡ slice_cmp nat_cmp (key_part original.now) sought.now }
     ensures step { steps.new ≡ steps.old + 1 }
@@ -148,7 +148,7 @@ fn compare<L: Ledger>(original: &str, sought: &Sought<'_>, steps: &mut Steps<L>)
     sought.cmp_original(original)
 }
 
-/// Whether the key of an entry is the one asked for, which is one step.
+/// Whether the key of an entry is the one to look up, which counts as a step.
 #[inline(always)]
 fn is_same<L: Ledger>(entry: &EntryRef<'_>, asked: &Asked<'_>, count: &mut Steps<L>) -> bool
     ensures same { result ≡ bytes_eq (key entry.now) asked.now }
@@ -158,7 +158,7 @@ fn is_same<L: Ledger>(entry: &EntryRef<'_>, asked: &Asked<'_>, count: &mut Steps
     asked.is_key_of(entry)
 }
 
-/// How the i-th key compares with the one asked for, which is one step.
+/// Compares the i-th key with the one to look up, which counts as a step.
 fn compare_at<L: Ledger>(
     image: &Image,
     i: usize,
@@ -172,7 +172,8 @@ fn compare_at<L: Ledger>(
     compare(image.original(i), sought, steps)
 }
 
-/// The place of the entry of this key, by halves. (A place, and no entry: so what an index finds stays in registers.)
+/// Finds the place of the entry with this key, by binary search. (It returns a place rather than an entry so that what
+/// an index finds stays in registers.)
 fn search<L: Ledger>(image: &Image, sought: &Sought<'_>, steps: &mut Steps<L>) -> Option<usize>
     ensures found { IsPlaceOf image.now sought.now result }
     ensures cost { AtMostDigits (length image.now) steps.old steps.new }
@@ -190,7 +191,7 @@ fn search<L: Ledger>(image: &Image, sought: &Sought<'_>, steps: &mut Steps<L>) -
     None
 }
 
-/// The place of the entry of this msgid in this context, or in none, by halves.
+/// Finds the place of the entry of a msgid, in a context or in none, by binary search.
 #[inline(never)]
 fn place_by_halves<L: Ledger>(
     image: &Image,
@@ -204,7 +205,7 @@ fn place_by_halves<L: Ledger>(
     search(image, &Sought::new(context, id), steps)
 }
 
-/// The entry of this key, by halves.
+/// Finds the entry with this key, by binary search.
 #[inline(always)]
 fn search_by_halves<'a, L: Ledger>(
     image: &'a Image,
@@ -220,7 +221,7 @@ fn search_by_halves<'a, L: Ledger>(
     }
 }
 
-/// The entry of this key, by the slot that the index has of its hash; by halves, where several entries have that hash.
+/// Finds the entry with this key by its slot in the index or, if several entries share the hash, by binary search.
 #[inline(always)]
 fn search_indexed<'a, L: Ledger>(
     image: &'a Image,
@@ -244,7 +245,7 @@ fn search_indexed<'a, L: Ledger>(
     }
 }
 
-/// The entry of this key, by the index where there is one.
+/// Finds the entry with this key, by the index if there is one.
 #[inline(always)]
 fn search_by<'a, L: Ledger>(
     image: &'a Image,
@@ -262,7 +263,7 @@ fn search_by<'a, L: Ledger>(
     }
 }
 
-/// The same, for a caller that counts nothing.
+/// Finds the entry with this key as `search_by` does, for a caller that doesn't count steps.
 #[inline(always)]
 fn search_uncounted<'a, L: Ledger>(
     image: &'a Image,
@@ -280,7 +281,7 @@ fn search_uncounted<'a, L: Ledger>(
     search_by(image, index, asked, &mut steps)
 }
 
-/// The entry of this msgid in this context, or in none, by the index where there is one.
+/// Finds the entry of a msgid, in a context or in none, by the index if there is one.
 #[inline(always)]
 pub(crate) fn find_in<'a>(
     image: &'a Image,
@@ -294,7 +295,7 @@ pub(crate) fn find_in<'a>(
     search_uncounted::<Brand>(image, index, &Asked::new(context, id), Blank::new(1))
 }
 
-/// The same, with its steps counted.
+/// Finds the entry of a msgid as `find_in` does, and counts the steps.
 pub(crate) fn find_counted_in<'a, L: Ledger>(
     image: &'a Image,
     index: Option<&Index>,

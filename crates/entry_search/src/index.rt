@@ -1,16 +1,16 @@
-//! Where an entry is found by the hash of its key, in one comparison.
+//! The index: finds an entry by the hash of its key, with one comparison of keys.
 ghost use Rattle.std.specs.Prelude.{◌≡◌, false, Contains, IfNone, IfSome};
 ghost use Rattle.entry_search.specs.Index.{HasNoSlot};
 
 use crate::slot_table::{Slot, SlotTable};
 use std::marker::Model;
 
-/// The entries of a catalogue by their hashes. Where entries share a hash, by chance or since somebody picked their
-/// keys so, those are searched for by halves, and all others by their slots.
+/// The entries of a catalogue by the hashes of their keys. Keys may share a hash by chance, or because somebody chose
+/// them to; they are found by binary search, and all others by their slots.
 #[derive(Drop)]
 pub(crate) struct Index {
     slots: SlotTable,
-    /// A slot of each hash that several entries have.
+    /// One slot for each hash that several entries have.
     shared: SlotTable,
 }
 
@@ -29,7 +29,7 @@ impl Index {
         Index { slots, shared }
     }
 
-    /// Whether several entries have this hash.
+    /// Whether several entries have this hash. The contract is one-sided: a needless `true` only costs a binary search.
     #[inline]
     pub(crate) fn is_shared(&self, hash: u32) -> bool
         ensures { result ≡ false → HasNoSlot self.now.shared hash }
@@ -37,7 +37,7 @@ impl Index {
         !self.shared.is_empty() && self.shared.slot_of(hash).is_some()
     }
 
-    /// The slot of this hash, if there is one.
+    /// Returns the slot of this hash, if there is one.
     #[inline(always)]
     pub(crate) fn slot_of(&self, hash: u32) -> Option<&Slot>
         ensures some { IfSome result (λ slot. Contains self.now.slots slot.now) }

@@ -1,4 +1,4 @@
-//! The slots of an index, made of a catalogue's entries.
+//! Builds the index of a catalogue's entries.
 ghost use Rattle.std.specs.Prelude.{◌<◌, length, Contains, IfOk, OnOk};
 ghost use Rattle.mo_image.specs.Map.{IsLawful};
 ghost use Rattle.entry_search.specs.declared.slot_table.Slot.{Slot};
@@ -9,8 +9,8 @@ use crate::slot_table::{Slot, SlotTable, hash_alone, hash_within, home};
 use mo_image::Image;
 use std::alloc::{AllocError, Global};
 
-/// Adds the slots by which an index finds the i-th entry: that of its key's bytes, and where it has a context, that of
-/// the context and the msgid.
+/// Appends the slots by which the index finds the i-th entry: one for its key and, if it has a context, one for its
+/// context and msgid.
 fn push_slots(slots: &mut Vec<Slot>, image: &Image, i: usize) -> Result<(), AllocError>
     requires { i < length image.now }
     ensures { OnOk result (AddsSlotsOf image.now i slots.old.items slots.new.items) }
@@ -26,7 +26,7 @@ fn push_slots(slots: &mut Vec<Slot>, image: &Image, i: usize) -> Result<(), Allo
     Ok(())
 }
 
-/// The slots of all entries, in the order of the entries.
+/// Returns the slots of all entries, in the order of the entries.
 fn list_slots(alloc: Global, image: &Image) -> Result<Vec<Slot>, AllocError>
     ensures names { IfOk result (λ slots. NamesEntries image.now slots.items) }
     ensures lawful { IsLawful image.now }
@@ -39,7 +39,7 @@ fn list_slots(alloc: Global, image: &Image) -> Result<Vec<Slot>, AllocError>
     Ok(slots)
 }
 
-/// The same, in rising order.
+/// Returns the slots of all entries, in rising order of their hashes.
 fn sort_slots(alloc: Global, image: &Image) -> Result<Vec<Slot>, AllocError>
     ensures lawful { IsLawful image.now }
     ensures names { IfOk result (λ slots. NamesEntries image.now slots.items) }
@@ -50,7 +50,7 @@ fn sort_slots(alloc: Global, image: &Image) -> Result<Vec<Slot>, AllocError>
     Ok(slots)
 }
 
-/// A slot of each hash that several of these slots have, which rise.
+/// Returns a slot of each hash that several of the sorted slots have.
 fn shared_slots(alloc: Global, slots: &[Slot]) -> Result<Vec<Slot>, AllocError>
     requires { Climbs slots.now }
     ensures climbs { IfOk result (λ shared. Climbs shared.items) }
@@ -65,7 +65,7 @@ fn shared_slots(alloc: Global, slots: &[Slot]) -> Result<Vec<Slot>, AllocError>
     Ok(shared)
 }
 
-/// The slots, each at the place that its hash expects or behind it, and repeated where there is room before it.
+/// Spreads the sorted slots out: each goes to its hash's home or after it, and is repeated to fill the room before it.
 fn spread_out(alloc: Global, slots: &[Slot], spread: usize) -> Result<Vec<Slot>, AllocError>
     requires { Climbs slots.now }
     ensures climbs { IfOk result (λ spread. Climbs spread.items) }
@@ -80,7 +80,7 @@ fn spread_out(alloc: Global, slots: &[Slot], spread: usize) -> Result<Vec<Slot>,
     Ok(placed)
 }
 
-/// The index of a catalogue's entries.
+/// Builds the index of a catalogue's entries. The only error is a failed allocation.
 pub(crate) fn index_of(alloc: Global, image: &Image) -> Result<Index, AllocError>
     ensures { IfOk result (λ index. IsIndex image.now index) }
 {

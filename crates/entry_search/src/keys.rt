@@ -1,4 +1,4 @@
-//! Keys side by side, piece by piece and without memory.
+//! Compares keys piece by piece, without allocating.
 ghost use Rattle.std.specs.Prelude.{◌≡◌, ◌≤◌, length, Some, option_map};
 ghost use Rattle.std.specs.Ordering.{nat_cmp};
 ghost use Rattle.std.specs.Cmp.Lexicographic.{slice_cmp};
@@ -6,7 +6,7 @@ ghost use Rattle.mo_image.specs.Entry.{key_bytes};
 
 use std::cmp::Ordering;
 
-/// A key, or another text, beside the key of a msgid in a context.
+/// Compares a key, or any other text, with the key of a msgid in a context.
 pub(crate) fn cmp_in_context(text: &[u8], context: &[u8], id: &[u8]) -> Ordering
     ensures { result ≡ slice_cmp nat_cmp text.now (key_bytes (Some context.now) id.now) }
 {
@@ -20,7 +20,7 @@ pub(crate) fn cmp_in_context(text: &[u8], context: &[u8], id: &[u8]) -> Ordering
         .then(text[n + 1..].cmp(id))
 }
 
-/// Two keys with contexts, of which the second context isn't the shorter one.
+/// Compares two keys with contexts, where the second context is at least as long as the first.
 fn cmp_longer(context: &[u8], id: &[u8], other_context: &[u8], other_id: &[u8]) -> Ordering
     requires { length context.now ≤ length other_context.now }
     ensures { result ≡ slice_cmp nat_cmp (key_bytes (Some context.now) id.now)
@@ -36,7 +36,7 @@ fn cmp_longer(context: &[u8], id: &[u8], other_context: &[u8], other_id: &[u8]) 
     }
 }
 
-/// Two keys with contexts.
+/// Compares two keys with contexts.
 fn cmp_contexts(context: &[u8], id: &[u8], other_context: &[u8], other_id: &[u8]) -> Ordering
     ensures { result ≡ slice_cmp nat_cmp (key_bytes (Some context.now) id.now)
         (key_bytes (Some other_context.now) other_id.now) }
@@ -48,7 +48,7 @@ fn cmp_contexts(context: &[u8], id: &[u8], other_context: &[u8], other_id: &[u8]
     }
 }
 
-/// Two keys side by side, each of a msgid in a context or in none.
+/// Compares two keys by their bytes, each the key of a msgid in a context or in none.
 pub fn cmp_keys(
     context: Option<&str>,
     id: &str,

@@ -1,4 +1,4 @@
-//! The search for an entry by its key: by an index of the keys' hashes, or by halves, with its steps counted.
+//! The search for an entry by its key: by an index of the keys' hashes or by binary search, with its steps counted.
 #![tactic(auto)]
 
 mod entries;

@@ -1,4 +1,4 @@
-//! Slots by which entries are found by the hashes of their keys.
+//! The slots of an index, which lead from the hash of a key to its entry.
 ghost use Rattle.std.specs.Prelude.{◌≡◌, ◌<◌, ◌≤◌, [], length, true, Contains, IfSome, IfNone, IsTrue};
 ghost use Rattle.std.specs.List.{AllWithin};
 ghost use Rattle.entry_search.specs.Index.{hash_alone, hash_within, Climbs, IsCut, HasNoSlot};
@@ -7,24 +7,24 @@ use mo_image::EntryExtents;
 use std::hash::{FoldHasher, Hasher};
 use std::marker::Model;
 
-/// How far from where it is expected a slot is looked for.
+/// How far from its home a slot is looked for before the binary search.
 const REACH: usize = 6;
 
-/// How an entry is found: a slot leads from a hash of the entry to its texts at once.
+/// A slot leads from a hash of an entry straight to the entry's texts.
 #[derive(Clone, Copy)]
 pub(crate) struct Slot {
-    /// The hash of the entry's key, or of its context and msgid.
+    /// The hash of the entry's key, or of its context and msgid: the upper 32 bits of the hasher's 64.
     pub(crate) hash: u32,
-    /// Where its texts lie.
+    /// Where the entry's texts lie.
     pub(crate) extents: EntryExtents,
 }
 
-/// Slots in rising order of their hashes, each near the place that its hash expects. For two entries there are about
-/// three slots, since some stand there twice.
+/// Slots in rising order of their hashes, each near the home of its hash. There are about three slots for every two
+/// entries, since some are stored twice.
 #[derive(Drop)]
 pub(crate) struct SlotTable {
     slots: Vec<Slot>,
-    /// By how many places the slots are spread.
+    /// The number of places that the hashes are spread over.
     spread: usize,
 }
 
@@ -40,7 +40,7 @@ impl Model for SlotTable {
     ghost invariant = { λ table. Climbs table.slots.items };
 }
 
-/// The hash of a key, or of a msgid without a context, by their bytes.
+/// Hashes a key, or a msgid without a context.
 #[inline]
 pub(crate) fn hash_alone(key: &[u8]) -> u32
     ensures { result ≡ hash_alone key.now }
@@ -50,7 +50,7 @@ pub(crate) fn hash_alone(key: &[u8]) -> u32
     (hasher.finish() >> 32) as u32
 }
 
-/// The hash of a msgid in a context.
+/// Hashes a msgid in a context.
 #[inline]
 pub(crate) fn hash_within(context: &[u8], id: &[u8]) -> u32
     ensures { result ≡ hash_within context.now id.now }
@@ -61,7 +61,7 @@ pub(crate) fn hash_within(context: &[u8], id: &[u8]) -> u32
     (hasher.finish() >> 32) as u32
 }
 
-/// Where a hash's slot is expected, if slots are spread by this many places.
+/// Returns the home of a hash: the place where its slot is expected if slots are spread over `spread` places.
 #[inline(always)]
 pub(crate) fn home(hash: u32, spread: usize) -> usize
     ensures { result < 4294967296 }
@@ -69,7 +69,7 @@ pub(crate) fn home(hash: u32, spread: usize) -> usize
     (u64::from(hash).wrapping_mul(spread as u64) >> 32) as usize
 }
 
-/// The slot of this hash among these. Each is compared, so that no branch waits for memory.
+/// Returns the slot of this hash among `REACH` slots. It compares every slot, so that no branch waits for memory.
 #[inline(always)]
 fn slot_in(near: &[Slot; REACH], hash: u32) -> Option<&Slot>
     ensures some { IfSome result (λ slot. Contains near.now slot.now) }
@@ -83,7 +83,7 @@ fn slot_in(near: &[Slot; REACH], hash: u32) -> Option<&Slot>
     if slot.hash == hash { Some(slot) } else { None }
 }
 
-/// The slot of this hash among these few.
+/// Returns the slot of this hash among fewer slots than `REACH`.
 fn slot_among(few: &[Slot], hash: u32) -> Option<&Slot>
     ensures some { IfSome result (λ slot. Contains few.now slot.now) }
     ensures hash { IfSome result (λ slot. slot.now.hash ≡ hash) }
@@ -107,7 +107,7 @@ impl SlotTable {
         self.slots.is_empty()
     }
 
-    /// The slot of this hash, if it stands at this place or not far behind it.
+    /// Returns the slot of this hash, if it is at this place or one of the next few.
     #[inline(always)]
     fn slot_near(&self, hash: u32, place: usize) -> Option<&Slot>
         ensures some { IfSome result (λ slot. Contains self.now slot.now) }
@@ -120,7 +120,7 @@ impl SlotTable {
         }
     }
 
-    /// Whether the slots before this place have hashes below a bound.
+    /// Whether all slots before `cut` have hashes below the bound.
     fn is_below(&self, bound: u32, cut: usize) -> bool
         requires { cut ≤ length self.now }
         ensures { IsTrue result → AllWithin (λ slot. slot.hash < bound) self.now 0 cut }
@@ -128,7 +128,7 @@ impl SlotTable {
         cut == 0 || self.slots[cut - 1].hash < bound
     }
 
-    /// Whether the slots from this place on have not.
+    /// Whether no slot from `cut` on has a hash below the bound.
     fn is_above(&self, bound: u32, cut: usize) -> bool
         requires { cut ≤ length self.now }
         ensures { IsTrue result → AllWithin (λ slot. bound ≤ slot.hash) self.now cut (length self.now) }
@@ -136,7 +136,7 @@ impl SlotTable {
         cut == self.slots.len() || bound <= self.slots[cut].hash
     }
 
-    /// How many of the slots have hashes below a bound, if the last of them is near this place.
+    /// Counts the slots with hashes below the bound, if the last of them is near `place`.
     fn cut_near(&self, bound: u32, place: usize) -> Option<usize>
         ensures { IfSome result (λ cut. IsCut self.now bound cut) }
     {
@@ -150,7 +150,7 @@ impl SlotTable {
         }
     }
 
-    /// How many of the slots have hashes below a bound; by halves, where they are far from this place.
+    /// Counts the slots with hashes below the bound, by binary search if the last of them is far from `place`.
     fn cut(&self, bound: u32, place: usize) -> usize
         ensures { IsCut self.now bound result }
     {
@@ -160,7 +160,7 @@ impl SlotTable {
         }
     }
 
-    /// The slot at this place, if it has this hash.
+    /// Returns the slot at `cut`, if it has this hash.
     fn slot_at(&self, hash: u32, cut: usize) -> Option<&Slot>
         requires { IsCut self.now hash cut }
         ensures some { IfSome result (λ slot. Contains self.now slot.now) }
@@ -171,7 +171,7 @@ impl SlotTable {
         if slot.hash == hash { Some(slot) } else { None }
     }
 
-    /// The slot of this hash, if there is one, wherever it stands.
+    /// Returns the slot of this hash, if there is one, however far it is from its home.
     #[inline(never)]
     fn slot_found(&self, hash: u32, home: usize) -> Option<&Slot>
         ensures some { IfSome result (λ slot. Contains self.now slot.now) }
@@ -181,7 +181,7 @@ impl SlotTable {
         self.slot_at(hash, self.cut(hash, home))
     }
 
-    /// The slot of this hash, if there is one.
+    /// Returns the slot of this hash, if there is one.
     #[inline(always)]
     pub(crate) fn slot_of(&self, hash: u32) -> Option<&Slot>
         ensures some { IfSome result (λ slot. Contains self.now slot.now) }

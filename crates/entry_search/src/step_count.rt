@@ -1,11 +1,11 @@
-//! The count of a search's steps.
+//! Counts the steps of searches.
 ghost use Rattle.std.specs.Prelude.{◌≡◌, ◌+◌, ◌<◌};
 
 use std::marker::Model;
 use std::sync::ledger::{Blank, Book, Ledger, Share};
 
-/// How many steps searches took: a step is one comparison of the key that is asked for with the key of
-/// one entry. Contracts see the count; it takes no bytes and no time.
+/// The number of steps that searches have taken. A step is one comparison of the key to look up with that of an entry.
+/// The count exists in contracts alone: it takes no memory and no time.
 #[derive(Drop)]
 pub struct Steps<L: Ledger> {
     book: Book<L>,
@@ -23,7 +23,7 @@ impl<L: Ledger> Model for Steps<L> {
 }
 
 impl<L: Ledger> Steps<L> {
-    /// No steps yet, for the ledger of which the blank is.
+    /// A fresh counter in the ledger that `blank` belongs to.
     pub fn new(blank: Blank) -> Steps<L>
         requires name { blank.name ≡ L.name }
         requires parts { blank.parts ≡ L.parts }
@@ -34,7 +34,7 @@ impl<L: Ledger> Steps<L> {
         Steps { book, share }
     }
 
-    /// One more step.
+    /// Counts one more step.
     pub(crate) fn tick(&mut self)
         ensures { self.new ≡ self.old + 1 }
     {

@@ -1,4 +1,4 @@
--- The magic tells the byte order.
+-- The magic number determines the byte order.
 use Rattle.std.proofs.Common.{◌≡◌, ◌≢◌, ℕ, Bool, true, false, cond, eqb, List, refl, ap}
 use Rattle.std.specs.Prelude.{IsTrue, ◌↔◌}
 use Rattle.std.proofs.lemmas.Bool.{eqb-true, false≢true}
@@ -19,7 +19,7 @@ order_little bytes is = order_by bytes true (rw is refl)
 pub order_big : (bytes : List ℕ) → little_number 4 bytes ≢ 0x950412de → order bytes ≡ big_number
 order_big bytes ne = order_by bytes false (eqb-ne (little_number 4 bytes) 0x950412de ne)
 
--- what a test of the magic number tells
+-- what a test of the magic number says
 pub order_low : (bytes : List ℕ) → (IsTrue true ↔ (little_number 4 bytes ≡ 0x950412de)) → order bytes ≡ little_number
 order_low bytes test = order_little bytes (test.0 refl)
 

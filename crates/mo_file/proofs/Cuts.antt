@@ -1,4 +1,4 @@
--- Texts cut at the first byte of a kind.
+-- Texts split at the first byte of a given value.
 use Rattle.std.proofs.Common.{◌≡◌, ◌≢◌, ℕ, zero, suc, ◌+◌, ◌<◌, ◌≤◌, Bool, true, false, cond, not, eqb, ltb, List, []}
 use Rattle.std.proofs.Common.{◌∷◌, length, take, drop, get_or, Option, Some, None, refl, sym, ap, ◌∙◌, subst, arith}
 use Rattle.std.specs.Option.{unwrap_or}
@@ -92,7 +92,7 @@ count_none byte (x ∷ xs) lacks =
     let differs : eqb x byte ≡ false = not_true (eqb x byte) (λ e. lacks.0 (eqb-true x byte e)) in
     omega (arith, count-cons byte x xs, ap one differs, count_none byte xs lacks.1)
 
--- the byte stands once at most, and so not behind its first place
+-- the byte occurs at most once, and so not after its first place
 pub behind_lacks : (byte : ℕ) (text : List ℕ) → place byte text < length text → count_by (is byte) text ≤ 1
     → LacksByte byte (after_first (is byte) text)
 behind_lacks byte text lt once =
@@ -111,7 +111,7 @@ behind_lacks byte text lt once =
       once,
     ))
 
--- how often a byte that was found stands in a text
+-- how often a byte that was found occurs in a text
 pub count_absent : (byte : ℕ) (text : List ℕ) → IsFirstByte (is_byte byte) text None → count_by (is byte) text ≡ 0
 count_absent byte text none =
     let at : place byte text ≡ length text = place_found byte text None none in
@@ -144,7 +144,7 @@ LacksByte-drop byte zero text lacks = lacks
 LacksByte-drop byte (suc n) [] lacks = tt
 LacksByte-drop byte (suc n) (x ∷ xs) lacks = LacksByte-drop byte n xs lacks.1
 
--- ---- the parts of UTF-8, cut at an ASCII byte, are UTF-8
+-- ---- the parts of UTF-8, split at an ASCII byte, are UTF-8
 
 front_by : (byte : ℕ) (text : List ℕ) → byte < 128 → IsUtf8 text → (test : Bool) → holds byte text ≡ test
     → IsUtf8 (before_first (is byte) text)

@@ -1,4 +1,4 @@
--- The entries that originals and translations are.
+-- The entries that originals and translations make up.
 use Rattle.std.proofs.Common.{◌≡◌, ℕ, ◌+◌, ◌<◌, ◌≤◌, Bool, true, false, cond, List, length, Option, Some, None, refl}
 use Rattle.std.proofs.Common.{ap, arith}
 use Rattle.std.specs.Prelude.{option_map, IfSome}

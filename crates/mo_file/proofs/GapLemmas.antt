@@ -1,4 +1,4 @@
--- Searches for a byte in parts of a file: what they find, and how often the byte stands there.
+-- Searches for a byte in parts of a file: what they find, and how often the byte occurs.
 use Rattle.std.proofs.Common.{◌≡◌, ℕ, ◌+◌, ◌-◌, ◌<◌, ◌≤◌, List, length, take, drop, get_or, Some, None, sym, ap, ◌∙◌}
 use Rattle.std.proofs.Common.{arith, inl, inr, refl, min, cond, eqb, Bool, true, false}
 use Rattle.std.proofs.lemmas.Bool.{cases_lt, eqb-true, eq-eqb}
@@ -70,24 +70,24 @@ module _ (bytes : List ℕ) (byte start end : ℕ) (gap : Gap) (lacks : IsGap by
         found = λ here. absurd (omega (arith, here));
       }
 
--- ---- how often the byte stands in the part that was searched
+-- ---- how often the byte occurs in the part that was searched
 
 module _ (bytes : List ℕ) (byte start end : ℕ) (gap : Gap) (ended : Ends bytes byte start end gap) (le : start ≤ end)
     (within : end ≤ length bytes) where
   long : length (part bytes start end) ≡ end - start
   long = length-part bytes start end le within
 
-  -- not in front of the gap's end
+  -- none before the gap's end
   lacks : (k : ℕ) → start + k < end → start + k < gap.to → eqb (get_or (part bytes start end) k 0) byte ≡ true → ⊥
   lacks k lt less same = ended.lacks.lacks (start + k) (omega (arith, ended.around.0)) less
       (sym (byte_in_part bytes start end k lt) ∙ eqb-true _ byte same)
 
-  -- nowhere, where the gap ends behind it
+  -- none, if the gap reaches the end of the part
   pub count_nowhere : end ≤ gap.to → count_by (is byte) (part bytes start end) ≡ 0
   count_nowhere past = count_absent byte (part bytes start end)
       (λ k low lt. lacks k (omega (arith, long, lt)) (omega (arith, long, lt, past)))
 
-  -- there, and as often as behind it
+  -- one at the gap's end, and those after it
   pub count_here : gap.to < end → count_by (is byte) (part bytes start end)
       ≡ 1 + count_by (is byte) (part bytes (gap.to + 1) end)
   count_here here =
@@ -112,7 +112,7 @@ module _ (bytes : List ℕ) (byte start end : ℕ) (gap : Gap) (ended : Ends byt
       ∙ ap (take (end - (gap.to + 1))) (drop-drop (gap.to - start + 1) start bytes ∙ ap (λ j. drop j bytes) o) in
       counted ∙ ap (λ l. 1 + count_by (is byte) l) rest
 
--- nowhere in a part that lies in a gap
+-- none in a part that lies in a gap
 pub count_covered : (bytes : List ℕ) (byte start end : ℕ) (gap : Gap) → IsGap bytes byte gap → start ≤ end
     → end ≤ length bytes → gap.from ≤ start → end ≤ gap.to → count_by (is byte) (part bytes start end) ≡ 0
 count_covered bytes byte start end gap is le within from to = count_nowhere bytes byte start end gap (record {
@@ -121,7 +121,7 @@ count_covered bytes byte start end gap is le within from to = count_nowhere byte
   found = λ here. absurd (omega (arith, here, to));
 }) le within to
 
--- ---- the key of a string, in front of its first NUL
+-- ---- the key of a string, before its first NUL
 
 not_true : (b : Bool) → (b ≡ true → ⊥) → b ≡ false
 not_true true h = absurd (h refl)
@@ -146,6 +146,6 @@ key_part bytes start end gap ended le within =
     ap (λ j. take j (part bytes start end)) at
     ∙ take-take (min end gap.to - start) (end - start) (drop start bytes) (omega (arith, ended.around.1))
 
--- how often a byte stands in the key, no more than in the whole
+-- a byte occurs in the key no more often than in the whole
 pub count_key : (byte : ℕ) (text : List ℕ) → count_by (is byte) (before_nul text) ≤ count_by (is byte) text
 count_key byte text = omega (arith, sum_by-take-drop (λ x. cond (eqb x byte) 1 0) text (position_or_len (is 0) text))

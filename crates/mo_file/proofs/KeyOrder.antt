@@ -33,7 +33,7 @@ key_by x xs false e =
     let n : 1 + position_or_len (is 0) xs ≡ suc (position_or_len (is 0) xs) = omega arith in
     ap (λ b. take (cond (not b) (1 + position_or_len (is 0) xs) 0) (x ∷ xs)) e ∙ ap (λ k. take k (x ∷ xs)) n
 
--- a key that is closed stops there
+-- a key ends at its NUL
 closed_by : (x : ℕ) (xs : List ℕ) (n : ℕ) → before_nul xs ≡ before_nul (take n xs) → (b : Bool) → eqb x 0 ≡ b
     → before_nul (x ∷ xs) ≡ before_nul (x ∷ take n xs)
 closed_by x xs n rest true e = key_by x xs true e ∙ sym (key_by x (take n xs) true e)
@@ -45,7 +45,7 @@ closed_key [] n lt nul = absurd (omega (arith, lt))
 closed_key (x ∷ xs) zero lt nul = key_by x xs true (eq-eqb x 0 nul)
 closed_key (x ∷ xs) (suc n) lt nul = closed_by x xs n (closed_key xs n (omega (arith, lt)) nul) (eqb x 0) refl
 
--- ---- where keys differ at their first places
+-- ---- keys that differ at their first byte
 
 data Front (text : List ℕ) : Type 0 where
   Ends : get_or text 0 0 ≡ 0 → before_nul text ≡ [] → Front text
@@ -108,7 +108,7 @@ at_once : (a b : List ℕ) → (get_or a 0 0 ≡ get_or b 0 0 → get_or a 0 0 �
     → IsBelow (before_nul a) (before_nul b) ↔ (get_or a 0 0 < get_or b 0 0)
 at_once a b differ = by_fronts a b (front a) (front b) differ
 
--- ---- where they differ later
+-- ---- keys that differ later
 
 key_goes_on : (x : ℕ) (xs : List ℕ) → x ≢ 0 → before_nul (x ∷ xs) ≡ x ∷ before_nul xs
 key_goes_on x xs more = key_by x xs false (not_true (eqb x 0) (λ e. more (eqb-true x 0 e)))
@@ -122,8 +122,7 @@ one_further x y a b same more =
     ∙ ap (slice_cmp nat_cmp (x ∷ before_nul a)) first
     ∙ ap (λ o. ordering_then o (slice_cmp nat_cmp (before_nul a) (before_nul b))) (tied_itself nat_cmp_total x)
 
--- two texts are alike for so many bytes, none of them NUL, and differ there or have NUL both: their keys are ordered as
--- these bytes
+-- two texts share n bytes, none of them NUL, and then differ or both have NUL: their keys compare as these bytes do
 pub below_at : (a b : List ℕ) (n : ℕ) → AreAlike a b n → (get_or a n 0 ≡ get_or b n 0 → get_or a n 0 ≡ 0)
     → IsBelow (before_nul a) (before_nul b) ↔ (get_or a n 0 < get_or b n 0)
 below_at a b zero alike differ = at_once a b differ
@@ -162,7 +161,7 @@ one_block a b start size within inside alike same none i lt = elim (cases_lt i s
       )
 ]
 
--- ---- a part that is alike grows
+-- ---- a part that grows
 
 pub more_alike : (bytes : List ℕ) (a : Alike) (limit more : ℕ) → IsAlike bytes a → a.to + more ≤ limit
     → a.to + a.distance + more ≤ length bytes
@@ -187,11 +186,11 @@ more_alike bytes a limit more is inside within alike = record {
   ];
 }
 
--- behind the end of a text stands nothing
+-- past the end of a text there is nothing
 at_end : (bytes : List ℕ) (start i : ℕ) → get_or (part bytes start (length bytes)) i 0 ≡ get_or bytes (start + i) 0
 at_end bytes start i = ap (λ l. get_or l i 0) (take_rest bytes start) ∙ get_or-drop start bytes i 0
 
--- where a part that grew to the end of the file ends
+-- where a part ends that grew to the end of the file
 pub ends_there : (bytes : List ℕ) (a : Alike) (limit more : ℕ) → limit ≡ length bytes
     → (get_or (part bytes a.to limit) more 0 ≡ get_or (part bytes (a.to + a.distance) (length bytes)) more 0
     → get_or (part bytes a.to limit) more 0 ≡ 0)
@@ -233,7 +232,7 @@ module _ (bytes : List ℕ) (a : Alike) (is : IsAlike bytes a) (low high : ℕ) 
   end_there : get_or (drop high bytes) (a.to - low) 0 ≡ get_or bytes (a.to + a.distance) 0
   end_there = shifted bytes high (a.to - low) (a.to + a.distance) (omega (arith, to, at))
 
-  -- the first key is to be the lesser
+  -- the claim is that the first key is the lesser
   pub rising : KeyBelow bytes low high
       ↔ (get_or bytes a.to 0 < get_or bytes (a.to + a.distance) 0)
   rising =
@@ -247,7 +246,7 @@ module _ (bytes : List ℕ) (a : Alike) (is : IsAlike bytes a) (low high : ℕ) 
             (arith, less, end_here, end_there)),
       )
 
-  -- the second key is to be the lesser
+  -- the claim is that the second key is the lesser
   pub falling : KeyBelow bytes high low
       ↔ (get_or bytes (a.to + a.distance) 0 < get_or bytes a.to 0)
   falling =
@@ -263,7 +262,7 @@ module _ (bytes : List ℕ) (a : Alike) (is : IsAlike bytes a) (low high : ℕ) 
             (arith, less, end_here, end_there)),
       )
 
--- whether a claim holds, by the bytes where its keys end or differ
+-- whether a claim holds, by the bytes at which its keys end or differ
 pub decided : (bytes : List ℕ) (a : Alike) → IsAlike bytes a → (lesser greater place : ℕ) → place ≡ min lesser greater
     → place + a.distance ≡ max lesser greater → a.from ≤ place → place ≤ a.to
     → (get_or bytes a.to 0 ≡ get_or bytes (a.to + a.distance) 0 → get_or bytes a.to 0 ≡ 0)
@@ -337,7 +336,7 @@ both_alike bytes a b is other same meets le = record {
   ];
 }
 
--- what stands behind a text that repeats itself
+-- what follows a text that repeats itself
 pub behind_alike : (bytes : List ℕ) (a b : Alike) → IsAlike bytes a → IsAlike bytes b → (distance from to : ℕ)
     → a.distance + b.distance ≡ distance → from ≡ max b.from (a.from - b.distance) → from ≤ to → to ≤ b.to
     → to + b.distance ≤ a.to → IsAlike bytes (record { distance = distance; from = from; to = to })
@@ -351,7 +350,7 @@ behind_alike bytes a b is repeats distance from to sum begins rises most within 
       (one.0 ∙ two.0 ∙ ap (λ k. get_or bytes k 0) at, one.1);
 }
 
--- a text that stands again at two places repeats itself at their distance
+-- a text that is repeated at two distances repeats itself at their difference
 pub between_alike : (bytes : List ℕ) (a b : Alike) → IsAlike bytes a → IsAlike bytes b → (distance from to : ℕ)
     → distance + b.distance ≡ a.distance → from ≡ max a.from (b.from - distance) → from ≤ to → to ≤ a.to
     → to + distance ≤ b.to → IsAlike bytes (record { distance = distance; from = from; to = to })

@@ -12,7 +12,7 @@ use Rattle.mo_file.specs.MoReading.{before_nul, IsOriginalText, IsTranslationTex
 use Rattle.mo_file.proofs.Cuts.{is, count_none}
 use Rattle.mo_file.proofs.Entries.{key_of_original}
 
--- such a byte between two texts that lack it
+-- a byte between two texts that lack it
 counted_once : (byte : ℕ) (a b : List ℕ) → LacksByte byte a → LacksByte byte b → count_by (is byte) (byte ∷ []) ≡ 1
     → count_by (is byte) (a ++ (byte ∷ b)) ≡ 1
 counted_once byte a b la lb it =

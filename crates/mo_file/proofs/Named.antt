@@ -145,7 +145,7 @@ module _ (number : ℕ → List ℕ → ℕ) (bytes : List ℕ) where
       → length (spelling (named o t n)) ≤ 268435456
   fits_named o t n fits = omega (arith, ap length (spelling_named o t n), fits.short)
 
--- ---- the map of a file that meets no refusal
+-- ---- the map of a file that no refusal applies to
 
 pub lawful_map : (number : ℕ → List ℕ → ℕ) (bytes : List ℕ) → PassesBelow (file_by number bytes) 12
     → IsLawful (named_in number bytes)
@@ -174,13 +174,13 @@ is_mo bytes passed =
           (count number bytes);
     }
 
--- what was tested without a refusal
+-- what has passed all tests
 pub checked : (bytes : List ℕ) (r : Result (Unit {0}) MoFault) → OnOk r (PassesBelow (file_of bytes) 12)
     → OnOk r (IsMoFile bytes)
 checked bytes (Ok x) passed = (named_in (order bytes) bytes, is_mo bytes passed)
 checked bytes (Err f) passed = tt
 
--- ---- the entries that were read, one after another
+-- ---- the entries that are read, one after another
 
 pub named_split : (number : ℕ → List ℕ → ℕ) (bytes : List ℕ) (o t n i : ℕ) → i < n
     → named_rows number bytes (o + 8 * i) (t + 8 * i) (n - i)

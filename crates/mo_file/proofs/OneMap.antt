@@ -1,4 +1,4 @@
--- Bytes are an MO file of one map at most.
+-- Bytes are an MO file of at most one map.
 use Rattle.std.proofs.Common.{◌≡◌, ℕ, ◌<◌, List, map, refl, sym, ap, subst, ◌∙◌, arith}
 use Rattle.std.specs.Prelude.{Result, Ok, Err, IfOk, IfErr}
 use Rattle.catalogue.specs.Entry.{Entry, translation}
@@ -31,7 +31,7 @@ pub refused_map : (bytes : List ℕ) (m : List Entry) (fault : MoFault) → rank
     → Mo bytes m → ⊥
 refused_map bytes m fault test refused mo = (refused test).0 (mo.passed fault test)
 
--- the file of a map passes each test; want of memory is none
+-- the file of a map passes each test; running out of memory isn't one
 passes_each : (bytes : List ℕ) (m : List Entry) (fault : MoFault) → Mo bytes m → Passes (file_of bytes) fault
 passes_each bytes m Memory mo = tt
 passes_each bytes m TooLarge mo = mo.passed TooLarge (omega arith)

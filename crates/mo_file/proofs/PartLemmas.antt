@@ -55,7 +55,7 @@ begins text i j lt within utf8 =
     let at : get_or (part text i j) 0 0 ≡ get_or text i 0 = byte_in text i j lt in
     (omega (arith, lt, within), λ h big. omega (arith, at, first.1 long (omega (arith, at, big))))
 
--- and where it ends, one begins or the text ends
+-- where it ends, another character begins or the text ends
 pub ends : (text : List ℕ) (i j : ℕ) → IsUtf8 text → i < j → j ≤ length text → IsUtf8 (part text i j)
     → IsCharBoundary text j
 ends text i j whole lt within utf8 =
@@ -67,9 +67,9 @@ ends text i j whole lt within utf8 =
     ∙ ap (λ n. get_or text n 0) k in
     (within, λ h big. omega (arith, at, cut.1 (omega (arith, long, lt, h)) (omega (arith, at, big))))
 
--- ---- a part beside another one that is UTF-8
+-- ---- a part that overlaps another one that is UTF-8
 
--- what of it lies in that one is UTF-8
+-- the bytes that they share are UTF-8
 pub begins_within : (bytes : List ℕ) (start i known end : ℕ) → start ≤ i → i < known → known ≤ end → end ≤ length bytes
     → IsUtf8 (part bytes start known) → IsUtf8 (part bytes i end) → IsUtf8 (part bytes i known)
 begins_within bytes start i known end le lt most within utf8 whole =
@@ -115,7 +115,7 @@ begins_inside bytes start known i end le most within utf8 whole = elim (cases_lt
   | inr past ↦ empty bytes i known past
 ]
 
--- and what lies behind is UTF-8
+-- the bytes after them are UTF-8
 pub ends_behind : (bytes : List ℕ) (i known end : ℕ) → i ≤ known → known ≤ end → end ≤ length bytes
     → IsUtf8 (part bytes i known) → IsUtf8 (part bytes i end) → IsUtf8 (part bytes known end)
 ends_behind bytes i known end more most within front whole =
@@ -144,14 +144,14 @@ inner bytes s is i j le more most =
     (omega (arith, b, most))
     ∙ ap (λ n. part bytes n (s.start + (j - s.start))) a ∙ ap (part bytes i) b
 
--- two that follow one another are UTF-8 together
+-- two parts that follow one another are UTF-8 together
 pub joined_utf8 : (bytes : List ℕ) (start middle end : ℕ) → start ≤ middle → middle ≤ end
     → IsUtf8 (part bytes start middle)
     → IsUtf8 (part bytes middle end) → IsUtf8 (part bytes start end)
 joined_utf8 bytes start middle end le more front rest = subst IsUtf8 (sym (part_joined bytes start middle end le more))
     (IsUtf8-append (part bytes start middle) (part bytes middle end) front rest)
 
--- a part that begins with a character, and in front of a NUL
+-- a part that begins with a character and ends before a NUL
 pub closed_part : (bytes : List ℕ) (s : Stretch) → IsStretch bytes s → (start end : ℕ) → s.start ≤ start → start ≤ end
     → end < s.start + length s.text.now → get_or bytes end 0 ≡ 0 → IsCharBoundary s.text.now (start - s.start)
     → IsUtf8 (part bytes start end)
@@ -168,7 +168,7 @@ closed_part bytes s is start end le more lt nul boundary =
     subst IsUtf8 (inner bytes s is start end le more (omega (arith, lt)))
     (IsUtf8-between s.text.now (start - s.start) (end - s.start) is.utf8 (omega (arith, more)) boundary end_boundary)
 
--- ---- a string that begins in a stretch and ends behind it
+-- ---- a string that begins in a stretch and ends past it
 
 module _ (bytes : List ℕ) (s : Stretch) (is : IsStretch bytes s) (start end : ℕ) (le : s.start ≤ start)
     (more : start ≤ s.start + length s.text.now) (most : s.start + length s.text.now ≤ end)
@@ -184,21 +184,21 @@ module _ (bytes : List ℕ) (s : Stretch) (is : IsStretch bytes s) (start end : 
       let n : length s.text.now ≡ known - s.start = omega arith in
       ap (part s.text.now (start - s.start)) n ∙ inner bytes s is start known le more (omega arith)
 
-  -- if it is UTF-8, so is its front, which lies in the stretch
+  -- if the string is UTF-8, so is its front, which lies in the stretch
   pub front_utf8 : IsUtf8 (part bytes start end) → IsUtf8 (part s.text.now (start - s.start) (length s.text.now))
   front_utf8 whole = subst IsUtf8 (sym front_in)
       (begins_inside bytes s.start known start end le most within known_utf8 whole)
 
-  -- and so is its rest
+  -- its rest is UTF-8, too
   pub rest_utf8 : IsUtf8 (part s.text.now (start - s.start) (length s.text.now)) → IsUtf8 (part bytes start end)
       → IsUtf8 (part bytes known end)
   rest_utf8 front whole = ends_behind bytes start known end more most within (subst IsUtf8 front_in front) whole
 
-  -- and where both are, it is
+  -- if both are UTF-8, so is the string
   pub both_utf8 : IsUtf8 (part s.text.now (start - s.start) (length s.text.now)) → IsUtf8 (part bytes known end)
       → IsUtf8 (part bytes start end)
   both_utf8 front rest = joined_utf8 bytes start known end more most (subst IsUtf8 front_in front) rest
 
-  -- and the stretch with its rest
+  -- the stretch and the rest are UTF-8 together
   pub more_utf8 : IsUtf8 (part bytes known end) → IsUtf8 (part bytes s.start end)
   more_utf8 rest = joined_utf8 bytes s.start known end (omega arith) most known_utf8 rest

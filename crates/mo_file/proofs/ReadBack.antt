@@ -1,4 +1,4 @@
--- The file that is written of a lawful map meets no refusal, and is an MO file of that map.
+-- The file that is written of a lawful map passes all tests, and is an MO file of that map.
 use Rattle.std.proofs.Common.{◌≡◌, ℕ, zero, suc, ◌+◌, ◌*◌, ◌^◌, ◌<◌, ◌≤◌, List, [], ◌∷◌, length, map, Option, Some}
 use Rattle.std.proofs.Common.{slice_get, refl, sym, ap, ◌∙◌, subst, arith}
 use Rattle.std.specs.Prelude.{IfSome, option_map}
@@ -26,7 +26,7 @@ use Rattle.mo_file.proofs.Entries.{key_of_original}
 use Rattle.mo_file.proofs.LawfulStrings.{original_text, translation_text, lawful_forms}
 use Rattle.mo_image.proofs.FileStrings.{Names, strings_named, named_at, Describes, spelling_describes}
 
--- what passes the tests, where the words of the header are known
+-- the tests that a file passes, given the words of its header
 record AllPass (number : ℕ → List ℕ → ℕ) (bytes : List ℕ) (o t n : ℕ) : Type 0 where
   short : length bytes ≤ 268435456
   long : 28 ≤ length bytes
@@ -177,7 +177,7 @@ module _ (m : List Entry) (lawful : IsLawful m) where
     fits = record { short = omega (arith, ap length spelled, lawful.fits) };
   }
 
-  -- what is claimed of the order of the bytes and the words of the header
+  -- the claims about the byte order and the words of the header
   abbrev Claim : (ℕ → List ℕ → ℕ) → ℕ → ℕ → ℕ → Type 0
   Claim number a b c = AllPass number bytes a b c × (map original m ≡ strings number bytes a c)
       × (map translation m ≡ strings number bytes b c)

@@ -20,7 +20,7 @@ length-file n os ts o t =
     let b = length-pairs (28 + 16 * n + length (pool os)) ts in
     simp (length-append, length-word) (omega (arith, a, b, o, t))
 
--- the row at i, and those behind it
+-- the row at i, and those after it
 pub strings_split : (number : ℕ → List ℕ → ℕ) (bytes : List ℕ) (table n i : ℕ) → i < n
     → strings number bytes (table + 8 * i) (n - i) ≡ string_at number bytes (table + 8 * i)
     ∷ strings number bytes (table + 8 * (i + 1)) (n - (i + 1))
@@ -55,7 +55,7 @@ length-pool_row number bytes table n i lt lies =
           (table + 8 * i) lies,
     )
 
--- the first row, and those behind it
+-- the first row, and those after it
 pub first_row : (Q : ℕ → ℕ → Type 0) (o t n : ℕ) → ((i : ℕ) → i < suc n → Q (o + 8 * i) (t + 8 * i)) → Q o t
 first_row Q o t n each =
     let here : Q (o + 8 * 0) (t + 8 * 0) = each 0 (omega arith) in
@@ -71,7 +71,7 @@ later_rows Q o t n each i lt =
     let et : t + 8 * suc i ≡ t + 8 + 8 * i = omega arith in
     subst (λ a. Q a (t + 8 + 8 * i)) eo (subst (λ b. Q (o + 8 * suc i) b) et here)
 
--- the string of a row that says the same as the one before
+-- the string of a row that is equal to the one before it
 pub as_before : (P : List ℕ → Type 0) (number : ℕ → List ℕ → ℕ) (bytes : List ℕ) (table i : ℕ) → (0 < i)
     × (string_at number bytes (table + 8 * (i - 1)) ≡ string_at number bytes (table + 8 * i))
     → ((k : ℕ) → k < i → P (string_at number bytes (table + 8 * k))) → P (string_at number bytes (table + 8 * i))

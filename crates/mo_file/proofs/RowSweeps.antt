@@ -1,4 +1,4 @@
--- The rows of two tables, one after another: which translations stand alone.
+-- The rows of two tables, one after another: the translations of originals without a plural.
 use Rattle.std.proofs.Common.{◌≡◌, ℕ, ◌+◌, ◌<◌, List, [], ◌∷◌, ◌++◌, length, take, get_or, cond, eqb, Bool, true, false}
 use Rattle.std.proofs.Common.{◌≤◌, Some, None, refl, sym, ap, ◌∙◌, subst, arith}
 use Rattle.std.proofs.lemmas.Bool.{eqb-true, eq-eqb}
@@ -34,7 +34,7 @@ one_more bytes rows i d lt none = next bytes rows i d lt
     (get_or rows i d).translation) None) [])
     (eq-eqb _ 0 none)
 
--- one with a plural
+-- an original with a plural
 pub no_more : (bytes : List ℕ) (rows : List Row) (i : ℕ) (d : Row) → i < length rows
     → 0 < nuls (text_in bytes (get_or rows i d).original)
     → filter_map (alone bytes) (take (i + 1) rows) ≡ filter_map (alone bytes) (take i rows)
@@ -54,7 +54,7 @@ there P xs ys moved = All-permutation P xs ys moved
 pub back : {X : Type 0} (P : X → Type 0) (xs ys : List X) → IsPermutation xs ys → All P ys → All P xs
 back P xs ys moved = All-permutation P ys xs (IsPermutation-sym xs ys moved)
 
--- ---- what is tested of rows
+-- ---- tests of rows
 
 abbrev pub OriginalUtf8 : List ℕ → Row → Type 0
 OriginalUtf8 bytes row = IsUtf8 (text_in bytes row.original)
@@ -102,7 +102,7 @@ forms_by bytes r rest true e one all = subst (All (OneForm bytes))
 forms_by bytes r rest false e one all = subst (All (OneForm bytes))
     (sym (ap (λ b. cons_option (cond b (Some r.translation) None) rest) e)) all
 
--- the translations that stand alone have one form
+-- the translations of originals without a plural have one form
 pub alone_from : (bytes : List ℕ) (rs : List Row) → All (OneForm bytes) (filter_map (alone bytes) rs)
     → All (Alone bytes) rs
 alone_from bytes [] all = All-nil (Alone bytes)
@@ -123,7 +123,7 @@ lies_by : (bytes : List ℕ) (r : Row) (rest : List Span) → All (LiesIn bytes)
 lies_by bytes r rest all here true = All-cons (LiesIn bytes) r.translation rest here all
 lies_by bytes r rest all here false = all
 
--- and they lie in the file
+-- those translations lie in the file
 pub alone_lie : (bytes : List ℕ) (rs : List Row) → All (RowLies bytes) rs
     → All (LiesIn bytes) (filter_map (alone bytes) rs)
 alone_lie bytes [] all = All-nil (LiesIn bytes)

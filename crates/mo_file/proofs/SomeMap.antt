@@ -1,4 +1,4 @@
--- Bytes are an MO file of a map, or are refused: it leads to ⊥ that they are neither.
+-- Bytes are an MO file of a map, or are refused: assuming neither leads to ⊥.
 use Rattle.std.proofs.Common.{◌≡◌, ℕ, zero, suc, ◌+◌, ◌<◌, List, [], ◌∷◌, get_or, refl, sym, ap, subst, ◌∙◌, arith, inl}
 use Rattle.std.proofs.Common.{inr}
 use Rattle.std.proofs.lemmas.Bool.{cases_lt}
@@ -10,7 +10,7 @@ use Rattle.mo_file.specs.declared.fault.MoFault.TheVariants.{Forms, Order, Chars
 use Rattle.mo_file.specs.Pairs.{named_in}
 use Rattle.mo_file.proofs.Named.{is_mo}
 
--- ---- one refusal has each rank
+-- ---- each rank has one refusal
 
 abbrev in_order : List MoFault
 in_order = TooLarge ∷ Short ∷ Magic ∷ Revision ∷ Bounds ∷ NoNul ∷ BadText ∷ Forms ∷ Order ∷ Charset ∷ Swollen ∷ Memory
@@ -45,7 +45,7 @@ rank_one f g e =
     let same : p.place ≡ q.place = omega (arith, p.rank_is, q.rank_is, e) in
     sym p.fault_is ∙ ap fault_at same ∙ q.fault_is
 
--- ---- what no refusal stops passes
+-- ---- a file that no refusal applies to passes all tests
 
 passed_below : (bytes : List ℕ) (n : ℕ) → n < 12 → ((fault : MoFault) → rank fault < 12 → Refused bytes fault → ⊥)
     → (PassesBelow (file_of bytes) (n + 1) → ⊥) → ⊥

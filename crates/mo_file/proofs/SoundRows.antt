@@ -1,4 +1,4 @@
--- What one pass over the rows has seen.
+-- What one pass over the rows has established.
 use Rattle.std.proofs.Common.{◌≡◌, ℕ, ◌+◌, ◌-◌, ◌*◌, ◌<◌, ◌≤◌, List, [], ◌∷◌, length, sym, ap, ◌∙◌, subst, arith, inl}
 use Rattle.std.proofs.Common.{inr}
 use Rattle.std.specs.Prelude.{slice_index}
@@ -93,7 +93,7 @@ pub text_at : (number : ℕ → List ℕ → ℕ) (bytes : List ℕ) (place : �
     → text_in bytes span ≡ string_at number bytes place
 text_at number bytes place span is = ap (text_in bytes) is ∙ text_is number bytes place
 
--- a slice of the file that is a row's string
+-- the slice of the file that is a row's string
 pub slice_is : (number : ℕ → List ℕ → ℕ) (bytes : List ℕ) (place : ℕ) (span : Span) (start end : ℕ)
     → span ≡ span_at number bytes place → start ≡ span.start → end ≡ span.start + span.len
     → part bytes start end ≡ string_at number bytes place
@@ -107,7 +107,7 @@ first_lies number bytes table n lies some =
     let e : table + 8 * 0 ≡ table = omega arith in
     omega (arith, lies.strings 0 some, ap (λ p. word_at number bytes (p + 4)) e)
 
--- the byte behind a row's string
+-- the byte after a row's string
 pub closed_at : (number : ℕ → List ℕ → ℕ) (bytes : List ℕ) (place : ℕ) (span : Span) → span ≡ span_at number bytes place
     → slice_index bytes (span.start + span.len) ≡ 0 → IsClosed number bytes place
 closed_at number bytes place span is nul = subst (λ (s : Span). slice_index bytes (s.start + s.len) ≡ 0) is nul

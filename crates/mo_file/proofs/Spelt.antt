@@ -1,4 +1,4 @@
--- A file whose strings stand one behind the other is the one that is written of its map.
+-- A file whose strings follow one another is the one that is written of its map.
 use Rattle.std.proofs.Common.{◌≡◌, ℕ, zero, suc, ◌+◌, ◌-◌, ◌*◌, ◌/◌, ◌%◌, ◌^◌, ◌<◌, ◌≤◌, List, [], ◌∷◌, ◌++◌, length}
 use Rattle.std.proofs.Common.{take, drop, get_or, refl, sym, ap, ◌∙◌, subst, arith, append_assoc, length-append}
 use Rattle.std.proofs.Math.Seq.{drop-cons, drop-length}
@@ -52,13 +52,13 @@ module _ (bytes : List ℕ) (each : AreBytes bytes) where
   behind : (place : ℕ) → AreBytes (drop place bytes)
   behind place i = omega (arith, get_or-drop place bytes i 0, each (place + i))
 
-  -- the word at a place, and what is behind it
+  -- the word at a place, and what follows it
   word_here : (place : ℕ) → place + 4 ≤ length bytes → drop place bytes ≡ word (w place) ++ drop (place + 4) bytes
   word_here place room =
       sym (words_again (drop place bytes) (behind place) (omega (arith, length-drop place bytes, room)))
       ∙ ap (λ (rest : List ℕ). word (w place) ++ rest) (drop-drop 4 place bytes)
 
-  -- the string of the row at a place, closed, and what is behind it
+  -- the string of the row at a place with its NUL, and what follows it
   string_here : (place start : ℕ) → w (place + 4) ≡ start → StringLies little_number bytes place
       → IsClosed little_number bytes place
       → drop start bytes ≡ closed (at place) ++ drop (start + w place + 1) bytes

@@ -1,4 +1,4 @@
--- The rows of two tables as a list: what is tested of the list is tested of the tables.
+-- The rows of two tables as a list: a test of the list is a test of the tables.
 use Rattle.std.proofs.Common.{◌≡◌, ◌↔◌, ℕ, zero, suc, ◌+◌, ◌-◌, ◌*◌, ◌<◌, ◌≤◌, List, [], ◌∷◌, length, take, drop}
 use Rattle.std.proofs.Common.{get_or}
 use Rattle.std.proofs.Common.{refl, sym, ap, ◌∙◌, subst, arith, inl, inr}
@@ -19,7 +19,7 @@ use Rattle.mo_file.specs.Rows.{listed, rows, rows_in, row_at, span_at, text_in, 
 use Rattle.mo_file.specs.Claims.{key_from, claim_at, claims_to, original_of, nowhere, ClaimHolds, ClaimLies}
 use Rattle.mo_file.proofs.KeyOrder.{closed_key}
 
--- ---- what a sequence begins with
+-- ---- the first elements of a sequence
 
 pub length-listed : {X : Type 0} (f : ℕ → X) (n : ℕ) → length (listed f n) ≡ n
 length-listed f zero = refl

@@ -1,4 +1,4 @@
--- Which bytes are an MO file, and of which map, and why other bytes are refused (GNU gettext manual, "MO Files").
+-- Which bytes are an MO file, of which map, and why other bytes are refused (GNU gettext manual, "MO Files").
 use Rattle.std.specs.Prelude.{◌≡◌, ℕ, ◌+◌, ◌*◌, ◌<◌, ◌≤◌, ⊤, ◌==◌, if◌then◌else◌, List, [], length, map, slice_index}
 use Rattle.std.specs.Prelude.{count_by}
 use Rattle.std.specs.List.{before_first}
@@ -17,8 +17,8 @@ use Rattle.mo_file.specs.declared.fault.MoFault.TheVariants.{Forms, Order, Chars
 
 -- ---- a file and its two tables of strings
 
--- a table: how the words of its file are read, the file's bytes, the place where the table begins, and how many rows
--- of 8 bytes it has
+-- a table: how the file's words are read, the file's bytes, where the table begins, and its number of rows, which have
+-- 8 bytes each
 pub record Table : Type 0 where
   pub number : ℕ → List ℕ → ℕ
   pub bytes : List ℕ
@@ -29,38 +29,38 @@ pub record Table : Type 0 where
 abbrev pub table_at : (ℕ → List ℕ → ℕ) → List ℕ → ℕ → ℕ → Table
 table_at number bytes start n = record { number = number; bytes = bytes; start = start; count = n }
 
--- where its i-th row stands
+-- where the i-th row begins
 abbrev pub row : Table → ℕ → ℕ
 row table i = table.start + 8 * i
 
--- the string that its i-th row names
+-- the string that the i-th row names
 abbrev pub string_in : Table → ℕ → List ℕ
 string_in table i = string_at table.number table.bytes (row table i)
 
--- the strings that its rows name
+-- the strings that the rows name
 abbrev pub strings_in : Table → List (List ℕ)
 strings_in table = strings table.number table.bytes table.start table.count
 
--- a file: how its words are read, its bytes, the table of the originals, and the table of their translations
+-- a file: how its words are read, its bytes, the table of the originals, and the table of the translations
 pub record File : Type 0 where
   pub number : ℕ → List ℕ → ℕ
   pub bytes : List ℕ
   pub originals : Table
   pub translations : Table
 
--- what the words of the header say: how many rows each table has
+-- the number of rows of each table, by the header
 abbrev pub count : (ℕ → List ℕ → ℕ) → List ℕ → ℕ
 count number bytes = word_at number bytes 8
 
--- where the table of the originals begins
+-- where the table of the originals begins, by the header
 abbrev pub originals_start : (ℕ → List ℕ → ℕ) → List ℕ → ℕ
 originals_start number bytes = word_at number bytes 12
 
--- where that of the translations begins
+-- where the table of the translations begins, by the header
 abbrev pub translations_start : (ℕ → List ℕ → ℕ) → List ℕ → ℕ
 translations_start number bytes = word_at number bytes 16
 
--- the bytes as a file whose words are read so
+-- the bytes as a file, with words that `number` reads
 abbrev pub file_by : (ℕ → List ℕ → ℕ) → List ℕ → File
 file_by number bytes = record {
   number = number;
@@ -69,66 +69,66 @@ file_by number bytes = record {
   translations = table_at number bytes (translations_start number bytes) (count number bytes);
 }
 
--- how they are read: the magic number tells whether the low or the high byte of a word stands first
+-- how the file's words are read: little-endian if the magic number is stored so, else big-endian
 abbrev pub order : List ℕ → ℕ → List ℕ → ℕ
 order bytes = if word_at little_number bytes 0 == 0x950412de then little_number else big_number
 
--- the bytes as a file
+-- the bytes as a file, in the byte order of its magic number
 abbrev pub file_of : List ℕ → File
 file_of bytes = file_by (order bytes) bytes
 
 -- ---- one string
 
--- the string of this row lies in the file, and a byte behind it
+-- the string of this row and one more byte after it lie in the file
 abbrev pub StringLies : (ℕ → List ℕ → ℕ) → List ℕ → ℕ → Type 0
 StringLies number bytes place = word_at number bytes (place + 4) + word_at number bytes place < length bytes
 
--- the byte behind the string of this row is NUL
+-- the string of this row is followed by a NUL
 abbrev pub IsClosed : (ℕ → List ℕ → ℕ) → List ℕ → ℕ → Type 0
 IsClosed number bytes place = slice_index bytes (word_at number bytes (place + 4) + word_at number bytes place) ≡ 0
 
--- what stands before the first NUL: an original's key, a translation's first form
+-- what precedes the first NUL: the key of an original, or the first form of a translation
 abbrev pub before_nul : List ℕ → List ℕ
 before_nul text = before_first (λ b. b == 0) text
 
--- UTF-8, and EOT (byte 4) at most once in the key
+-- an original is UTF-8, with EOT (byte 4) at most once in its key
 pub record IsOriginalText (o : List ℕ) : Type 0 where
   pub utf8 : IsUtf8 o
   pub separators : count_by (λ b. b == 4) (before_nul o) ≤ 1
 
--- UTF-8
+-- a translation is UTF-8
 pub record IsTranslationText (t : List ℕ) : Type 0 where
   pub utf8 : IsUtf8 t
 
--- the original holds NUL at most once, and without it the translation has one form
+-- the original holds NUL at most once, and if it holds none the translation is a single form
 pub record HasLawfulForms (o t : List ℕ) : Type 0 where
   pub plurals : count_by (λ b. b == 0) o ≤ 1
   pub alone : count_by (λ b. b == 0) o ≡ 0 → count_by (λ b. b == 0) t ≡ 0
 
--- an entry of the empty key is the header: its text, the first form, names no charset, or one that is accepted
+-- an entry with the empty key is the header: its first form names no charset or an accepted one
 pub record HasLawfulHeader (o t : List ℕ) : Type 0 where
   pub accepted : before_nul o ≡ [] → HasAcceptedCharset (before_nul t)
 
 -- ---- the strings of a table, or of two
 
--- the table lies in the file, and so do its strings
+-- the table and all its strings lie in the file
 pub record TableLies (table : Table) : Type 0 where
   pub rows : 0 < table.count → table.start + 8 * table.count ≤ length table.bytes
   pub strings : (i : ℕ) → i < table.count → StringLies table.number table.bytes (row table i)
 
--- behind each string stands a NUL
+-- every string is followed by a NUL
 pub record AllClosed (table : Table) : Type 0 where
   pub each : (i : ℕ) → i < table.count → IsClosed table.number table.bytes (row table i)
 
--- each string is the text of an original
+-- every string is a lawful original
 pub record AreOriginalTexts (table : Table) : Type 0 where
   pub each : (i : ℕ) → i < table.count → IsOriginalText (string_in table i)
 
--- each string is the text of a translation
+-- every string is a lawful translation
 pub record AreTranslationTexts (table : Table) : Type 0 where
   pub each : (i : ℕ) → i < table.count → IsTranslationText (string_in table i)
 
--- each original and its translation have lawful forms
+-- every original and its translation have lawful forms
 pub record HaveLawfulForms (originals translations : Table) : Type 0 where
   pub each : (i : ℕ) → i < originals.count → HasLawfulForms (string_in originals i) (string_in translations i)
 
@@ -147,7 +147,7 @@ pub record Fits (originals translations : Table) : Type 0 where
 
 -- ---- the refusals
 
--- the file passes the test of this refusal; want of memory says nothing of the bytes
+-- the file passes the test of this refusal; `Memory` says nothing about the bytes
 abbrev pub Passes : File → MoFault → Type 0
 Passes file TooLarge = length file.bytes ≤ 268435456
 Passes file Short = 28 ≤ length file.bytes
@@ -162,7 +162,7 @@ Passes file Charset = HaveLawfulHeaders file.originals file.translations
 Passes file Swollen = Fits file.originals file.translations
 Passes file Memory = ⊤
 
--- the order of the refusals
+-- the order in which refusals are reported
 abbrev pub rank : MoFault → ℕ
 rank TooLarge = 1
 rank Short = 2
@@ -177,26 +177,26 @@ rank Charset = 10
 rank Swollen = 11
 rank Memory = 12
 
--- the file passes the tests before this one
+-- the file passes all tests of a rank below n
 abbrev pub PassesBelow : File → ℕ → Type 0
 PassesBelow file n = (fault : MoFault) → rank fault < n → Passes file fault
 
--- the first refusal whose test the file fails, or want of memory
+-- the first refusal whose test the file fails, or out of memory
 abbrev pub RefusedBy : File → MoFault → Type 0
 RefusedBy file fault = rank fault < 12 → ¬ Passes file fault × PassesBelow file (rank fault)
 
--- the same of bytes
+-- the bytes are refused for this, in the byte order of their magic number
 abbrev pub Refused : List ℕ → MoFault → Type 0
 Refused bytes fault = RefusedBy (file_of bytes) fault
 
--- the bytes are an MO file of the map: they pass each test, and the strings that the tables name are the
--- originals and the translations of its entries
+-- the bytes are an MO file of the map: they pass every test, and their tables name the originals and the translations
+-- of the map's entries
 pub record Mo (bytes : List ℕ) (m : List Entry) : Type 0 where
   pub lawful : IsLawful m
   pub passed : PassesBelow (file_of bytes) 12
   pub originals : map original m ≡ strings_in (file_of bytes).originals
   pub translations : map translation m ≡ strings_in (file_of bytes).translations
 
--- the bytes are an MO file
+-- the bytes are an MO file of some map
 abbrev pub IsMoFile : List ℕ → Type 0
 IsMoFile bytes = (m : List Entry) × Mo bytes m

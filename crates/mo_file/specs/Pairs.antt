@@ -1,15 +1,15 @@
--- Private: the entries that originals and translations are.
+-- Private: the entries that the originals and translations of a file make up.
 use Rattle.std.specs.Prelude.{ℕ, List}
 use Rattle.catalogue.specs.Entry.{Entry}
 pub use Rattle.catalogue.specs.Pairs.{plural_part, entry_of, paired_entries}
 use Rattle.mo_file.specs.Tables.{strings}
 use Rattle.mo_file.specs.MoReading.{count, originals_start, translations_start}
 
--- those of the n rows of two tables
+-- the entries of the n rows of two tables
 abbrev pub named : (ℕ → List ℕ → ℕ) → List ℕ → ℕ → ℕ → ℕ → List Entry
 named number bytes o t n = paired_entries (strings number bytes o n) (strings number bytes t n)
 
--- those of a file
+-- the entries of a file
 abbrev pub named_in : (ℕ → List ℕ → ℕ) → List ℕ → List Entry
 named_in number bytes = named number bytes (originals_start number bytes) (translations_start number bytes)
     (count number bytes)

@@ -9,15 +9,15 @@ use Rattle.mo_file.specs.FileParts.{part}
 use Rattle.mo_file.specs.declared.rows.Span.{Span}
 use Rattle.mo_file.specs.declared.rows.Row.{Row}
 
--- where the string of the row at this place lies
+-- the offset and the length that the row at this place holds
 abbrev pub span_at : (ℕ → List ℕ → ℕ) → List ℕ → ℕ → Span
 span_at number bytes place = record { start = word_at number bytes (place + 4); len = word_at number bytes place }
 
--- the rows at these places of both tables
+-- the row at these places of the two tables
 abbrev pub row_at : (ℕ → List ℕ → ℕ) → List ℕ → ℕ → ℕ → Row
 row_at number bytes o t = record { original = span_at number bytes o; translation = span_at number bytes t }
 
--- what a sequence begins with
+-- the first n elements of a sequence
 abbrev pub listed : {X : Type 0} → (ℕ → X) → ℕ → List X
 listed f zero = []
 listed f (suc n) = listed f n ++ f n ∷ []
@@ -30,27 +30,27 @@ rows number bytes o t n = listed (λ i. row_at number bytes (o + 8 * i) (t + 8 *
 abbrev pub rows_in : File → List Row
 rows_in file = rows file.number file.bytes file.originals.start file.translations.start file.originals.count
 
--- the string that lies there
+-- the string of a span
 abbrev pub text_in : List ℕ → Span → List ℕ
 text_in bytes span = part bytes span.start (span.start + span.len)
 
--- it lies in the file, and a byte behind it
+-- the string of a span and one more byte after it lie in the file
 abbrev pub LiesIn : List ℕ → Span → Type 0
 LiesIn bytes span = span.start + span.len < length bytes
 
--- both strings of the row lie so
+-- both strings of the row lie in the file
 abbrev pub RowLies : List ℕ → Row → Type 0
 RowLies bytes row = LiesIn bytes row.original × LiesIn bytes row.translation
 
--- both are texts
+-- both strings of the row are lawful texts
 abbrev pub HasTexts : List ℕ → Row → Type 0
 HasTexts bytes row = IsOriginalText (text_in bytes row.original) × IsTranslationText (text_in bytes row.translation)
 
--- both have lawful forms
+-- both strings of the row have lawful forms
 abbrev pub HasForms : List ℕ → Row → Type 0
 HasForms bytes row = HasLawfulForms (text_in bytes row.original) (text_in bytes row.translation)
 
--- how many NULs a string holds
+-- the number of NULs in a string
 abbrev pub nuls : List ℕ → ℕ
 nuls text = count_by (λ b. b == 0) text
 

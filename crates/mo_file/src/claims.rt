@@ -1,5 +1,5 @@
-//! The order of the keys of a file whose strings overlap. What keys share that stand at one distance is compared
-//! once.
+//! The order test for files whose strings overlap. Bytes shared by keys at one distance from each other are compared
+//! only once.
 ghost use Rattle.std.specs.Prelude.{◌≡◌, ◌↔◌, ℕ, List, ◌+◌, ◌-◌, ◌<◌, ◌≤◌, length, slice_index, IsTrue, IfOk};
 ghost use Rattle.std.specs.Prelude.{IfSome, All};
 ghost use Rattle.std.specs.List.Sorted.{IsPermutation};
@@ -9,7 +9,7 @@ use crate::rows::{Row, Span};
 use bstr::ByteSlice;
 use std::alloc::{AllocError, Global};
 
-/// Two originals, of which the first is to have the lesser key.
+/// Two originals. The claim is that the key of `lesser` is below that of `greater`.
 #[derive(Clone, Copy)]
 pub(crate) struct Claim {
     lesser: Span,
@@ -17,7 +17,8 @@ pub(crate) struct Claim {
 }
 
 impl Claim {
-    /// The place of a claim among others: first those on one text, and then those whose keys stand at one distance.
+    /// The sort key of a claim: claims about the same text come together, and in these, claims whose keys are at the
+    /// same distance.
     fn order(&self) -> (usize, usize, usize) {
         let distance = self.lesser.start().abs_diff(self.greater.start());
         let first = if self.lesser.start < self.greater.start {
@@ -29,7 +30,7 @@ impl Claim {
     }
 }
 
-/// The claims that each key is below the next one.
+/// Returns one claim per pair of neighbouring rows: the key of each row is below that of the next.
 pub(crate) fn read_claims(alloc: Global, rows: &[Row]) -> Result<Vec<Claim>, AllocError>
     ensures { IfOk result (λ claims. claims.items ≡ claims_to rows.now (length rows.now - 1)) }
 {
@@ -44,7 +45,7 @@ pub(crate) fn read_claims(alloc: Global, rows: &[Row]) -> Result<Vec<Claim>, All
     Ok(claims)
 }
 
-/// The claims in an order in which what keys share is compared once.
+/// Sorts the claims so that `all_hold` compares shared bytes only once for each distance.
 pub(crate) fn in_order(mut claims: Vec<Claim>) -> Vec<Claim>
     ensures { IsPermutation claims.items result.items }
 {
@@ -52,10 +53,10 @@ pub(crate) fn in_order(mut claims: Vec<Claim>) -> Vec<Claim>
     claims
 }
 
-/// How many bytes are compared at once.
+/// The number of bytes that are compared at once.
 const BLOCK: usize = 256;
 
-/// How many bytes of whole blocks both begin with alike, none of them NUL.
+/// Returns the length of the longest run of whole blocks that both slices begin with and that holds no NUL.
 fn alike_blocks(a: &[u8], b: &[u8]) -> usize
     ensures within { (result ≤ length a.now) × (result ≤ length b.now) }
     ensures alike { AreAlike a.now b.now result }
@@ -75,7 +76,7 @@ fn alike_blocks(a: &[u8], b: &[u8]) -> usize
     blocks * BLOCK
 }
 
-/// How many bytes both begin with alike, none of them NUL.
+/// Returns the length of the longest prefix that both slices share and that holds no NUL.
 fn alike_len(a: &[u8], b: &[u8]) -> usize
     ensures within { (result ≤ length a.now) × (result ≤ length b.now) }
     ensures alike { AreAlike a.now b.now result }
@@ -90,7 +91,7 @@ fn alike_len(a: &[u8], b: &[u8]) -> usize
     n
 }
 
-/// The greatest number that divides both.
+/// Returns the greatest common divisor of two numbers, by Euclid's algorithm.
 fn greatest_common_divisor(a: usize, b: usize) -> usize
     requires { 0 < b }
     ensures { result ≤ b }
@@ -105,7 +106,7 @@ fn greatest_common_divisor(a: usize, b: usize) -> usize
     divisor
 }
 
-/// A part of a file that stands in it again so far behind, and holds no NUL.
+/// A part of the file, from `from` up to `to`, that holds no NUL and is repeated `distance` bytes further on.
 #[derive(Clone, Copy)]
 struct Alike {
     distance: usize,
@@ -114,7 +115,7 @@ struct Alike {
 }
 
 impl Alike {
-    /// Nothing is known.
+    /// Starts with nothing known: an empty part.
     fn new() -> Alike
         ensures { result ≡ record { distance = 0; from = 0; to = 0 } }
     {
@@ -125,7 +126,8 @@ impl Alike {
         }
     }
 
-    /// What is known of the bytes at this place and so far behind it.
+    /// Returns what is known of the bytes at `place` and `distance` bytes further on: `self` if it covers the place at
+    /// this distance, else an empty part.
     fn around(self, place: usize, distance: usize) -> Alike
         ensures distance { result.distance ≡ distance }
         ensures around { (result.from ≤ place) × (place ≤ result.to) }
@@ -141,7 +143,7 @@ impl Alike {
         }
     }
 
-    /// The part once more of it is compared, up to this place or where it ends.
+    /// Extends the part by comparing more bytes, up to `limit` or to where the two copies differ or a NUL ends them.
     fn grown(self, bytes: &[u8], limit: usize) -> Alike
         requires alike { IsAlike bytes.now self }
         requires limit { (self.to ≤ limit) × (limit ≤ length bytes.now) }
@@ -156,8 +158,11 @@ impl Alike {
         }
     }
 
-    /// The same part at a distance that is a multiple of its own: where a text repeats itself at one distance, it
-    /// does so at each multiple.
+    /// Derives the part at a multiple of its distance: a text that repeats itself at one distance repeats itself at
+    /// each multiple, so one period answers for all of them.
+    ///
+    /// For example, the first six bytes of `abababab` repeat at distance 2. At distance 4, `to` is 6 - (4 - 2) = 4: the
+    /// first four bytes repeat. In a text of one letter, the period 1 answers for every distance.
     fn at_multiple(self, distance: usize) -> Option<Alike>
         ensures { (bytes : List ℕ) → IsAlike bytes self
             → IfSome result (λ a. IsAlike bytes a × (a.distance ≡ distance)) }
@@ -176,7 +181,8 @@ impl Alike {
         })
     }
 
-    /// The part at a greater distance: where a text repeats itself, what stands behind it does so too.
+    /// Derives a part at a greater distance: if the text repeats itself with `period`, so does the copy of it that
+    /// `self` knows of.
     fn shifted(self, period: Alike, distance: usize) -> Option<Alike>
         ensures { (bytes : List ℕ) → IsAlike bytes self → IsAlike bytes period
             → IfSome result (λ a. IsAlike bytes a × (a.distance ≡ distance)) }
@@ -191,7 +197,7 @@ impl Alike {
         Some(Alike { distance, from, to })
     }
 
-    /// How a text repeats itself that is alike to one place, and to another one at a lesser distance.
+    /// Derives a period from two copies: a text that is repeated at two distances repeats itself at their difference.
     fn repeated(self, nearer: Alike) -> Option<Alike>
         ensures { (bytes : List ℕ) → IsAlike bytes self → IsAlike bytes nearer → IfSome result (IsAlike bytes) }
     {
@@ -204,7 +210,8 @@ impl Alike {
         Some(Alike { distance, from, to })
     }
 
-    /// The part with another one at its distance, if it grows that far.
+    /// Joins the part with another one at its distance. If there is a gap between them, bytes are compared to close it;
+    /// if they differ, the other part is dropped.
     fn joined(self, bytes: &[u8], other: Alike) -> Alike
         requires alike { IsAlike bytes.now self }
         requires other { IsAlike bytes.now other }
@@ -232,8 +239,8 @@ impl Alike {
         }
     }
 
-    /// The part once the key at this place is compared with the one so far behind: it ends where they differ, or
-    /// both end. What is known of a text that repeats itself is not compared again.
+    /// Returns the part that shows where the key at `place` and the key `distance` bytes further on differ or both end.
+    /// Bytes that the period answers for are not compared again.
     fn compared(self, bytes: &[u8], period: Alike, place: usize, distance: usize) -> Alike
         requires alike { IsAlike bytes.now self }
         requires period { IsAlike bytes.now period }
@@ -253,7 +260,7 @@ impl Alike {
         known.grown(bytes, bytes.len())
     }
 
-    /// What is known of a text that repeats itself, once keys at this place were compared.
+    /// Returns the period to go on with, after the keys at `place` have been compared.
     fn after(self, bytes: &[u8], compared: Alike, place: usize) -> Alike
         requires alike { IsAlike bytes.now self }
         requires compared { IsAlike bytes.now compared }
@@ -278,8 +285,7 @@ impl Alike {
         whole
     }
 
-    /// What is known of a text that repeats itself, once keys at this place were compared, and others before them that
-    /// stand nearer to one another.
+    /// Like `after`, but also uses the comparison before this one, of keys that are closer together.
     fn learnt(self, bytes: &[u8], compared: Alike, nearer: Alike, place: usize) -> Alike
         requires alike { IsAlike bytes.now self }
         requires compared { IsAlike bytes.now compared }
@@ -295,7 +301,7 @@ impl Alike {
     }
 }
 
-/// The byte at a place; 0 behind the end.
+/// Returns the byte at `place`, or 0 past the end.
 fn byte_at(bytes: &[u8], place: usize) -> u8
     ensures { result ≡ slice_index bytes.now place }
 {
@@ -305,7 +311,8 @@ fn byte_at(bytes: &[u8], place: usize) -> u8
     }
 }
 
-/// Whether all claims hold.
+/// Whether all claims hold. They may come in any order; after `in_order`, shared bytes are compared once for each
+/// distance.
 pub(crate) fn all_hold(bytes: &[u8], claims: &[Claim]) -> bool
     requires { All (ClaimLies bytes.now) claims.now }
     ensures { IsTrue result ↔ All (ClaimHolds bytes.now) claims.now }

@@ -6,7 +6,8 @@ use std::alloc::{AllocError, AllocFailed};
 use std::error::Error;
 use std::fmt;
 
-/// Why bytes are no MO file of a lawful map. Of several reasons that hold, the first of this list is given.
+/// Why bytes are refused as an MO file. If several reasons apply, the first in this list is reported. If an allocation
+/// fails, `Memory` may be reported instead of any other result.
 #[derive(Clone, Copy, Debug, PartialEq, Eq)]
 pub enum MoFault {
     /// There are more than 268,435,456 bytes.
@@ -17,9 +18,9 @@ pub enum MoFault {
     Magic,
     /// The revision isn't 0.
     Revision,
-    /// A table, or a string with a byte behind it, doesn't lie in the file.
+    /// A table, or a string with the byte after it, doesn't lie in the file.
     Bounds,
-    /// The byte behind a string isn't NUL.
+    /// A string isn't followed by a NUL.
     NoNul,
     /// A string isn't UTF-8, or a key holds byte 4 twice or more.
     BadText,
@@ -29,9 +30,9 @@ pub enum MoFault {
     Order,
     /// The header names a charset that isn't accepted.
     Charset,
-    /// The file that would be written of the map has more than 268,435,456 bytes.
+    /// The file that would be written of the map would have more than 268,435,456 bytes.
     Swollen,
-    /// Memory was refused. This says nothing of the bytes.
+    /// An allocation failed. This says nothing about the bytes.
     Memory,
 }
 

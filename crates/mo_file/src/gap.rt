@@ -1,10 +1,11 @@
-//! Searches for a byte that remember where it isn't.
+//! Searches for a byte that remember where the byte isn't.
 ghost use Rattle.std.specs.Prelude.{◌≡◌, ◌↔◌, ℕ, ◌≤◌, ◌<◌, ◌==◌, List, length, min, IsTrue, count_by};
 ghost use Rattle.mo_file.specs.FileParts.{part, IsGap, IsPart, Ends, AreGaps, Counts};
 
 use bstr::ByteSlice;
 
-/// A part of a file that lacks a byte: from `from` up to `to`. Strings that overlap are searched once.
+/// A part of a file, from `from` up to `to`, that lacks a byte. It is kept from string to string, so bytes that
+/// overlapping strings share are searched once.
 #[derive(Clone, Copy)]
 pub(crate) struct Gap {
     from: usize,
@@ -12,14 +13,15 @@ pub(crate) struct Gap {
 }
 
 impl Gap {
-    /// Nothing is known.
+    /// Starts with nothing known: an empty part.
     pub(crate) fn new() -> Gap
         ensures { result ≡ record { from = 0; to = 0 } }
     {
         Gap { from: 0, to: 0 }
     }
 
-    /// Where the byte stands first behind the start of the last search, unless that is behind its end.
+    /// The end of the gap: the first place of the byte from the start of the last search on, if that is before the
+    /// search's end.
     pub(crate) fn to(self) -> usize
         ensures { result ≡ self.to }
     {
@@ -34,7 +36,7 @@ impl Gap {
         self.from <= start && end <= self.to
     }
 
-    /// What is known of the bytes around this place.
+    /// Returns `self` if it touches this place, else an empty gap there.
     fn around(self, place: usize) -> Gap
         ensures around { (result.from ≤ place) × (place ≤ result.to) }
         ensures known { (bytes : List ℕ) (byte : ℕ) → IsGap bytes byte self → place ≤ length bytes
@@ -49,8 +51,8 @@ impl Gap {
         }
     }
 
-    /// The gap once the byte is searched for from `start` up to `end`: it ends at the first of them, or no
-    /// sooner than at `end`.
+    /// Searches for the byte from `start` up to `end`. The gap that results ends at the first occurrence, or else at
+    /// `end` or later.
     pub(crate) fn searched(self, bytes: &[u8], byte: u8, start: usize, end: usize) -> Gap
         requires gap { IsGap bytes.now byte self }
         requires part { IsPart bytes.now start end }
@@ -71,7 +73,7 @@ impl Gap {
     }
 }
 
-/// The first two places of a byte in a part of a file, which are remembered likewise.
+/// The first two occurrences of a byte in a part of a file, remembered as gaps.
 #[derive(Clone, Copy)]
 pub(crate) struct Twice {
     first: Gap,
@@ -79,7 +81,7 @@ pub(crate) struct Twice {
 }
 
 impl Twice {
-    /// Nothing is known.
+    /// Starts with nothing known.
     pub(crate) fn new() -> Twice
         ensures { result ≡ record { first = record { from = 0; to = 0 }; second = record { from = 0; to = 0 } } }
     {
@@ -89,7 +91,7 @@ impl Twice {
         }
     }
 
-    /// What is known once the byte is searched for from `start` up to `end`.
+    /// Searches for the first two occurrences of the byte from `start` up to `end`.
     pub(crate) fn searched(self, bytes: &[u8], byte: u8, start: usize, end: usize) -> Twice
         requires gaps { AreGaps bytes.now byte self }
         requires part { IsPart bytes.now start end }
@@ -104,7 +106,7 @@ impl Twice {
         Twice { first, second }
     }
 
-    /// How often the byte stands in the part that was searched and ends here; 2 where it is more.
+    /// Counts the occurrences in the part that was searched, which ends at `end`. Returns 2 for two or more.
     pub(crate) fn count(self, end: usize) -> usize
         ensures { (bytes : List ℕ) (byte start : ℕ) → Counts bytes byte start end self → IsPart bytes start end
             → result ≡ min (count_by (λ b. b == byte) (part bytes start end)) 2 }

@@ -1,4 +1,4 @@
-//! MO files: the one file that is written of a catalogue, and the reading of all of them.
+//! MO files (GNU gettext manual, "MO Files"): writing the one file of a catalogue, and reading any MO file.
 #![tactic(auto)]
 
 mod claims;

@@ -1,4 +1,4 @@
-//! Files that stand as this crate writes them.
+//! Recognises files in the layout that `write_mo` writes.
 ghost use Rattle.std.specs.Prelude.{◌≡◌, ◌<◌, ◌≤◌, ◌^◌, length, IsTrue, IfSome};
 ghost use Rattle.byteorder.specs.Endian.{little_number};
 ghost use Rattle.catalogue.specs.MoFile.{spelling};
@@ -12,7 +12,7 @@ use mo_image::{
     COUNT_AT, HASH_SIZE_AT, HASH_TABLE_AT, HEADER_LEN, ORIGINALS_AT, ROW_LEN, TRANSLATIONS_AT,
 };
 
-/// Whether the tables of n rows stand behind the header, and there is no hash table.
+/// Whether the tables of `n` rows directly follow the header, and there is no hash table.
 fn is_in_order(bytes: &[u8], n: usize) -> bool
     requires long { 28 ≤ length bytes.now }
     requires count { n < 2 ^ 32 }
@@ -24,7 +24,8 @@ fn is_in_order(bytes: &[u8], n: usize) -> bool
         && word::<LittleEndian>(bytes, HASH_TABLE_AT) == HEADER_LEN + 2 * ROW_LEN * n
 }
 
-/// Where the strings of a table's n rows end, if they stand one behind the other from `start` on.
+/// Returns where the strings of a table's `n` rows end, if they follow one another from `start` on, each with one more
+/// byte.
 fn end_of_strings(bytes: &[u8], table: usize, n: usize, start: usize) -> Option<usize>
     requires lies { TableLies (table_at little_number bytes.now table n) }
     requires start { start ≤ length bytes.now }
@@ -43,8 +44,8 @@ fn end_of_strings(bytes: &[u8], table: usize, n: usize, start: usize) -> Option<
     Some(end)
 }
 
-/// Whether a file is the one that is written of its map: its tables stand behind its header, its strings
-/// behind them, one behind the other, and nothing else.
+/// Whether a file is exactly what `write_mo` writes of its map: the header, the tables, and the strings one after
+/// another, with nothing after them.
 pub(crate) fn is_own(bytes: &[u8]) -> bool
     requires { PassesBelow (file_by little_number bytes.now) 12 }
     ensures { IsTrue result → bytes.now ≡ spelling (named_in little_number bytes.now) }

@@ -1,4 +1,4 @@
-//! The reading of MO files.
+//! Reading MO files.
 ghost use Rattle.std.specs.Prelude.{◌≡◌, ◌+◌, ◌^◌, ◌<◌, ◌≤◌, length, IfOk, IfErr, Some, option_map};
 ghost use Rattle.std.specs.Str.{IsUtf8};
 ghost use Rattle.mo_file.specs.Tables.{string_at};
@@ -17,7 +17,7 @@ use mo_image::{COUNT_AT, ORIGINALS_AT, ROW_LEN, TRANSLATIONS_AT};
 use std::alloc::{AllocError, Global};
 use text_cut::split_at_byte;
 
-/// The string of a row, which was tested to be a text.
+/// Returns the string of a row, which has been checked to be UTF-8.
 fn text<T: ByteOrder>(bytes: &[u8], place: usize) -> &str
     requires row { place + 8 ≤ length bytes.now }
     requires lies { StringLies T.number_of bytes.now place }
@@ -28,7 +28,7 @@ fn text<T: ByteOrder>(bytes: &[u8], place: usize) -> &str
     unsafe { str::from_utf8_unchecked(string) }
 }
 
-/// An original's key, and its plural where it has one.
+/// Splits an original into its key and its plural, if it has one.
 fn split_original(original: &str) -> (&str, Option<&str>)
     ensures key { result.0.now ≡ before_nul original.now }
     ensures plural { option_map (λ s. s.now) result.1 ≡ plural_part original.now }
@@ -39,7 +39,7 @@ fn split_original(original: &str) -> (&str, Option<&str>)
     }
 }
 
-/// The entry of an original and a translation.
+/// Returns the entry of an original and a translation.
 fn entry_strings<'a>(original: &'a str, translation: &'a str) -> EntryStrings<'a>
     ensures { result ≡ entry_of original.now translation.now }
 {
@@ -47,7 +47,7 @@ fn entry_strings<'a>(original: &'a str, translation: &'a str) -> EntryStrings<'a
     EntryStrings::new(key, plural, translation)
 }
 
-/// The entries of two tables of n rows.
+/// Reads the entries of two tables of `n` rows.
 fn entries<'a, T: ByteOrder>(
     alloc: Global,
     bytes: &'a [u8],
@@ -70,7 +70,7 @@ fn entries<'a, T: ByteOrder>(
     Ok(entries)
 }
 
-/// The map of a file that meets no refusal.
+/// Reads the map of a file that has passed all tests.
 fn read_file<T: ByteOrder>(alloc: Global, bytes: &[u8]) -> Result<Catalogue, AllocError>
     requires { PassesBelow (file_by T.number_of bytes.now) 12 }
     ensures { IfOk result (λ c. c ≡ named_in T.number_of bytes.now) }
@@ -86,9 +86,10 @@ fn read_file<T: ByteOrder>(alloc: Global, bytes: &[u8]) -> Result<Catalogue, All
     Catalogue::from_strings(alloc, entries)
 }
 
-/// The map of an MO file, in either byte order, wherever its strings lie; its hash table isn't looked at.
-/// Else the first refusal that holds, or want of memory. A file that stands as `write_mo` writes it is copied
-/// whole.
+/// Reads an MO file in either byte order, wherever its strings lie (GNU gettext manual, "MO Files"). The hash table is
+/// ignored. A file in the layout of `write_mo` is copied as a whole.
+///
+/// The error is the first refusal that holds, or `MoFault::Memory`.
 pub fn read_mo(alloc: Global, bytes: &[u8]) -> Result<Catalogue, MoFault>
     ensures ok { IfOk result (λ c. Mo bytes.now c) }
     ensures err { IfErr result (λ f. Refused bytes.now f) }
@@ -103,7 +104,7 @@ pub fn read_mo(alloc: Global, bytes: &[u8]) -> Result<Catalogue, MoFault>
     Ok(read_file::<LittleEndian>(alloc, bytes)?)
 }
 
-/// A catalogue that is written and read again: the same map, unless memory was refused.
+/// Writes a catalogue and reads it back. The result is the same map; the only error is `MoFault::Memory`.
 pub fn reread(alloc: Global, catalogue: &Catalogue) -> Result<Catalogue, MoFault>
     ensures ok { IfOk result (λ c. c ≡ catalogue.now) }
     ensures err { IfErr result (λ f. f ≡ MoFault.Memory) }

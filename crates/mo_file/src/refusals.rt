@@ -1,5 +1,5 @@
-//! The tests of bytes that are to be read as an MO file, one for each refusal. Each goes over the whole
-//! file, so that the first refusal in their order is found, and not the first place where one holds.
+//! The tests of an MO file, one per refusal. Each scans the whole file, so the refusal that is reported is the first in
+//! their order, wherever in the file it applies.
 ghost use Rattle.std.specs.Prelude.{◌≡◌, ◌↔◌, ◌≤◌, length, IsTrue, OnOk, IfOk, IfErr};
 ghost use Rattle.byteorder.specs.Endian.{little_number};
 ghost use Rattle.mo_file.specs.Rows.{rows_in, AreSound};
@@ -15,7 +15,7 @@ use byteorder::{BigEndian, ByteOrder, LittleEndian};
 use mo_image::{COUNT_AT, HEADER_LEN, MAGIC, MAX_LEN, ORIGINALS_AT, REVISION_AT, TRANSLATIONS_AT};
 use std::alloc::{AllocError, Global};
 
-/// Whether both tables and their strings lie in the file.
+/// Whether both tables and all their strings lie in the file.
 fn passes_bounds<T: ByteOrder>(bytes: &[u8]) -> bool
     requires { 28 ≤ length bytes.now }
     ensures { IsTrue result ↔ Passes (file_by T.number_of bytes.now) MoFault.Bounds }
@@ -25,7 +25,7 @@ fn passes_bounds<T: ByteOrder>(bytes: &[u8]) -> bool
         && table_lies::<T>(bytes, word::<T>(bytes, TRANSLATIONS_AT), n)
 }
 
-/// Whether a NUL stands behind each string.
+/// Whether every string is followed by a NUL.
 fn passes_closing<T: ByteOrder>(bytes: &[u8]) -> bool
     requires long { 28 ≤ length bytes.now }
     requires lies { Passes (file_by T.number_of bytes.now) MoFault.Bounds }
@@ -36,7 +36,7 @@ fn passes_closing<T: ByteOrder>(bytes: &[u8]) -> bool
         && all_closed::<T>(bytes, word::<T>(bytes, TRANSLATIONS_AT), n)
 }
 
-/// The rows of both tables.
+/// Reads the rows of both tables.
 fn rows_of<T: ByteOrder>(alloc: Global, bytes: &[u8]) -> Result<Vec<Row>, AllocError>
     requires long { 28 ≤ length bytes.now }
     requires lies { Passes (file_by T.number_of bytes.now) MoFault.Bounds }
@@ -48,7 +48,7 @@ fn rows_of<T: ByteOrder>(alloc: Global, bytes: &[u8]) -> Result<Vec<Row>, AllocE
     read_rows::<T>(alloc, bytes, originals, translations, n)
 }
 
-/// Whether the strings are lawful texts.
+/// Whether all strings are lawful texts.
 fn passes_texts<T: ByteOrder>(
     alloc: Global,
     bytes: &[u8],
@@ -62,7 +62,7 @@ fn passes_texts<T: ByteOrder>(
     Ok(have_texts(bytes, rows, overlap))
 }
 
-/// Whether each entry has lawful forms.
+/// Whether every entry has lawful forms.
 fn passes_forms<T: ByteOrder>(
     alloc: Global,
     bytes: &[u8],
@@ -76,7 +76,7 @@ fn passes_forms<T: ByteOrder>(
     have_forms(alloc, bytes, rows, overlap)
 }
 
-/// Whether the keys rise, in a file whose strings overlap.
+/// Whether the keys rise, for a file whose strings overlap.
 fn passes_claims<T: ByteOrder>(alloc: Global, bytes: &[u8]) -> Result<bool, AllocError>
     requires long { 28 ≤ length bytes.now }
     requires lies { Passes (file_by T.number_of bytes.now) MoFault.Bounds }
@@ -88,7 +88,7 @@ fn passes_claims<T: ByteOrder>(alloc: Global, bytes: &[u8]) -> Result<bool, Allo
     Ok(all_hold(bytes, &claims))
 }
 
-/// Whether the keys rise.
+/// Whether the keys rise. `overlap` selects the method for strings that overlap.
 fn passes_order<T: ByteOrder>(
     alloc: Global,
     bytes: &[u8],
@@ -106,7 +106,7 @@ fn passes_order<T: ByteOrder>(
     Ok(keys_rise::<T>(bytes, originals, word::<T>(bytes, COUNT_AT)))
 }
 
-/// Whether the header's charset is accepted.
+/// Whether the header, if there is one, names an accepted charset or none.
 fn passes_charset<T: ByteOrder>(bytes: &[u8]) -> bool
     requires long { 28 ≤ length bytes.now }
     requires lies { Passes (file_by T.number_of bytes.now) MoFault.Bounds }
@@ -122,7 +122,7 @@ fn passes_charset<T: ByteOrder>(bytes: &[u8]) -> bool
     )
 }
 
-/// Whether the strings are closed and pass all their tests, as far as one pass over the rows can tell.
+/// Whether the strings are closed and pass all their tests, as far as a single pass over the rows can tell.
 fn is_sound<T: ByteOrder>(bytes: &[u8]) -> bool
     requires long { 28 ≤ length bytes.now }
     requires lies { Passes (file_by T.number_of bytes.now) MoFault.Bounds }
@@ -134,7 +134,7 @@ fn is_sound<T: ByteOrder>(bytes: &[u8]) -> bool
     are_sound::<T>(bytes, originals, word::<T>(bytes, TRANSLATIONS_AT), n)
 }
 
-/// Whether the file of the map isn't too large.
+/// Whether the file that would be written of the map is within the size limit.
 fn passes_size<T: ByteOrder>(bytes: &[u8]) -> bool
     requires short { length bytes.now ≤ 268435456 }
     requires long { 28 ≤ length bytes.now }
@@ -150,8 +150,9 @@ fn passes_size<T: ByteOrder>(bytes: &[u8]) -> bool
     )
 }
 
-/// The tests of a file in this byte order, in the order of the refusals. Strings that together are longer than a
-/// file may be overlap one another: they are looked at in an order in which each byte counts once.
+/// Runs the tests of a file in one byte order, in the order of the refusals. If the strings together are longer than a
+/// file may be, they may overlap: the tests that read whole strings then sort them, so that shared bytes aren't read
+/// for each string.
 fn check_file<T: ByteOrder>(alloc: Global, bytes: &[u8]) -> Result<(), MoFault>
     requires short { length bytes.now ≤ 268435456 }
     requires long { 28 ≤ length bytes.now }
@@ -190,7 +191,7 @@ fn check_file<T: ByteOrder>(alloc: Global, bytes: &[u8]) -> Result<(), MoFault>
     Ok(())
 }
 
-/// Whether the words of the file have their low byte first.
+/// Whether the file is little-endian: its words have their low byte first.
 pub(crate) fn is_low_first(bytes: &[u8]) -> bool
     requires { 28 ≤ length bytes.now }
     ensures { IsTrue result ↔ (little_number 4 bytes.now ≡ 0x950412de) }
@@ -198,7 +199,7 @@ pub(crate) fn is_low_first(bytes: &[u8]) -> bool
     LittleEndian::read_u32(bytes) == MAGIC
 }
 
-/// The first refusal that holds, if there is one, in either byte order.
+/// Checks a file in either byte order, and reports the first refusal that holds.
 pub(crate) fn check_all(alloc: Global, bytes: &[u8]) -> Result<(), MoFault>
     ensures ok { OnOk result (PassesBelow (file_of bytes.now) 12) }
     ensures err { IfErr result (λ f. Refused bytes.now f) }
@@ -218,8 +219,8 @@ pub(crate) fn check_all(alloc: Global, bytes: &[u8]) -> Result<(), MoFault>
     check_file::<BigEndian>(alloc, bytes)
 }
 
-/// Whether bytes are an MO file, in either byte order, wherever its strings lie; else the first refusal that
-/// holds, or want of memory.
+/// Checks whether bytes are an MO file, in either byte order and wherever the strings lie (GNU gettext manual, "MO
+/// Files"). The error is the first refusal that holds, or `MoFault::Memory`.
 pub fn check(alloc: Global, bytes: &[u8]) -> Result<(), MoFault>
     ensures ok { OnOk result (IsMoFile bytes.now) }
     ensures err { IfErr result (λ f. Refused bytes.now f) }

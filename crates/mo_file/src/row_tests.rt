@@ -1,5 +1,5 @@
-//! The tests of the entries that rows name, in two orders: that of the rows, or, where their strings overlap, that
-//! of the places of their strings, so that each byte is looked at once.
+//! The tests of the entries that rows name. Rows are tested in their own order or, if their strings overlap, sorted by
+//! where the strings begin, so that each byte is looked at once.
 ghost use Rattle.std.specs.Prelude.{◌↔◌, IsTrue, IfOk, All};
 ghost use Rattle.std.specs.List.Sorted.{IsPermutation};
 ghost use Rattle.mo_file.specs.FileParts.{IsStretch};
@@ -12,7 +12,7 @@ use crate::strings::{
 };
 use std::alloc::{AllocError, Global};
 
-/// The rows in the order of their originals, if they are to be sorted.
+/// Sorts the rows by where their originals begin, if `sorts` is set.
 fn by_originals(mut rows: Vec<Row>, sorts: bool) -> Vec<Row>
     ensures { IsPermutation rows.items result.items }
 {
@@ -22,7 +22,7 @@ fn by_originals(mut rows: Vec<Row>, sorts: bool) -> Vec<Row>
     rows
 }
 
-/// The rows in the order of their translations, if they are to be sorted.
+/// Sorts the rows by where their translations begin, if `sorts` is set.
 fn by_translations(mut rows: Vec<Row>, sorts: bool) -> Vec<Row>
     ensures { IsPermutation rows.items result.items }
 {
@@ -32,7 +32,7 @@ fn by_translations(mut rows: Vec<Row>, sorts: bool) -> Vec<Row>
     rows
 }
 
-/// Strings in the order of their places, if they are to be sorted.
+/// Sorts the strings by where they begin, if `sorts` is set.
 fn by_places(mut spans: Vec<Span>, sorts: bool) -> Vec<Span>
     ensures { IsPermutation spans.items result.items }
 {
@@ -42,7 +42,7 @@ fn by_places(mut spans: Vec<Span>, sorts: bool) -> Vec<Span>
     spans
 }
 
-/// A part of the file to begin with: all from its first original on, if that is UTF-8.
+/// Returns the stretch to begin with: the file from its first original on, if that is UTF-8.
 fn first_stretch<'a>(bytes: &'a [u8], rows: &[Row]) -> Stretch<'a>
     requires { All (RowLies bytes.now) rows.now }
     ensures { IsStretch bytes.now result }
@@ -53,7 +53,7 @@ fn first_stretch<'a>(bytes: &'a [u8], rows: &[Row]) -> Stretch<'a>
     }
 }
 
-/// Whether originals and translations are texts.
+/// Whether all originals and translations are lawful texts.
 pub(crate) fn have_texts(bytes: &[u8], rows: Vec<Row>, sorts: bool) -> bool
     requires { All (RowLies bytes.now) rows.items }
     ensures { IsTrue result ↔ All (HasTexts bytes.now) rows.items }
@@ -73,7 +73,7 @@ pub(crate) fn have_texts(bytes: &[u8], rows: Vec<Row>, sorts: bool) -> bool
     }
 }
 
-/// Whether originals and translations have lawful forms.
+/// Whether all originals and translations have lawful forms.
 pub(crate) fn have_forms(
     alloc: Global,
     bytes: &[u8],

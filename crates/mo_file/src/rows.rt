@@ -8,7 +8,7 @@ use byteorder::ByteOrder;
 use mo_image::ROW_LEN;
 use std::alloc::{AllocError, Global};
 
-/// A word of 32 bits.
+/// Reads a word of 32 bits.
 pub(crate) fn word<T: ByteOrder>(bytes: &[u8], place: usize) -> usize
     requires { place + 4 ≤ length bytes.now }
     ensures value { result ≡ word_at T.number_of bytes.now place }
@@ -17,7 +17,7 @@ pub(crate) fn word<T: ByteOrder>(bytes: &[u8], place: usize) -> usize
     T::read_u32(&bytes[place..]) as usize
 }
 
-/// Whether the string of the row at this place lies in the file, with a byte behind it.
+/// Whether the string of the row at this place, and one more byte after it, lie in the file.
 pub(crate) fn string_lies<T: ByteOrder>(bytes: &[u8], place: usize) -> bool
     requires { place + 8 ≤ length bytes.now }
     ensures { IsTrue result ↔ StringLies T.number_of bytes.now place }
@@ -25,7 +25,7 @@ pub(crate) fn string_lies<T: ByteOrder>(bytes: &[u8], place: usize) -> bool
     word::<T>(bytes, place + 4) + word::<T>(bytes, place) < bytes.len()
 }
 
-/// Whether the byte behind the string is NUL.
+/// Whether the string of the row at this place is followed by a NUL.
 pub(crate) fn is_closed<T: ByteOrder>(bytes: &[u8], place: usize) -> bool
     requires row { place + 8 ≤ length bytes.now }
     requires lies { StringLies T.number_of bytes.now place }
@@ -34,7 +34,7 @@ pub(crate) fn is_closed<T: ByteOrder>(bytes: &[u8], place: usize) -> bool
     bytes[word::<T>(bytes, place + 4) + word::<T>(bytes, place)] == 0
 }
 
-/// The string of the row at this place.
+/// Returns the string of the row at this place.
 pub(crate) fn string<T: ByteOrder>(bytes: &[u8], place: usize) -> &[u8]
     requires row { place + 8 ≤ length bytes.now }
     requires lies { StringLies T.number_of bytes.now place }
@@ -45,7 +45,7 @@ pub(crate) fn string<T: ByteOrder>(bytes: &[u8], place: usize) -> &[u8]
     &bytes[start..start + len]
 }
 
-/// Where a string lies in a file.
+/// Where a string lies in a file: its offset and its length in bytes.
 #[derive(Clone, Copy)]
 pub(crate) struct Span {
     pub(crate) start: u32,
@@ -53,14 +53,14 @@ pub(crate) struct Span {
 }
 
 impl Span {
-    /// Where the string begins.
+    /// The offset of the string's first byte.
     pub(crate) fn start(self) -> usize
         ensures { result ≡ self.start }
     {
         self.start as usize
     }
 
-    /// Where the string ends.
+    /// The offset just past the string's last byte.
     pub(crate) fn end(self) -> usize
         ensures { result ≡ self.start + self.len }
     {
@@ -68,14 +68,14 @@ impl Span {
     }
 }
 
-/// An original and its translation.
+/// Where an original and its translation lie.
 #[derive(Clone, Copy)]
 pub(crate) struct Row {
     pub(crate) original: Span,
     pub(crate) translation: Span,
 }
 
-/// Where the string of the row at this place lies.
+/// Reads the row at this place: where its string lies.
 pub(crate) fn read_span<T: ByteOrder>(bytes: &[u8], place: usize) -> Span
     requires { place + 8 ≤ length bytes.now }
     ensures { result ≡ span_at T.number_of bytes.now place }
@@ -86,7 +86,7 @@ pub(crate) fn read_span<T: ByteOrder>(bytes: &[u8], place: usize) -> Span
     }
 }
 
-/// The n rows of two tables, in their order.
+/// Reads the `n` rows of both tables, in their order.
 pub(crate) fn read_rows<T: ByteOrder>(
     alloc: Global,
     bytes: &[u8],

@@ -1,4 +1,4 @@
-//! One pass over the rows of a file whose strings meet no refusal, which is what most files are.
+//! A single pass that accepts most lawful files: it tests each row against all refusals of strings at once.
 ghost use Rattle.std.specs.Prelude.{◌≡◌, ⊤, length, IsTrue, MatchOption};
 ghost use Rattle.mo_file.specs.MoReading.{table_at, before_nul, HasLawfulForms, TableLies};
 ghost use Rattle.mo_file.specs.Rows.{AreSound};
@@ -11,7 +11,7 @@ use bstr::ByteSlice;
 use byteorder::ByteOrder;
 use mo_image::ROW_LEN;
 
-/// The key of an original, if it and its translation have lawful forms.
+/// Returns the key of an original, if it and its translation have lawful forms.
 fn lawful_key<'a>(original: &'a [u8], translation: &[u8]) -> Option<&'a [u8]>
     ensures { MatchOption result ⊤
         (λ key. (key.now ≡ before_nul original.now) × HasLawfulForms original.now translation.now) }
@@ -31,8 +31,8 @@ fn lawful_key<'a>(original: &'a [u8], translation: &[u8]) -> Option<&'a [u8]>
     }
 }
 
-/// Whether the strings of two tables are closed and pass all their tests. False says nothing: the file may stand
-/// in an order that one pass can't follow.
+/// Whether the strings of two tables are closed and pass all their tests. `false` says nothing: the strings may be in
+/// an order that a single pass can't follow.
 pub(crate) fn are_sound<T: ByteOrder>(
     bytes: &[u8],
     originals: usize,

@@ -1,4 +1,4 @@
-//! A part of a file that is UTF-8, by which the strings in it are seen to be so.
+//! Checks strings for UTF-8 by way of a part of the file that is known to be UTF-8.
 ghost use Rattle.std.specs.Prelude.{◌≡◌, ◌↔◌, ◌+◌, ◌-◌, ◌≤◌, length, slice_index, IsTrue, MatchOption};
 ghost use Rattle.std.specs.Str.{IsUtf8};
 ghost use Rattle.mo_file.specs.FileParts.{part, IsStretch, IsPart};
@@ -7,15 +7,15 @@ ghost use Rattle.mo_file.specs.Rows.{text_in, LiesIn};
 use crate::rows::Span;
 use simdutf8::basic::from_utf8;
 
-/// A part of a file that is UTF-8. A string in it is UTF-8 where it begins and ends between two characters,
-/// so strings that overlap are looked at once.
+/// A part of a file that is UTF-8. A string in it is UTF-8 if it begins and ends on character boundaries, so bytes that
+/// overlapping strings share are checked once.
 #[derive(Clone, Copy)]
 pub(crate) struct Stretch<'a> {
     start: usize,
     text: &'a str,
 }
 
-/// Whether the part of a text from `start` to `end` is UTF-8.
+/// Whether the part of a text from `start` to `end` is UTF-8: it is empty, or both ends are character boundaries.
 fn is_text(text: &str, start: usize, end: usize) -> bool
     requires { IsPart text.now start end }
     ensures { IsTrue result ↔ IsUtf8 (part text.now start end) }
@@ -24,7 +24,7 @@ fn is_text(text: &str, start: usize, end: usize) -> bool
 }
 
 impl<'a> Stretch<'a> {
-    /// All of a file from this place on, if it is UTF-8; else nothing of it.
+    /// Returns the rest of the file from `start` on if it is UTF-8, else an empty stretch.
     pub(crate) fn to_end(bytes: &'a [u8], start: usize) -> Stretch<'a>
         requires { start ≤ length bytes.now }
         ensures { IsStretch bytes.now result }
@@ -33,7 +33,7 @@ impl<'a> Stretch<'a> {
         Stretch { start, text }
     }
 
-    /// Whether a string that a NUL closes lies in the stretch, and so is UTF-8.
+    /// Whether a string lies in the stretch, is UTF-8 and is followed by a NUL.
     #[inline(always)]
     pub(crate) fn has(&self, bytes: &[u8], span: Span) -> bool
         requires stretch { IsStretch bytes.now self.now }
@@ -48,7 +48,7 @@ impl<'a> Stretch<'a> {
         self.text.is_char_boundary(start - self.start)
     }
 
-    /// The string from `start` to `end`, if it is UTF-8.
+    /// Returns the string from `start` to `end` as a stretch, if it is UTF-8.
     fn of(bytes: &'a [u8], start: usize, end: usize) -> Option<Stretch<'a>>
         requires { IsPart bytes.now start end }
         ensures { MatchOption result (¬ IsUtf8 (part bytes.now start end))
@@ -60,7 +60,8 @@ impl<'a> Stretch<'a> {
         }
     }
 
-    /// The same for a string that begins in the stretch and ends behind it, which grows by what is new.
+    /// Extends the stretch by a string that begins in it and ends past it, if that string is UTF-8. Only the new bytes
+    /// are checked.
     fn grown(self, bytes: &'a [u8], start: usize, end: usize) -> Option<Stretch<'a>>
         requires stretch { IsStretch bytes.now self }
         requires part { IsPart bytes.now start end }
@@ -80,7 +81,7 @@ impl<'a> Stretch<'a> {
         Some(Stretch { text, ..self })
     }
 
-    /// A stretch with the string from `start` to `end` in it, if that string is UTF-8.
+    /// Returns a stretch that holds the string from `start` to `end`, if that string is UTF-8.
     pub(crate) fn with(self, bytes: &'a [u8], start: usize, end: usize) -> Option<Stretch<'a>>
         requires stretch { IsStretch bytes.now self }
         requires part { IsPart bytes.now start end }

@@ -1,5 +1,5 @@
-//! The tests of the strings that the rows of two tables name. Each goes over all rows, in any order; where they
-//! stand by the places of their strings, each byte is looked at once.
+//! The tests of the strings that two tables name. Each scans all rows, in any order; if the rows are sorted by where
+//! their strings begin, each byte is looked at once.
 ghost use Rattle.std.specs.Prelude.{◌≡◌, ◌↔◌, ◌≤◌, ℕ, List, [], length, IsTrue, IfOk, MatchOption, All};
 ghost use Rattle.std.specs.List.{filter_map};
 ghost use Rattle.std.specs.Str.{IsUtf8};
@@ -11,7 +11,7 @@ use crate::rows::{Row, Span};
 use crate::stretch::Stretch;
 use std::alloc::{AllocError, Global};
 
-/// Whether the originals are UTF-8: a stretch that goes on from this one.
+/// Checks that all originals are UTF-8. Returns a stretch to go on from, or `None` if one isn't.
 pub(crate) fn originals_utf8<'a>(
     bytes: &'a [u8],
     stretch: Stretch<'a>,
@@ -33,7 +33,7 @@ pub(crate) fn originals_utf8<'a>(
     Some(stretch)
 }
 
-/// Whether the translations are UTF-8: a stretch that goes on from this one.
+/// Checks that all translations are UTF-8. Returns a stretch to go on from, or `None` if one isn't.
 pub(crate) fn translations_utf8<'a>(
     bytes: &'a [u8],
     stretch: Stretch<'a>,
@@ -55,18 +55,19 @@ pub(crate) fn translations_utf8<'a>(
     Some(stretch)
 }
 
-/// What is known of the bytes 4 and the NULs of a file.
+/// What is known of the separators (byte 4) and the NULs of a file.
 #[derive(Clone, Copy)]
 pub(crate) struct Separators {
-    /// Where no byte 4 stands.
+    /// A part that holds no byte 4.
     none: Gap,
-    /// Where the last key ends.
+    /// A part that holds no NUL; its end bounds the last key.
     key: Gap,
-    /// The bytes 4 of the last key that has one.
+    /// The first two bytes 4 of the last key that has one.
     places: Twice,
 }
 
 impl Separators {
+    /// Starts with nothing known.
     fn new() -> Separators
         ensures { KnowsSeparators [] result }
     {
@@ -77,7 +78,7 @@ impl Separators {
         }
     }
 
-    /// What is known once byte 4 was searched for from `start` up to `end`.
+    /// Searches for byte 4 from `start` up to `end`.
     pub(crate) fn searched(bytes: &[u8], start: usize, end: usize) -> Separators
         requires { IsPart bytes.now start end }
         ensures { KnowsSeparators bytes.now result }
@@ -88,7 +89,7 @@ impl Separators {
         }
     }
 
-    /// Whether it is known that no byte 4 stands from `start` to `end`.
+    /// Whether the part from `start` to `end` is known to hold no byte 4.
     #[inline(always)]
     pub(crate) fn lacks(&self, start: usize, end: usize) -> bool
         ensures { (bytes : List ℕ) → KnowsSeparators bytes self.now → IsPart bytes start end → IsTrue result
@@ -97,8 +98,7 @@ impl Separators {
         self.none.covers(start, end)
     }
 
-    /// What is known once the original from `start` to `end` was looked at; none where its key holds byte 4
-    /// twice or more.
+    /// Looks at the original from `start` to `end`. Returns `None` if its key holds byte 4 twice or more.
     pub(crate) fn after(self, bytes: &[u8], start: usize, end: usize) -> Option<Separators>
         requires known { KnowsSeparators bytes.now self }
         requires part { IsPart bytes.now start end }
@@ -120,7 +120,7 @@ impl Separators {
     }
 }
 
-/// Whether each key holds byte 4 once at most.
+/// Whether every key holds byte 4 at most once.
 pub(crate) fn keys_have_few_separators(bytes: &[u8], rows: &[Row]) -> bool
     requires { All (λ row. LiesIn bytes.now row.original) rows.now }
     ensures { IsTrue result ↔ All (λ row. HasFewSeparators (text_in bytes.now row.original)) rows.now }
@@ -135,7 +135,7 @@ pub(crate) fn keys_have_few_separators(bytes: &[u8], rows: &[Row]) -> bool
     true
 }
 
-/// The translations of the originals that have no plural; none where an original holds NUL twice or more.
+/// Returns the translations of the originals without a plural, or `None` if an original holds NUL twice or more.
 pub(crate) fn without_plural(
     alloc: Global,
     bytes: &[u8],
@@ -163,7 +163,7 @@ pub(crate) fn without_plural(
     Ok(Some(singular))
 }
 
-/// Whether strings have no NUL, and so one form each.
+/// Whether no string holds a NUL, so that each is a single form.
 pub(crate) fn have_one_form(bytes: &[u8], spans: &[Span]) -> bool
     requires { All (LiesIn bytes.now) spans.now }
     ensures { IsTrue result ↔ All (λ span. nuls (text_in bytes.now span) ≡ 0) spans.now }

@@ -1,4 +1,4 @@
-//! The tests of a table of strings, or of two. Each goes over the whole table.
+//! The tests of the strings of one or two tables. Each scans the whole table.
 ghost use Rattle.std.specs.Prelude.{◌≡◌, ◌↔◌, ◌^◌, ◌<◌, ◌≤◌, ◌*◌, length, IsTrue};
 ghost use Rattle.catalogue.specs.MoFile.{pool};
 ghost use Rattle.mo_file.specs.Tables.{strings};
@@ -10,7 +10,7 @@ use crate::texts::{before_nul, has_lawful_header, is_below};
 use byteorder::ByteOrder;
 use mo_image::{HEADER_LEN, MAX_LEN, ROW_LEN};
 
-/// Whether a table and its strings lie in the file.
+/// Whether a table and all its strings lie in the file.
 pub(crate) fn table_lies<T: ByteOrder>(bytes: &[u8], table: usize, n: usize) -> bool
     requires table { table < 2 ^ 32 }
     requires count { n < 2 ^ 32 }
@@ -30,7 +30,7 @@ pub(crate) fn table_lies<T: ByteOrder>(bytes: &[u8], table: usize, n: usize) -> 
     true
 }
 
-/// Whether a NUL stands behind each string of a table.
+/// Whether every string of a table is followed by a NUL.
 pub(crate) fn all_closed<T: ByteOrder>(bytes: &[u8], table: usize, n: usize) -> bool
     requires { TableLies (table_at T.number_of bytes.now table n) }
     ensures { IsTrue result ↔ AllClosed (table_at T.number_of bytes.now table n) }
@@ -43,7 +43,7 @@ pub(crate) fn all_closed<T: ByteOrder>(bytes: &[u8], table: usize, n: usize) -> 
     true
 }
 
-/// Whether each key is above the one before.
+/// Whether each key is above the one before it, by bytes.
 pub(crate) fn keys_rise<T: ByteOrder>(bytes: &[u8], table: usize, n: usize) -> bool
     requires { TableLies (table_at T.number_of bytes.now table n) }
     ensures { IsTrue result ↔ KeysRise (table_at T.number_of bytes.now table n) }
@@ -62,7 +62,7 @@ pub(crate) fn keys_rise<T: ByteOrder>(bytes: &[u8], table: usize, n: usize) -> b
     true
 }
 
-/// Whether the header, if there is one, has a lawful charset.
+/// Whether the header, if there is one, names an accepted charset or none.
 pub(crate) fn have_lawful_headers<T: ByteOrder>(
     bytes: &[u8],
     originals: usize,
@@ -85,7 +85,7 @@ pub(crate) fn have_lawful_headers<T: ByteOrder>(
     true
 }
 
-/// How many bytes the strings of a table take where each is written once, with its NUL.
+/// Returns the number of bytes that the strings of a table take if each is written once, with its NUL.
 fn pool_len<T: ByteOrder>(bytes: &[u8], table: usize, n: usize) -> usize
     requires short { length bytes.now ≤ 268435456 }
     requires lies { TableLies (table_at T.number_of bytes.now table n) }
@@ -100,7 +100,7 @@ fn pool_len<T: ByteOrder>(bytes: &[u8], table: usize, n: usize) -> usize
     len
 }
 
-/// Whether the file that is written of the strings isn't too large.
+/// Whether the file that would be written of the strings has at most `MAX_LEN` bytes.
 pub(crate) fn fits<T: ByteOrder>(
     bytes: &[u8],
     originals: usize,

@@ -10,7 +10,7 @@ use bstr::ByteSlice;
 use po_header::has_accepted_charset;
 use std::cmp::Ordering;
 
-/// What stands before the first NUL: an original's key, a translation's first form.
+/// Returns what precedes the first NUL: the key of an original, or the first form of a translation.
 pub(crate) fn before_nul(text: &[u8]) -> &[u8]
     ensures { result.now ≡ before_nul text.now }
 {
@@ -18,14 +18,14 @@ pub(crate) fn before_nul(text: &[u8]) -> &[u8]
     &text[..len]
 }
 
-/// Whether one key is below another, by bytes.
+/// Whether `key` is below `other`, by bytes.
 pub(crate) fn is_below(key: &[u8], other: &[u8]) -> bool
     ensures { IsTrue result ↔ (slice_cmp nat_cmp key.now other.now ≡ Less) }
 {
     key.cmp(other) == Ordering::Less
 }
 
-/// Whether the key of an original is empty.
+/// Whether the key of an original is empty, as that of the header is.
 fn has_empty_key(original: &[u8]) -> bool
     ensures { IsTrue result ↔ (before_nul original.now ≡ []) }
 {
@@ -35,7 +35,7 @@ fn has_empty_key(original: &[u8]) -> bool
     }
 }
 
-/// Whether this is another entry than the header, or one with a lawful charset.
+/// Whether this isn't the header, or the header names an accepted charset or none.
 pub(crate) fn has_lawful_header(original: &[u8], translation: &[u8]) -> bool
     requires { IsUtf8 (before_nul translation.now) }
     ensures { IsTrue result ↔ HasLawfulHeader original.now translation.now }

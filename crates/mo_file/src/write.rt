@@ -1,4 +1,4 @@
-//! The writing of MO files.
+//! Writing MO files.
 ghost use Rattle.std.specs.Prelude.{◌≡◌, IfOk};
 ghost use Rattle.catalogue.specs.Map.{IsLawful};
 ghost use Rattle.catalogue.specs.MoFile.{spelling};
@@ -6,13 +6,12 @@ ghost use Rattle.catalogue.specs.MoFile.{spelling};
 use catalogue::Catalogue;
 use std::alloc::{AllocError, Global};
 
-/// The one MO file of a catalogue: revision 0, words low byte first, no hash table and no padding
-/// (GNU gettext manual, "MO Files"). It is one copy of the file that the
-/// catalogue keeps. It is an error only that memory was refused.
+/// Returns the one MO file of a catalogue: revision 0, little-endian, no hash table and no padding (GNU gettext manual,
+/// "MO Files"). It is a copy of the file that the catalogue keeps. The only error is a failed allocation.
 pub fn write_mo(alloc: Global, catalogue: &Catalogue) -> Result<Vec<u8>, AllocError>
     ensures file { IfOk result (λ v. v.items ≡ spelling catalogue.now) }
 
-    // Every catalogue stands for a lawful map.
+    // Every catalogue represents a lawful map.
     ensures lawful { IsLawful catalogue.now }
 {
     let file = catalogue.file();

@@ -1,4 +1,4 @@
--- Texts with the NUL behind them: in a file, and the forms of an entry.
+-- Texts with the NUL after them: in a file, and the forms of an entry.
 use Rattle.std.proofs.Common.{◌≡◌, ℕ, zero, suc, ◌+◌, ◌-◌, ◌<◌, List, [], ◌∷◌, ◌++◌, length, take, drop, get_or, eqb}
 use Rattle.std.proofs.Common.{Option, Some, None, slice_get, refl, sym, ap, ◌∙◌, subst, arith, append_assoc}
 use Rattle.std.specs.Prelude.{IfSome, slice_index, ◌==◌}
@@ -23,7 +23,7 @@ use Rattle.mo_image.proofs.EntryParts.{cut-some}
 use Rattle.mo_image.proofs.Extents.{piece_held}
 use Rattle.mo_image.proofs.Originals.{nul_utf8}
 
--- what is read of a file to and with the NUL
+-- the part of a file up to and including the NUL
 pub closed_piece : (bytes : List ℕ) (extent : Extent) → HoldsClosed bytes extent
     → take (extent.start + extent.len + 1 - extent.start) (drop extent.start bytes) ≡ closed (piece bytes extent)
 closed_piece bytes extent h =
@@ -49,7 +49,7 @@ closed_held bytes place extent h text nul = record {
   nul = rw (h.len, h.start) nul;
 }
 
--- a form, and the NUL where it is cut
+-- a form and the NUL after it
 pub closed_front : (text form others : List ℕ) → IsCut 0 text form others → take (length form + 1) text ≡ closed form
 closed_front text form others at =
     let p : ℕ = place_of 0 text in
@@ -58,7 +58,7 @@ closed_front text form others at =
     ap (λ (n : ℕ). take (n + 1) text) len ∙ take_more text p 0 at.within
     ∙ ap (λ (b : ℕ). take p text ++ (b ∷ [])) nul ∙ ap closed (sym at.front_is)
 
--- forms with NUL between them and one behind are forms with a NUL behind each
+-- forms with NUL between them and one more at the end are forms each with a NUL after it
 closed_joined : (forms : List (List ℕ)) → 0 < length forms → closed (join_with_byte 0 forms) ≡ pool forms
 closed_joined [] some = absurd (omega arith)
 closed_joined (f ∷ []) some = sym (append-nil-of (closed f))
@@ -75,7 +75,7 @@ pub closed_forms : (t : List ℕ) → closed t ≡ pool (slice_split (λ b. b ==
 closed_forms t = ap closed (sym (join_with_byte-slice_split 0 t))
     ∙ closed_joined (slice_split (λ b. eqb b 0) t) (omega (arith, length-slice_split (λ b. eqb b 0) t))
 
--- the form at k, cut from what is left when those before it were taken
+-- the form at k, cut from what is left once those before it have been taken
 pub record IsCutAt (forms : List (List ℕ)) (k : ℕ) (form : List ℕ) : Type 0 where
   pub found : slice_get forms k ≡ Some form
   pub split : cut 0 (pool (drop k forms)) ≡ Some (form, pool (drop (k + 1) forms))

@@ -1,4 +1,4 @@
--- A lawful entry is what its key, its plural and its translation say.
+-- A lawful entry is determined by its key, its plural and its translation.
 use Rattle.std.proofs.Common.{rules, append_assoc, ◌≡◌, ℕ, zero, suc, ◌+◌, ◌<◌, Bool, true, false, eqb, ltb, List, []}
 use Rattle.std.proofs.Common.{◌∷◌, ◌++◌, length, take, drop, get_or, Option, Some, None, refl, sym, ap, ◌∙◌, arith}
 use Rattle.std.proofs.Common.{length-append}
@@ -53,7 +53,7 @@ cut-some byte a b lacks =
     ∙ past byte a b in
     rw (inside, before, after) refl
 
--- the forms, joined and cut again
+-- the forms, joined and split again
 pub split_joined : (forms : List (List ℕ)) → 0 < length forms → AllByRecursion (LacksByte 0) forms
     → slice_split (λ b. eqb b 0) (join_with_byte 0 forms) ≡ forms
 split_joined [] some lack = absurd (omega arith)

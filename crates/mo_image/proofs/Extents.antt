@@ -1,4 +1,4 @@
--- The texts that lie where the rows of a table say.
+-- The texts that the rows of a table name.
 use Rattle.std.proofs.Common.{◌≡◌, ℕ, List, refl, sym, subst, arith}
 use Rattle.std.specs.Str.{IsUtf8}
 use Rattle.byteorder.specs.Endian.{little_number}

@@ -1,4 +1,4 @@
--- What the tables of a map's file name.
+-- The strings that the tables of a map's file name.
 use Rattle.std.proofs.Common.{◌≡◌, ℕ, zero, suc, ◌+◌, ◌*◌, ◌^◌, lit<, ◌<◌, ◌≤◌, List, [], ◌∷◌, ◌++◌, length, map, take}
 use Rattle.std.proofs.Common.{drop, get_or, Some, slice_get, refl, sym, ap, ◌∙◌, subst, arith, append_assoc}
 use Rattle.std.proofs.Common.{length-append}
@@ -15,21 +15,21 @@ word_read : (n : ℕ) (rest : List ℕ) → n < 2 ^ 32 → little_number 4 (word
 unfolding word
 word_read n rest small = little_number-reads_back 4 n rest small
 
--- the word behind pre
+-- the word after pre
 word_behind : (bytes pre rest : List ℕ) (n place : ℕ) → bytes ≡ pre ++ (word n ++ rest) → length pre ≡ place
     → n < 2 ^ 32 → word_at little_number bytes place ≡ n
 word_behind bytes pre rest n place split len small =
     ap (word_at little_number bytes) (sym len) ∙ ap (λ (b : List ℕ). little_number 4 (drop (length pre) b)) split
     ∙ ap (little_number 4) (drop_at pre (word n ++ rest) (length pre) refl) ∙ word_read n rest small
 
--- the bytes behind pre
+-- the bytes after pre
 part_behind : (bytes pre s rest : List ℕ) (place : ℕ) → bytes ≡ pre ++ (s ++ rest) → length pre ≡ place
     → take (length s) (drop place bytes) ≡ s
 part_behind bytes pre s rest place split len =
     ap (λ (b : List ℕ). take (length s) (drop place b)) split ∙ ap (take (length s)) (drop_at pre (s ++ rest) place len)
     ∙ take_at s rest (length s) refl
 
--- the row at this place names s, which lies in the file with a NUL behind it
+-- the row at this place names s, which lies in the file followed by a NUL
 pub record Names (bytes : List ℕ) (place : ℕ) (s : List ℕ) : Type 0 where
   pub row : place + 8 ≤ length bytes
   pub lies : word_at little_number bytes (place + 4) + word_at little_number bytes place < length bytes
@@ -56,7 +56,7 @@ named_at bytes place (t ∷ ss) zero s named e = let same : t ≡ s = cc in subs
 named_at bytes place (t ∷ ss) (suc i) s named e = subst (λ (n : ℕ). Names bytes n s) (omega arith)
     (named_at bytes (place + 8) ss i s named.1 e)
 
--- rows, and the strings that they name, with anything before, between and behind
+-- rows and the strings that they name, with anything before, between and after
 laid_out : (bytes : List ℕ) (ss : List (List ℕ)) (pre mid post : List ℕ) (at place : ℕ) → bytes ≡ pre
     ++ (pairs at ss ++ (mid ++ (pool ss ++ post))) → length pre ≡ place
     → at ≡ place + length (pairs at ss) + length mid → length bytes < 2 ^ 32 → AllNamed bytes place ss
@@ -105,7 +105,7 @@ laid_out bytes (s ∷ ss) pre mid post at place split len start small =
           )) small,
     )
 
--- what the header's words say, and that the tables name the strings
+-- the header's words say what they should, and the tables name the strings
 pub record Describes (bytes : List ℕ) (n : ℕ) (os ts : List (List ℕ)) : Type 0 where
   pub long : 28 + 16 * n ≤ length bytes
   pub magic : word_at little_number bytes 0 ≡ 0x950412de

@@ -1,4 +1,4 @@
--- A translation cut into its forms, one after another.
+-- A translation split into its forms, one after another.
 use Rattle.std.proofs.Common.{◌≡◌, ℕ, zero, suc, ◌+◌, ◌<◌, Bool, true, false, cond, not, List, [], ◌∷◌, length, drop}
 use Rattle.std.proofs.Common.{Some, refl, sym, ap, ◌∙◌, arith}
 use Rattle.std.specs.Prelude.{◌==◌, slice_get}
@@ -28,7 +28,7 @@ cut_none (x ∷ text) e = of (is_nul x) refl (λ h. cut_none text h)
         (arith, sym (ap (λ b. cond (not b) (1 + position_or_len is_nul text) 0) is) ∙ e) in
         rw is (ap (onto_first x) (rest same))
 
--- the form at k, when those before it were taken
+-- the form at k, once those before it have been taken
 pub next_form : (forms left rest : List (List ℕ)) (k : ℕ) (form : List ℕ) → left ≡ drop k forms → left ≡ form ∷ rest
     → rest ≡ drop (k + 1) forms
 next_form [] left rest k form at split = absurd (omega (
@@ -52,7 +52,7 @@ form_at (f ∷ forms) left rest (suc k) form at split = form_at forms left rest 
 pub some_left : (forms left : List (List ℕ)) (k : ℕ) → left ≡ drop k forms → k < length forms → left ≡ [] → ⊥
 some_left forms left k at within none = omega (arith, ap length (sym at ∙ none), length-drop k forms)
 
--- one part more than there are places where it is cut
+-- a text has one part more than places where it is cut
 pub form_count_is : (text : List ℕ) (forms : List (List ℕ)) (n : ℕ) → n ≡ count_by is_nul text → forms
     ≡ slice_split is_nul text → n + 1 ≡ length forms
 form_count_is text forms n counted are = omega (arith, counted, ap length are, length-slice_split is_nul text)

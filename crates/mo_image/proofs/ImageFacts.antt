@@ -1,4 +1,4 @@
--- What stands in the MO file of a lawful map.
+-- What the MO file of a lawful map holds.
 use Rattle.std.proofs.Common.{◌≡◌, ℕ, zero, suc, ◌+◌, ◌*◌, ◌<◌, ◌≤◌, List, [], ◌∷◌, length, map, Some, slice_get, refl}
 use Rattle.std.proofs.Common.{sym, ap, ◌∙◌, subst, arith, drop}
 use Rattle.std.specs.Prelude.{IfSome, Option, slice_index}
@@ -95,7 +95,7 @@ string_small bytes place text small =
       length-take-le n (drop start bytes) (omega (arith, length-drop start bytes, text.room)),
     )
 
--- the key in front of an original's NUL is that of the entry
+-- the key before an original's NUL is that of the entry
 pub key_found : (bytes : List ℕ) (i : ℕ) (k : List ℕ) → IsImage bytes → i < length (listing bytes) → k
     ≡ key_part (string_at little_number bytes (28 + 8 * i)) → IfSome (slice_get (listing bytes) i) (λ e. k ≡ key e)
 key_found bytes i k image lt is =

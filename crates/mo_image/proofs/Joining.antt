@@ -28,7 +28,7 @@ first_form : (forms : List (List ℕ)) (form : List ℕ) → slice_get forms 0 �
 first_form [] form at = absurd cc
 first_form (f ∷ forms) form at = let same : f ≡ form = cc in sym same
 
--- behind what stood there
+-- after what was there before
 pub joined_none : (start : List ℕ) (forms : List (List ℕ)) → start ≡ start ++ join_with_byte 0 (take 0 forms)
 joined_none start forms = sym (append-nil start)
 

@@ -1,4 +1,4 @@
--- A key cut at its EOT and joined again is the key; keys compared part by part.
+-- A key split at its EOT and joined again is the key, and keys can be compared part by part.
 use Rattle.std.proofs.Common.{◌≡◌, ℕ, ◌+◌, ◌<◌, ◌≤◌, Bool, true, false, cond, eqb, ltb, List, [], ◌∷◌, ◌++◌, length}
 use Rattle.std.proofs.Common.{get_or, take, drop, Option, Some, None, Ordering, refl, sym, ap, ◌∙◌, arith}
 use Rattle.std.specs.Prelude.{option_map}
@@ -28,7 +28,7 @@ rejoined_by k false e = refl
 pub rejoined : (k : List ℕ) → key_bytes (option_map (λ p. p.0) (cut 4 k)) (behind k (cut 4 k)) ≡ k
 rejoined k = rejoined_by k (ltb (position_or_len (λ b. eqb b 4) k) (length k)) refl
 
--- ---- lists side by side, part by part
+-- ---- comparing lists part by part
 
 pub then_assoc : (a b c : Ordering) → ordering_then (ordering_then a b) c ≡ ordering_then a (ordering_then b c)
 then_assoc Less b c = refl
@@ -43,7 +43,7 @@ cmp-append (a ∷ xs) [] x y e = absurd (omega (arith, e))
 cmp-append (a ∷ xs) (b ∷ bs) x y e = ap (ordering_then (nat_cmp a b)) (cmp-append xs bs x y (omega (arith, e)))
     ∙ sym (then_assoc (nat_cmp a b) (slice_cmp nat_cmp xs bs) (slice_cmp nat_cmp x y))
 
--- a list that is no longer than b, beside b with more behind
+-- compares a list that is no longer than b with b and more after it
 pub cmp_shorter : (a b : List ℕ) (y : ℕ) (ys : List ℕ) → length a ≤ length b → slice_cmp nat_cmp a (b ++ (y ∷ ys))
     ≡ ordering_then (slice_cmp nat_cmp a b) Less
 cmp_shorter [] [] y ys le = refl
@@ -52,7 +52,7 @@ cmp_shorter (a ∷ xs) [] y ys le = absurd (omega (arith, le))
 cmp_shorter (a ∷ xs) (b ∷ bs) y ys le = ap (ordering_then (nat_cmp a b)) (cmp_shorter xs bs y ys (omega (arith, le)))
     ∙ sym (then_assoc (nat_cmp a b) (slice_cmp nat_cmp xs bs) Less)
 
--- a key that is longer than the context, part by part
+-- compares a key that is longer than the context, part by part
 pub cmp_parts : (stored context id rest : List ℕ) (a b d t u : Ordering) → length context < length stored → rest
     ≡ drop (length context + 1) stored → a ≡ slice_cmp nat_cmp (take (length context) stored) context → b
     ≡ nat_cmp (get_or stored (length context) 0) 4 → d ≡ slice_cmp nat_cmp rest id → t ≡ ordering_then a b → u

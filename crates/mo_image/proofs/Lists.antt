@@ -1,4 +1,4 @@
--- What std lacks on numbers, and on a list at a place.
+-- Lemmas that std lacks, about numbers and about a list at an index.
 use Rattle.std.proofs.Common.{◌≡◌, ◌≢◌, true, false, eqb, ℕ, zero, suc, ◌<◌, List, [], ◌∷◌, length, map, get_or, Some}
 use Rattle.std.proofs.Common.{slice_get, refl, sym, ap, ◌∙◌, subst, arith}
 use Rattle.std.specs.List.{AllByRecursion}
@@ -16,14 +16,14 @@ slice_get-map f [] i x e = absurd cc
 slice_get-map f (y ∷ ys) zero x e = let same : y ≡ x = cc in ap (λ z. Some (f z)) same
 slice_get-map f (y ∷ ys) (suc i) x e = slice_get-map f ys i x e
 
--- the image of the element that was read at i
+-- the image of the element at i
 pub image_at : {X Y : Type 0} (f : X → Y) (xs : List X) (i : ℕ) (x : X) → i < length (map f xs) → x ≡ get_or xs i x
     → slice_get (map f xs) i ≡ Some (f x)
 image_at f xs i x lt read =
     let short : i < length xs = omega (arith, length-map xs f) in
     slice_get_read (map f xs) (length (map f xs)) i (f x) refl lt (ap f read ∙ sym (get_or-map f xs i x (f x) short))
 
--- what holds of each holds of the one at i
+-- what holds for each element holds for the one at i
 pub at_place : {X : Type 0} (P : X → Type 0) (xs : List X) (i : ℕ) (x : X) → AllByRecursion P xs → slice_get xs i
     ≡ Some x → P x
 at_place P [] i x each e = absurd cc

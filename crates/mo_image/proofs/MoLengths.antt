@@ -1,4 +1,4 @@
--- How long the parts of an MO file are.
+-- The lengths of the parts of an MO file.
 use Rattle.std.proofs.Common.{◌≡◌, ℕ, ◌+◌, ◌*◌, ◌<◌, List, [], ◌∷◌, ◌++◌, length, map, refl, sym, ap, ◌∙◌, arith}
 use Rattle.std.proofs.Common.{append_assoc, length-append}
 use Rattle.std.specs.List.{join_with_byte}
@@ -9,7 +9,7 @@ use Rattle.mo_image.specs.MoFile.{word, pairs, closed, pool, header, file, spell
 pub length-closed : (s : List ℕ) → length (closed s) ≡ length s + 1
 length-closed s = length-append s (0 ∷ [])
 
--- the forms joined and closed are the forms, each closed
+-- the joined forms with a NUL after them are the forms, each with its NUL
 pub closed_joined : (forms : List (List ℕ)) → 0 < length forms → closed (join_with_byte 0 forms) ≡ pool forms
 closed_joined [] some = absurd (omega arith)
 closed_joined (f ∷ []) some = sym (append-nil (closed f))

@@ -1,4 +1,4 @@
--- An original and a translation are what a lawful entry says, and the other way round.
+-- An original and a translation determine a lawful entry, and a lawful entry determines them.
 use denote.Ref.{Bor}
 use Rattle.std.proofs.Common.{◌≡◌, ◌≢◌, ℕ, zero, suc, ◌+◌, ◌<◌, ◌≤◌, Bool, true, false, cond, not, eqb, ltb, List, []}
 use Rattle.std.proofs.Common.{◌∷◌, ◌++◌, length, get_or, map, Option, Some, None, Ordering, refl, sym, ap, ◌∙◌, subst}
@@ -37,7 +37,7 @@ holds byte text = ltb (place byte text) (length text)
 abbrev cut_at : ℕ → List ℕ → Bool → Option (List ℕ × List ℕ)
 cut_at byte text test = cond test (Some (before_first (is byte) text, after_first (is byte) text)) None
 
--- the part in front of the cut, or the whole
+-- the part before the cut, or the whole
 abbrev front : List ℕ → Option (List ℕ × List ℕ) → List ℕ
 front text None = text
 front text (Some p) = p.0
@@ -142,12 +142,12 @@ original_utf8 e lawful = plural_utf8 (key e) e.plural (key_utf8 e.context e.id l
 pub translation_utf8 : (e : Entry) → IsLawfulEntry e → IsUtf8 (translation e)
 translation_utf8 e lawful = forms_utf8 e.forms lawful.forms
 
--- ---- an original beside a msgid
+-- ---- comparing an original with a msgid
 
 pub parts_again : (o : List ℕ) → with_plural (key_part o) (plural_part o) ≡ o
 parts_again o = plural_again_by o (holds 0 o) refl
 
--- what isn't cut at a byte has none
+-- a text that can't be cut at a byte lacks it
 pub lacks_from : (byte : ℕ) (text : List ℕ) → length text ≤ place byte text → LacksByte byte text
 lacks_from byte [] le = tt
 lacks_from byte (x ∷ xs) le = of (is byte x) refl (λ h. lacks_from byte xs h)
@@ -189,7 +189,7 @@ nul_below zero some = absurd (some refl)
 nul_below (suc b) some = ap (λ (t : Bool). cond t Less (cond (eqb 0 (suc b)) Equal Greater))
     (lt-ltb 0 (suc b) (omega arith))
 
--- a plural behind a key changes the order beside no other key
+-- a plural after a key doesn't change how the key compares with any other msgid
 cmp_with_plural : (k plural a : List ℕ) → LacksByte 0 a → k ≢ a → slice_cmp nat_cmp (k ++ (0 ∷ plural)) a
     ≡ slice_cmp nat_cmp k a
 cmp_with_plural [] plural [] lacks differ = absurd (differ refl)

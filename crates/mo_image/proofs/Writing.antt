@@ -36,7 +36,7 @@ module _ (side : Side) (m : List Entry) (i : ℕ) (e : Entry) (found : slice_get
       ≡ (word (length (string_of side e)) ++ word at) ++ pairs (at + length (string_of side e) + 1) (left (i + 1))
   pairs_split at = ap (pairs at) strings_split
 
--- one more piece was written
+-- one more part has been written
 pub piece_written : (out rest all more a b : List ℕ) → out ++ rest ≡ all → rest ≡ a ++ b → more ≡ out ++ a → more ++ b
     ≡ all
 piece_written out rest all more a b so_far split grown =

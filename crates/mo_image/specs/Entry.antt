@@ -1,18 +1,18 @@
--- One entry of a catalogue, by its texts, and the two strings that an MO file has of it (GNU gettext manual, "MO
+-- An entry of a catalogue, by its texts, and the two strings that an MO file has of it (GNU gettext manual, "MO
 -- Files").
 use Rattle.std.specs.Prelude.{◌≡◌, ◌≢◌, ℕ, ◌<◌, List, ◌∷◌, ◌++◌, length, Option, Some, None, IfSome}
 use Rattle.std.specs.List.{AllByRecursion, join_with_byte}
 use Rattle.std.specs.Str.{IsUtf8}
 
--- a message: its context or none, msgid, msgid_plural or none, and forms
+-- a message: its context (if any), msgid, msgid_plural (if any) and forms
 pub record Entry : Type 0 where
   pub context : Option (List ℕ)
   pub id : List ℕ
   pub plural : Option (List ℕ)
   pub forms : List (List ℕ)
 
--- the key's bytes: the msgid, behind its context and EOT (byte 4) where it has one
--- (GNU gettext manual, "MO Files": contexts)
+-- the key: the msgid or, if there is a context, the context, EOT (byte 4) and the msgid (GNU gettext manual, "MO
+-- Files": contexts)
 abbrev pub key_bytes : Option (List ℕ) → List ℕ → List ℕ
 key_bytes None id = id
 key_bytes (Some context) id = context ++ (4 ∷ id)
@@ -20,8 +20,8 @@ key_bytes (Some context) id = context ++ (4 ∷ id)
 abbrev pub key : Entry → List ℕ
 key e = key_bytes e.context e.id
 
--- the original: the key's bytes, and behind NUL the msgid_plural where there is one
--- (GNU gettext manual, "MO Files": plural forms)
+-- the original: the key, followed by NUL and the msgid_plural if there is one (GNU gettext manual, "MO Files": plural
+-- forms)
 abbrev pub with_plural : List ℕ → Option (List ℕ) → List ℕ
 with_plural k None = k
 with_plural k (Some plural) = k ++ (0 ∷ plural)
@@ -29,25 +29,25 @@ with_plural k (Some plural) = k ++ (0 ∷ plural)
 abbrev pub original : Entry → List ℕ
 original e = with_plural (key e) e.plural
 
--- the translation: the forms, NUL between them
+-- the translation: the forms, with NUL between them
 abbrev pub translation : Entry → List ℕ
 translation e = join_with_byte 0 e.forms
 
 abbrev pub LacksByte : ℕ → List ℕ → Type 0
 LacksByte byte text = AllByRecursion (λ b. b ≢ byte) text
 
--- what any text of a catalogue may say: UTF-8 without NUL, which closes strings in MO files
+-- a lawful text: UTF-8 without NUL, which ends strings in MO files
 pub record IsText (text : List ℕ) : Type 0 where
   pub utf8 : IsUtf8 text
   pub no_nul : LacksByte 0 text
 
--- what a context or a msgid may say: nor EOT, which parts the two in a key
+-- a lawful context or msgid: a lawful text without EOT, which separates the two in a key
 pub record IsKeyText (text : List ℕ) : Type 0 where
   pub utf8 : IsUtf8 text
   pub no_nul : LacksByte 0 text
   pub no_separator : LacksByte 4 text
 
--- one form at least, and just one without a plural
+-- at least one form, and exactly one without a plural
 abbrev pub HasForms : Option (List ℕ) → List (List ℕ) → Type 0
 HasForms None forms = length forms ≡ 1
 HasForms (Some plural) forms = 0 < length forms

@@ -15,13 +15,13 @@ pub record HoldsPiece (bytes : List ℕ) (extent : Extent) : Type 0 where
   pub room : extent.start + extent.len ≤ length bytes
   pub utf8 : IsUtf8 (piece bytes extent)
 
--- a NUL stands behind the bytes of an extent
+-- the bytes of an extent are followed by a NUL
 pub record HoldsClosed (bytes : List ℕ) (extent : Extent) : Type 0 where
   pub piece : HoldsPiece bytes extent
   pub room : extent.start + extent.len < length bytes
   pub nul : slice_index bytes (extent.start + extent.len) ≡ 0
 
--- an extent is what the row of a table at this place says
+-- the extent has the length and the offset that the row at this place holds
 pub record IsNamedAt (bytes : List ℕ) (place : ℕ) (extent : Extent) : Type 0 where
   pub len : extent.len ≡ word_at little_number bytes place
   pub start : extent.start ≡ word_at little_number bytes (place + 4)
@@ -33,6 +33,6 @@ pub record AreExtentsOf (bytes : List ℕ) (n i : ℕ) (extents : EntryExtents) 
   pub translation : IsNamedAt bytes (28 + 8 * n + 8 * i) extents.translation
   pub key_len : extents.key_len ≡ place_of 0 (string_at little_number bytes (28 + 8 * i))
 
--- those of one of the n entries
+-- the extents of the strings of one of the n entries
 abbrev pub AreExtents : List ℕ → ℕ → EntryExtents → Type 0
 AreExtents bytes n extents = (i : ℕ) × AreExtentsOf bytes n i extents

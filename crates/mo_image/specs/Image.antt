@@ -1,4 +1,4 @@
--- Private: a list of bytes that is the MO file of the entries that its own tables name.
+-- Private: bytes that are the MO file of the entries that its own tables name.
 use Rattle.std.specs.Prelude.{◌≡◌, ℕ, ◌+◌, ◌*◌, ◌<◌, ◌≤◌, List, length}
 use Rattle.std.specs.Str.{IsUtf8}
 use Rattle.byteorder.specs.Endian.{little_number}
@@ -17,7 +17,7 @@ pub record IsImage (bytes : List ℕ) : Type 0 where
   pub lawful : IsLawful (listing bytes)
   pub spelt : bytes ≡ spelling (listing bytes)
 
--- the row at this place names a text that lies in the bytes
+-- the row at this place lies in the bytes, and so does the text that it names, with one more byte after it
 pub record NamesText (bytes : List ℕ) (place : ℕ) : Type 0 where
   pub row : place + 8 ≤ length bytes
   pub room : word_at little_number bytes (place + 4) + word_at little_number bytes place < length bytes

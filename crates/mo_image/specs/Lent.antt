@@ -1,4 +1,4 @@
--- Private: the strings that an entry lends, the length of its key, and its translation with the NUL behind it.
+-- Private: the strings that an entry borrows, the length of its key, and its translation with the NUL after it.
 use Rattle.std.specs.Prelude.{◌≡◌, ℕ, ◌<◌, ◌==◌, List, length, slice_get, IfSome}
 use Rattle.std.specs.List.{AllByRecursion, slice_split}
 use Rattle.text_cut.specs.Cut.{place_of}
@@ -6,18 +6,18 @@ use Rattle.mo_image.specs.Entry.{IsLawfulEntry, LacksByte}
 use Rattle.mo_image.specs.MoFile.{closed}
 use Rattle.mo_image.specs.Pairs.{entry_of}
 
--- an original with the length of its key, a translation, and the same with its NUL
+-- an original with the length of its key, and a translation, without and with the NUL after it
 pub record IsLent (o : List ℕ) (n : ℕ) (t c : List ℕ) : Type 0 where
   pub lawful : IsLawfulEntry (entry_of o t)
   pub key_len : n ≡ place_of 0 o
   pub closed : c ≡ closed t
 
--- a form with its NUL, and what is behind it
+-- a form with its NUL, and the rest
 pub record IsClosedCut (parts : List ℕ × List ℕ) (front behind : List ℕ) : Type 0 where
   pub form : front ≡ closed parts.0
   pub others : behind ≡ parts.1
 
--- of the forms of a translation, which stand here with its NUL, the form at k with its NUL
+-- given a translation with its NUL, the text is the form at k with its NUL
 abbrev pub IsClosedFormOf : List ℕ → ℕ → List ℕ → Type 0
 IsClosedFormOf forms k text = (t : List ℕ) → forms ≡ closed t
     → AllByRecursion (LacksByte 0) (slice_split (λ b. b == 0) t)

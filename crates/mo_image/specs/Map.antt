@@ -1,5 +1,5 @@
--- A map from keys to entries, as the list of its entries in rising order of their keys' bytes (GNU gettext manual,
--- "MO Files").
+-- A map from keys to entries, as the list of its entries in rising order of their keys (GNU gettext manual, "MO
+-- Files").
 use Rattle.std.specs.Prelude.{◌≡◌, ℕ, ◌≤◌, List, [], ◌∷◌, length, map, ⊤, Option, option_map, IfSome}
 use Rattle.std.specs.List.{AllByRecursion, find}
 use Rattle.std.specs.Ordering.{nat_cmp}
@@ -10,18 +10,18 @@ pub use Rattle.po_header.specs.Charset.{HasAcceptedCharset}
 use Rattle.mo_image.specs.Entry.{Entry, key, IsLawfulEntry}
 use Rattle.mo_image.specs.MoFile.{spelling}
 
--- each key is above the one before, byte by byte
+-- each key is above the one before it, byte by byte
 abbrev pub Rises : List (List ℕ) → Type 0
 Rises [] = ⊤
 Rises (k ∷ []) = ⊤
 Rises (k ∷ l ∷ ks) = (slice_cmp nat_cmp k l ≡ Less) × Rises (l ∷ ks)
 
--- the first of the forms
+-- the first form, or the empty text if there is none
 abbrev pub first_form : List (List ℕ) → List ℕ
 first_form [] = []
 first_form (form ∷ forms) = form
 
--- the entry with these key bytes
+-- the entry with this key, if there is one
 abbrev pub entry_at : List Entry → List ℕ → Option Entry
 entry_at m k = find (λ e. bytes_eq (key e) k) m
 
@@ -30,7 +30,7 @@ entry_at m k = find (λ e. bytes_eq (key e) k) m
 abbrev pub header_text : List Entry → Option (List ℕ)
 header_text m = option_map (λ e. first_form e.forms) (entry_at m [])
 
--- what every catalogue stands for; its MO file has at most 268,435,456 bytes
+-- what every catalogue represents; its MO file has at most 268,435,456 bytes
 pub record IsLawful (m : List Entry) : Type 0 where
   pub rises : Rises (map key m)
   pub each : AllByRecursion IsLawfulEntry m

@@ -1,16 +1,15 @@
--- The one MO file that is written of a map: revision 0, no hash table, the words low byte first (GNU gettext manual,
--- "MO Files").
+-- The one MO file that is written of a map: revision 0, little-endian, no hash table (GNU gettext manual, "MO Files").
 use Rattle.std.specs.Prelude.{ℕ, ◌+◌, ◌*◌, List, [], ◌∷◌, ◌++◌, length, map}
 use Rattle.std.specs.List.{flat_map}
 use Rattle.byteorder.specs.Endian.{little_bytes}
 use Rattle.mo_image.specs.Entry.{Entry, original, translation}
 
--- a word of 32 bits
+-- a little-endian word of 32 bits
 unfoldable pub word : ℕ → List ℕ
 word n = little_bytes 4 n
 
--- a table: length and offset of each string, where the strings stand one behind the other from `at` on, a NUL behind
--- each
+-- a table: the length and the offset of each string, where the strings follow one another from `at` on, each with a NUL
+-- after it
 abbrev pub pairs : ℕ → List (List ℕ) → List ℕ
 pairs at [] = []
 pairs at (s ∷ ss) = word (length s) ++ word at ++ pairs (at + length s + 1) ss
@@ -18,11 +17,12 @@ pairs at (s ∷ ss) = word (length s) ++ word at ++ pairs (at + length s + 1) ss
 abbrev pub closed : List ℕ → List ℕ
 closed s = s ++ (0 ∷ [])
 
--- the strings themselves
+-- all strings one after another, each with a NUL after it
 abbrev pub pool : List (List ℕ) → List ℕ
 pool ss = flat_map closed ss
 
--- magic number, revision, number of strings, offsets of the two tables, and a hash table of no places behind them
+-- the magic number, the revision, the number of strings, the offsets of the two tables, and an empty hash table after
+-- them
 abbrev pub header : ℕ → List ℕ
 header n = word 0x950412de ++ word 0 ++ word n ++ word 28 ++ word (28 + 8 * n) ++ word 0 ++ word (28 + 16 * n)
 
@@ -32,10 +32,10 @@ file n originals translations =
     header n ++ pairs (28 + 16 * n) originals ++ pairs (28 + 16 * n + length (pool originals)) translations
     ++ pool originals ++ pool translations
 
--- the one file of a map, whose entries stand in rising order of their keys
+-- the one file of a map, whose entries are in rising order of their keys
 unfoldable pub spelling : List Entry → List ℕ
 spelling m = file (length m) (map original m) (map translation m)
 
--- how many bytes an entry takes in it: a row in each table, and the two strings
+-- the number of bytes that an entry takes in the file: a row in each table, and its two strings
 abbrev pub entry_size : Entry → ℕ
 entry_size e = 16 + length (closed (original e)) + length (closed (translation e))

@@ -1,14 +1,14 @@
--- The entries that originals and translations are: cut at their NULs (GNU gettext manual, "MO Files").
+-- The entries that originals and translations make up, split at their NULs (GNU gettext manual, "MO Files").
 use Rattle.std.specs.Prelude.{◌≡◌, ℕ, ◌<◌, ◌==◌, List, [], ◌∷◌, length, slice_index, Option, option_map}
 use Rattle.std.specs.List.{before_first}
 use Rattle.mo_image.specs.Entry.{Entry}
 use Rattle.mo_image.specs.Parts.{cut, entry_from}
 
--- the key in front of an original's NUL
+-- the key: what precedes an original's NUL, or all of it
 abbrev pub key_part : List ℕ → List ℕ
 key_part o = before_first (λ b. b == 0) o
 
--- the plural behind it
+-- the plural: what follows an original's NUL, if it has one
 abbrev pub plural_part : List ℕ → Option (List ℕ)
 plural_part o = option_map (λ p. p.1) (cut 0 o)
 
@@ -20,7 +20,7 @@ paired_entries [] ts = []
 paired_entries (o ∷ os) [] = []
 paired_entries (o ∷ os) (t ∷ ts) = entry_of o t ∷ paired_entries os ts
 
--- a NUL stands at this place
+-- the byte at this place is a NUL
 pub record HasNulAt (text : List ℕ) (place : ℕ) : Type 0 where
   pub within : place < length text
   pub nul : slice_index text place ≡ 0

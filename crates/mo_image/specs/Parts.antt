@@ -5,12 +5,12 @@ use denote.Ref.{Bor}
 pub use Rattle.text_cut.specs.Cut.{cut}
 use Rattle.mo_image.specs.Entry.{Entry}
 
--- the part behind, or the whole
+-- the part after the cut, or the whole text if there is no cut
 abbrev pub behind : List ℕ → Option (List ℕ × List ℕ) → List ℕ
 behind text None = text
 behind text (Some p) = p.1
 
--- a key is cut at its EOT, a translation at each NUL
+-- the entry of these strings: the key is split at its EOT, and the translation at each NUL
 abbrev pub entry_from : List ℕ → Option (List ℕ) → List ℕ → Entry
 entry_from key plural translation = record {
   context = option_map (λ p. p.0) (cut 4 key);

@@ -1,5 +1,5 @@
--- Which entry has the strings that an MO file has of it: its key, cut at its EOT, and its forms, between NULs (GNU
--- GNU gettext manual, "MO Files").
+-- The entry that owned strings make up: the key is split at its EOT, and the translation at each NUL (GNU gettext
+-- manual, "MO Files").
 use Rattle.std.specs.Prelude.{List, map, option_map}
 use Rattle.std.specs.String.{string_bytes}
 use Rattle.mo_image.specs.Entry.{Entry}

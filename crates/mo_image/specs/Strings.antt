@@ -1,4 +1,4 @@
--- Private: the two strings that an MO file has of an entry, and those of a whole list.
+-- Private: the two strings that an MO file has of an entry, and those of a list of entries.
 use Rattle.std.specs.Prelude.{ℕ, List, map}
 use Rattle.mo_image.specs.Entry.{Entry, original, translation}
 use Rattle.mo_image.specs.declared.writer.Side.{Side}

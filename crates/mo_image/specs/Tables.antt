@@ -1,6 +1,6 @@
 -- Where strings lie in an MO file (GNU gettext manual, "MO Files").
 
--- The file's words are read by `number`, which is little_number or big_number.
+-- `number` reads the file's words; it is little_number or big_number.
 use Rattle.std.specs.Prelude.{ℕ, zero, suc, ◌+◌, List, [], ◌∷◌, take, drop}
 
 -- the word of 32 bits at a place

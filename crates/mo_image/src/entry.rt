@@ -1,4 +1,4 @@
-//! One entry of a catalogue, whose texts are lent.
+//! One entry of a catalogue, which borrows its texts.
 ghost use Rattle.std.specs.Prelude.{◌≡◌, ◌<◌, ◌==◌, ◌∷◌, length, slice_get, Some, IfSome, option_map};
 ghost use Rattle.std.specs.List.{count_by, slice_split};
 ghost use Rattle.mo_image.specs.Entry.{IsLawfulEntry, key, translation};
@@ -11,20 +11,20 @@ ghost use Rattle.mo_image.specs.Lent.{IsClosedCut, IsClosedFormOf, IsLent};
 use std::marker::Model;
 use text_cut::{place_of, split_at_byte, split_at_place};
 
-/// What parts a key from its plural, and forms from one another.
+/// Separates a key from its plural, and a form from the next.
 const NUL: u8 = 0;
 
-/// What parts a context from its msgid in a key.
+/// Separates a context from its msgid in a key: EOT.
 const EOT: u8 = 4;
 
-/// How many NULs a text has.
+/// The number of NULs in a text.
 fn nul_count(text: &str) -> usize
     ensures { result ≡ count_by (λ b. b == 0) text.now }
 {
     text.bytes().filter(|byte| *byte == 0).count()
 }
 
-/// The first of the forms in a translation, and the others.
+/// Splits a translation into its first form and the other forms, if there are any.
 pub fn split_form(text: &str) -> (&str, Option<&str>)
     ensures { slice_split (λ b. b == 0) text.now ≡ result.0.now ∷ forms_left result.1 }
 {
@@ -34,7 +34,7 @@ pub fn split_form(text: &str) -> (&str, Option<&str>)
     }
 }
 
-/// The first of some forms, a NUL behind each, with its NUL, and the others.
+/// Splits the first form off a text in which every form is followed by a NUL. The form keeps its NUL.
 fn split_closed(forms: &str) -> (&[u8], &str)
     ensures { IfSome (cut 0 forms.now) (λ parts. IsClosedCut parts result.0.now result.1.now) }
 {
@@ -44,7 +44,7 @@ fn split_closed(forms: &str) -> (&[u8], &str)
     }
 }
 
-/// The forms of an entry, one after another, seen as the list of those that are left.
+/// An iterator over the forms of an entry. Contracts see it as the list of the forms that are left.
 #[derive(Drop)]
 pub struct Forms<'a> {
     /// The forms that are left, with NUL between them.
@@ -77,7 +77,7 @@ impl<'a> Iterator for Forms<'a> {
     }
 }
 
-/// The form of a translation with this index, by going over the forms before it.
+/// Returns the form with this index, by scanning the forms before it.
 fn form_at(translation: &str, k: usize) -> &str
     requires { k < length (slice_split (λ b. b == 0) translation.now) }
     ensures { slice_get (slice_split (λ b. b == 0) translation.now) k ≡ Some result.now }
@@ -96,7 +96,7 @@ fn form_at(translation: &str, k: usize) -> &str
     form
 }
 
-/// The same of a translation with its NUL: the form with one NUL behind it.
+/// Returns the form with this index and its NUL, from a translation with its NUL, by scanning the forms before it.
 fn closed_form_at(forms: &str, k: usize) -> &[u8]
     ensures { IsClosedFormOf forms.now k result.now }
 {
@@ -109,7 +109,7 @@ fn closed_form_at(forms: &str, k: usize) -> &[u8]
     form
 }
 
-/// The key of an original, where its length is known.
+/// Returns the key of an original, given the key's length.
 #[inline(always)]
 fn key_within(original: &str, len: usize) -> &str
     requires { len ≡ place_of 0 original.now }
@@ -121,7 +121,7 @@ fn key_within(original: &str, len: usize) -> &str
     }
 }
 
-/// The plural of an original, where the length of its key is known.
+/// Returns the plural of an original, if it has one, given the length of the key.
 #[inline(always)]
 fn plural_behind(original: &str, len: usize) -> Option<&str>
     requires { len ≡ place_of 0 original.now }
@@ -131,30 +131,30 @@ fn plural_behind(original: &str, len: usize) -> Option<&str>
     Some(plural)
 }
 
-/// The key of an original: what stands before its NUL.
+/// Returns the key of an original: what precedes its NUL, or all of it.
 pub fn key_of(original: &str) -> &str
     ensures { result.now ≡ key_part original.now }
 {
     key_within(original, place_of(original.as_bytes(), NUL))
 }
 
-/// The context and the msgid of a key that has a context: what stands before its first byte 4, and behind.
+/// Splits a key at its first byte 4 into the context and the msgid. `None` means that the key has no context.
 pub fn split_context(key: &str) -> Option<(&str, &str)>
     ensures { option_map (λ p. (p.0.now, p.1.now)) result ≡ cut 4 key.now }
 {
     split_at_byte(key, EOT)
 }
 
-/// An entry of a catalogue. Its texts are lent from the catalogue.
+/// An entry of a catalogue. It borrows its texts from the catalogue.
 #[derive(Drop)]
 pub struct EntryRef<'a> {
-    /// The key, and the plural behind NUL.
+    /// The key, followed by a NUL and the plural if there is one.
     original: &'a str,
-    /// How long the key is: so no look-up goes over the original for its NUL.
+    /// The length of the key, kept so that look-ups needn't search the original for its NUL.
     key_len: usize,
     /// The forms, with NUL between them.
     translation: &'a str,
-    /// The same, and a NUL behind the last one.
+    /// The translation with the NUL after it.
     closed: &'a str,
 }
 
@@ -174,7 +174,7 @@ impl<'a> Model for EntryRef<'a> {
 impl<'a> EntryRef<'a> {
     ghost use Rattle.mo_image.specs.Pairs.{entry_of};
 
-    /// The entry of an original, whose key has this length, and a translation, which is there with its NUL, too.
+    /// Makes an entry of an original, the length of its key, and a translation, without and with the NUL after it.
     #[inline(always)]
     pub(crate) fn new(
         original: &'a str,
@@ -193,7 +193,8 @@ impl<'a> EntryRef<'a> {
         }
     }
 
-    /// The bytes of the entry's key: the msgid, behind its context and byte 4 where it has one.
+    /// The entry's key: the msgid or, if there is a context, the context, byte 4 and the msgid (GNU gettext manual, "MO
+    /// Files").
     #[inline(always)]
     pub fn key(&self) -> &'a str
         ensures { result.now ≡ key self.now }
@@ -201,7 +202,7 @@ impl<'a> EntryRef<'a> {
         key_within(self.original, self.key_len)
     }
 
-    /// The context (`msgctxt`), if the entry has one; it may be empty.
+    /// The context (`msgctxt`), if the entry has one. It may be empty.
     pub fn context(&self) -> Option<&'a str>
         ensures { option_map (λ s. s.now) result ≡ self.now.context }
     {
@@ -228,7 +229,7 @@ impl<'a> EntryRef<'a> {
         plural_behind(self.original, self.key_len)
     }
 
-    /// The forms, with NUL between them, as an MO file holds them.
+    /// The forms, with NUL between them, as in an MO file.
     #[inline(always)]
     pub fn translation(&self) -> &'a str
         ensures joined { result.now ≡ translation self.now }
@@ -239,7 +240,7 @@ impl<'a> EntryRef<'a> {
         self.translation
     }
 
-    /// The forms, one after another, without memory. A catalogue's entry has one at least.
+    /// Iterates over the forms without allocating. An entry of a catalogue has at least one.
     pub fn forms(&self) -> Forms<'a>
         ensures { result ≡ self.now.forms }
     {
@@ -248,7 +249,7 @@ impl<'a> EntryRef<'a> {
         }
     }
 
-    /// How many forms the entry has: one at least, and just one without a plural.
+    /// The number of forms: at least one, and exactly one without a plural.
     #[inline(always)]
     pub fn form_count(&self) -> usize
         ensures count { result ≡ length self.now.forms }
@@ -260,8 +261,8 @@ impl<'a> EntryRef<'a> {
         nul_count(self.translation) + 1
     }
 
-    /// The form with this index. It is found by going over the forms before it; the only form of an entry without a
-    /// plural is lent without a look at its bytes.
+    /// Returns the form with this index, by scanning the forms before it. The only form of an entry without a plural is
+    /// returned without reading it.
     #[inline(always)]
     pub fn form(&self, k: usize) -> &'a str
         requires { k < length self.now.forms }
@@ -273,7 +274,7 @@ impl<'a> EntryRef<'a> {
         }
     }
 
-    /// The form with this index, and one NUL behind it: a string of C. It is found as by `form`.
+    /// Returns the form with this index, followed by a NUL: a C string. It is found as by `form`.
     #[inline(always)]
     pub fn closed_form(&self, k: usize) -> &'a [u8]
         requires { k < length self.now.forms }

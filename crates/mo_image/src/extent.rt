@@ -7,23 +7,23 @@ ghost use Rattle.mo_image.specs.MoFile.{closed};
 
 use byteorder::{ByteOrder, LittleEndian};
 
-/// A string's offset in an MO file, and its length.
+/// The offset and the length of a string in an MO file.
 #[derive(Clone, Copy, Debug)]
 pub struct Extent {
     start: u32,
     len: u32,
 }
 
-/// Where an entry's two strings lie in an MO file.
+/// Where the two strings of an entry lie in an MO file.
 #[derive(Clone, Copy, Debug)]
 pub struct EntryExtents {
     pub original: Extent,
     pub translation: Extent,
-    /// How long the key is, at the front of the original.
+    /// The length of the key, with which the original begins.
     pub key_len: u32,
 }
 
-/// What the row of a table says: a string's length and its offset.
+/// Reads a row of a table: the length and the offset of a string.
 #[inline(always)]
 pub(crate) fn extent_at(bytes: &[u8], place: usize) -> Extent
     requires { place + 8 ≤ length bytes.now }
@@ -35,7 +35,7 @@ pub(crate) fn extent_at(bytes: &[u8], place: usize) -> Extent
     }
 }
 
-/// The text that lies there.
+/// Returns the text at this extent.
 #[inline(always)]
 pub(crate) fn text_in(bytes: &[u8], extent: Extent) -> &str
     requires { HoldsPiece bytes.now extent }
@@ -46,7 +46,7 @@ pub(crate) fn text_in(bytes: &[u8], extent: Extent) -> &str
     unsafe { str::from_utf8_unchecked(&bytes[start..end]) }
 }
 
-/// The text that lies there, with the NUL behind it.
+/// Returns the text at this extent, with the NUL after it.
 #[inline(always)]
 pub(crate) fn closed_in(bytes: &[u8], extent: Extent) -> &str
     requires { HoldsClosed bytes.now extent }

@@ -20,8 +20,8 @@ use std::alloc::{AllocError, Global};
 use std::marker::Model;
 use text_cut::place_of;
 
-/// The entries of a catalogue, in rising order of the keys' bytes, as their one MO file: the table of originals stands
-/// behind the header, and that of translations behind it.
+/// The entries of a catalogue, in rising order of the keys' bytes, as their one MO file (GNU gettext manual, "MO
+/// Files"): the header, the table of originals, the table of translations, and the strings.
 ///
 /// Contracts see it as the list of its entries.
 #[derive(Drop)]
@@ -43,7 +43,7 @@ impl Model for Image {
     ghost invariant = { λ image. IsImage image.bytes.items };
 }
 
-/// A word of 32 bits.
+/// Reads a word of 32 bits.
 #[inline(always)]
 fn word(bytes: &[u8], place: usize) -> usize
     requires { place + 4 ≤ length bytes.now }
@@ -52,7 +52,7 @@ fn word(bytes: &[u8], place: usize) -> usize
     LittleEndian::read_u32(&bytes[place..]) as usize
 }
 
-/// The text that the row at this place names.
+/// Returns the text that the row at this place names.
 #[inline(always)]
 fn text(bytes: &[u8], place: usize) -> &str
     requires { NamesText bytes.now place }
@@ -61,6 +61,7 @@ fn text(bytes: &[u8], place: usize) -> &str
     text_in(bytes, extent_at(bytes, place))
 }
 
+/// The number of entries, by the header.
 #[inline(always)]
 fn count_of(bytes: &[u8]) -> usize
     requires { IsImage bytes.now }
@@ -69,7 +70,7 @@ fn count_of(bytes: &[u8]) -> usize
     word(bytes, COUNT_AT)
 }
 
-/// The original of the i-th entry: its key, and its plural behind NUL.
+/// Returns the original of the i-th entry: its key, followed by a NUL and the plural if there is one.
 fn original_of(bytes: &[u8], i: usize) -> &str
     requires image { IsImage bytes.now }
     requires within { i < length (listing bytes.now) }
@@ -79,7 +80,7 @@ fn original_of(bytes: &[u8], i: usize) -> &str
     text(bytes, HEADER_LEN + ROW_LEN * i)
 }
 
-/// How long the key of an original is.
+/// The length of an original's key.
 #[inline(always)]
 fn key_len(original: &str) -> u32
     requires { length original.now < 4294967296 }
@@ -88,7 +89,7 @@ fn key_len(original: &str) -> u32
     place_of(original.as_bytes(), 0) as u32
 }
 
-/// Where the strings of the i-th entry lie.
+/// Returns where the strings of the i-th entry lie.
 #[inline(always)]
 fn extents_of(bytes: &[u8], i: usize) -> EntryExtents
     requires image { IsImage bytes.now }
@@ -104,7 +105,7 @@ fn extents_of(bytes: &[u8], i: usize) -> EntryExtents
     }
 }
 
-/// The entry whose strings lie there.
+/// Returns the entry whose strings lie at these extents.
 #[inline(always)]
 fn entry_in<'a>(bytes: &'a [u8], extents: &EntryExtents) -> EntryRef<'a>
     requires image { IsImage bytes.now }
@@ -121,7 +122,7 @@ fn entry_in<'a>(bytes: &'a [u8], extents: &EntryExtents) -> EntryRef<'a>
 }
 
 impl Image {
-    /// The image of the entries that have these strings.
+    /// Makes the image of a list of entries. The only error is a failed allocation.
     pub fn spelled<L: EntryList>(alloc: Global, list: &L) -> Result<Image, AllocError>
         requires { IsLawful (L.entries list.now) }
         ensures { IfOk result (λ image. image ≡ L.entries list.now) }
@@ -129,7 +130,7 @@ impl Image {
         Image::spelled_over(Vec::new(alloc), list)
     }
 
-    /// The same in this memory, whatever it held.
+    /// Makes the image of a list of entries in `memory`, whose contents are dropped.
     pub fn spelled_over<L: EntryList>(memory: Vec<u8>, list: &L) -> Result<Image, AllocError>
         requires { IsLawful (L.entries list.now) }
         ensures { IfOk result (λ image. image ≡ L.entries list.now) }
@@ -138,7 +139,7 @@ impl Image {
         Ok(Image { bytes })
     }
 
-    /// The image that is this MO file.
+    /// Makes the image of an MO file, by copying it. The only error is a failed allocation.
     pub fn copied(alloc: Global, file: &[u8]) -> Result<Image, AllocError>
         requires { (m : List Entry) × IsFileOf file.now m }
         ensures { IfOk result (λ image. IsFileOf file.now image) }
@@ -148,7 +149,7 @@ impl Image {
         Ok(Image { bytes })
     }
 
-    /// How many entries there are.
+    /// The number of entries.
     #[inline(always)]
     pub fn len(&self) -> usize
         ensures len { result ≡ length self.now }
@@ -157,14 +158,14 @@ impl Image {
         count_of(&self.bytes)
     }
 
-    /// Whether there is none.
+    /// Whether there are no entries.
     pub fn is_empty(&self) -> bool
         ensures { IsTrue result ↔ (length self.now ≡ 0) }
     {
         self.len() == 0
     }
 
-    /// The i-th entry.
+    /// Returns the i-th entry.
     #[inline(always)]
     pub fn entry(&self, i: usize) -> EntryRef<'_>
         requires { i < length self.now }
@@ -173,7 +174,7 @@ impl Image {
         entry_in(&self.bytes, &extents_of(&self.bytes, i))
     }
 
-    /// The original of the i-th entry: its key, and its plural behind NUL.
+    /// Returns the original of the i-th entry: its key, followed by a NUL and the plural if there is one.
     pub fn original(&self, i: usize) -> &str
         requires { i < length self.now }
         ensures { IfSome (slice_get self.now i) (λ e. key_part result.now ≡ key e) }
@@ -181,7 +182,7 @@ impl Image {
         original_of(&self.bytes, i)
     }
 
-    /// Where the strings of the i-th entry lie in the file.
+    /// Returns where the strings of the i-th entry lie in the file.
     pub fn extents(&self, i: usize) -> EntryExtents
         requires { i < length self.now }
         ensures { AreExtentsOf (spelling self.now) (length self.now) i result }
@@ -189,7 +190,7 @@ impl Image {
         extents_of(&self.bytes, i)
     }
 
-    /// The entry whose strings lie there. It is found without a look at the tables.
+    /// Returns the entry whose strings lie at these extents, without reading the tables.
     #[inline(always)]
     pub fn entry_in(&self, extents: &EntryExtents) -> EntryRef<'_>
         requires { AreExtents (spelling self.now) (length self.now) extents.now }
@@ -200,7 +201,7 @@ impl Image {
         entry_in(&self.bytes, extents)
     }
 
-    /// The MO file.
+    /// Returns the MO file.
     pub fn file(&self) -> &[u8]
         ensures file { result.now ≡ spelling self.now }
         ensures lawful { IsLawful self.now }

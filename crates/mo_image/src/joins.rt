@@ -1,10 +1,10 @@
-//! Keys and translations, as MO files join them of an entry's texts.
+//! Joins the texts of an entry to keys and translations, as in MO files.
 ghost use Rattle.std.specs.Prelude.{◌≡◌, IfOk, OnOk, string_bytes, option_map, ◌++◌, ◌∷◌, if◌then◌else◌};
 ghost use Rattle.mo_image.specs.Entry.{key_bytes};
 
 use std::alloc::{AllocError, Global};
 
-/// Adds the bytes of a key: the msgid, behind its context and byte 4 where it has one.
+/// Appends a key: the msgid or, if there is a context, the context, byte 4 and the msgid.
 pub fn push_key(text: &mut String, context: Option<&str>, id: &str) -> Result<(), AllocError>
     ensures { OnOk result (string_bytes text.new ≡ string_bytes text.old
         ++ key_bytes (option_map (λ c. c.now) context.entry) id.now) }
@@ -16,7 +16,7 @@ pub fn push_key(text: &mut String, context: Option<&str>, id: &str) -> Result<()
     text.push_str(id)
 }
 
-/// The bytes of a key.
+/// Returns a key as `push_key` appends it. The only error is a failed allocation.
 pub fn joined_key(alloc: Global, context: Option<&str>, id: &str) -> Result<String, AllocError>
     ensures { IfOk result (λ key. string_bytes key ≡ key_bytes (option_map (λ c. c.now) context.entry) id.now) }
 {
@@ -25,7 +25,7 @@ pub fn joined_key(alloc: Global, context: Option<&str>, id: &str) -> Result<Stri
     Ok(key)
 }
 
-/// Adds a form, behind NUL unless it is the first one.
+/// Appends a form, after a NUL unless it is the first one.
 pub fn push_form(text: &mut String, form: &str, is_first: bool) -> Result<(), AllocError>
     ensures { OnOk result (string_bytes text.new ≡ (if is_first then string_bytes text.old
         ++ form.now else string_bytes text.old ++ 0 ∷ form.now)) }

@@ -1,33 +1,32 @@
-//! The layout of an MO file: a header of seven words, and tables of rows, each with the length and the offset of a
-//! string
-//! (GNU gettext manual, "MO Files"). All places are in bytes.
+//! The layout of an MO file: a header of seven words, and two tables of rows, each with the length and the offset of a
+//! string (GNU gettext manual, "MO Files"). Offsets and lengths are in bytes.
 
-/// The file's first word, its magic number.
+/// The magic number, which is the first word of a file.
 pub const MAGIC: u32 = 0x9504_12de;
 
-/// Where the header has the revision.
+/// The offset of the revision in the header.
 pub const REVISION_AT: usize = 4;
 
-/// Where it has the number of entries.
+/// The offset of the number of entries.
 pub const COUNT_AT: usize = 8;
 
-/// Where it has the offset of the table of originals.
+/// The offset of the word that says where the table of originals begins.
 pub const ORIGINALS_AT: usize = 12;
 
-/// Where it has the offset of the table of translations.
+/// The offset of the word that says where the table of translations begins.
 pub const TRANSLATIONS_AT: usize = 16;
 
-/// Where it has the number of places of the hash table.
+/// The offset of the size of the hash table, in slots.
 pub const HASH_SIZE_AT: usize = 20;
 
-/// Where it has the offset of the hash table.
+/// The offset of the word that says where the hash table begins.
 pub const HASH_TABLE_AT: usize = 24;
 
-/// How many bytes the header has.
+/// The length of the header.
 pub const HEADER_LEN: usize = 28;
 
-/// How many bytes a row of a table has: a string's length and its offset.
+/// The length of a row of a table: a string's length and its offset.
 pub const ROW_LEN: usize = 8;
 
-/// How many bytes a file may have (our choice).
+/// The largest file that is accepted or written. The limit is our choice.
 pub const MAX_LEN: usize = 268_435_456;

@@ -1,6 +1,5 @@
-//! The entries of a message catalogue, and the one MO file that is written of them (GNU gettext manual, "MO Files"):
-//! keys, originals and translations, the file's layout, its writer, and the file's bytes as a list of entries that are
-//! lent.
+//! The entries of a message catalogue and their one MO file (GNU gettext manual, "MO Files"): keys, originals and
+//! translations, the layout of the file, its writer, and an image of the file that lends its entries.
 #![tactic(auto)]
 
 mod entry;

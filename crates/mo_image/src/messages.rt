@@ -1,4 +1,4 @@
-//! The strings of an entry, as an MO file has them.
+//! The strings of an entry, as in an MO file.
 ghost use Rattle.std.specs.Prelude.{◌≡◌, option_map, string_bytes};
 ghost use Rattle.mo_image.specs.Entry.{key, translation};
 ghost use Rattle.mo_image.specs.Parts.{entry_from};
@@ -6,8 +6,8 @@ ghost use Rattle.mo_image.specs.Stored.{stored_entry};
 
 use std::marker::Model;
 
-/// The strings of an entry, as an MO file has them, lent (GNU gettext manual, "MO Files"), and
-/// seen as the entry that has them.
+/// The borrowed strings of an entry, as in an MO file (GNU gettext manual, "MO Files"). Contracts see them as the entry
+/// that they make up.
 #[derive(Drop)]
 pub struct EntryStrings<'a> {
     key: &'a str,
@@ -27,8 +27,8 @@ impl<'a> Model for EntryStrings<'a> {
 }
 
 impl<'a> EntryStrings<'a> {
-    /// The entry of a key's bytes, where a byte 4 parts a context and a msgid, of a msgid_plural, and of forms
-    /// with NUL between them.
+    /// Makes the strings of an entry: its key, in which byte 4 separates a context from the msgid; its msgid_plural;
+    /// and its forms, with NUL between them.
     pub fn new(key: &'a str, plural: Option<&'a str>, translation: &'a str) -> EntryStrings<'a>
         ensures { result ≡ entry_from key.now (option_map (λ p. p.now) plural.entry) translation.now }
     {
@@ -39,25 +39,28 @@ impl<'a> EntryStrings<'a> {
         }
     }
 
+    /// The entry's key.
     pub(crate) fn key(&self) -> &'a str
         ensures { result.now ≡ key self.now }
     {
         self.key
     }
 
+    /// The msgid_plural, if the entry has a plural.
     pub(crate) fn plural(&self) -> Option<&'a str>
         ensures { option_map (λ s. s.now) result ≡ self.now.plural }
     {
         self.plural
     }
 
+    /// The forms, with NUL between them.
     pub(crate) fn translation(&self) -> &'a str
         ensures { result.now ≡ translation self.now }
     {
         self.translation
     }
 
-    /// The same strings, once more.
+    /// Borrows the strings once more.
     pub(crate) fn again(&self) -> EntryStrings<'a>
         ensures { result ≡ self.now }
     {
@@ -69,12 +72,12 @@ impl<'a> EntryStrings<'a> {
     }
 }
 
-/// Strings of an entry that are its own.
+/// The strings of an entry that owns them.
 #[derive(Drop)]
 pub struct OwnedStrings {
-    /// The bytes of the entry's key.
+    /// The entry's key.
     pub key: String,
-    /// The msgid_plural of an entry with a plural.
+    /// The msgid_plural, if the entry has a plural.
     pub plural: Option<String>,
     /// The forms, with NUL between them.
     pub translation: String,
@@ -90,6 +93,7 @@ impl OwnedStrings {
         }
     }
 
+    /// Borrows the strings.
     pub(crate) fn lend(&self) -> EntryStrings<'_>
         ensures { result ≡ stored_entry self.now }
     {

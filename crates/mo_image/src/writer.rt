@@ -1,7 +1,7 @@
-//! The MO file of a list of entries (GNU gettext manual, "MO Files").
+//! Writes the MO file of a list of entries (GNU gettext manual, "MO Files").
 //!
-//! A header of seven words; a table of the originals and one of the translations, each with the length
-//! and the offset of every string; then the strings of the one, and those of the other.
+//! The file has a header of seven words; a table of the originals and one of the translations, with the length and the
+//! offset of each string; and then the originals and the translations themselves.
 ghost use Rattle.std.specs.Prelude.{◌≡◌, ◌+◌, ◌*◌, ◌^◌, ◌<◌, ◌++◌, List, length, IfOk, OnOk, Some, slice_get};
 ghost use Rattle.mo_image.specs.Entry.{Entry, original, translation};
 ghost use Rattle.mo_image.specs.Map.{IsLawful};
@@ -13,21 +13,22 @@ use crate::messages::{EntryStrings, OwnedStrings};
 use byteorder::{ByteOrder, LittleEndian};
 use std::alloc::AllocError;
 
-/// How many bytes the header has, and a string's row in its table, as words of the file.
+/// The length of the header, as a word of the file.
 const HEADER_LEN: u32 = layout::HEADER_LEN as u32;
 
+/// The length of a table's row, as a word of the file.
 const ROW_LEN: u32 = layout::ROW_LEN as u32;
 
-/// A list of entries that lends their strings one by one.
+/// A list of entries that lends their strings one at a time.
 pub trait EntryList {
     /// The entries, in rising order of their keys' bytes.
     ghost entries: { Self → List Entry };
 
-    /// How many there are.
+    /// The number of entries.
     fn count(&self) -> usize
         ensures { result ≡ length (entries self.now) };
 
-    /// The strings of the i-th entry.
+    /// Returns the strings of the i-th entry.
     fn strings_at(&self, i: usize) -> EntryStrings<'_>
         requires { i < length (entries self.now) }
         ensures { slice_get (entries self.now) i ≡ Some result };
@@ -59,14 +60,14 @@ impl EntryList for Vec<OwnedStrings> {
     }
 }
 
-/// The two strings that the file has of an entry.
+/// The two strings that an MO file has of an entry.
 #[derive(Clone, Copy)]
 enum Side {
     Original,
     Translation,
 }
 
-/// A word of 32 bits, low byte first.
+/// Appends a little-endian word of 32 bits.
 fn push_word(out: &mut Vec<u8>, n: u32) -> Result<(), AllocError>
     ensures { OnOk result (out.new.items ≡ out.old.items ++ word n) }
 {
@@ -75,7 +76,7 @@ fn push_word(out: &mut Vec<u8>, n: u32) -> Result<(), AllocError>
     out.extend_from_slice(&bytes)
 }
 
-/// A text, closed by NUL.
+/// Appends a text and a NUL.
 fn push_closed(out: &mut Vec<u8>, text: &str) -> Result<(), AllocError>
     ensures { OnOk result (out.new.items ≡ out.old.items ++ closed text.now) }
 {
@@ -84,7 +85,7 @@ fn push_closed(out: &mut Vec<u8>, text: &str) -> Result<(), AllocError>
     Ok(())
 }
 
-/// The original, closed: the key, and behind NUL the plural where there is one.
+/// Appends the original, closed: the key and a NUL, and the plural and a NUL if there is one.
 fn push_original(out: &mut Vec<u8>, entry: &EntryStrings<'_>) -> Result<(), AllocError>
     ensures { OnOk result (out.new.items ≡ out.old.items ++ closed (original entry.now)) }
 {
@@ -95,7 +96,7 @@ fn push_original(out: &mut Vec<u8>, entry: &EntryStrings<'_>) -> Result<(), Allo
     Ok(())
 }
 
-/// The string of one side, closed.
+/// Appends the string of one side, closed.
 fn push_string(out: &mut Vec<u8>, side: Side, entry: &EntryStrings<'_>) -> Result<(), AllocError>
     ensures { OnOk result (out.new.items ≡ out.old.items ++ closed (string_of side entry.now)) }
 {
@@ -105,7 +106,7 @@ fn push_string(out: &mut Vec<u8>, side: Side, entry: &EntryStrings<'_>) -> Resul
     }
 }
 
-/// How many bytes the original has, without its closing NUL.
+/// The length of the original, without the NUL after it.
 fn original_len(entry: &EntryStrings<'_>) -> usize
     requires { length (original entry.now) < 2 ^ 32 }
     ensures { result ≡ length (original entry.now) }
@@ -116,7 +117,7 @@ fn original_len(entry: &EntryStrings<'_>) -> usize
     }
 }
 
-/// How many bytes the string of one side has, without its closing NUL.
+/// The length of the string of one side, without the NUL after it.
 fn string_len(side: Side, entry: &EntryStrings<'_>) -> usize
     requires { length (string_of side entry.now) < 2 ^ 32 }
     ensures { result ≡ length (string_of side entry.now) }
@@ -127,7 +128,7 @@ fn string_len(side: Side, entry: &EntryStrings<'_>) -> usize
     }
 }
 
-/// How many bytes the strings of one side take, each with its closing NUL.
+/// The length of all strings of one side, each with the NUL after it.
 fn pool_len<L: EntryList>(list: &L, side: Side) -> usize
     requires { length (pool (strings_of side (L.entries list.now))) < 2 ^ 32 }
     ensures { result ≡ length (pool (strings_of side (L.entries list.now))) }
@@ -139,7 +140,7 @@ fn pool_len<L: EntryList>(list: &L, side: Side) -> usize
     len
 }
 
-/// The table of one side, whose strings stand from `at` on.
+/// Appends the table of one side, whose strings begin at the offset `at`.
 fn push_pairs<L: EntryList>(
     out: &mut Vec<u8>,
     list: &L,
@@ -158,7 +159,7 @@ fn push_pairs<L: EntryList>(
     Ok(())
 }
 
-/// The strings of one side.
+/// Appends the strings of one side.
 fn push_pool<L: EntryList>(out: &mut Vec<u8>, list: &L, side: Side) -> Result<(), AllocError>
     ensures { OnOk result (out.new.items ≡ out.old.items ++ pool (strings_of side (L.entries list.now))) }
 {
@@ -168,7 +169,7 @@ fn push_pool<L: EntryList>(out: &mut Vec<u8>, list: &L, side: Side) -> Result<()
     Ok(())
 }
 
-/// The header of a file of n entries, which has no hash table.
+/// Appends the header of a file of `n` entries and no hash table.
 fn push_header(out: &mut Vec<u8>, n: u32) -> Result<(), AllocError>
     requires { 28 + 16 * n < 2 ^ 32 }
     ensures { OnOk result (out.new.items ≡ out.old.items ++ header n) }
@@ -182,8 +183,8 @@ fn push_header(out: &mut Vec<u8>, n: u32) -> Result<(), AllocError>
     push_word(out, HEADER_LEN + 2 * ROW_LEN * n)
 }
 
-/// The one MO file of the entries: revision 0, words low byte first, no hash table and no padding.
-/// It is written over `memory`, which grows once where it is too small.
+/// Writes the one MO file of the entries over `memory`, which grows at most once: revision 0, little-endian, no hash
+/// table and no padding.
 #[tactic(auto, using(crate::proofs::Writing::part_lengths))]
 pub(crate) fn spell<L: EntryList>(memory: Vec<u8>, list: &L) -> Result<Vec<u8>, AllocError>
     requires { IsLawful (L.entries list.now) }

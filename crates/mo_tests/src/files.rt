@@ -1,10 +1,10 @@
-//! Worked files. What is wanted was written by hand from the format, or is GNU msgfmt's.
+//! Worked files. The expected results were written by hand from the format, or are GNU msgfmt's.
 use catalogue::{Catalogue, Options, compile};
 use mo_file::{MoFault, check, read_mo, reread, write_mo};
 use std::alloc::{AllocError, Global};
 use std::test::Fail;
 
-/// `a` to `x` and `ba` to `xx`: high byte first, a hash table, and the strings end on one another.
+/// `a` to `x` and `ba` to `xx`: a big-endian file with a hash table, in which one string is the end of another.
 const BIG: [u8; 78] = [
     0x95, 0x04, 0x12, 0xde, 0x00, 0x00, 0x00, 0x00, 0x00, 0x00, 0x00, 0x02, 0x00, 0x00, 0x00, 0x1c,
     0x00, 0x00, 0x00, 0x2c, 0x00, 0x00, 0x00, 0x03, 0x00, 0x00, 0x00, 0x3c, 0x00, 0x00, 0x00, 0x01,
@@ -13,7 +13,7 @@ const BIG: [u8; 78] = [
     0x00, 0x00, 0x00, 0x01, 0x00, 0x00, 0x00, 0x00, 0x62, 0x61, 0x00, 0x78, 0x78, 0x00,
 ];
 
-/// The file that is written of the same map.
+/// The file that is written of this map.
 const WRITTEN: [u8; 70] = [
     0xde, 0x12, 0x04, 0x95, 0x00, 0x00, 0x00, 0x00, 0x02, 0x00, 0x00, 0x00, 0x1c, 0x00, 0x00, 0x00,
     0x2c, 0x00, 0x00, 0x00, 0x00, 0x00, 0x00, 0x00, 0x3c, 0x00, 0x00, 0x00, 0x01, 0x00, 0x00, 0x00,
@@ -28,7 +28,7 @@ const EMPTY: [u8; 28] = [
     0x1c, 0x00, 0x00, 0x00, 0x00, 0x00, 0x00, 0x00, 0x1c, 0x00, 0x00, 0x00,
 ];
 
-/// A file of GNU msgfmt 0.21, low byte first, with a hash table.
+/// A little-endian file of GNU msgfmt 0.21, with a hash table.
 const GNU_LITTLE: [u8; 181] = [
     0xde, 0x12, 0x04, 0x95, 0x00, 0x00, 0x00, 0x00, 0x03, 0x00, 0x00, 0x00, 0x1c, 0x00, 0x00, 0x00,
     0x34, 0x00, 0x00, 0x00, 0x05, 0x00, 0x00, 0x00, 0x4c, 0x00, 0x00, 0x00, 0x00, 0x00, 0x00, 0x00,
@@ -44,7 +44,7 @@ const GNU_LITTLE: [u8; 181] = [
     0x66, 0x6e, 0x65, 0x6e, 0x00,
 ];
 
-/// The same, high byte first.
+/// The big-endian file of GNU msgfmt 0.21 for the same text.
 const GNU_BIG: [u8; 181] = [
     0x95, 0x04, 0x12, 0xde, 0x00, 0x00, 0x00, 0x00, 0x00, 0x00, 0x00, 0x03, 0x00, 0x00, 0x00, 0x1c,
     0x00, 0x00, 0x00, 0x34, 0x00, 0x00, 0x00, 0x05, 0x00, 0x00, 0x00, 0x4c, 0x00, 0x00, 0x00, 0x00,
@@ -60,17 +60,17 @@ const GNU_BIG: [u8; 181] = [
     0x66, 0x6e, 0x65, 0x6e, 0x00,
 ];
 
-/// The PO text that both files were made of.
+/// The PO text that both files were compiled from.
 const GNU_TEXT: &str = "msgid \"\"\nmsgstr \"Content-Type: text/plain; charset=UTF-8\\n\"\n\n\
     msgctxt \"menu\"\nmsgid \"Open\"\nmsgstr \"Öffnen\"\n\nmsgid \"file\"\n\
     msgid_plural \"files\"\nmsgstr[0] \"Datei\"\nmsgstr[1] \"Dateien\"\n";
 
-/// Why bytes are refused; `None` where they are read.
+/// Why bytes are refused, or `None` if they are read.
 fn refusal(alloc: Global, bytes: &[u8]) -> Option<MoFault> {
     read_mo(alloc, bytes).err()
 }
 
-/// What is written of the map that is read of the bytes.
+/// Reads the bytes, and returns the file that is written of their map.
 fn rewritten(alloc: Global, bytes: &[u8]) -> Result<Vec<u8>, Fail> {
     let catalogue = read_mo(alloc, bytes)?;
     Ok(write_mo(alloc, &catalogue)?)
@@ -107,7 +107,7 @@ fn no_entry(rt: HostRuntime) -> Result<(), Fail> {
     assert_eq!(rt; catalogue.len(), 0);
     let file = write_mo(alloc, &catalogue)?;
     assert_eq!(rt; file.as_slice(), EMPTY.as_slice());
-    // Without entries the tables aren't looked at.
+    // Without entries the tables are ignored.
     let mut far = EMPTY;
     far[15] = 0xff;
     far[19] = 0xff;
@@ -140,7 +140,7 @@ fn changed_bytes(rt: HostRuntime) {
         // The third row of the translations is then two words of the hash table.
         (11, 3, Some(MoFault::NoNul)),
         (19, 0x2d, Some(MoFault::Bounds)),
-        // The hash table isn't looked at.
+        // The hash table is ignored.
         (23, 9, None),
         // The original is then `a` with the plural `xx`.
         (31, 4, None),
@@ -161,19 +161,19 @@ fn changed_bytes(rt: HostRuntime) {
 #[test]
 fn changed_rows(rt: HostRuntime) {
     let alloc = rt.alloc();
-    // Both keys on one string.
+    // Both keys are the same string.
     let mut equal = BIG;
     equal[31] = 2;
     equal[35] = 0x48;
     assert_eq!(rt; refusal(alloc, &equal), Some(MoFault::Order));
-    // A fault of the last string comes before an earlier one of a later kind.
+    // A fault of the last string is reported before a fault of an earlier string whose kind comes later.
     let mut both = BIG;
     both[72] = 0xff;
     both[77] = 1;
     assert_eq!(rt; refusal(alloc, &both), Some(MoFault::NoNul));
 }
 
-/// The file with other bytes from a place on.
+/// The file with other bytes from `place` on.
 fn changed(place: usize, bytes: &[u8]) -> [u8; 78] {
     let mut file = BIG;
     for (slot, byte) in file.iter_mut().skip(place).zip(bytes) {
@@ -188,20 +188,20 @@ fn changed_words(rt: HostRuntime) {
     let rows: [(usize, &[u8], MoFault); 13] = [
         (0, b"\xff", MoFault::Magic),
         (4, b"\0\0\0\x01", MoFault::Revision),
-        // The number of entries, and the places of the tables.
+        // The number of entries, and the offsets of the tables.
         (8, b"\xff\xff\xff\xff", MoFault::Bounds),
         (12, b"\xff\xff\xff\xf8", MoFault::Bounds),
         (16, b"\xff\xff\xff\xf8", MoFault::Bounds),
-        // The length and the place of each original and each translation, whose sum takes more than 32 bits.
+        // The length and the offset of each original and each translation, whose sum exceeds 32 bits.
         (28, &[0xff; 8], MoFault::Bounds),
         (36, &[0xff; 8], MoFault::Bounds),
         (44, &[0xff; 8], MoFault::Bounds),
         (52, &[0xff; 8], MoFault::Bounds),
         (74, b"\x63", MoFault::NoNul),
         (73, b"\xff", MoFault::BadText),
-        // The second translation is two texts, and there is no plural.
+        // The second translation has two forms, but there is no plural.
         (52, b"\0\0\0\x05\0\0\0\x48", MoFault::Forms),
-        // The rows of the originals are exchanged.
+        // The rows of the two originals are swapped.
         (
             28,
             b"\0\0\0\x02\0\0\0\x48\0\0\0\x01\0\0\0\x49",
@@ -214,7 +214,7 @@ fn changed_words(rt: HostRuntime) {
     }
 }
 
-/// The file of one entry with the empty key.
+/// Makes the file of one entry with the empty key.
 fn header_file(alloc: Global, text: &str) -> Result<Vec<u8>, AllocError> {
     let words = [
         0x950412de,
@@ -260,8 +260,8 @@ fn charsets(rt: HostRuntime) -> Result<(), Fail> {
     Ok(())
 }
 
-/// A file of 150 keys of two bytes, whose translations end with one text of `x`: the last one is that text, of so many
-/// bytes, and each other one its end, of so many bytes.
+/// Makes a file of 150 keys of two bytes, whose translations overlap in a run of `x`: the last translation is the whole
+/// run, of `last` bytes, and each of the others is its last `others` bytes.
 fn overlapping_file(alloc: Global, others: u32, last: u32) -> Result<Vec<u8>, AllocError> {
     let mut file = Vec::new(alloc);
     for word in [0x950412de, 0, 150, 28, 1228, 0, 2428] {
@@ -296,8 +296,8 @@ fn swollen(rt: HostRuntime) -> Result<(), Fail> {
     Ok(())
 }
 
-/// The written file has 28 bytes, 16 for each entry, and each string with a NUL behind it: here 3,028 bytes and the
-/// translations, 149 times 1,789,549 bytes and once 1,789,627. That makes 268,435,456, the limit.
+/// The written file has 28 bytes, 16 for each entry, and every string with a NUL after it: here 3,028 bytes and the
+/// translations, 149 times 1,789,549 bytes and once 1,789,627. The sum is 268,435,456, the limit.
 #[test]
 fn not_yet_swollen(rt: HostRuntime) -> Result<(), Fail> {
     let alloc = rt.alloc();

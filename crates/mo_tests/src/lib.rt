@@ -1,7 +1,7 @@
-//! Tests of `mo_file` by its public calls: worked files, files whose strings overlap, look-ups in what was read back,
-//! and files of many sizes.
+//! Tests of `mo_file` through its public functions: worked files, files whose strings overlap, look-ups in catalogues
+//! that were written and read back, and files of many sizes.
 //!
-//! They stand in a crate of their own, since a crate with tests is proved twice, with them and without.
+//! The tests have a crate of their own, since a crate with tests is proved twice, with them and without.
 #![tactic(auto)]
 
 #[cfg(test)]

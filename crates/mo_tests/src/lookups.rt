@@ -1,11 +1,11 @@
-//! Look-ups in what was compiled, and in what was written of it and read again. What is wanted was worked
-//! out by hand from the rules.
+//! Look-ups in catalogues, both as compiled and as written and read back. The expected results were worked out by hand
+//! from the rules.
 use catalogue::{Catalogue, Options, compile};
 use mo_file::reread;
 use std::alloc::Global;
 use std::test::Fail;
 
-/// A value that is below 0, or above the last form, is no form's number.
+/// A rule whose value may be below 0 or past the last form, and so select no form.
 const DECREASED: &str = "msgid \"\"\nmsgstr \"nplurals=2; plural=n-1;\"\n\
     msgid \"a\"\nmsgid_plural \"b\"\nmsgstr[0] \"u\"\nmsgstr[1] \"v\"\n";
 
@@ -14,10 +14,10 @@ const DIVIDED: &str = "msgid \"\"\nmsgstr \"nplurals=6; plural=5/n;\"\n\
     msgid \"a\"\nmsgid_plural \"b\"\nmsgstr[0] \"0\"\nmsgstr[1] \"1\"\nmsgstr[2] \"2\"\n\
     msgstr[3] \"3\"\nmsgstr[4] \"4\"\nmsgstr[5] \"5\"\n";
 
-/// A plural with one form, and no header.
+/// A plural message with one form, and no header.
 const CAT: &str = "msgid \"cat\"\nmsgid_plural \"cats\"\nmsgstr[0] \"chat\"\n";
 
-/// A fuzzy header, and a fuzzy message.
+/// A fuzzy header and a fuzzy message.
 const FUZZY: &str =
     "#, fuzzy\nmsgid \"\"\nmsgstr \"Language: fr\\n\"\n#, fuzzy\nmsgid \"a\"\nmsgstr \"b\"\n";
 
@@ -28,7 +28,8 @@ const POLISH: &str = "msgid \"\"\nmsgstr \"Plural-Forms: nplurals=3; plural=n==1
 const CONTEXTS: &str = "msgctxt \"\"\nmsgid \"b\"\nmsgstr \"1\"\nmsgid \"b\"\nmsgstr \"2\"\n\
     msgctxt \"k\"\nmsgid \"b\"\nmsgstr \"3\"\n";
 
-/// The catalogue of a text; where it was asked for, with its fuzzy messages, and written and read again.
+/// Compiles a text, with fuzzy messages if `use_fuzzy` is set; with `again`, the catalogue is also written and read
+/// back.
 fn catalogue_with(
     alloc: Global,
     text: &str,
@@ -46,7 +47,7 @@ fn catalogue_with(
     Ok(compiled.catalogue)
 }
 
-/// The same without fuzzy messages.
+/// Compiles a text without its fuzzy messages.
 fn catalogue_of(alloc: Global, text: &str, again: bool) -> Result<Catalogue, Fail> {
     catalogue_with(alloc, text, false, again)
 }

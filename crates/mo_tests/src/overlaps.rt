@@ -1,10 +1,10 @@
-//! Files whose strings overlap: together they are longer than a file may be. What is wanted was worked out by hand
-//! from the format.
+//! Files whose strings overlap, so that together they are longer than a file may be. The expected results were worked
+//! out by hand from the format.
 use mo_file::{MoFault, check, read_mo};
 use std::alloc::{AllocError, Global};
 use std::test::Fail;
 
-/// Where a string begins behind the tables, and its length.
+/// The offset of a string from the end of the tables, and its length.
 #[derive(Clone, Copy)]
 struct Place {
     start: u32,
@@ -27,7 +27,7 @@ fn push_word(file: &mut Vec<u8>, word: u32, low_first: bool) -> Result<(), Alloc
     file.extend_from_slice(&bytes)
 }
 
-/// The file of these rows, whose strings stand behind the tables.
+/// Makes the file of these rows, whose strings follow the tables.
 fn file_of(
     alloc: Global,
     pairs: &[Pair],
@@ -62,7 +62,7 @@ fn file_of(
     Ok(file)
 }
 
-/// Why bytes are refused, as both functions say; `None` where they are read.
+/// Why both `read_mo` and `check` refuse bytes, or `None` if they accept them.
 fn refusal(alloc: Global, bytes: &[u8]) -> Option<MoFault> {
     let fault = read_mo(alloc, bytes).err();
     if check(alloc, bytes).err() == fault {
@@ -72,7 +72,7 @@ fn refusal(alloc: Global, bytes: &[u8]) -> Option<MoFault> {
     }
 }
 
-/// The keys of 600 rows, two bytes each, and a text of 500,000 bytes that begins with this line.
+/// Returns the keys of 600 rows, two bytes each, and a text of 500,000 bytes that begins with this line.
 fn shared_strings(alloc: Global, line: &str) -> Result<Vec<u8>, AllocError> {
     let mut strings = Vec::new(alloc);
     for first in *b"ABCDabcdefghijklmnopqrstuvwxyz" {
@@ -89,7 +89,8 @@ fn shared_strings(alloc: Global, line: &str) -> Result<Vec<u8>, AllocError> {
     Ok(strings)
 }
 
-/// 600 rows with one translation. Where there is a header, its key is the empty string at the end of the first key.
+/// Returns 600 rows that share one translation. The key of the header, if there is one, is the empty string at the end
+/// of the first key.
 fn shared_pairs(alloc: Global, has_header: bool) -> Result<Vec<Pair>, AllocError> {
     let translation = Place {
         start: 1800,
@@ -121,7 +122,7 @@ fn changed(mut strings: Vec<u8>, changes: &[(usize, u8)]) -> Vec<u8> {
     strings
 }
 
-/// Why a file of 600 rows on one text is refused, with these changes of its strings.
+/// Why a file of 600 rows on one text is refused, once its strings have been changed like this.
 fn shared_refusal(
     alloc: Global,
     changes: &[(usize, u8)],
@@ -136,7 +137,7 @@ fn shared_refusal(
 #[test]
 fn many_rows_on_one_text(rt: HostRuntime) -> Result<(), Fail> {
     let alloc = rt.alloc();
-    // The last byte of the text stands at 501,799, the first one of the last key at 1,797.
+    // The last byte of the text is at 501,799, and the first byte of the last key at 1,797.
     for low_first in [false, true] {
         let rows = [
             ([(0, b'A'), (1, b'0')], MoFault::Swollen),
@@ -193,8 +194,8 @@ fn header_on_the_text_of_all(rt: HostRuntime) -> Result<(), Fail> {
     Ok(())
 }
 
-/// So many rows, whose originals and translations are what one text ends with: each longer by `step` than the one
-/// before.
+/// Returns `count` rows, whose originals and translations are endings of one text, each `step` bytes longer than the
+/// one before.
 fn endings(alloc: Global, count: u32, step: u32) -> Result<Vec<Pair>, AllocError> {
     let len = count.wrapping_mul(step);
     let mut pairs = Vec::new(alloc);
@@ -221,8 +222,8 @@ fn repeated(alloc: Global, len: u32) -> Result<Vec<u8>, AllocError> {
     Ok(strings)
 }
 
-/// What comes of rows that are the endings of one text: as they stand, with the last two exchanged, and with the
-/// last one twice.
+/// Why rows that are endings of one text are refused: as they are, with the last two swapped, and with the last one
+/// twice.
 fn refusals_of_endings(
     alloc: Global,
     count: u32,
@@ -250,7 +251,7 @@ fn refusals_of_endings(
 fn originals_that_end_one_text(rt: HostRuntime) -> Result<(), Fail> {
     let alloc = rt.alloc();
     let order = Some(MoFault::Order);
-    // 20 rows take 420,000 bytes, and 600 of them 360,600,000.
+    // Together, 20 rows have 420,000 bytes, and 600 rows have 360,600,000.
     assert_eq!(rt; refusals_of_endings(alloc, 20, 1000)?, [None, order, order]);
     let swollen = Some(MoFault::Swollen);
     assert_eq!(rt;

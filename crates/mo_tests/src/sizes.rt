@@ -1,10 +1,10 @@
-//! Texts and files of many sizes. Every call may answer that memory was refused; here there is enough for all.
+//! PO texts and files of many sizes. Any call may run out of memory; here there is enough for all of them.
 use catalogue::{Catalogue, Options, compile};
 use mo_file::{check, read_mo, reread, write_mo};
 use std::alloc::{AllocError, Global};
 use std::test::Fail;
 
-/// Powers of two and their neighbours. All numbers up to 40 are tried besides.
+/// Powers of two and their neighbours, tried in addition to all numbers up to 40.
 const SIZES: [usize; 21] = [
     63, 64, 65, 127, 128, 129, 255, 256, 257, 511, 512, 513, 1023, 1024, 1025, 2047, 2048, 2049,
     4095, 4096, 4097,
@@ -15,7 +15,7 @@ const PLAIN: Options = Options {
     use_fuzzy: false,
 };
 
-/// The catalogue of `a`, of which the translation has this many bytes.
+/// Makes a catalogue of `a` with a translation of this many bytes.
 fn one_message(alloc: Global, len: usize) -> Result<Catalogue, Fail> {
     let mut text = String::from_str(alloc, "msgid \"a\"\nmsgstr \"")?;
     for _ in 0..len {
@@ -25,7 +25,7 @@ fn one_message(alloc: Global, len: usize) -> Result<Catalogue, Fail> {
     Ok(compile(alloc, text.as_bytes(), PLAIN)?.catalogue)
 }
 
-/// A text of this many messages, the last key first.
+/// Returns a PO text of this many messages, the last key first.
 fn many_messages(alloc: Global, count: usize) -> Result<String, AllocError> {
     let mut text = String::new(alloc);
     for number in 0..count {
@@ -35,7 +35,8 @@ fn many_messages(alloc: Global, count: usize) -> Result<String, AllocError> {
     Ok(text)
 }
 
-/// Whether what is written of a catalogue, and what is read of that, has this many entries and is the same file.
+/// Whether the file that is written of a catalogue is read back with this many entries and written as the same file
+/// again.
 fn is_kept(alloc: Global, catalogue: &Catalogue, count: usize) -> Result<bool, Fail> {
     let file = write_mo(alloc, catalogue)?;
     check(alloc, &file)?;

@@ -1,4 +1,4 @@
-//! Files of messages that stand in order already. What is wanted was written by hand from the format.
+//! Files of messages that are sorted already. The expected results were written by hand from the format.
 use catalogue::{Catalogue, Message};
 use mo_file::write_mo;
 use std::alloc::{AllocError, Global};
@@ -19,7 +19,7 @@ const EMPTY: [u8; 28] = [
     0x1c, 0x00, 0x00, 0x00, 0x00, 0x00, 0x00, 0x00, 0x1c, 0x00, 0x00, 0x00,
 ];
 
-/// A message without context and plural.
+/// Makes a message without a context or a plural.
 fn plain(alloc: Global, id: &str, form: &str) -> Result<Message, AllocError> {
     let mut forms = Vec::with_capacity(alloc, 1)?;
     forms.push(String::from_str(alloc, form)?)?;
@@ -31,7 +31,7 @@ fn plain(alloc: Global, id: &str, form: &str) -> Result<Message, AllocError> {
     })
 }
 
-/// The file of a catalogue that is made of these messages; `None` where none can be made of them.
+/// Makes a catalogue of these messages and returns its file, or `None` if they aren't accepted.
 fn file_of(alloc: Global, messages: Vec<Message>) -> Result<Option<Vec<u8>>, AllocError> {
     if !Catalogue::accepts(messages.as_slice()) {
         return Ok(None);

@@ -105,7 +105,7 @@ take_push [] k x e = absurd cc
 take_push (y ∷ ys) zero x e = let same : y ≡ x = cc in ap (λ z. z ∷ []) same
 take_push (y ∷ ys) (suc k) x e = ap (λ zs. y ∷ zs) (take_push ys k x e)
 
--- N says that x or one before it passes
+-- N says that x or an element before it passes
 any_step : {X : Type 0} (P : X → Type 0) (xs : List X) (x : X) (D O N : Type 0) → (D ↔ P x) → (O ↔ Any P xs)
     → (N ↔ (D ⊎ O)) → N ↔ Any P (xs ++ x ∷ [])
 any_step P xs x D O N d o n = (
@@ -120,7 +120,7 @@ any_step P xs x D O N d o n = (
   ])),
 )
 
--- N says that x or one behind it passes
+-- N says that x or an element after it passes
 pub any_cons : {X : Type 0} (P : X → Type 0) (x : X) (xs : List X) (D O N : Type 0) → (D ↔ P x) → (O ↔ Any P xs)
     → (N ↔ (D ⊎ O)) → N ↔ Any P (x ∷ xs)
 any_cons P x xs D O N d o n = (
@@ -177,7 +177,7 @@ differ_is (Arguments ks) form SystemDependent rule r = (
 differ_is Invalid form f rule r = ((λ t. absurd t), (λ d. absurd d))
 differ_is SystemDependent form f rule r = ((λ t. absurd t), (λ d. absurd d))
 
--- the original, read so
+-- the original, read as a format
 pub original_is : (e : po.Entry) (f : Format) (rule : Strictness) → IsReadAs (format_original e) f → rule
     ≡ strictness e.plural → Any (DiffersFrom f rule) e.forms ↔ FormsDiffer e
 original_is e f rule r rule_is = subst (λ s. Any (DiffersFrom f s) e.forms ↔ FormsDiffer e) (sym rule_is) (of f r)
@@ -256,7 +256,7 @@ dependent_both e p id plural forms some all is_some r r' f some_is all_is = subs
     (either_true (is_dependent plural) forms some some_is))
     (either_true (is_dependent id) some all all_is))
 
--- what is lent of the plural
+-- the plural that is borrowed
 pub none_lent : (lent : Option (Bor (List ℕ))) (plural : Option (List ℕ)) → option_map (λ text. text.now) lent ≡ plural
     → lent ≡ None → plural ≡ None
 none_lent lent plural is none = sym is ∙ ap (option_map (λ (text : Bor (List ℕ)). text.now)) none
@@ -290,7 +290,7 @@ mismatch_both e p plural forms all some r differ is = by_original e plural Prefi
 pub not_empty : (lent id : List ℕ) (b : Bool) → lent ≡ id → b ≡ (length lent == 0) → b ≡ false → id ≢ []
 not_empty lent id b is b_is b_false same = eqb-false (length lent) 0 (sym b_is ∙ b_false) (ap length (is ∙ same))
 
--- the test answers otherwise for id than for one of the others
+-- the test differs between id and one of the others
 abbrev OtherThan : (List ℕ → Bool) → List ℕ → List ℕ → Type 0
 OtherThan test id text = test id ≢ test text
 
@@ -358,7 +358,7 @@ pub are_newlines : (e : po.Entry) → HasOtherNewlines e → Any (NewlinesDiffer
 are_newlines e h = any_append_cases (NewlinesDiffer e.id) (text_if e.plural) e.forms
     ((mixed_is e.id (text_if e.plural ++ e.forms)).1 h.mixed)
 
--- an option of a text that is lent is there where the text is
+-- a borrowed text is there if the text is there
 pub plural_is : (lent : Option (Bor (List ℕ))) (plural : Option (List ℕ)) (b : Bool)
     → option_map (λ text. text.now) lent ≡ plural → b ≡ is_some lent → b ≡ is_some plural
 plural_is None plural b is b_is = b_is ∙ ap (λ (p : Option (List ℕ)). is_some p) is

@@ -79,7 +79,7 @@ rule_passes nplurals tree es at no_other each _ line r = r
 
 -- ---- at the checked level
 
--- what a fault from the twelfth on is
+-- the faults from the twelfth on
 abbrev Late : Options → List po.Entry → LoadKind → ℕ → Type 0
 Late o es kind line = (HeaderRefuses o es kind line × (rank kind < 16))
     ⊎ ((FirstAt HasOtherArguments (kept o es) line × (rank kind ≡ 16))
@@ -98,7 +98,7 @@ late o es FormatMismatch line le f = inr (inl (f.1, refl))
 late o es NewlineMismatch line le f = inr (inr (f.1, refl))
 late o es _ line le f = absurd f
 
--- what is known at the checked level of the rule in the header
+-- what is known about the rule in the header at the checked level
 pub record IsChecked (o : Options) (es : List po.Entry) (rule : Rule) (at : ℕ) : Type 0 where
   pub checked : IsTrue o.checked
   pub rule_is : HasHeaderRule o es rule

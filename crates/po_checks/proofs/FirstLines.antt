@@ -1,4 +1,4 @@
--- The first entry of which something holds.
+-- The first entry for which something holds.
 use Rattle.std.proofs.Common.{◌≡◌, ℕ, zero, suc, Bool, true, false, List, [], ◌∷◌, ◌++◌, Option, Some, None, refl, sym}
 use Rattle.std.proofs.Common.{ap, ◌∙◌, subst, append_assoc, inl, inr, arith}
 use Rattle.std.specs.Prelude.{◌⊎◌, ◌↔◌, IsTrue}
@@ -9,7 +9,7 @@ use Rattle.po_checks.specs.Checks.{NoneOf, FirstAt}
 use Rattle.po_checks.specs.Found.{FirstLine}
 use Rattle.po_checks.specs.Findings.{first_or}
 
--- ---- lists of which it holds nowhere
+-- ---- lists in which it holds nowhere
 
 pub none_in : (P : po.Entry → Type 0) (a : List po.Entry) (x : po.Entry) (b : List po.Entry) → NoneOf P (a ++ x ∷ b)
     → P x → ⊥
@@ -23,7 +23,7 @@ none_push P (x ∷ es) e none not_e = (none.0, none_push P es e none.1 not_e)
 pub first_not_none : (P : po.Entry → Type 0) (es : List po.Entry) (line : ℕ) → FirstAt P es line → NoneOf P es → ⊥
 first_not_none P es line f none = none_in P f.before f.e f.after (subst (NoneOf P) f.split none) f.holds
 
--- what holds of none holds of none of which more is asked
+-- if P holds for no entry, neither does anything that implies P
 pub none_weaker : (P Q : po.Entry → Type 0) → ((e : po.Entry) → Q e → P e) → (es : List po.Entry) → NoneOf P es
     → NoneOf Q es
 none_weaker P Q w [] none = tt
@@ -31,7 +31,7 @@ none_weaker P Q w (e ∷ es) none = ((λ q. none.0 (w e q)), none_weaker P Q w e
 
 -- ---- one line
 
--- of two cuts of a list one is in front of the other, or they are one
+-- of two cuts of a list one comes before the other, or they are equal
 abbrev pub Cut : List po.Entry → po.Entry → List po.Entry → po.Entry → Type 0
 Cut a x b y = (x ≡ y) ⊎ (((mid : List po.Entry) × (b ≡ a ++ x ∷ mid)) ⊎ ((mid : List po.Entry) × (a ≡ b ++ y ∷ mid)))
 

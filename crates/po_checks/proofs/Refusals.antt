@@ -1,4 +1,4 @@
--- What the entries of a text are refused for, at one line.
+-- Why the entries of a text are refused, at one line.
 use Rattle.std.proofs.Common.{◌≡◌, ℕ, ◌<◌, List, ◌∷◌, ◌++◌, length, length-append, map, get_or, Option, None, Some}
 use Rattle.std.proofs.Common.{refl, sym, ap, ◌∙◌, subst, arith, inl, inr}
 use Rattle.std.specs.Prelude.{◌⊎◌, ◌==◌, Contains, IfSome, if◌then◌else◌}
@@ -24,7 +24,7 @@ use Rattle.po_checks.proofs.FirstLines.{cuts, first_one}
 
 -- ---- one line of the first duplicate
 
--- a key that stands before isn't among distinct ones again
+-- among distinct keys, none occurs again
 not_again : (front : List po.Entry) (e : po.Entry) (others entries : List po.Entry) → entries ≡ front ++ e ∷ others
     → HasDistinctKeys entries → Contains (map key_of front) (key_of e) → ⊥
 not_again front e others entries split distinct has =
@@ -70,7 +70,7 @@ rule_in_one : (text : Option (List ℕ)) (rule other : Rule) → HasRuleIn text 
 rule_in_one None rule other p q = p ∙ sym q
 rule_in_one (Some text) rule other p q = HasRule-one text rule other p q
 
--- what the header refuses is by its one rule
+-- what the header refuses, its only rule refuses
 pub by_rule : (o : Options) (es : List po.Entry) (rule : Rule) (kind : LoadKind) (line : ℕ) → HasHeaderRule o es rule
     → HeaderRefuses o es kind line → RuleRefuses rule (kept o es) (header_line_of o es) kind line
 by_rule o es rule kind line has (other, has', r) = subst (λ (x : Rule). RuleRefuses x (kept o es) (header_line_of o es)
@@ -117,7 +117,7 @@ abbrev number_in : LoadKind → ℕ
 number_in (PluralRange n) = n
 number_in _ = 0
 
--- the kind of this rank, at a number that it may name
+-- the kind of this rank, with a number that it may name
 abbrev kind_ranked : ℕ → ℕ → LoadKind
 kind_ranked k n =
     if k == 1 then TooLarge else if k == 2 then NotUtf8 else if k == 3 then BadEscape else if k == 4 then OpenString

@@ -1,4 +1,4 @@
--- What the entries of a PO text are refused for, each with its line, and in which order (GNU gettext manual, "msgfmt
+-- Why the entries of a PO text are refused, at which line, and in which order (GNU gettext manual, "msgfmt
 -- Invocation").
 use Rattle.std.specs.Prelude.{◌≡◌, ◌≢◌, ℕ, ◌<◌, AllPairs, IsTrue, List, ◌∷◌, ◌++◌, map, Contains, Some}
 use Rattle.std.specs.List.{Any}
@@ -14,11 +14,11 @@ use Rattle.po_checks.specs.declared.fault.LoadKind.TheVariants.{BadText, BadOrde
 use Rattle.po_checks.specs.declared.fault.LoadKind.TheVariants.{SystemDependent, NoRule, BadRule, FormCount}
 use Rattle.po_checks.specs.declared.fault.LoadKind.TheVariants.{PluralRange, FormatMismatch, NewlineMismatch, Memory}
 
--- all keys are different
+-- no two entries have the same key
 abbrev pub HasDistinctKeys : List po.Entry → Type 0
 HasDistinctKeys entries = AllPairs (λ k l. k ≢ l) (map key_of entries)
 
--- the first entry that has the key of an earlier one stands at this line, kept or not
+-- the first entry with the key of an earlier one, kept or not, is on this line
 pub record IsDuplicateAt (entries : List po.Entry) (line : ℕ) : Type 0 where
   pub before : List po.Entry
   pub e : po.Entry
@@ -28,14 +28,14 @@ pub record IsDuplicateAt (entries : List po.Entry) (line : ℕ) : Type 0 where
   pub again : Contains (map key_of before) (key_of e)
   pub line_is : line ≡ e.line
 
--- the kept header, which stands at this line, names a charset that isn't accepted
+-- the kept header is on this line, and names a charset that isn't accepted
 pub record IsForeignAt (options : Options) (entries : List po.Entry) (line : ℕ) : Type 0 where
   pub header : po.Entry
   pub is : kept_header options entries ≡ Some header
   pub foreign : ¬ NamesAcceptedCharset header
   pub line_is : line ≡ header.line
 
--- the kept entries aren't what the rule for plural forms says, or the rule isn't one; `at` is the header's line
+-- the entries break the rule for plural forms, or the rule is missing or can't be read; `at` is the header's line
 abbrev pub RuleRefuses : Rule → List po.Entry → ℕ → LoadKind → ℕ → Type 0
 RuleRefuses Absent entries at NoRule line = FirstAt IsPlural entries line
 RuleRefuses Broken entries at BadRule line = Any IsPlural entries × (line ≡ at)
@@ -43,12 +43,12 @@ RuleRefuses (Given nplurals tree) entries at FormCount line = FirstAt (HasOtherC
 RuleRefuses (Given nplurals tree) entries at (PluralRange n) line = IsFirstWithoutForm nplurals tree n × (line ≡ at)
 RuleRefuses _ entries at _ line = ⊥
 
--- the rule in the kept header refuses them
+-- the rule in the kept header refuses the kept entries
 abbrev pub HeaderRefuses : Options → List po.Entry → LoadKind → ℕ → Type 0
 HeaderRefuses options entries kind line = (rule : Rule) × HasHeaderRule options entries rule
     × RuleRefuses rule (kept options entries) (header_line_of options entries) kind line
 
--- the entries are refused for this at this line: from `NoRule` on at the checked level alone
+-- the entries are refused with this kind at this line; the kinds from `NoRule` on apply only at the checked level
 abbrev pub Fails : Options → List po.Entry → LoadKind → ℕ → Type 0
 Fails options entries Duplicate line = IsDuplicateAt entries line
 Fails options entries Charset line = IsForeignAt options entries line
@@ -63,7 +63,7 @@ Fails options entries NewlineMismatch line = IsTrue options.checked
     × FirstAt HasOtherNewlines (kept options entries) line
 Fails options entries _ line = ⊥
 
--- the order of the refusals
+-- the order in which refusals are reported
 abbrev pub rank : LoadKind → ℕ
 rank TooLarge = 1
 rank NotUtf8 = 2
@@ -84,7 +84,7 @@ rank FormatMismatch = 16
 rank NewlineMismatch = 17
 rank Memory = 18
 
--- this is the first of them, in their order
+-- this is the first failure, by rank
 pub record IsFirst (Failing : LoadKind → ℕ → Type 0) (kind : LoadKind) (line : ℕ) : Type 0 where
   pub holds : Failing kind line
   pub first : (other : LoadKind) (at : ℕ) → rank other < rank kind → ¬ Failing other at

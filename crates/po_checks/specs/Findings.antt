@@ -20,7 +20,7 @@ use Rattle.po_checks.specs.declared.fault.LoadFault.{LoadFault}
 use Rattle.po_checks.specs.Found.{FailsFrom, FirstFault, FirstLine, HasFound, HasPlurals}
 use Rattle.po_checks.specs.Found.{line_for, line_of}
 
--- the line that was found before, or this one
+-- the line that was found before, or else this one if its entry fails
 abbrev pub first_or : Option ℕ → Bool → ℕ → Option ℕ
 first_or (Some found) fails line = Some found
 first_or None fails line = if fails then Some line else None
@@ -35,33 +35,33 @@ abbrev pub is_dependent : Format → Bool
 is_dependent SystemDependent = true
 is_dependent _ = false
 
--- the arguments of the one don't agree with those of the other, or the other has none
+-- the form's arguments don't agree with the original's, or the form isn't a valid format
 abbrev pub FormatsDiffer : Format → Format → Strictness → Type 0
 FormatsDiffer (Arguments original) (Arguments form) rule = ¬ Agrees original.items form.items rule
 FormatsDiffer (Arguments original) Invalid rule = Unit {0}
 FormatsDiffer _ _ rule = ⊥
 
--- a form differs from an original that was read so
+-- the form differs from an original that was read as a format
 abbrev pub DiffersFrom : Format → Strictness → List ℕ → Type 0
 DiffersFrom (Arguments kinds) rule form = Differs kinds.items rule form
 DiffersFrom _ rule form = ⊥
 
--- one more plural entry, of so many forms, stands at this line
+-- a plural entry with this number of forms was added at this line
 pub record AddsPlural (old new : Plurals) (forms line : ℕ) : Type 0 where
   pub first : line_of new.first ≡ first_or (line_of old.first) true line
   pub other : (nplurals : ℕ) → line_for new.first nplurals ≡ first_or (line_for old.first nplurals)
       (not (forms == nplurals)) line
 
--- the least of 0 to 1000 that takes none, or none of them
+-- the least number from 0 to 1000 that the rule gives none of the forms, if there is one
 abbrev pub FirstWithoutForm : ℕ → Tree → Option ℕ → Type 0
 FirstWithoutForm nplurals tree None = (n : ℕ) → n ≤ 1000 → has_form nplurals tree n ≡ true
 FirstWithoutForm nplurals tree (Some n) = IsFirstWithoutForm nplurals tree n
 
--- one begins with a newline and the other doesn't, or so at their ends
+-- only one of the two begins with a newline, or only one ends with one
 pub record NewlinesDiffer (id text : List ℕ) : Type 0 where
   pub either : (begins_with_newline id ≢ begins_with_newline text) ⊎ (ends_with_newline id ≢ ends_with_newline text)
 
--- what was found of one more kept entry: of its formats
+-- the findings about formats include one more kept entry
 pub record AddsFormats (old new : Findings) (e : po.Entry) : Type 0 where
   pub dependent : (entries : List po.Entry) → FirstLine HasSystemDependentText entries old.system_dependent
       → FirstLine HasSystemDependentText (entries ++ e ∷ []) new.system_dependent
@@ -70,7 +70,7 @@ pub record AddsFormats (old new : Findings) (e : po.Entry) : Type 0 where
   pub newlines : new.newlines ≡ old.newlines
   pub plurals : new.plurals ≡ old.plurals
 
--- and of its newlines and plural forms
+-- the findings about newlines and plural forms include one more kept entry
 pub record AddsTexts (old new : Findings) (e : po.Entry) : Type 0 where
   pub newlines : (entries : List po.Entry) → FirstLine HasOtherNewlines entries old.newlines
       → FirstLine HasOtherNewlines (entries ++ e ∷ []) new.newlines
@@ -78,7 +78,7 @@ pub record AddsTexts (old new : Findings) (e : po.Entry) : Type 0 where
   pub dependent : new.system_dependent ≡ old.system_dependent
   pub mismatch : new.mismatch ≡ old.mismatch
 
--- the first fault that the findings come to, by the rule of a header on this line: from the twelfth refusal on
+-- the first fault by the findings and the rule of a header on this line, among the refusals from the twelfth on
 abbrev pub IsCheckedFault : Findings → Rule → ℕ → Option LoadFault → Type 0
 IsCheckedFault findings rule at fault = (options : Options) (entries : List po.Entry)
     → HasFound options entries findings → IsTrue options.checked → HasHeaderRule options entries rule → at

@@ -29,29 +29,29 @@ abbrev pub has_empty_form : List (List ℕ) → Bool
 has_empty_form [] = true
 has_empty_form (form ∷ forms) = is_empty form
 
--- an untranslated entry: its first form is empty
+-- an entry is untranslated if its first form is empty, or if it has no form
 abbrev pub is_untranslated : po.Entry → Bool
 is_untranslated e = has_empty_form e.forms
 
--- what goes into the catalogue: no untranslated entry, and no fuzzy one but the header, unless it is asked for
+-- an entry is kept if it is translated and, unless fuzzy entries are asked for or it is the header, not fuzzy
 abbrev pub is_kept : Options → po.Entry → Bool
 is_kept options e = not (is_untranslated e) && (not e.fuzzy || (options.use_fuzzy || is_header e))
 
 -- ---- all entries of the text
 
--- the entries that are kept, in the order of the text
+-- the entries that are kept, in the order of the PO text
 abbrev pub kept : Options → List po.Entry → List po.Entry
 kept options entries = filter (is_kept options) entries
 
--- the header, where it is kept
+-- the header, if it is kept
 abbrev pub kept_header : Options → List po.Entry → Option po.Entry
 kept_header options entries = find is_header (kept options entries)
 
--- the line of the kept header, or 0 where there is none
+-- the line of the kept header, or 0 if there is none
 abbrev pub header_line_of : Options → List po.Entry → ℕ
 header_line_of options entries = option_map_or (λ e. e.line) (kept_header options entries) 0
 
--- the entry's first form names no charset, or one that is accepted
+-- the entry's first form names an accepted charset or none
 abbrev pub NamesAcceptedCharset : po.Entry → Type 0
 NamesAcceptedCharset e = HasAcceptedCharset (first_form e.forms)
 
@@ -59,6 +59,6 @@ NamesAcceptedCharset e = HasAcceptedCharset (first_form e.forms)
 abbrev pub header_text_of : Options → List po.Entry → Option (List ℕ)
 header_text_of options entries = option_map (λ e. first_form e.forms) (kept_header options entries)
 
--- the rule for plural forms in it
+-- the rule for plural forms in the kept header
 abbrev pub HasHeaderRule : Options → List po.Entry → Rule → Type 0
 HasHeaderRule options entries rule = HasRuleIn (header_text_of options entries) rule

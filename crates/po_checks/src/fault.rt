@@ -1,4 +1,4 @@
-//! Why a text is refused.
+//! Why a PO text is refused.
 ghost use Rattle.std.specs.Prelude.{◌≡◌};
 ghost use Rattle.po_checks.specs.Refusal.{kind_of, out_of_memory};
 
@@ -6,29 +6,29 @@ use po_text::{PoFault, PoKind};
 use std::alloc::{AllocError, AllocFailed};
 use thiserror::Error;
 
-/// The kinds of refusal. Of several that hold, the first in this order is given, where
-/// `TooLarge` to `BadIndex` have the order of the PO reader among themselves.
+/// The kinds of refusal. If several apply, the first in this order is reported; among `TooLarge` to `BadIndex`, the PO
+/// reader decides which.
 #[derive(Clone, Copy, Debug, PartialEq, Eq, Error)]
 pub enum LoadKind {
-    /// More than 67,108,864 bytes.
+    /// The text has more than 67,108,864 bytes.
     #[error("file too large")]
     TooLarge,
     /// The text isn't UTF-8.
     #[error("not UTF-8")]
     NotUtf8,
-    /// A backslash in a string that begins no escape, or an octal value above 255.
+    /// A string holds a backslash that begins no escape, or an octal value above 255.
     #[error("bad escape")]
     BadEscape,
     /// A line or the text ends inside a string.
     #[error("string not closed")]
     OpenString,
-    /// A word that is no keyword or number, or a byte that begins no token.
+    /// A word is neither a keyword nor a number, or a byte begins no token.
     #[error("unknown word")]
     BadWord,
-    /// A string that holds NUL or isn't UTF-8; a context or msgid that holds byte 4.
+    /// A string holds NUL or isn't UTF-8, or a context or msgid holds byte 4.
     #[error("bad text")]
     BadText,
-    /// A token that can't stand at its place.
+    /// A token isn't allowed at its place.
     #[error("out of order")]
     BadOrder,
     /// The index of a form isn't the next one.
@@ -43,10 +43,10 @@ pub enum LoadKind {
     /// A c-format text has a directive whose width depends on the system.
     #[error("system-dependent format")]
     SystemDependent,
-    /// A plural entry, and the header gives no rule.
+    /// There is a plural entry, and the header gives no rule.
     #[error("plural message without a rule")]
     NoRule,
-    /// A plural entry, and the header's rule can't be read.
+    /// There is a plural entry, and the header's rule can't be read.
     #[error("unreadable plural rule")]
     BadRule,
     /// A plural entry has another number of forms than the rule says.
@@ -58,15 +58,15 @@ pub enum LoadKind {
     /// The arguments of a c-format text and of its translation differ.
     #[error("format arguments differ")]
     FormatMismatch,
-    /// Of the texts of an entry some begin or end with a newline and some don't.
+    /// Some texts of an entry begin or end with a newline, and others don't.
     #[error("newlines differ")]
     NewlineMismatch,
-    /// Want of memory, which may stand in place of any other answer.
+    /// An allocation failed. This may be reported instead of any other result.
     #[error("out of memory")]
     Memory,
 }
 
-/// A refusal: its kind, and the line where it stands; 0 where it has none.
+/// A refusal: its kind and its line, or line 0 if it has none.
 #[derive(Clone, Copy, Debug, PartialEq, Eq, Error)]
 #[error("line {line}: {kind}")]
 pub struct LoadFault {

@@ -1,4 +1,4 @@
-//! The checks of a text, over its kept entries in the order in which they are read.
+//! The checks of a PO text, run on its kept entries in the order in which they are read.
 ghost use Rattle.std.specs.Prelude.{◌≡◌, ◌&&◌, [], OnOk, IfOk, IfErr, IsTrue, option_map};
 ghost use Rattle.po_header.specs.Rules.{rule_of};
 ghost use Rattle.po_checks.specs.Findings.{first_or, AddsFormats, AddsTexts, IsCheckedFault};
@@ -14,20 +14,20 @@ use po_header::{RuleRead, rule_in};
 use po_text::EntryBuffer;
 use std::alloc::{AllocError, Global};
 
-/// What the checks found so far: for each the line of the first kept entry that fails it.
+/// What the checks have found so far: for each check, the line of the first kept entry that fails it.
 #[derive(Clone, Copy)]
 pub struct Findings {
-    /// A c-format text is system-dependent.
+    /// The line of the first entry with a system-dependent c-format text.
     pub system_dependent: Option<u32>,
-    /// A form takes other arguments than its original.
+    /// The line of the first entry with a form whose arguments differ from its original's.
     pub mismatch: Option<u32>,
-    /// Some texts begin or end with a newline, and some don't.
+    /// The line of the first entry with some texts that begin or end with a newline and others that don't.
     pub newlines: Option<u32>,
-    /// The plural entries.
+    /// The plural entries so far.
     pub plurals: Plurals,
 }
 
-/// The line that was found before, or else this one, where its entry fails.
+/// Returns the line that was found before, or else `line` if its entry fails.
 pub(crate) fn first_line(found: Option<u32>, fails: bool, line: u32) -> Option<u32>
     ensures { result ≡ first_or found fails line }
 {
@@ -37,7 +37,7 @@ pub(crate) fn first_line(found: Option<u32>, fails: bool, line: u32) -> Option<u
     }
 }
 
-/// A fault of this kind, where there is a line.
+/// Makes a fault of this kind, if there is a line.
 pub(crate) fn fault_at(line: Option<u32>, kind: LoadKind) -> Option<LoadFault>
     ensures { result ≡ option_map (λ line. record { kind = kind; line = line }) line }
 {
@@ -48,7 +48,7 @@ pub(crate) fn fault_at(line: Option<u32>, kind: LoadKind) -> Option<LoadFault>
 }
 
 impl Findings {
-    /// Nothing was read.
+    /// Starts with nothing read.
     pub fn new() -> Findings
         ensures { (options : Options) → HasFound options [] result }
     {
@@ -60,7 +60,7 @@ impl Findings {
         }
     }
 
-    /// Looks at the formats of a kept entry.
+    /// Checks the formats of a kept entry.
     fn look_at_formats(&mut self, alloc: Global, entry: &EntryBuffer) -> Result<(), AllocError>
         ensures ok { OnOk result (AddsFormats self.old self.new entry.now) }
         ensures no_memory { IfErr result (λ _. IsTrue entry.now.c_format) }
@@ -72,7 +72,7 @@ impl Findings {
         Ok(())
     }
 
-    /// Looks at the number of forms and the newlines of a kept entry.
+    /// Checks the newlines of a kept entry, and counts its forms.
     fn look_at_texts(&mut self, entry: &EntryBuffer)
         ensures { AddsTexts self.old self.new entry.now }
     {
@@ -80,7 +80,7 @@ impl Findings {
         self.plurals.look_at(entry);
     }
 
-    /// Looks at one more entry.
+    /// Checks one more entry. Entries that aren't kept are skipped. The only error is a failed allocation.
     pub fn look_at(
         &mut self,
         alloc: Global,
@@ -89,7 +89,7 @@ impl Findings {
     ) -> Result<(), AllocError>
         ensures ok { OnOk result (LooksAt options entry.now self.old self.new) }
 
-        // Formats alone take memory.
+        // Only formats allocate memory.
         ensures no_memory { IfErr result (λ _. IsTrue (Kept.is_kept options entry.now && entry.now.c_format)) }
     {
         if !is_kept(entry, options) {
@@ -102,7 +102,7 @@ impl Findings {
         Ok(())
     }
 
-    /// The first fault of the checked level, by the rule in the header, which stands at this line.
+    /// Returns the first fault of the checked level, by the rule in the header on this line.
     fn checked_fault(&self, rule: &RuleRead, header_line: u32) -> Option<LoadFault>
         ensures { IsCheckedFault self.now (rule_of rule.now) header_line result }
     {
@@ -118,7 +118,8 @@ impl Findings {
         }
     }
 
-    /// The first fault that the checks found, by the header's text and line.
+    /// Returns the first fault that the checks have found, given the text and the line of the kept header. The only
+    /// error is a failed allocation.
     pub fn fault(
         &self,
         alloc: Global,
@@ -129,7 +130,7 @@ impl Findings {
         ensures ok { IfOk result (λ fault. IsFault self.now options (option_map (λ text. text.now) header.entry)
             header_line fault) }
 
-        // Only at the checked level is the rule read, which takes memory.
+        // Only the checked level reads the rule, which allocates memory.
         ensures no_memory { IfErr result (λ _. IsTrue options.checked) }
     {
         if let Some(line) = self.system_dependent {

@@ -1,4 +1,4 @@
-//! The check of C formats: the arguments of a form are those of its original.
+//! The check of C formats: the arguments of a form have to be those of its original (GNU gettext manual, "c-format").
 ghost use Rattle.std.specs.Prelude.{◌≡◌, ◌⊎◌, ◌↔◌, ◌||◌, false, IsTrue, IfOk, IfErr};
 ghost use Rattle.std.specs.List.{Any};
 ghost use Rattle.c_signature.specs.Signature.{IsSystemDependent};
@@ -9,7 +9,7 @@ use c_signature::{ArgKind, FormatFault, Strictness, agrees, signature};
 use po_text::EntryBuffer;
 use std::alloc::{AllocError, Global};
 
-/// What a text is as a format.
+/// How a text reads as a format.
 #[derive(Drop)]
 pub(crate) enum Format {
     Arguments(Vec<ArgKind>),
@@ -20,12 +20,13 @@ pub(crate) enum Format {
 /// What the formats of an entry are refused for.
 #[derive(Clone, Copy)]
 pub(crate) struct FormatFindings {
-    /// A text is system-dependent.
+    /// Some text is system-dependent.
     pub(crate) system_dependent: bool,
-    /// A form differs from its original.
+    /// Some form differs from its original.
     pub(crate) mismatch: bool,
 }
 
+/// Reads a text as a format. The only error is a failed allocation.
 fn read_format(alloc: Global, text: &str) -> Result<Format, AllocError>
     ensures { IfOk result (λ format. IsReadAs text.now format) }
 {
@@ -46,7 +47,7 @@ fn is_system_dependent(format: &Format) -> bool
     }
 }
 
-/// Whether a form differs from its original. An original that is no format isn't compared.
+/// Whether a form differs from its original. An original that isn't a valid format isn't compared.
 fn differs(original: &Format, form: &Format, rule: Strictness) -> bool
     ensures { IsTrue result ↔ FormatsDiffer original.now form.now rule }
 {
@@ -58,7 +59,7 @@ fn differs(original: &Format, form: &Format, rule: Strictness) -> bool
 }
 
 impl FormatFindings {
-    /// No text was looked at.
+    /// Starts with no text read.
     fn none() -> FormatFindings
         ensures { result ≡ record { system_dependent = false; mismatch = false } }
     {
@@ -68,7 +69,7 @@ impl FormatFindings {
         }
     }
 
-    /// With one more text.
+    /// Adds the findings of one more text.
     fn with_text(self, text: &Format) -> FormatFindings
         ensures dependent { result.system_dependent ≡ (is_dependent text.now || self.system_dependent) }
         ensures mismatch { result.mismatch ≡ self.mismatch }
@@ -79,7 +80,7 @@ impl FormatFindings {
         }
     }
 
-    /// With one more form, beside its original.
+    /// Adds the findings of one more form, compared with its original.
     fn with_form(self, original: &Format, form: &Format, rule: Strictness) -> FormatFindings
         ensures dependent { result.system_dependent ≡ (is_dependent form.now || self.system_dependent) }
         ensures mismatch { IsTrue result.mismatch ↔ (FormatsDiffer original.now form.now rule ⊎ IsTrue self.mismatch) }
@@ -91,7 +92,7 @@ impl FormatFindings {
     }
 }
 
-/// The faults of the forms of an entry, beside their original.
+/// Compares the forms of an entry with their original.
 fn form_faults(
     alloc: Global,
     entry: &EntryBuffer,
@@ -110,7 +111,7 @@ fn form_faults(
     Ok(faults)
 }
 
-/// The faults of an entry that is flagged `c-format`.
+/// Checks the formats of an entry that is flagged `c-format`.
 fn flagged_faults(alloc: Global, entry: &EntryBuffer) -> Result<FormatFindings, AllocError>
     ensures dependent { IfOk result
         (λ faults. IsTrue faults.system_dependent ↔ Any IsSystemDependent (texts entry.now)) }
@@ -126,7 +127,7 @@ fn flagged_faults(alloc: Global, entry: &EntryBuffer) -> Result<FormatFindings, 
     Ok(faults.with_text(&plural).with_text(&id))
 }
 
-/// What the formats of an entry are refused for.
+/// Checks the formats of an entry. One that isn't flagged `c-format` is skipped.
 pub(crate) fn format_faults(
     alloc: Global,
     entry: &EntryBuffer,

@@ -1,4 +1,4 @@
-//! Which entries of a text are kept.
+//! Decides which entries of a PO text are kept.
 ghost use Rattle.std.specs.Prelude.{◌≡◌};
 ghost use Rattle.po_text.specs.Lawful.{IsLawfulTexts};
 ghost use Rattle.po_checks.specs.Kept as Kept;
@@ -17,19 +17,18 @@ pub fn is_header(entry: &EntryBuffer) -> bool
 pub fn is_untranslated(entry: &EntryBuffer) -> bool
     ensures is { result ≡ Kept.is_untranslated entry.now }
 
-    // Every entry of a buffer has lawful texts.
+    // Every entry in a buffer has lawful texts.
     ensures lawful { IsLawfulTexts entry.now }
 {
     entry.form_count() == 0 || entry.form(0).is_empty()
 }
 
-/// Whether an entry goes into the catalogue: it is translated, and not fuzzy unless fuzzy entries are asked for or it
-/// is
-/// the header.
+/// Whether an entry goes into the catalogue: it is translated and, unless `use_fuzzy` is set or it is the header, it
+/// isn't fuzzy.
 pub fn is_kept(entry: &EntryBuffer, options: Options) -> bool
     ensures is { result ≡ Kept.is_kept options entry.now }
 
-    // Every entry of a buffer has lawful texts.
+    // Every entry in a buffer has lawful texts.
     ensures lawful { IsLawfulTexts entry.now }
 {
     !is_untranslated(entry) && (!entry.is_fuzzy() || options.use_fuzzy || is_header(entry))

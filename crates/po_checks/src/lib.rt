@@ -1,5 +1,5 @@
-//! What the checks of `msgfmt` find while the entries of a PO text are read (GNU gettext manual, "msgfmt Invocation"):
-//! which entries are kept, C formats, plural forms and newlines; and the kinds of refusal.
+//! The checks of `msgfmt`, run while the entries of a PO text are read (GNU gettext manual, "msgfmt Invocation"): which
+//! entries are kept, C formats, plural forms and newlines; and the kinds of refusal.
 #![tactic(auto)]
 
 mod fault;

@@ -1,5 +1,4 @@
-//! The check of newlines: where the msgid begins or ends with one, so do the other texts of an entry, and the other way
-//! round.
+//! The check of newlines: the other texts of an entry have to begin and end with a newline exactly if the msgid does.
 ghost use Rattle.std.specs.Prelude.{◌≡◌, ◌↔◌, IsTrue};
 ghost use Rattle.std.specs.List.{Any};
 ghost use Rattle.po_checks.specs.Checks.{text_if, begins_with_newline, ends_with_newline, HasOtherNewlines};
@@ -25,14 +24,14 @@ fn ends(text: &str) -> bool
     }
 }
 
-/// Whether one begins with a newline and the other doesn't, or so at their ends.
+/// Whether only one of the two texts begins with a newline, or only one ends with one.
 fn differ(id: &str, text: &str) -> bool
     ensures { IsTrue result ↔ NewlinesDiffer id.now text.now }
 {
     begins(id) != begins(text) || ends(id) != ends(text)
 }
 
-/// Whether a form differs from the msgid.
+/// Whether some form differs from the msgid in its newlines.
 fn form_differs(entry: &EntryBuffer) -> bool
     ensures { IsTrue result ↔ Any (NewlinesDiffer entry.now.id) entry.now.forms }
 {
@@ -44,6 +43,7 @@ fn form_differs(entry: &EntryBuffer) -> bool
     false
 }
 
+/// Whether the plural, if there is one, differs from the msgid in its newlines.
 fn plural_differs(entry: &EntryBuffer) -> bool
     ensures { IsTrue result ↔ Any (NewlinesDiffer entry.now.id) (text_if entry.now.plural) }
 {
@@ -53,7 +53,8 @@ fn plural_differs(entry: &EntryBuffer) -> bool
     }
 }
 
-/// Whether some of an entry's texts begin with a newline and some don't, or so at their ends.
+/// Whether some texts of an entry begin or end with a newline and others don't. An entry with the empty msgid isn't
+/// checked.
 pub(crate) fn newlines_differ(entry: &EntryBuffer) -> bool
     ensures { IsTrue result ↔ HasOtherNewlines entry.now }
 {

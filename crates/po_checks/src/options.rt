@@ -1,10 +1,10 @@
-//! How a text is compiled.
+//! The options of a compilation.
 
-/// How a text is compiled.
+/// The options of a compilation.
 #[derive(Clone, Copy, Debug, PartialEq, Eq)]
 pub struct Options {
-    /// The checked level (`msgfmt -c`).
+    /// Also run the checks of `msgfmt -c`.
     pub checked: bool,
-    /// Fuzzy entries are kept too (`msgfmt -f`).
+    /// Keep fuzzy entries, too (`msgfmt -f`).
     pub use_fuzzy: bool,
 }

@@ -1,5 +1,5 @@
-//! The check of plural forms: that there is a rule, that each plural entry has its forms, and that it has a form for
-//! each number.
+//! The check of plural forms: there is a rule, each plural entry has as many forms as the rule says, and each number
+//! has a form (GNU gettext manual, "Plural forms").
 ghost use Rattle.std.specs.Prelude.{◌≡◌, ◌++◌, ◌∷◌, [], List};
 ghost use Rattle.po_header.specs.Expr.{tree_of};
 ghost use Rattle.po_header.specs.Rule.{Given};
@@ -15,23 +15,23 @@ use crate::{LoadFault, LoadKind};
 use po_header::{PluralExpr, RuleRead};
 use po_text::EntryBuffer;
 
-/// The first plural entry: how many forms it has, and its line.
+/// The first plural entry.
 #[derive(Clone, Copy)]
 pub struct FirstPlural {
-    /// How many forms it has.
+    /// The number of its forms.
     pub forms: u64,
     pub line: u32,
-    /// The line of the first one behind it that has another number of forms.
+    /// The line of the first later plural entry with another number of forms.
     pub other: Option<u32>,
 }
 
-/// The plural entries so far. How many forms they should have is known only when the header was read.
+/// The plural entries so far. How many forms they should have is known only once the header has been read.
 #[derive(Clone, Copy)]
 pub struct Plurals {
     pub first: Option<FirstPlural>,
 }
 
-/// Whether n takes one of the forms.
+/// Whether the rule gives `n` one of the forms.
 fn has_form_for(nplurals: u64, expr: &PluralExpr, n: u64) -> bool
     ensures { result ≡ has_form nplurals (tree_of expr.now) n }
 {
@@ -41,7 +41,7 @@ fn has_form_for(nplurals: u64, expr: &PluralExpr, n: u64) -> bool
     }
 }
 
-/// The least number of 0 to 1000 that takes none of the forms.
+/// Returns the least number from 0 to 1000 that the rule gives none of the forms.
 fn first_without_form(nplurals: u64, expr: &PluralExpr) -> Option<u64>
     ensures { FirstWithoutForm nplurals (tree_of expr.now) result }
 {
@@ -54,13 +54,14 @@ fn first_without_form(nplurals: u64, expr: &PluralExpr) -> Option<u64>
 }
 
 impl Plurals {
+    /// Starts with no plural entry.
     pub(crate) fn new() -> Plurals
         ensures { HasPlurals [] result }
     {
         Plurals { first: None }
     }
 
-    /// One more plural entry, of so many forms.
+    /// Adds a plural entry with this number of forms.
     fn add(&mut self, forms: u64, line: u32)
         ensures { AddsPlural self.old self.new forms line }
     {
@@ -78,7 +79,7 @@ impl Plurals {
         self.first = Some(first);
     }
 
-    /// One more entry.
+    /// Looks at one more entry.
     pub(crate) fn look_at(&mut self, entry: &EntryBuffer)
         ensures { (entries : List PoEntry) → HasPlurals entries self.old
             → HasPlurals (entries ++ entry.now ∷ []) self.new }
@@ -98,7 +99,7 @@ impl Plurals {
         }
     }
 
-    /// The line of the first plural entry that has another number of forms.
+    /// The line of the first plural entry with another number of forms than `nplurals`.
     fn line_for(&self, nplurals: u64) -> Option<u32>
         ensures { result ≡ line_for self.now.first nplurals }
     {
@@ -112,7 +113,7 @@ impl Plurals {
         }
     }
 
-    /// The first fault by this rule, in a header that stands at this line.
+    /// Returns the first fault by a rule that was read, from a header on this line.
     fn fault_by(&self, nplurals: u64, expr: &PluralExpr, header_line: u32) -> Option<LoadFault>
         ensures { (entries : List PoEntry) → HasPlurals entries self.now
             → FirstFault (RuleRefuses (Given nplurals (tree_of expr.now)) entries header_line) result }
@@ -132,7 +133,7 @@ impl Plurals {
         }
     }
 
-    /// The first fault by the rule in a header that stands at this line.
+    /// Returns the first fault by the rule in a header on this line, whether or not the rule could be read.
     pub(crate) fn fault(&self, rule: &RuleRead, header_line: u32) -> Option<LoadFault>
         ensures { (entries : List PoEntry) → HasPlurals entries self.now
             → FirstFault (RuleRefuses (rule_of rule.now) entries header_line) result }
