@@ -10,7 +10,7 @@
 #include <unistd.h>
 
 struct question {
-    const char *domain, *msgid, *plural; /* the program's arguments; `domain` may be NULL, and so is `plural` without `n` */
+    const char *domain, *msgid, *plural; /* the program's arguments; `domain` may be NULL, and `plural` goes with `n` */
     const unsigned long *n;
     int category;
 };
