@@ -3,11 +3,13 @@ use catalogue::Options;
 use live_set::{Ask, Query};
 use std::alloc::{AllocError, Global};
 
+/// The options to compile with: no checks, and no fuzzy messages.
 pub const PLAIN: Options = Options {
     checked: false,
     use_fuzzy: false,
 };
 
+/// The number of languages, each with a catalogue of its own.
 pub const LANGUAGES: u32 = 20;
 
 /// The name of a language's locale.

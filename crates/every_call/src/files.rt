@@ -59,6 +59,7 @@ fn changed(at: usize, bytes: &[u8]) -> [u8; 78] {
     file
 }
 
+/// The group `read_mo`.
 pub fn read_all<R: Print + AllocGlobal>(rt: &R) -> io::Result<()> {
     read(rt, "two messages", &SWAPPED)?;
     read(rt, "nothing", EMPTY)?;
@@ -77,6 +78,7 @@ fn check_one<R: Print + AllocGlobal>(rt: &R, label: &str, bytes: &[u8]) -> io::R
     println!(rt; "check, {label}, gives {answer:?}")
 }
 
+/// The group `check`.
 pub fn check_all<R: Print + AllocGlobal>(rt: &R) -> io::Result<()> {
     check_one(rt, "two messages", &SWAPPED)?;
     check_one(rt, "an unknown charset", KOI8)?;
@@ -107,6 +109,7 @@ fn write_text<R: Print + AllocGlobal>(rt: &R, label: &str, text: &str) -> io::Re
     }
 }
 
+/// The group `write_mo`.
 pub fn write_all<R: Print + AllocGlobal>(rt: &R) -> io::Result<()> {
     write_text(rt, "an entry", SALUT)?;
     write_text(rt, "nothing", "")?;
@@ -134,6 +137,7 @@ fn reread_text<R: Print + AllocGlobal>(rt: &R, label: &str, text: &str) -> io::R
     }
 }
 
+/// The group `reread`.
 pub fn reread_all<R: Print + AllocGlobal>(rt: &R) -> io::Result<()> {
     reread_text(rt, "an entry", SALUT)?;
     reread_text(rt, "nothing", "")?;

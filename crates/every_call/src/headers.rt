@@ -45,6 +45,7 @@ fn parse<R: Print + AllocGlobal>(rt: &R, label: &str, text: &str) -> io::Result<
     }
 }
 
+/// The group `parse_expr`.
 pub fn parse_all<R: Print + AllocGlobal>(rt: &R) -> io::Result<()> {
     for text in EXPRESSIONS {
         parse(rt, text, text)?;
@@ -75,6 +76,7 @@ fn read<R: Print + AllocGlobal>(rt: &R, text: &str) -> io::Result<()> {
     }
 }
 
+/// The group `read_rule`.
 pub fn read_all<R: Print + AllocGlobal>(rt: &R) -> io::Result<()> {
     for text in RULES {
         read(rt, text)?;

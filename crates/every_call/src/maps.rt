@@ -71,6 +71,7 @@ fn print_catalogue<R: Print>(rt: &R, catalogue: &Catalogue) -> io::Result<()> {
     println!(rt; ")")
 }
 
+/// The group `compile`.
 pub fn compile_all<R: Print + AllocGlobal>(rt: &R) -> io::Result<()> {
     for (label, text, options) in TEXTS {
         compile_one(rt, label, text, options)?;
@@ -156,6 +157,7 @@ fn in_context(context: &'static str, forms: &'static [&'static str]) -> Texts {
     }
 }
 
+/// The group `from_sorted`.
 pub fn sorted_all<R: Print + AllocGlobal>(rt: &R) -> io::Result<()> {
     sort_one(rt, "nothing", &[])?;
     sort_one(
@@ -196,6 +198,7 @@ fn copy_one<R: Print + AllocGlobal>(rt: &R, label: &str, text: &str) -> io::Resu
     }
 }
 
+/// The group `from_file`.
 pub fn copy_all<R: Print + AllocGlobal>(rt: &R) -> io::Result<()> {
     copy_one(rt, "an entry", SALUT)?;
     copy_one(rt, "nothing", "")?;

@@ -215,6 +215,7 @@ fn serve_store<R: Threads + Wait + Print + AllocGlobal + Sync>(
     serve_desks(rt, publisher, &mut desks, jobs)
 }
 
+/// The group `serve`.
 pub fn serve_all<R: Threads + Wait + Print + AllocGlobal + Sync>(rt: &R) -> io::Result<()> {
     'cases: for case in CASES {
         print!(rt; "open_store, 2, ")?;

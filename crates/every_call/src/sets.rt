@@ -18,6 +18,7 @@ fn name<R: Print + AllocGlobal>(rt: &R, label: &str, text: &str) -> io::Result<(
     }
 }
 
+/// The group `name`.
 pub fn name_all<R: Print + AllocGlobal>(rt: &R) -> io::Result<()> {
     name(rt, "no letters", "")?;
     name(rt, "65 letters", LETTERS)?;
@@ -66,6 +67,7 @@ fn absorb<R: Print + AllocGlobal>(
     print_set(rt, set)
 }
 
+/// The group `absorb`.
 pub fn absorb_all<R: Print + AllocGlobal>(rt: &R) -> io::Result<()> {
     let mut set = CatalogueSet::new(rt.alloc());
     print_set(rt, &set)?;
@@ -130,6 +132,7 @@ fn clone_set<R: Print + AllocGlobal>(rt: &R) -> io::Result<()> {
     print_set(rt, &set)
 }
 
+/// The group `try_clone`.
 pub fn clone_all<R: Print + AllocGlobal>(rt: &R) -> io::Result<()> {
     clone_name(rt)?;
     clone_load(rt)?;

@@ -152,6 +152,7 @@ fn publish_rows<R: Wait + Print + AllocGlobal>(
     enter(rt, reader)
 }
 
+/// The group `publish`: loads and publishes on a new store.
 pub fn publish_all<R: Wait + Print + AllocGlobal>(rt: &R) -> io::Result<()> {
     print!(rt; "open_store, 1, ")?;
     let (mut publisher, mut readers) = match open_store(rt, rt.alloc(), 1, u64::MAX) {
@@ -197,6 +198,7 @@ fn ask_rows<R: Wait + Print + AllocGlobal>(
     enter(rt, reader)
 }
 
+/// The group `ask`: queries, notices and loads of MO files on a new store.
 pub fn ask_all<R: Wait + Print + AllocGlobal>(rt: &R) -> io::Result<()> {
     print!(rt; "open_store, 1, ")?;
     let (mut publisher, mut readers) = match open_store(rt, rt.alloc(), 1, 9) {
@@ -255,6 +257,7 @@ fn open<R: Wait + Print + AllocGlobal>(rt: &R, count: u32, most: u64) -> io::Res
     done
 }
 
+/// The group `open_store`: stores with too few and too many readers, and with allowed numbers of them.
 pub fn open_all<R: Wait + Print + AllocGlobal>(rt: &R) -> io::Result<()> {
     open(rt, 0, 9)?;
     open(rt, 17, 9)?;

@@ -53,6 +53,7 @@ const TEXTS: [(&str, &str); 9] = [
     ("an open string", "msgid \"a\nmsgstr \"b\"\n"),
 ];
 
+/// The group `read_po`.
 pub fn read_all<R: Print + AllocGlobal>(rt: &R) -> io::Result<()> {
     for (label, text) in TEXTS {
         let answer = read_po(rt.alloc(), text.as_bytes());

@@ -164,8 +164,8 @@ impl Publisher {
     /// version stays as it is.
     ///
     /// If memory runs out, nothing changes: the loads stay pending, and the next publish takes them together with those
-    /// accepted meanwhile. It waits for readers that are still in the copy that it writes next, so a `Pinned` that is
-    /// never left may keep it from returning.
+    /// accepted meanwhile. It waits for readers that are still in the copy that it writes next, which are those that
+    /// entered before the last publish. So a `Pinned` that is never left may keep it from returning.
     pub fn publish<R: Wait>(&mut self, rt: &R) -> Result<Version, PublishFault>
         ensures ok { IfOk result (λ _.
             self.new.seen ≡ record {

@@ -90,7 +90,7 @@ fn first_shown(alloc: Global, seen: &Seen) -> Shown
 /// Opens a store with `readers` readers that accepts at most `most` loads.
 ///
 /// Returns `BadCount` exactly if `readers` isn't 1 to 16, before it allocates anything, and `NoPlace` if no seat was
-/// left for a reader. It waits only when it takes down a store that it couldn't finish.
+/// left for a reader. No reader has entered yet, so there is none that it could wait for.
 pub fn open_store<R: Wait>(
     rt: &R,
     alloc: Global,

@@ -24,7 +24,7 @@ impl Outcome<Shown, View> for Publishing {
     ghost then = { λ v x y w. w ≡ record { books = y.seen.book ∷ []; batches = y.seen.batches } };
 }
 
-/// Publishes with nothing pending, which tells the writer's view its book.
+/// Publishes with nothing pending, so that the writer's view has its book.
 pub(crate) fn name_book<R: Wait>(
     rt: &R,
     writer: StoreWriter,
