@@ -24,8 +24,7 @@ struct request {
     char why[WHY_SIZE]; /* why only GNU msgfmt can serve it, or empty */
 };
 
-/* Read the arguments as GNU msgfmt does, including shortened, repeated and permuted options. NULL if memory runs
- * out. */
+/* Read the arguments as GNU msgfmt does, including shortened, repeated and permuted options. NULL if out of memory. */
 struct request *read_words(int count, char **words);
 
 /* The PO text of a request. */

@@ -100,11 +100,13 @@ kob_catalogue *kob_open_mo(const void *bytes, size_t len, kob_refusal *why);
  * References, failures and the bytes are treated as by kob_open_mo. */
 kob_catalogue *kob_open_po(const void *bytes, size_t len, unsigned options, kob_refusal *why);
 
-/* Open the file `name`, an MO file (KOB_MO) or a PO text (KOB_PO, compiled with `options`), and return its
- * catalogue. References and failures are treated as by kob_open_mo; after KOB_UNREADABLE errno says why, for example
- * ENOENT, or EMFILE if no file descriptor is left. A regular file is read up to the size that it has when it is
- * opened. A FIFO, a device and the like are read to their end, up to the size limit of the format. A FIFO that
- * nobody has open for writing counts as empty. The file is opened with O_CLOEXEC. */
+/* Open the file `name`, an MO file (KOB_MO) or a PO text (KOB_PO, compiled with `options`), and return its catalogue.
+ * References and failures are treated as by kob_open_mo; after KOB_UNREADABLE errno says why, for example ENOENT, or
+ * EMFILE if no file descriptor is left.
+ *
+ * A regular file is read up to the size that it has when it is opened. A FIFO, a device and the like are read to their
+ * end, up to the size limit of the format; a FIFO that nobody has open for writing counts as empty. The file is opened
+ * with O_CLOEXEC. */
 kob_catalogue *kob_open_file(const char *name, enum kob_kind kind, unsigned options, kob_refusal *why);
 
 /* Take another reference to `catalogue` and return it. */
@@ -138,8 +140,7 @@ kob_text kob_find(const kob_catalogue *catalogue, kob_text context, kob_text msg
 /* Return the number of entries of `catalogue`, including the header. */
 size_t kob_count(const kob_catalogue *catalogue);
 
-/* The strings of an entry, not terminated by NUL. `at` is NULL for a context or a plural that the entry doesn't
- * have. */
+/* The strings of an entry, not terminated by NUL. `at` is NULL if the entry has no context, or no plural. */
 typedef struct {
     kob_text context, msgid, plural;
     size_t forms; /* number of forms, at least 1 */

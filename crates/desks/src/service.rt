@@ -101,7 +101,7 @@ fn serve_slice<R: Threads + Wait + Sync, G: Gate + Sync>(
 ///
 /// Each desk with queries is worked in a thread of its own, while another thread publishes. A desk without queries
 /// takes no thread; neither does the publishing if nothing is pending and there are no jobs, or if there are no
-/// queries. At first every reader learns what is published, and at the end it settles with what is published then. If
+/// queries. First every reader learns what is published, and at the end it settles with what is published then. If
 /// the system can't start a thread, that thread's work is done in turn.
 ///
 /// After a fault don't rely on the desks' `answers` and `fault`. The store has the loads that it had, followed by the

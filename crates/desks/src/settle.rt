@@ -35,7 +35,7 @@ pub fn first_fault(desks: &[Desk]) -> Option<ServeFault>
 }
 
 #[tactic(auto, using(crate::proofs::Desks::kept_all))]
-/// Settles every reader with a notice. Returns `Ahead` only if a reader has seen more than the notice says.
+/// Lets every reader settle with a notice. Returns `Ahead` only if a reader has seen more than the notice says.
 pub fn settle_all(desks: &mut [Desk], closing: &Notice) -> Result<(), ServeFault>
     requires { AllByRecursion (λ d. d.reader.book ≡ closing.now.book) desks.old }
     ensures settled { OnOk result (AllZip (Settled closing.now) desks.old desks.new) }
