@@ -10,8 +10,8 @@
 
 #define FIRST_ROOM 65536
 
-/* The file, open for reading and closed in programs that are started by exec; -1 with errno. It is opened without
- * waiting, and read with. */
+/* Open a file for reading, with O_CLOEXEC; -1 and errno on failure. Opening doesn't wait for a FIFO's writer, but reads
+ * from the descriptor do wait. */
 static int open_to_read(const char *name) {
     int file;
     do
@@ -22,7 +22,7 @@ static int open_to_read(const char *name) {
     return file;
 }
 
-/* Reads until there are `room` bytes or the file ends. False if it can't be read. */
+/* Read until there are `room` bytes or the file ends. False if it can't be read. */
 static int fill(int file, unsigned char *bytes, size_t room, size_t *len) {
     while (*len < room) {
         ssize_t more = read(file, bytes + *len, room - *len);
@@ -36,7 +36,8 @@ static int fill(int file, unsigned char *bytes, size_t room, size_t *len) {
     return 1;
 }
 
-/* A block with the next bytes of the file: `room` of them, and then twice as many, until it ends or has too many. */
+/* Read a file of unknown size into a block that starts with `room` bytes and doubles, until the file ends or more than
+ * `most` bytes are read. */
 static unsigned char *read_all(int file, size_t room, size_t most, size_t *len) {
     unsigned char *bytes = malloc(room);
     *len = 0;
@@ -54,7 +55,7 @@ static unsigned char *read_all(int file, size_t room, size_t most, size_t *len) 
 }
 
 static unsigned char *read_opened(int file, enum kinds_of_files kinds, size_t most, size_t *len) {
-    /* glibc's fstat would need version 2.33, and statx is in 2.28 */
+    /* statx needs glibc 2.28 at run time, fstat 2.33 */
     struct statx status;
     if (statx(file, "", AT_EMPTY_PATH, STATX_TYPE | STATX_SIZE, &status))
         return NULL;
@@ -68,7 +69,7 @@ static unsigned char *read_opened(int file, enum kinds_of_files kinds, size_t mo
         *len = most + 1;
         return malloc(1);
     }
-    /* a file of /proc says that it is empty */
+    /* files in /proc report size 0 */
     if (status.stx_size == 0)
         return read_all(file, FIRST_ROOM, most, len);
     size_t size = (size_t)status.stx_size;

@@ -1,4 +1,4 @@
-/* What the library's functions in C share: memory with a count of its holders, and texts. */
+/* What the C files of the library share: reference-counted memory, and strings. */
 #ifndef HELD_H
 #define HELD_H
 
@@ -11,14 +11,14 @@
 #include <stdlib.h>
 #include <string.h>
 
-/* What an export holds, and the bytes that it lends. */
+/* The proved library's own value (a catalogue or a set), and bytes that it lends. */
 struct held;
 struct lent {
     const unsigned char *at;
     size_t len;
 };
 
-/* A catalogue or a set: what the export holds, behind the count of its holders. */
+/* A catalogue or a set of the header: a reference count, followed by the proved library's value. */
 struct counted {
     atomic_size_t holders;
     alignas(max_align_t) unsigned char held[];
@@ -30,7 +30,7 @@ static inline const struct held *read_by(const void *handle) {
     return (const struct held *)(const void *)((const struct counted *)handle)->held;
 }
 
-/* Room for what takes so many bytes, with one holder; NULL where there is no memory. */
+/* Allocate room for a value of `size` bytes, with one reference. Return NULL if memory runs out. */
 static inline void *room_for(size_t size) {
     struct counted *counted = malloc(sizeof *counted + size);
     if (counted)
@@ -38,8 +38,8 @@ static inline void *room_for(size_t size) {
     return counted;
 }
 
-/* free, which may change errno in a C library before glibc 2.33. GCC takes it that free doesn't, and would leave out
- * the last line without the fence. */
+/* Free a block and keep errno, which free may change before glibc 2.33. GCC assumes that free doesn't, and would drop
+ * the last line if it weren't for the fence. */
 static inline void free_quietly(void *block) {
     int cause = errno;
     free(block);
@@ -59,7 +59,7 @@ static inline void *refuse(kob_refusal *why, enum kob_fault fault, unsigned line
     return NULL;
 }
 
-enum { GETTEXT = 0, IN_CONTEXT = 1, WITH_NUMBER = 2 }; /* calls; both are npgettext */
+enum { GETTEXT = 0, IN_CONTEXT = 1, WITH_NUMBER = 2 }; /* calls; both flags together are npgettext */
 
 static inline uint32_t call_of(kob_text context, const unsigned long long *n) {
     return (context.at ? IN_CONTEXT : GETTEXT) | (n ? WITH_NUMBER : GETTEXT);
@@ -67,7 +67,7 @@ static inline uint32_t call_of(kob_text context, const unsigned long long *n) {
 
 static inline uint32_t in_context(const char *context) { return context ? IN_CONTEXT : GETTEXT; }
 
-/* A text that is missing is the empty one: a place is never NULL. */
+/* Replace a missing string by the empty one, so that its address is never NULL. */
 static inline kob_text present(kob_text text) { return text.at ? text : (kob_text){ "", 0 }; }
 
 static inline kob_text text_of(const char *string) {
@@ -76,7 +76,7 @@ static inline kob_text text_of(const char *string) {
 
 static inline const unsigned char *bytes_of(kob_text text) { return (const unsigned char *)text.at; }
 
-/* What is found has its NUL, and so a byte at least. */
+/* A string that is found includes its NUL, so it has at least one byte. */
 static inline const char *found_or(struct lent found, const char *other) {
     return found.len ? (const char *)found.at : other;
 }

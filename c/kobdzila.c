@@ -1,5 +1,5 @@
-/* The library's functions in C: memory, counts of holders, and files. What a catalogue is and what it answers stands in
- * crates/kobdzila_c, whose exports are declared here as Rattle gives them. */
+/* Catalogues, the C part: memory, reference counts and files. The look-ups are in crates/kobdzila_c, whose exports are
+ * declared here as Rattle exports them. */
 #include "file_bytes.h"
 #include "held.h"
 
@@ -13,15 +13,15 @@ void kobdzila_gettext(const struct held *held, const unsigned char *msgid, size_
 void kobdzila_answer(const struct held *held, const unsigned char *context, size_t context_len,
                      const unsigned char *msgid, size_t msgid_len, uint32_t call, uint64_t n, struct lent *out);
 
-enum { FAULT, LINE, COUNT, FORMS, HAS_CONTEXT, HAS_PLURAL };            /* numbers */
-enum { FILE_BYTES, CONTEXT, MSGID, PLURAL, FORM };                      /* texts */
+enum { FAULT, LINE, COUNT, FORMS, HAS_CONTEXT, HAS_PLURAL };            /* `which` of kobdzila_number */
+enum { FILE_BYTES, CONTEXT, MSGID, PLURAL, FORM };                      /* `part` of kobdzila_text */
 
 #define MOST_MO 268435456
 #define MOST_PO 67108864
 
 const char *kob_version(void) { return KOB_VERSION; }
 
-/* The catalogue that was opened, or NULL and its refusal. */
+/* Return the catalogue if it was opened. Otherwise free it, store the reason in *why and return NULL. */
 static kob_catalogue *opened(kob_catalogue *c, kob_refusal *why) {
     enum kob_fault fault = (enum kob_fault)kobdzila_number(read_by(c), FAULT, 0);
     unsigned line = (unsigned)kobdzila_number(read_by(c), LINE, 0);

@@ -1,6 +1,6 @@
-/* Memory for the proved part: malloc and realloc, but that large blocks ask the system for large pages. In a catalogue
- * of 80,000 messages each look-up is at another place, and with pages of 4 kB the processor waits for where a page
- * lies as often as for what stands there. */
+/* Memory for the proved part: malloc and realloc, which also ask the system for large pages if a block is large. In a
+ * catalogue of 80,000 messages every look-up touches another page; with pages of 4 kB, the processor waits for address
+ * translations as often as for the data. */
 #define _DEFAULT_SOURCE
 #include <errno.h>
 #include <stddef.h>
@@ -13,7 +13,7 @@
 void *kobdzila_malloc(size_t len);
 void *kobdzila_realloc(void *block, size_t len);
 
-/* The pages that lie wholly within a block may be large. It is a hint: without it the block is as good. */
+/* Tell the system that the pages wholly within a block may be large. It is only a hint, so failure doesn't matter. */
 static void *with_large_pages(void *block, size_t len) {
 #ifdef MADV_HUGEPAGE
     size_t before = -(uintptr_t)block & (LARGE_PAGE - 1);
@@ -26,7 +26,7 @@ static void *with_large_pages(void *block, size_t len) {
     return block;
 }
 
-/* (never aligned_alloc: a program may bring its own malloc and free, and no more) */
+/* Not aligned_alloc: a program may replace malloc, realloc and free, and nothing else. */
 void *kobdzila_malloc(size_t len) { return with_large_pages(malloc(len), len); }
 
 void *kobdzila_realloc(void *block, size_t len) { return with_large_pages(realloc(block, len), len); }

@@ -1,5 +1,5 @@
-/* A msgfmt for build systems: it takes GNU msgfmt's options, runs Kobdzila's msgfmt where that one can serve them, and
- * GNU msgfmt in every other case and for every text that Kobdzila's refuses. Its man page is msgfmt-or-gnu(1). */
+/* A msgfmt for build systems. It takes GNU msgfmt's options and runs Kobdzila's msgfmt if that can serve them, and GNU
+ * msgfmt otherwise, and for every text that Kobdzila's refuses. See msgfmt-or-gnu(1). */
 #include "or_gnu.h"
 
 #include <errno.h>
@@ -19,16 +19,16 @@ static const char help_lines[] =
     "\nThis is msgfmt-or-gnu: Kobdzila's msgfmt compiles what it can, and GNU msgfmt everything else.\n"
     "msgfmt-or-gnu --summary LOG prints the table of a log (MSGFMT_OR_GNU_LOG). Its page is msgfmt-or-gnu(1).\n";
 static const char in_gettext[] = "; it is in the package gettext\n";
-enum { TEXT_LIMIT = 67108864, EMPTY_MO = 28 }; /* bytes of a PO text that Kobdzila's compiles, of an empty MO file */
+enum { TEXT_LIMIT = 67108864, EMPTY_MO = 28 }; /* bytes of the largest PO text, and of an empty MO file */
 
-/* A run of the driver. */
+/* The state of one run of the driver. */
 struct run {
     struct request *request;
     char *ours;
-    char *gnu;        /* NULL: it wasn't looked for, or there is none */
+    char *gnu;        /* NULL if there is none, or it wasn't looked for yet */
     bool looked;
-    char *input;      /* the PO file's path, where it was found */
-    char *input_name; /* what the two programs are given for it */
+    char *input;      /* the path at which the PO file was found */
+    char *input_name; /* the name that the two programs get for it */
     struct text text;
     struct streams streams;
     struct timespec start;
@@ -58,7 +58,7 @@ static bool has_gnu(struct run *run) {
 
 /* --- GNU msgfmt ------------------------------------------------------------------------------------------------- */
 
-/* The arguments for GNU msgfmt: those that were given, but for its name, and for a pipe that was read. */
+/* Return the arguments for GNU msgfmt: those given, except for its name and for a pipe that was already read. */
 static char **words_for_gnu(struct run *run) {
     struct request *request = run->request;
     request->given[0] = run->gnu;
@@ -68,14 +68,14 @@ static char **words_for_gnu(struct run *run) {
     return request->given;
 }
 
-/* Both are asked for by programs, which read what GNU msgfmt says; then comes what the driver adds. */
+/* Other programs run --version and --help and read what GNU msgfmt prints; the driver adds its own lines after that. */
 static bool is_about_itself(const struct request *request) { return request->wants_version || request->wants_help; }
 
 static const char *own_lines(const struct request *request) {
     return request->wants_version ? version_line : help_lines;
 }
 
-/* Hands the run to GNU msgfmt. Its status is the driver's. */
+/* Hand the run to GNU msgfmt, whose exit status becomes the driver's. */
 _Noreturn static void end_by_gnu(struct run *run, const char *why) {
     const char *log = getenv("MSGFMT_OR_GNU_LOG");
     bool asks = is_about_itself(run->request);
@@ -99,7 +99,7 @@ _Noreturn static void end_by_gnu(struct run *run, const char *why) {
     end_as(ending);
 }
 
-/* What only GNU msgfmt can do, on a machine without one. */
+/* End a run that needs GNU msgfmt on a machine without one. */
 _Noreturn static void end_without_gnu(struct run *run) {
     const struct request *request = run->request;
     if (is_about_itself(request)) {
@@ -118,7 +118,7 @@ _Noreturn static void end_without_gnu(struct run *run) {
 
 static bool is_standard_input(const char *name) { return !strcmp(name, "-") || !strcmp(name, "/dev/stdin"); }
 
-/* Opens a file as GNU msgfmt looks for it: in each folder of -D, as it is named and with .po and .pot added. */
+/* Open the PO file as GNU msgfmt looks for it: in each folder of -D, under its name and with .po and .pot added. */
 static int open_input(struct run *run) {
     static const char *const endings[] = {"", ".po", ".pot"};
     const struct request *request = run->request;
@@ -145,7 +145,7 @@ static bool is_null_device(const struct stat *about) {
     return S_ISCHR(about->st_mode) && about->st_rdev == makedev(1, 3);
 }
 
-/* The number of a path such as /dev/fd/63, or -1. */
+/* Return the descriptor that a path such as /dev/fd/63 names, or -1. */
 static int number_of(const char *path) {
     int number = -1, len = 0;
     if (sscanf(path, "/dev/fd/%d%n", &number, &len) == 1 && !path[len])
@@ -155,7 +155,7 @@ static int number_of(const char *path) {
     return -1;
 }
 
-/* Keeps what came from a pipe, so that both programs can read it: as standard input, or under the descriptor's name. */
+/* Keep what came from a pipe so that both programs can read it, as standard input or by the descriptor's number. */
 static bool keep_input(struct run *run) {
     run->text.kept = unnamed_file();
     if (run->text.kept < 0 || !write_all(run->text.kept, run->text.bytes, run->text.len))
@@ -175,7 +175,7 @@ static bool keep_input(struct run *run) {
     return run->input != NULL;
 }
 
-/* Reads the PO text. Its answer is why that isn't possible, or 0. */
+/* Read the PO text. Returns 0, or the errno of why it can't be read. */
 static int read_text(struct run *run, char *why) {
     const char *name = run->request->inputs[0];
     struct stat about;
@@ -203,7 +203,7 @@ static int read_text(struct run *run, char *why) {
 
 /* --- Kobdzila's msgfmt ------------------------------------------------------------------------------------------ */
 
-/* What Kobdzila's msgfmt said of a run, and how it ended. */
+/* What Kobdzila's msgfmt printed in a run, and how it ended. */
 struct answer {
     struct ending ending;
     char *said;
@@ -214,7 +214,7 @@ static bool wants_statistics(const struct request *request) {
     return request->wants_statistics || request->verbosity > 0;
 }
 
-/* Runs Kobdzila's msgfmt. With -c it checks the header and formats, so either one asks for it. */
+/* Run Kobdzila's msgfmt. Its -c checks both the header and formats, so either of those checks asks for it. */
 static struct answer run_ours(struct run *run, const char *output, int standard_output) {
     const struct request *request = run->request;
     struct answer answer = {0};
@@ -248,13 +248,13 @@ static struct answer run_ours(struct run *run, const char *output, int standard_
     return answer;
 }
 
-/* Whether the statistics count messages that -C is to tell of. */
+/* Whether the statistics count messages that -C has to warn about. */
 static bool leaves_messages_out(const struct run *run, const struct answer *answer) {
     return run->request->checks_compatibility && memmem(answer->said, answer->len, ", ", 2);
 }
 
-/* Compiles the text. It is compiled to memory first where it may be that no file is to be written: without -o, if
- * nothing is translated, as GNU msgfmt does, and with -C, which is another program's if messages are left out. */
+/* Compile the text. It is compiled to memory first if there may be no file to write: like GNU msgfmt, the driver writes
+ * none without -o if nothing is translated; and with -C GNU msgfmt takes over if messages are left out. */
 static struct answer compile(struct run *run) {
     struct stat made;
     const char *output = run->request->output;
@@ -272,7 +272,8 @@ static struct answer compile(struct run *run) {
     return run_ours(run, output ? output : "messages.mo", -1);
 }
 
-/* The reason of a refusal of the text, `NAME:LINE: REASON`, or NULL where it is another one. */
+/* Return the reason why the text was refused, from `NAME:LINE: REASON`, or NULL if the run failed for another
+ * reason. */
 static char *refusal_of(const struct run *run, const struct answer *answer) {
     if (answer->ending.status != 1)
         return NULL;
@@ -290,7 +291,7 @@ static char *refusal_of(const struct run *run, const struct answer *answer) {
     return NULL;
 }
 
-/* Prints what Kobdzila's msgfmt said: warnings where they are asked for, and statistics as GNU msgfmt prints them. */
+/* Print what Kobdzila's msgfmt printed: warnings only if asked for, and statistics the way GNU msgfmt prints them. */
 static bool pass_on(const struct run *run, const struct answer *answer) {
     const struct request *request = run->request;
     bool has_compiled = answer->ending.status == 0;
@@ -316,7 +317,7 @@ static bool pass_on(const struct run *run, const struct answer *answer) {
     return done;
 }
 
-/* Why a file can't be written, as far as it can be seen afterwards; 0 where it can't. */
+/* Return the errno of why a file can't be written, as far as that can be found out afterwards, or 0. */
 static int why_not_written(const char *name) {
     struct statvfs room;
     int file = open(name, O_WRONLY | O_NONBLOCK | O_NOCTTY | O_CLOEXEC);
@@ -344,7 +345,7 @@ static void say_why_not_written(const struct run *run, const struct answer *answ
         dprintf(STDERR_FILENO, "msgfmt-or-gnu: %s: %s\n", name, strerror(cause));
 }
 
-/* The end of a run by Kobdzila's msgfmt, whose answer is the driver's. */
+/* End a run that Kobdzila's msgfmt has served, with its output and exit status. */
 _Noreturn static void end_by_ours(struct run *run, struct answer *answer, const char *why) {
     if (answer->ending.failure)
         stop(run->ours, ": this is not Kobdzila's msgfmt, or can't be run");
@@ -363,7 +364,8 @@ _Noreturn static void end_by_ours(struct run *run, struct answer *answer, const 
 
 enum { FIRST_WITH_FLAG_LINES = 26 }; /* GNU gettext 0.26 */
 
-/* A text with flags in lines `#=`, which Kobdzila's msgfmt and older ones of GNU's take for comments. */
+/* End a run on a text with flags in `#=` lines, which Kobdzila's msgfmt and older versions of GNU's take for
+ * comments. */
 _Noreturn static void end_with_flag_lines(struct run *run, unsigned long long line) {
     int version = has_gnu(run) ? gnu_version(run->gnu) : 0;
     if (version >= FIRST_WITH_FLAG_LINES)

@@ -1,5 +1,5 @@
-/* What the parts of msgfmt-or-gnu share: what a command line asks for, what a PO text needs, the two programs that may
- * compile it, and the log. */
+/* What the parts of msgfmt-or-gnu share: the request of a command line, the needs of a PO text, the two programs that
+ * may compile it, and the log. */
 #ifndef OR_GNU_H
 #define OR_GNU_H
 
@@ -9,83 +9,83 @@
 
 enum { WHY_SIZE = 200 }; /* bytes of a reason, with its NUL */
 
-/* What the arguments ask for. Strings are those of the arguments. */
+/* What the arguments ask for. Its strings are the arguments themselves. */
 struct request {
     char **given;        /* the arguments in their order, and NULL */
     char **inputs;       /* the PO files */
     int input_count;
-    const char *output;  /* NULL: messages.mo */
+    const char *output;  /* NULL for messages.mo */
     const char **folders; /* where relative PO files are looked for (-D) */
     int folder_count;
     bool checks_format, checks_header, checks_compatibility;
     bool keeps_fuzzy, wants_statistics;
     int verbosity;
     bool wants_version, wants_help;
-    char why[WHY_SIZE]; /* why GNU msgfmt alone can serve it, or empty */
+    char why[WHY_SIZE]; /* why only GNU msgfmt can serve it, or empty */
 };
 
-/* Reads the arguments as GNU msgfmt does: shortened, repeated and permuted options too. NULL: out of memory. */
+/* Read the arguments as GNU msgfmt does, including shortened, repeated and permuted options. NULL if out of memory. */
 struct request *read_words(int count, char **words);
 
 /* The PO text of a request. */
 struct text {
     char *bytes;
     size_t len;
-    int kept; /* a descriptor of what was read from a pipe, or -1 */
+    int kept; /* a descriptor for what was read from a pipe, or -1 */
 };
 
-/* What a PO text has that decides who compiles it. */
+/* What decides which program compiles a PO text. */
 struct needs {
-    char why[WHY_SIZE];      /* why Kobdzila's msgfmt would refuse it, or can't check it; or empty */
-    unsigned long long line; /* the first line `#=` that names a flag, or 0 */
+    char why[WHY_SIZE];      /* why Kobdzila's msgfmt would refuse it or can't check it, or empty */
+    unsigned long long line; /* the number of the first `#=` line that has a flag, or 0 */
 };
 
-/* Scans a PO text once. */
+/* Scan a PO text, in one pass. */
 struct needs needs_of(const struct request *request, const char *bytes, size_t len);
 
 bool is_utf8(const char *name);
 
 /* How a program ended. */
 struct ending {
-    int status;  /* that of its exit, or 128 and the number of the signal */
-    int signal;  /* the signal that ended it, or 0 */
-    int failure; /* why it couldn't be started, as errno has it, or 0 */
+    int status;  /* its exit status, or 128 plus the number of the signal */
+    int signal;  /* the signal that killed it, or 0 */
+    int failure; /* the errno of why it couldn't be started, or 0 */
 };
 
-/* Where a program's streams come from and go to: -1 is the driver's own. */
+/* The descriptors for a program's streams; -1 is the driver's own stream. */
 struct streams {
     int input, output, errors;
-    int extra, extra_as; /* a descriptor that the program has as number extra_as, or -1 */
+    int extra, extra_as; /* a descriptor that the program gets as number extra_as, or -1 */
 };
 
-/* What another driver says that was taken for one of the two programs; a driver is known by it. */
+/* What a driver says that was taken for one of the two programs, by which it is recognised. */
 extern const char taken[];
 
-/* The path of the Kobdzila msgfmt that was built or installed with this program; NULL: out of memory. */
+/* Return the path of the Kobdzila msgfmt that was built or installed with this program. NULL if memory runs out. */
 char *find_ours(void);
-/* The path of GNU msgfmt, or NULL. `ours` isn't taken for it. */
+/* Find GNU msgfmt and return its path, or NULL. `ours` is never taken for it. */
 char *find_gnu(const char *ours);
-/* The version of the GNU msgfmt at `path`, as 1000 * major + minor, or 0. */
+/* Return the version of the GNU msgfmt at `path` as 1000 * major + minor, or 0 if it is unknown. */
 int gnu_version(const char *path);
 
-/* Runs a program to its end; a signal that ends the driver ends it first. */
+/* Run a program until it ends. A signal that ends the driver is passed on to the program first. */
 struct ending run_program(const char *path, char **words, struct streams streams);
-/* Becomes the program, and returns why it couldn't. */
+/* Replace this process by the program. Returns only on failure, with why. */
 int become_program(const char *path, char **words, struct streams streams);
-/* Ends the driver as the program ended. */
+/* End the driver the way the program ended. */
 _Noreturn void end_as(struct ending ending);
 
-/* A descriptor above those of the streams, closed in other programs; -1, and errno, where there is none. */
+/* Move a descriptor above those of the streams, with FD_CLOEXEC, and return its new number; -1 and errno on failure. */
 int raised(int descriptor);
-/* A file that no folder has, in memory or in TMPDIR; -1, and errno, where there is none. */
+/* Open a file without a name, in memory or in TMPDIR; -1 and errno on failure. */
 int unnamed_file(void);
-/* All of what can be read, with a NUL after it; NULL, and errno, where it can't. */
+/* Read everything from a descriptor, and add a NUL; NULL and errno on failure. */
 char *read_all(int descriptor, size_t *len);
 bool write_all(int descriptor, const char *bytes, size_t len);
 
-/* Appends a line for each PO file to the log, if there is one. */
+/* Append a line for each PO file to the log, if there is one. */
 void log_files(const struct request *request, const char *who, int status, const char *why, double milliseconds);
-/* Prints the table of a log; the status. */
+/* Print the table of a log, and return the exit status. */
 int summarise(const char *name);
 
 #endif

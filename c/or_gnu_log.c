@@ -1,5 +1,5 @@
-/* The log of msgfmt-or-gnu, a line for each PO file: who compiled it, the status, why, milliseconds and its name, with
- * tabs between them. And the table of a log, a row for each who and why. */
+/* The log of msgfmt-or-gnu, and the table that sums it up. The log has a line for each PO file: who compiled it, the
+ * status, why, milliseconds and its name, separated by tabs. The table has a row for each who and why. */
 #include "or_gnu.h"
 
 #include <errno.h>
@@ -11,7 +11,7 @@
 
 /* --- writing -------------------------------------------------------------------------------------------------- */
 
-/* A name on one line and without a tab. */
+/* Print a name on one line, without tabs. */
 static void print_name(FILE *to, const char *name) {
     for (; *name; name++) {
         if (*name == '\t' || *name == '\n')
@@ -39,7 +39,7 @@ static char *lines_of(const struct request *request, const char *who, int status
     return NULL;
 }
 
-/* (one write to a file that is opened for appending: runs at once have whole lines) */
+/* a single write in append mode, so that runs at the same time don't mix their lines */
 void log_files(const struct request *request, const char *who, int status, const char *why, double milliseconds) {
     const char *name = getenv("MSGFMT_OR_GNU_LOG");
     if (!name || !*name)
@@ -82,7 +82,7 @@ static struct row *row_of(struct table *table, const char *who, const char *why)
     return &table->rows[table->count++];
 }
 
-/* Adds a line of a log, which is cut at its tabs. False: it is none, or there is no memory. */
+/* Add a line of a log, which is cut at its tabs. False if it isn't one, or memory runs out. */
 static bool add_line(struct table *table, char *line) {
     enum { WHO, STATUS, WHY, MILLISECONDS, NAME, FIELDS };
     char *fields[FIELDS];
@@ -98,7 +98,7 @@ static bool add_line(struct table *table, char *line) {
     return true;
 }
 
-/* Kobdzila's rows come first (`ours` is after `GNU` in the alphabet), and then the one with more files. */
+/* Order rows: Kobdzila's first (`ours` sorts after `GNU`), and then by the number of files, most first. */
 static int by_who_and_files(const void *one, const void *two) {
     const struct row *first = one, *second = two;
     int who = strcmp(second->who, first->who);

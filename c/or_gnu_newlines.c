@@ -1,5 +1,5 @@
-/* Whether the texts of a message differ in a newline at their beginning or end, which GNU msgfmt refuses with -c and
- * without, and Kobdzila's with -c alone. It is looked for line by line, and may be wrong where a line has two keywords. */
+/* Whether the strings of a message differ in a newline at their beginning or end. GNU msgfmt always refuses that,
+ * Kobdzila's only with -c. The scan goes line by line, and may be wrong if a line has two keywords. */
 #include "or_gnu_text.h"
 
 #include <string.h>
@@ -13,7 +13,7 @@ static struct part piece_of(struct part line) {
 
 static bool begins_with_newline(struct part piece) { return piece.end - piece.at >= 2 && !memcmp(piece.at, "\\n", 2); }
 
-/* (after an even number of backslashes the `n` is one, and nothing else) */
+/* After an even number of backslashes the `n` is just a letter. */
 static bool ends_with_newline(struct part piece) {
     const char *at = piece.end - 1;
     if (piece.at == piece.end || *at != 'n')
@@ -23,7 +23,7 @@ static bool ends_with_newline(struct part piece) {
     return (piece.end - 1 - at) % 2 == 1;
 }
 
-/* The end of a text: a msgid is kept, and another text compared with it. Empty ones say nothing. */
+/* End a string: a msgid is remembered, any other string is compared with it. Empty strings are ignored. */
 static void end_text(struct newlines *newlines) {
     if (newlines->is_empty)
         return;

@@ -1,4 +1,4 @@
-/* The two programs that msgfmt-or-gnu runs: where they are, how they are started and how they end. */
+/* The two programs that msgfmt-or-gnu runs: finding, starting and ending them. */
 #include "or_gnu.h"
 
 #include <errno.h>
@@ -48,7 +48,7 @@ char *read_all(int descriptor, size_t *len) {
     struct stat about;
     size_t room = 1 << 16, have = 0;
     if (fstat(descriptor, &about) == 0 && S_ISREG(about.st_mode))
-        room = (size_t)about.st_size + 2; /* one byte to see the end, and NUL */
+        room = (size_t)about.st_size + 2; /* one more byte to see the end of the file, and NUL */
     char *bytes = malloc(room);
     while (bytes) {
         ssize_t more = read(descriptor, bytes + have, room - have - 1);
@@ -101,7 +101,7 @@ static void hand_on(int number) {
     raise(number);
 }
 
-/* Signals that end the driver go to the program first. Those that are ignored (nohup) stay so. */
+/* Pass signals that end the driver on to the program first. Signals that are ignored (nohup) stay ignored. */
 static void hand_on_signals(sigset_t *handed) {
     static const int numbers[] = {SIGHUP, SIGINT, SIGQUIT, SIGTERM};
     sigemptyset(handed);
@@ -123,7 +123,7 @@ static struct ending wait_for(pid_t program) {
     return (struct ending){.status = WEXITSTATUS(how)};
 }
 
-/* Gives this process the program's streams. */
+/* Give this process the program's streams. */
 static void take_streams(struct streams streams) {
     if (streams.input >= 0)
         dup2(streams.input, STDIN_FILENO);
@@ -135,7 +135,8 @@ static void take_streams(struct streams streams) {
         dup2(streams.extra, streams.extra_as);
 }
 
-/* (vfork: a child that only calls the system, and no copy of this process; posix_spawn sets each signal, one by one) */
+/* vfork doesn't copy this process, and the child makes nothing but system calls. posix_spawn would set every signal,
+ * one by one. */
 struct ending run_program(const char *path, char **words, struct streams streams) {
     sigset_t handed, before;
     volatile int failure = 0;
@@ -169,7 +170,7 @@ int become_program(const char *path, char **words, struct streams streams) {
 void end_as(struct ending ending) {
     if (ending.signal) {
         struct rlimit none = {0, 0};
-        setrlimit(RLIMIT_CORE, &none); /* (the program has left a core, if one is wanted) */
+        setrlimit(RLIMIT_CORE, &none); /* the program has already dumped core, if it was to */
         signal(ending.signal, SIG_DFL);
         raise(ending.signal);
     }
@@ -199,7 +200,7 @@ static bool is_one_file(const struct stat *one, const char *path) {
     return stat(path, &other) == 0 && one->st_dev == other.st_dev && one->st_ino == other.st_ino;
 }
 
-/* What a program answers to --version, at most `room` bytes with a NUL. */
+/* Read what a program prints for --version, at most `room` bytes with a NUL. */
 static bool answer_of(const char *path, char *answer, size_t room) {
     int none = raised(open("/dev/null", O_RDWR)), out = unnamed_file();
     char *words[] = {(char *)path, "--version", NULL};
@@ -217,7 +218,7 @@ static bool answer_of(const char *path, char *answer, size_t room) {
 
 enum { ANSWER_SIZE = 1000 };
 
-/* Whether the program at `path` is GNU msgfmt: its file says so, or else, of a script, its answer. */
+/* Whether the program at `path` is GNU msgfmt, by the contents of its file or, for a script, by its --version. */
 static bool is_gnu(const char *path) {
     char answer[ANSWER_SIZE];
     size_t len = 0;
@@ -233,7 +234,7 @@ static bool is_gnu(const char *path) {
     return answer_of(path, answer, sizeof answer) && strstr(answer, "GNU gettext");
 }
 
-/* Whether this file can be run, and is GNU msgfmt rather than the driver or Kobdzila's msgfmt. */
+/* Whether the file can be run and is GNU msgfmt, and neither the driver nor Kobdzila's msgfmt. */
 static bool is_candidate(const char *path, const char *ours) {
     struct stat about;
     if (stat(path, &about) < 0 || !S_ISREG(about.st_mode) || access(path, X_OK) < 0)

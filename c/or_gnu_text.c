@@ -1,5 +1,5 @@
-/* What a PO text has that only GNU msgfmt compiles or checks. It is looked for before either program runs, so that no
- * program runs in vain. A guess that is wrong costs time alone: what Kobdzila's msgfmt refuses is given to GNU's. */
+/* Scans a PO text for what only GNU msgfmt compiles or checks, before either program runs, so that none runs in vain.
+ * A wrong guess only costs time: what Kobdzila's msgfmt refuses is given to GNU msgfmt. */
 #include "or_gnu_text.h"
 #include "or_gnu.h"
 
@@ -7,15 +7,15 @@
 #include <string.h>
 #include <strings.h>
 
-/* What the lines so far said. */
+/* The state of the scan after the lines so far. */
 struct scan {
     const struct request *request;
     struct needs needs;
     unsigned long long line;
     bool has_macros; /* `<PRI` is somewhere in the text */
     bool saw_charset;
-    bool flagged_c, flagged_fuzzy; /* comments before this entry have these flags */
-    bool has_msgstr;               /* this entry has come to its msgstr */
+    bool flagged_c, flagged_fuzzy; /* flags in the comments before this entry */
+    bool has_msgstr;               /* this entry's msgstr has begun */
     struct newlines newlines;
     bool after_context;
     enum { NO_HEADER, HEADER_ID, HEADER_TEXT, HEADER } header;
@@ -52,7 +52,7 @@ static void needs_gnu(struct scan *scan, const char *before, struct part what) {
 
 static void needs_gnu_for(struct scan *scan, const char *why) { needs_gnu(scan, why, (struct part){why, why}); }
 
-/* A flag of an entry: formats of other languages than C are checked by GNU msgfmt alone. */
+/* Take in a flag of an entry. Only GNU msgfmt checks the formats of languages other than C. */
 static void look_at_flag(struct scan *scan, struct part flag) {
     static const char ending[] = "-format";
     size_t len = (size_t)(flag.end - flag.at), ending_len = sizeof ending - 1;
@@ -65,9 +65,9 @@ static void look_at_flag(struct scan *scan, struct part flag) {
         needs_gnu(scan, "", flag);
 }
 
-/* A comment, from its `#`. `#,` and `#=` are followed by flags (GNU gettext manual, "The Format of PO Files"). */
+/* Take in a comment, from its `#` on. Flags follow `#,` and `#=` (GNU gettext manual, "The Format of PO Files"). */
 static void look_at_comment(struct scan *scan, struct part comment) {
-    if (begins(comment, "#~")) /* the flags were an obsolete entry's */
+    if (begins(comment, "#~")) /* the flags belonged to an obsolete entry */
         scan->flagged_c = scan->flagged_fuzzy = false;
     if (comment.end - comment.at < 2 || (comment.at[1] != ',' && comment.at[1] != '='))
         return;
@@ -83,7 +83,7 @@ static void look_at_comment(struct scan *scan, struct part comment) {
     }
 }
 
-/* The comment at the end of a line with keywords and strings, or NULL. */
+/* Find the comment at the end of a line with keywords and strings, or return NULL. */
 static const char *comment_in(struct part line) {
     bool in_string = false;
     if (!memchr(line.at, '#', (size_t)(line.end - line.at)))
@@ -99,13 +99,13 @@ static const char *comment_in(struct part line) {
     return NULL;
 }
 
-/* Whether a string, or a keyword and its string, has anything between its quotes. */
+/* Whether the string on a line, with or without a keyword, isn't empty. */
 static bool has_text(struct part line) {
     const char *quote = memchr(line.at, '"', (size_t)(line.end - line.at));
     return quote && quote + 1 < line.end && quote[1] != '"';
 }
 
-/* Whether this line goes on to say that the text has a header: an empty msgid without context, and its msgstr. */
+/* Follow whether the text has a header: an empty msgid without context, and its msgstr. */
 static void look_for_header(struct scan *scan, struct part line) {
     if (scan->header == HEADER)
         return;
@@ -122,7 +122,7 @@ static void look_for_header(struct scan *scan, struct part line) {
     }
 }
 
-/* The charset that the header names: the first in the text. */
+/* Take in the charset of the header, which is the first one named in the text. */
 static void look_for_charset(struct scan *scan, struct part line) {
     static const char *const accepted[] = {"UTF-8", "UTF8", "US-ASCII", "ASCII", "CHARSET"};
     const char *at = find(line, "charset=");
@@ -139,7 +139,7 @@ static void look_for_charset(struct scan *scan, struct part line) {
     needs_gnu(scan, "charset=", name);
 }
 
-/* The end of an entry: a comment follows its msgstr, or the next msgid or msgctxt, or the text ends. */
+/* End an entry: its msgstr is followed by a comment, by the next msgid or msgctxt, or by the end of the text. */
 static void leave_entry(struct scan *scan) {
     if (end_entry(&scan->newlines) && (!scan->flagged_fuzzy || scan->request->keeps_fuzzy))
         needs_gnu_for(scan, "newlines differ");
@@ -195,7 +195,7 @@ struct needs needs_of(const struct request *request, const char *bytes, size_t l
     return scan.needs;
 }
 
-/* How many bytes follow the first byte of a character, or -1 where none begins with it. */
+/* Return how many bytes of a character follow this first byte, or -1 if no character begins with it. */
 static int bytes_after(unsigned char first) {
     if (first < 0x80)
         return 0;

@@ -1,4 +1,4 @@
-/* Parts of a PO text, for the scan of or_gnu_text.c. */
+/* Pieces of a PO text, for the scan in or_gnu_text.c. */
 #ifndef OR_GNU_TEXT_H
 #define OR_GNU_TEXT_H
 
@@ -10,17 +10,17 @@ struct part {
 
 bool begins(struct part part, const char *word);
 
-/* What the lines of an entry so far said of newlines. */
+/* What is known about the newlines of an entry after the lines so far. */
 struct newlines {
-    bool in_msgid, in_msgstr, in_context; /* the text that the last keyword began */
-    bool is_empty, begins, ends;          /* that text: nothing yet; a newline at its beginning, and at its end */
+    bool in_msgid, in_msgstr, in_context; /* which string the last keyword began */
+    bool is_empty, begins, ends;          /* of that string: nothing yet; a newline at its beginning; one at its end */
     bool has_msgid, msgid_begins, msgid_ends;
     bool has_msgstr, differ;
 };
 
-/* Looks at a line of an entry, without blanks around it: a keyword and its string, or a string. */
+/* Take in a line of an entry, without surrounding blanks: a keyword and its string, or a string. */
 void look_for_newlines(struct newlines *newlines, struct part line);
-/* Ends an entry. True: it is translated, and its texts differ. */
+/* End an entry. True if it is translated and its strings differ in a newline. */
 bool end_entry(struct newlines *newlines);
 
 #endif

@@ -8,11 +8,11 @@
 #include <string.h>
 
 enum { NO_LETTER = 256, CHECK_DOMAIN, CHECK_FORMAT, CHECK_HEADER, ENDIANNESS, NO_CONVERT, NO_HASH, STATISTICS };
-enum { REDUNDANCY = NO_CONVERT }; /* both say nothing of a UTF-8 text that Kobdzila's msgfmt compiles */
+enum { REDUNDANCY = NO_CONVERT }; /* neither matters for a UTF-8 text that Kobdzila's msgfmt compiles */
 
 static const char letters[] = "a:cCd:D:fhjl:L:o:Pr:vVx";
 
-/* (an option with NO_LETTER is one that GNU msgfmt alone serves) */
+/* Options with NO_LETTER are those that only GNU msgfmt serves. */
 static const struct option options[] = {
     {"alignment", required_argument, NULL, 'a'},
     {"check", no_argument, NULL, 'c'},
@@ -53,13 +53,13 @@ static const struct option options[] = {
     {0},
 };
 
-/* Keeps the first reason why GNU msgfmt is needed. */
+/* Keep the first reason why GNU msgfmt is needed. */
 static void needs_gnu(struct request *request, const char *before, const char *what) {
     if (!request->why[0])
         snprintf(request->why, sizeof request->why, "%s%s", before, what);
 }
 
-/* The option of this letter, or the one at this place of the table, which only GNU msgfmt serves. */
+/* Note an option that only GNU msgfmt serves, given by its letter or by its place in the table. */
 static void only_gnu(struct request *request, int code, int place) {
     char letter[] = {'-', (char)code, '\0'};
     if (place >= 0)
@@ -68,7 +68,7 @@ static void only_gnu(struct request *request, int code, int place) {
         needs_gnu(request, "", letter);
 }
 
-/* A word that is no option of GNU msgfmt, or an option without the value that it needs. */
+/* Note an argument that isn't an option of GNU msgfmt, or an option without its value: GNU msgfmt reports it. */
 static void bad_option(struct request *request, char **words) {
     char letter[] = {'-', (char)optopt, '\0'};
     const char *word = words[optind - 1];
@@ -76,7 +76,7 @@ static void bad_option(struct request *request, char **words) {
     needs_gnu(request, "bad option ", is_long ? word : letter);
 }
 
-/* Takes the options that need no look at their value. False where it is none of them. */
+/* Take an option whose value doesn't matter. False if it isn't one. */
 static bool take_flag(struct request *request, int code) {
     switch (code) {
     case 'c': request->checks_format = request->checks_header = true; break;
@@ -87,7 +87,7 @@ static bool take_flag(struct request *request, int code) {
     case 'V': request->wants_version = true; break;
     case CHECK_FORMAT: request->checks_format = true; break;
     case CHECK_HEADER: request->checks_header = true; break;
-    case CHECK_DOMAIN: break; /* it warns of lines `domain`, which GNU msgfmt is given in any case */
+    case CHECK_DOMAIN: break; /* it warns about `domain` lines, and texts with those go to GNU msgfmt anyway */
     case NO_CONVERT: break;
     case NO_HASH: break;
     case STATISTICS: request->wants_statistics = true; break;
@@ -115,7 +115,7 @@ static void take(struct request *request, int code, int place, char **words) {
     }
 }
 
-/* What GNU msgfmt says before it looks at a PO file, and what Kobdzila's can't be asked for. */
+/* Note what only GNU msgfmt answers before it reads a PO file, and what Kobdzila's msgfmt can't do. */
 static void look_at_names(struct request *request) {
     if (request->wants_version)
         needs_gnu(request, "", "--version");

@@ -1,5 +1,5 @@
-/* Sets of catalogues in C: memory, counts of holders, and the files of installed catalogues. What a set is and what it
- * answers stands in crates/kobdzila_c, whose exports are declared here as Rattle gives them. */
+/* Sets of catalogues, the C part: memory, reference counts and the files of installed catalogues. The look-ups are in
+ * crates/kobdzila_c, whose exports are declared here as Rattle exports them. */
 #include "held.h"
 
 #include <stdbool.h>
@@ -17,7 +17,7 @@ void kobdzila_set_answer(const struct held *set, const unsigned char *domain, si
                          struct lent *out);
 bool kobdzila_is_name(const unsigned char *bytes, size_t len);
 
-enum { FAULT, VERSION }; /* numbers */
+enum { FAULT, VERSION }; /* `which` of kobdzila_set_number */
 
 kob_set *kob_set_new(void) {
     kob_set *set = room_for(kobdzila_set_size());
@@ -42,7 +42,7 @@ kob_set *kob_set_with(const kob_set *set, const char *domain, const char *locale
     return NULL;
 }
 
-/* Whether a file may be looked for by this name: no other folder is named. */
+/* Whether the name may be part of a path: it is a name, and can't lead to another folder. */
 static int is_file_name(const char *name) {
     kob_text text = text_of(name);
     return kobdzila_is_name(bytes_of(text), text.len) && strcmp(name, ".") && strcmp(name, "..");

@@ -1,12 +1,20 @@
-/* Message catalogues of GNU gettext, looked up by a proved library. The man page is kobdzila(3).
+/* libkobdzila: looks up translations in message catalogues of GNU gettext. See kobdzila(3).
  *
- * Every text is UTF-8. A text that is answered stands in the catalogue and lasts as long as it; its bytes are only to
- * be read. Any number of threads may ask one catalogue at once. None of these functions may be called from a signal
- * handler, nor in the forked child of a process that had several threads.
+ * Strings are UTF-8. A string that a look-up returns belongs to the catalogue or set, unless it is the caller's own
+ * `msgid` or `plural`: it is valid until the catalogue or set is freed, and must not be written to. Any number of
+ * threads may use one catalogue at once. Don't call these functions from a signal handler, nor in the forked child of a
+ * process that had several threads.
  *
- * NULL may be given only where that is said: for a msgid (the answer is NULL), a context (then there is none) and a
- * plural; for a domain, a locale or a list of languages (it is the empty text, which is no name and finds nothing);
- * for `why`; for `bytes` with the length 0; and for what is released. The calls that release keep errno.
+ * NULL is allowed only where this header says so, and for these arguments:
+ *   - a `msgid`: the look-up returns NULL;
+ *   - a `context`: the message has none;
+ *   - a `plural`: NULL is returned where `plural` would be;
+ *   - a `domain`, a `locale` or `languages`: the empty string, which is no name and finds nothing;
+ *   - `why`: the caller doesn't want the reason;
+ *   - `bytes`, if `len` is 0;
+ *   - the argument of kob_release and kob_set_release, which do nothing then.
+ *
+ * kob_release and kob_set_release leave errno as it was.
  */
 #ifndef KOBDZILA_H
 #define KOBDZILA_H
@@ -20,30 +28,30 @@
 extern "C" {
 #endif
 
-/* The version of the library that the program runs with. Its first number is that of KOB_VERSION, and the others may be
- * higher. */
+/* Return the version of the library that is loaded at run time. Its major version is that of KOB_VERSION; the rest may
+ * be later. */
 const char *kob_version(void);
 
-/* A catalogue: it never changes, and is let go of when its last holder has released it. */
+/* A catalogue. It is immutable and reference-counted: releasing its last reference frees it. */
 typedef struct kob_catalogue kob_catalogue;
 
-/* Why there is no catalogue. Of several reasons the first one of its list is given. */
+/* Why an operation failed. If several reasons hold, the first one in its group below is reported. */
 enum kob_fault {
     KOB_NO_FAULT = 0,
-    /* an MO file, KOB_MO to kob_open_file */
+    /* MO files: kob_open_mo, and kob_open_file with KOB_MO */
     KOB_MO_TOO_LARGE = 1,   /* more than 268,435,456 bytes */
     KOB_MO_SHORT = 2,       /* fewer than 28 bytes */
-    KOB_MO_MAGIC = 3,       /* the magic number in neither byte order */
+    KOB_MO_MAGIC = 3,       /* no magic number, in either byte order */
     KOB_MO_REVISION = 4,    /* the revision isn't 0 */
-    KOB_MO_BOUNDS = 5,      /* a table or a string doesn't lie in the file */
-    KOB_MO_NO_NUL = 6,      /* a string has no NUL behind it */
+    KOB_MO_BOUNDS = 5,      /* a table or a string isn't wholly inside the file */
+    KOB_MO_NO_NUL = 6,      /* a string isn't terminated by NUL */
     KOB_MO_BAD_TEXT = 7,    /* a string isn't UTF-8, or a key holds byte 4 twice */
-    KOB_MO_FORMS = 8,       /* several plurals, or several forms without a plural */
-    KOB_MO_ORDER = 9,       /* the keys don't rise */
-    KOB_MO_CHARSET = 10,    /* the header names another charset than UTF-8 and US-ASCII */
-    KOB_MO_SWOLLEN = 11,    /* the file that would be written of it is too large */
-    KOB_MEMORY = 12,        /* want of memory: it says nothing of the bytes */
-    /* a PO text, with its line */
+    KOB_MO_FORMS = 8,       /* an entry has several plurals, or several forms and no plural */
+    KOB_MO_ORDER = 9,       /* the keys aren't in strictly ascending order */
+    KOB_MO_CHARSET = 10,    /* the header names a charset other than UTF-8 and US-ASCII */
+    KOB_MO_SWOLLEN = 11,    /* the MO file that kob_mo_file would return is too large */
+    KOB_MEMORY = 12,        /* out of memory, which says nothing about the input */
+    /* PO texts, with the line */
     KOB_PO_TOO_LARGE = 101, /* more than 67,108,864 bytes */
     KOB_PO_NOT_UTF8 = 102,
     KOB_PO_BAD_ESCAPE = 103,
@@ -61,112 +69,122 @@ enum kob_fault {
     KOB_PO_PLURAL_RANGE = 115,
     KOB_PO_FORMAT_MISMATCH = 116,
     KOB_PO_NEWLINE_MISMATCH = 117,
-    KOB_UNREADABLE = 201,   /* kob_open_file, kob_set_open: the file can't be read, and errno says why */
-    KOB_BAD_NAME = 202      /* a text domain or a locale isn't 1 to 64 letters, digits and _ - . @ + */
+    KOB_UNREADABLE = 201,   /* kob_open_file, kob_set_open: can't read the file; see errno */
+    KOB_BAD_NAME = 202      /* a text domain or locale isn't 1 to 64 letters, digits and _ - . @ + */
 };
 
-/* A refusal. */
+/* Why there is no catalogue or set, and the line of a PO text. */
 typedef struct {
     enum kob_fault fault;
-    unsigned line; /* of a PO text; 0 where it has none */
+    unsigned line; /* in a PO text; 0 if the fault has no line */
 } kob_refusal;
 
-/* How a PO text is compiled: any of these, put together by `|`. */
+/* How to compile a PO text: 0, or any of these combined with `|`. */
 enum kob_options {
-    KOB_CHECKED = 1,  /* with the checks of `msgfmt -c` */
-    KOB_USE_FUZZY = 2 /* fuzzy messages are kept, too */
+    KOB_CHECKED = 1,  /* run the checks of `msgfmt -c` */
+    KOB_USE_FUZZY = 2 /* keep fuzzy messages too */
 };
 
-/* What the bytes of a file are. */
+/* The format of a file. */
 enum kob_kind { KOB_MO, KOB_PO };
 
-/* The refusal in a few words of English. */
+/* Return a short English description of `fault`, a static string. */
 const char *kob_fault_text(enum kob_fault fault);
 
-/* The catalogue of an MO file, with one holder. NULL where it is refused: *why says why, unless `why` is NULL.
- * The bytes are copied, and the caller's again at once. */
+/* Open the MO file in `bytes` and return its catalogue, with one reference, which the caller releases with kob_release.
+ * On failure, return NULL and store the reason in *why, unless `why` is NULL. The bytes are copied: the caller may free
+ * them as soon as the call returns. */
 kob_catalogue *kob_open_mo(const void *bytes, size_t len, kob_refusal *why);
 
-/* The same of a PO text, compiled by these options. */
+/* Compile the PO text in `bytes` and return its catalogue. `options` is 0 or a combination of enum kob_options.
+ * References, failures and the bytes are treated as by kob_open_mo. */
 kob_catalogue *kob_open_po(const void *bytes, size_t len, unsigned options, kob_refusal *why);
 
-/* The catalogue of the file of this name: an MO file, or a PO text compiled by these options. A regular file is read
- * up to the size that it has at first; a FIFO, a device and the like as they come, up to the greatest size. A FIFO
- * that nobody has open for writing is empty, and isn't waited for. The file is closed in programs that are started
- * meanwhile. With KOB_UNREADABLE errno says why, for example ENOENT, or EMFILE if no file descriptor is left. */
+/* Open the file `name`, an MO file (KOB_MO) or a PO text (KOB_PO, compiled with `options`), and return its catalogue.
+ * References and failures are treated as by kob_open_mo; after KOB_UNREADABLE errno says why, for example ENOENT, or
+ * EMFILE if no file descriptor is left.
+ *
+ * A regular file is read up to the size that it has when it is opened. A FIFO, a device and the like are read to their
+ * end, up to the size limit of the format; a FIFO that nobody has open for writing counts as empty. The file is opened
+ * with O_CLOEXEC. */
 kob_catalogue *kob_open_file(const char *name, enum kob_kind kind, unsigned options, kob_refusal *why);
 
-/* One holder more. The answer is the catalogue. */
+/* Take another reference to `catalogue` and return it. */
 kob_catalogue *kob_retain(kob_catalogue *catalogue);
 
-/* One holder less. The last one frees the catalogue: then no call for it may be running or follow, and none of its
- * texts may be read. NULL is passed over. */
+/* Drop a reference to `catalogue`. Dropping the last one frees it: no call on the catalogue may then be running or
+ * follow, and its strings become invalid. */
 void kob_release(kob_catalogue *catalogue);
 
-/* The translation of a message; the msgid itself where there is none. */
+/* Return the translation of `msgid`, in `context` for kob_pgettext, or `msgid` itself if there is none. */
 const char *kob_gettext(const kob_catalogue *catalogue, const char *msgid);
 const char *kob_pgettext(const kob_catalogue *catalogue, const char *context, const char *msgid);
 
-/* The form that a number takes, by the rule in the catalogue's header; where there is no translation, the msgid for 1,
- * and the plural for other numbers. */
+/* Return the plural form for `n`, chosen by the plural rule in the catalogue's header. If there is no translation,
+ * return `msgid` if `n` is 1 and `plural` otherwise. */
 const char *kob_ngettext(const kob_catalogue *catalogue, const char *msgid, const char *plural, unsigned long long n);
 const char *kob_npgettext(const kob_catalogue *catalogue, const char *context, const char *msgid, const char *plural,
                           unsigned long long n);
 
-/* A text by its place and its length, for texts that aren't closed by NUL. `at` is NULL where there is no text. */
+/* A string given by its address and length, which need not be terminated by NUL. `at` is NULL if there is no string. */
 typedef struct {
     const char *at;
     size_t len;
 } kob_text;
 
-/* The translation of a message, in a context unless `context.at` is NULL, and with the form of *n unless `n` is NULL.
- * `at` is NULL where there is none. A NUL stands behind the answer, which `len` doesn't count. */
+/* Return the translation of `msgid`: in `context` unless `context.at` is NULL, and the plural form for *n unless `n` is
+ * NULL. The result's `at` is NULL if there is no translation; otherwise it is followed by a NUL, which `len` doesn't
+ * count. */
 kob_text kob_find(const kob_catalogue *catalogue, kob_text context, kob_text msgid, const unsigned long long *n);
 
-/* How many entries the catalogue has, the header counted. */
+/* Return the number of entries of `catalogue`, including the header. */
 size_t kob_count(const kob_catalogue *catalogue);
 
-/* An entry's texts: no context, no plural have `at` NULL. They aren't closed by NUL. */
+/* The strings of an entry, not terminated by NUL. `at` is NULL if the entry has no context, or no plural. */
 typedef struct {
     kob_text context, msgid, plural;
-    size_t forms; /* how many forms there are: one at least */
+    size_t forms; /* number of forms, at least 1 */
 } kob_entry;
 
-/* The entry at this place, from 0, in rising order of the keys' bytes. 0 where there is none, else 1. */
+/* Store entry number `place` in *entry and return 1, or return 0 if there is no such entry. Entries are numbered
+ * from 0, in ascending order of their keys' bytes. */
 int kob_entry_at(const kob_catalogue *catalogue, size_t place, kob_entry *entry);
 
-/* A form of an entry, not closed by NUL; `at` is NULL where there is no such form. */
+/* Return form number `form` of entry number `place`, both from 0. It is not terminated by NUL; `at` is NULL if there is
+ * no such form. */
 kob_text kob_form_at(const kob_catalogue *catalogue, size_t place, size_t form);
 
-/* The one MO file of the catalogue. */
+/* Return `catalogue` as the bytes of an MO file, whichever format it was opened from. The bytes belong to the
+ * catalogue. */
 kob_text kob_mo_file(const kob_catalogue *catalogue);
 
-/* A set of catalogues, each for a text domain and a locale. It never changes, and is let go of when its last holder has
- * released it; so a program that replaces catalogues makes a new set, and shows it to its threads by one store. */
+/* A set of catalogues, each for a text domain and a locale. It is immutable and reference-counted. To replace
+ * catalogues while threads use them, make a new set and exchange the pointer to it: see THREADS in kobdzila(3). */
 typedef struct kob_set kob_set;
 
-/* The set of no catalogues, with one holder. NULL where there is no memory. */
+/* Return an empty set, with one reference, or NULL if memory runs out. */
 kob_set *kob_set_new(void);
 
-/* The set with one catalogue more, with one holder. The catalogue takes the place of the one for its text domain and
- * locale; all others are shared with `set`, which stays as it is. NULL where it is refused (KOB_BAD_NAME, KOB_MEMORY).
- * Both `set` and `catalogue` remain the caller's. */
+/* Return a new set, with one reference, that has `catalogue` for `domain` and `locale`, replacing the one that `set`
+ * may have there, and shares all others with `set`. On failure (KOB_BAD_NAME or KOB_MEMORY), return NULL and store
+ * the reason in *why. `set` is unchanged, and the caller keeps its references to `set` and `catalogue`. */
 kob_set *kob_set_with(const kob_set *set, const char *domain, const char *locale, const kob_catalogue *catalogue,
                       kob_refusal *why);
 
-/* The same with the catalogue of the file FOLDER/LOCALE/LC_MESSAGES/DOMAIN.mo, where installed ones stand. The file's
- * own refusals are those of kob_open_file; `.` and `..` are no names here. */
+/* Like kob_set_with, with the catalogue of the MO file FOLDER/LOCALE/LC_MESSAGES/DOMAIN.mo, which is where
+ * catalogues are installed. Fails as kob_open_file does, too; `.` and `..` are KOB_BAD_NAME here. */
 kob_set *kob_set_open(const kob_set *set, const char *folder, const char *domain, const char *locale, kob_refusal *why);
 
-/* One holder more, and one holder less, as for a catalogue. */
+/* Take another reference to `set` and return it, and drop a reference, as for a catalogue. */
 kob_set *kob_set_retain(kob_set *set);
 void kob_set_release(kob_set *set);
 
-/* How many catalogues were put into the set, one after another. */
+/* Return how many catalogues were added to get from an empty set to `set`, replaced ones included. */
 unsigned long long kob_set_version(const kob_set *set);
 
-/* The translation of a message in a text domain. `languages` is a list of locales, parted by `:` as in the variable
- * LANGUAGE: the first one whose catalogue has the message gives the answer, by its own rule. */
+/* Like the functions for one catalogue, for the catalogues of a text domain. `languages` is a list of locales
+ * separated by `:`, as in the environment variable LANGUAGE. The first one whose catalogue has the message provides
+ * the translation, and the plural rule. */
 const char *kob_set_gettext(const kob_set *set, const char *domain, const char *languages, const char *msgid);
 const char *kob_set_pgettext(const kob_set *set, const char *domain, const char *languages, const char *context,
                              const char *msgid);
@@ -175,7 +193,7 @@ const char *kob_set_ngettext(const kob_set *set, const char *domain, const char 
 const char *kob_set_npgettext(const kob_set *set, const char *domain, const char *languages, const char *context,
                               const char *msgid, const char *plural, unsigned long long n);
 
-/* kob_find in a text domain and a list of languages. */
+/* Like kob_find, for the catalogues of a text domain, in the order of a list of languages. */
 kob_text kob_set_find(const kob_set *set, kob_text domain, kob_text languages, kob_text context, kob_text msgid,
                       const unsigned long long *n);
 

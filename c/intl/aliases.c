@@ -1,5 +1,5 @@
-/* Aliases of locales, such as `french`: the file locale.alias, as the C library reads it. Each line has an alias and
- * the name that it stands for; case doesn't count in an alias, and a line that begins with # is a comment. */
+/* Aliases of locales, such as `french`, from the file locale.alias, read as the C library does. Each line has an alias
+ * and the locale name that it stands for. Aliases are case-insensitive, and a line that begins with # is a comment. */
 #define _DEFAULT_SOURCE
 #include "intl.h"
 

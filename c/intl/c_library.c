@@ -1,4 +1,4 @@
-/* The C library's own functions, found once. */
+/* The C library's own functions, looked up once. */
 #define _GNU_SOURCE
 #include "intl.h"
 
@@ -22,5 +22,5 @@ const struct c_library *c_library(void) {
     return &found;
 }
 
-/* (before there are threads, where it can be: a child that is forked while one of them looks would wait for it) */
+/* Before there are threads, if possible: a child forked while another thread looks them up would wait forever. */
 __attribute__((constructor)) static void find_early(void) { c_library(); }

@@ -1,8 +1,8 @@
-/* Whether the C library reads a file well that libkobdzila refused. The C library trusts a file: a table that doesn't
- * lie in it, a string without a NUL or a hash table without a free place let it read other memory, or search without
- * end. So it gets to see a file only if all that it reads lies in the file. Its revisions are 0 and 1, each with a
- * minor one; 0.0 is GNU gettext manual, "MO Files". From minor revision 1 on there are strings with parts that depend
- * on the system, such as the text of PRIu64; their tables are named in 5 more words of the header. */
+/* Whether the C library can safely read a file that libkobdzila refused. The C library trusts its files: a table
+ * outside of the file, a string without a NUL or a hash table without a free slot make it read other memory, or loop
+ * forever. So it gets to see a file only if everything that it reads is inside the file. Its major revisions are 0
+ * and 1, each with a minor one; 0.0 is GNU gettext manual, "MO Files". From minor revision 1 on, strings may have
+ * system-dependent parts, such as the value of PRIu64; five more words of the header locate their tables. */
 #include "intl.h"
 
 #include <stdint.h>
@@ -13,21 +13,21 @@
 #define LAST_PART 0xffffffffu
 #define MOST_PARTS 1000000
 
-/* The words of the header, by their place. */
+/* The words of the header, by their index. */
 enum { REVISION = 1, STRINGS, HASH_SIZE = 5, HASH_TABLE, PARTS, PART_TABLE, SYSTEM_STRINGS, ORIGINALS, TRANSLATIONS };
 
 struct bytes {
     const unsigned char *at;
     size_t len;
-    int is_swapped; /* the byte order isn't this machine's */
+    int is_swapped; /* the file has the other byte order */
 };
 
-/* Whether so many bytes from this place on lie in the file. */
+/* Whether `len` bytes at offset `from` are inside the file. */
 static int holds(const struct bytes *file, uint64_t from, uint64_t len) {
     return from <= file->len && len <= file->len - from;
 }
 
-/* A word that lies in the file. */
+/* Read the word at an offset inside the file. */
 static uint32_t word(const struct bytes *file, uint64_t from) {
     uint32_t value;
     memcpy(&value, file->at + from, sizeof value);
@@ -43,8 +43,8 @@ static int is_prime(uint32_t n) {
     return n > 1;
 }
 
-/* The hash table lies in the file, names no string that there isn't, and each search in it ends: it goes over all
- * places of a table with a prime number of them, and some are free, also after `more` strings were put in. */
+/* Whether the hash table is inside the file, refers only to strings that exist, and ends every search: a search visits
+ * all slots of a table whose size is prime, and some slot stays free even after `more` strings are inserted. */
 static int has_sound_hash_table(const struct bytes *file, uint32_t more) {
     uint32_t size = in_header(file, HASH_SIZE), strings = in_header(file, STRINGS), table = in_header(file, HASH_TABLE);
     if (size <= 2)
@@ -61,7 +61,7 @@ static int has_sound_hash_table(const struct bytes *file, uint32_t more) {
     return free_places > more;
 }
 
-/* The names of the parts, such as `PRIu64`, lie in the file, closed by NUL. */
+/* Whether the names of the parts, such as `PRIu64`, are inside the file and terminated by NUL. */
 static int has_sound_parts(const struct bytes *file) {
     uint32_t parts = in_header(file, PARTS), table = in_header(file, PART_TABLE);
     if (parts > MOST_PARTS || !holds(file, table, 8ull * parts))
@@ -74,8 +74,9 @@ static int has_sound_parts(const struct bytes *file) {
     return 1;
 }
 
-/* A string with parts: its place and pairs of a length and a part, of which the last names none. `budget` is lowered by
- * what the C library goes over, so that strings that overlap can't make it more than the file. */
+/* Whether a string with parts is sound. It is an offset and pairs of a length and a part, and the last pair has no
+ * part. `budget` is lowered by what the C library scans, so that overlapping strings can't make it scan more than
+ * the file. */
 static int is_sound_string(const struct bytes *file, uint64_t at, uint64_t *budget) {
     uint32_t parts = in_header(file, PARTS);
     if (!holds(file, at, 4))
@@ -115,7 +116,7 @@ static int is_sound(const struct bytes *file, uint32_t revision) {
            has_sound_strings(file, TRANSLATIONS, &budget);
 }
 
-/* What libkobdzila says of the strings that every revision has: as if the file were of revision 0. */
+/* Check the strings that every revision has with libkobdzila, as if the file had revision 0. */
 static enum kob_fault fault_of_strings(const struct bytes *file) {
     unsigned char *copy = malloc(file->len);
     if (!copy)
@@ -136,7 +137,7 @@ int is_read_well(const unsigned char *bytes, size_t len, enum kob_fault fault) {
     uint32_t revision = in_header(&file, REVISION);
     if (fault == KOB_MO_REVISION)
         fault = revision >> 16 <= 1 ? fault_of_strings(&file) : fault;
-    /* of these reasons each one comes after it is known that the strings lie in the file */
+    /* libkobdzila reports these only once it knows that all strings are inside the file */
     int is_readable =
         fault == KOB_NO_FAULT || fault == KOB_MO_BAD_TEXT || fault == KOB_MO_FORMS || fault == KOB_MO_CHARSET;
     return is_readable && is_sound(&file, revision);

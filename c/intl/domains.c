@@ -1,7 +1,7 @@
-/* Text domains: the current one, and the folder and the codeset of each. The C library keeps them, too, and each
- * change is made there first. What it gives back is only good until the next change, and to ask it takes locks that
- * nobody frees in the child of a fork; so there are copies here. Each change of the process's locale is made under the
- * lock as well, so that its name can be read there. */
+/* Text domains: the current one, and the folder and the codeset of each. The C library keeps these too, and every
+ * change is made there first. But the strings that it returns are valid only until the next change, and asking it
+ * takes locks that nobody releases in a forked child, so copies are kept here. Changes of the process's locale are
+ * made under the lock as well, so that its name can be read there. */
 #define _POSIX_C_SOURCE 200809L
 #include "intl.h"
 
@@ -12,14 +12,14 @@
 
 struct domain {
     struct domain *next;
-    char *folder, *codeset; /* NULL if none was bound */
+    char *folder, *codeset; /* NULL if not bound */
     char name[];
 };
 
 static struct domain *domains;
 static char *current; /* NULL for the default one, `messages` */
 
-/* The folder of a domain that nobody binds. It's found before there are threads, if nobody asks earlier. */
+/* Return the folder of a domain that isn't bound. It is looked up before there are threads, or at the first call. */
 static const char *default_folder(void) {
     static const char *folder;
     if (!folder)
@@ -36,7 +36,7 @@ static struct domain *find_domain(const char *name) {
     return NULL;
 }
 
-/* The domain of this name, made now if there is none; NULL if memory runs out. */
+/* Return the domain of this name, which is added if it is new; NULL if memory runs out. */
 static struct domain *domain_of(const char *name) {
     struct domain *found = find_domain(name);
     if (found)
@@ -59,14 +59,14 @@ const char *folder_of(const char *domain) {
 
 static int is_utf8(const char *codeset) { return !strcasecmp(codeset, "UTF-8") || !strcasecmp(codeset, "UTF8"); }
 
-/* A domain's own codeset comes first, then the variable OUTPUT_CHARSET, then the codeset of the thread's locale. */
+/* The codeset is the domain's own, else that of the variable OUTPUT_CHARSET, else that of the thread's locale. */
 int wants_utf8(const char *domain) {
     const struct domain *d = find_domain(domain);
     const char *codeset = d && d->codeset ? d->codeset : getenv("OUTPUT_CHARSET");
     return is_utf8(codeset && *codeset ? codeset : nl_langinfo(CODESET));
 }
 
-/* Puts a copy of the text in the place of the one before, if the C library has made the change, too. */
+/* Replace the kept string by a copy of the new one, if the C library has made the change too. */
 static char *change(char *made, char **place, char *copy) {
     free(made ? *place : copy);
     if (made)
@@ -74,7 +74,7 @@ static char *change(char *made, char **place, char *copy) {
     return made;
 }
 
-/* (a call that changes nothing goes to the C library alone, and one for which memory runs out to nobody) */
+/* A call that changes nothing only asks the C library. If memory runs out, the C library isn't called either. */
 SHOWN char *textdomain(const char *domain) {
     take_lock();
     char *copy = domain ? strdup(*domain ? domain : "messages") : NULL, *name = NULL;

@@ -1,4 +1,4 @@
-/* Catalogues by the names of their files. A file is opened once, and lasts as long as the program. */
+/* Catalogues by file name. A file is opened once, and kept for as long as the program runs. */
 #include "intl.h"
 
 #include "file_bytes.h"
@@ -9,7 +9,7 @@
 #include <strings.h>
 
 #define MOST_MO 268435456
-#define LEAST_MO 48 /* the C library takes no file that is shorter */
+#define LEAST_MO 48 /* the C library refuses shorter files */
 
 static struct file *files;
 
@@ -26,7 +26,7 @@ struct file *file_of(const char *name) {
     return files = f;
 }
 
-/* Whether the header says ASCII: then the C library refuses what isn't, and libkobdzila doesn't. */
+/* Whether the header says ASCII. The C library then refuses other characters, and libkobdzila doesn't. */
 static int says_ascii(const kob_catalogue *catalogue) {
     const kob_text none = { NULL, 0 }, header = { "", 0 };
     const char *text = kob_find(catalogue, none, header, NULL).at;
@@ -51,7 +51,7 @@ static enum standing standing_of_bytes(struct file *f, const unsigned char *byte
     return is_read_well(bytes, len, why.fault) ? THEIRS : REFUSED;
 }
 
-/* Whether a call failed for want of something that may be there the next time. */
+/* Whether a call failed because it ran out of something that may be available the next time. */
 static int may_pass(int cause) { return cause == ENOMEM || cause == EMFILE || cause == ENFILE; }
 
 enum standing standing_of(struct file *f) {

@@ -1,5 +1,5 @@
-/* gettext and its kin over libkobdzila, put before a program's own by LD_PRELOAD=libkobdzila-intl.so. A question goes
- * on to the C library if its answer isn't wanted in UTF-8, or a file has to be asked that only the C library reads. */
+/* gettext and its relatives on top of libkobdzila, for programs that run with LD_PRELOAD=libkobdzila-intl.so. A call is
+ * passed on to the C library if the answer isn't wanted in UTF-8, or may be in a file that only the C library reads. */
 #define _POSIX_C_SOURCE 200809L
 #include "intl.h"
 
@@ -10,12 +10,13 @@
 #include <unistd.h>
 
 struct question {
-    const char *domain, *msgid, *plural; /* as the program gave them: `domain` may be NULL, and `plural` is without n */
+    const char *domain, *msgid, *plural; /* the program's arguments; `domain` may be NULL, and `plural` goes with `n` */
     const unsigned long *n;
     int category;
 };
 
-/* What is found: a text, or that the C library is to be asked; else the program's own text is the answer. */
+/* The result of a search: a string, or that the C library has to be asked. Otherwise the program's own string is
+ * used. */
 struct found {
     const char *text;
     int is_theirs;
@@ -27,8 +28,8 @@ static const char *text_in(const struct file *file, const struct question *q) {
     return kob_find(file->catalogue, none, msgid, q->n ? &n : NULL).at;
 }
 
-/* Files are looked at up to the one that answers. The C library will look at the same ones if it's asked, and at later
- * ones if it can't give a text in the codeset that is wanted; so it isn't asked if one of them is hostile. */
+/* Search the files up to the first that has an answer. If the C library is asked, it reads these files too, and later
+ * ones if it can't convert a string to the codeset wanted. So it isn't asked if one of them is hostile. */
 static struct found found_in(const struct list *list, const struct question *q, int utf8) {
     struct found found = { NULL, 0 };
     int has_theirs = 0, has_refused = 0;
@@ -48,7 +49,7 @@ static struct found found_in(const struct list *list, const struct question *q, 
     return found;
 }
 
-/* The relative folder with the working folder before it; NULL if memory runs out or there is none. */
+/* Return a relative folder with the working directory in front; NULL if memory runs out or there is none. */
 static char *absolute(const char *folder) {
     char *here = getcwd(NULL, 0);
     size_t len = here ? strlen(here) : 0;
@@ -82,8 +83,8 @@ static const char *theirs(const struct question *q) {
     return c_library()->dcgettext(q->domain, q->msgid, q->category);
 }
 
-/* The C library is asked under the lock, too: by its own locks the child of a fork could wait for a thread that there
- * isn't. A category that it doesn't know, and no msgid, are its own to answer. */
+/* The C library is called under the lock too: with its own locks alone, a forked child could wait for a thread that
+ * isn't there. An unknown category and a NULL msgid are left to the C library. */
 static char *answer(const struct question *q) {
     const char *category = category_name(q->category);
     int cause = errno;

@@ -1,5 +1,5 @@
-/* The files in which a message is looked for: one list for each folder, category, domain and languages that were asked.
- * Few of them are kept, since a program can ask in any number of languages. */
+/* The files to search for a message: one list for each folder, category, domain and languages used so far. Only a few
+ * lists are kept, since a program can use any number of languages. */
 #define _POSIX_C_SOURCE 200809L
 #include "intl.h"
 
@@ -9,7 +9,7 @@
 #define MOST_LISTS 32
 #define MOST_ALIAS 400
 
-static struct list *lists; /* the last one that was asked comes first */
+static struct list *lists; /* most recently used first */
 
 static int is_for(const struct list *l, const char *folder, const char *category, const char *domain,
                   const char *languages) {
@@ -22,7 +22,7 @@ static void free_list(struct list *l) {
     free(l);
 }
 
-/* The list without files. */
+/* Make an empty list. */
 static struct list *new_list(const char *folder, const char *category, const char *domain, const char *languages) {
     size_t texts = strlen(folder) + strlen(category) + strlen(domain) + strlen(languages) + 4;
     struct list *l = malloc(sizeof *l + texts);
@@ -50,7 +50,7 @@ static int add_file(struct list *l, struct file *file) {
     return 1;
 }
 
-/* Adds the files of one locale. `room` has place for a normalized codeset, and then for the name of a file. */
+/* Add the files of one locale. `room` must hold a normalized codeset followed by the name of a file. */
 static int add_locale(struct list *l, const char *locale, char *room) {
     const char *alias = alias_value(locale);
     const char *text = alias ? alias : locale;
@@ -66,11 +66,11 @@ static int add_locale(struct list *l, const char *locale, char *room) {
     return 1;
 }
 
-/* Whether files of another folder would be looked for by this name. */
+/* Whether this name would lead to files in another folder. */
 static int leaves_folder(const char *locale) { return strchr(locale, '/') || !strcmp(locale, ".."); }
 
-/* Adds the files of the languages up to C, after which none counts. A program that was given more rights than its
- * caller has stays in the folder. */
+/* Add the files of the languages up to C, which ends the list. A program that has more privileges than its caller stays
+ * in the folder. */
 static int add_languages(struct list *l, char *locale, char *room) {
     for (const char *at = l->languages; *at;) {
         size_t len = strcspn(at, ":");

@@ -1,4 +1,4 @@
-/* What the thread's locale says: the one that it took by uselocale, or the process's. */
+/* The thread's locale: the one that it chose with uselocale, or the process's. */
 #define _GNU_SOURCE
 #include "intl.h"
 

@@ -1,6 +1,5 @@
-/* The lock: no thread that holds it is cancelled, and no fork comes while another thread holds it, so that a child
- * finds it free. A thread may take it once more, for a function that fork calls while it holds the lock may ask
- * gettext. */
+/* The lock. A thread that holds it isn't cancelled, and fork waits until no other thread holds it, so a child finds it
+ * free. A thread may take it once more, since the handlers that fork calls under the lock may call gettext. */
 #include "intl.h"
 
 #include <pthread.h>

@@ -1,6 +1,7 @@
-/* The names of a locale's folders. Its name has up to four parts, and the catalogue is looked for in the folder of the
- * whole name first, then with fewer parts: the codeset goes first, then the territory, and the modifier at last. After
- * each name with a codeset comes the one with its normalized spelling, which has small letters and digits alone. */
+/* The names of a locale's folders. A locale name has up to four parts. The folder of the whole name is searched
+ * first, then those with fewer parts: the codeset is dropped first, then the territory, and the modifier last. Each
+ * name with a codeset is followed by the one with the normalized codeset, which has only lower-case letters and
+ * digits. */
 #include "intl.h"
 
 #include <string.h>
@@ -9,7 +10,7 @@ static int is_digit(char c) { return c >= '0' && c <= '9'; }
 
 static int is_letter(char c) { return (c >= 'a' && c <= 'z') || (c >= 'A' && c <= 'Z'); }
 
-/* `utf8` for `UTF-8`; a codeset without a letter is one of ISO's. */
+/* Normalize a codeset: `utf8` for `UTF-8`. A codeset without letters is an ISO one. */
 static struct part normalized_of(struct part codeset, char *to) {
     size_t len = 0, letters = 0;
     for (size_t i = 0; i < codeset.len; i++)
@@ -26,7 +27,7 @@ static struct part normalized_of(struct part codeset, char *to) {
     return (struct part){ to, len };
 }
 
-/* The bytes from here on before the first one of `ends`. */
+/* Return the bytes from `at` up to the first one that is in `ends`. */
 static struct part part_before(const char *at, const char *end, const char *ends) {
     const char *last = at;
     while (last < end && !strchr(ends, *last))
@@ -36,7 +37,7 @@ static struct part part_before(const char *at, const char *end, const char *ends
 
 static int is_same(struct part a, struct part b) { return a.len == b.len && !memcmp(a.at, b.at, a.len); }
 
-/* (a name without a language is taken as it is) */
+/* A name without a language isn't split. */
 struct name parts_of(const char *text, size_t len, char *normalized) {
     const char *at = text, *end = text + len;
     struct name name = { .language = part_before(text, end, "_.@") };

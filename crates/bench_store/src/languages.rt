@@ -1,4 +1,4 @@
-//! What the store is filled with: a catalogue for each language.
+//! Filling the store: a catalogue for each language.
 ghost use Rattle.std.specs.Prelude.{◌≡◌};
 
 use crate::messages::{LANGUAGES, PLAIN, locale_of, po_text};
@@ -6,7 +6,7 @@ use live_versions::Publisher;
 use std::alloc::AllocError;
 use std::sync::Wait;
 
-/// Publishes a catalogue of so many messages for each language, all in one step.
+/// Publishes a catalogue of `messages` messages for each language, all in one step.
 pub fn publish_languages<R: Wait + AllocGlobal>(
     rt: &R,
     publisher: &mut Publisher,

@@ -1,4 +1,4 @@
-//! Queries by lists of languages, of which the last one has the message.
+//! Queries with lists of languages where only the last one has the message.
 ghost use Rattle.std.specs.Prelude.{◌≡◌};
 
 use crate::languages::publish_languages;
@@ -12,14 +12,14 @@ use std::rt::Clock;
 use std::sync::Wait;
 use std::time::Instant;
 
-/// What stands before the last member of a list, and how many members it makes: locales with no catalogue, and those of
-/// `OTHERS`, whose catalogue has other messages.
+/// The number of members of a list, and what precedes its last member: locales without a catalogue, and those of
+/// `OTHERS`, whose catalogues have other messages.
 const LISTS: [(u32, &str); 3] = [(1, ""), (3, "aa:x0:"), (6, "aa:x0:bb:x1:cc:")];
 
 /// The locales whose catalogues have other messages.
 const OTHERS: [&str; 2] = ["x0", "x1"];
 
-/// How often all queries are made.
+/// How often each query is made.
 const ROUNDS: u32 = 10;
 
 /// Loads the catalogues that have other messages.
@@ -39,7 +39,7 @@ fn load_others<R: AllocGlobal>(
     Ok(all)
 }
 
-/// Times one reader's queries by a list of each length.
+/// Times one reader's queries with a list of each length.
 fn run_lists<R: Print + Eprint + Clock + AllocGlobal>(
     rt: &R,
     reader: &mut Lookups,
@@ -64,7 +64,7 @@ fn run_lists<R: Print + Eprint + Clock + AllocGlobal>(
     Ok(())
 }
 
-/// Queries of one reader by lists of 1, 3 and 6 languages.
+/// Times queries of one reader with lists of 1, 3 and 6 languages.
 pub fn time_lists<R: Print + Eprint + Clock + Wait + AllocGlobal>(
     rt: &R,
     messages: u32,

@@ -1,4 +1,4 @@
-//! Loads of one large catalogue, by its PO text and by its MO file.
+//! Loading one large catalogue, from its PO text and from its MO file.
 use crate::messages::{PLAIN, po_text};
 use crate::print_time;
 use catalogue::compile;
@@ -10,13 +10,13 @@ use std::rt::Clock;
 use std::sync::Wait;
 use std::time::{Duration, Instant};
 
-/// How many messages the catalogue has.
+/// The number of messages in the catalogue.
 const MESSAGES: u32 = 80_000;
 
-/// How often it is loaded in each way.
+/// How often the catalogue is loaded from each format.
 const TURNS: u32 = 10;
 
-/// The MO file of a PO text, if that compiles.
+/// The MO file of a PO text, or `None` if it doesn't compile.
 fn mo_file_of(alloc: Global, text: &str) -> Option<Vec<u8>> {
     let Ok(compiled) = compile(alloc, text.as_bytes(), PLAIN) else {
         return None;
@@ -24,7 +24,7 @@ fn mo_file_of(alloc: Global, text: &str) -> Option<Vec<u8>> {
     write_mo(alloc, &compiled.catalogue).ok()
 }
 
-/// Times the loads, of the text and of the file in turn. Each is published, which isn't timed.
+/// Times loads of the PO text and of the MO file, in turn. Each load is published, which isn't timed.
 fn run_loads<R: Print + Eprint + Clock + Wait + AllocGlobal>(
     rt: &R,
     publisher: &mut Publisher,
@@ -51,7 +51,7 @@ fn run_loads<R: Print + Eprint + Clock + Wait + AllocGlobal>(
     print_time(rt, "loads of its MO file", by_file, turns, wrong)
 }
 
-/// Loads of one large catalogue in both ways.
+/// Times loads of one large catalogue from both formats.
 pub fn time_loads<R: Print + Eprint + Clock + Wait + AllocGlobal>(rt: &R) -> io::Result<()> {
     let Ok((mut publisher, _readers)) = open_store(rt, rt.alloc(), 1, u64::MAX) else {
         return println!(rt; "no store");

@@ -1,8 +1,10 @@
-//! Times a live store: entries, alone and of many readers beside a publisher; queries in one thread and in four, and by
-//! lists of languages; `serve` on 1 to 16 desks, alone and beside jobs; publishes beside many catalogues; loads of a PO
-//! text and of its MO file. The first word says how many messages each of 20 languages has (500 without a word), the
-//! second how often is published (100).
-//! Standard output has what went wrong, the same each time; standard error has the times by the clock.
+//! Times a live store: entries, alone and of many readers while a publisher publishes; queries in one thread and in
+//! four, and with lists of languages; `serve` on 1 to 16 desks, with and without jobs; publishes with many catalogues
+//! in the store; loads of a PO text and of its MO file.
+//!
+//! The first argument is the number of messages for each of 20 languages (default 500), the second the number of
+//! publishes (default 100). Standard output has only what went wrong, so it is equal for equal runs; the times go to
+//! standard error.
 #![tactic(auto)]
 
 mod languages;
@@ -30,22 +32,22 @@ use std::thread::{Threads, join, map_vec};
 use std::time::{Duration, Instant};
 use std::{env, io};
 
-/// How many entries one reader makes.
+/// The number of entries that one reader makes.
 const ENTRIES: u32 = 1_000_000;
 
-/// How many turns of other work a busy reader does behind each entry: some five microseconds.
+/// Turns of other work that a busy reader does after each entry, about five microseconds.
 const WORK: u32 = 30_000;
 
-/// How many publishes of one catalogue are timed.
+/// The number of timed publishes of one catalogue.
 const PUBLISHES: u32 = 1_000;
 
-/// How many catalogues lie beside the one that is published.
+/// The number of other catalogues in the store during those publishes.
 const OTHERS: u32 = 1_000;
 
-/// How often all queries are made: few of them often, and many once.
+/// How often each query is made: often if they are few, once if they are many.
 const ROUNDS: [u32; 2] = [10, 1];
 
-/// Prints how long each of so many turns took, and how many went wrong.
+/// Prints how long each of `turns` turns took, and how many went wrong.
 pub(crate) fn print_time<R: Print + Eprint>(
     rt: &R,
     what: &str,
@@ -70,7 +72,7 @@ fn replace<R: Wait + AllocGlobal>(
     loaded.is_ok() && published.is_ok()
 }
 
-/// Sleeps until so much time has passed since the start.
+/// Sleeps until `due` has passed since `start`.
 fn sleep_until<R: Wait + Clock>(rt: &R, start: &Instant, due: Duration) -> io::Result<()> {
     if let Some(left) = due.checked_sub(start.elapsed(rt)?) {
         std::thread::sleep(rt, left);
@@ -78,8 +80,8 @@ fn sleep_until<R: Wait + Clock>(rt: &R, start: &Instant, due: Duration) -> io::R
     Ok(())
 }
 
-/// Publishes once in each millisecond, so many times, or lets as much time pass where there is no text. A publish that
-/// comes late doesn't put off the ones behind it. Answers how many publishes failed, and how long all of it took.
+/// Publishes `turns` times, once in each millisecond, or only waits for that long if there is no text. A late publish
+/// doesn't delay those after it. Returns how many publishes failed, and the time that all of it took.
 fn publish_on_time<R: Wait + Clock + AllocGlobal>(
     rt: &R,
     publisher: &mut Publisher,
@@ -101,7 +103,7 @@ fn publish_on_time<R: Wait + Clock + AllocGlobal>(
     Ok((wrong, start.elapsed(rt)?))
 }
 
-/// The same, which then says that it is done. All publishes failed where there is no clock.
+/// Like `publish_on_time`, and then sets `done`. Without a clock, all publishes count as failed.
 fn publish_many<R: Wait + Clock + AllocGlobal>(
     rt: &R,
     publisher: &mut Publisher,
@@ -114,7 +116,7 @@ fn publish_many<R: Wait + Clock + AllocGlobal>(
     published.unwrap_or((u64::MAX, Duration::from_millis(0)))
 }
 
-/// One reader that enters and leaves.
+/// Times one reader that enters and leaves.
 fn time_entries<R: Print + Eprint + Clock + Wait + AllocGlobal>(rt: &R) -> io::Result<()> {
     let Ok((publisher, mut readers)) = open_store(rt, rt.alloc(), 1, u64::MAX) else {
         return println!(rt; "no store");
@@ -139,17 +141,17 @@ fn time_reader<R: Print + Eprint + Clock>(rt: &R, reader: &mut Lookups) -> io::R
     )
 }
 
-/// Readers beside a publisher.
+/// Readers at work while a publisher may publish.
 #[derive(Clone, Copy)]
 struct Beside {
     readers: u32,
-    /// How many turns of other work a reader does behind each entry.
+    /// Turns of other work that a reader does after each entry.
     work: u32,
-    /// Whether there are publishes.
+    /// Whether the publisher publishes.
     publishing: bool,
 }
 
-/// Readers that enter and leave, while a publisher publishes or does nothing.
+/// Times readers that enter and leave, while a publisher publishes or does nothing.
 fn time_beside<R: Print + Eprint + Clock + Threads + Wait + AllocGlobal + Sync>(
     rt: &R,
     beside: Beside,
@@ -219,7 +221,8 @@ fn print_beside<R: Print + Eprint>(
     )
 }
 
-/// Queries in 20 languages, of one reader and of four at once: as many as there are messages, in so many rounds.
+/// Times queries in 20 languages, by one reader and by four at once. All rounds together make as many queries as the
+/// store has messages.
 fn time_queries<R: Print + Eprint + Clock + Threads + Wait + AllocGlobal + Sync>(
     rt: &R,
     messages: u32,
@@ -306,7 +309,7 @@ fn run_queries<R: Print + Eprint + Clock + Threads + Wait + AllocGlobal + Sync>(
     )
 }
 
-/// Publishes of one catalogue beside many others.
+/// Times publishes of one catalogue with many others in the store.
 fn time_publishes<R: Print + Eprint + Clock + Wait + AllocGlobal>(rt: &R) -> io::Result<()> {
     let Ok((mut publisher, _readers)) = open_store(rt, rt.alloc(), 1, u64::MAX) else {
         return println!(rt; "no store");
@@ -355,7 +358,7 @@ fn run_publishes<R: Print + Eprint + Clock + Wait + AllocGlobal>(
     )
 }
 
-/// The number that a word says, or another one where it says none.
+/// The number that an argument gives, or `otherwise` if it gives none.
 fn number_of(word: Option<String>, otherwise: u32) -> u32 {
     let number: Option<u32> = match word {
         Some(word) => word.as_str().parse().ok(),

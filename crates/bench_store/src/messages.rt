@@ -1,13 +1,15 @@
-//! What the store is filled with, and asked for.
+//! The messages that fill the store, and the queries for them.
 use catalogue::Options;
 use live_set::{Ask, Query};
 use std::alloc::{AllocError, Global};
 
+/// The options to compile with: no checks, and no fuzzy messages.
 pub const PLAIN: Options = Options {
     checked: false,
     use_fuzzy: false,
 };
 
+/// The number of languages, each with a catalogue of its own.
 pub const LANGUAGES: u32 = 20;
 
 /// The name of a language's locale.
@@ -15,12 +17,12 @@ pub fn locale_of(alloc: Global, language: u32) -> Result<String, AllocError> {
     format!(in alloc; "l{language}")
 }
 
-/// The text of a message in a language.
+/// The translation of a message in a language.
 pub fn translation_of(alloc: Global, language: &str, id: &str) -> Result<String, AllocError> {
     format!(in alloc; "{id} in {language}")
 }
 
-/// The PO text of a language, with so many messages.
+/// A PO text for a language, with `messages` messages.
 pub fn po_text(alloc: Global, language: u32, messages: u32) -> Result<String, AllocError> {
     let locale = locale_of(alloc, language)?;
     let mut text = String::new(alloc);
@@ -33,7 +35,7 @@ pub fn po_text(alloc: Global, language: u32, messages: u32) -> Result<String, Al
     Ok(text)
 }
 
-/// The PO text of a language that has as many other messages.
+/// A PO text with `messages` other messages.
 pub fn other_text(alloc: Global, messages: u32) -> Result<String, AllocError> {
     let mut text = String::new(alloc);
     'messages: for message in 0..messages {
@@ -43,7 +45,8 @@ pub fn other_text(alloc: Global, messages: u32) -> Result<String, AllocError> {
     Ok(text)
 }
 
-/// So many queries for messages here and there, each in one of the languages, with these members of the list before it.
+/// `count` queries for pseudo-random messages. Each has a list of languages that begins with `before` and ends with one
+/// of the 20.
 pub fn queries(
     alloc: Global,
     messages: u32,

@@ -1,4 +1,4 @@
-//! What readers do.
+//! The work of the readers that are timed.
 use crate::messages::translation_of;
 use desks::Answer;
 use live_set::{Ask, Query};
@@ -7,7 +7,7 @@ use std::alloc::Global;
 use std::sync::atomic::AtomicBool;
 use std::sync::atomic::Ordering::SeqCst;
 
-/// So many turns of work that has nothing to do with a store.
+/// Work that has nothing to do with a store.
 fn other_work(turns: u32, mut state: u64) -> u64 {
     'turns: for _ in 0..turns {
         state = state
@@ -17,8 +17,8 @@ fn other_work(turns: u32, mut state: u64) -> u64 {
     state
 }
 
-/// Enters so many times, with turns of other work behind each entry, and counts the entries whose version was below
-/// the one before.
+/// Enters `entries` times, with other work after each entry, and returns how many entries had a version below the one
+/// before.
 pub fn enter_many(reader: &mut Lookups, entries: u32, work: u32) -> u64 {
     let mut last = reader.seen();
     let mut state: u64 = 1;
@@ -35,12 +35,11 @@ pub fn enter_many(reader: &mut Lookups, entries: u32, work: u32) -> u64 {
         last = version;
         state = other_work(work, state);
     }
-    // (the work is for nothing, and would be left out if nobody asked for its end)
+    // Uses the result of the work, so that the compiler can't leave it out.
     if state == 0 { u64::MAX } else { fallen }
 }
 
-/// Enters until it is told to stop. Answers how many entries there were, and how many had a version below
-/// the one before.
+/// Enters until `done` is set. Returns the number of entries, and how many of them had a version below the one before.
 pub fn enter_until(reader: &mut Lookups, done: &AtomicBool, work: u32) -> (u64, u64) {
     let (mut entries, mut fallen) = (0_u64, 0_u64);
     'turns: for _ in 0..u64::MAX {
@@ -53,7 +52,7 @@ pub fn enter_until(reader: &mut Lookups, done: &AtomicBool, work: u32) -> (u64, 
     (entries, fallen)
 }
 
-/// Whether a text is what a query asks for: the translation of the last language in its list.
+/// Whether a text is the answer to a query: the translation in the last language of its list.
 pub fn is_answer(alloc: Global, query: &Query, text: &str) -> bool {
     let Ask::Plain { id } = &query.ask else {
         return false;
@@ -68,7 +67,7 @@ pub fn is_answer(alloc: Global, query: &Query, text: &str) -> bool {
     }
 }
 
-/// Makes each query once, and counts the wrong answers.
+/// Makes each query once, and returns the number of wrong answers.
 pub fn ask_each(alloc: Global, reader: &mut Lookups, queries: &[Query]) -> u64 {
     let mut wrong: u64 = 0;
     'queries: for query in queries {
@@ -83,7 +82,7 @@ pub fn ask_each(alloc: Global, reader: &mut Lookups, queries: &[Query]) -> u64 {
     wrong
 }
 
-/// Makes all queries so many times, and counts those that were not answered.
+/// Makes each query `rounds` times, and returns how many got no answer.
 pub fn ask_all(alloc: Global, reader: &mut Lookups, queries: &[Query], rounds: u32) -> u64 {
     let mut lost: u64 = 0;
     'rounds: for _ in 0..rounds {
@@ -96,7 +95,7 @@ pub fn ask_all(alloc: Global, reader: &mut Lookups, queries: &[Query], rounds: u
     lost
 }
 
-/// The same, with each answer in the place of the one before it.
+/// Like `ask_all`, with all answers written into one `String`.
 pub fn ask_all_into(alloc: Global, reader: &mut Lookups, queries: &[Query], rounds: u32) -> u64 {
     let mut text = String::new(alloc);
     let mut lost: u64 = 0;
@@ -110,7 +109,7 @@ pub fn ask_all_into(alloc: Global, reader: &mut Lookups, queries: &[Query], roun
     lost
 }
 
-/// Makes each query once, and keeps the answers. Counts those that were not answered.
+/// Makes each query once, and keeps the answers. Returns how many queries got none.
 pub fn keep_all(alloc: Global, reader: &mut Lookups, queries: &[Query]) -> u64 {
     let mut answers = Vec::new(alloc);
     'queries: for query in queries {
@@ -125,7 +124,7 @@ pub fn keep_all(alloc: Global, reader: &mut Lookups, queries: &[Query]) -> u64 {
     queries.len().abs_diff(answers.len()) as u64
 }
 
-/// Enters for each query and looks its text up, without a copy. Counts the texts that are empty.
+/// Enters for each query and looks its text up without a copy. Returns the number of empty texts.
 pub fn look_all(reader: &mut Lookups, queries: &[Query], rounds: u32) -> u64 {
     let mut lost: u64 = 0;
     'rounds: for _ in 0..rounds {

@@ -1,4 +1,4 @@
-//! `serve` on some desks, alone and beside a publishing thread.
+//! `serve` on 1 to 16 desks, with and without jobs.
 ghost use Rattle.std.specs.Prelude.{◌≡◌, ◌≤◌, All, IfOk, vec_len};
 
 use crate::languages::publish_languages;
@@ -14,16 +14,16 @@ use std::sync::Wait;
 use std::thread::Threads;
 use std::time::Instant;
 
-/// How many desks are timed.
+/// The numbers of desks that are timed.
 const DESKS: [u32; 5] = [1, 2, 4, 8, 16];
 
-/// How many jobs the publishing thread has.
+/// The number of jobs of the publishing thread.
 const JOBS: u32 = 1_000;
 
-/// How many messages the text of a job has.
+/// The number of messages in a job's text.
 const JOB_MESSAGES: u32 = 10;
 
-/// Lets all pass.
+/// A gate that holds nobody.
 #[derive(Drop)]
 struct Open;
 
@@ -31,7 +31,7 @@ impl Gate for Open {
     fn pass(&self, _place: Place, _index: u64) {}
 }
 
-/// So many jobs, each a text for one of 20 locales that nobody asks for.
+/// `count` jobs, each a text for one of 20 locales that no query asks for.
 fn jobs_of(alloc: Global, count: u32) -> Result<Vec<Job>, AllocError> {
     let mut jobs = Vec::new(alloc);
     'jobs: for job in 0..count {
@@ -48,7 +48,7 @@ fn jobs_of(alloc: Global, count: u32) -> Result<Vec<Job>, AllocError> {
     Ok(jobs)
 }
 
-/// A desk with so many queries.
+/// A desk with `count` queries.
 fn desk_of(alloc: Global, reader: Lookups, messages: u32, count: u32) -> Result<Desk, AllocError>
     ensures { IfOk result (λ d. d.reader ≡ reader) }
 {
@@ -60,7 +60,7 @@ fn desk_of(alloc: Global, reader: Lookups, messages: u32, count: u32) -> Result<
     })
 }
 
-/// A desk for each reader, each with so many queries.
+/// A desk for each reader, with `count` queries each.
 fn desks_of(
     alloc: Global,
     publisher: &Publisher,
@@ -83,7 +83,7 @@ fn desks_of(
     Ok(desks)
 }
 
-/// How many queries have no right answer.
+/// The number of queries without a right answer.
 fn wrong_answers(alloc: Global, queries: &[Query], answers: &[Answer]) -> u64 {
     let mut wrong = queries.len().abs_diff(answers.len()) as u64;
     'answers: for (query, answer) in queries.iter().zip(answers) {
@@ -94,7 +94,7 @@ fn wrong_answers(alloc: Global, queries: &[Query], answers: &[Answer]) -> u64 {
     wrong
 }
 
-/// The same of all desks.
+/// The number of queries of all desks without a right answer.
 fn all_wrong_answers(alloc: Global, desks: &[Desk]) -> u64 {
     let mut wrong: u64 = 0;
     'desks: for desk in desks {
@@ -117,7 +117,7 @@ fn print_serve<R: Print + Eprint + AllocGlobal>(
     eprintln!(rt; "serve, {count} desks beside {jobs} jobs: {each} ns each, {queries} times")
 }
 
-/// Serves these desks, by a publisher of their store.
+/// Times one call of `serve` on these desks.
 fn run_desks<R: Print + Eprint + Clock + Threads + Wait + AllocGlobal + Sync>(
     rt: &R,
     publisher: &mut Publisher,
@@ -140,7 +140,7 @@ fn run_desks<R: Print + Eprint + Clock + Threads + Wait + AllocGlobal + Sync>(
     }
 }
 
-/// Serves so many desks of a new store.
+/// Opens a store, and times `serve` on its desks.
 fn time_desks<R: Print + Eprint + Clock + Threads + Wait + AllocGlobal + Sync>(
     rt: &R,
     messages: u32,
@@ -166,7 +166,7 @@ fn time_desks<R: Print + Eprint + Clock + Threads + Wait + AllocGlobal + Sync>(
     done
 }
 
-/// Times `serve` on 1 to 16 desks, each with a tenth as many queries as there are messages.
+/// Times `serve` on 1 to 16 desks. The queries of a desk are a tenth of the number of messages.
 pub fn time_serve<R: Print + Eprint + Clock + Threads + Wait + AllocGlobal + Sync>(
     rt: &R,
     messages: u32,

@@ -1,4 +1,4 @@
--- Answers, as the list of batches grows.
+-- Answers stay right as the list of batches grows.
 use Rattle.std.proofs.Common.{◌≡◌, ◌≤◌, ◌+◌, ℕ, List, [], ◌∷◌, ◌++◌, take, length, sym, refl, ap, subst, ◌∙◌, arith}
 use Rattle.std.proofs.Common.{length-append}
 use Rattle.std.specs.String.{string_bytes}
@@ -51,7 +51,7 @@ answered_grows new old least (q ∷ qs) (a ∷ rs) st h =
 answered_grows new old least [] (a ∷ rs) st h = absurd h
 answered_grows new old least (q ∷ qs) [] st h = absurd h
 
--- one more answer, out of an entry that is not behind
+-- one more answer, from an entry that isn't older
 pub answered_more : (new old : List (List LoadValue)) (least : ℕ) (qs : List QueryValue) (rs : List Answer)
     (q : QueryValue) (a : Answer) → StartsWith new old → least ≤ version_of new → a.version ≡ version_of new
     → HasText (joined new) q (string_bytes a.text)
@@ -75,7 +75,7 @@ answered_more new old least (p ∷ qs) (b ∷ rs) q a st le version is h =
 answered_more new old least [] (b ∷ rs) q a st le version is h = absurd h
 answered_more new old least (p ∷ qs) [] q a st le version is h = absurd h
 
--- a bound that is lower holds too
+-- a smaller bound holds too
 pub answered_less : (batches : List (List LoadValue)) (less least : ℕ) (qs : List QueryValue) (rs : List Answer)
     → less ≤ least → Answered batches least qs rs → Answered batches less qs rs
 answered_less batches less least [] [] le h = tt

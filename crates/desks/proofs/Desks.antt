@@ -43,7 +43,7 @@ each_every P A B to (d ∷ ds) (e ∷ es) a h = (to d e a.0 h.0, each_every P A 
 each_every P A B to [] (e ∷ es) a h = absurd h
 each_every P A B to (d ∷ ds) [] a h = absurd h
 
--- what holds of each new desk may be used beside
+-- what holds of each new desk may be assumed as well
 pub each_with : (P Q : Desk → Desk → Type 0) (A : Desk → Type 0) → ((d e : Desk) → P d e → A e → Q d e)
     → (ds es : List Desk) → AllZip P ds es → AllByRecursion A es → AllZip Q ds es
 each_with P Q A to [] [] h a = tt
@@ -69,7 +69,7 @@ kept_all ds = each_refl KeepsDesk kept_refl ds
 learnt_kept : (f : SeenValue) (d e : Desk) → HasLearnt f d e → KeepsDesk d e
 learnt_kept f d e h = record { queries = h.queries; book = h.book; seen = h.seen }
 
--- desks that learnt and were worked are kept
+-- desks that have learnt and were worked are kept
 pub worked_kept : (f : SeenValue) (ds es fs : List Desk) → AllZip (HasLearnt f) ds es → AllZip Worked es fs
     → AllZip KeepsDesk ds fs
 worked_kept f ds es fs h k =
@@ -84,7 +84,7 @@ worked_not_ahead (d ∷ ds) (e ∷ es) h = (h.0.of_work, worked_not_ahead ds es 
 worked_not_ahead [] (e ∷ es) h = absurd h
 worked_not_ahead (d ∷ ds) [] h = absurd h
 
--- the readers are of one book still
+-- the readers still have one book
 pub kept_book : (f g : SeenValue) (ds es : List Desk) → g.book ≡ f.book
     → AllByRecursion (λ d. d.reader.book ≡ f.book) ds → AllZip KeepsDesk ds es
     → AllByRecursion (λ d. d.reader.book ≡ g.book) es
@@ -93,7 +93,7 @@ kept_book f g ds es same all h =
     let B : Desk → Type 0 = λ d. d.reader.book ≡ g.book in
     each_every KeepsDesk A B (λ d e a k. k.book ∙ a ∙ sym same) ds es all h
 
--- a desk that learnt, was worked with no fault, and settled
+-- a desk that has learnt, was worked with no fault, and has settled
 served_one : (start end : SeenValue) (d e f z : Desk) → HasLearnt start d e → Worked e f → f.fault ≡ None
     → Settled end f z → IsServed start end d z
 served_one start end d e f z l w none s =

@@ -1,4 +1,4 @@
--- Jobs in turn, and one more.
+-- Jobs done one after another, and one more.
 use Rattle.std.proofs.Common.{◌≡◌, ◌≢◌, ◌⊎◌, inl, inr, ℕ, List, [], ◌∷◌, ◌++◌, Ok, Err, sym, refl, ap, subst, ◌∙◌}
 use Rattle.std.proofs.Common.{◌+◌, ◌<◌, length, take, drop, append_assoc}
 use Rattle.std.proofs.lemmas.List.{take_more, take-append-drop}
@@ -44,7 +44,7 @@ refused_mo s job domain locale bytes e d l is refused =
 
 -- ---- a job
 
--- a publish as its clauses tell it
+-- a publish, as its clauses describe it
 pub is_published : (s t : StoreValue)
     → t.seen ≡ record { book = s.seen.book; batches = published s.seen.batches s.pending } → t.pending ≡ []
     → t.most ≡ s.most → t ≡ after_publish s
@@ -109,7 +109,7 @@ pub record Playing (s : StoreValue) (jobs : List JobValue) (outcomes : List Outc
   pub book : now.seen.book ≡ s.seen.book
   pub most : now.most ≡ s.most
 
--- behind the first publish
+-- after the first publish
 pub playing_first : (s t : StoreValue) (outcomes : List Outcome) → outcomes ≡ [] → t ≡ after_publish s
     → Playing s [] outcomes t
 playing_first s t outcomes none same = record {
@@ -137,7 +137,7 @@ playing_more s t u jobs more job os after o now one book most more_is after_is =
   most = most ∙ now.most;
 }
 
--- ---- the jobs before and behind an index
+-- ---- the jobs before and after an index
 
 pub taken : (jobs : List JobValue) (i : ℕ) (job : JobValue) → i < length jobs → job ≡ get_or jobs i job
     → take (i + 1) jobs ≡ take i jobs ++ job ∷ []

@@ -10,7 +10,7 @@ use Rattle.live_versions.specs.History.{MayFollow, IsLegalFrom}
 use Rattle.live_versions.proofs.Joining.{begins_refl, begins_trans, begins-published}
 use Rattle.desks.specs.ServedHistory.{entry_in, entries, without_entries}
 
--- ---- what an event needs, where a reader learns only what is published
+-- ---- what an event needs if readers learn only what is published
 
 abbrev pub May : ℕ → State → Event → Type 0
 May most s (Accept load) = version_of s.batches + length s.pending < most

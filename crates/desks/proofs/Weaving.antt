@@ -1,4 +1,4 @@
--- One more worker's answers are put into a history: each behind the publish whose version it names.
+-- One more worker's answers are put into a history, each after the publish whose version it names.
 use Rattle.std.proofs.Common.{◌≡◌, ◌≢◌, ℕ, ◌+◌, ◌≤◌, ◌<◌, ◌==◌, Bool, true, false, if◌then◌else◌, List, [], ◌∷◌}
 use Rattle.std.proofs.Common.{◌++◌, length, take, sym, refl, ap, ◌∙◌, subst, arith, length-append}
 use Rattle.std.specs.Prelude.{⊤}
@@ -37,7 +37,7 @@ front_loads batches front begins = ap (λ l. take (version_of front) (joined l))
     ∙ (ap (λ l. take (version_of front) l) (joined-append front begins.0)
     ∙ take_front (joined front) (joined begins.0))
 
--- a longer beginning has the next batch, too
+-- a longer beginning also has the next batch
 next_front : (end v : List (List LoadValue)) (batch : List LoadValue) (front : List (List LoadValue))
     → StartsWith end (v ++ batch ∷ []) → StartsWith end front → version_of v < version_of front
     → version_of (v ++ batch ∷ []) ≤ version_of front
@@ -65,7 +65,7 @@ published_front : (end v : List (List LoadValue)) (loads : List LoadValue) (fron
 published_front end v [] front p q less = omega (arith, less)
 published_front end v (load ∷ loads) front p q less = next_front end v (load ∷ loads) front p q less
 
--- a beginning that is further than now is no less far after the next event
+-- a beginning that is ahead of what is published isn't overtaken by the next event
 after_front : (s : State) (e : Event) (end front : List (List LoadValue)) → StartsWith end (after s e).batches
     → StartsWith end front → version_of s.batches < version_of front → version_of (after s e).batches ≤ version_of front
 after_front s (Accept load) end front p q less = omega (arith, less)
@@ -88,7 +88,7 @@ abbrev IsLater : ℕ → List Answer → Type 0
 IsLater version [] = ⊤
 IsLater version (answer ∷ answers) = (answer.version == version) ≡ false
 
--- an event of another one leaves what the reader has seen
+-- an event of another reader leaves what this one has seen
 seen_after : (worker : ℕ) (s : State) (e : Event) → IsBelow worker e → (after s e).seen worker ≡ s.seen worker
 seen_after worker s (Accept load) is = refl
 seen_after worker s Refuse is = refl
@@ -140,7 +140,7 @@ pub record Woven (most worker : ℕ) (s : State) (events : List Event) (queries 
 same_number : (n : ℕ) → (n == n) ≡ true
 same_number n = grind (arith, nat_tests)
 
--- one answer more, out of an entry that comes first
+-- one more answer, from an entry that comes first
 enter : (most worker : ℕ) (s : State) (events : List Event) (query : QueryValue) (queries : List QueryValue)
     (answer : Answer) (answers : List Answer) → AreBelow worker events
     → IsAnswerOf (record { batches = s.batches; seen = s.seen worker }) query answer
@@ -194,7 +194,7 @@ by_test false yes_ no_ = no_ refl
 abbrev seen_as : State → (ℕ → ℕ) → State
 seen_as s seen = record s { seen = seen }
 
--- the answers of this version, and then what is to come
+-- the answers of this version, followed by what is to come
 enter_all : (most worker : ℕ) (s : State) (events : List Event) (end : List (List LoadValue)) → AreBelow worker events
     → StartsWith end s.batches
     → ((seen : ℕ → ℕ) (queries : List QueryValue) (answers : List Answer)

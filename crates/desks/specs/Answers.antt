@@ -1,4 +1,4 @@
--- What a worker's answers are, over the batches that its reader has seen.
+-- The answers of a worker, given the batches that its reader has seen.
 use Rattle.std.specs.Prelude.{◌≡◌, ◌≤◌, ⊤, ℕ, List, [], ◌∷◌, take}
 use Rattle.std.specs.String.{string_bytes}
 use Rattle.live_set.specs.Loads.{LoadValue}
@@ -7,14 +7,15 @@ use Rattle.live_set.specs.Asks.{IsAnswer as HasText}
 use Rattle.live_versions.specs.Batches.{joined, version_of, StartsWith}
 use Rattle.desks.specs.declared.desk.Answer.{Answer}
 
--- the version is that of whole batches, those published first, and the text is the query's over so many loads
+-- the version is that of whole batches, counted from the first, and the text is the query's answer after that many
+-- loads
 pub record IsVersionedAnswer (batches : List (List LoadValue)) (query : QueryValue) (answer : Answer) : Type 0 where
   pub front : List (List LoadValue)
   pub begins : StartsWith batches front
   pub version_is : answer.version ≡ version_of front
   pub text_is : HasText (take answer.version (joined batches)) query (string_bytes answer.text)
 
--- one answer for each query, in order; no version is below the one before, nor the first below `least`
+-- one answer for each query, in order; no version is below the one before it, nor the first one below `least`
 abbrev pub Answered : List (List LoadValue) → ℕ → List QueryValue → List Answer → Type 0
 Answered batches least [] [] = ⊤
 Answered batches least (query ∷ queries) (answer ∷ answers) = (least ≤ answer.version)

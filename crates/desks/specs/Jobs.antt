@@ -1,4 +1,4 @@
--- What becomes of jobs, each a load that is published by itself.
+-- Jobs, each a load that is published by itself, and their outcomes.
 use Rattle.std.specs.Prelude.{◌≡◌, ◌⊎◌, ℕ, List, [], ◌∷◌, ◌++◌, length, Result, Ok, Err}
 use Rattle.catalogue.specs.Entry.{Entry}
 use Rattle.catalogue.specs.Meaning.{Means}
@@ -14,12 +14,12 @@ use Rattle.desks.specs.declared.job.Source.TheVariants as source
 use Rattle.desks.specs.declared.job.Accepted.{Accepted}
 use Rattle.desks.specs.declared.job.Accepted.TheVariants as accepted
 
--- what a load is of: a PO text, and how it is compiled, or an MO file
+-- what a job loads: a PO text with its options, or an MO file
 pub data SourceValue : Type 0 where
   Po : (text : List ℕ) (options : Options) → SourceValue
   Mo : (bytes : List ℕ) → SourceValue
 
--- what contracts see of one
+-- what contracts see of a source
 abbrev pub source_value : Source → SourceValue
 source_value (source.Po bytes options) = Po bytes.items options
 source_value (source.Mo bytes) = Mo bytes.items
@@ -30,37 +30,37 @@ pub record JobValue : Type 0 where
   pub locale : List ℕ
   pub source : SourceValue
 
--- a job's outcome: what its load is answered where it is accepted, or why it is refused
+-- the outcome of a job: what its accepted load returns, or why it is refused
 abbrev pub Outcome : Type 0
 Outcome = Result Accepted StoreFault
 
--- the pending loads, if there are any, are published as one batch
+-- the pending loads, if any, are published as one batch
 abbrev pub after_publish : StoreValue → StoreValue
 after_publish s = record s { seen = record s.seen { batches = published s.seen.batches s.pending }; pending = [] }
 
--- a source brings this map, and its load is answered this: the counts of a PO text, or how many entries the map has
+-- the source gives this map, and its load returns this: the counts of a PO text, or the number of entries of an MO file
 abbrev pub Brings : SourceValue → Accepted → List Entry → Type 0
 Brings (Po text options) (accepted.Po stats) map = (compiled : Compiled) × Means text options compiled
     × (stats ≡ compiled.stats) × (map ≡ compiled.catalogue)
 Brings (Mo bytes) (accepted.Mo entries) map = IsFileOf bytes map × (entries ≡ length map)
 Brings _ _ map = ⊥
 
--- a source is refused for this
+-- the source has this fault
 abbrev pub IsSourceFault : SourceValue → StoreFault → Type 0
 IsSourceFault (Po text options) = IsTextFault text options
 IsSourceFault (Mo bytes) = IsFileFault bytes
 
--- a job's load is accepted, with this answer: the map that its source brings is added
+-- the job's load is accepted and returns this: the map of its source is added
 abbrev pub IsAccepted : StoreValue → JobValue → Accepted → StoreValue → Type 0
 IsAccepted s job counts after = (map : List Entry) × Brings job.source counts map
     × AddsLoad s job.domain job.locale map after
 
--- it is refused for this reason
+-- the job's load is refused for this reason
 abbrev pub IsRefused : StoreValue → JobValue → StoreFault → Type 0
 IsRefused s job fault = IsRefusedFor (IsSourceFault job.source) s job.domain job.locale fault
 
 -- A job is done: its load is accepted and published as one batch, or it is refused and nothing changes. Running out of
--- memory is no outcome.
+-- memory isn't an outcome.
 abbrev pub Does : StoreValue → JobValue → Outcome → StoreValue → Type 0
 Does s job (Ok counts) after = (loaded : StoreValue) × IsAccepted s job counts loaded × (after ≡ after_publish loaded)
 Does s job (Err Memory) after = ⊥
@@ -73,11 +73,11 @@ DoesAll s (job ∷ jobs) (outcome ∷ outcomes) after = (between : StoreValue) �
     × DoesAll between jobs outcomes after
 DoesAll s _ _ after = ⊥
 
--- what was pending is published, and then all jobs are done
+-- what was pending is published, and then every job is done
 abbrev pub HasDone : StoreValue → List JobValue → List Outcome → StoreValue → Type 0
 HasDone s jobs outcomes after = DoesAll (after_publish s) jobs outcomes after
 
--- what was pending is published, some first jobs are done, and at most the load of the next one is pending
+-- what was pending is published, a prefix of the jobs is done, and at most the load of the next one is pending
 pub record StopsWithin (s : StoreValue) (jobs : List JobValue) (after : StoreValue) : Type 0 where
   pub first : List JobValue
   pub rest : List JobValue
@@ -89,6 +89,6 @@ pub record StopsWithin (s : StoreValue) (jobs : List JobValue) (after : StoreVal
       ⊎ ((job : JobValue) × (others : List JobValue) × (counts : Accepted) × (rest ≡ job ∷ others)
       × IsAccepted reached job counts after)
 
--- what the jobs leave where they are stopped by a fault: no load is lost, and none invented
+-- what the jobs leave when a fault stops them: no load is lost, and none is made up
 abbrev pub Stops : StoreValue → List JobValue → StoreValue → Type 0
 Stops s jobs after = (after ≡ s) ⊎ StopsWithin s jobs after

@@ -1,4 +1,4 @@
--- One history of a store that was served: what the publishing thread did and each look-up, one after another.
+-- One history of a store that was served: the steps of the publishing thread and each look-up, one after another.
 use Rattle.std.specs.Prelude.{◌≡◌, ◌<◌, ◌≤◌, ◌==◌, ⊤, ℕ, if◌then◌else◌, List, [], ◌∷◌, ◌++◌, length, map}
 use Rattle.std.specs.Prelude.{slice_index_or, Ok, Err}
 use Rattle.std.specs.List.{AllZip}
@@ -16,7 +16,7 @@ use Rattle.desks.specs.declared.job.Accepted.{Accepted}
 use Rattle.desks.specs.Jobs.{JobValue, Outcome, Brings, HasDone}
 use Rattle.desks.specs.Desks.{IsServed}
 
--- ---- the desks of the workers, which are counted from 0: a worker that has no desk has nothing
+-- ---- the desks of the workers, numbered from 0: a worker without a desk has nothing
 
 -- the version that a worker's reader has seen
 abbrev pub seen_by : List Desk → ℕ → ℕ
@@ -36,7 +36,7 @@ start_of s desks = record { batches = s.seen.batches; pending = s.pending; seen 
 
 -- ---- the look-ups
 
--- what a reader meets where it enters: what is published there, and the version that it had seen
+-- what a reader meets when it enters: what is published then, and the version that it had seen
 pub record Entry : Type 0 where
   pub batches : List (List LoadValue)
   pub seen : ℕ
@@ -52,8 +52,8 @@ abbrev pub entries : ℕ → State → List Event → List Entry
 entries reader s [] = []
 entries reader s (event ∷ events) = entry_in reader s event ++ entries reader (after s event) events
 
--- The answer is out of this entry: its version is what is published there, no less than what the reader had seen, and
--- its text is the query's over all loads that are published there.
+-- The answer comes from this entry: its version is what is published there, at least what the reader had seen, and its
+-- text is the query's answer after all loads published there.
 pub record IsAnswerOf (entry : Entry) (query : QueryValue) (answer : Answer) : Type 0 where
   pub version_is : answer.version ≡ version_of entry.batches
   pub no_less : entry.seen ≤ answer.version
@@ -68,14 +68,14 @@ AreAnswersOf _ _ _ = ⊥
 
 -- ---- the publishing thread
 
--- the events that are no reader's
+-- the events of the publishing thread
 abbrev pub without_entries : List Event → List Event
 without_entries [] = []
 without_entries (Enter reader version ∷ events) = without_entries events
 without_entries (Learn reader version ∷ events) = without_entries events
 without_entries (event ∷ events) = event ∷ without_entries events
 
--- the load that a job with this answer brings
+-- the load that a job with this outcome adds
 abbrev pub IsLoadOf : JobValue → Accepted → LoadValue → Type 0
 IsLoadOf job counts load = (load.domain ≡ job.domain) × (load.locale ≡ job.locale)
     × Brings job.source counts load.map
@@ -88,7 +88,7 @@ AreJobs (job ∷ jobs) (Ok counts ∷ outcomes) (Accept load ∷ Publish ∷ eve
 AreJobs (job ∷ jobs) (Err fault ∷ outcomes) (Refuse ∷ events) = AreJobs jobs outcomes events
 AreJobs _ _ _ = ⊥
 
--- first of all what was pending is published
+-- what was pending is published first
 abbrev pub IsWork : List JobValue → List Outcome → List Event → Type 0
 IsWork jobs outcomes (Publish ∷ events) = AreJobs jobs outcomes events
 IsWork jobs outcomes _ = ⊥
@@ -96,7 +96,7 @@ IsWork jobs outcomes _ = ⊥
 -- ---- the law
 
 -- The history leads from the store and the desks before to those after: it is legal, it ends with what is published and
--- pending at the end, and in it are the jobs with their outcomes, each worker's answers, and nothing else.
+-- pending at the end, and it has the jobs with their outcomes, each worker's answers, and nothing else.
 pub record IsHistoryOf (s t : StoreValue) (jobs : List JobValue) (outcomes : List Outcome) (before after : List Desk)
     (history : List Event) : Type 0 where
   pub legal : IsLegalFrom s.most (start_of s before) history
@@ -108,7 +108,7 @@ pub record IsHistoryOf (s t : StoreValue) (jobs : List JobValue) (outcomes : Lis
   pub seen : (worker : ℕ) → worker < length after
       → (state_from (start_of s before) history).seen worker ≡ seen_by after worker
 
--- whatever the schedule of the threads was, there is one history
+-- whatever the schedule of the threads, there is one history
 abbrev pub HasOneHistory : Type 0
 HasOneHistory = (s t : StoreValue) (jobs : List JobValue) (outcomes : List Outcome) (before after : List Desk)
     → HasDone s jobs outcomes t → AllZip (IsServed s.seen t.seen) before after

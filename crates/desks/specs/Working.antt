@@ -11,13 +11,13 @@ use Rattle.desks.specs.Jobs.{JobValue, IsAccepted}
 use Rattle.desks.specs.Answers.{Answered}
 use Rattle.desks.specs.Desks.{KeepsDesk}
 
--- what may end the work: memory that is refused, or a store that is closed
+-- the faults that may stop the work: out of memory, or the store is closed
 abbrev pub OfWork : ServeFault → Type 0
 OfWork Ahead = ⊥
 OfWork Join = ⊥
 OfWork _ = ⊤
 
--- a fault leaves a job's load pending, or nothing
+-- a fault leaves the job's load pending, or changes nothing
 abbrev pub LeavesOne : StoreValue → JobValue → StoreValue → Type 0
 LeavesOne s job after = (after ≡ s) ⊎ ((counts : Accepted) × IsAccepted s job counts after)
 
@@ -28,7 +28,7 @@ pub record HasLearnt (start : SeenValue) (desk after : Desk) : Type 0 where
   pub told : StartsWith after.reader.batches start.batches
   pub queries : after.queries ≡ desk.queries
 
--- a desk was worked: where there is no fault, each query has its answer in what the reader has now seen
+-- the desk was worked: without a fault, each query has its answer in what the reader has now seen
 pub record Worked (desk after : Desk) : Type 0 where
   pub kept : KeepsDesk desk after
   pub of_work : IfSome after.fault OfWork

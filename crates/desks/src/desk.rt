@@ -1,9 +1,9 @@
-//! A reader with its work.
+//! Desks: a reader with its queries and answers.
 use live_set::Query;
 use live_versions::{Lookups, Version};
 use thiserror::Error;
 
-/// What a query was answered: the version of its entry, and its text there.
+/// The answer to a query: the version of the entry that it comes from, and its text.
 #[derive(Debug, Drop)]
 pub struct Answer {
     pub version: Version,
@@ -13,14 +13,13 @@ pub struct Answer {
 /// Why a service ended early.
 #[derive(Clone, Copy, Debug, PartialEq, Eq, Error)]
 pub enum ServeFault {
-    /// Memory was refused: for an answer, a load or a publish.
+    /// Out of memory for an answer, a load or a publish.
     #[error("out of memory")]
     Memory,
-    /// A reader had seen more than is published at the end.
+    /// At the end a reader had seen more than is published.
     #[error("a reader has seen more than is published")]
     Ahead,
-    /// A thread couldn't be made. `serve` never answers it: if the system makes no thread, that thread's work is
-    /// done in turn.
+    /// A thread couldn't be started. `serve` never returns this: it does the work of such a thread in turn.
     #[error("no thread")]
     Join,
     /// A reader found the store closed.
@@ -28,13 +27,13 @@ pub enum ServeFault {
     Closed,
 }
 
-/// A reader, its queries, and what `serve` makes of them.
+/// A reader with its queries, and their answers once `serve` has run.
 #[derive(Drop)]
 pub struct Desk {
     pub reader: Lookups,
     pub queries: Vec<Query>,
-    /// One answer for each query, in order, if `serve` answered `Ok`.
+    /// After `serve` returns `Ok`: one answer for each query, in order.
     pub answers: Vec<Answer>,
-    /// `None` if `serve` answered `Ok`.
+    /// After `serve` returns `Ok`: `None`.
     pub fault: Option<ServeFault>,
 }

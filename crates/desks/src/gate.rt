@@ -1,16 +1,16 @@
-//! Where a caller may hold a thread.
+//! Gates, at which a caller may hold a thread.
 
 /// Which thread is at a gate.
 #[derive(Debug, Drop)]
 pub enum Place {
     /// The worker of the desk with this index, from 0.
     Worker(u32),
-    /// The thread that publishes.
+    /// The publishing thread.
     Publishing,
 }
 
-/// Called before each query of a desk and before each job, with its number from 0. Tests hold threads there; a
-/// server lets all pass.
+/// Called before each query of a desk and before each job, with its index from 0. Tests hold threads here; a server
+/// lets all of them pass.
 pub trait Gate {
     fn pass(&self, place: Place, index: u64);
 }

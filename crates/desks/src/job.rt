@@ -1,11 +1,11 @@
-//! What the publishing thread has to do.
+//! Jobs for the publishing thread.
 use catalogue::{Options, Stats};
 use std::marker::Model;
 
-/// What a load is of.
+/// What a job loads.
 #[derive(Drop)]
 pub enum Source {
-    /// A PO text, and how it is compiled.
+    /// A PO text, and the options to compile it with.
     Po { bytes: Vec<u8>, options: Options },
     /// An MO file.
     Mo { bytes: Vec<u8> },
@@ -35,11 +35,11 @@ impl Model for Job {
         } };
 }
 
-/// What a load that was accepted is answered.
+/// What an accepted load returns.
 #[derive(Clone, Copy, Debug, PartialEq, Eq)]
 pub enum Accepted {
-    /// How the entries of a PO text count.
+    /// The counts of a PO text's entries.
     Po(Stats),
-    /// How many entries an MO file has.
+    /// The number of an MO file's entries.
     Mo(u64),
 }

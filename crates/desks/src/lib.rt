@@ -1,7 +1,7 @@
-//! Queries of one to sixteen readers, answered while a thread loads and publishes.
+//! Serving the queries of 1 to 16 readers while another thread loads and publishes.
 //!
-//! Each reader has a desk with its queries. The publisher has jobs: each loads a PO text or an MO file, which is then
-//! published by itself. `serve` does all of this at once, and answers each query from one entry of the store.
+//! Each reader has a desk with its queries. The publisher has jobs; each loads a PO text or an MO file and publishes it
+//! by itself. `serve` does all of this at once, and answers each query from one entry to the store.
 #![tactic(auto)]
 
 mod desk;

@@ -10,7 +10,7 @@ use live_versions::{Publisher, StoreFault};
 use std::alloc::Global;
 use std::sync::Wait;
 
-/// Loads what a job is of: a PO text by `Publisher::load`, an MO file by `Publisher::load_mo`. A refused load changes
+/// Loads a job's source: a PO text with `Publisher::load`, an MO file with `Publisher::load_mo`. A refused load changes
 /// nothing.
 pub fn load_job(alloc: Global, publisher: &mut Publisher, job: &Job) -> Result<Accepted, StoreFault>
     ensures ok { IfOk result (λ counts. IsAccepted publisher.old job.now counts publisher.new) }
@@ -31,7 +31,7 @@ pub fn load_job(alloc: Global, publisher: &mut Publisher, job: &Job) -> Result<A
     }
 }
 
-/// Does one job: a load, which is published if it is accepted.
+/// Does one job: loads its source, and publishes if the load is accepted. Fails only if memory runs out.
 fn do_job<R: Wait>(
     rt: &R,
     alloc: Global,
@@ -59,7 +59,7 @@ fn do_job<R: Wait>(
     }
 }
 
-/// Publishes what is pending, and then does the jobs in turn.
+/// Publishes what is pending, and then does the jobs one after another. It stops if memory runs out.
 pub(crate) fn do_jobs<R: Wait, G: Gate>(
     rt: &R,
     gate: &G,

@@ -25,7 +25,7 @@ pub struct Served {
     pub version: Version,
 }
 
-/// The jobs and the work of all desks, at the same time if both have something to do.
+/// Does the jobs and the work of all desks, at the same time if both have something to do.
 fn run_all<R: Threads + Wait + Sync, G: Gate + Sync>(
     rt: &R,
     alloc: Global,
@@ -43,7 +43,8 @@ fn run_all<R: Threads + Wait + Sync, G: Gate + Sync>(
     ensures fault { IfErr result OfWork }
     ensures worked { AllZip Worked desks.old desks.new }
 {
-    // With nothing to publish, or nobody to answer, one half does nothing: no gate is called and nothing is waited for.
+    // If there is nothing to publish or no query, one of the two does nothing: it calls no gate, and nothing waits for
+    // it.
     if (jobs.is_empty() && publisher.pending() == 0) || are_idle(desks) {
         let published = do_jobs(rt, gate, alloc, publisher, jobs, outcomes);
         work_all(rt, gate, alloc, 0, desks);
@@ -60,7 +61,7 @@ fn run_all<R: Threads + Wait + Sync, G: Gate + Sync>(
     published
 }
 
-/// The service over a slice of desks. It answers the version at the end.
+/// Serves a slice of desks, and returns the version at the end.
 fn serve_slice<R: Threads + Wait + Sync, G: Gate + Sync>(
     rt: &R,
     alloc: Global,
@@ -96,15 +97,15 @@ fn serve_slice<R: Threads + Wait + Sync, G: Gate + Sync>(
 }
 
 /// Answers the queries of all desks, each query from one entry, while the publisher publishes what is pending and then
-/// does the jobs in turn. Each job is a load; if it is accepted, it is published by itself.
+/// does the jobs one after another. A job is a load; if it is accepted, it is published by itself.
 ///
 /// Each desk with queries is worked in a thread of its own, while another thread publishes. A desk without queries
-/// takes no thread. Nor does the publishing, if nothing is pending and there are no jobs, or if there are no queries.
-/// First each reader learns what is published, and at the end it settles with what is published then. If the system
-/// makes no thread, that thread's work is done in turn.
+/// takes no thread; neither does the publishing if nothing is pending and there are no jobs, or if there are no
+/// queries. First every reader learns what is published, and at the end it settles with what is published then. If
+/// the system can't start a thread, that thread's work is done in turn.
 ///
-/// After a fault don't rely on the desks' `answers` and `fault`. The store has the loads that it had, followed by those
-/// of some first jobs that were accepted, and no other; at most the last of these is pending.
+/// After a fault don't rely on the desks' `answers` and `fault`. The store has the loads that it had, followed by the
+/// accepted loads of a prefix of the jobs, and no others; at most the last of these is pending.
 pub fn serve<R: Threads + Wait + Sync, G: Gate + Sync>(
     rt: &R,
     alloc: Global,
@@ -129,7 +130,7 @@ pub fn serve<R: Threads + Wait + Sync, G: Gate + Sync>(
     ensures desks { IfOk result (λ _.
         AllZip (IsServed publisher.old.seen publisher.new.seen) desks.old.items desks.new.items) }
 
-    // What a fault leaves of the store. It holds without one too.
+    // What the store is like after a fault. It also holds without one.
     ensures stops { Stops publisher.old jobs.items publisher.new }
     ensures fault { IfErr result (EndsAhead publisher.new.seen desks.new.items) }
 {

@@ -1,4 +1,4 @@
-//! What is done to all desks before and after their work.
+//! What is done to all desks before and after their queries are answered.
 ghost use Rattle.std.specs.List.{AllZip, AllByRecursion};
 ghost use Rattle.std.specs.Prelude.{◌≡◌, ◌<◌, OnOk, IfErr, IfNone, IfSome, None};
 ghost use Rattle.live_versions.specs.Batches.{version_of};
@@ -9,7 +9,7 @@ ghost use Rattle.desks.specs.Working.{HasLearnt, Settled, OfWork};
 use crate::desk::{Desk, ServeFault};
 use live_versions::Notice;
 
-/// Each reader learns a notice.
+/// Lets every reader learn a notice.
 pub fn learn_all(desks: &mut [Desk], opening: &Notice)
     requires { AllByRecursion (λ d. d.reader.book ≡ opening.now.book) desks.old }
     ensures { AllZip (HasLearnt opening.now) desks.old desks.new }
@@ -35,7 +35,7 @@ pub fn first_fault(desks: &[Desk]) -> Option<ServeFault>
 }
 
 #[tactic(auto, using(crate::proofs::Desks::kept_all))]
-/// Each reader settles with a notice. `Ahead` only if one has seen more than the notice says.
+/// Lets every reader settle with a notice. Returns `Ahead` only if a reader has seen more than the notice says.
 pub fn settle_all(desks: &mut [Desk], closing: &Notice) -> Result<(), ServeFault>
     requires { AllByRecursion (λ d. d.reader.book ≡ closing.now.book) desks.old }
     ensures settled { OnOk result (AllZip (Settled closing.now) desks.old desks.new) }

@@ -1,4 +1,4 @@
-//! The workers: each desk's queries.
+//! The workers, which answer the queries of the desks.
 ghost use Rattle.std.specs.List.{AllZip};
 ghost use Rattle.std.specs.Thread.{IsSync};
 ghost use Rattle.std.specs.Prelude.{◌≡◌, ◌+◌, ◌<◌, ◌≤◌, ◌^◌, length, OnOk, IfErr};
@@ -14,7 +14,7 @@ use std::alloc::Global;
 use std::mem;
 use std::thread::{Threads, join_mut};
 
-/// Answers each query by one entry, one after another.
+/// Answers the queries one after another, each from an entry of its own.
 fn answer_all<G: Gate>(
     gate: &G,
     alloc: Global,
@@ -48,8 +48,7 @@ fn answer_all<G: Gate>(
     Ok(())
 }
 
-/// One desk's work. What changes with each answer is on the thread's own stack, since the desks are neighbours in
-/// memory.
+/// Works one desk. What every answer changes is kept on the thread's own stack, since desks are neighbours in memory.
 fn work<G: Gate>(gate: &G, alloc: Global, place: u32, desk: &mut Desk)
     ensures { Worked desk.old desk.new }
 {
@@ -71,8 +70,8 @@ pub(crate) fn are_idle(desks: &[Desk]) -> bool {
     desks.iter().all(|desk| desk.queries.is_empty())
 }
 
-/// Answers the queries of all desks, whose places are counted from `place`. Each desk takes a thread of its own, but
-/// for those without queries and for the last one that has some.
+/// Answers the queries of all desks; the worker of the first one is number `place`. Each desk takes a thread of its
+/// own, except those without queries and the last one that has some.
 ///
 /// A desk's fault is `Closed` or `Memory`; after one don't rely on its answers.
 pub fn work_all<R: Threads + Sync, G: Gate + Sync>(

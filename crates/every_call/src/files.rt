@@ -5,21 +5,20 @@ use catalogue::{Catalogue, Options, compile};
 use mo_file::{check, read_mo, reread, write_mo};
 use std::io;
 
-/// A file of `a` to `x` and `ba` to `xx`, the first byte of each number first to last, with a hash table, and with
-/// strings that overlap.
+/// An MO file that translates `a` to `x` and `ba` to `xx`. It is big-endian, has a hash table, and its strings overlap.
 pub const SWAPPED: [u8; 78] =
     *b"\x95\x04\x12\xde\0\0\0\0\0\0\0\x02\0\0\0\x1c\0\0\0\x2c\0\0\0\x03\0\0\0\x3c\
     \0\0\0\x01\0\0\0\x49\0\0\0\x02\0\0\0\x48\0\0\0\x01\0\0\0\x4c\0\0\0\x02\0\0\0\x4b\
     \0\0\0\x02\0\0\0\x01\0\0\0\0ba\0xx\0";
 
-/// A file without entries.
+/// An MO file without entries.
 const EMPTY: &[u8] = b"\xde\x12\x04\x95\0\0\0\0\0\0\0\0\x1c\0\0\0\x1c\0\0\0\0\0\0\0\x1c\0\0\0";
 
-/// A file of a header alone, which names a charset that isn't accepted.
+/// An MO file with nothing but a header, which names an unsupported charset.
 const KOI8: &[u8] = b"\xde\x12\x04\x95\0\0\0\0\x01\0\0\0\x1c\0\0\0\x24\0\0\0\0\0\0\0\x2c\0\0\0\
     \0\0\0\0\x2c\0\0\0\x0e\0\0\0\x2d\0\0\0\0charset=KOI8-R\0";
 
-/// Changes of the first file: what each is called here, and which bytes are made what.
+/// Changes to `SWAPPED`: a label, the offset, and the bytes to put there.
 const CHANGES: [(&str, usize, &[u8]); 6] = [
     ("a wrong revision", 7, b"\x01"),
     ("no magic number", 0, b"\xff"),
@@ -38,7 +37,7 @@ const PLAIN: Options = Options {
     use_fuzzy: false,
 };
 
-/// Prints what a file is read as.
+/// Reads a file, and prints its entries or why it is refused.
 fn read<R: Print + AllocGlobal>(rt: &R, label: &str, bytes: &[u8]) -> io::Result<()> {
     print!(rt; "read_mo, {label}, gives ")?;
     match read_mo(rt.alloc(), bytes) {
@@ -51,7 +50,7 @@ fn read<R: Print + AllocGlobal>(rt: &R, label: &str, bytes: &[u8]) -> io::Result
     }
 }
 
-/// The first file with these bytes at a place.
+/// A copy of `SWAPPED` with these bytes at an offset.
 fn changed(at: usize, bytes: &[u8]) -> [u8; 78] {
     let mut file = SWAPPED;
     for (place, byte) in file.iter_mut().skip(at).zip(bytes) {
@@ -60,6 +59,7 @@ fn changed(at: usize, bytes: &[u8]) -> [u8; 78] {
     file
 }
 
+/// The group `read_mo`.
 pub fn read_all<R: Print + AllocGlobal>(rt: &R) -> io::Result<()> {
     read(rt, "two messages", &SWAPPED)?;
     read(rt, "nothing", EMPTY)?;
@@ -78,6 +78,7 @@ fn check_one<R: Print + AllocGlobal>(rt: &R, label: &str, bytes: &[u8]) -> io::R
     println!(rt; "check, {label}, gives {answer:?}")
 }
 
+/// The group `check`.
 pub fn check_all<R: Print + AllocGlobal>(rt: &R) -> io::Result<()> {
     check_one(rt, "two messages", &SWAPPED)?;
     check_one(rt, "an unknown charset", KOI8)?;
@@ -87,7 +88,7 @@ pub fn check_all<R: Print + AllocGlobal>(rt: &R) -> io::Result<()> {
     Ok(())
 }
 
-/// Prints a catalogue's file.
+/// Writes a catalogue to a file, and prints the bytes.
 fn write<R: Print + AllocGlobal>(rt: &R, catalogue: &Catalogue) -> io::Result<()> {
     match write_mo(rt.alloc(), catalogue) {
         Ok(bytes) => {
@@ -99,7 +100,7 @@ fn write<R: Print + AllocGlobal>(rt: &R, catalogue: &Catalogue) -> io::Result<()
     }
 }
 
-/// Prints the file of what a text compiles to.
+/// Compiles a text, and prints its MO file.
 fn write_text<R: Print + AllocGlobal>(rt: &R, label: &str, text: &str) -> io::Result<()> {
     print!(rt; "write_mo, {label}, ")?;
     match compile(rt.alloc(), text.as_bytes(), PLAIN) {
@@ -108,6 +109,7 @@ fn write_text<R: Print + AllocGlobal>(rt: &R, label: &str, text: &str) -> io::Re
     }
 }
 
+/// The group `write_mo`.
 pub fn write_all<R: Print + AllocGlobal>(rt: &R) -> io::Result<()> {
     write_text(rt, "an entry", SALUT)?;
     write_text(rt, "nothing", "")?;
@@ -119,7 +121,7 @@ pub fn write_all<R: Print + AllocGlobal>(rt: &R) -> io::Result<()> {
     }
 }
 
-/// Prints what a text compiles to, after it was written and read.
+/// Compiles a text, writes it, reads the file again, and prints the result.
 fn reread_text<R: Print + AllocGlobal>(rt: &R, label: &str, text: &str) -> io::Result<()> {
     print!(rt; "reread, {label}, ")?;
     let Ok(compiled) = compile(rt.alloc(), text.as_bytes(), PLAIN) else {
@@ -135,6 +137,7 @@ fn reread_text<R: Print + AllocGlobal>(rt: &R, label: &str, text: &str) -> io::R
     }
 }
 
+/// The group `reread`.
 pub fn reread_all<R: Print + AllocGlobal>(rt: &R) -> io::Result<()> {
     reread_text(rt, "an entry", SALUT)?;
     reread_text(rt, "nothing", "")?;

@@ -17,6 +17,7 @@ const FORMATS: [&str; 12] = [
     "%<b>",
 ];
 
+/// The group `signature`.
 pub fn list_all<R: Print + AllocGlobal>(rt: &R) -> io::Result<()> {
     for text in FORMATS {
         let answer = signature(rt.alloc(), text);

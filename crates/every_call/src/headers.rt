@@ -30,7 +30,7 @@ const RULES: [&str; 6] = [
     "nplurals=3; plural=n==1 ? 0 : n%10>=2 && n%10<=4 && (n%100<10 || n%100>=20) ? 1 : 2;",
 ];
 
-/// Prints the values of an expression at some numbers.
+/// Prints the values of an expression for some numbers.
 fn parse<R: Print + AllocGlobal>(rt: &R, label: &str, text: &str) -> io::Result<()> {
     print!(rt; "parse_expr, {label}, gives ")?;
     match parse_expr(rt.alloc(), text) {
@@ -45,6 +45,7 @@ fn parse<R: Print + AllocGlobal>(rt: &R, label: &str, text: &str) -> io::Result<
     }
 }
 
+/// The group `parse_expr`.
 pub fn parse_all<R: Print + AllocGlobal>(rt: &R) -> io::Result<()> {
     for text in EXPRESSIONS {
         parse(rt, text, text)?;
@@ -60,7 +61,7 @@ pub fn parse_all<R: Print + AllocGlobal>(rt: &R) -> io::Result<()> {
     Ok(())
 }
 
-/// Prints the forms that some numbers take by a rule.
+/// Prints the plural forms that a header's rule gives some numbers.
 fn read<R: Print + AllocGlobal>(rt: &R, text: &str) -> io::Result<()> {
     print!(rt; "read_rule, {text}, gives ")?;
     match read_rule(rt.alloc(), text) {
@@ -75,6 +76,7 @@ fn read<R: Print + AllocGlobal>(rt: &R, text: &str) -> io::Result<()> {
     }
 }
 
+/// The group `read_rule`.
 pub fn read_all<R: Print + AllocGlobal>(rt: &R) -> io::Result<()> {
     for text in RULES {
         read(rt, text)?;

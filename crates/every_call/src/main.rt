@@ -1,7 +1,7 @@
-//! Makes the calls that take memory, and prints the whole answer of each on a line of its own, and what it left.
-//! The tests refuse each of its requests for memory in turn. Printing takes none.
+//! Makes each call that allocates, and prints its whole result on a line of its own with what it left. Printing doesn't
+//! allocate, so the tests can refuse each of the program's requests for memory in turn.
 //!
-//! A word names the calls that are made; without one all are.
+//! An argument names the group of calls to make; without one it makes all of them.
 #![tactic(auto)]
 
 mod files;
@@ -18,7 +18,7 @@ use std::sync::Wait;
 use std::thread::Threads;
 use std::{env, io};
 
-/// The words, in the order in which all calls are made.
+/// The arguments, in the order in which all calls are made.
 const WORDS: [&str; 18] = [
     "read_po",
     "parse_expr",
@@ -40,7 +40,7 @@ const WORDS: [&str; 18] = [
     "serve",
 ];
 
-/// Makes the calls that a word names.
+/// Makes the calls of one group.
 fn call<R: Threads + Wait + Print + AllocGlobal + Sync>(rt: &R, word: &str) -> io::Result<()> {
     match word {
         "read_po" => texts::read_all(rt),

@@ -5,13 +5,13 @@ use catalogue::{Catalogue, Message, Options, compile};
 use std::alloc::{AllocError, Global};
 use std::io;
 
-/// The checked level.
+/// The options with the checks of `msgfmt -c`.
 const CHECKED: Options = Options {
     checked: true,
     use_fuzzy: false,
 };
 
-/// The other level.
+/// The options without those checks.
 const PLAIN: Options = Options {
     checked: false,
     use_fuzzy: false,
@@ -28,7 +28,7 @@ const PRI: &str = "#, c-format\nmsgid \"%<PRId64>\"\nmsgstr \"x\"\n";
 
 const NEWLINE: &str = "msgid \"a\\n\"\nmsgstr \"b\"\n";
 
-/// Texts, each behind what it is called here and with how it is compiled.
+/// PO texts, each with its label and its options.
 const TEXTS: [(&str, &str, Options); 13] = [
     ("an entry", SALUT, PLAIN),
     ("an entry, checked", SALUT, CHECKED),
@@ -45,7 +45,7 @@ const TEXTS: [(&str, &str, Options); 13] = [
     ("a missing newline, checked", NEWLINE, CHECKED),
 ];
 
-/// Prints what a text compiles to.
+/// Compiles a text, and prints the result.
 fn compile_one<R: Print + AllocGlobal>(
     rt: &R,
     label: &str,
@@ -71,6 +71,7 @@ fn print_catalogue<R: Print>(rt: &R, catalogue: &Catalogue) -> io::Result<()> {
     println!(rt; ")")
 }
 
+/// The group `compile`.
 pub fn compile_all<R: Print + AllocGlobal>(rt: &R) -> io::Result<()> {
     for (label, text, options) in TEXTS {
         compile_one(rt, label, text, options)?;
@@ -78,7 +79,7 @@ pub fn compile_all<R: Print + AllocGlobal>(rt: &R) -> io::Result<()> {
     Ok(())
 }
 
-/// A message's texts.
+/// The strings of a message.
 #[derive(Clone, Copy)]
 struct Texts {
     context: Option<&'static str>,
@@ -87,7 +88,7 @@ struct Texts {
     forms: &'static [&'static str],
 }
 
-/// A text of its own.
+/// An owned copy of a string, if there is one.
 fn owned(alloc: Global, text: Option<&str>) -> Result<Option<String>, AllocError> {
     match text {
         Some(text) => Ok(Some(String::from_str(alloc, text)?)),
@@ -95,7 +96,7 @@ fn owned(alloc: Global, text: Option<&str>) -> Result<Option<String>, AllocError
     }
 }
 
-/// A message of these texts.
+/// The message with these strings.
 fn message_of(alloc: Global, texts: &Texts) -> Result<Message, AllocError> {
     let mut forms = Vec::new(alloc);
     for form in texts.forms {
@@ -109,7 +110,7 @@ fn message_of(alloc: Global, texts: &Texts) -> Result<Message, AllocError> {
     })
 }
 
-/// Messages of these texts.
+/// The messages with these strings.
 fn messages_of(alloc: Global, texts: &[Texts]) -> Result<Vec<Message>, AllocError> {
     let mut messages = Vec::new(alloc);
     for each in texts {
@@ -118,7 +119,7 @@ fn messages_of(alloc: Global, texts: &[Texts]) -> Result<Vec<Message>, AllocErro
     Ok(messages)
 }
 
-/// Prints the catalogue of these messages.
+/// Makes a catalogue of these messages, and prints it.
 fn sort_one<R: Print + AllocGlobal>(rt: &R, label: &str, texts: &[Texts]) -> io::Result<()> {
     print!(rt; "from_sorted, {label}, ")?;
     let Ok(messages) = messages_of(rt.alloc(), texts) else {
@@ -136,7 +137,7 @@ fn sort_one<R: Print + AllocGlobal>(rt: &R, label: &str, texts: &[Texts]) -> io:
     }
 }
 
-/// A message without context and plural.
+/// A message without a context and without a plural.
 fn plain(id: &'static str, forms: &'static [&'static str]) -> Texts {
     Texts {
         context: None,
@@ -156,6 +157,7 @@ fn in_context(context: &'static str, forms: &'static [&'static str]) -> Texts {
     }
 }
 
+/// The group `from_sorted`.
 pub fn sorted_all<R: Print + AllocGlobal>(rt: &R) -> io::Result<()> {
     sort_one(rt, "nothing", &[])?;
     sort_one(
@@ -181,7 +183,7 @@ pub fn sorted_all<R: Print + AllocGlobal>(rt: &R) -> io::Result<()> {
     sort_one(rt, "three forms", &[files])
 }
 
-/// Prints the catalogue of the file of what a text compiles to.
+/// Compiles a text, reads its MO file again, and prints that catalogue.
 fn copy_one<R: Print + AllocGlobal>(rt: &R, label: &str, text: &str) -> io::Result<()> {
     print!(rt; "from_file, {label}, ")?;
     let Ok(compiled) = compile(rt.alloc(), text.as_bytes(), PLAIN) else {
@@ -196,6 +198,7 @@ fn copy_one<R: Print + AllocGlobal>(rt: &R, label: &str, text: &str) -> io::Resu
     }
 }
 
+/// The group `from_file`.
 pub fn copy_all<R: Print + AllocGlobal>(rt: &R) -> io::Result<()> {
     copy_one(rt, "an entry", SALUT)?;
     copy_one(rt, "nothing", "")?;

@@ -1,9 +1,9 @@
-//! Answers in words. Printing takes no memory.
+//! Printing results, without allocating.
 use catalogue::Catalogue;
 use po_header::RuleRead;
 use std::io;
 
-/// The word for a rule.
+/// The name of what was read of a plural rule.
 pub fn word_of(rule: &RuleRead) -> &'static str {
     match rule {
         RuleRead::Given { .. } => "Given",
@@ -20,8 +20,8 @@ pub fn print_hex<R: Print>(rt: &R, bytes: &[u8]) -> io::Result<()> {
     Ok(())
 }
 
-/// Prints each entry of a catalogue: its context, msgid, plural and forms, and of one with a plural the forms that some
-/// numbers take.
+/// Prints each entry of a catalogue: its context, msgid, plural and forms, and for a plural message the forms for some
+/// numbers.
 pub fn print_entries<R: Print>(rt: &R, catalogue: &Catalogue) -> io::Result<()> {
     for i in 0..catalogue.len() {
         let entry = catalogue.entry(i);

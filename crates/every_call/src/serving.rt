@@ -12,7 +12,7 @@ use std::io;
 use std::sync::Wait;
 use std::thread::Threads;
 
-/// Lets all pass.
+/// A gate that holds nobody.
 #[derive(Drop)]
 struct Open;
 
@@ -20,21 +20,21 @@ impl Gate for Open {
     fn pass(&self, _place: Place, _index: u64) {}
 }
 
-/// The jobs: the domain and the text of each load in French.
+/// The jobs: the domain and the PO text of each French load.
 const JOBS: [(&str, &str); 3] = [("app", SALUT), ("app", TWICE), ("a b", SALUT)];
 
-/// A store, and what it is served with.
+/// A store, and the service that it gets.
 #[derive(Clone, Copy)]
 struct Case {
-    /// What it is called here.
+    /// The label in the output.
     label: &'static str,
-    /// How many loads the store takes.
+    /// The number of loads that the store takes.
     most: u64,
-    /// Whether a load is pending before the service.
+    /// Whether a load is pending when the service begins.
     pending: bool,
-    /// How many of the jobs are done.
+    /// The number of jobs that are done, from the front of `JOBS`.
     jobs: usize,
-    /// How many queries each of two desks has.
+    /// The number of queries on each of the two desks.
     queries: usize,
 }
 
@@ -83,7 +83,7 @@ const CASES: [Case; 6] = [
     },
 ];
 
-/// Queries for what `hi` is in French.
+/// `count` queries for `hi` in French.
 fn queries_of(alloc: Global, count: usize) -> Result<Vec<Query>, AllocError> {
     let mut queries = Vec::new(alloc);
     'queries: for _ in 0..count {
@@ -125,7 +125,7 @@ fn desks_of(
     Ok(desks)
 }
 
-/// The first jobs.
+/// The first `count` jobs.
 fn jobs_of(alloc: Global, count: usize) -> Result<Vec<Job>, AllocError> {
     let mut jobs = Vec::new(alloc);
     for (domain, text) in JOBS.iter().take(count) {
@@ -146,8 +146,8 @@ fn jobs_of(alloc: Global, count: usize) -> Result<Vec<Job>, AllocError> {
     Ok(jobs)
 }
 
-/// How many answers of a desk are right: of a version from the first to the last, none below the one before, and with
-/// the text of that version.
+/// The number of right answers of a desk: those with the text of their version, which is from `first` to `last` and not
+/// below the one before.
 fn count_right(answers: &[Answer], first: Version, last: Version) -> u64 {
     let mut right: u64 = 0;
     let mut least = first;
@@ -161,7 +161,7 @@ fn count_right(answers: &[Answer], first: Version, last: Version) -> u64 {
     right
 }
 
-/// Prints of each desk how many of its answers are right, and what its reader has seen.
+/// Prints for each desk how many of its answers are right, and what its reader has seen.
 fn print_desks<R: Print>(rt: &R, desks: &[Desk], first: Version, last: Version) -> io::Result<()> {
     'desks: for desk in desks {
         let right = count_right(&desk.answers, first, last);
@@ -192,7 +192,7 @@ fn serve_desks<R: Threads + Wait + Print + AllocGlobal + Sync>(
     publish(rt, publisher)
 }
 
-/// Serves the readers of a new store.
+/// Opens a store, and serves its readers.
 fn serve_store<R: Threads + Wait + Print + AllocGlobal + Sync>(
     rt: &R,
     case: Case,
@@ -215,6 +215,7 @@ fn serve_store<R: Threads + Wait + Print + AllocGlobal + Sync>(
     serve_desks(rt, publisher, &mut desks, jobs)
 }
 
+/// The group `serve`.
 pub fn serve_all<R: Threads + Wait + Print + AllocGlobal + Sync>(rt: &R) -> io::Result<()> {
     'cases: for case in CASES {
         print!(rt; "open_store, 2, ")?;

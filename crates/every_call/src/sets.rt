@@ -6,10 +6,10 @@ use std::alloc::Global;
 use std::io;
 use std::sync::Arc;
 
-/// So many letters, of which a name may have all but the last.
+/// 65 letters, one more than a name may have.
 const LETTERS: &str = "abcdefghijklmnopqrstuvwxyzabcdefghijklmnopqrstuvwxyzABCDEFGHIJKLM";
 
-/// Prints the name of a text.
+/// Makes a name of a text, and prints the result.
 fn name<R: Print + AllocGlobal>(rt: &R, label: &str, text: &str) -> io::Result<()> {
     print!(rt; "Name::new, {label}, gives ")?;
     match Name::new(rt.alloc(), text) {
@@ -18,6 +18,7 @@ fn name<R: Print + AllocGlobal>(rt: &R, label: &str, text: &str) -> io::Result<(
     }
 }
 
+/// The group `name`.
 pub fn name_all<R: Print + AllocGlobal>(rt: &R) -> io::Result<()> {
     name(rt, "no letters", "")?;
     name(rt, "65 letters", LETTERS)?;
@@ -28,7 +29,7 @@ pub fn name_all<R: Print + AllocGlobal>(rt: &R) -> io::Result<()> {
     name(rt, "a locale", "de_AT.UTF-8@euro")
 }
 
-/// A load of a text for a locale, if there is memory for it.
+/// A load of a PO text for a locale, or `None` if memory runs out.
 fn load_of(alloc: Global, locale: &str, text: &str) -> Option<Load> {
     let options = Options {
         checked: false,
@@ -42,7 +43,7 @@ fn load_of(alloc: Global, locale: &str, text: &str) -> Option<Load> {
     })
 }
 
-/// Prints the version of a set and what `hi` is in three locales.
+/// Prints the version of a set and the translations of `hi` in three locales.
 fn print_set<R: Print>(rt: &R, set: &CatalogueSet) -> io::Result<()> {
     print!(rt; "  version {}", set.version())?;
     for locale in ["fr", "de", "sv"] {
@@ -51,7 +52,7 @@ fn print_set<R: Print>(rt: &R, set: &CatalogueSet) -> io::Result<()> {
     println!(rt)
 }
 
-/// Absorbs a text for a locale.
+/// Absorbs a PO text for a locale, and prints the result.
 fn absorb<R: Print + AllocGlobal>(
     rt: &R,
     set: &mut CatalogueSet,
@@ -66,6 +67,7 @@ fn absorb<R: Print + AllocGlobal>(
     print_set(rt, set)
 }
 
+/// The group `absorb`.
 pub fn absorb_all<R: Print + AllocGlobal>(rt: &R) -> io::Result<()> {
     let mut set = CatalogueSet::new(rt.alloc());
     print_set(rt, &set)?;
@@ -75,7 +77,7 @@ pub fn absorb_all<R: Print + AllocGlobal>(rt: &R) -> io::Result<()> {
     absorb(rt, &mut set, "sv", SALUT)
 }
 
-/// Prints a copy of a name.
+/// Copies a name, and prints the result.
 fn clone_name<R: Print + AllocGlobal>(rt: &R) -> io::Result<()> {
     print!(rt; "try_clone, a name, ")?;
     let Ok(name) = Name::new(rt.alloc(), "app") else {
@@ -87,7 +89,7 @@ fn clone_name<R: Print + AllocGlobal>(rt: &R) -> io::Result<()> {
     }
 }
 
-/// Prints a copy of a load.
+/// Copies a load, and prints the result.
 fn clone_load<R: Print + AllocGlobal>(rt: &R) -> io::Result<()> {
     print!(rt; "try_clone, a load, ")?;
     let Some(load) = load_of(rt.alloc(), "fr", SALUT) else {
@@ -106,7 +108,7 @@ fn clone_load<R: Print + AllocGlobal>(rt: &R) -> io::Result<()> {
     }
 }
 
-/// The set of a French and a German text, if there is memory for it.
+/// The set of a French and a German text, or `None` if memory runs out.
 fn set_of_two(alloc: Global) -> Option<CatalogueSet> {
     let mut set = CatalogueSet::new(alloc);
     set.absorb(&load_of(alloc, "fr", SALUT)?).ok()?;
@@ -114,7 +116,7 @@ fn set_of_two(alloc: Global) -> Option<CatalogueSet> {
     Some(set)
 }
 
-/// Prints whether a set is copied, and the copy and the set then.
+/// Copies a set, and prints the result with the copy and the original.
 fn clone_set<R: Print + AllocGlobal>(rt: &R) -> io::Result<()> {
     print!(rt; "try_clone, a set, ")?;
     let Some(set) = set_of_two(rt.alloc()) else {
@@ -130,6 +132,7 @@ fn clone_set<R: Print + AllocGlobal>(rt: &R) -> io::Result<()> {
     print_set(rt, &set)
 }
 
+/// The group `try_clone`.
 pub fn clone_all<R: Print + AllocGlobal>(rt: &R) -> io::Result<()> {
     clone_name(rt)?;
     clone_load(rt)?;

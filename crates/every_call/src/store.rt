@@ -15,13 +15,13 @@ const PLAIN: Options = Options {
     use_fuzzy: false,
 };
 
-/// Prints what the publisher has.
+/// Prints the publisher's pending loads and its version.
 pub fn print_state<R: Print>(rt: &R, publisher: &Publisher) -> io::Result<()> {
     let (pending, version) = (publisher.pending(), publisher.version());
     println!(rt; "  pending {pending}, version {version}")
 }
 
-/// Loads a text.
+/// Loads a PO text, and prints the result.
 pub fn load<R: Print + AllocGlobal>(
     rt: &R,
     publisher: &mut Publisher,
@@ -36,7 +36,7 @@ pub fn load<R: Print + AllocGlobal>(
     print_state(rt, publisher)
 }
 
-/// Loads an MO file.
+/// Loads an MO file, and prints the result.
 fn load_mo<R: Print + AllocGlobal>(
     rt: &R,
     publisher: &mut Publisher,
@@ -50,7 +50,7 @@ fn load_mo<R: Print + AllocGlobal>(
     print_state(rt, publisher)
 }
 
-/// Publishes what is pending.
+/// Publishes what is pending, and prints the result.
 pub fn publish<R: Wait + Print>(rt: &R, publisher: &mut Publisher) -> io::Result<()>
     ensures { publisher.new.seen.book ≡ publisher.old.seen.book }
 {
@@ -59,7 +59,7 @@ pub fn publish<R: Wait + Print>(rt: &R, publisher: &mut Publisher) -> io::Result
     print_state(rt, publisher)
 }
 
-/// Enters, and prints the version and what two msgids are in three locales.
+/// Enters, and prints the version and the translations of two msgids in three locales.
 fn enter<R: Print>(rt: &R, reader: &mut Lookups) -> io::Result<()>
     ensures { reader.new.book ≡ reader.old.book }
 {
@@ -80,7 +80,7 @@ fn enter<R: Print>(rt: &R, reader: &mut Lookups) -> io::Result<()>
     printed
 }
 
-/// Lets a reader learn what is published.
+/// Lets a reader learn what is published, and returns the notice.
 fn learn<R: Print>(rt: &R, publisher: &mut Publisher, reader: &mut Lookups) -> io::Result<Notice>
     requires { reader.old.book ≡ publisher.old.seen.book }
     ensures book { publisher.new.seen.book ≡ publisher.old.seen.book }
@@ -93,7 +93,7 @@ fn learn<R: Print>(rt: &R, publisher: &mut Publisher, reader: &mut Lookups) -> i
     Ok(notice)
 }
 
-/// What `hi` is in French, as a query.
+/// A query for `hi` in French.
 pub fn query(alloc: Global) -> Result<Query, AllocError> {
     Ok(Query {
         domain: String::from_str(alloc, "app")?,
@@ -104,7 +104,7 @@ pub fn query(alloc: Global) -> Result<Query, AllocError> {
     })
 }
 
-/// Asks what `hi` is in French.
+/// Asks for `hi` in French, and prints the result.
 fn ask<R: Print + AllocGlobal>(rt: &R, reader: &mut Lookups) -> io::Result<()>
     ensures { reader.new.book ≡ reader.old.book }
 {
@@ -116,7 +116,7 @@ fn ask<R: Print + AllocGlobal>(rt: &R, reader: &mut Lookups) -> io::Result<()>
     println!(rt; "  has seen {}", reader.seen())
 }
 
-/// Asks the same, and has the answer written into a text.
+/// Asks for `hi` in French with `ask_into`, and prints the result.
 fn ask_into<R: Print + AllocGlobal>(rt: &R, reader: &mut Lookups) -> io::Result<()>
     ensures { reader.new.book ≡ reader.old.book }
 {
@@ -132,7 +132,7 @@ fn ask_into<R: Print + AllocGlobal>(rt: &R, reader: &mut Lookups) -> io::Result<
     println!(rt; "  has seen {}", reader.seen())
 }
 
-/// Two loads that are published, by a second call where the first was refused, and a text that is refused.
+/// Two loads and a publish, which is called again if it ran out of memory, and a text that is refused.
 fn publish_rows<R: Wait + Print + AllocGlobal>(
     rt: &R,
     publisher: &mut Publisher,
@@ -152,6 +152,7 @@ fn publish_rows<R: Wait + Print + AllocGlobal>(
     enter(rt, reader)
 }
 
+/// The group `publish`: loads and publishes on a new store.
 pub fn publish_all<R: Wait + Print + AllocGlobal>(rt: &R) -> io::Result<()> {
     print!(rt; "open_store, 1, ")?;
     let (mut publisher, mut readers) = match open_store(rt, rt.alloc(), 1, u64::MAX) {
@@ -169,7 +170,7 @@ pub fn publish_all<R: Wait + Print + AllocGlobal>(rt: &R) -> io::Result<()> {
     done
 }
 
-/// Queries and notices of two versions, and MO files.
+/// Queries, notices of two versions, and MO files.
 fn ask_rows<R: Wait + Print + AllocGlobal>(
     rt: &R,
     publisher: &mut Publisher,
@@ -197,6 +198,7 @@ fn ask_rows<R: Wait + Print + AllocGlobal>(
     enter(rt, reader)
 }
 
+/// The group `ask`: queries, notices and loads of MO files on a new store.
 pub fn ask_all<R: Wait + Print + AllocGlobal>(rt: &R) -> io::Result<()> {
     print!(rt; "open_store, 1, ")?;
     let (mut publisher, mut readers) = match open_store(rt, rt.alloc(), 1, 9) {
@@ -214,7 +216,7 @@ pub fn ask_all<R: Wait + Print + AllocGlobal>(rt: &R) -> io::Result<()> {
     done
 }
 
-/// Prints the version of an entry and what `hi` is in French.
+/// Prints the version of an entry and the translation of `hi` in French.
 fn enter_first<R: Print>(rt: &R, reader: &mut Lookups) -> io::Result<()> {
     let Ok(pinned) = reader.enter() else {
         return print!(rt; " Closed");
@@ -243,7 +245,7 @@ fn first_rows<R: Print + AllocGlobal>(
     load(rt, publisher, "a b", "fr", SALUT)
 }
 
-/// Opens a store and begins with it.
+/// Opens a store, and makes the first calls on it.
 fn open<R: Wait + Print + AllocGlobal>(rt: &R, count: u32, most: u64) -> io::Result<()> {
     print!(rt; "open_store, {count} {most}, ")?;
     let (mut publisher, readers) = match open_store(rt, rt.alloc(), count, most) {
@@ -255,6 +257,7 @@ fn open<R: Wait + Print + AllocGlobal>(rt: &R, count: u32, most: u64) -> io::Res
     done
 }
 
+/// The group `open_store`: stores with too few and too many readers, and with allowed numbers of them.
 pub fn open_all<R: Wait + Print + AllocGlobal>(rt: &R) -> io::Result<()> {
     open(rt, 0, 9)?;
     open(rt, 17, 9)?;

@@ -2,13 +2,13 @@
 use po_text::read_po;
 use std::io;
 
-/// An entry for `hi`.
+/// An entry that translates `hi` to French.
 pub const SALUT: &str = "msgid \"hi\"\nmsgstr \"salut\"\n";
 
-/// The same in German.
+/// An entry that translates `hi` to German.
 pub const HALLO: &str = "msgid \"hi\"\nmsgstr \"hallo\"\n";
 
-/// One msgid twice.
+/// One msgid twice, the second time fuzzy.
 pub const TWICE: &str = "msgid \"a\"\nmsgstr \"x\"\n#, fuzzy\nmsgid \"a\"\nmsgstr \"y\"\n";
 
 /// A header with a plural rule, and an entry with three forms.
@@ -21,7 +21,7 @@ pub const PLIK: &str = "msgid \"\"\n\
     msgstr[1] \"pliki\"\n\
     msgstr[2] \"plikow\"\n";
 
-/// Texts, each behind what it is called here.
+/// PO texts, each with its label.
 const TEXTS: [(&str, &str); 9] = [
     (
         "three strings",
@@ -53,6 +53,7 @@ const TEXTS: [(&str, &str); 9] = [
     ("an open string", "msgid \"a\nmsgstr \"b\"\n"),
 ];
 
+/// The group `read_po`.
 pub fn read_all<R: Print + AllocGlobal>(rt: &R) -> io::Result<()> {
     for (label, text) in TEXTS {
         let answer = read_po(rt.alloc(), text.as_bytes());

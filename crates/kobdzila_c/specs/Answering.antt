@@ -1,4 +1,4 @@
--- What C asks of a catalogue that it holds, and what it is answered.
+-- The questions that C asks a catalogue that it holds, and their answers.
 use Rattle.std.specs.Prelude.{ℕ, ◌==◌, ◌||◌, if◌then◌else◌, List, [], ◌∷◌, Bool, Option, Some, None}
 use Rattle.std.specs.Option.{option_map_or}
 use Rattle.std.specs.Arc.{arc_value}
@@ -7,11 +7,11 @@ use Rattle.mo_image.specs.Map.{entry_at}
 use Rattle.catalogue.specs.Value.{IsTranslatedClosed}
 use Rattle.kobdzila_c.specs.declared.opened.Opened.{Opened}
 
--- the map of what was opened; the empty one where it was refused
+-- the map of what was opened, which is empty if it was refused
 abbrev pub map_of : Opened → List Entry
 map_of c = option_map_or (λ shared. arc_value shared) c.catalogue []
 
--- the calls: gettext is 0, pgettext 1, ngettext 2, npgettext 3
+-- the calls: 0 is gettext, 1 pgettext, 2 ngettext, 3 npgettext
 abbrev pub has_context : ℕ → Bool
 has_context call = call == 1 || call == 3
 
@@ -24,7 +24,7 @@ context_of call context = if has_context call then Some context else None
 abbrev pub number_of : ℕ → ℕ → Option ℕ
 number_of call n = if has_number call then Some n else None
 
--- a call with its texts and its number, of which those count that the call has
+-- a call with its strings and its number; it ignores those that it has no use for
 pub record Question : Type 0 where
   pub call : ℕ
   pub context : List ℕ
@@ -39,11 +39,11 @@ abbrev pub some_of : List ℕ → Option (List ℕ)
 some_of [] = None
 some_of (b ∷ bs) = Some (b ∷ bs)
 
--- the key that is asked for
+-- the key that is looked up
 abbrev pub key_of : Question → List ℕ
 key_of q = key_bytes (context_of q.call q.context) q.id
 
--- the text of the entry that is asked for with the NUL behind it, and nothing where there is no such entry; bytes that
--- are no text are no entry's key
+-- the string of the entry that is looked up, with its terminating NUL, or no bytes if there is no such entry; bytes
+-- that aren't UTF-8 are no entry's key
 abbrev pub IsClosedAnswer : List Entry → Question → List ℕ → Type 0
 IsClosedAnswer m q text = IsTranslatedClosed m (entry_at m (key_of q)) (number_of q.call q.n) (some_of text)

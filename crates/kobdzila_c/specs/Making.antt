@@ -1,4 +1,4 @@
--- Sets of catalogues as C holds them: how one is made of another, and what it is answered.
+-- Sets of catalogues as C holds them: how one is made from another, and what it answers.
 use Rattle.std.specs.Prelude.{◌≡◌, ◌⊎◌, ℕ, ◌==◌, if◌then◌else◌, List, [], MatchOption}
 use Rattle.std.specs.Str.{IsUtf8}
 use Rattle.std.specs.Arc.{arc_value}
@@ -13,21 +13,21 @@ use Rattle.kobdzila_c.specs.declared.opened.Opened.{Opened}
 use Rattle.kobdzila_c.specs.declared.sets.MadeSet.{MadeSet}
 use Rattle.kobdzila_c.specs.Answering.{IsClosedAnswer, Question, key_of}
 
--- the number of what refuses a name
+-- the number of what is wrong with a name
 abbrev pub name_number : NameFault → ℕ
 name_number BadName = 202
 name_number Memory = 12
 
--- no set, and this refusal
+-- no set, for this reason
 pub record IsWithout (fault : ℕ) (s : MadeSet) : Type 0 where
   pub set_is : s.set ≡ no_loads
   pub fault_is : s.fault ≡ fault
 
--- the set of no catalogues
+-- the empty set
 abbrev pub IsEmpty : MadeSet → Type 0
 IsEmpty s = IsWithout 0 s
 
--- a set that is so, and no refusal
+-- a set with this property, and no fault
 pub record IsMade (Is : SetValue → Type 0) (s : MadeSet) : Type 0 where
   pub set_is : Is s.set
   pub fault_is : s.fault ≡ 0
@@ -40,19 +40,19 @@ load_of domain locale map = record { domain = domain; locale = locale; map = map
 abbrev pub AreNames : List ℕ → List ℕ → Type 0
 AreNames domain locale = IsName domain × IsName locale
 
--- the set with one map more, or want of memory, if both are names; else the refusal of a name
+-- the set with one more map, or out of memory, if both are names; otherwise the fault of a name
 abbrev pub IsMore : MadeSet → List ℕ → List ℕ → List Entry → MadeSet → Type 0
 IsMore old domain locale map new =
     (AreNames domain locale
     × (IsMade (HasAbsorbed (load_of domain locale map) old.set) new ⊎ IsWithout (name_number Memory) new))
     ⊎ (¬ AreNames domain locale × IsWithout (name_number BadName) new)
 
--- the same with the map of what was opened; its refusal, where it was refused
+-- like IsMore, with the map of what was opened; if that was refused, no set, for the same reason
 abbrev pub IsWith : MadeSet → List ℕ → List ℕ → Opened → MadeSet → Type 0
 IsWith old domain locale opened new = MatchOption opened.catalogue (IsWithout opened.fault new)
     (λ shared. IsMore old domain locale (arc_value shared) new)
 
--- 0 is the refusal, 1 how many maps were put into the set
+-- 0 is the fault, 1 the number of maps that were added to the set
 abbrev pub set_number : MadeSet → ℕ → ℕ
 set_number s which = if which == 0 then s.fault else (if which == 1 then s.set.version else 0)
 
@@ -60,7 +60,7 @@ set_number s which = if which == 0 then s.fault else (if which == 1 then s.set.v
 abbrev pub answering : MadeSet → List ℕ → List ℕ → Question → List Entry
 answering s domain languages q = map_with (map_in s.set.held) domain languages (key_of q)
 
--- what a question is answered there; nothing where the domain or the list is no text
+-- the answer to a question there; no bytes if the domain or the list isn't UTF-8
 pub record IsSetAnswer (s : MadeSet) (domain languages : List ℕ) (q : Question) (text : List ℕ) : Type 0 where
   pub asked : IsUtf8 domain → IsUtf8 languages → IsClosedAnswer (answering s domain languages q) q text
   pub no_domain : ¬ IsUtf8 domain → text ≡ []

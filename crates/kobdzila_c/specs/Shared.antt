@@ -1,4 +1,4 @@
--- Which memory is whose between C and this library, for how long, and what lies in it.
+-- Which memory belongs to C and which to this library, for how long, and what is in it.
 use Rattle.std.specs.Prelude.{◌≡◌, ℕ, List}
 use base.Fraction.{full_share}
 use base.Fml.{Lft, Share, Fml, fsep, fex, flft}
@@ -19,51 +19,51 @@ use Rattle.kobdzila_c.specs.Listing.{text}
 use Rattle.kobdzila_c.specs.Making.{IsSetAnswer}
 use Rattle.kobdzila_c.specs.Opening.{IsOpenedMo, IsOpenedPo}
 
--- what was opened lies at p, and is its holder's alone
+-- what was opened is at p, and its holder alone may use it
 abbrev pub holds : Ptr → Opened → Fml
 holds p c = lies_at the_row full_share p c
 
--- at out lies the catalogue of an MO file, or its refusal
+-- at out is the catalogue of an MO file, or why it is refused
 abbrev pub mo_opened_at : Ptr → List ℕ → Fml
 mo_opened_at out bytes = fex Opened (λ c. fex (IsOpenedMo bytes c) (λ _. holds out c))
 
--- at out lies the catalogue of a PO text, or its refusal
+-- at out is the catalogue of a PO text, or why it is refused
 abbrev pub po_opened_at : Ptr → List ℕ → Options → Fml
 po_opened_at out bytes options = fex Opened (λ c. fex (IsOpenedPo bytes options c) (λ _. holds out c))
 
--- who may ask: c is shared at p for the lifetime κ, and a share q of κ's token shows that κ lasts
+-- the right to look up: c is shared at p for the lifetime κ, and a share q of κ's token shows that κ lasts
 abbrev pub reads : Lft → Share → Ptr → Opened → Fml
 reads κ q p c = fsep (lent_at the_row p c κ) (flft κ q)
 
--- bytes that last as long as κ, by their place and their number
+-- bytes that live as long as κ, by their address and their number
 abbrev pub Text : Lft → RattleType
 Text κ = ShrSlice erased κ u8
 
--- at out lies the answer to a question, shared for as long as κ
+-- at out is the answer to a question, shared for as long as κ
 abbrev pub answered : Lft → Ptr → Opened → Question → Fml
 answered κ out c q = fex (Bor (List ℕ)) (λ r. fex (IsClosedAnswer (map_of c) q r.now)
     (λ _. lies_at (Text κ) full_share out r))
 
--- at out lies a text of what is listed, shared for as long as κ
+-- at out is a listed string, shared for as long as κ
 abbrev pub listed : Lft → Ptr → Opened → ℕ → ℕ → ℕ → Fml
 listed κ out c part i k = fex (Bor (List ℕ)) (λ r. fex (r.now ≡ text c part i k)
     (λ _. lies_at (Text κ) full_share out r))
 
 -- ---- sets of catalogues
 
--- a set lies at p, and is its holder's alone
+-- a set is at p, and its holder alone may use it
 abbrev pub holds_set : Ptr → MadeSet → Fml
 holds_set p s = lies_at set_row full_share p s
 
--- at out lies a set that is so
+-- at out is a set with this property
 abbrev pub made_at : Ptr → (MadeSet → Type 0) → Fml
 made_at out Is = fex MadeSet (λ s. fex (Is s) (λ _. holds_set out s))
 
--- who may ask: s is shared at p for the lifetime κ, and a share q of κ's token shows that κ lasts
+-- the right to look up: s is shared at p for the lifetime κ, and a share q of κ's token shows that κ lasts
 abbrev pub reads_set : Lft → Share → Ptr → MadeSet → Fml
 reads_set κ q p s = fsep (lent_at set_row p s κ) (flft κ q)
 
--- at out lies the answer to a question in a text domain and a list of languages, shared for as long as κ
+-- at out is the answer to a question in a text domain and a list of languages, shared for as long as κ
 abbrev pub set_answered : Lft → Ptr → MadeSet → List ℕ → List ℕ → Question → Fml
 set_answered κ out s domain languages q = fex (Bor (List ℕ)) (λ r. fex (IsSetAnswer s domain languages q r.now)
     (λ _. lies_at (Text κ) full_share out r))

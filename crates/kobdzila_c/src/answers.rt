@@ -1,4 +1,4 @@
-//! What a catalogue that C holds is asked, and what it answers.
+//! Look-ups in a catalogue that C holds, and what is listed of it.
 ghost use Rattle.std.specs.Prelude.{◌≡◌, [], length, option_map, slice_get};
 ghost use Rattle.std.specs.Arc.{arc_value};
 ghost use Rattle.kobdzila_c.specs.Answering.{IsClosedAnswer, context_of, map_of, number_of, question};
@@ -7,7 +7,7 @@ ghost use Rattle.kobdzila_c.specs.Listing.{entry_number, entry_text, form_at, nu
 use crate::Opened;
 use catalogue::{Catalogue, EntryRef};
 
-/// The catalogue, where the bytes were not refused.
+/// The catalogue, unless opening the bytes failed.
 #[inline(always)]
 fn catalogue_of(opened: &Opened) -> Option<&Catalogue>
     ensures { option_map (λ c. c.now) result ≡ option_map (λ shared. arc_value shared) opened.now.catalogue }
@@ -18,7 +18,7 @@ fn catalogue_of(opened: &Opened) -> Option<&Catalogue>
     }
 }
 
-/// The context, where the call has one.
+/// The context, if the call has one.
 #[inline(always)]
 pub(crate) fn context_in(call: u32, context: &[u8]) -> Option<&[u8]>
     ensures { option_map (λ s. s.now) result ≡ context_of call context.now }
@@ -29,7 +29,7 @@ pub(crate) fn context_in(call: u32, context: &[u8]) -> Option<&[u8]>
     }
 }
 
-/// The number, where the call has one.
+/// The number, if the call has one.
 #[inline(always)]
 pub(crate) fn number_in(call: u32, n: u64) -> Option<u64>
     ensures { result ≡ number_of call n }
@@ -40,7 +40,7 @@ pub(crate) fn number_in(call: u32, n: u64) -> Option<u64>
     }
 }
 
-/// The text that answers a question, with its closing NUL; nothing where there is none.
+/// The string that answers a question, with its terminating NUL, or no bytes if there is none.
 #[inline(always)]
 pub(crate) fn answer<'k>(
     opened: &'k Opened,
@@ -60,14 +60,14 @@ pub(crate) fn answer<'k>(
     }
 }
 
-/// The text that answers gettext of a msgid, with its closing NUL; nothing where there is none.
+/// The string that answers `gettext` of a msgid, with its terminating NUL, or no bytes if there is none.
 pub(crate) fn gettext<'k>(opened: &'k Opened, id: &[u8]) -> &'k [u8]
     ensures { IsClosedAnswer (map_of opened.now) (question 0 [] id.now 0) result.now }
 {
     answer(opened, &[], id, 0, 0)
 }
 
-/// The entry at this place of a catalogue, if there is one.
+/// Entry `i` of the catalogue, if there is one.
 fn entry_at<'k>(opened: &'k Opened, i: u64) -> Option<EntryRef<'k>>
     ensures { result ≡ slice_get (map_of opened.now) i }
 {
@@ -79,7 +79,7 @@ fn entry_at<'k>(opened: &'k Opened, i: u64) -> Option<EntryRef<'k>>
     }
 }
 
-/// How many entries there are.
+/// The number of entries; 0 if opening failed.
 fn count(opened: &Opened) -> u64
     ensures { result ≡ length (map_of opened.now) }
 {
@@ -89,7 +89,7 @@ fn count(opened: &Opened) -> u64
     }
 }
 
-/// A number of an entry: how many forms it has, whether it has a context, whether it has a plural.
+/// A number of an entry: 3 is its number of forms, 4 whether it has a context, 5 whether it has a plural.
 fn entry_number(entry: &EntryRef<'_>, which: u32) -> u64
     ensures { result ≡ entry_number entry.now which }
 {
@@ -101,7 +101,8 @@ fn entry_number(entry: &EntryRef<'_>, which: u32) -> u64
     }
 }
 
-/// A number of what was opened: its refusal, the line of it, how many entries it has; or a number of an entry.
+/// A number of what was opened: 0 is its fault, 1 the fault's line, 2 its number of entries. Other numbers are those of
+/// entry `i` (`entry_number`).
 pub(crate) fn number(opened: &Opened, which: u32, i: u64) -> u64
     ensures { result ≡ number opened.now which i }
 {
@@ -116,7 +117,7 @@ pub(crate) fn number(opened: &Opened, which: u32, i: u64) -> u64
     }
 }
 
-/// A form of an entry; nothing where there is no such form.
+/// Form `k` of an entry, or the empty string if there is none.
 fn form_of<'k>(entry: &EntryRef<'k>, k: u64) -> &'k str
     ensures { result.now ≡ form_at entry.now k }
 {
@@ -127,7 +128,7 @@ fn form_of<'k>(entry: &EntryRef<'k>, k: u64) -> &'k str
     }
 }
 
-/// A text of an entry: its context, its msgid, its plural, or one of its forms.
+/// A string of an entry: 1 is its context, 2 its msgid, 3 its plural, 4 its form `k`.
 fn entry_text<'k>(entry: &EntryRef<'k>, part: u32, k: u64) -> &'k str
     ensures { result.now ≡ entry_text entry.now part k }
 {
@@ -140,7 +141,7 @@ fn entry_text<'k>(entry: &EntryRef<'k>, part: u32, k: u64) -> &'k str
     }
 }
 
-/// The MO file of what was opened, or a text of an entry.
+/// A string of what was opened: 0 is its MO file. Other numbers are strings of entry `i` (`entry_text`).
 pub(crate) fn text<'k>(opened: &'k Opened, part: u32, i: u64, k: u64) -> &'k [u8]
     ensures { result.now ≡ text opened.now part i k }
 {

@@ -1,7 +1,7 @@
-//! Message catalogues for C, and for each language that can call C.
+//! Message catalogues for C, and for every language that can call C.
 //!
-//! C sets aside the memory of a catalogue and holds it by a pointer. These are the functions that the header
-//! `kobdzila.h` stands on; a program in C calls those of the header.
+//! C allocates the memory of a catalogue or a set and holds a pointer to it. These exports are what the C files of
+//! `kobdzila.h` are built on; programs call the functions of that header.
 #![tactic(auto)]
 
 ghost use Rattle.std.specs.Prelude.{◌≡◌, ◌≤◌, ◌↔◌, [], IsTrue};
@@ -30,12 +30,12 @@ pub use opened::Opened;
 pub use sets::MadeSet;
 use std::alloc::Global;
 
-/// What C holds a pointer to. Its bytes are not C's to read.
+/// The type that C's pointers to a catalogue have. C must not read or write its bytes.
 pub struct Opaque {
     byte: u8,
 }
 
-/// How many bytes C sets aside for a catalogue. `malloc` aligns them well enough.
+/// The number of bytes that C allocates for a catalogue. `malloc` aligns them well enough.
 #[unsafe(no_mangle)]
 pub extern "C" fn kobdzila_size() -> usize
     ensures size { result ≡ size (layout the_row) }
@@ -44,7 +44,7 @@ pub extern "C" fn kobdzila_size() -> usize
     std::mem::size_of::<Opened>()
 }
 
-/// Opens an MO file, and puts its catalogue at `out`, or its refusal.
+/// Opens an MO file, and writes its catalogue, or why it is refused, to `out`.
 #[unsafe(no_mangle)]
 pub unsafe extern "C" fn kobdzila_open_mo(alloc: Global, bytes: &[u8], out: *mut Opaque)
     requires* { sem 𝓛 (room_at the_row out) }
@@ -53,7 +53,8 @@ pub unsafe extern "C" fn kobdzila_open_mo(alloc: Global, bytes: &[u8], out: *mut
     (out as *mut Opened).write(opened::open_mo(alloc, bytes));
 }
 
-/// Compiles a PO text, and puts its catalogue at `out`, or its refusal. An option is on where its number isn't 0.
+/// Compiles a PO text, and writes its catalogue, or why it is refused, to `out`. An option is on if its argument isn't
+/// 0.
 #[unsafe(no_mangle)]
 pub unsafe extern "C" fn kobdzila_open_po(
     alloc: Global,
@@ -68,7 +69,7 @@ pub unsafe extern "C" fn kobdzila_open_po(
     (out as *mut Opened).write(opened::open_po(alloc, bytes, checked, use_fuzzy));
 }
 
-/// Lets go of the catalogue at `held`: its memory is C's again.
+/// Drops the catalogue at `held`, and gives its memory back to C.
 #[unsafe(no_mangle)]
 pub unsafe extern "C" fn kobdzila_close(held: *mut Opaque)
     ghost value: { Held }
@@ -78,8 +79,9 @@ pub unsafe extern "C" fn kobdzila_close(held: *mut Opaque)
     opened::close((held as *mut Opened).read());
 }
 
-/// A number of what is held: 0 its refusal, 1 the line of it, 2 how many entries there are; of the i-th entry, 3 how
-/// many forms it has, 4 whether it has a context, 5 whether it has a plural.
+/// A number of what is at `held`: 0 is its fault, 1 the fault's line, 2 the number of entries. For entry `i`, 3 is the
+/// number of forms, 4 whether it has a context, 5 whether it has a plural. Any other number is 0, and so is one of an
+/// entry that isn't there.
 #[unsafe(no_mangle)]
 pub unsafe extern "C" fn kobdzila_number(held: *const Opaque, which: u32, i: u64) -> u64
     ghost g: { Lft × Share × Held }
@@ -89,8 +91,8 @@ pub unsafe extern "C" fn kobdzila_number(held: *const Opaque, which: u32, i: u64
     answers::number(&*(held as *const Opened), which, i)
 }
 
-/// Puts a text of what is held at `out`: 0 its MO file; of the i-th entry, 1 its context, 2 its msgid, 3 its plural, 4
-/// its form with the index k. Nothing where there is no such text.
+/// Writes a string of what is at `held` to `out`: 0 is its MO file. For entry `i`, 1 is the context, 2 the msgid, 3 the
+/// plural, 4 form `k`. If there is no such string, it is empty. None of them includes a terminating NUL.
 #[unsafe(no_mangle)]
 pub unsafe extern "C" fn kobdzila_text(
     held: *const Opaque,
@@ -106,8 +108,9 @@ pub unsafe extern "C" fn kobdzila_text(
     *out = answers::text(&*(held as *const Opened), part, i, k);
 }
 
-/// Puts the answer to a call at `out`, with its closing NUL; nothing where there is no such entry. The calls are
-/// gettext 0, pgettext 1, ngettext 2 and npgettext 3; the context and the number count in those that have them.
+/// Writes the answer to a call to `out`, with its terminating NUL, or no bytes if there is no such entry. The calls are
+/// 0 for gettext, 1 for pgettext, 2 for ngettext and 3 for npgettext; the context and the number are used only by those
+/// that have them.
 #[unsafe(no_mangle)]
 pub unsafe extern "C" fn kobdzila_answer(
     held: *const Opaque,
@@ -124,7 +127,7 @@ pub unsafe extern "C" fn kobdzila_answer(
     *out = answers::answer(&*(held as *const Opened), context, id, call, n);
 }
 
-/// The same for gettext alone, which programs call most.
+/// Like `kobdzila_answer` for gettext, the call that programs make most.
 #[unsafe(no_mangle)]
 pub unsafe extern "C" fn kobdzila_gettext(held: *const Opaque, id: &[u8], out: *mut &[u8])
     ghost g: { Lft × Share × Held }
@@ -134,12 +137,12 @@ pub unsafe extern "C" fn kobdzila_gettext(held: *const Opaque, id: &[u8], out: *
     *out = answers::gettext(&*(held as *const Opened), id);
 }
 
-/// What C holds a pointer to, where it holds a set. Its bytes are not C's to read.
+/// The type that C's pointers to a set have. C must not read or write its bytes.
 pub struct OpaqueSet {
     byte: u8,
 }
 
-/// Whether these bytes may name a text domain or a locale.
+/// Whether these bytes are a name of a text domain or a locale.
 #[unsafe(no_mangle)]
 pub extern "C" fn kobdzila_is_name(bytes: &[u8]) -> bool
     ensures { IsTrue result ↔ IsName bytes.now }
@@ -147,7 +150,7 @@ pub extern "C" fn kobdzila_is_name(bytes: &[u8]) -> bool
     sets::is_name_of(bytes)
 }
 
-/// How many bytes C sets aside for a set of catalogues. `malloc` aligns them well enough.
+/// The number of bytes that C allocates for a set of catalogues. `malloc` aligns them well enough.
 #[unsafe(no_mangle)]
 pub extern "C" fn kobdzila_set_size() -> usize
     ensures size { result ≡ size (layout set_row) }
@@ -156,7 +159,7 @@ pub extern "C" fn kobdzila_set_size() -> usize
     std::mem::size_of::<MadeSet>()
 }
 
-/// Puts the set of no catalogues at `out`.
+/// Writes the empty set to `out`.
 #[unsafe(no_mangle)]
 pub unsafe extern "C" fn kobdzila_set_new(alloc: Global, out: *mut OpaqueSet)
     requires* { sem 𝓛 (room_at set_row out) }
@@ -165,8 +168,8 @@ pub unsafe extern "C" fn kobdzila_set_new(alloc: Global, out: *mut OpaqueSet)
     (out as *mut MadeSet).write(sets::new_set(alloc));
 }
 
-/// Puts at `out` the set at `held` with one catalogue more, that at `catalogue`, or its refusal. The catalogue takes
-/// the place of the one for its text domain and locale; all others are shared by both sets.
+/// Writes to `out` the set at `held` with one more catalogue, that at `catalogue`, or why there is none. The catalogue
+/// replaces the one for its text domain and locale; all others are shared by both sets.
 #[unsafe(no_mangle)]
 pub unsafe extern "C" fn kobdzila_set_with(
     alloc: Global,
@@ -191,7 +194,7 @@ pub unsafe extern "C" fn kobdzila_set_with(
     ));
 }
 
-/// Lets go of the set at `held`: its memory is C's again.
+/// Drops the set at `held`, and gives its memory back to C.
 #[unsafe(no_mangle)]
 pub unsafe extern "C" fn kobdzila_set_close(held: *mut OpaqueSet)
     ghost value: { HeldSet }
@@ -201,7 +204,7 @@ pub unsafe extern "C" fn kobdzila_set_close(held: *mut OpaqueSet)
     sets::close_set((held as *mut MadeSet).read());
 }
 
-/// A number of the set at `held`: 0 its refusal, 1 how many catalogues were put into it, one after another.
+/// A number of the set at `held`: 0 is its fault, 1 how many catalogues were added to it, replaced ones included.
 #[unsafe(no_mangle)]
 pub unsafe extern "C" fn kobdzila_set_number(held: *const OpaqueSet, which: u32) -> u64
     ghost g: { Lft × Share × HeldSet }
@@ -211,8 +214,8 @@ pub unsafe extern "C" fn kobdzila_set_number(held: *const OpaqueSet, which: u32)
     sets::set_number(&*(held as *const MadeSet), which)
 }
 
-/// Puts the answer to a call in a text domain and a list of languages at `out`, with its closing NUL; nothing where no
-/// catalogue named has such an entry. The calls are those of `kobdzila_answer`.
+/// Writes the answer to a call in a text domain and a list of languages to `out`, with its terminating NUL, or no bytes
+/// if no catalogue named has such an entry. The calls are numbered as for `kobdzila_answer`.
 #[unsafe(no_mangle)]
 pub unsafe extern "C" fn kobdzila_set_answer(
     held: *const OpaqueSet,

@@ -1,4 +1,4 @@
-//! Catalogues as C holds them: what became of the bytes that were opened.
+//! Catalogues as C holds them: the outcome of opening bytes.
 ghost use Rattle.std.specs.Prelude.{◌≡◌, IfOk};
 ghost use Rattle.std.specs.Arc.{arc_value};
 ghost use Rattle.mo_file.specs.MoReading.{rank};
@@ -13,13 +13,13 @@ use std::sync::Arc;
 #[derive(Drop)]
 pub struct Opened {
     pub catalogue: Option<Arc<Catalogue>>,
-    /// The number of the refusal; 0 where there is a catalogue.
+    /// The number of the fault in `kobdzila.h`; 0 if there is a catalogue.
     pub fault: u32,
-    /// The line of the refusal in a PO text; 0 where it has none.
+    /// The fault's line in a PO text; 0 if it has none.
     pub line: u32,
 }
 
-/// The number of a refusal of an MO file.
+/// The number in `kobdzila.h` of a fault of an MO file.
 fn mo_number(fault: MoFault) -> u32
     ensures { result ≡ rank fault }
 {
@@ -39,7 +39,7 @@ fn mo_number(fault: MoFault) -> u32
     }
 }
 
-/// The number of a refusal of a PO text.
+/// The number in `kobdzila.h` of a fault of a PO text.
 fn po_number(kind: LoadKind) -> u32
     ensures { result ≡ po_number kind }
 {
@@ -65,7 +65,7 @@ fn po_number(kind: LoadKind) -> u32
     }
 }
 
-/// No catalogue.
+/// No catalogue, for this reason.
 fn refused(fault: u32, line: u32) -> Opened
     ensures { IsRefused result fault line }
 {
@@ -76,7 +76,7 @@ fn refused(fault: u32, line: u32) -> Opened
     }
 }
 
-/// The catalogue with its index, shared by those who hold it.
+/// Builds the catalogue's index, and makes the catalogue shareable.
 fn shared(alloc: Global, mut catalogue: Catalogue) -> Result<Arc<Catalogue>, AllocError>
     ensures { IfOk result (λ shared. arc_value shared ≡ catalogue) }
 {
@@ -84,7 +84,7 @@ fn shared(alloc: Global, mut catalogue: Catalogue) -> Result<Arc<Catalogue>, All
     Ok(Arc::new(alloc, catalogue)?)
 }
 
-/// A catalogue as C holds it, or want of memory.
+/// A catalogue as C holds it, or out of memory.
 fn kept(alloc: Global, catalogue: Catalogue) -> Opened
     ensures { IsOpenedMap catalogue result }
 {
@@ -98,7 +98,7 @@ fn kept(alloc: Global, catalogue: Catalogue) -> Opened
     }
 }
 
-/// The catalogue of an MO file, or its first refusal.
+/// The catalogue of an MO file, or the first reason why it is refused.
 pub(crate) fn open_mo(alloc: Global, bytes: &[u8]) -> Opened
     ensures { IsOpenedMo bytes.now result }
 {
@@ -108,7 +108,7 @@ pub(crate) fn open_mo(alloc: Global, bytes: &[u8]) -> Opened
     }
 }
 
-/// The catalogue of a PO text, or its first refusal.
+/// The catalogue of a PO text, or the first reason why it is refused. An option is on if its number isn't 0.
 pub(crate) fn open_po(alloc: Global, bytes: &[u8], checked: u32, use_fuzzy: u32) -> Opened
     ensures { IsOpenedPo bytes.now (options_of checked use_fuzzy) result }
 {
@@ -122,7 +122,7 @@ pub(crate) fn open_po(alloc: Global, bytes: &[u8], checked: u32, use_fuzzy: u32)
     }
 }
 
-/// Lets go of a catalogue.
+/// Drops what was opened.
 pub(crate) fn close(opened: Opened) {
     drop(opened);
 }

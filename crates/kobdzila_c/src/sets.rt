@@ -1,4 +1,4 @@
-//! Sets of catalogues as C holds them. A set never changes; another one is made with one catalogue more.
+//! Sets of catalogues as C holds them. A set never changes: adding a catalogue makes a new set.
 ghost use Rattle.std.specs.Prelude.{◌≡◌, ◌↔◌, IfOk, IsTrue};
 ghost use Rattle.std.specs.Arc.{arc_value};
 ghost use Rattle.live_set.specs.Names.{IsName};
@@ -15,15 +15,15 @@ use std::alloc::Global;
 use std::str::from_utf8;
 use std::sync::Arc;
 
-/// The set that was made, or the empty one and why it wasn't.
+/// The set that was made, or an empty one and why there is none.
 #[derive(Drop)]
 pub struct MadeSet {
     pub set: CatalogueSet,
-    /// The number of the refusal; 0 where there is none.
+    /// The number of the fault in `kobdzila.h`; 0 if there is a set.
     pub fault: u32,
 }
 
-/// The number of what refuses a name.
+/// The number in `kobdzila.h` of what is wrong with a name.
 fn name_number(fault: NameFault) -> u32
     ensures { result ≡ name_number fault }
 {
@@ -33,7 +33,7 @@ fn name_number(fault: NameFault) -> u32
     }
 }
 
-/// No set.
+/// No set, for this reason.
 fn without(alloc: Global, fault: u32) -> MadeSet
     ensures { IsWithout fault result }
 {
@@ -67,7 +67,7 @@ fn are_names(domain: &[u8], locale: &[u8]) -> bool
     is_name_of(domain) && is_name_of(locale)
 }
 
-/// The name that these bytes are.
+/// Makes a name of these bytes.
 fn name_of(alloc: Global, bytes: &[u8]) -> Result<Name, NameFault>
     ensures { IfOk result (λ name. name ≡ bytes.now) }
 {
@@ -77,7 +77,7 @@ fn name_of(alloc: Global, bytes: &[u8]) -> Result<Name, NameFault>
     }
 }
 
-/// A share of a catalogue for a text domain and a locale.
+/// A load that shares a catalogue, for a text domain and a locale.
 fn load_of(
     alloc: Global,
     domain: &[u8],
@@ -93,7 +93,7 @@ fn load_of(
     })
 }
 
-/// The set with one load more; all its catalogues are shared.
+/// The set with one more load. It shares all catalogues with `set`.
 fn more(
     alloc: Global,
     set: &CatalogueSet,
@@ -109,8 +109,8 @@ fn more(
     Ok(more)
 }
 
-/// The set with one catalogue more, which takes the place of the one for its text domain and locale. Memory is taken
-/// only if both are names.
+/// The set with one more catalogue, which replaces the one for its text domain and locale. Memory is taken only if the
+/// catalogue was opened and both are names.
 pub(crate) fn with_one(
     alloc: Global,
     made: &MadeSet,
@@ -132,12 +132,12 @@ pub(crate) fn with_one(
     }
 }
 
-/// Lets go of a set.
+/// Drops a set.
 pub(crate) fn close_set(made: MadeSet) {
     drop(made);
 }
 
-/// A number of a set: its refusal; how many catalogues were put into it, one after another.
+/// A number of a set: 0 is its fault, 1 how many catalogues were added to it, replaced ones included.
 pub(crate) fn set_number(made: &MadeSet, which: u32) -> u64
     ensures { result ≡ set_number made.now which }
 {
@@ -148,7 +148,7 @@ pub(crate) fn set_number(made: &MadeSet, which: u32) -> u64
     }
 }
 
-/// The text that answers a question to a set, with its closing NUL; nothing where there is none.
+/// The string that answers a question to a set, with its terminating NUL, or no bytes if there is none.
 pub(crate) fn set_answer<'k>(
     made: &'k MadeSet,
     domain: &[u8],

@@ -1,4 +1,4 @@
--- The load that a set finds for a domain and a locale, after one was put in its slot.
+-- The load that a set finds for a domain and a locale after a load was put in its slot.
 use Rattle.std.proofs.Common.{◌≡◌, ℕ, Bool, true, false, cond, List, [], ◌∷◌, ◌++◌, Option, Some, None, Ordering, Less}
 use Rattle.std.proofs.Common.{Equal, Greater, filter, find, refl, sym, ap, subst, ◌∙◌}
 use Rattle.std.specs.Ordering.{is_lt}
@@ -23,7 +23,7 @@ module _ {X : Type 0} (p q : X → Bool) where
   true_false : true ≡ false → ⊥
   true_false e = cc
 
-  -- the filter leaves out all that is searched for
+  -- the filter drops all that is searched for
   pub find_past : ((z : X) → p z ≡ true → q z ≡ false) → (xs ys : List X) → find p (filter q xs ++ ys) ≡ find p ys
   find_past out [] ys = refl
   find_past out (z ∷ zs) ys =
@@ -53,7 +53,7 @@ module _ {X : Type 0} (p q : X → Bool) where
         | false ↦ λ e. rest ∙ sym (ap (λ c. cond c (Some z) (find p zs)) (lacks z true false (kept z) e true_false))
       ] refl
 
-  -- nothing that is searched for stands behind
+  -- nothing that is searched for follows
   pub find_front : (xs ys : List X) → find p ys ≡ None → find p (xs ++ ys) ≡ find p xs
   find_front [] ys none = none
   find_front (z ∷ zs) ys none = ap (cond (p z) (Some z)) (find_front zs ys none)
@@ -70,7 +70,7 @@ module _ (domain locale : List ℕ) (held : List LoadValue) (x : LoadValue) wher
   abbrev after : LoadValue → Bool
   after = λ l. is_before x l
 
-  -- how the load stands to one for the pair
+  -- how the load compares with one for the pair
   is_beside : (o : Ordering) → compared x (asked domain locale) ≡ o → (z : LoadValue) → p z ≡ true → compared x z ≡ o
   is_beside o h z pz = beside domain locale x z pz ∙ h
 

@@ -7,7 +7,7 @@ use Rattle.live_set.specs.Sets.{SetValue, no_loads, absorbed, map_in}
 use Rattle.live_set.specs.Sets.{fold as set_of}
 use Rattle.live_set.proofs.Finding.{find-slotted}
 
--- one more load is the last one, where it is for the pair
+-- one more load is the last one if it is for the pair
 last_of : (b : Bool) (o : Option LoadValue) (x : LoadValue) (xs : List LoadValue) → last_or (cond b (Some x) o) xs
     ≡ last_or o (cond b (x ∷ xs) xs)
 last_of true o x xs = refl
@@ -23,7 +23,7 @@ found domain locale (x ∷ loads) s =
     ∙ ap (λ o. last_or o (filter p loads)) (find-slotted domain locale s.held x)
     ∙ last_of (p x) (find p s.held) x (filter p loads)
 
--- the set of some loads has for each pair the map of the last load for it
+-- for each pair, the set of some loads has the map of the last load for it
 pub map_in-fold : (loads : List LoadValue) (domain locale : List ℕ) → map_in (set_of loads).held domain locale
     ≡ map_of loads domain locale
 map_in-fold loads domain locale = ap map_or_empty (found domain locale loads no_loads)
@@ -36,7 +36,7 @@ counted (x ∷ loads) s le =
     let all : min (s.version + 1) 18446744073709551615 + length loads ≤ 18446744073709551615 = omega (arith, le, one) in
     counted loads (absorbed s x) all ∙ omega (arith, one)
 
--- its version is their number
+-- the set's version is the number of loads
 pub version-fold : (loads : List LoadValue) → length loads ≤ 18446744073709551615 → (set_of loads).version
     ≡ length loads
 version-fold loads le = counted loads no_loads (omega (arith, le)) ∙ omega arith

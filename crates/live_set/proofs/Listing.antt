@@ -1,4 +1,4 @@
--- Lists of languages: their first member, and what stands behind it.
+-- Lists of languages: their first member, and the rest of the list.
 use Rattle.std.proofs.Common.{◌≡◌, ◌≢◌, ℕ, ◌<◌, ◌+◌, Bool, true, false, ◌==◌, ◌&&◌, ◌||◌, not, cond, List, [], ◌∷◌}
 use Rattle.std.proofs.Common.{length, get_or, Option, Some, None, refl, sym, ap, ◌∙◌, arith, filter, take_while, inl}
 use Rattle.std.proofs.Common.{inr, ◌⊎◌, MatchOption, Bor, length-take, find, subst}
@@ -39,7 +39,7 @@ one_passes p bs lt = list_any_at p bs (position_or_len p bs) 0 lt (passes_at_fir
 
 -- ---- the first member
 
--- the colons in front are passed over
+-- leading colons are skipped
 pub past_colon : (list : List ℕ) → members (58 ∷ list) ≡ members list
 past_colon list = refl
 
@@ -47,7 +47,7 @@ text_by_length : (text : List ℕ) → 0 < length text → is_text text ≡ true
 text_by_length [] some = absurd (omega arith)
 text_by_length (b ∷ bs) some = refl
 
--- what doesn't begin with a colon begins with a member that is a text
+-- what doesn't begin with a colon begins with a member that isn't empty
 text_first : (list : List ℕ) → false ≡ (length list == 0) → ((rest : List ℕ) → list ≢ 58 ∷ rest) → (member : List ℕ)
     → (member ≡ before_first is_colon list) ⊎ (member ≡ list) → is_text member ≡ true
 text_first [] some no_colon member is = absurd (false≢true some)
@@ -94,7 +94,7 @@ members_cut list some no_colon (Some x) at whole end is_whole is_end r is =
     (ap (filter is_text) (slice_split_first is_colon list 0 at.2))
     (text_first list some no_colon (before_first is_colon list) (inl refl)))
 
--- a text without a colon is one member
+-- a text without a colon has one member
 single : (bs : List ℕ) → list_any is_colon bs ≡ false → slice_split is_colon bs ≡ bs ∷ []
 single [] e = refl
 single (b ∷ bs) e = elim (cases_Bool (is_colon b)) [
@@ -110,7 +110,7 @@ members_of_one list no_colon some is =
     members_first list list [] (ap (filter is_text) (single list no_colon)) (text_by_length list some)
     ∙ ap (λ b. cond b (list ∷ []) []) is
 
--- where a list without a colon has a member, it is the whole list
+-- if a list without a colon has a member, that is the whole list
 pub only_member : (list member : List ℕ) (others : List (List ℕ)) → list_any is_colon list ≡ false
     → members list ≡ member ∷ others → (member ≡ list) × (members list ≡ list ∷ []) × (translates list ≡ true)
 only_member list member others none e =
@@ -172,12 +172,12 @@ pub no_territory : (member : List ℕ) → position_or_len is_underscore member 
     → has_only_territory member ≡ false
 no_territory member e = ap (λ b. b && not (list_any begins_detail member)) (none_passes is_underscore member e)
 
--- `_` is there: `.` and `@` settle it
+-- `_` is there, so `.` and `@` decide
 pub with_territory : (member : List ℕ) → position_or_len is_underscore member < length member → (b : Bool)
     → list_any begins_detail member ≡ b → has_only_territory member ≡ not b
 with_territory member lt b e = rw (one_passes is_underscore member lt, e) refl
 
--- what two searches for one byte each say of either byte
+-- what the searches for two single bytes say of a search for either
 pub has_detail : (member : List ℕ) (k : ℕ) → k < length member → (get_or member k 0 ≡ 46) ⊎ (get_or member k 0 ≡ 64)
     → list_any begins_detail member ≡ true
 has_detail member k lt (inl e) = list_any_at begins_detail member k 0 lt (rw e refl)

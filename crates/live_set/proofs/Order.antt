@@ -67,12 +67,12 @@ not_for domain locale l o h ne =
       | false ↦ λ e. refl
     ] refl
 
--- beside a load for the pair stands what stands beside the pair
+-- a load for the pair compares with others as the pair does
 pub beside : (domain locale : List ℕ) (x z : LoadValue) → is_for domain locale z ≡ true → compared x z
     ≡ compared x (asked domain locale)
 beside domain locale x z h = alike_right total z (asked domain locale) x (for_tied domain locale z h)
 
--- ---- comparisons with one load rise along rising loads
+-- ---- comparisons with one load are sorted along ascending loads
 
 index_max : (o : Ordering) → ordering_index o ≤ 2
 index_max Less = omega arith

@@ -1,4 +1,4 @@
--- Loads in runs, one behind the other: the run in which a load has its place, and what is found and put there.
+-- Loads in consecutive runs: the run where a load belongs, and finding and inserting a load there.
 use Rattle.std.proofs.Common.{◌≡◌, ℕ, zero, suc, ◌+◌, ◌-◌, ◌<◌, ◌≤◌, Bool, true, false, cond, List, [], ◌∷◌, ◌++◌}
 use Rattle.std.proofs.Common.{length, get_or, take, drop, set, insert, filter, find, flat_map, Option, Some, None}
 use Rattle.std.proofs.Common.{Ordering, Less, Equal, Greater, Result, Ok, Err, MatchResult, length-take}
@@ -44,7 +44,7 @@ module _ {X : Type 0} (P : X → Type 0) where
   all_insert [] (suc i) x p all = (p, tt)
   all_insert (y ∷ ys) (suc i) x p all = (all.0, all_insert ys i x p all.1)
 
--- ---- loads that rise, in parts
+-- ---- ascending loads, cut in parts
 
 pub rises_front : (xs ys : List LoadValue) → Rises (xs ++ ys) → Rises xs
 unfolding IsStrictlySortedBy
@@ -58,14 +58,14 @@ pub rises_back : (xs ys : List LoadValue) → Rises (xs ++ ys) → Rises ys
 rises_back [] ys rises = rises
 rises_back (x ∷ xs) ys rises = rises_back xs ys (sorted_tail compared x (xs ++ ys) rises)
 
--- each of the loads is before the one, or each behind it
+-- each of the loads is before this one; each of them is after it
 abbrev AllBefore : LoadValue → List LoadValue → Type 0
 AllBefore x xs = AllByRecursion (λ l. compared l x ≡ Less) xs
 
 abbrev AllBehind : LoadValue → List LoadValue → Type 0
 AllBehind x xs = AllByRecursion (λ l. compared l x ≡ Greater) xs
 
--- what is before a load that isn't behind x, is before x
+-- what is before a load that isn't after x is before x
 before_by : (x y z : LoadValue) → compared y z ≡ Less → is_le (compared z x) ≡ true → compared y x ≡ Less
 before_by x y z lt le =
     elim (compared z x) as (λ o. compared z x ≡ o → is_le o ≡ true → compared y x ≡ Less) [
@@ -91,7 +91,7 @@ behind_by x y (z ∷ zs) gt all =
 all_behind : (x y : LoadValue) (ys : List LoadValue) → Rises (y ∷ ys) → compared y x ≡ Greater → AllBehind x (y ∷ ys)
 all_behind x y ys rises gt = (gt, behind_by x y ys gt (sorted_head compared y ys rises))
 
--- ---- among loads that are before it and loads that are behind it
+-- ---- between loads that are before it and loads that are after it
 
 not_before : (x : LoadValue) (xs : List LoadValue) → AllBehind x xs → filter (λ l. is_before l x) xs ≡ []
 not_before x [] all = refl
@@ -117,7 +117,7 @@ none_behind x (z ∷ zs) all =
     ap (λ o. cond (is_lt o) (z ∷ filter (λ l. is_before x l) zs) (filter (λ l. is_before x l) zs))
     (flipped z x Less all.0) ∙ none_behind x zs all.1
 
--- a load is put between them where it would be put alone
+-- a load is inserted between them as it would be on its own
 pub slotted_between : (x : LoadValue) (a r b : List LoadValue) → AllBefore x a → AllBehind x b
     → slotted (a ++ (r ++ b)) x ≡ a ++ (slotted r x ++ b)
 slotted_between x a r b lower upper =
@@ -144,7 +144,7 @@ find_front : (p : LoadValue → Bool) (xs ys : List LoadValue) → find p ys ≡
 find_front p [] ys none = none
 find_front p (z ∷ zs) ys none = ap (cond (p z) (Some z)) (find_front p zs ys none)
 
--- a load is found between them where it would be found alone
+-- a load is found between them as it would be on its own
 pub find_between : (domain locale : List ℕ) (a r b : List LoadValue) → AllBefore (asked domain locale) a
     → AllBehind (asked domain locale) b
     → find (is_for domain locale) (a ++ (r ++ b)) ≡ find (is_for domain locale) r
@@ -205,7 +205,7 @@ module _ {R : Type 0} (of : R → List LoadValue) where
     behind_greater Equal e = absurd (false≢true (sym e))
     behind_greater Greater e = refl
 
-    -- where a run begins behind the pair, all that follows is behind it
+    -- if a run begins after the pair, everything that follows is after the pair
     run_behind : (ls rest : List LoadValue) → 0 < length ls → Rises (ls ++ rest) → begins_by domain locale ls ≡ false
         → AllBehind x (ls ++ rest)
     run_behind [] rest some rises e = absurd (omega arith)
@@ -237,7 +237,7 @@ module _ {R : Type 0} (of : R → List LoadValue) where
     partitioned (r ∷ rs) has rises (suc i) (suc j) d le lt is = partitioned rs has.1
         (rises_back (of r) (joined rs) rises) i j d (omega arith) (omega arith) is
 
-    -- the runs from the i-th on are behind the pair where the i-th one isn't begun
+    -- the runs from the i-th on are after the pair if the i-th one isn't begun by it
     pub behind_from : (runs : List R) (i : ℕ) → HasEach runs → Rises (joined runs)
         → ((k : ℕ) (d : R) → i ≤ k → k < length runs → begins (get_or runs k d) ≡ false)
         → AllBehind x (joined (drop i runs))
@@ -248,7 +248,7 @@ module _ {R : Type 0} (of : R → List LoadValue) where
     behind_from (r ∷ rs) (suc i) has rises not = behind_from rs i has.1 (rises_back (of r) (joined rs) rises)
         (λ k d le lt. not (suc k) d (omega arith) (omega arith))
 
-    -- what stands before a run that is begun by the pair is before the pair
+    -- what precedes a run that is begun by the pair is before the pair
     begun_before : (xs ls rest : List LoadValue) → Rises (xs ++ (ls ++ rest)) → begins_by domain locale ls ≡ true
         → AllBefore x xs
     begun_before xs [] rest rises is = absurd (false≢true is)
@@ -284,7 +284,7 @@ abbrev pub IsParted : {R : Type 0} → (R → List LoadValue) → List ℕ → L
 IsParted of domain locale runs o = IsPartitionedBy (λ r. begins_by domain locale (of r)) runs → IsPartitionPoint
     (λ r. begins_by domain locale (of r) ≡ true) (λ r. begins_by domain locale (of r) ≡ false) runs (begun o)
 
--- the same of equal names and runs
+-- IsParted carries over to equal names and runs
 pub parted_for : {R : Type 0} (of : R → List LoadValue) (d l : List ℕ) (seen : List R) (o : Option ℕ) (load : LoadValue)
     (runs : List R) → d ≡ load.domain → l ≡ load.locale → seen ≡ runs → IsParted of d l seen o
     → IsParted of load.domain load.locale runs o
@@ -347,7 +347,7 @@ some_between : (xs ys : List LoadValue) (x : LoadValue) → 0 < length (xs ++ x 
 some_between [] ys x = omega arith
 some_between (z ∷ zs) ys x = omega arith
 
--- the loads that it gives, where the answer is Ok, and else those that there were
+-- the new loads if the result is Ok, and the old ones otherwise
 abbrev pub IsPut : {A E : Type 0} → Result A E → LoadValue → (old new : List LoadValue) → Type 0
 IsPut r x old new = MatchResult r (λ _. new ≡ slotted old x) (λ _. new ≡ old)
 
@@ -444,7 +444,7 @@ module _ {R : Type 0} (of : R → List LoadValue) (first : List LoadValue) (runs
         has = subst (HasEach of) (sym is_new) (some, has);
       }
 
-  -- `here` is the run as it was looked at, and `run` as it was cut
+  -- `here` is the run as it was looked at, and `run` the one that was cut
   pub split_later : (i n : ℕ) (here run low up : R) (grown new : List R) → i < length runs → 0 < n
       → n < length (of here) → here ≡ get_or runs i here → grown ≡ runs → run ≡ get_or grown i run
       → of low ≡ take n (of run) → of up ≡ drop n (of run) → new ≡ insert (set grown i low) (i + 1) up → record {

@@ -1,4 +1,4 @@
--- A load that is put in its slot among rising loads, and a search for that slot by halves.
+-- A load that is put in its slot among ascending loads, and the binary search for that slot.
 use Rattle.std.proofs.Common.{◌≡◌, ℕ, zero, suc, ◌<◌, ◌≤◌, Bool, true, false, cond, List, [], ◌∷◌, ◌++◌, length}
 use Rattle.std.proofs.Common.{get_or, take, drop, set, insert, filter, find, Some, None, Ordering, Less, Equal, Greater}
 use Rattle.std.proofs.Common.{Result, Ok, Err, IfOk, IfErr, refl, sym, ap, ap₂, ◌∙◌, subst, arith, inl, inr}
@@ -27,7 +27,7 @@ comparisons_rise held a rises i j d le inside =
           same (omega arith)
     ]
 
--- a search by halves ends at the load for the pair, or at the gap for it
+-- a binary search ends at the load for the pair, or at the gap for it
 pub searched : (held : List LoadValue) (domain locale : List ℕ) (r : Result ℕ ℕ) → Rises held
     → IsSearchInRange r (length held) → IsBinarySearchResult (λ y. compared y (asked domain locale)) held r
     → record { found : IfOk r (IsAt held domain locale); absent : IfErr r (IsGapFor held domain locale) }
@@ -44,7 +44,7 @@ searched held domain locale (Err at) rises in_range parted =
       };
     }
 
--- the load after a lesser one, in a slot
+-- the load after a smaller one, in a slot
 all_at : (y : LoadValue) (ys : List LoadValue) (i : ℕ) (d : LoadValue) → AllByRecursion (λ z. compared y z ≡ Less) ys
     → i < length ys → compared y (get_or ys i d) ≡ Less
 all_at y [] i d all lt = absurd (omega arith)
@@ -74,7 +74,7 @@ none_for p [] none = refl
 none_for p (y ∷ ys) none = ap (λ c. cond c (Some y) (find p ys)) (none 0 y (omega arith))
     ∙ none_for p ys (λ k d lt. none (suc k) d (omega arith))
 
--- where there is a gap none is found
+-- if there is a gap, no load is found
 pub find_gap : (held : List LoadValue) (domain locale : List ℕ) (i : ℕ) → IsGapFor held domain locale i
     → find (is_for domain locale) held ≡ None
 find_gap held domain locale i gap = none_for (is_for domain locale) held (λ k d lt. elim (cases_lt k i) [
@@ -82,7 +82,7 @@ find_gap held domain locale i gap = none_for (is_for domain locale) held (λ k d
   | inr from ↦ not_for domain locale (get_or held k d) Greater (gap.above k d from lt) greater_ne
 ])
 
--- no load has nothing before it
+-- the empty list ascends
 pub rises_none : Rises []
 unfolding IsStrictlySortedBy
 rises_none = tt
@@ -143,7 +143,7 @@ module _ (x : LoadValue) where
       first_after y ys Greater (flipped y x Less (below 0 y (omega arith)))
       ∙ gap_after ys i (rest_below y ys i below) (rest_above y ys i above)
 
-  -- among loads that leave a gap it is inserted there
+  -- among loads that leave a gap it is inserted into the gap
   pub slotted_gap : (held : List LoadValue) (i : ℕ) → IsBelow held i → IsAbove held i → slotted held x ≡ insert held i x
   slotted_gap held i below above = ap₂ (λ s t. s ++ x ∷ t) (gap_before held i below above)
       (gap_after held i below above)
@@ -163,7 +163,7 @@ module _ (x : LoadValue) where
   same_beside y [] tied all = tt
   same_beside y (z ∷ zs) tied all = (sym (total.congr y x z tied) ∙ all.0, same_beside y zs tied all.1)
 
-  -- it takes the place of that load
+  -- it replaces that load
   pub slotted_at : (held : List LoadValue) (i : ℕ) → Rises held → i < length held → compared (get_or held i x) x ≡ Equal
       → slotted held x ≡ set held i x
   slotted_at [] i rises lt tied = absurd (omega arith)
@@ -182,7 +182,7 @@ module _ (x : LoadValue) where
       ap₂ (λ s t. s ++ x ∷ t) front back ∙ ap (λ t. y ∷ t) (slotted_at ys i (sorted_tail compared y ys rises) inside
       tied)
 
-  -- ---- the loads rise afterwards
+  -- ---- the loads ascend afterwards
 
   passes_before : (ys : List LoadValue) → AllByRecursion (λ z. compared z x ≡ Less) (filter before ys)
   passes_before [] = tt

@@ -1,4 +1,4 @@
--- Queries, and what they are answered (GNU gettext manual, "Interface to gettext"; "Contexts"; "Plural forms").
+-- Queries and their answers (GNU gettext manual, "Interface to gettext"; "Contexts"; "Plural forms").
 use Rattle.std.specs.Prelude.{ℕ, Bool, List, [], Some, None, is_some, map, find}
 use Rattle.std.specs.Option.{option_map_or}
 use Rattle.std.specs.String.{string_bytes}
@@ -10,7 +10,7 @@ use Rattle.live_set.specs.Languages.{named}
 use Rattle.live_set.specs.declared.query.Ask.{Ask}
 use Rattle.live_set.specs.declared.query.Ask.TheVariants as ask
 
--- a call of gettext, pgettext, ngettext or npgettext, with its texts
+-- a call of gettext, pgettext, ngettext or npgettext, with its arguments
 pub data AskValue : Type 0 where
   Plain : (id : List ℕ) → AskValue
   Context : (context id : List ℕ) → AskValue
@@ -27,7 +27,7 @@ pub record QueryValue : Type 0 where
 abbrev pub query_of : List ℕ → List ℕ → AskValue → QueryValue
 query_of domain languages ask = record { domain = domain; languages = languages; ask = ask }
 
--- what a map answers to a call
+-- the answer of a map to a call
 abbrev pub HasValue : List Entry → AskValue → List ℕ → Type 0
 HasValue m (Plain id) text = IsFirstForm (entry_at m (key_bytes None id)) id text
 HasValue m (Context context id) text = IsFirstForm (entry_at m (key_bytes (Some context) id)) id text
@@ -35,7 +35,7 @@ HasValue m (Number id plural n) text = IsCounted m (entry_at m (key_bytes None i
 HasValue m (ContextNumber context id plural n) text = IsCounted m (entry_at m (key_bytes (Some context) id)) n
     (text_by n id plural) text
 
--- the key that a call asks for
+-- the key that a call looks up
 abbrev pub key_of : AskValue → List ℕ
 key_of (Plain id) = key_bytes None id
 key_of (Context context id) = key_bytes (Some context) id
@@ -50,8 +50,8 @@ has_key key m = is_some (entry_at m key)
 abbrev pub first_with : List ℕ → List (List Entry) → List Entry
 first_with key maps = option_map_or (λ m. m) (find (has_key key) maps) []
 
--- the map that has a key for a domain and a list of languages, where each domain and locale has its map: that of the
--- first locale named whose map has the key, or the empty map
+-- the map that answers a key in a domain and a list of languages, given the map of each domain and locale: that of the
+-- first listed locale whose map has the key, or the empty map
 abbrev pub map_with : (List ℕ → List ℕ → List Entry) → List ℕ → List ℕ → List ℕ → List Entry
 map_with maps domain languages key = first_with key (map (maps domain) (named languages))
 
@@ -59,15 +59,15 @@ map_with maps domain languages key = first_with key (map (maps domain) (named la
 abbrev pub answering : (List ℕ → List ℕ → List Entry) → QueryValue → List Entry
 answering maps query = map_with maps query.domain query.languages (key_of query.ask)
 
--- what the query is answered over these maps
+-- the answer to a query over these maps
 abbrev pub HasAnswer : (List ℕ → List ℕ → List Entry) → QueryValue → List ℕ → Type 0
 HasAnswer maps query text = HasValue (answering maps query) query.ask text
 
--- what the query is answered after these loads
+-- the answer to a query after these loads
 abbrev pub IsAnswer : List LoadValue → QueryValue → List ℕ → Type 0
 IsAnswer loads query text = HasAnswer (map_of loads) query text
 
--- a call by its texts
+-- a call by the bytes of its arguments
 abbrev pub ask_value : Ask → AskValue
 ask_value (ask.Plain id) = Plain (string_bytes id)
 ask_value (ask.Context context id) = Context (string_bytes context) (string_bytes id)

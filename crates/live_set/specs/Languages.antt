@@ -4,16 +4,16 @@ use Rattle.std.specs.Prelude.{take_while, flat_map}
 use Rattle.std.specs.List.{list_any, before_first, slice_split}
 use Rattle.std.specs.Str.{bytes_eq}
 
--- `:` stands between the members of a list
+-- `:` separates the members of a list
 abbrev pub is_colon : ℕ → Bool
 is_colon b = b == 58
 
--- an empty member names nothing, and is passed over
+-- an empty member names nothing and is skipped
 abbrev pub is_text : List ℕ → Bool
 is_text [] = false
 is_text (b ∷ bs) = true
 
--- whether a locale translates: any but `C` and `POSIX`, at which a list ends
+-- whether a locale translates: all but `C` and `POSIX`, which end a list
 abbrev pub translates : List ℕ → Bool
 translates locale = not (bytes_eq locale (codes "C") || bytes_eq locale (codes "POSIX"))
 
@@ -21,11 +21,11 @@ translates locale = not (bytes_eq locale (codes "C") || bytes_eq locale (codes "
 abbrev pub members : List ℕ → List (List ℕ)
 members languages = take_while translates (filter is_text (slice_split is_colon languages))
 
--- `_` stands in front of a locale's territory
+-- `_` precedes a locale's territory
 abbrev pub is_underscore : ℕ → Bool
 is_underscore b = b == 95
 
--- `.` stands in front of a locale's codeset, `@` in front of its variant
+-- `.` precedes a locale's codeset, `@` its variant
 abbrev pub begins_detail : ℕ → Bool
 begins_detail b = b == 46 || b == 64
 
@@ -33,7 +33,7 @@ begins_detail b = b == 46 || b == 64
 abbrev pub has_only_territory : List ℕ → Bool
 has_only_territory member = list_any is_underscore member && not (list_any begins_detail member)
 
--- the language `ll`, which is tried behind `ll_CC`
+-- the language `ll`, which is tried after `ll_CC`
 abbrev pub language_behind : List ℕ → List (List ℕ)
 language_behind member = if has_only_territory member then before_first is_underscore member ∷ [] else []
 

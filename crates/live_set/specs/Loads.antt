@@ -16,7 +16,7 @@ pub record LoadValue : Type 0 where
 abbrev pub is_for : List ℕ → List ℕ → LoadValue → Bool
 is_for domain locale load = bytes_eq load.domain domain && bytes_eq load.locale locale
 
--- the map of a load, or the empty map where there is no load
+-- the map of a load, or the empty map if there is no load
 abbrev pub map_or_empty : Option LoadValue → List Entry
 map_or_empty load = option_map_or (λ l. l.map) load []
 

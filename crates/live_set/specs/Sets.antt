@@ -1,5 +1,5 @@
--- A set of catalogues: how many loads it absorbed, the map that it has for a domain and a locale, and what one more
--- load changes.
+-- A set of catalogues: the number of loads it absorbed, its map for each domain and locale, and the effect of one more
+-- load.
 use Rattle.std.specs.Prelude.{◌≡◌, ℕ, ◌+◌, min, if◌then◌else◌, List, []}
 use Rattle.std.specs.Prelude.{fold as fold_list}
 use Rattle.std.specs.List.{find}
@@ -7,7 +7,7 @@ use Rattle.catalogue.specs.Entry.{Entry}
 use Rattle.live_set.specs.Loads.{LoadValue, is_for, map_or_empty}
 use Rattle.live_set.specs.Slots.{slotted}
 
--- the number of loads absorbed, and the loads that count
+-- the number of loads absorbed, and the loads that are still in use
 pub record SetValue : Type 0 where
   pub version : ℕ
   pub held : List LoadValue
@@ -20,14 +20,14 @@ map_in held domain locale = map_or_empty (find (is_for domain locale) held)
 abbrev pub no_loads : SetValue
 no_loads = record { version = 0; held = [] }
 
--- one more load: the version rises by one, and stays at 2 ^ 64 - 1; the load's domain and locale have the load's map,
--- and all others the map that they had
+-- one more load: the version rises by one, up to 2 ^ 64 - 1; the load's domain and locale get the load's map, and all
+-- others keep theirs
 pub record HasAbsorbed (load : LoadValue) (old new : SetValue) : Type 0 where
   pub version : new.version ≡ min (old.version + 1) 18446744073709551615
   pub maps : (domain locale : List ℕ)
       → map_in new.held domain locale ≡ (if is_for domain locale load then load.map else map_in old.held domain locale)
 
--- ---- for the crates above, which keep two copies of a set alike: the one value that a set has after its loads
+-- ---- for crates that keep two copies of a set equal: the one value that a set has after its loads
 
 -- one more load
 abbrev pub absorbed : SetValue → LoadValue → SetValue

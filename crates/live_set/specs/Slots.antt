@@ -1,4 +1,4 @@
--- Private: the loads that a set holds, in rising order of locale and domain, and the slot of one among them.
+-- Private: the loads that a set holds, in ascending order of locale and domain, and the slot of each.
 use Rattle.std.specs.Prelude.{◌≡◌, ℕ, ◌<◌, ◌≤◌, Bool, List, [], ◌∷◌, ◌++◌, length, slice_index_or}
 use Rattle.std.specs.List.{filter}
 use Rattle.std.specs.List.Sorted.{IsStrictlySortedBy}
@@ -12,19 +12,19 @@ use Rattle.live_set.specs.Loads.{LoadValue}
 abbrev pub compared : LoadValue → LoadValue → Ordering
 compared a b = ordering_then (slice_cmp nat_cmp a.locale b.locale) (slice_cmp nat_cmp a.domain b.domain)
 
--- the first load stands before the second
+-- the first load precedes the second
 abbrev pub is_before : LoadValue → LoadValue → Bool
 is_before a b = is_lt (compared a b)
 
--- each load is before those behind it
+-- each load precedes those after it
 abbrev pub Rises : List LoadValue → Type 0
 Rises held = IsStrictlySortedBy compared held
 
--- the load stands in its slot, and no other one for its domain and locale
+-- the loads with this one in its slot, and no other one for its domain and locale
 abbrev pub slotted : List LoadValue → LoadValue → List LoadValue
 slotted held load = filter (λ l. is_before l load) held ++ load ∷ filter (λ l. is_before load l) held
 
--- a load for the domain and the locale, to compare others with
+-- a load for the domain and the locale, for comparison with others
 abbrev pub asked : List ℕ → List ℕ → LoadValue
 asked domain locale = record { domain = domain; locale = locale; map = [] }
 
@@ -33,7 +33,7 @@ pub record IsAt (held : List LoadValue) (domain locale : List ℕ) (i : ℕ) : T
   pub in_range : i < length held
   pub tied : (d : LoadValue) → compared (slice_index_or held i d) (asked domain locale) ≡ Equal
 
--- a load for them would have slot i: those before it are before it, the others after it
+-- slot i is where a load for them would be inserted: those before it precede it, the others follow it
 pub record IsGapFor (held : List LoadValue) (domain locale : List ℕ) (i : ℕ) : Type 0 where
   pub in_range : i ≤ length held
   pub below : (k : ℕ) (d : LoadValue) → k < i → compared (slice_index_or held k d) (asked domain locale) ≡ Less

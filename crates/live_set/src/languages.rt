@@ -1,4 +1,4 @@
-//! Lists of languages: the first of the locales that a list names whose catalogue has a message.
+//! Look-ups by a list of languages: the first of the listed locales whose catalogue has the message.
 ghost use Rattle.std.specs.Prelude.{◌≡◌, ◌<◌, false, true, [], ◌∷◌, length, option_map, map, find, None, MatchOption};
 ghost use Rattle.std.specs.Prelude.{IfSome};
 ghost use Rattle.std.specs.List.{before_first, list_any};
@@ -15,10 +15,10 @@ use crate::CatalogueSet;
 use catalogue::{Catalogue, EntryRef, untranslated};
 use text_key::TextKey;
 
-/// An entry that was found, and the catalogue that has it.
+/// An entry that was found, and the catalogue it is in.
 pub(crate) type Found<'a> = (&'a Catalogue, EntryRef<'a>);
 
-/// The first form of the entry that was found, or the msgid.
+/// The first form of the entry found, or the msgid if there is none.
 #[inline(always)]
 pub(crate) fn first_form<'a>(found: Option<Found<'a>>, id: &'a str) -> &'a str
     ensures { IsFirstForm (option_map (λ f. f.1) found.entry) id.now result.now }
@@ -29,7 +29,8 @@ pub(crate) fn first_form<'a>(found: Option<Found<'a>>, id: &'a str) -> &'a str
     }
 }
 
-/// The form of the entry that was found which a number takes by its catalogue's rule, or one of the texts.
+/// The form for `n` of the entry found, by its catalogue's plural rule; without an entry, the msgid for 1 and the
+/// plural for other numbers.
 #[inline(always)]
 pub(crate) fn counted<'a>(found: Option<Found<'a>>, id: &'a str, plural: &'a str, n: u64) -> &'a str
     ensures { MatchOption found.entry (result.now ≡ text_by n id.now plural.now)
@@ -41,7 +42,7 @@ pub(crate) fn counted<'a>(found: Option<Found<'a>>, id: &'a str, plural: &'a str
     }
 }
 
-/// The language of a locale that has a territory, and neither a codeset nor a variant: `fr` of `fr_CA`.
+/// The language of a locale name with a territory, no codeset and no variant: `fr` for `fr_CA`.
 fn language_of(member: &str) -> Option<&str>
     ensures { MatchOption result (has_only_territory member.now ≡ false) (λ language.
         (has_only_territory member.now ≡ true) × (language.now ≡ before_first is_underscore member.now)) }
@@ -54,7 +55,7 @@ fn language_of(member: &str) -> Option<&str>
     }
 }
 
-/// Whether messages may be translated in a locale: in any but `C` and `POSIX`.
+/// Whether messages are translated in a locale: all but `C` and `POSIX`.
 fn is_translated(member: &str) -> bool
     ensures { result ≡ translates member.now }
 {
@@ -68,7 +69,7 @@ fn has_colon(languages: &str) -> bool
     languages.bytes().any(|byte| byte == b':')
 }
 
-/// The first member of a list that counts, and the list behind it.
+/// Splits the first member off a list, skipping empty ones. `None` if the list is empty or ends here at `C` or `POSIX`.
 fn first_member(languages: &str) -> Option<(&str, &str)>
     ensures cut { IsCutAt languages.now result }
     ensures shorter { IfSome result (λ cut. length cut.1.now < length languages.now) }
@@ -89,7 +90,7 @@ fn first_member(languages: &str) -> Option<(&str, &str)>
 }
 
 impl CatalogueSet {
-    /// The entry of a message in the catalogue for this domain and locale, by the bytes of its context and its msgid.
+    /// The entry with this context and msgid in the catalogue for a domain and a locale.
     #[inline(always)]
     fn find_in(
         &self,
@@ -107,7 +108,7 @@ impl CatalogueSet {
         Some((catalogue, entry))
     }
 
-    /// The same in the language of a locale that has a territory, and neither a codeset nor a variant.
+    /// Like `find_in`, for the language of a locale that has a territory, no codeset and no variant.
     fn find_by_language(
         &self,
         domain: &TextKey<'_>,
@@ -121,7 +122,7 @@ impl CatalogueSet {
         self.find_in(domain, language_of(member)?, context, id)
     }
 
-    /// The same in the first of the locales that a member of a list stands for.
+    /// Like `find_in`, for a member of a list: first as a locale, then its language.
     fn find_by_member(
         &self,
         domain: &TextKey<'_>,
@@ -138,7 +139,8 @@ impl CatalogueSet {
         self.find_by_language(domain, member, context, id)
     }
 
-    /// The same in the first of the locales that a list of languages names, where that isn't the whole list.
+    /// Like `find_in`, for the first of the listed locales that has the message, if the whole list isn't the name of
+    /// one.
     #[inline(never)]
     fn find_by_members(
         &self,
@@ -167,8 +169,8 @@ impl CatalogueSet {
         None
     }
 
-    /// The same in the first of the locales that a list of languages names. Most lists are one locale, that has the
-    /// message, so the whole list is looked at first: no locale's name has a colon.
+    /// Like `find_in`, for the first of the listed locales that has the message. Most lists are a single locale that
+    /// has it, so the whole list is tried as one first; this is safe because no locale's name has a colon.
     #[inline(always)]
     pub(crate) fn find_bytes_by_list(
         &self,
@@ -189,7 +191,7 @@ impl CatalogueSet {
         self.find_by_members(&domain, languages, context, id)
     }
 
-    /// The same of texts.
+    /// Like `find_bytes_by_list`, for strings.
     #[inline(always)]
     pub(crate) fn find_by_list(
         &self,

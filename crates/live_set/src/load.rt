@@ -1,4 +1,4 @@
-//! Loads: a catalogue for a domain and a locale.
+//! Loads: a catalogue with its domain and locale.
 ghost use Rattle.std.specs.Prelude.{◌≡◌, IfOk};
 ghost use Rattle.live_set.specs.Names.{IsName};
 ghost use Rattle.live_set.specs.Slots.{compared, asked};
@@ -30,7 +30,7 @@ impl Model for Load {
 }
 
 impl Load {
-    /// The same load again, with a share of its catalogue. Answers AllocError where memory is refused.
+    /// A second load that shares this one's catalogue. Fails if memory runs out.
     pub fn try_clone(&self) -> Result<Load, AllocError>
         ensures { IfOk result (λ load. load ≡ self.now) }
     {
@@ -55,18 +55,17 @@ impl Load {
         self.locale.key()
     }
 
-    /// The load's catalogue. The clause `name` says what is true of each load.
+    /// The load's catalogue. By the clause `name`, the locale of a load is always a name.
     pub(crate) fn catalogue(&self) -> &Catalogue
         ensures map { result.now ≡ self.now.map }
         ensures name { IsName self.now.locale }
     {
-        // (what is true of every name is known where one is used)
+        // Mentioning the name makes its invariant available to the proof.
         let _name = self.locale.as_str();
         &*self.catalogue
     }
 
-    /// How the load's domain and locale compare with these, by the locale, since that is what differs most,
-    /// and then by the domain.
+    /// Compares by locale first, since locales differ most, and then by domain.
     pub(crate) fn compare(&self, domain: &TextKey<'_>, locale: &TextKey<'_>) -> Ordering
         ensures { result ≡ compared self.now (asked domain.now locale.now) }
     {

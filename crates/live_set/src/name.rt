@@ -8,16 +8,16 @@ use std::marker::Model;
 use text_key::{TextKey, front_of};
 use thiserror::Error;
 
-/// How many bytes a name may have.
+/// The most bytes that a name may have.
 pub const NAME_LIMIT: usize = 64;
 
-/// Why a text was not taken as a name.
+/// Why a text isn't taken as a name.
 #[derive(Clone, Copy, Debug, PartialEq, Eq, Error)]
 pub enum NameFault {
-    /// The text is empty, has more than 64 bytes, or has a byte that no name has.
+    /// The text is empty, has more than 64 bytes, or has a byte that no name may have.
     #[error("not a name")]
     BadName,
-    /// Want of memory.
+    /// Out of memory.
     #[error("out of memory")]
     Memory,
 }
@@ -35,7 +35,7 @@ impl From<AllocError> for NameFault {
 #[derive(Debug, Drop)]
 pub struct Name {
     text: String,
-    /// The number that the text's first bytes spell.
+    /// The first bytes of the text as a number, for fast comparison.
     front: u64,
 }
 
@@ -52,14 +52,14 @@ impl Model for Name {
     ghost invariant = { λ name. IsName (string_bytes name.text) × IsFrontOf (string_bytes name.text) name.front };
 }
 
-/// Whether a name may have this byte.
+/// Whether names may have this byte.
 fn is_name_byte(byte: u8) -> bool
     ensures { result ≡ is_name_byte byte }
 {
     byte.is_ascii_alphanumeric() || matches!(byte, b'_' | b'-' | b'.' | b'@' | b'+')
 }
 
-/// Whether the text is a name. It takes no memory.
+/// Whether the text is a name. It doesn't allocate.
 pub fn is_name(text: &str) -> bool
     ensures { IsTrue result ↔ IsName text.now }
 {
@@ -67,7 +67,7 @@ pub fn is_name(text: &str) -> bool
 }
 
 impl Name {
-    /// The name with this text. Answers BadName exactly where the text is no name.
+    /// Copies a text into a name. Returns `BadName` exactly if the text isn't a name, and `Memory` if memory runs out.
     pub fn new(alloc: Global, text: &str) -> Result<Name, NameFault>
         ensures name { IfOk result (λ name. name ≡ text.now) }
         ensures good { IfOk result (λ _. IsName text.now) }
@@ -86,20 +86,20 @@ impl Name {
     pub fn as_str(&self) -> &str
         ensures text { result.now ≡ self.now }
 
-        // Every name is one.
+        // Every value of this type is a name.
         ensures name { IsName self.now }
     {
         self.text.as_str()
     }
 
-    /// The text with the number that its first bytes spell, to be compared.
+    /// The text with its first bytes as a number, for comparisons.
     pub(crate) fn key(&self) -> TextKey<'_>
         ensures { result ≡ self.now }
     {
         TextKey::with_front(self.text.as_str(), self.front)
     }
 
-    /// The same name again. Answers AllocError where memory is refused.
+    /// A copy of the name. Fails if memory runs out.
     pub fn try_clone(&self) -> Result<Name, AllocError>
         ensures { IfOk result (λ name. name ≡ self.now) }
     {

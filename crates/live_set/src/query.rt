@@ -1,25 +1,25 @@
-//! Queries: a call of gettext and its kin in a domain and a list of languages.
+//! Queries: one of the four gettext calls, in a domain and a list of languages.
 use std::marker::Model;
 
-/// A call of gettext, pgettext, ngettext or npgettext, with its texts.
+/// A call of gettext, pgettext, ngettext or npgettext, with its arguments.
 #[derive(Debug, Drop)]
 pub enum Ask {
-    /// The translation of a msgid.
+    /// gettext: the translation of a msgid.
     Plain {
         id: String,
     },
-    /// The translation of a msgid in a context.
+    /// pgettext: the translation of a msgid in a context.
     Context {
         context: String,
         id: String,
     },
-    /// The form that a number takes of a message with a plural.
+    /// ngettext: the plural form for a number.
     Number {
         id: String,
         plural: String,
         n: u64,
     },
-    /// The same of a message in a context.
+    /// npgettext: the plural form for a number, of a message in a context.
     ContextNumber {
         context: String,
         id: String,
@@ -28,11 +28,11 @@ pub enum Ask {
     },
 }
 
-/// A call in a domain and a list of languages, which may be any texts. Contracts see it by its texts' bytes.
+/// A call in a domain and a list of languages, which may be any texts. Contracts see it by the bytes of its texts.
 ///
-/// The list names the locales in which the message is looked for, in their order, as in the variable LANGUAGE (GNU
-/// gettext manual, "The LANGUAGE variable"): its members are parted by `:`, and empty ones are passed over; a member
-/// `ll_CC` with no codeset and no variant stands for itself and then for `ll`; a member `C` or `POSIX` ends the list.
+/// The list names the locales in which the message is looked up, in order, as in the variable LANGUAGE (GNU gettext
+/// manual, "The LANGUAGE variable"). Its members are separated by `:`, and empty ones are skipped. A member `ll_CC`
+/// with no codeset and no variant stands for itself, and then for `ll`. A member `C` or `POSIX` ends the list.
 #[derive(Debug, Drop)]
 pub struct Query {
     pub domain: String,

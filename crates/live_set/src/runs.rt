@@ -1,4 +1,4 @@
-//! Loads in rising order, in runs of bounded length, so that a new one moves few others.
+//! Loads in ascending order, kept in runs of bounded length so that inserting one moves few others.
 ghost use Rattle.std.specs.Prelude.{◌≡◌, ◌<◌, true, false, [], ◌++◌, length, find, flat_map, option_map};
 ghost use Rattle.std.specs.Prelude.{MatchResult, IfOk, IfErr, IfSome};
 ghost use Rattle.std.specs.List.Sorted.{IsPartitionedBy, IsPartitionPoint};
@@ -12,14 +12,14 @@ use std::cmp::Ordering;
 use std::marker::Model;
 use text_key::TextKey;
 
-/// How many loads a run has before it is split.
+/// A run is split before an insertion once it has this many loads.
 const RUN_LIMIT: usize = 128;
 
-/// Loads in rising order of locale and domain, in runs one behind the other. Contracts see it as the loads.
+/// Loads in ascending order of locale and domain, in consecutive runs. Contracts see it as the list of loads.
 #[derive(Drop)]
 pub(crate) struct LoadRuns {
     first: Vec<Load>,
-    /// The runs behind the first one, each of a load at least.
+    /// The runs after the first one; none of them is empty.
     later: Vec<Vec<Load>>,
 }
 
@@ -37,7 +37,7 @@ impl Model for LoadRuns {
         × AllByRecursion (λ run. 0 < length run.items) runs.later.items };
 }
 
-/// Whether the run begins with a load that isn't behind one for this domain and locale.
+/// Whether the run begins at or before the place of a load for this domain and locale.
 fn begins_by(run: &[Load], domain: &TextKey<'_>, locale: &TextKey<'_>) -> bool
     ensures { result ≡ begins_by domain.now locale.now run.now }
 {
@@ -47,8 +47,7 @@ fn begins_by(run: &[Load], domain: &TextKey<'_>, locale: &TextKey<'_>) -> bool
     }
 }
 
-/// The run behind the first one in which a load for this domain and locale has its place, or None where that is the
-/// first one.
+/// The index in `later` of the run where a load for this domain and locale belongs, or `None` if that is the first run.
 #[inline(always)]
 fn run_for(later: &[Vec<Load>], domain: &TextKey<'_>, locale: &TextKey<'_>) -> Option<usize>
     ensures bound { IfSome result (λ at. at < length later.now) }
@@ -61,7 +60,7 @@ fn run_for(later: &[Vec<Load>], domain: &TextKey<'_>, locale: &TextKey<'_>) -> O
         .checked_sub(1)
 }
 
-/// The slot of the load for this domain and locale in a run, or the one that it would have.
+/// The index of the load for this domain and locale in a run, or the index at which it would be inserted.
 fn slot(run: &[Load], domain: &TextKey<'_>, locale: &TextKey<'_>) -> Result<usize, usize>
     requires { Rises run.now }
     ensures found { IfOk result (IsAt run.now domain.now locale.now) }
@@ -81,7 +80,7 @@ fn load_in<'a>(run: &'a [Load], domain: &TextKey<'_>, locale: &TextKey<'_>) -> O
     }
 }
 
-/// Puts a load in its slot of a run, over the one for its domain and locale if there is one.
+/// Inserts a load into a run, replacing the one for its domain and locale if there is one.
 fn put_in(run: &mut Vec<Load>, load: Load) -> Result<(), AllocError>
     requires { Rises run.old.items }
     ensures { MatchResult result (λ _. run.new.items ≡ slotted run.old.items load)
@@ -96,7 +95,7 @@ fn put_in(run: &mut Vec<Load>, load: Load) -> Result<(), AllocError>
     }
 }
 
-/// The loads of a run again, with a share of each catalogue.
+/// A copy of a run that shares its catalogues.
 fn copied(alloc: Global, run: &[Load]) -> Result<Vec<Load>, AllocError>
     ensures { IfOk result (λ copy. copy.items ≡ run.now) }
 {
@@ -128,7 +127,7 @@ impl LoadRuns {
         }
     }
 
-    /// Splits the run in which a load has its place, where it is full.
+    /// Splits the run where the load belongs if it is full.
     fn make_room(&mut self, load: &Load) -> Result<(), AllocError>
         ensures { self.new ≡ self.old }
     {
@@ -151,8 +150,8 @@ impl LoadRuns {
         Ok(())
     }
 
-    /// Puts a load in its slot, over the one for its domain and locale if there is one. Answers AllocError where
-    /// memory is refused, and leaves the loads as they were.
+    /// Inserts a load, replacing the one for its domain and locale if there is one. If memory runs out, it fails and
+    /// the loads are unchanged.
     pub(crate) fn put(&mut self, load: Load) -> Result<(), AllocError>
         ensures { MatchResult result (λ _. self.new ≡ slotted self.old load) (λ _. self.new ≡ self.old) }
     {
@@ -163,7 +162,7 @@ impl LoadRuns {
         }
     }
 
-    /// The same loads again, with a share of each catalogue.
+    /// A copy that shares the catalogues. Fails if memory runs out.
     pub(crate) fn try_clone(&self, alloc: Global) -> Result<LoadRuns, AllocError>
         ensures { IfOk result (λ runs. runs ≡ self.now) }
     {

@@ -16,12 +16,12 @@ use std::alloc::{AllocError, Global};
 use std::marker::Model;
 use text_key::TextKey;
 
-/// For each text domain and locale the catalogue that was loaded last, and how many loads there were.
-/// Contracts see it as this number and the loads that count.
+/// For each text domain and locale, the catalogue that was loaded last, and the number of loads so far. Contracts see
+/// it as this number and the loads that are still in use.
 #[derive(Drop)]
 pub struct CatalogueSet {
     version: u64,
-    /// The last load of each domain and locale, in rising order of locale and domain.
+    /// The last load for each domain and locale, in ascending order of locale and domain.
     held: LoadRuns,
 }
 
@@ -44,7 +44,7 @@ impl CatalogueSet {
         }
     }
 
-    /// How many loads the set absorbed; 2^64 - 1 where there were more.
+    /// The number of loads absorbed, or 2^64 - 1 if there were more.
     pub fn version(&self) -> u64
         ensures { result ≡ self.now.version }
     {
@@ -61,13 +61,13 @@ impl CatalogueSet {
         Some(load.catalogue())
     }
 
-    /// Takes in a load: its catalogue takes the place of the one for its domain and locale, and the
-    /// version rises by one. Answers AllocError where memory is refused, and leaves the set as it was.
+    /// Takes in a load: its catalogue replaces the one for its domain and locale, and the version rises by one. If
+    /// memory runs out, it fails and the set is unchanged.
     pub fn absorb(&mut self, load: &Load) -> Result<(), AllocError>
         ensures ok { OnOk result (HasAbsorbed load.now self.old self.new) }
         ensures err { OnErr result (self.new ≡ self.old) }
 
-        // The value is the one that each set has after this load: two copies stay alike.
+        // The result depends only on the old value and the load, so two copies stay equal.
         ensures value { OnOk result (self.new ≡ absorbed self.old load.now) }
     {
         self.held.put(load.try_clone()?)?;
@@ -75,7 +75,7 @@ impl CatalogueSet {
         Ok(())
     }
 
-    /// The same set again, with a share of each catalogue. Answers AllocError where memory is refused.
+    /// A copy of the set that shares its catalogues. Fails if memory runs out.
     pub fn try_clone(&self, alloc: Global) -> Result<CatalogueSet, AllocError>
         ensures { IfOk result (λ set. set ≡ self.now) }
     {
@@ -85,15 +85,15 @@ impl CatalogueSet {
         })
     }
 
-    /// The translation of a msgid in this domain: that of the first locale named by the list of languages whose
-    /// catalogue, the one that was loaded last for it, has the msgid; the msgid itself, where none has it.
+    /// The translation of a msgid in a domain, from the first of the listed locales whose catalogue has the msgid, or
+    /// the msgid itself if none has it. A locale's catalogue is the one that was loaded last for it.
     pub fn gettext<'a>(&'a self, domain: &str, languages: &str, id: &'a str) -> &'a str
         ensures { HasAnswer (map_in self.now.held) (query_of domain.now languages.now (Plain id.now)) result.now }
     {
         first_form(self.find_by_list(domain, languages, None, id), id)
     }
 
-    /// The same of a msgid in a context.
+    /// Like `gettext`, for a msgid in a context.
     pub fn pgettext<'a>(
         &'a self,
         domain: &str,
@@ -107,8 +107,8 @@ impl CatalogueSet {
         first_form(self.find_by_list(domain, languages, Some(context), id), id)
     }
 
-    /// The translation of a message with a number: the form that the number takes by the rule in the header of the
-    /// catalogue that has it. Where there is no translation, the msgid for 1, and the plural for other numbers.
+    /// The plural form for `n`, from the first of the listed locales whose catalogue has the message, by the rule in
+    /// that catalogue's header. If there is no translation, the msgid for 1 and the plural for other numbers.
     pub fn ngettext<'a>(
         &'a self,
         domain: &str,
@@ -128,7 +128,7 @@ impl CatalogueSet {
         )
     }
 
-    /// The same of a message in a context.
+    /// Like `ngettext`, for a message in a context.
     pub fn npgettext<'a>(
         &'a self,
         domain: &str,
@@ -149,7 +149,7 @@ impl CatalogueSet {
         )
     }
 
-    /// What the query is answered, lent from the set or from the query. It takes no memory.
+    /// The answer to a query, borrowed from the set or from the query. It doesn't allocate.
     pub fn look<'a>(&'a self, query: &'a Query) -> &'a str
         ensures { HasAnswer (map_in self.now.held) query.now result.now }
     {
@@ -179,10 +179,12 @@ impl CatalogueSet {
         }
     }
 
-    /// The text of a message in this domain, in a context or in none, by their bytes, which may be no text, and one NUL
-    /// behind it, which makes it a string of C. It is that of the first locale named by the list of languages whose
-    /// catalogue has the message: the first form, or with a number the form that it takes by that catalogue's rule.
-    /// None exactly where no catalogue named has it. The text is lent from the set alone.
+    /// The translation of a message, followed by one NUL, which makes it a C string. The context and the msgid are
+    /// bytes that need not be UTF-8.
+    ///
+    /// It comes from the first of the listed locales whose catalogue has the message: its first form, or, given a
+    /// number, the form for that number by the catalogue's plural rule. Returns `None` exactly if no listed catalogue
+    /// has the message. The bytes are borrowed from the set alone.
     pub fn translated_closed(
         &self,
         domain: &str,

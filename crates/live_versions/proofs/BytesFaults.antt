@@ -1,4 +1,4 @@
--- A PO text and an MO file have one fault each or none, and are of one map where they have none.
+-- A PO text and an MO file each have at most one fault, and exactly one map if they have none.
 use Rattle.std.proofs.Common.{◌≡◌, ◌≢◌, ℕ, ◌<◌, List, [], ◌∷◌, get_or, refl, sym, ap, ◌∙◌, arith, inl, inr}
 use Rattle.std.proofs.lemmas.Bool.{cases_lt}
 use Rattle.catalogue.specs.Entry.{Entry}

@@ -1,4 +1,4 @@
--- The pending changes of a writer.
+-- The changes that a writer has logged and not yet published.
 use Rattle.std.proofs.Common.{◌≡◌, List, [], ◌∷◌, ◌++◌, fold, refl, ap, sym, ◌∙◌}
 use Rattle.std.proofs.lemmas.List.{append-nil}
 use Rattle.std.proofs.lemmas.List.Sums.{fold-append}
@@ -29,7 +29,7 @@ fold-set s [] = refl
 fold-set s (Load x ∷ cs) = fold-set (applied_to s (Load x)) cs
 fold-set s (Seal f ∷ cs) = fold-set (applied_to s (Seal f)) cs
 
--- the last seal is what counts
+-- only the last seal counts
 pub fold-sealed : (s : Common) (cs : List Change) (f : SeenValue) → EndsIn f cs → fold applied_to s cs
     ≡ record { set = fold absorbed s.set (loads_of cs); seen = f }
 fold-sealed s cs f ends =

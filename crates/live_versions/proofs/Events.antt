@@ -1,4 +1,5 @@
--- In legal histories the version that a reader has seen never falls, and is that of whole batches at the front.
+-- In legal histories the version that a reader has seen never falls, and is that of whole batches, counted from the
+-- first.
 use Rattle.std.proofs.Common.{◌≡◌, ℕ, ◌+◌, ◌≤◌, ◌<◌, ◌==◌, Bool, true, false, max, if◌then◌else◌, List, [], ◌∷◌, ◌++◌}
 use Rattle.std.proofs.Common.{length, sym, refl, ap, ◌∙◌, subst, append_assoc, length-append, arith}
 use Rattle.std.specs.Prelude.{⊤}

@@ -39,7 +39,7 @@ pub full_snoc : (a : List (List LoadValue)) (x : LoadValue) (xs : List LoadValue
 full_snoc [] x xs full = ((λ e. cc), tt)
 full_snoc (b ∷ bs) x xs full = (full.0, full_snoc bs x xs full.1)
 
--- a beginning with as many loads is the whole list
+-- a beginning with as many loads as the list is the whole list
 pub whole : (log v : List (List LoadValue)) → NoneEmpty log → StartsWith log v → version_of log ≡ version_of v → log ≡ v
 whole log v full st same =
     let split : version_of log ≡ length (joined v) + length (joined st.0) = ap (λ l. length (joined l)) st.1
@@ -85,7 +85,7 @@ pub version-fold_set : (s : SetValue) (v : List (List LoadValue)) (loads : List 
 version-fold_set s v loads is room = let a = version-fold s loads (omega (arith, is, room)) in let b = version-published
     v loads in omega (arith, a, b, is)
 
--- of two beginnings of one list the one with fewer loads begins the other
+-- of two beginnings of one list, the one with fewer loads is a beginning of the other
 pub ordered : (a b z : List (List LoadValue)) → IsPrefix a z → IsPrefix b z → NoneEmpty a → NoneEmpty b
     → version_of a ≤ version_of b → StartsWith b a
 ordered [] b z p q fa fb le = (b, refl)

@@ -5,7 +5,7 @@ use Rattle.live_set.specs.Asks.{first_with}
 use Rattle.live_set.specs.Sets.{fold, map_in}
 use Rattle.live_set.proofs.Folding.{map_in-fold}
 
--- the maps of some locales, either way
+-- a set built from loads has the same maps as the loads
 same_maps : (loads : List LoadValue) (domain : List ℕ) (locales : List (List ℕ))
     → map (map_in (fold loads).held domain) locales ≡ map (map_of loads domain) locales
 same_maps loads domain [] = refl

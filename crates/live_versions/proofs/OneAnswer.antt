@@ -1,4 +1,4 @@
--- A load has one answer, and none is without one.
+-- Every load has exactly one answer.
 use Rattle.std.proofs.Common.{◌≡◌, ℕ, List, length, refl, sym, ap, ◌∙◌, arith}
 use Rattle.catalogue.specs.Entry.{Entry}
 use Rattle.catalogue.specs.declared.Options.{Options}

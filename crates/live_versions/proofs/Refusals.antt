@@ -8,7 +8,7 @@ use Rattle.live_versions.specs.declared.fault.StoreFault.{StoreFault}
 use Rattle.live_versions.specs.declared.fault.StoreFault.TheVariants.{BadName, VersionsSpent, Refused, RefusedMo}
 use Rattle.live_versions.specs.declared.fault.StoreFault.TheVariants.{Memory}
 
--- the store with a load of this map behind its pending loads
+-- the store with a load of this map appended to its pending loads
 abbrev pub with_load : StoreValue → List ℕ → List ℕ → List Entry → StoreValue
 with_load s domain locale map = record s {
   pending = s.pending ++ record { domain = domain; locale = locale; map = map } ∷ [];
@@ -27,7 +27,7 @@ adds_one s t u domain locale map other same p q =
 
 -- ---- the laws of the order
 
--- one reason
+-- a load is refused for one reason
 pub reason_one : (P : StoreFault → Type 0) → ((fault other : StoreFault) → P fault → P other → fault ≡ other)
     → (s : StoreValue) (domain locale : List ℕ) → HasOneReason (IsRefusedFor P s domain locale)
 reason_one P one s domain locale BadName BadName p q = refl
@@ -49,7 +49,7 @@ reason_one P one s domain locale (RefusedMo f) (RefusedMo g) p q = one (RefusedM
 reason_one P one s domain locale Memory other p q = absurd (p.0 refl)
 reason_one P one s domain locale fault Memory p q = absurd (q.0 refl)
 
--- where the bytes have no fault and their load is added, there is no reason
+-- if the bytes have no fault and their load is added, there is no reason
 pub added_or_refused : (P : StoreFault → Type 0) → ((fault : StoreFault) → P fault → ⊥) → (s after : StoreValue)
     (domain locale : List ℕ) (map : List Entry) (fault : StoreFault) → AddsLoad s domain locale map after
     → HasReason (IsRefusedFor P s domain locale) fault → ⊥
@@ -59,7 +59,7 @@ added_or_refused P none s after domain locale map (Refused f) adds why = none (R
 added_or_refused P none s after domain locale map (RefusedMo f) adds why = none (RefusedMo f) why.1.2
 added_or_refused P none s after domain locale map Memory adds why = why.0 refl
 
--- where there is no reason before the bytes, the bytes are read
+-- if there is no reason before the bytes, the bytes are read
 pub is_read : (P : StoreFault → Type 0) (s : StoreValue) (domain locale : List ℕ) → IsWithin s
     → ((fault : StoreFault) × HasReason (IsRefusedFor P s domain locale) fault → ⊥)
     → (AreNames domain locale → HasRoom s → ⊥) → ⊥

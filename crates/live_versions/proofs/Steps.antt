@@ -58,7 +58,7 @@ pub admits : Admits holds fresh
 admits x views h = kept x views (views ++ fresh ∷ []) h (fits_snoc x.seen views fresh (fresh_fits x.seen)
     (all_fit x views h))
 
--- an entry sees what is published
+-- an entry takes in what is published
 pub enters : (seat : ℕ) (v : ViewValue) (x : Shown) → TurnsAt holds seat v x x (λ v x y w. Sees v y.set y.seen w)
 enters seat v x views h at =
     let w : ViewValue = record { books = x.seen.book ∷ []; batches = x.seen.batches } in (
@@ -137,7 +137,7 @@ opens x is none = record {
       at).1;
 }
 
--- a publish with nothing pending tells the publisher's view the book
+-- a publish with nothing pending adds the book to the publisher's view
 pub names_book : (seat : ℕ) (v : ViewValue) (x y : Shown) → y.set ≡ x.set → y.seen ≡ x.seen
     → TurnsAt holds seat v x y (λ v x y w. w ≡ record { books = y.seen.book ∷ []; batches = y.seen.batches })
 names_book seat v x y set_is seen_is views h at =

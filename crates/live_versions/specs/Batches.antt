@@ -1,13 +1,13 @@
--- Batches of loads: the loads of one batch were published in one step.
+-- Batches of loads: the loads of a batch are published in one step.
 use Rattle.std.specs.Prelude.{◌≡◌, ◌≢◌, ⊤, ℕ, List, [], ◌∷◌, ◌++◌, length}
 use Rattle.live_set.specs.Loads.{LoadValue}
 
--- the published list: the batches joined
+-- the published loads: all batches joined
 abbrev pub joined : List (List LoadValue) → List LoadValue
 joined [] = []
 joined (batch ∷ batches) = batch ++ joined batches
 
--- a version is the length of the published list
+-- a version is the number of published loads
 abbrev pub version_of : List (List LoadValue) → ℕ
 version_of batches = length (joined batches)
 

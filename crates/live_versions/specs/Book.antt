@@ -5,27 +5,27 @@ use Rattle.live_set.specs.Loads.{LoadValue}
 use Rattle.live_versions.specs.Batches.{version_of, NoneEmpty}
 use Rattle.live_versions.specs.Seen.{SeenValue}
 
--- the first word of a book is the version; it has two words, of which this one leaves the second at 0
+-- the first word of a book is the version; a book has two words, and the second one stays 0
 pub record KeepsBatches (cells : List Cell) (log : List (List LoadValue)) : Type 0 where
   pub words : cells ≡ (version_of log, true) ∷ (0, true) ∷ []
   pub full : NoneEmpty log
   pub fits : version_of log < 2 ^ 64
 
--- the word of a book's version
+-- the version word of a book
 abbrev pub head_of : Book → Named
 head_of b = record { tracked = true; key = 0; book = b }
 
--- the batch was added to all that had been seen, or the book is further
+-- the batch is added to all that was seen, unless the book has moved on
 abbrev pub AddsBatch : List LoadValue → Step (List LoadValue) → View (List LoadValue) ℕ → ℕ → View (List LoadValue) ℕ
     → Type 0
 AddsBatch batch s v found w = found ≡ s.old → w.0 ≡ v.0 ++ batch ∷ []
 
--- a batch behind what was seen, if there is one
+-- what was seen and one more batch, if there is one
 abbrev pub claimed : SeenValue → Option (List LoadValue) → SeenValue
 claimed s (Some batch) = record { book = s.book; batches = s.batches ++ batch ∷ [] }
 claimed s None = s
 
--- what was seen of the book is what is claimed
+-- the token, if there is one, is exactly what is claimed
 abbrev pub IsTokenOf : Option SeenValue → SeenValue → Type 0
 IsTokenOf (Some s) claim = s ≡ claim
 IsTokenOf None claim = ⊤

@@ -1,4 +1,4 @@
--- Private: the changes that a writer has not published.
+-- Private: the changes that a writer has logged and not yet published.
 use Rattle.std.specs.Prelude.{◌≡◌, List, [], ◌∷◌, ◌++◌}
 use Rattle.live_set.specs.Loads.{LoadValue}
 use Rattle.live_versions.specs.declared.rule.Change.{Change}

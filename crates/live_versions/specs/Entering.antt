@@ -1,8 +1,8 @@
--- What an entry of a reader is: what it shows, and which reader it borrows.
+-- What an entry of a reader shows, and which reader it borrows.
 use Rattle.std.specs.Prelude.{ℕ}
 use Rattle.live_versions.specs.declared.pinned.Pinned.{Pinned}
 
--- the batches that were published at the entry's step
+-- the batches that were published when the reader entered
 abbrev pub entry_of : {G : Type 0} → Pinned G → G
 entry_of pinned = pinned.entry
 

@@ -1,37 +1,37 @@
--- The laws of what a load answers: one answer at each store, and never none.
+-- The law of what a load answers: in every store it has exactly one answer.
 use Rattle.std.specs.Prelude.{◌≡◌, ◌≢◌, ℕ, List}
 use Rattle.catalogue.specs.declared.Options.{Options}
 use Rattle.live_versions.specs.Store.{StoreValue, IsWithin, Accepts, AcceptsMo, IsRefused, IsRefusedMo}
 use Rattle.live_versions.specs.declared.fault.StoreFault.{StoreFault}
 use Rattle.live_versions.specs.declared.fault.StoreFault.TheVariants.{Memory}
 
--- ---- a load, by what it is answered where it is accepted, with the store then, and by what it is refused for
+-- ---- one answer, given what holds of an accepted load and the store after it, and what holds of a refusal
 
--- it is refused for this reason, which isn't want of memory
+-- the load is refused for this reason, other than running out of memory
 abbrev pub HasReason : (StoreFault → Type 0) → StoreFault → Type 0
 HasReason IsRefusal fault = (fault ≢ Memory) × IsRefusal fault
 
--- where it is accepted it has one outcome
+-- an accepted load has one outcome
 abbrev pub HasOneOutcome : {A : Type 0} → (A → StoreValue → Type 0) → Type 0
 HasOneOutcome {A} IsOutcome = (answer other : A) (after other_after : StoreValue) → IsOutcome answer after
     → IsOutcome other other_after → (answer ≡ other) × (after ≡ other_after)
 
--- it is refused for one reason
+-- a refused load has one reason
 abbrev pub HasOneReason : (StoreFault → Type 0) → Type 0
 HasOneReason IsRefusal = (fault other : StoreFault) → HasReason IsRefusal fault → HasReason IsRefusal other
     → fault ≡ other
 
--- where it is accepted it isn't refused
+-- no load is both accepted and refused
 abbrev pub IsAcceptedOrRefused : {A : Type 0} → (A → StoreValue → Type 0) → (StoreFault → Type 0) → Type 0
 IsAcceptedOrRefused {A} IsOutcome IsRefusal = (answer : A) (after : StoreValue) (fault : StoreFault)
     → IsOutcome answer after → ¬ HasReason IsRefusal fault
 
--- it isn't without an answer
+-- no load is neither accepted nor refused
 abbrev pub HasSomeAnswer : {A : Type 0} → (A → StoreValue → Type 0) → (StoreFault → Type 0) → Type 0
 HasSomeAnswer {A} IsOutcome IsRefusal = ((answer : A) (after : StoreValue) → ¬ IsOutcome answer after)
     → ¬ ¬ ((fault : StoreFault) × HasReason IsRefusal fault)
 
--- it has one answer in this store
+-- the load has exactly one answer in this store
 pub record HasOneAnswer {A : Type 0} (s : StoreValue) (IsOutcome : A → StoreValue → Type 0)
     (IsRefusal : StoreFault → Type 0) : Type 0 where
   pub outcome : HasOneOutcome IsOutcome

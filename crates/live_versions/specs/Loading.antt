@@ -1,13 +1,13 @@
--- Private: what the steps of a load answer.
+-- Private: the errors of each step of a load.
 use Rattle.std.specs.Prelude.{⊤}
 use Rattle.live_versions.specs.declared.fault.StoreFault.{StoreFault}
 use Rattle.live_versions.specs.declared.fault.StoreFault.TheVariants.{Memory}
 
--- the bytes are refused for this, or it says nothing
+-- the fault of the bytes, or running out of memory, which says nothing of the bytes
 abbrev pub OrMemory : (StoreFault → Type 0) → StoreFault → Type 0
 OrMemory IsBytesFault Memory = ⊤
 OrMemory IsBytesFault fault = IsBytesFault fault
 
--- bytes that weren't read are refused for nothing
+-- bytes that weren't read have no fault
 abbrev pub IsUnread : StoreFault → Type 0
 IsUnread fault = ⊥

@@ -1,4 +1,4 @@
--- Private: what a seat of the two copies knows.
+-- Private: what a reader's or the publisher's seat knows of the store.
 use Rattle.std.specs.Prelude.{List, []}
 use Rattle.logbook.specs.Pages.{Book}
 use Rattle.live_set.specs.Loads.{LoadValue}

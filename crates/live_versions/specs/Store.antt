@@ -1,4 +1,4 @@
--- What a publisher stands for, and what a load does to it.
+-- What a publisher has, and what a load does to it.
 use Rattle.std.specs.Prelude.{◌≡◌, ◌≢◌, ℕ, ◌+◌, ◌<◌, ◌≤◌, List, [], ◌∷◌, ◌++◌, length}
 use Rattle.catalogue.specs.Entry.{Entry}
 use Rattle.catalogue.specs.Meaning.{Means, Refuses}
@@ -15,17 +15,17 @@ use Rattle.live_versions.specs.declared.fault.StoreFault.{StoreFault}
 use Rattle.live_versions.specs.declared.fault.StoreFault.TheVariants.{BadName, VersionsSpent, Refused, RefusedMo}
 use Rattle.live_versions.specs.declared.fault.StoreFault.TheVariants.{Memory}
 
--- what is seen of the store, which is all that is published; the loads that are pending; how many loads it may accept
+-- all that is published, the pending loads, and the number of loads that the store takes
 pub record StoreValue : Type 0 where
   pub seen : SeenValue
   pub pending : List LoadValue
   pub most : ℕ
 
--- how many loads were accepted, published or pending
+-- the number of loads accepted: published or pending
 abbrev pub accepted : StoreValue → ℕ
 accepted s = version_of s.seen.batches + length s.pending
 
--- no more loads were accepted than may be
+-- no more loads were accepted than the store takes
 abbrev pub IsWithin : StoreValue → Type 0
 IsWithin s = accepted s ≤ s.most
 
@@ -38,14 +38,14 @@ pub record AreNames (domain locale : List ℕ) : Type 0 where
 abbrev pub HasRoom : StoreValue → Type 0
 HasRoom s = accepted s < s.most
 
--- a load of this map is accepted: its names are names, there is room, and it becomes the last of the pending loads
+-- a load of this map is accepted: both names are names, there is room, and it becomes the last pending load
 pub record AddsLoad (s : StoreValue) (domain locale : List ℕ) (map : List Entry) (after : StoreValue) : Type 0 where
   pub names : AreNames domain locale
   pub room : HasRoom s
   pub after_is : after
       ≡ record s { pending = s.pending ++ record { domain = domain; locale = locale; map = map } ∷ [] }
 
--- the load of a PO text is accepted, with these counts: what the text means is added
+-- the load of a PO text is accepted, with these counts: what the text compiles to is added
 pub record Accepts (s : StoreValue) (domain locale text : List ℕ) (options : Options) (stats : Stats)
     (after : StoreValue) : Type 0 where
   pub compiled : Compiled
@@ -53,25 +53,25 @@ pub record Accepts (s : StoreValue) (domain locale text : List ℕ) (options : O
   pub stats_are : stats ≡ compiled.stats
   pub adds : AddsLoad s domain locale compiled.catalogue after
 
--- the load of an MO file is accepted, with so many entries: the file's map is added
+-- the load of an MO file is accepted, with this number of entries: the file's map is added
 pub record AcceptsMo (s : StoreValue) (domain locale bytes : List ℕ) (entries : ℕ) (after : StoreValue) : Type 0 where
   pub map : List Entry
   pub is_file : Mo bytes map
   pub entries_are : entries ≡ length map
   pub adds : AddsLoad s domain locale map after
 
--- a PO text is refused for this
+-- the PO text has this fault
 abbrev pub IsTextFault : List ℕ → Options → StoreFault → Type 0
 IsTextFault text options (Refused fault) = Refuses text options fault.kind fault.line
 IsTextFault text options _ = ⊥
 
--- an MO file is refused for this
+-- the MO file has this fault
 abbrev pub IsFileFault : List ℕ → StoreFault → Type 0
 IsFileFault bytes (RefusedMo fault) = (fault ≢ mo_fault.Memory) × IsRefusedFile bytes fault
 IsFileFault bytes _ = ⊥
 
--- a load whose bytes are refused so is refused for this reason, and for none before it; want of memory says that it has
--- names and room, and nothing of the bytes
+-- a load whose bytes have such faults is refused for this reason, and for no earlier one; running out of memory implies
+-- that the names and the room were fine, and says nothing of the bytes
 abbrev pub IsRefusedFor : (StoreFault → Type 0) → StoreValue → List ℕ → List ℕ → StoreFault → Type 0
 IsRefusedFor IsBytesFault s domain locale BadName = ¬ AreNames domain locale
 IsRefusedFor IsBytesFault s domain locale VersionsSpent = AreNames domain locale × (accepted s ≡ s.most)
@@ -82,6 +82,6 @@ IsRefusedFor IsBytesFault s domain locale fault = AreNames domain locale × HasR
 abbrev pub IsRefused : StoreValue → List ℕ → List ℕ → List ℕ → Options → StoreFault → Type 0
 IsRefused s domain locale text options = IsRefusedFor (IsTextFault text options) s domain locale
 
--- the load of an MO file is
+-- the load of an MO file is refused for this reason
 abbrev pub IsRefusedMo : StoreValue → List ℕ → List ℕ → List ℕ → StoreFault → Type 0
 IsRefusedMo s domain locale bytes = IsRefusedFor (IsFileFault bytes) s domain locale

@@ -1,4 +1,4 @@
--- Private: the rule over the set that readers take, and over what the publisher and each reader know.
+-- Private: the invariant over the set that readers look up in and over what the publisher and each reader know.
 use Rattle.std.specs.Prelude.{◌≡◌, ⊤, ℕ, ◌^◌, ◌<◌, List, [], ◌∷◌}
 use mathlib.Core.Option.{some}
 use lib.ListN.{get_elem?}
@@ -21,7 +21,7 @@ abbrev pub Only : Book → List Book → Type 0
 Only b [] = ⊤
 Only b (x ∷ xs) = (x ≡ b) × Only b xs
 
--- the set is the fold of its batches, none is empty, and each view is a beginning of them, in this book
+-- the set is built from its batches, no batch is empty, and each view is a beginning of them, in this book
 pub record Keeps (set : SetValue) (seen : SeenValue) (views : List ViewValue) : Type 0 where
   pub folded : set ≡ fold (joined seen.batches)
   pub full : NoneEmpty seen.batches
@@ -29,7 +29,7 @@ pub record Keeps (set : SetValue) (seen : SeenValue) (views : List ViewValue) : 
   pub one_book : (seat : ℕ) (v : ViewValue) → get_elem? views seat ≡ some v → Only seen.book v.books
   pub begun : (seat : ℕ) (v : ViewValue) → get_elem? views seat ≡ some v → StartsWith seen.batches v.batches
 
--- what an entry tells
+-- what a reader finds out by entering
 pub record Sees (v : ViewValue) (set : SetValue) (seen : SeenValue) (w : ViewValue) : Type 0 where
   pub folded : set ≡ fold (joined seen.batches)
   pub full : NoneEmpty seen.batches

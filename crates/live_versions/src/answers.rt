@@ -1,9 +1,10 @@
-//! What holds of the answers of every load.
+//! The law that every load has exactly one answer.
 ghost use Rattle.live_versions.specs.LoadAnswers.{TextsHaveOneAnswer, FilesHaveOneAnswer};
 
-/// A load has one answer at a given publisher, names, and text and options, or file: it is accepted, with one outcome,
-/// or refused for one reason, and never both nor neither. So what `Publisher::load` and `Publisher::load_mo` answer is
-/// settled by these alone, but for `Memory`. It does nothing when it is called; its contract is the law.
+/// Every load has exactly one answer: it is accepted with one outcome, or refused for one reason, never both and never
+/// neither. So the store, the names, and the text with its options (or the MO file) alone decide what `Publisher::load`
+/// and `Publisher::load_mo` return, except that either may run out of memory. Calling this function does nothing; its
+/// contract is the law.
 pub fn one_answer()
     ensures texts { TextsHaveOneAnswer }
     ensures files { FilesHaveOneAnswer }

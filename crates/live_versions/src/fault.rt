@@ -1,4 +1,4 @@
-//! Why calls of the store are refused.
+//! The errors of the store.
 ghost use Rattle.std.specs.Prelude.{◌≡◌};
 ghost use Rattle.live_versions.specs.declared.fault.StoreFault.TheVariants.{Memory};
 
@@ -7,69 +7,70 @@ use mo_file::MoFault;
 use std::alloc::{AllocError, AllocFailed};
 use thiserror::Error;
 
-/// Why no store was opened.
+/// Why a store couldn't be opened.
 #[derive(Clone, Copy, Debug, PartialEq, Eq, Error)]
 pub enum OpenFault {
     /// The number of readers isn't 1 to 16.
     #[error("not 1 to 16 readers")]
     BadCount,
-    /// There was no place for a reader.
+    /// No seat was left for a reader.
     #[error("no place for a reader")]
     NoPlace,
-    /// Memory was refused.
+    /// Out of memory.
     #[error("out of memory")]
     Memory,
 }
 
-/// Why a load wasn't accepted. Of several reasons that hold, the first of this list is given.
+/// Why a load was refused: if several reasons hold, the first of this list.
 #[derive(Clone, Copy, Debug, PartialEq, Eq, Error)]
 pub enum StoreFault {
     /// The domain or the locale isn't a name.
     #[error("not a name")]
     BadName,
-    /// As many loads as the store takes were accepted.
+    /// The store has accepted as many loads as it takes.
     #[error("as many loads as the store takes")]
     VersionsSpent,
-    /// The PO text is refused, for this reason.
+    /// The PO text is refused for this reason.
     #[error("the text is refused")]
     Refused(LoadFault),
-    /// The MO file is refused, for this reason, which isn't `MoFault::Memory`.
+    /// The MO file is refused for this reason, which is never `MoFault::Memory`.
     #[error("the MO file is refused: {0}")]
     RefusedMo(MoFault),
-    /// Memory was refused, which may stand in place of any other answer.
+    /// Out of memory, which may be returned in place of any result that comes after the checks of the names and the
+    /// room.
     #[error("out of memory")]
     Memory,
 }
 
-/// A publish was refused memory. The pending loads stay pending.
+/// A publish ran out of memory. The pending loads stay pending.
 #[derive(Clone, Copy, Debug, PartialEq, Eq, Error)]
 pub enum PublishFault {
-    /// Memory was refused.
+    /// Out of memory.
     #[error("out of memory")]
     Memory,
 }
 
-/// There is no entry, as once the publisher is gone.
+/// The reader can't enter because the store is closed: its publisher has ended.
 #[derive(Clone, Copy, Debug, PartialEq, Eq, Error)]
 #[error("the store is closed")]
 pub struct Closed;
 
-/// Why a query wasn't answered.
+/// Why a query got no answer.
 #[derive(Clone, Copy, Debug, PartialEq, Eq, Error)]
 pub enum AskFault {
-    /// There was no entry. The reader is as it was.
+    /// The store is closed. The reader is unchanged.
     #[error("the store is closed")]
     Closed,
-    /// Memory was refused for the answer's text.
+    /// Out of memory for the answer's text.
     #[error("out of memory")]
     Memory,
 }
 
-/// The reader has seen more than the notice.
+/// The reader has seen a later version than the notice's.
 #[derive(Clone, Copy, Debug, PartialEq, Eq, Error)]
 #[error("version {seen} was seen")]
 pub struct Ahead {
-    /// The greatest version that the reader entered or learnt.
+    /// The greatest version that the reader has entered or learnt of.
     pub seen: u64,
 }
 

@@ -1,4 +1,4 @@
-//! Loads of MO files.
+//! Loading MO files.
 ghost use Rattle.std.specs.Prelude.{◌≡◌, IfOk, IfErr, OnErr};
 ghost use Rattle.mo_file.specs.MoReading.{Mo};
 ghost use Rattle.live_versions.specs.Loading.{OrMemory};
@@ -10,7 +10,7 @@ use catalogue::Catalogue;
 use mo_file::{MoFault, read_mo};
 use std::alloc::Global;
 
-/// The catalogue of an MO file.
+/// Reads the catalogue of an MO file, without its index.
 fn read(alloc: Global, bytes: &[u8]) -> Result<Catalogue, StoreFault>
     ensures ok { IfOk result (Mo bytes.now) }
     ensures err { IfErr result (OrMemory (IsFileFault bytes.now)) }
@@ -23,13 +23,13 @@ fn read(alloc: Global, bytes: &[u8]) -> Result<Catalogue, StoreFault>
 }
 
 impl Publisher {
-    /// Reads an MO file for a domain and a locale (`mo_file::read_mo`), makes the catalogue's index, puts it behind the
-    /// pending loads, and answers how many entries it has.
+    /// Reads an MO file for a domain and a locale (`mo_file::read_mo`), builds the catalogue's index, appends the load
+    /// to the pending ones, and returns the number of entries.
     ///
-    /// It is refused if the domain or the locale is no name (`live_set::Name::new`), else if the loads that are
-    /// published or pending are as many as the store takes, else for what the file is refused for. Memory is taken
-    /// only for a load that has names and room: then `Memory` may stand in place of any other answer. A refused load
-    /// changes nothing.
+    /// Returns `BadName` if the domain or the locale isn't a name (`live_set::Name::new`), `VersionsSpent` if as many
+    /// loads are published or pending as the store takes, and `RefusedMo` if the file is refused, checked in this
+    /// order. Memory is taken only once the names and the room are checked; from then on `Memory` may be returned
+    /// instead of any other result. A refused load changes nothing.
     pub fn load_mo(
         &mut self,
         alloc: Global,
@@ -41,7 +41,7 @@ impl Publisher {
         ensures err { IfErr result (IsRefusedMo self.old domain.now locale.now bytes.now) }
         ensures unchanged { OnErr result (self.new ≡ self.old) }
 
-        // Its published batches stay in any case.
+        // A load never changes the published batches.
         ensures seen { self.new.seen ≡ self.old.seen }
     {
         let (domain, locale) = self.admit(alloc, domain, locale)?;

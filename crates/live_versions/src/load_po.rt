@@ -1,4 +1,4 @@
-//! Loads of PO texts.
+//! Loading PO texts.
 ghost use Rattle.std.specs.Prelude.{◌≡◌, IfOk, IfErr, OnErr};
 ghost use Rattle.catalogue.specs.Meaning.{Means};
 ghost use Rattle.live_versions.specs.Loading.{OrMemory};
@@ -9,7 +9,7 @@ use crate::publisher::Publisher;
 use catalogue::{Compiled, LoadKind, Options, Stats, compile};
 use std::alloc::Global;
 
-/// What the text compiles to.
+/// Compiles a PO text, and sorts out running out of memory from what is wrong with the text.
 fn compiled(alloc: Global, bytes: &[u8], options: Options) -> Result<Compiled, StoreFault>
     ensures ok { IfOk result (Means bytes.now options) }
     ensures err { IfErr result (OrMemory (IsTextFault bytes.now options)) }
@@ -24,13 +24,13 @@ fn compiled(alloc: Global, bytes: &[u8], options: Options) -> Result<Compiled, S
 }
 
 impl Publisher {
-    /// Compiles a PO text for a domain and a locale (`catalogue::compile`), makes the catalogue's index, by which
-    /// look-ups are quick (`catalogue::Catalogue::index`), and puts it behind the pending loads.
+    /// Compiles a PO text for a domain and a locale (`catalogue::compile`), builds the index that makes look-ups fast
+    /// (`catalogue::Catalogue::index`), and appends the load to the pending ones.
     ///
-    /// It is refused if the domain or the locale is no name (`live_set::Name::new`), else if the loads that are
-    /// published or pending are as many as the store takes, else for what the text is refused for. Memory is taken
-    /// only for a load that has names and room: then `Memory` may stand in place of any other answer. A refused load
-    /// changes nothing.
+    /// Returns `BadName` if the domain or the locale isn't a name (`live_set::Name::new`), `VersionsSpent` if as many
+    /// loads are published or pending as the store takes, and `Refused` if the text is refused, checked in this order.
+    /// Memory is taken only once the names and the room are checked; from then on `Memory` may be returned instead of
+    /// any other result. A refused load changes nothing.
     pub fn load(
         &mut self,
         alloc: Global,
@@ -43,7 +43,7 @@ impl Publisher {
         ensures err { IfErr result (IsRefused self.old domain.now locale.now bytes.now options) }
         ensures unchanged { OnErr result (self.new ≡ self.old) }
 
-        // Its published batches stay in any case.
+        // A load never changes the published batches.
         ensures seen { self.new.seen ≡ self.old.seen }
     {
         let (domain, locale) = self.admit(alloc, domain, locale)?;

@@ -1,4 +1,4 @@
-//! What a publisher tells.
+//! Notices of what is published.
 ghost use Rattle.std.specs.Prelude.{◌≡◌};
 ghost use Rattle.live_versions.specs.Batches.{version_of};
 
@@ -6,7 +6,8 @@ use crate::Version;
 use crate::seen::Seen;
 use std::marker::Model;
 
-/// A notice of what was published, for readers of the same store. Contracts see it as the batches.
+/// A notice of what was published when it was made, for the readers of the same store. Contracts see it as the
+/// published batches.
 #[derive(Drop)]
 pub struct Notice {
     pub(crate) seen: Seen,
@@ -27,7 +28,7 @@ impl Notice {
         Notice { seen: seen.again() }
     }
 
-    /// How many loads were published.
+    /// The number of loads published when the notice was made.
     pub fn version(&self) -> Version
         ensures { result ≡ version_of self.now.batches }
     {

@@ -1,4 +1,4 @@
-//! Entries of readers, and what is looked up in one.
+//! Entries of readers, and the look-ups in one.
 ghost use Rattle.std.specs.Prelude.{◌≡◌, [], ◌∷◌};
 ghost use Rattle.left_right.specs.Sides.{view};
 ghost use Rattle.live_set.specs.Asks.{IsAnswer, query_of, Plain, Context, Number, ContextNumber};
@@ -16,7 +16,7 @@ use std::marker::Model;
 
 pub(crate) type StoreReading = Reading<Shown, View, Versions>;
 
-/// The set of one entry. Contracts see it as the batches that were published at its step.
+/// The copy that a reader has entered. Contracts see it as the batches that were published when it entered.
 pub struct Entry {
     reading: StoreReading,
     seen: Seen,
@@ -55,15 +55,15 @@ impl Entry {
     }
 }
 
-/// An entry of a reader: what was published at one step, whatever is published meanwhile. It borrows its reader.
-/// It is not `Drop`: end it by `leave`. None of its calls waits or takes memory.
+/// An entry of a reader: it shows what was published when the reader entered, whatever is published meanwhile. It
+/// borrows its reader. It isn't `Drop`: end it with `leave`. None of its methods waits or allocates.
 pub struct Pinned<'a, G = Entry> {
     pub(crate) home: &'a mut Lookups,
     pub(crate) entry: G,
 }
 
 impl Pinned<'_> {
-    /// How many loads were published at the entry's step.
+    /// The number of loads published when the reader entered.
     pub fn version(&self) -> Version
         ensures { result ≡ version_of (entry_of self.now).batches }
     {
@@ -71,7 +71,7 @@ impl Pinned<'_> {
         entry.seen.version()
     }
 
-    /// The text of a query (`live_set::CatalogueSet::look`).
+    /// The answer to a query (`live_set::CatalogueSet::look`).
     #[tactic(auto, using(crate::proofs::Looking::searched))]
     pub fn look<'a>(&'a self, query: &'a Query) -> &'a str
         ensures { IsAnswer (joined (entry_of self.now).batches) query.now result.now }
@@ -79,8 +79,8 @@ impl Pinned<'_> {
         self.set().look(query)
     }
 
-    /// The translation of a msgid in a domain, by the first locale of a list of languages that has it
-    /// (`live_set::Query`), or the msgid where none has it.
+    /// The translation of a msgid in a domain, from the first catalogue named by the list of languages that has it
+    /// (`live_set::Query`), or the msgid if none has it.
     #[tactic(auto, using(crate::proofs::Looking::searched))]
     pub fn gettext<'a>(&'a self, domain: &str, languages: &str, id: &'a str) -> &'a str
         ensures { IsAnswer (joined (entry_of self.now).batches) (query_of domain.now languages.now (Plain id.now))
@@ -89,7 +89,7 @@ impl Pinned<'_> {
         self.set().gettext(domain, languages, id)
     }
 
-    /// The translation of a msgid in a context (`pgettext`).
+    /// Like `gettext`, for a msgid in a context (`pgettext`).
     #[tactic(auto, using(crate::proofs::Looking::searched))]
     pub fn pgettext<'a>(
         &'a self,
@@ -104,7 +104,8 @@ impl Pinned<'_> {
         self.set().pgettext(domain, languages, context, id)
     }
 
-    /// The form that a number takes of a message with a plural (`ngettext`).
+    /// The plural form for a number, from the first catalogue named by the list of languages that has the message. If
+    /// none has it, the msgid for 1 and the plural for other numbers (`ngettext`).
     #[tactic(auto, using(crate::proofs::Looking::searched))]
     pub fn ngettext<'a>(
         &'a self,
@@ -120,7 +121,7 @@ impl Pinned<'_> {
         self.set().ngettext(domain, languages, id, plural, n)
     }
 
-    /// The same of a message in a context (`npgettext`).
+    /// Like `ngettext`, for a message in a context (`npgettext`).
     #[tactic(auto, using(crate::proofs::Looking::searched))]
     pub fn npgettext<'a>(
         &'a self,
@@ -138,7 +139,7 @@ impl Pinned<'_> {
             .npgettext(domain, languages, context, id, plural, n)
     }
 
-    /// The set of the entry.
+    /// The set that the entry looks up in.
     fn set(&self) -> &CatalogueSet
         ensures { result.now ≡ fold (joined (entry_of self.now).batches) }
     {
@@ -146,7 +147,7 @@ impl Pinned<'_> {
         &entry.reading.get().set
     }
 
-    /// Ends the entry and the borrow. The reader has then seen the entry's batches.
+    /// Ends the entry and gives its reader back. The reader has then seen the entry's batches.
     pub fn leave(self)
         ensures { self.exit.0.now ≡ entry_of self.entry }
     {

@@ -1,4 +1,4 @@
-//! The publisher.
+//! The publisher: what it loads is pending until it publishes.
 ghost use Rattle.std.specs.Prelude.{◌≡◌, ◌≢◌, ◌↔◌, [], length, drop, IsTrue, IfOk, IfErr, OnOk, OnErr};
 ghost use Rattle.std.specs.Arc.{arc_value};
 ghost use Rattle.live_versions.specs.Batches.{version_of, published};
@@ -19,16 +19,15 @@ use std::marker::Model;
 use std::snapshot::Snapshot;
 use std::sync::{Arc, Wait};
 
-/// What loads and publishes catalogues. It is not `Drop`: end it by `end`.
+/// Loads and publishes catalogues. It isn't `Drop`: end it with `end`.
 ///
-/// Contracts see it as the batches that are published, the loads that are pending, and how many loads it
-/// may accept in all.
+/// Contracts see it as the published batches, the pending loads, and the number of loads that it may accept in all.
 pub struct Publisher {
     writer: StoreWriter,
     sealing: Arc<Sealing>,
     seen: Seen,
     most: u64,
-    /// How many loads are pending.
+    /// The number of pending loads.
     pending: u64,
 }
 
@@ -50,14 +49,14 @@ impl Model for Publisher {
         × (version_of p.seen.batches + p.pending ≤ p.most) × (p.most < 2 ^ 64) };
 }
 
-/// Whether both are names. It takes no memory.
+/// Whether both are names. It doesn't allocate.
 fn are_names(domain: &str, locale: &str) -> bool
     ensures { IsTrue result ↔ AreNames domain.now locale.now }
 {
     is_name(domain) && is_name(locale)
 }
 
-/// The name with this text, which is one.
+/// Copies a text that is known to be a name.
 fn name_of(alloc: Global, text: &str) -> Result<Name, AllocError>
     ensures { IfOk result (λ name. name ≡ text.now) }
 {
@@ -88,21 +87,21 @@ impl Publisher {
         }
     }
 
-    /// How many loads are published.
+    /// The number of published loads.
     pub fn version(&self) -> Version
         ensures version { result ≡ version_of self.now.seen.batches }
 
-        // With those that are pending there are no more than the store takes.
+        // Published and pending loads together never exceed what the store takes.
         ensures within { IsWithin self.now }
     {
         self.seen.version()
     }
 
-    /// How many loads are pending: accepted and not published.
+    /// The number of pending loads: accepted and not yet published.
     pub fn pending(&self) -> u64
         ensures count { result ≡ length self.now.pending }
 
-        // With those that are published there are no more than the store takes.
+        // Published and pending loads together never exceed what the store takes.
         ensures within { IsWithin self.now }
     {
         self.pending
@@ -116,7 +115,7 @@ impl Publisher {
         Notice::new(&self.seen)
     }
 
-    /// The two names of a load, if both are names and one more load may be accepted. Memory is taken only then.
+    /// Checks that both are names and that the store takes one more load, and only then allocates the two names.
     pub(crate) fn admit(
         &self,
         alloc: Global,
@@ -136,7 +135,7 @@ impl Publisher {
         Ok((name_of(alloc, domain)?, name_of(alloc, locale)?))
     }
 
-    /// Makes the catalogue's index, and puts the catalogue behind the pending loads.
+    /// Builds the catalogue's index, and appends the load to the pending ones.
     pub(crate) fn append(
         &mut self,
         alloc: Global,
@@ -161,12 +160,12 @@ impl Publisher {
         Ok(())
     }
 
-    /// Publishes all pending loads in one step, as one batch, and answers the version. With nothing pending
-    /// the version stays.
+    /// Publishes all pending loads in one step, as one batch, and returns the new version. If nothing is pending, the
+    /// version stays as it is.
     ///
-    /// Where memory is refused, nothing is changed: the loads stay pending, and the next publish takes
-    /// them with those that were accepted meanwhile. It waits for readers that entered the copy that it
-    /// writes next: a `Pinned` that is never left may keep it from returning.
+    /// If memory runs out, nothing changes: the loads stay pending, and the next publish takes them together with those
+    /// accepted meanwhile. It waits for readers that are still in the copy that it writes next, which are those that
+    /// entered before the last publish. So a `Pinned` that is never left may keep it from returning.
     pub fn publish<R: Wait>(&mut self, rt: &R) -> Result<Version, PublishFault>
         ensures ok { IfOk result (λ _.
             self.new.seen ≡ record {
@@ -177,7 +176,7 @@ impl Publisher {
         ensures empty { IfOk result (λ _. self.new.pending ≡ []) }
         ensures err { OnErr result (self.new ≡ self.old) }
 
-        // With nothing pending it takes no memory, and is never refused any.
+        // With nothing pending it doesn't allocate, and can't run out of memory.
         ensures memory { OnErr result (self.old.pending ≢ []) }
         ensures most { self.new.most ≡ self.old.most }
 
@@ -204,13 +203,13 @@ impl Publisher {
         Ok(self.seen.version())
     }
 
-    /// Ends the publisher. Its pending loads are dropped, and readers that enter from now on may find the
-    /// store closed. It waits until every `Pinned` is left.
+    /// Ends the publisher and drops its pending loads. Readers that enter from now on may find the store closed. It
+    /// waits until every `Pinned` is left.
     pub fn end<R: Wait>(self, rt: &R) {
         drop(self.close(rt));
     }
 
-    /// Closes the store, and gives back what readers entered last: what was published, and nothing that is pending.
+    /// Closes the store and returns the copy that readers entered last: it has what was published, and nothing pending.
     fn close<R: Wait>(self, rt: &R) -> Box<Shown>
         ensures { result.value.seen ≡ self.seen }
     {

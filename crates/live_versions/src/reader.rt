@@ -1,4 +1,4 @@
-//! Readers.
+//! Readers: they enter, look up and leave without waiting.
 ghost use Rattle.std.specs.Prelude.{◌≡◌, [], ◌∷◌, ◌<◌, ◌≤◌, ◌⊎◌, IfOk, IfErr, string_bytes};
 ghost use Rattle.std.specs.String.{string_capacity};
 ghost use Rattle.std.specs.Borrow.{sem, RestsIfErr};
@@ -22,14 +22,14 @@ use std::marker::Model;
 
 pub(crate) type StoreReader = Reader<Shown, View, Versions>;
 
-/// A reader of a store. Contracts see it as the batches that it has seen: of those that it entered or learnt of
-/// the longest, which begins with all others.
+/// A reader of a store. Contracts see it as the batches that it has seen: the longest list that it has entered or
+/// learnt of, which begins with every other one.
 #[derive(Drop)]
 pub struct Lookups {
-    /// A `Pinned` has it while it lives.
+    /// `None` while a `Pinned` borrows it.
     reader: Option<StoreReader>,
     seen: Seen,
-    /// What was seen last was learnt of a notice, and not entered.
+    /// Whether the latest batches seen weren't entered: they come from a notice, or the reader is new.
     apart: bool,
 }
 
@@ -57,7 +57,7 @@ impl Lookups {
         }
     }
 
-    /// A reader that has left its entry again.
+    /// Takes the reader back from an entry that has been left.
     pub(crate) fn come_home(&mut self, reader: StoreReader, seen: Seen)
         requires { ((view reader.place).books ≡ seen.book ∷ []) × ((view reader.place).batches ≡ seen.batches) }
         ensures { self.new ≡ seen }
@@ -67,17 +67,17 @@ impl Lookups {
         self.apart = false;
     }
 
-    /// The greatest version that this reader entered or learnt of; 0 at first.
+    /// The greatest version that this reader has entered or learnt of; 0 at first.
     pub fn seen(&self) -> Version
         ensures { result ≡ version_of self.now.batches }
     {
         self.seen.version()
     }
 
-    /// Enters what is published now. It waits for nothing and takes no memory. The entry lasts until it is left.
+    /// Enters what is published now. It neither waits nor allocates, and the entry lasts until it is left.
     ///
-    /// Its batches begin with all that this reader has seen. `Closed` is answered only where the store is, as
-    /// once its publisher has ended.
+    /// The entry's batches begin with all that this reader has seen. Returns `Closed`, and leaves the reader as it was,
+    /// if the store is closed because its publisher has ended; no contract says when that is.
     pub fn enter(&mut self) -> Result<Pinned<'_>, Closed>
         ensures* stays { sem 𝓛 (RestsIfErr the_row self.entry home_name result (λ n. n ≡ self.old)) }
         ensures home { IfOk result (λ p. home_name p ≡ self.entry.ghost_name) }
@@ -89,7 +89,8 @@ impl Lookups {
         };
         match reader.enter_as::<Entered>() {
             Ok(reading) => {
-                // What is shown is in the book, and it is not behind what was learnt. No contract says so.
+                // A shown copy is always in the book, and never older than a notice. No contract says so, hence these
+                // two branches.
                 let Some(seen) = reading.get().seen.token() else {
                     self.apart = true;
                     self.reader = Some(reading.leave());
@@ -109,10 +110,10 @@ impl Lookups {
         }
     }
 
-    /// One entry: its version and a copy of a query's text.
+    /// Enters once, and returns the entry's version with a copy of the query's answer.
     ///
-    /// `Closed` leaves the reader as it was. Memory is refused only for an answer that isn't empty, and the entry may
-    /// have been made all the same.
+    /// `Closed` leaves the reader as it was. `Memory` is returned only if the answer isn't empty; the reader may have
+    /// entered all the same.
     pub fn ask(&mut self, alloc: Global, query: &Query) -> Result<(Version, String), AskFault>
         ensures ok { IfOk result (λ answer.
             (answer.0 ≡ version_of self.new.batches)
@@ -128,11 +129,11 @@ impl Lookups {
         Ok((version, text))
     }
 
-    /// One entry: its version, and a query's text in place of what `text` held. A caller that keeps one text for many
-    /// queries soon takes no memory: what `text` has is used again, and more is taken only where the answer is longer.
+    /// Enters once, returns the entry's version, and replaces `text` by the query's answer. A caller that keeps one
+    /// `text` for many queries soon stops allocating: its room is used again, and only a longer answer needs more.
     ///
-    /// `Closed` leaves the reader and the text as they were. Where memory was refused the text is empty, and the entry
-    /// may have been made all the same.
+    /// `Closed` leaves the reader and the text as they were. After `Memory` the text is empty, and the reader may have
+    /// entered all the same.
     pub fn ask_into(&mut self, query: &Query, text: &mut String) -> Result<Version, AskFault>
         ensures ok { IfOk result (λ version.
             (version ≡ version_of self.new.batches)
@@ -158,7 +159,8 @@ impl Lookups {
         }
     }
 
-    /// Takes in a notice of this reader's store: afterwards the longer of both lists is seen. It takes no memory.
+    /// Takes in a notice of this reader's own store: the reader has then seen the longer of both lists. It doesn't
+    /// allocate.
     pub fn learn(&mut self, notice: &Notice)
         requires { notice.now.book ≡ self.old.book }
         ensures longer { StartsWith self.new.batches self.old.batches × StartsWith self.new.batches notice.now.batches }
@@ -171,8 +173,8 @@ impl Lookups {
         }
     }
 
-    /// Takes in a notice of this reader's store, if it is not behind what this reader has seen, and answers its
-    /// version. Where more was seen, nothing is changed. It takes no memory.
+    /// Takes in a notice of this reader's own store, if it is at least as recent as everything the reader has seen, and
+    /// returns its version. Otherwise returns `Ahead` and changes nothing. It doesn't allocate.
     pub fn settle(&mut self, notice: &Notice) -> Result<Version, Ahead>
         requires { notice.now.book ≡ self.old.book }
         ensures ok { IfOk result (λ version.

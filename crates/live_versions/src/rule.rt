@@ -1,4 +1,4 @@
-//! The rule between the publisher and the readers, over the two copies of `left_right`.
+//! The rule that binds publisher and readers, over the two copies of `left_right`.
 ghost use Rattle.std.specs.Prelude.{◌≡◌, MatchResult};
 ghost use Rattle.live_versions.specs.StoreRule.{Keeps, Sees, applied_to};
 ghost use Rattle.live_versions.specs.SeatViews.{fresh};
@@ -11,23 +11,23 @@ use live_set::{CatalogueSet, Load};
 use std::alloc::AllocError;
 use std::marker::Model;
 
-/// What the publisher asks of the copies.
+/// A change that the publisher logs for both copies.
 #[derive(Drop)]
 pub(crate) enum Change {
     /// One more load.
     Load(Load),
-    /// The loads so far are these batches.
+    /// The end of a batch: the loads up to here are these batches.
     Seal(Seal),
 }
 
-/// The set that readers take, and the batches that it is the fold of.
+/// One copy: the set that readers look up in, and the batches that it was built from.
 #[derive(Drop)]
 pub(crate) struct Shown {
     pub(crate) set: CatalogueSet,
     pub(crate) seen: Cover,
 }
 
-/// What the two copies have in common. No value of it is made.
+/// The state that both copies have to agree on. No value of this type is ever made.
 pub(crate) struct Common {
     pub(crate) set: CatalogueSet,
     pub(crate) seen: Seen,
@@ -43,7 +43,7 @@ impl Absorb<Change> for Shown {
     fn absorb_first(&mut self, operation: &Change, _other: &Shown) -> Result<(), AllocError> {
         match operation {
             Change::Load(load) => self.set.absorb(load),
-            // By now each load before it was taken in, so nothing that follows takes memory.
+            // All loads before the seal are in by now, so what follows doesn't allocate.
             Change::Seal(seal) => {
                 self.seen = seal.cover();
                 Ok(())
@@ -52,7 +52,7 @@ impl Absorb<Change> for Shown {
     }
 }
 
-/// What a seat knows: the book, and batches that were published. No value of it is made.
+/// What a reader or the publisher knows: the book, and batches that were published. No value of this type is ever made.
 pub(crate) struct View {
     nothing: (),
 }
@@ -65,6 +65,7 @@ impl Model for View {
     ghost view = { λ _. fresh };
 }
 
+/// The invariant over the shown copy and all views.
 pub(crate) struct Versions;
 
 impl Protocol<Shown, View> for Versions {
@@ -73,7 +74,7 @@ impl Protocol<Shown, View> for Versions {
     ghost first = { fresh };
 }
 
-/// An entry sees what is published.
+/// Entering: the reader's view becomes what is published.
 pub(crate) struct Entered;
 
 impl Outcome<Shown, View> for Entered {

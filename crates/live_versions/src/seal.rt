@@ -1,7 +1,7 @@
-//! Seals, by which a publish puts its batch into the book.
+//! Seals, by which a publish adds its batch to the store's book.
 //!
-//! A seal is the last change of a publish. It is taken in once every load before it has been, takes no memory,
-//! and then the copies are swapped: so a publish that is refused memory leaves the book as it was.
+//! A seal is the last change of a publish. It is applied after every load of the batch, doesn't allocate, and the
+//! copies are swapped right after it, so a publish that runs out of memory leaves the book as it was.
 ghost use Rattle.std.specs.Prelude.{◌≡◌, ◌+◌, ◌<◌, ◌^◌, ◌++◌, ◌∷◌, [], length, drop, IfSome};
 ghost use Rattle.std.specs.Arc.{arc_value};
 ghost use Rattle.live_versions.specs.Batches.{version_of};
@@ -15,7 +15,7 @@ use std::sync::Arc;
 use std::sync::atomic::AtomicU64;
 use std::sync::atomic::Ordering::SeqCst;
 
-/// A load, as a bundle's book has it. No value of it is made.
+/// A load, as a page of a bundle's book. No value of this type is ever made.
 pub(crate) struct BundleLoad {
     nothing: (),
 }
@@ -29,7 +29,7 @@ impl Model for BundleLoad {
     ghost view = { λ _. record { domain = []; locale = []; map = [] } };
 }
 
-/// The rule of a bundle's book: none.
+/// The rule of a bundle's book, which asks for nothing.
 pub(crate) struct BundleRule;
 
 impl Rule<BundleLoad, u64> for BundleRule {
@@ -49,7 +49,7 @@ impl Rule<BundleLoad, u64> for BundleRule {
     ghost moves = { λ ask before after answer. ⊤ };
 }
 
-/// A batch that is named at a call.
+/// A batch named by a type parameter of a call.
 trait Batch {
     ghost use Rattle.std.specs.Prelude.{List};
     ghost use Rattle.live_set.specs.Loads.{LoadValue};
@@ -63,6 +63,7 @@ impl Batch for Brand {
     ghost loads = { [] };
 }
 
+/// Opens a bundle's book with the named batch in it.
 struct Pages<N: Batch> {
     of: PhantomData<N>,
 }
@@ -71,10 +72,10 @@ impl<N: Batch> Opening<u64, BundleLoad> for Pages<N> {
     ghost log = { λ n x. N.loads };
 }
 
-/// A batch that only proofs see. It has no bytes.
+/// A batch for proofs alone. It has no bytes.
 #[derive(Drop)]
 pub(crate) struct Bundle {
-    /// The first page of a book of its own.
+    /// The first page of a book of the bundle's own.
     page: logbook::Seen<BundleLoad, u64, BundleRule>,
 }
 
@@ -97,7 +98,7 @@ impl Bundle {
     }
 }
 
-/// The batch that the call names.
+/// The batch that the type parameter names.
 fn name_batch<N: Batch>(writer: &StoreWriter) -> Bundle
     ensures { result ≡ N.loads }
 {
@@ -113,14 +114,15 @@ pub(crate) fn bundle_of(writer: &StoreWriter) -> Bundle
     name_batch::<Brand>(writer)
 }
 
-/// The word of the book, and the number of the seal that may still be bound.
+/// The version word of the book, and the number of the one seal that may still be bound.
 #[derive(Drop)]
 pub(crate) struct Sealing {
     pub(crate) head: Head,
     pub(crate) live: AtomicU64,
 }
 
-/// A batch that a publish is about to show, behind those that are shown. Contracts see it as what is seen behind it.
+/// A batch that a publish is about to show, on top of those that are shown. Contracts see it as the list with that
+/// batch.
 #[derive(Drop)]
 pub(crate) struct Seal {
     sealing: Arc<Sealing>,
@@ -145,7 +147,7 @@ impl Model for Seal {
 }
 
 impl Seal {
-    /// A seal for so many loads behind these batches. A seal that was made before it is void from now on.
+    /// A seal for `loads` loads that follow the batches of `base`. It makes every earlier seal void.
     pub(crate) fn new(sealing: Arc<Sealing>, base: Seen, loads: u64, bundle: Bundle) -> Seal
         requires book { (arc_value sealing).head.word.book ≡ base.book }
         requires loads { (0 < loads) × (loads ≡ length bundle) }
@@ -162,7 +164,7 @@ impl Seal {
         }
     }
 
-    /// Puts the batch into the book, for good. It does not where a later seal was made, or the book is further.
+    /// Adds the batch to the book, for good. Returns `None` if a later seal was made, or if the book has moved on.
     fn bind(&self) -> Option<Seen>
         ensures { IfSome result (λ f. f ≡ self.now) }
     {
@@ -172,7 +174,7 @@ impl Seal {
         add_batch(&self.sealing.head, &self.base, self.loads, &self.bundle)
     }
 
-    /// What a copy shows once it has taken in this seal, bound where it can be.
+    /// The cover of a copy to which this seal was applied, with a token if the batch could be bound.
     pub(crate) fn cover(&self) -> Cover
         ensures { result ≡ self.now }
     {
@@ -184,8 +186,8 @@ impl Seal {
     }
 }
 
-/// Which batches a copy shows, and that they were seen, where they are in the book.
-/// They are, in each copy that a publish shows. No contract says so.
+/// Which batches a copy shows, with a token once they are in the book. Every copy that a publish shows has its token,
+/// though no contract says so.
 #[derive(Drop)]
 pub(crate) struct Cover {
     base: Seen,
@@ -205,7 +207,7 @@ impl Model for Cover {
 }
 
 impl Cover {
-    /// What a new copy shows.
+    /// The cover of a new copy.
     pub(crate) fn first(seen: &Seen) -> Cover
         ensures { result ≡ seen.now }
     {
@@ -216,7 +218,7 @@ impl Cover {
         }
     }
 
-    /// What is shown, as seen in the book, where it is there.
+    /// The batches shown, as seen in the book, if they are there.
     pub(crate) fn token(&self) -> Option<Seen>
         ensures { IfSome result (λ f. f ≡ self.now) }
     {

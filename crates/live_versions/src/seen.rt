@@ -1,6 +1,6 @@
-//! The batches of a store as its book keeps them, and beginnings of them that were seen.
+//! The book of a store's batches, and the beginnings of it that were seen.
 //!
-//! A book is a history that exists in proofs alone (`logbook`). What threads share of it is one word, the
+//! A book is a history that exists in proofs alone (`logbook`). At run time threads share only its word, which is the
 //! version; a `Seen` is a beginning of the history.
 ghost use Rattle.std.specs.Prelude.{◌≡◌, ◌+◌, ◌<◌, ◌^◌, ◌++◌, ◌∷◌, [], length, MatchBool, IfSome};
 ghost use Rattle.live_versions.specs.Batches.{version_of, StartsWith, NoneEmpty};
@@ -11,7 +11,7 @@ use crate::seal::Bundle;
 use logbook::{Gain, Offer, Plain, Play, Rule, Start, Word};
 use std::marker::Model;
 
-/// A batch, as the book has it. No value of it is made.
+/// A batch, as a page of the book. No value of this type is ever made.
 pub(crate) struct BookBatch {
     nothing: (),
 }
@@ -46,6 +46,7 @@ impl Rule<BookBatch, u64> for BookRule {
     ghost moves = { λ ask before after answer. ⊤ };
 }
 
+/// An exchange of the word that proves nothing more than its outcome.
 struct Nothing;
 
 impl Gain<BookBatch, u64> for Nothing {
@@ -54,6 +55,7 @@ impl Gain<BookBatch, u64> for Nothing {
     ghost after = { λ names about answer. ftrue };
 }
 
+/// An exchange of the word that adds the batch that it was offered.
 struct Adding;
 
 impl Play<BookBatch, u64> for Adding {
@@ -62,6 +64,7 @@ impl Play<BookBatch, u64> for Adding {
     ghost then = { λ s v found w. AddsBatch s.ask s v found w };
 }
 
+/// Offers the loads of a bundle as the batch.
 struct Offered;
 
 impl Plain<Bundle, BookBatch, u64> for Offered {
@@ -72,7 +75,7 @@ impl Plain<Bundle, BookBatch, u64> for Offered {
     ghost state = { λ bundle. None };
 }
 
-/// The first batches of a store that were seen.
+/// A beginning of a store's batches that somebody has seen.
 #[derive(Drop)]
 pub(crate) struct Seen {
     version: Version,
@@ -91,14 +94,14 @@ impl Model for Seen {
     ghost invariant = { λ s. (s.version ≡ version_of s.beginning.log) × NoneEmpty s.beginning.log };
 }
 
-/// The word of a book, which its publisher has.
+/// The version word of the store's book.
 #[derive(Drop)]
 pub(crate) struct Head {
     pub(crate) word: Word<BookBatch, u64, BookRule>,
     pub ghost book: { word ≡ head_of word.book },
 }
 
-/// A new book, and its beginning, in which nothing is.
+/// A new book, and its empty beginning.
 pub(crate) fn open_book() -> (Head, Seen)
     ensures { (result.1.batches ≡ []) × (result.0.word.book ≡ result.1.book) }
 {
@@ -130,7 +133,7 @@ impl Seen {
         }
     }
 
-    /// Whether this one begins the other one; else the other one begins it, and is shorter.
+    /// Whether `self` is a beginning of `other`; if not, `other` is a shorter beginning of `self`.
     pub(crate) fn begins(&self, other: &Seen) -> bool
         requires { other.now.book ≡ self.now.book }
         ensures { MatchBool result (StartsWith other.now.batches self.now.batches)
@@ -143,7 +146,7 @@ impl Seen {
     }
 }
 
-/// AddsBatch a batch of so many loads behind all that was seen. It does not where the book is further.
+/// Adds a batch of `loads` loads after all that was seen. Returns `None` if the book has moved on.
 pub(crate) fn add_batch(head: &Head, seen: &Seen, loads: u64, bundle: &Bundle) -> Option<Seen>
     requires book { head.now.word.book ≡ seen.now.book }
     requires loads { (0 < loads) × (loads ≡ length bundle.now) }

@@ -18,9 +18,10 @@ use std::alloc::Global;
 use std::sync::atomic::AtomicU64;
 use std::sync::{Arc, Wait};
 
-/// How many readers a store may have.
+/// The most readers that a store may have.
 const MOST_READERS: u32 = 16;
 
+/// How a new reader learns the writer's view: the writer keeps it, and the reader takes it over.
 struct Same;
 
 impl Split<View> for Same {
@@ -37,7 +38,7 @@ impl Join<View> for Same {
     ghost spent = { fresh };
 }
 
-/// A reader of the writer's book.
+/// Makes a reader of the writer's book that has seen these batches.
 fn new_reader(writer: &mut StoreWriter, seen: &Seen) -> Result<Lookups, OpenFault>
     requires { (view writer.old.desk.place).books ≡ seen.now.book ∷ [] }
     ensures reader { IfOk result (λ l. l ≡ seen.now) }
@@ -52,7 +53,7 @@ fn new_reader(writer: &mut StoreWriter, seen: &Seen) -> Result<Lookups, OpenFaul
     Ok(Lookups::new(reader, seen.again()))
 }
 
-/// So many readers of this book, which have seen nothing.
+/// Makes `readers` readers of this book that have seen these batches.
 fn new_readers(
     alloc: Global,
     writer: &mut StoreWriter,
@@ -75,7 +76,7 @@ fn new_readers(
     Ok(lookups)
 }
 
-/// A copy of what is published at first.
+/// One of the two copies of a new store.
 fn first_shown(alloc: Global, seen: &Seen) -> Shown
     ensures set { result.set ≡ no_loads }
     ensures seen { result.seen ≡ seen.now }
@@ -86,10 +87,10 @@ fn first_shown(alloc: Global, seen: &Seen) -> Shown
     }
 }
 
-/// Opens a store with so many readers, which accepts at most so many loads.
+/// Opens a store with `readers` readers that accepts at most `most` loads.
 ///
-/// `BadCount` is answered exactly where `readers` isn't 1 to 16, before any memory is taken. `NoPlace` where
-/// there was no place for a reader. It waits only where it refuses after it made the store.
+/// Returns `BadCount` exactly if `readers` isn't 1 to 16, before it allocates anything, and `NoPlace` if no seat was
+/// left for a reader. No reader has entered yet, so there is none that it could wait for.
 pub fn open_store<R: Wait>(
     rt: &R,
     alloc: Global,
@@ -98,7 +99,7 @@ pub fn open_store<R: Wait>(
 ) -> Result<(Publisher, Vec<Lookups>), OpenFault>
     ensures publisher { IfOk result (λ t. (t.0.seen.batches ≡ []) × (t.0.pending ≡ []) × (t.0.most ≡ most)) }
 
-    // Each reader is of this store, and has seen nothing.
+    // Each reader belongs to this store, and has seen nothing.
     ensures readers { IfOk result (λ t. (vec_len t.1 ≡ readers) × All (λ l. l ≡ t.0.seen) t.1.items) }
     ensures counted { IfOk result (λ _. (1 ≤ readers) × (readers ≤ 16)) }
     ensures bad_count { IfErr result (λ fault. (fault ≡ BadCount) ↔ ((readers ≡ 0) ⊎ (16 < readers))) }

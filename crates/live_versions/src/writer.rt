@@ -1,4 +1,4 @@
-//! The writer of the two copies, with the loads that are pending among its changes.
+//! The writer of the two copies, whose log holds the pending loads.
 ghost use Rattle.std.specs.Prelude.{◌≡◌, ◌+◌, ◌^◌, ◌<◌, [], ◌∷◌, ◌++◌, length, drop, OnOk, OnErr};
 ghost use Rattle.left_right.specs.Sides.{view};
 ghost use Rattle.live_versions.specs.Batches.{version_of};
@@ -17,13 +17,14 @@ use std::sync::Wait;
 
 pub(crate) type StoreWriter = Writer<Shown, Change, View, Versions>;
 
+/// Publishing: the writer's view becomes what the new copy shows.
 struct Publishing;
 
 impl Outcome<Shown, View> for Publishing {
     ghost then = { λ v x y w. w ≡ record { books = y.seen.book ∷ []; batches = y.seen.batches } };
 }
 
-/// A publish with nothing pending, by which the writer knows its book.
+/// Publishes with nothing pending, so that the writer's view has its book.
 pub(crate) fn name_book<R: Wait>(
     rt: &R,
     writer: StoreWriter,
@@ -36,7 +37,7 @@ pub(crate) fn name_book<R: Wait>(
     writer.publish_as::<Publishing, R>(rt)
 }
 
-/// Publishes the loads and the seal behind them.
+/// Publishes the pending loads, up to the seal that ends them.
 fn publish_sealed<R: Wait>(
     rt: &R,
     writer: StoreWriter,
@@ -61,7 +62,7 @@ fn publish_sealed<R: Wait>(
     writer.publish_as::<Publishing, R>(rt)
 }
 
-/// The same, behind a `&mut`.
+/// Like `publish_sealed`, through a `&mut`.
 pub(crate) fn publish_at<R: Wait>(
     rt: &R,
     writer: &mut StoreWriter,
@@ -89,7 +90,7 @@ pub(crate) fn publish_at<R: Wait>(
     replace_with(writer, rt, |writer, rt| publish_sealed(rt, writer, seal))
 }
 
-/// One more load behind those that are pending.
+/// Appends a load to the pending ones.
 pub(crate) fn append_load(writer: &mut StoreWriter, load: Load) -> Result<(), AllocError>
     ensures desk { writer.new.desk ≡ writer.old.desk }
     ensures ok { OnOk result
@@ -104,7 +105,7 @@ pub(crate) fn append_load(writer: &mut StoreWriter, load: Load) -> Result<(), Al
     }
 }
 
-/// The seal behind the pending loads.
+/// Appends the seal to the pending loads.
 pub(crate) fn append_seal(writer: &mut StoreWriter, seal: Seal) -> Result<(), AllocError>
     ensures desk { writer.new.desk ≡ writer.old.desk }
     ensures loads { loads_of (drop writer.new.behind writer.new.log.items)
@@ -117,8 +118,8 @@ pub(crate) fn append_seal(writer: &mut StoreWriter, seal: Seal) -> Result<(), Al
     }
 }
 
-/// What was just shown, as seen in the book. Its seal was the last change that the copy took in, so it is bound.
-/// No contract says so: where it were not, this would not return.
+/// The batches that were just shown, as seen in the book. The copy's last change was their seal, so it has a token; no
+/// contract says so, and without one this would not return.
 pub(crate) fn just_shown<R: Wait>(rt: &R, writer: &StoreWriter) -> Seen
     ensures { result ≡ writer.now.desk.shown.value.seen }
 {

@@ -1,6 +1,6 @@
-//! Tests of `live_set` by its public calls: names, and sets of small catalogues.
+//! Tests of `live_set` through its public API: names, and sets of small catalogues.
 //!
-//! They stand in a crate of their own, since a crate with tests is proved twice, with them and without.
+//! They are a crate of their own because a crate with tests is proved twice, with and without them.
 #![tactic(auto)]
 
 #[cfg(test)]

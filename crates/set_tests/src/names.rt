@@ -1,4 +1,4 @@
-//! Which texts are names. What is wanted was written by hand from the rules.
+//! Which texts are names. The expected values were written by hand, from the rules.
 use live_set::{Name, NameFault};
 use std::alloc::Global;
 use std::test::Fail;
@@ -13,7 +13,7 @@ const NAMES: [&str; 6] = [LETTERS, ONLY_LETTERS, "a", "fr_CA.UTF-8@euro", "c++",
 
 const NO_NAMES: [&str; 8] = ["", LONG, "a b", "a/b", "a\n", "a\0", "\u{e9}", "fr:de"];
 
-/// Whether a text is a name, and so is its copy.
+/// Whether a text is taken as a name, and so is its copy.
 fn is_taken(alloc: Global, text: &str) -> Result<bool, NameFault> {
     let name = Name::new(alloc, text)?;
     let again = name.try_clone()?;

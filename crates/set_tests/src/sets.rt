@@ -1,5 +1,5 @@
-//! Sets of small catalogues. What is wanted was written by hand from the rules. Functions of few statements are proved
-//! quickly: so a row of a table is a small function, and a test goes through the table.
+//! Sets of small catalogues. The expected values were written by hand, from the rules. Short functions are proved
+//! quickly, so the check of a table row is a function of its own, and a test loops over the table.
 use catalogue::{Catalogue, Options, compile};
 use live_set::{Ask, CatalogueSet, Load, Name, Query};
 use std::alloc::{AllocError, Global};
@@ -25,7 +25,7 @@ const POLISH: &[u8] = b"msgid \"\"\nmsgstr \"nplurals=3; plural=n==1 ? 0 : n%10>
     msgctxt \"disk\"\nmsgid \"file\"\nmsgid_plural \"files\"\nmsgstr[0] \"jeden\"\nmsgstr[1] \"dwa\"\n\
     msgstr[2] \"piec\"\n";
 
-/// Loads one after another: pairs the other way round, names that begin one another, and one pair twice.
+/// Loads, one after another, with domain and locale exchanged, names that are prefixes of others, and one pair twice.
 const LOADS: [(&str, &str, &[u8]); 7] = [
     ("b", "a", HALLO),
     ("app", "fr", SALUT),
@@ -36,7 +36,7 @@ const LOADS: [(&str, &str, &[u8]); 7] = [
     ("c", "fr", MENU),
 ];
 
-/// What `hi` is answered then in a domain and a list of languages.
+/// The answer for `hi` after `LOADS`, in a domain and a list of languages.
 const ANSWERS: [(&str, &str, &str); 13] = [
     ("b", "a", "hallo"),
     ("app", "fr", "bonjour"),
@@ -53,7 +53,7 @@ const ANSWERS: [(&str, &str, &str); 13] = [
     ("app", "fr\n:de", "hallo"),
 ];
 
-/// A number; the forms that it takes without a context and in `disk`; and what it is answered without a translation.
+/// A number, the form for it without a context and in the context `disk`, and the answer without a translation.
 const NUMBERS: [(u64, &str, &str, &str); 4] = [
     (0, "plikow", "piec", "files"),
     (1, "plik", "jeden", "file"),
@@ -84,7 +84,7 @@ fn load(alloc: Global, domain: &str, locale: &str, text: &[u8]) -> Result<Load, 
     })
 }
 
-/// Compiles a text, and takes it into a set.
+/// Compiles a text, and absorbs it into a set.
 fn put(
     alloc: Global,
     set: &mut CatalogueSet,
@@ -113,7 +113,7 @@ fn loaded(alloc: Global) -> Result<CatalogueSet, Fail> {
     Ok(set)
 }
 
-/// Whether a query is answered so.
+/// Whether a query has this answer.
 fn looks_up(
     alloc: Global,
     set: &CatalogueSet,
@@ -159,7 +159,7 @@ fn files_on_disk(alloc: Global, n: u64) -> Result<Ask, AllocError> {
     })
 }
 
-/// Whether `hi` is answered so, by a query.
+/// Whether a query for `hi` has this answer.
 fn looks_up_hi(
     alloc: Global,
     set: &CatalogueSet,
@@ -170,7 +170,7 @@ fn looks_up_hi(
     looks_up(alloc, set, domain, languages, plain(alloc, "hi")?, wanted)
 }
 
-/// Whether this query is answered so from the Polish catalogue.
+/// Whether a query has this answer from the Polish catalogue.
 fn looks_up_polish(
     alloc: Global,
     set: &CatalogueSet,
@@ -180,7 +180,7 @@ fn looks_up_polish(
     looks_up(alloc, set, "app", "pl", ask, wanted)
 }
 
-/// Whether there is no translation for a number in another language, and in a context that has none.
+/// Whether there is no translation for a number in another language, nor in a context that doesn't have the message.
 fn has_none(set: &CatalogueSet, n: u64, wanted: &str) -> bool {
     set.ngettext("app", "cs", "file", "files", n) == wanted
         && set.npgettext("app", "pl", "menu", "file", "files", n) == wanted
@@ -224,7 +224,7 @@ fn keeps_the_last_load(rt: HostRuntime) -> Result<(), Fail> {
     Ok(())
 }
 
-/// A load replaces the whole catalogue, and the names of another load may be the same.
+/// A load replaces the whole catalogue, and may be absorbed again.
 #[test]
 fn replaces_a_catalogue(rt: HostRuntime) -> Result<(), Fail> {
     let mut set = loaded(rt.alloc())?;
@@ -237,7 +237,7 @@ fn replaces_a_catalogue(rt: HostRuntime) -> Result<(), Fail> {
     Ok(())
 }
 
-/// Takes the load of one more locale, and says whether the set and a copy of it have it then.
+/// Absorbs a load for one more locale, and returns whether the set and a copy of it have it then.
 fn takes_locale(
     alloc: Global,
     set: &mut CatalogueSet,

@@ -1,6 +1,6 @@
-//! Tests of the live store and its desks by their public calls.
+//! Tests of the live store and its desks through their public API.
 //!
-//! They stand in a crate of their own, since a crate with tests is proved twice, with them and without.
+//! They are a crate of their own because a crate with tests is proved twice, with and without them.
 #![tactic(auto)]
 
 #[cfg(test)]

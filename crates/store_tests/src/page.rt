@@ -1,4 +1,4 @@
-//! The programs of docs/LIVE.md, which quotes them.
+//! The programs that docs/LIVE.md quotes.
 ghost use Rattle.std.specs.Prelude.{◌≡◌};
 
 use crate::tests::open_two;

@@ -1,4 +1,4 @@
-//! Loads that are pending when `serve` begins are published while its desks are worked, also without jobs.
+//! Loads that are pending when `serve` begins are published while its desks are worked, even without jobs.
 ghost use Rattle.std.specs.Prelude.{◌≡◌, ◌≤◌, All, vec_len};
 
 use crate::serving::desks_of;
@@ -11,7 +11,7 @@ use std::sync::{Arc, Wait};
 use std::test::Fail;
 use std::thread::{Threads, spawn, yield_now};
 
-/// A thread that waits for another gives up after so many turns.
+/// How many turns a thread waits for another before it gives up.
 const TURNS: u32 = 10_000_000;
 
 const PLAIN: Options = Options {
@@ -21,7 +21,7 @@ const PLAIN: Options = Options {
 
 const SALUT: &[u8] = b"msgid \"hi\"\nmsgstr \"salut\"\n";
 
-/// Waits until the flag is set. It gives up after `TURNS` turns.
+/// Waits until the flag is set, for at most `TURNS` turns, and returns whether it was.
 fn wait_for(flag: &AtomicBool) -> bool {
     for _ in 0..TURNS {
         if flag.load(Ordering::SeqCst) {
@@ -32,7 +32,7 @@ fn wait_for(flag: &AtomicBool) -> bool {
     false
 }
 
-/// Lets all pass, and sets a flag once a worker has come to a query.
+/// A gate that holds nobody, and sets a flag once a worker has reached a query.
 #[derive(Drop)]
 struct Asking {
     asked: Arc<AtomicBool>,
@@ -46,7 +46,7 @@ impl Gate for Asking {
     }
 }
 
-/// Enters, and leaves once a worker has come to a query. Whether one came.
+/// Enters, and leaves once a worker has reached a query. Returns whether one did.
 fn stay(reader: &mut Lookups, entered: &AtomicBool, asked: &AtomicBool) -> bool {
     let entry = reader.enter();
     entered.store(true, Ordering::SeqCst);
@@ -64,9 +64,9 @@ fn load(alloc: Global, publisher: &mut Publisher)
     let _ = publisher.load(alloc, "app", "fr", SALUT, PLAIN);
 }
 
-/// Serves the desks with a load pending, while a reader in another thread keeps the copy that its publish writes. The
-/// reader leaves once a desk's query has begun; whether one had, and the version at the end. `None` if there is no such
-/// thread.
+/// Serves the desks with a load pending, while a reader in another thread stays in the copy that the publish has to
+/// write. The reader leaves once a desk's query has begun. Returns whether one had, and the version at the end; `None`
+/// if the thread couldn't be started.
 fn serve_beside<R: Threads + Wait + Sync>(
     rt: &R,
     alloc: Global,
@@ -99,7 +99,7 @@ fn serve_beside<R: Threads + Wait + Sync>(
     }
 }
 
-/// One reader is held, and each of the others has a desk with three queries.
+/// Holds one reader in its entry, and serves the others at desks with three queries each.
 fn with_one_held<R: Threads + Wait + Sync>(
     rt: &R,
     alloc: Global,

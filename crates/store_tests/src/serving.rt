@@ -1,5 +1,5 @@
-//! Worked values, the calls of gates, and overlaps of threads. The values were written by hand, and not taken from a
-//! run.
+//! Worked examples, the calls of gates, and threads that overlap. The expected values were written by hand, not copied
+//! from a run.
 ghost use Rattle.std.specs.Prelude.{◌≡◌, All, IfOk, vec_len};
 
 use catalogue::{LoadFault, LoadKind, Options, Stats};
@@ -13,13 +13,13 @@ use std::sync::atomic::{AtomicU64, Ordering};
 use std::test::Fail;
 use std::thread::{Threads, yield_now};
 
-/// How often a held thread looks whether it may go on.
+/// How many turns a held thread waits before it gives up.
 const TURNS: u32 = 10_000_000;
 
 /// Three queries on each desk.
 const THREE: &[usize] = &[3; 16];
 
-/// Where the publishing thread is counted: behind all workers.
+/// The index of the publishing thread among the counts: after all workers.
 const PUBLISHING: u32 = 16;
 
 const PLAIN: Options = Options {
@@ -31,7 +31,7 @@ const SALUT: &[u8] = b"msgid \"hi\"\nmsgstr \"salut\"\n";
 
 const TWICE: &[u8] = b"msgid \"a\"\nmsgstr \"x\"\n#, fuzzy\nmsgid \"a\"\nmsgstr \"y\"\n";
 
-/// An MO file of `hi` to `salut` and `yes` to `oui`.
+/// An MO file that translates `hi` to `salut` and `yes` to `oui`.
 const FILE: &[u8] = b"\xde\x12\x04\x95\0\0\0\0\x02\0\0\0\x1c\0\0\0\x2c\0\0\0\0\0\0\0\x3c\0\0\0\
     \x02\0\0\0\x3c\0\0\0\x03\0\0\0\x3f\0\0\0\x05\0\0\0\x43\0\0\0\x03\0\0\0\x49\0\0\0\
     hi\0yes\0salut\0oui\0";
@@ -47,7 +47,7 @@ const DUPLICATE: StoreFault = StoreFault::Refused(LoadFault {
     line: 4,
 });
 
-/// Waits until the word is at least so much. It gives up after `TURNS` turns.
+/// Waits until the word is at least `least`, for at most `TURNS` turns, and returns whether it was.
 fn wait_for(word: &AtomicU64, least: u64) -> bool {
     for _ in 0..TURNS {
         if word.load(Ordering::SeqCst) >= least {
@@ -58,7 +58,7 @@ fn wait_for(word: &AtomicU64, least: u64) -> bool {
     false
 }
 
-/// Lets all pass.
+/// A gate that holds nobody.
 #[derive(Drop)]
 struct Open;
 
@@ -66,12 +66,13 @@ impl Gate for Open {
     fn pass(&self, _place: Place, _index: u64) {}
 }
 
-/// Lets all pass, and counts the calls at each place.
+/// A gate that holds nobody, and counts the calls at each place.
 #[derive(Drop)]
 struct Counting {
-    /// A count for each worker, and one for the publishing thread.
+    /// One count for each worker, and one for the publishing thread.
     passed: Vec<AtomicU64>,
-    /// Calls whose index isn't the number of calls that the place had before, and calls of a worker that isn't there.
+    /// The calls whose index isn't the number of earlier calls at their place, and the calls of workers that don't
+    /// exist.
     wrong: AtomicU64,
 }
 
@@ -87,7 +88,7 @@ impl Counting {
         })
     }
 
-    /// Whether each worker passed before each of its queries, and the publishing thread before each of so many jobs.
+    /// Whether each worker passed before each of its queries, and the publishing thread before each of `jobs` jobs.
     fn passed_all(&self, queries: &[usize], jobs: usize) -> bool {
         for place in 0..PUBLISHING {
             if self.passed_at(place) != queries.get(place as usize).copied().unwrap_or(0) as u64 {
@@ -122,7 +123,8 @@ impl Gate for Counting {
     }
 }
 
-/// Holds each worker before its first query, and the publishing thread before its first job, until all stand there.
+/// Holds each worker before its first query, and the publishing thread before its first job, until all of them are
+/// there.
 #[derive(Drop)]
 struct AllStand {
     workers: u64,
@@ -135,7 +137,7 @@ impl Gate for AllStand {
         if index == 0 {
             let _ = place;
             self.stood.fetch_add(1, Ordering::SeqCst);
-            // Where one gave up, those behind it wait no more.
+            // Once one thread has given up, those that come later don't wait.
             if self.gave_up.load(Ordering::SeqCst) == 0 && !wait_for(&self.stood, self.workers) {
                 self.gave_up.fetch_add(1, Ordering::SeqCst);
             }
@@ -143,8 +145,8 @@ impl Gate for AllStand {
     }
 }
 
-/// Holds a worker before its first query until the publishing thread stands before its first job, that thread until the
-/// worker has one answer, and then the worker until the job is done.
+/// Holds a worker before its first query until the publishing thread is at its first job, holds that thread until the
+/// worker has one answer, and then holds the worker until the job is done.
 #[derive(Drop)]
 struct Overlap {
     held: u32,
@@ -177,7 +179,7 @@ impl Gate for Overlap {
     }
 }
 
-/// What `hi` is in `fr`, as a query.
+/// A query for `hi` in `fr`.
 fn query(alloc: Global) -> Result<Query, AllocError> {
     Ok(Query {
         domain: String::from_str(alloc, "app")?,
@@ -207,7 +209,7 @@ fn desk_of(alloc: Global, reader: Lookups, queries: usize) -> Result<Desk, Alloc
     })
 }
 
-/// A desk for each reader. Each has as many queries as the member of `queries` at its index says.
+/// A desk for each reader, with as many queries as `queries` has at its index.
 pub(crate) fn desks_of(
     alloc: Global,
     publisher: &Publisher,
@@ -237,7 +239,7 @@ fn job_of(alloc: Global, domain: &str, source: Source) -> Result<Job, AllocError
     })
 }
 
-/// A PO text in French.
+/// A job that loads a PO text in French.
 fn job(alloc: Global, domain: &str, text: &[u8]) -> Result<Job, AllocError> {
     let mut bytes = Vec::new(alloc);
     bytes.extend_from_slice(text)?;
@@ -248,14 +250,14 @@ fn job(alloc: Global, domain: &str, text: &[u8]) -> Result<Job, AllocError> {
     job_of(alloc, domain, source)
 }
 
-/// An MO file in French.
+/// A job that loads an MO file in French.
 fn file_job(alloc: Global, domain: &str, file: &[u8]) -> Result<Job, AllocError> {
     let mut bytes = Vec::new(alloc);
     bytes.extend_from_slice(file)?;
     job_of(alloc, domain, Source::Mo { bytes })
 }
 
-/// So many jobs, each the same.
+/// `count` equal jobs.
 fn same_jobs(alloc: Global, count: usize) -> Result<Vec<Job>, AllocError> {
     let mut jobs = Vec::new(alloc);
     for _ in 0..count {
@@ -264,7 +266,7 @@ fn same_jobs(alloc: Global, count: usize) -> Result<Vec<Job>, AllocError> {
     Ok(jobs)
 }
 
-/// What came of a call, and of the store.
+/// The outcome of a service, and the store and desks after it.
 #[derive(Drop)]
 struct Ran {
     served: Result<Served, ServeFault>,
@@ -273,7 +275,7 @@ struct Ran {
     pending: u64,
 }
 
-/// A service on a new store, with a load pending if that is asked for.
+/// Runs a service on a new store, with a load pending if asked for.
 fn serve_new<R: Threads + Wait + Sync, G: Gate + Sync>(
     rt: &R,
     alloc: Global,
@@ -307,8 +309,8 @@ fn serve_new<R: Threads + Wait + Sync, G: Gate + Sync>(
     }
 }
 
-/// Whether each desk has so many answers, each of them `hi` at 0 or `salut` at a version up to this one, none below the
-/// one before it, no fault, and has seen this version.
+/// Whether each desk has `answers` answers, no fault, and has seen this version. Each answer has to be `hi` at version
+/// 0 or `salut` at one up to this version, and no version may be below the one before it.
 fn are_right(desks: &[Desk], answers: usize, version: Version) -> bool {
     for desk in desks {
         if desk.answers.len() != answers || desk.fault.is_some() || desk.reader.seen() != version {
@@ -345,7 +347,7 @@ fn nothing_to_do(rt: HostRuntime) -> Result<(), Fail> {
     Ok(())
 }
 
-/// Three queries on each desk, beside one job.
+/// Serves three queries on each desk while one job is done.
 fn one_job<R: Threads + Wait + Sync>(rt: &R, alloc: Global, readers: u32) -> Result<bool, Fail> {
     let ran = serve_new(
         rt,
@@ -376,7 +378,7 @@ fn one_job_beside_one_two_and_sixteen(rt: HostRuntime) -> Result<(), Fail> {
     Ok(())
 }
 
-/// Serves this many queries of each of two desks, beside as many jobs. Answers whether all have what they are to have.
+/// Serves `count` queries on each of two desks while `count` jobs are done. Returns whether everything is as expected.
 pub fn serves_jobs<R: Threads + Wait + Sync>(
     rt: &R,
     alloc: Global,
@@ -410,7 +412,7 @@ fn jobs_have_their_outcomes(rt: HostRuntime) -> Result<(), Fail> {
     Ok(())
 }
 
-/// The bytes but for the last one.
+/// The bytes without the last one.
 fn cut(bytes: &[u8]) -> &[u8] {
     match bytes.split_last() {
         Some((_, front)) => front,
@@ -506,8 +508,8 @@ fn all_workers_stand_together(rt: HostRuntime) -> Result<(), Fail> {
     Ok(())
 }
 
-/// Serves this many queries of each of sixteen desks, beside so many jobs. Answers whether the gate was called before
-/// each query and each job, with its place and its number, and each in order.
+/// Serves this many queries on each of sixteen desks while `jobs` jobs are done. Returns whether the gate was called
+/// before each query and each job, in order and with the right place and index.
 fn gate_is_called<R: Threads + Wait + Sync>(
     rt: &R,
     alloc: Global,
@@ -530,7 +532,7 @@ fn gate_is_called<R: Threads + Wait + Sync>(
 
 #[test]
 fn gates_are_called_in_order(rt: HostRuntime) -> Result<(), Fail> {
-    // (beside jobs; without jobs; where one desk asks; where none does)
+    // With jobs; without jobs; with queries on one desk; without queries.
     let some = [0, 3, 1, 0, 7, 2, 0, 0, 1, 5, 0, 4, 1, 2, 9, 0];
     assert!(rt; gate_is_called(&rt, rt.alloc(), &some, 3)?);
     assert!(rt; gate_is_called(&rt, rt.alloc(), &some, 0)?);

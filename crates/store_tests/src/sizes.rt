@@ -1,4 +1,4 @@
-//! Publishes and services of many sizes. Every call may answer that memory was refused; here there is enough for all.
+//! Publishes and services of many sizes. Every call may run out of memory; here there is enough for all of them.
 use crate::serving::serves_jobs;
 use crate::tests::{load_hi, open_one};
 use live_versions::{Publisher, Version};
@@ -6,12 +6,12 @@ use std::alloc::Global;
 use std::sync::Wait;
 use std::test::Fail;
 
-/// Powers of two and their neighbours. All numbers up to 40 are tried besides.
+/// Powers of two and their neighbours, tried in addition to all numbers up to 40.
 const SIZES: [u64; 15] = [
     63, 64, 65, 127, 128, 129, 255, 256, 257, 511, 512, 513, 1023, 1024, 1025,
 ];
 
-/// Publishes this many loads in one step.
+/// Loads this many times, and publishes all of it in one step.
 fn publish_loads<R: Wait>(
     rt: &R,
     alloc: Global,
@@ -27,7 +27,7 @@ fn publish_loads<R: Wait>(
     publisher.publish(rt).ok()
 }
 
-/// The first number of loads that isn't published, so that the version is higher by it.
+/// The first number of loads whose publish doesn't raise the version by it.
 fn find_unpublished<R: Wait>(rt: &R, alloc: Global, publisher: &mut Publisher) -> Option<u64> {
     for loads in (0..41).chain(SIZES) {
         let wanted = publisher.version().saturating_add(loads);

@@ -1,4 +1,4 @@
-//! Worked values. They were written by hand, and not taken from a run.
+//! Worked examples. The expected values were written by hand, not copied from a run.
 ghost use Rattle.std.specs.Prelude.{◌≡◌, IfOk};
 
 use catalogue::{LoadFault, LoadKind, Options, Stats};
@@ -15,7 +15,7 @@ use std::sync::{Arc, Wait};
 use std::test::Fail;
 use std::thread::{Threads, join, spawn, yield_now};
 
-/// A thread that waits for another gives up after so many turns.
+/// How many turns a thread waits for another before it gives up.
 const TURNS: u32 = 10_000_000;
 
 const PLAIN: Options = Options {
@@ -29,12 +29,12 @@ const HALLO: &[u8] = b"msgid \"hi\"\nmsgstr \"hallo\"\n";
 
 const TWICE: &[u8] = b"msgid \"a\"\nmsgstr \"x\"\n#, fuzzy\nmsgid \"a\"\nmsgstr \"y\"\n";
 
-/// An MO file of `hi` to `hej` and `yes` to `ja`.
+/// An MO file that translates `hi` to `hej` and `yes` to `ja`.
 const HEJ: &[u8] = b"\xde\x12\x04\x95\0\0\0\0\x02\0\0\0\x1c\0\0\0\x2c\0\0\0\0\0\0\0\x3c\0\0\0\
     \x02\0\0\0\x3c\0\0\0\x03\0\0\0\x3f\0\0\0\x03\0\0\0\x43\0\0\0\x02\0\0\0\x47\0\0\0\
     hi\0yes\0hej\0ja\0";
 
-/// An MO file of `a` to `x` and `ba` to `xx`: high byte first, a hash table, and the strings end on one another.
+/// An MO file that translates `a` to `x` and `ba` to `xx`. It is big-endian, has a hash table, and its strings overlap.
 const BIG: &[u8] = b"\x95\x04\x12\xde\0\0\0\0\0\0\0\x02\0\0\0\x1c\0\0\0\x2c\0\0\0\x03\0\0\0\x3c\
     \0\0\0\x01\0\0\0\x49\0\0\0\x02\0\0\0\x48\0\0\0\x01\0\0\0\x4c\0\0\0\x02\0\0\0\x4b\
     \0\0\0\x02\0\0\0\x01\0\0\0\0ba\0xx\0";
@@ -53,7 +53,7 @@ const DUPLICATE: StoreFault = StoreFault::Refused(LoadFault {
     line: 4,
 });
 
-/// A new store with one reader, which accepts at most this many loads.
+/// A new store with one reader, which takes at most `most` loads.
 pub fn open_one<R: Wait + AllocGlobal>(rt: &R, most: u64) -> Result<(Publisher, Lookups), Fail>
     ensures { IfOk result (λ store. store.1.book ≡ store.0.seen.book) }
 {
@@ -81,12 +81,13 @@ pub fn open_two<R: Wait + AllocGlobal>(
     Err(Fail::new("the store has not two readers"))
 }
 
-/// What `hi` is in a locale.
+/// The translation of `hi` in a locale.
 fn hi_in<'a>(pinned: &'a Pinned<'_>, locale: &str) -> &'a str {
     pinned.gettext("app", locale, "hi")
 }
 
-/// Whether an entry has this version, and `hi` is these texts in `fr`, `de` and `sv`. It can't wait.
+/// Enters, and returns whether the entry has this version and translates `hi` to these texts in `fr`, `de` and `sv`. It
+/// can't wait.
 fn shows(reader: &mut Lookups, version: Version, fr: &str, de: &str, sv: &str) -> bool
     ensures { reader.new.book ≡ reader.old.book }
 {
@@ -103,14 +104,14 @@ fn shows(reader: &mut Lookups, version: Version, fr: &str, de: &str, sv: &str) -
 
 type Loaded = Result<Stats, StoreFault>;
 
-/// Loads `hi` as `salut` in French.
+/// Loads `hi`, translated to `salut`, in French.
 pub fn load_hi(alloc: Global, publisher: &mut Publisher) -> Loaded
     ensures { publisher.new.seen.book ≡ publisher.old.seen.book }
 {
     publisher.load(alloc, "app", "fr", SALUT, PLAIN)
 }
 
-/// Two loads and a publish, and then a load that is refused.
+/// The results of two loads and a publish, followed by a load that is refused.
 #[derive(Drop)]
 struct Published {
     loads: (Loaded, Loaded),
@@ -168,7 +169,7 @@ fn loads_are_published_together(rt: HostRuntime) -> Result<(), Fail> {
     Ok(())
 }
 
-/// What `hi` is in a locale, as a query.
+/// A query for `hi` in a locale.
 fn query(alloc: Global, locale: &str) -> Result<Query, AllocError> {
     Ok(Query {
         domain: String::from_str(alloc, "app")?,
@@ -179,7 +180,7 @@ fn query(alloc: Global, locale: &str) -> Result<Query, AllocError> {
     })
 }
 
-/// What a reader answers to `hi` in `fr`: its version, and whether the text is this one.
+/// Asks for `hi` in `fr`, and returns the version and whether the text is this one.
 fn answers(alloc: Global, reader: &mut Lookups, text: &str) -> Option<(Version, bool)>
     ensures { reader.new.book ≡ reader.old.book }
 {
@@ -192,7 +193,7 @@ fn answers(alloc: Global, reader: &mut Lookups, text: &str) -> Option<(Version, 
     }
 }
 
-/// Before a publish, after it, and with notices of two publishes.
+/// What is seen before a publish, after it, and with the notices of two publishes.
 #[derive(Drop)]
 struct Told {
     empty: bool,
@@ -251,7 +252,7 @@ fn notices_are_learnt(rt: HostRuntime) -> Result<(), Fail> {
     Ok(())
 }
 
-/// How many of the readers show a publish, each in two entries.
+/// The number of readers that show a publish, each in two entries.
 fn count_shown<R: Wait>(
     rt: &R,
     alloc: Global,
@@ -271,7 +272,7 @@ fn count_shown<R: Wait>(
     shown
 }
 
-/// Opens a store with so many readers, and says how many of them show a publish.
+/// Opens a store with `readers` readers, and returns how many of them show a publish.
 fn open_and_show<R: Wait>(rt: &R, alloc: Global, readers: u32) -> Result<u32, OpenFault> {
     let (mut publisher, readers) = open_store(rt, alloc, readers, 9)?;
     let shown = count_shown(rt, alloc, &mut publisher, readers);
@@ -295,7 +296,8 @@ fn stores_have_one_to_sixteen_readers(rt: HostRuntime) {
     }
 }
 
-/// A name that is none, a load that is accepted, one too many, and names that are none again.
+/// Loads four times: with a bad name, as the last load that the store takes, as one too many, and with a bad name
+/// again.
 fn load_four(alloc: Global, publisher: &mut Publisher) -> [Loaded; 4] {
     [
         publisher.load(alloc, "a b", "fr", SALUT, PLAIN),
@@ -334,7 +336,7 @@ fn a_store_may_take_no_loads(rt: HostRuntime) -> Result<(), Fail> {
     Ok(())
 }
 
-/// Whether the store is closed to both calls, and the reader has still seen this version.
+/// Whether both calls find the store closed, and the reader has still seen this version.
 fn finds_closed(reader: &mut Lookups, query: &Query, alloc: Global, seen: Version) -> bool {
     let asked = reader.ask(alloc, query);
     let seen_then = reader.seen();
@@ -355,7 +357,7 @@ fn a_closed_store_answers_nothing(rt: HostRuntime) -> Result<(), Fail> {
     let found = tell_two(&rt, rt.alloc(), &mut publisher, &mut first);
     publisher.end(&rt);
     assert!(rt; found.second == Some(2));
-    // (the second reader has seen nothing)
+    // The second reader has seen nothing.
     'turns: for _ in 0..2u32 {
         assert!(rt; finds_closed(&mut first, &query, rt.alloc(), 2));
         assert!(rt; finds_closed(&mut second, &query, rt.alloc(), 0));
@@ -388,7 +390,7 @@ type FileLoaded = Result<u64, StoreFault>;
 
 const BOUNDS: StoreFault = StoreFault::RefusedMo(MoFault::Bounds);
 
-/// The bytes but for the last one.
+/// The bytes without the last one.
 fn cut(bytes: &[u8]) -> &[u8] {
     match bytes.split_last() {
         Some((_, front)) => front,
@@ -396,7 +398,7 @@ fn cut(bytes: &[u8]) -> &[u8] {
     }
 }
 
-/// Loads an MO file, whole and cut. Beside each answer stands what is pending then.
+/// Loads an MO file, whole and cut short. Each result comes with the number of loads pending then.
 fn load_file(alloc: Global, publisher: &mut Publisher, file: &[u8]) -> [(FileLoaded, u64); 2] {
     let whole = publisher.load_mo(alloc, "app", "sv", file);
     let one = publisher.pending();
@@ -418,7 +420,8 @@ fn files_are_loaded(rt: HostRuntime) -> Result<(), Fail> {
     Ok(())
 }
 
-/// A name that is none, a file that is refused, one that is accepted, one too many, and names that are none again.
+/// Loads five times: with a bad name, a file that is refused, the last file that the store takes, one too many, and
+/// with a bad name again.
 fn load_five(alloc: Global, publisher: &mut Publisher) -> [FileLoaded; 5] {
     [
         publisher.load_mo(alloc, "a b", "fr", cut(HEJ)),
@@ -448,7 +451,7 @@ fn refusals_are_told(rt: HostRuntime) -> Result<(), Fail> {
     Ok(())
 }
 
-/// Whether an entry of a reader has version 1, and answers `salut` to the query. It can't wait.
+/// Enters, and returns whether the entry has version 1 and answers `salut` to the query. It can't wait.
 fn looks_up(reader: &mut Lookups, query: &Query) -> Result<bool, Closed>
     ensures { reader.new.book ≡ reader.old.book }
 {
@@ -458,7 +461,8 @@ fn looks_up(reader: &mut Lookups, query: &Query) -> Result<bool, Closed>
     Ok(found)
 }
 
-/// The second reader enters and looks up while the first one's entry lives, and each once more. Neither can wait.
+/// Enters and looks up with the second reader while the first one's entry lasts, and then once more with each. Neither
+/// can wait.
 fn side_by_side(
     first: &mut Lookups,
     second: &mut Lookups,
@@ -508,7 +512,7 @@ fn readers_enter_side_by_side(rt: HostRuntime) -> Result<(), Fail> {
     Ok(())
 }
 
-/// Each of the calls of an entry on a message with a context and a plural, and one by a query.
+/// Makes each of an entry's calls on a message with a context and a plural, and one by a query.
 fn look_all(alloc: Global, reader: &mut Lookups) -> Result<[bool; 6], AskFault> {
     let query = query(alloc, "fr").map_err(|_| AskFault::Memory)?;
     let Ok(pinned) = reader.enter() else {
@@ -541,13 +545,13 @@ fn entries_answer_each_call(rt: HostRuntime) -> Result<(), Fail> {
     Ok(())
 }
 
-/// A value that may go to another thread.
+/// Compiles if the value may go to another thread.
 fn sent<T: Send>(_: &T) {}
 
-/// A value that threads may share.
+/// Compiles if threads may share the value.
 fn shared<T: Sync>(_: &T) {}
 
-/// What callers hand to threads.
+/// The values that callers hand to threads.
 fn hand_over(publisher: &Publisher, reader: &Lookups, notice: &Notice) {
     sent(publisher);
     sent(reader);
@@ -555,7 +559,7 @@ fn hand_over(publisher: &Publisher, reader: &Lookups, notice: &Notice) {
     shared(notice);
 }
 
-/// Enters so many times, and says whether each entry had a text of its version and no version went back.
+/// Enters `turns` times, and returns whether each entry had the text of its version and no version went back.
 fn enter_many(reader: &mut Lookups, turns: u32) -> bool {
     let mut last = reader.seen();
     let mut good = true;
@@ -622,7 +626,7 @@ fn readers_never_go_back(rt: HostRuntime) -> Result<(), Fail> {
     Ok(())
 }
 
-/// Enters until the store is closed, and says whether each entry showed `salut` at version 1 and nothing besides.
+/// Enters until the store is closed, and returns whether each entry showed `salut` at version 1 and nothing else.
 fn shows_until_closed(reader: &mut Lookups) -> bool {
     'turns: for _ in 0..TURNS {
         let Ok(pinned) = reader.enter() else {
@@ -640,8 +644,8 @@ fn shows_until_closed(reader: &mut Lookups) -> bool {
     false
 }
 
-/// While the first reader's entry lives, which keeps the end from returning, the second one enters, as it did
-/// before. Then both find the store closed.
+/// Enters with the second reader until the store is closed, while the first reader's entry keeps the end from
+/// returning. Afterwards both find the store closed.
 fn stand_and_enter(
     first: &mut Lookups,
     second: &mut Lookups,
@@ -658,7 +662,7 @@ fn stand_and_enter(
     Ok([open, shown, same, closed])
 }
 
-/// Waits until a reader stands in its entry.
+/// Waits until a reader is in its entry, for at most `TURNS` turns.
 fn wait_for(stands: &AtomicBool) {
     'turns: for _ in 0..TURNS {
         if stands.load(SeqCst) {
@@ -668,7 +672,7 @@ fn wait_for(stands: &AtomicBool) {
     }
 }
 
-/// Ends the publisher once a reader in another thread stands in its entry. `None` where there is no such thread.
+/// Ends the publisher once a reader in another thread is in its entry. `None` if the thread couldn't be started.
 fn end_beside<R: Threads + Wait>(
     rt: &R,
     alloc: Global,

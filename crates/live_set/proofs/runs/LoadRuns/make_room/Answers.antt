@@ -27,7 +27,7 @@ returns-in_ok-insert-in-None c =
     c.in_ok-insert-in-None.ensures.items in
     split.same ∙ c.self.view_is
 
--- a later one is
+-- a later run is split
 pub invariant_of-self-in-Continue-branch-6 : goal.invariant_of-self-in-Continue-branch-6
 invariant_of-self-in-Continue-branch-6 c =
     let now = c.self.inside in

@@ -9,7 +9,7 @@ use Rattle.live_set.specs.Sets.{map_in}
 use Rattle.live_set.proofs.Listing.{only_member, find_next}
 use Rattle.live_set.proofs.set.CatalogueSet.find_by_members.Goals as goal
 
--- the list is one member, which hasn't the message: its language is left
+-- the list is one member that doesn't have the message, so only its language is left
 pub returns-then-not-has_colon : goal.returns-then-not-has_colon
 returns-then-not-has_colon c =
     let list = c.args.languages.now in
