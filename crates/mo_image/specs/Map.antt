@@ -6,7 +6,8 @@ use Rattle.std.specs.Ordering.{nat_cmp}
 use Rattle.std.specs.declared.cmp.Ordering.TheVariants.{Less}
 use Rattle.std.specs.Cmp.Lexicographic.{slice_cmp}
 use Rattle.std.specs.Str.{bytes_eq}
-pub use Rattle.po_header.specs.Charset.{HasAcceptedCharset}
+pub use Rattle.message.specs.Charset.{HasAcceptedCharset}
+pub use Rattle.message.specs.Message.{first_form}
 use Rattle.mo_image.specs.Entry.{Entry, key, IsLawfulEntry}
 use Rattle.mo_image.specs.MoFile.{spelling}
 
@@ -15,11 +16,6 @@ abbrev pub Rises : List (List ℕ) → Type 0
 Rises [] = ⊤
 Rises (k ∷ []) = ⊤
 Rises (k ∷ l ∷ ks) = (slice_cmp nat_cmp k l ≡ Less) × Rises (l ∷ ks)
-
--- the first of the forms
-abbrev pub first_form : List (List ℕ) → List ℕ
-first_form [] = []
-first_form (form ∷ forms) = form
 
 -- the entry with these key bytes
 abbrev pub entry_at : List Entry → List ℕ → Option Entry
