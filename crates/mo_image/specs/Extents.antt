@@ -2,7 +2,7 @@
 use Rattle.std.specs.Prelude.{◌≡◌, ℕ, ◌+◌, ◌*◌, ◌<◌, ◌≤◌, List, length, take, drop, slice_index}
 use Rattle.std.specs.Str.{IsUtf8}
 use Rattle.byteorder.specs.Endian.{little_number}
-use Rattle.text_cut.specs.Cut.{place_of}
+use Rattle.byte_text.specs.Cut.{place_of}
 use Rattle.mo_image.specs.Tables.{string_at, word_at}
 use Rattle.mo_image.specs.declared.extent.EntryExtents.{EntryExtents}
 use Rattle.mo_image.specs.declared.extent.Extent.{Extent}
