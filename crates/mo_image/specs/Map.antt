@@ -9,7 +9,7 @@ use Rattle.std.specs.Str.{bytes_eq}
 pub use Rattle.message.specs.Charset.{HasAcceptedCharset}
 pub use Rattle.message.specs.Message.{first_form}
 use Rattle.mo_image.specs.Entry.{Entry, key, IsLawfulEntry}
-use Rattle.mo_image.specs.MoFile.{spelling}
+use Rattle.mo_image.specs.MoFile.{most_file, spelling}
 
 -- each key is above the one before, byte by byte
 abbrev pub Rises : List (List ℕ) → Type 0
@@ -26,12 +26,12 @@ entry_at m k = find (λ e. bytes_eq (key e) k) m
 abbrev pub header_text : List Entry → Option (List ℕ)
 header_text m = option_map (λ e. first_form e.forms) (entry_at m [])
 
--- what every catalogue stands for; its MO file has at most 268,435,456 bytes
+-- what every catalogue stands for
 pub record IsLawful (m : List Entry) : Type 0 where
   pub rises : Rises (map key m)
   pub each : AllByRecursion IsLawfulEntry m
   pub charset : IfSome (header_text m) HasAcceptedCharset
-  pub fits : length (spelling m) ≤ 268435456
+  pub fits : length (spelling m) ≤ most_file
 
 -- these bytes are the one MO file of a lawful map
 pub record IsFileOf (bytes : List ℕ) (m : List Entry) : Type 0 where

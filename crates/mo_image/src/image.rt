@@ -4,7 +4,7 @@ ghost use Rattle.std.specs.Prelude.{IsTrue};
 ghost use Rattle.byteorder.specs.Endian.{little_number};
 ghost use Rattle.mo_image.specs.Entry.{Entry, key};
 ghost use Rattle.mo_image.specs.Map.{IsFileOf, IsLawful};
-ghost use Rattle.mo_image.specs.MoFile.{spelling};
+ghost use Rattle.mo_image.specs.MoFile.{header_len, spelling};
 ghost use Rattle.byte_text.specs.Cut.{place_of};
 ghost use Rattle.mo_image.specs.Tables.{word_at, string_at};
 ghost use Rattle.mo_image.specs.Pairs.{key_part};
@@ -73,7 +73,7 @@ fn count_of(bytes: &[u8]) -> usize
 fn original_of(bytes: &[u8], i: usize) -> &str
     requires image { IsImage bytes.now }
     requires within { i < length (listing bytes.now) }
-    ensures string { result.now ≡ string_at little_number bytes.now (28 + 8 * i) }
+    ensures string { result.now ≡ string_at little_number bytes.now (header_len + 8 * i) }
     ensures key { IfSome (slice_get (listing bytes.now) i) (λ e. key_part result.now ≡ key e) }
 {
     text(bytes, HEADER_LEN + ROW_LEN * i)
