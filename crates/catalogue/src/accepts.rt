@@ -5,7 +5,7 @@ ghost use Rattle.std.specs.Ordering.{nat_cmp, is_lt};
 ghost use Rattle.std.specs.Cmp.Lexicographic.{slice_cmp};
 ghost use Rattle.mo_image.specs.Entry.{key, LacksByte, IsText, IsKeyText, HasForms, IsLawfulEntry};
 ghost use Rattle.mo_image.specs.Map.{Rises, first_form, header_text, HasAcceptedCharset, IsLawful};
-ghost use Rattle.mo_image.specs.MoFile.{spelling};
+ghost use Rattle.mo_image.specs.MoFile.{most_file, spelling};
 ghost use Rattle.catalogue.specs.Messages.{message_entry, messages_of};
 ghost use Rattle.catalogue.specs.Accepted as Accepted;
 
@@ -160,7 +160,7 @@ fn header_is_lawful(messages: &[Message]) -> bool
 
 /// Whether the MO file of the messages is within the size limit.
 fn fits(messages: &[Message]) -> bool
-    ensures { IsTrue result ↔ (length (spelling (messages_of messages.now)) ≤ 268435456) }
+    ensures { IsTrue result ↔ (length (spelling (messages_of messages.now)) ≤ most_file) }
 {
     file_len(messages) <= MAX_LEN
 }

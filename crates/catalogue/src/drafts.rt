@@ -7,9 +7,9 @@ ghost use Rattle.catalogue.specs.Drafts.{comes_before, drafts_entries, header_te
 ghost use Rattle.catalogue.specs.Drafts.{outline_cmp, outline_if, outline_text, outlines, FirstRepeat};
 ghost use Rattle.catalogue.specs.Drafts as Drafts;
 
+use byte_text::LongKey;
 use mo_image::{EntryList, EntryStrings, split_form};
 use std::cmp::Ordering;
-use text_key::LongKey;
 
 /// What a catalogue keeps of an entry besides its key.
 #[derive(Drop)]

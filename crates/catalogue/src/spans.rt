@@ -5,9 +5,9 @@ ghost use Rattle.catalogue.specs.Spans.{kept_at, kept_size, plural_at, plural_si
 ghost use Rattle.catalogue.specs.Spans.{HoldsSpan, HoldsAll, HoldsKept, HoldsPlural};
 
 use crate::drafts::{Draft, Standing, Texts};
+use byte_text::LongKey;
 use std::alloc::{AllocError, Global};
 use std::marker::Model;
-use text_key::LongKey;
 
 /// The lengths of what is kept of an entry besides its key, in bytes.
 #[derive(Clone, Copy)]

@@ -6,12 +6,12 @@ ghost use Rattle.script_text.specs.Commands.{line_of};
 ghost use Rattle.script_text.specs.LineValues.{line_value};
 ghost use Rattle.catserve.specs.Hearing.{IsFront, said_value};
 
+use byte_text::split_at_byte;
 use catalogue::Options;
 use live_set::Query;
 use script_text::{Line, LineFault, read_line, read_workers, says_nothing};
 use simdutf8::compat::from_utf8;
 use std::alloc::{AllocError, Global};
-use text_cut::split_at_byte;
 
 /// What a line says.
 #[derive(Drop)]

@@ -14,11 +14,11 @@ use crate::Steps;
 use crate::index::Index;
 use crate::keys::cmp_in_context;
 use crate::slot_table::{hash_alone, hash_within};
+use byte_text::lacks_byte;
 use mo_image::{EntryRef, Image, key_of};
 use std::cmp::Ordering;
 use std::marker::{Brand, Model};
 use std::sync::ledger::{Blank, Ledger};
-use text_cut::lacks_byte;
 
 /// The key to look up. Contracts see it as its bytes.
 #[derive(Drop)]

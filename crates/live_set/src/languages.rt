@@ -12,8 +12,8 @@ ghost use Rattle.live_set.specs.Sets.{map_in};
 ghost use Rattle.live_set.specs.FirstFound.{IsFoundIn, IsCutAt};
 
 use crate::CatalogueSet;
+use byte_text::TextKey;
 use catalogue::{Catalogue, EntryRef, untranslated};
-use text_key::TextKey;
 
 /// An entry that was found, and the catalogue it is in.
 pub(crate) type Found<'a> = (&'a Catalogue, EntryRef<'a>);

@@ -4,12 +4,12 @@ ghost use Rattle.live_set.specs.Names.{IsName};
 ghost use Rattle.live_set.specs.Slots.{compared, asked};
 
 use crate::Name;
+use byte_text::TextKey;
 use catalogue::Catalogue;
 use std::alloc::AllocError;
 use std::cmp::Ordering;
 use std::marker::Model;
 use std::sync::Arc;
-use text_key::TextKey;
 
 /// A catalogue for a text domain and a locale. Contracts see it as the two names and the catalogue's map.
 #[derive(Drop)]

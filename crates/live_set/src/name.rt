@@ -3,9 +3,9 @@ ghost use Rattle.std.specs.Prelude.{◌≡◌, ◌↔◌, IfOk, IfErr, IsTrue};
 ghost use Rattle.live_set.specs.Names.{IsName, is_name_byte};
 ghost use Rattle.live_set.specs.declared.name.NameFault.TheVariants.{BadName, Memory};
 
+use byte_text::{TextKey, front_of};
 use std::alloc::{AllocError, Global};
 use std::marker::Model;
-use text_key::{TextKey, front_of};
 use thiserror::Error;
 
 /// The most bytes that a name may have.
@@ -45,7 +45,7 @@ impl Model for Name {
     ghost Value = { List ℕ };
 
     ghost use Rattle.live_set.specs.Names.{IsName};
-    ghost use Rattle.text_key.specs.Front.{IsFrontOf};
+    ghost use Rattle.byte_text.specs.Front.{IsFrontOf};
 
     ghost view = { λ name. string_bytes name.text };
 

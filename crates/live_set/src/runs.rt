@@ -7,10 +7,10 @@ ghost use Rattle.live_set.specs.Slots.{slotted, Rises, IsAt, IsGapFor};
 ghost use Rattle.live_set.specs.LoadRuns.{begins_by, begun};
 
 use crate::Load;
+use byte_text::TextKey;
 use std::alloc::{AllocError, Global};
 use std::cmp::Ordering;
 use std::marker::Model;
-use text_key::TextKey;
 
 /// A run is split before an insertion once it has this many loads.
 const RUN_LIMIT: usize = 128;

@@ -11,10 +11,10 @@ ghost use Rattle.live_set.specs.Asks.{HasAnswer, map_with, query_of, Plain, Cont
 use crate::languages::{counted, first_form};
 use crate::runs::LoadRuns;
 use crate::{Ask, Load, Query};
+use byte_text::TextKey;
 use catalogue::Catalogue;
 use std::alloc::{AllocError, Global};
 use std::marker::Model;
-use text_key::TextKey;
 
 /// For each text domain and locale, the catalogue that was loaded last, and the number of loads so far. Contracts see
 /// it as this number and the loads that are still in use.

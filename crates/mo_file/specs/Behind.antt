@@ -1,14 +1,15 @@
 -- Private: files whose tables and strings are laid out as in a file that is written.
 use Rattle.std.specs.Prelude.{◌≡◌, ℕ, zero, suc, ◌+◌, ◌*◌, List}
 use Rattle.byteorder.specs.Endian.{little_number}
+use Rattle.catalogue.specs.MoFile.{header_len}
 use Rattle.mo_file.specs.Tables.{word_at}
 
 -- the two tables of n rows directly follow the header, and there is no hash table
 pub record IsInOrder (bytes : List ℕ) (n : ℕ) : Type 0 where
-  pub originals : word_at little_number bytes 12 ≡ 28
-  pub translations : word_at little_number bytes 16 ≡ 28 + 8 * n
+  pub originals : word_at little_number bytes 12 ≡ header_len
+  pub translations : word_at little_number bytes 16 ≡ header_len + 8 * n
   pub places : word_at little_number bytes 20 ≡ 0
-  pub hashes : word_at little_number bytes 24 ≡ 28 + 16 * n
+  pub hashes : word_at little_number bytes 24 ≡ header_len + 16 * n
 
 -- the strings of the n rows from this place on follow one another from `at` to `end`, each with one more byte
 abbrev pub StandBehind : List ℕ → ℕ → ℕ → ℕ → ℕ → Type 0

@@ -8,7 +8,7 @@ use Rattle.std.specs.Cmp.Lexicographic.{slice_cmp}
 use Rattle.std.specs.Str.{IsUtf8}
 use Rattle.byteorder.specs.Endian.{little_number, big_number}
 use Rattle.catalogue.specs.Entry.{Entry, original, translation}
-use Rattle.catalogue.specs.MoFile.{file}
+use Rattle.catalogue.specs.MoFile.{header_len, magic_number, most_file, file}
 use Rattle.catalogue.specs.Map.{IsLawful, HasAcceptedCharset}
 use Rattle.mo_file.specs.Tables.{word_at, string_at, strings}
 use Rattle.mo_file.specs.declared.fault.MoFault.{MoFault}
@@ -71,7 +71,7 @@ file_by number bytes = record {
 
 -- how the file's words are read: little-endian if the magic number is stored so, else big-endian
 abbrev pub order : List ℕ → ℕ → List ℕ → ℕ
-order bytes = if word_at little_number bytes 0 == 0x950412de then little_number else big_number
+order bytes = if word_at little_number bytes 0 == magic_number then little_number else big_number
 
 -- the bytes as a file, in the byte order of its magic number
 abbrev pub file_of : List ℕ → File
@@ -143,15 +143,15 @@ pub record HaveLawfulHeaders (originals translations : Table) : Type 0 where
 
 -- the one file that is written of these strings has at most 268,435,456 bytes
 pub record Fits (originals translations : Table) : Type 0 where
-  pub short : length (file originals.count (strings_in originals) (strings_in translations)) ≤ 268435456
+  pub short : length (file originals.count (strings_in originals) (strings_in translations)) ≤ most_file
 
 -- ---- the refusals
 
 -- the file passes the test of this refusal; `Memory` says nothing about the bytes
 abbrev pub Passes : File → MoFault → Type 0
-Passes file TooLarge = length file.bytes ≤ 268435456
-Passes file Short = 28 ≤ length file.bytes
-Passes file Magic = word_at file.number file.bytes 0 ≡ 0x950412de
+Passes file TooLarge = length file.bytes ≤ most_file
+Passes file Short = header_len ≤ length file.bytes
+Passes file Magic = word_at file.number file.bytes 0 ≡ magic_number
 Passes file Revision = word_at file.number file.bytes 4 ≡ 0
 Passes file Bounds = TableLies file.originals × TableLies file.translations
 Passes file NoNul = AllClosed file.originals × AllClosed file.translations

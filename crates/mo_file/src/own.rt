@@ -1,7 +1,7 @@
 //! Recognises files in the layout that `write_mo` writes.
 ghost use Rattle.std.specs.Prelude.{◌≡◌, ◌<◌, ◌≤◌, ◌^◌, length, IsTrue, IfSome};
 ghost use Rattle.byteorder.specs.Endian.{little_number};
-ghost use Rattle.catalogue.specs.MoFile.{spelling};
+ghost use Rattle.catalogue.specs.MoFile.{header_len, most_file, spelling};
 ghost use Rattle.mo_file.specs.Behind.{IsInOrder, StandBehind};
 ghost use Rattle.mo_file.specs.Pairs.{named_in};
 ghost use Rattle.mo_file.specs.MoReading.{table_at, file_by, TableLies, PassesBelow};
@@ -14,7 +14,7 @@ use mo_image::{
 
 /// Whether the tables of `n` rows directly follow the header, and there is no hash table.
 fn is_in_order(bytes: &[u8], n: usize) -> bool
-    requires long { 28 ≤ length bytes.now }
+    requires long { header_len ≤ length bytes.now }
     requires count { n < 2 ^ 32 }
     ensures { IsTrue result → IsInOrder bytes.now n }
 {
@@ -29,7 +29,7 @@ fn is_in_order(bytes: &[u8], n: usize) -> bool
 fn end_of_strings(bytes: &[u8], table: usize, n: usize, start: usize) -> Option<usize>
     requires lies { TableLies (table_at little_number bytes.now table n) }
     requires start { start ≤ length bytes.now }
-    requires short { length bytes.now ≤ 268435456 }
+    requires short { length bytes.now ≤ most_file }
     ensures within { IfSome result (λ end. end ≤ length bytes.now) }
     ensures behind { IfSome result (λ end. StandBehind bytes.now table n start end) }
 {

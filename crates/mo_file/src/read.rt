@@ -11,11 +11,11 @@ use crate::own::is_own;
 use crate::refusals::{check_all, is_low_first};
 use crate::rows::{string, word};
 use crate::write::write_mo;
+use byte_text::split_at_byte;
 use byteorder::{BigEndian, ByteOrder, LittleEndian};
 use catalogue::{Catalogue, EntryStrings};
 use mo_image::{COUNT_AT, ORIGINALS_AT, ROW_LEN, TRANSLATIONS_AT};
 use std::alloc::{AllocError, Global};
-use text_cut::split_at_byte;
 
 /// Returns the string of a row, which has been checked to be UTF-8.
 fn text<T: ByteOrder>(bytes: &[u8], place: usize) -> &str

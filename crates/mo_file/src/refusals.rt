@@ -2,6 +2,7 @@
 //! their order, wherever in the file it applies.
 ghost use Rattle.std.specs.Prelude.{◌≡◌, ◌↔◌, ◌≤◌, length, IsTrue, OnOk, IfOk, IfErr};
 ghost use Rattle.byteorder.specs.Endian.{little_number};
+ghost use Rattle.catalogue.specs.MoFile.{header_len, magic_number, most_file};
 ghost use Rattle.mo_file.specs.Rows.{rows_in, AreSound};
 ghost use Rattle.mo_file.specs.MoReading.{file_by, file_of, Passes, PassesBelow, RefusedBy, Refused, IsMoFile};
 
@@ -17,7 +18,7 @@ use std::alloc::{AllocError, Global};
 
 /// Whether both tables and all their strings lie in the file.
 fn passes_bounds<T: ByteOrder>(bytes: &[u8]) -> bool
-    requires { 28 ≤ length bytes.now }
+    requires { header_len ≤ length bytes.now }
     ensures { IsTrue result ↔ Passes (file_by T.number_of bytes.now) MoFault.Bounds }
 {
     let n = word::<T>(bytes, COUNT_AT);
@@ -27,7 +28,7 @@ fn passes_bounds<T: ByteOrder>(bytes: &[u8]) -> bool
 
 /// Whether every string is followed by a NUL.
 fn passes_closing<T: ByteOrder>(bytes: &[u8]) -> bool
-    requires long { 28 ≤ length bytes.now }
+    requires long { header_len ≤ length bytes.now }
     requires lies { Passes (file_by T.number_of bytes.now) MoFault.Bounds }
     ensures { IsTrue result ↔ Passes (file_by T.number_of bytes.now) MoFault.NoNul }
 {
@@ -38,7 +39,7 @@ fn passes_closing<T: ByteOrder>(bytes: &[u8]) -> bool
 
 /// Reads the rows of both tables.
 fn rows_of<T: ByteOrder>(alloc: Global, bytes: &[u8]) -> Result<Vec<Row>, AllocError>
-    requires long { 28 ≤ length bytes.now }
+    requires long { header_len ≤ length bytes.now }
     requires lies { Passes (file_by T.number_of bytes.now) MoFault.Bounds }
     ensures { IfOk result (λ v. v.items ≡ rows_in (file_by T.number_of bytes.now)) }
 {
@@ -54,7 +55,7 @@ fn passes_texts<T: ByteOrder>(
     bytes: &[u8],
     overlap: bool,
 ) -> Result<bool, AllocError>
-    requires long { 28 ≤ length bytes.now }
+    requires long { header_len ≤ length bytes.now }
     requires lies { Passes (file_by T.number_of bytes.now) MoFault.Bounds }
     ensures { IfOk result (λ yes. IsTrue yes ↔ Passes (file_by T.number_of bytes.now) MoFault.BadText) }
 {
@@ -68,7 +69,7 @@ fn passes_forms<T: ByteOrder>(
     bytes: &[u8],
     overlap: bool,
 ) -> Result<bool, AllocError>
-    requires long { 28 ≤ length bytes.now }
+    requires long { header_len ≤ length bytes.now }
     requires lies { Passes (file_by T.number_of bytes.now) MoFault.Bounds }
     ensures { IfOk result (λ yes. IsTrue yes ↔ Passes (file_by T.number_of bytes.now) MoFault.Forms) }
 {
@@ -78,7 +79,7 @@ fn passes_forms<T: ByteOrder>(
 
 /// Whether the keys rise, for a file whose strings overlap.
 fn passes_claims<T: ByteOrder>(alloc: Global, bytes: &[u8]) -> Result<bool, AllocError>
-    requires long { 28 ≤ length bytes.now }
+    requires long { header_len ≤ length bytes.now }
     requires lies { Passes (file_by T.number_of bytes.now) MoFault.Bounds }
     requires closed { Passes (file_by T.number_of bytes.now) MoFault.NoNul }
     ensures { IfOk result (λ yes. IsTrue yes ↔ Passes (file_by T.number_of bytes.now) MoFault.Order) }
@@ -94,7 +95,7 @@ fn passes_order<T: ByteOrder>(
     bytes: &[u8],
     overlap: bool,
 ) -> Result<bool, AllocError>
-    requires long { 28 ≤ length bytes.now }
+    requires long { header_len ≤ length bytes.now }
     requires lies { Passes (file_by T.number_of bytes.now) MoFault.Bounds }
     requires closed { Passes (file_by T.number_of bytes.now) MoFault.NoNul }
     ensures { IfOk result (λ yes. IsTrue yes ↔ Passes (file_by T.number_of bytes.now) MoFault.Order) }
@@ -108,7 +109,7 @@ fn passes_order<T: ByteOrder>(
 
 /// Whether the header, if there is one, names an accepted charset or none.
 fn passes_charset<T: ByteOrder>(bytes: &[u8]) -> bool
-    requires long { 28 ≤ length bytes.now }
+    requires long { header_len ≤ length bytes.now }
     requires lies { Passes (file_by T.number_of bytes.now) MoFault.Bounds }
     requires texts { Passes (file_by T.number_of bytes.now) MoFault.BadText }
     ensures { IsTrue result ↔ Passes (file_by T.number_of bytes.now) MoFault.Charset }
@@ -124,7 +125,7 @@ fn passes_charset<T: ByteOrder>(bytes: &[u8]) -> bool
 
 /// Whether the strings are closed and pass all their tests, as far as a single pass over the rows can tell.
 fn is_sound<T: ByteOrder>(bytes: &[u8]) -> bool
-    requires long { 28 ≤ length bytes.now }
+    requires long { header_len ≤ length bytes.now }
     requires lies { Passes (file_by T.number_of bytes.now) MoFault.Bounds }
     ensures { let file = file_by T.number_of bytes.now in
         IsTrue result → AreSound file.originals file.translations }
@@ -136,8 +137,8 @@ fn is_sound<T: ByteOrder>(bytes: &[u8]) -> bool
 
 /// Whether the file that would be written of the map is within the size limit.
 fn passes_size<T: ByteOrder>(bytes: &[u8]) -> bool
-    requires short { length bytes.now ≤ 268435456 }
-    requires long { 28 ≤ length bytes.now }
+    requires short { length bytes.now ≤ most_file }
+    requires long { header_len ≤ length bytes.now }
     requires lies { Passes (file_by T.number_of bytes.now) MoFault.Bounds }
     ensures { IsTrue result ↔ Passes (file_by T.number_of bytes.now) MoFault.Swollen }
 {
@@ -154,8 +155,8 @@ fn passes_size<T: ByteOrder>(bytes: &[u8]) -> bool
 /// file may be, they may overlap: the tests that read whole strings then sort them, so that shared bytes aren't read
 /// for each string.
 fn check_file<T: ByteOrder>(alloc: Global, bytes: &[u8]) -> Result<(), MoFault>
-    requires short { length bytes.now ≤ 268435456 }
-    requires long { 28 ≤ length bytes.now }
+    requires short { length bytes.now ≤ most_file }
+    requires long { header_len ≤ length bytes.now }
     requires passed { PassesBelow (file_by T.number_of bytes.now) 4 }
     ensures ok { OnOk result (PassesBelow (file_by T.number_of bytes.now) 12) }
     ensures err { IfErr result (λ f. RefusedBy (file_by T.number_of bytes.now) f) }
@@ -193,8 +194,8 @@ fn check_file<T: ByteOrder>(alloc: Global, bytes: &[u8]) -> Result<(), MoFault>
 
 /// Whether the file is little-endian: its words have their low byte first.
 pub(crate) fn is_low_first(bytes: &[u8]) -> bool
-    requires { 28 ≤ length bytes.now }
-    ensures { IsTrue result ↔ (little_number 4 bytes.now ≡ 0x950412de) }
+    requires { header_len ≤ length bytes.now }
+    ensures { IsTrue result ↔ (little_number 4 bytes.now ≡ magic_number) }
 {
     LittleEndian::read_u32(bytes) == MAGIC
 }

@@ -1,6 +1,6 @@
 //! The tests of the strings of one or two tables. Each scans the whole table.
 ghost use Rattle.std.specs.Prelude.{◌≡◌, ◌↔◌, ◌^◌, ◌<◌, ◌≤◌, ◌*◌, length, IsTrue};
-ghost use Rattle.catalogue.specs.MoFile.{pool};
+ghost use Rattle.catalogue.specs.MoFile.{most_file, pool};
 ghost use Rattle.mo_file.specs.Tables.{strings};
 ghost use Rattle.mo_file.specs.MoReading.{table_at, TableLies, AllClosed, AreTranslationTexts, KeysRise};
 ghost use Rattle.mo_file.specs.MoReading.{HaveLawfulHeaders, Fits};
@@ -87,7 +87,7 @@ pub(crate) fn have_lawful_headers<T: ByteOrder>(
 
 /// Returns the number of bytes that the strings of a table take if each is written once, with its NUL.
 fn pool_len<T: ByteOrder>(bytes: &[u8], table: usize, n: usize) -> usize
-    requires short { length bytes.now ≤ 268435456 }
+    requires short { length bytes.now ≤ most_file }
     requires lies { TableLies (table_at T.number_of bytes.now table n) }
     requires count { n < 2 ^ 32 }
     ensures value { result ≡ length (pool (strings T.number_of bytes.now table n)) }
@@ -107,7 +107,7 @@ pub(crate) fn fits<T: ByteOrder>(
     translations: usize,
     n: usize,
 ) -> bool
-    requires short { length bytes.now ≤ 268435456 }
+    requires short { length bytes.now ≤ most_file }
     requires originals { TableLies (table_at T.number_of bytes.now originals n) }
     requires translations { TableLies (table_at T.number_of bytes.now translations n) }
     requires count { n < 2 ^ 32 }

@@ -10,7 +10,7 @@ use Rattle.std.proofs.lemmas.List.Splits.{join_with_byte-slice_split, length-sli
 use Rattle.std.proofs.lemmas.List.Sums.{passes_at_first}
 use Rattle.std.proofs.lemmas.Str.{IsUtf8-append}
 use Rattle.byteorder.specs.Endian.{little_number}
-use Rattle.text_cut.specs.Cut.{cut, place_of, IsCut}
+use Rattle.byte_text.specs.Cut.{cut, place_of, IsCut}
 use Rattle.mo_image.specs.Entry.{Entry, HasForms, IsLawfulEntry, LacksByte}
 use Rattle.mo_image.specs.Extents.{piece, HoldsClosed, IsNamedAt}
 use Rattle.mo_image.specs.Image.{NamesText}

@@ -2,7 +2,8 @@
 use Rattle.std.specs.Prelude.{◌≡◌, ℕ, ◌+◌, ◌*◌, ◌<◌, ◌≤◌, List, length, take, drop, slice_index}
 use Rattle.std.specs.Str.{IsUtf8}
 use Rattle.byteorder.specs.Endian.{little_number}
-use Rattle.text_cut.specs.Cut.{place_of}
+use Rattle.byte_text.specs.Cut.{place_of}
+use Rattle.mo_image.specs.MoFile.{header_len}
 use Rattle.mo_image.specs.Tables.{string_at, word_at}
 use Rattle.mo_image.specs.declared.extent.EntryExtents.{EntryExtents}
 use Rattle.mo_image.specs.declared.extent.Extent.{Extent}
@@ -29,9 +30,9 @@ pub record IsNamedAt (bytes : List ℕ) (place : ℕ) (extent : Extent) : Type 0
 -- the extents of the strings of the i-th of n entries in a file
 pub record AreExtentsOf (bytes : List ℕ) (n i : ℕ) (extents : EntryExtents) : Type 0 where
   pub within : i < n
-  pub original : IsNamedAt bytes (28 + 8 * i) extents.original
-  pub translation : IsNamedAt bytes (28 + 8 * n + 8 * i) extents.translation
-  pub key_len : extents.key_len ≡ place_of 0 (string_at little_number bytes (28 + 8 * i))
+  pub original : IsNamedAt bytes (header_len + 8 * i) extents.original
+  pub translation : IsNamedAt bytes (header_len + 8 * n + 8 * i) extents.translation
+  pub key_len : extents.key_len ≡ place_of 0 (string_at little_number bytes (header_len + 8 * i))
 
 -- the extents of the strings of one of the n entries
 abbrev pub AreExtents : List ℕ → ℕ → EntryExtents → Type 0

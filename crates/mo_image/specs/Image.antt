@@ -4,14 +4,14 @@ use Rattle.std.specs.Str.{IsUtf8}
 use Rattle.byteorder.specs.Endian.{little_number}
 use Rattle.mo_image.specs.Entry.{Entry}
 use Rattle.mo_image.specs.Map.{IsLawful}
-use Rattle.mo_image.specs.MoFile.{spelling}
+use Rattle.mo_image.specs.MoFile.{header_len, spelling}
 use Rattle.mo_image.specs.Tables.{word_at, string_at, strings}
 use Rattle.mo_image.specs.Pairs.{paired_entries}
 
 -- the entries that the tables name
 unfoldable pub listing : List ℕ → List Entry
-listing bytes = paired_entries (strings little_number bytes 28 (word_at little_number bytes 8))
-    (strings little_number bytes (28 + 8 * word_at little_number bytes 8) (word_at little_number bytes 8))
+listing bytes = paired_entries (strings little_number bytes header_len (word_at little_number bytes 8))
+    (strings little_number bytes (header_len + 8 * word_at little_number bytes 8) (word_at little_number bytes 8))
 
 pub record IsImage (bytes : List ℕ) : Type 0 where
   pub lawful : IsLawful (listing bytes)

@@ -1,7 +1,7 @@
 -- Private: the strings that an entry borrows, the length of its key, and its translation with the NUL after it.
 use Rattle.std.specs.Prelude.{◌≡◌, ℕ, ◌<◌, ◌==◌, List, length, slice_get, IfSome}
 use Rattle.std.specs.List.{AllByRecursion, slice_split}
-use Rattle.text_cut.specs.Cut.{place_of}
+use Rattle.byte_text.specs.Cut.{place_of}
 use Rattle.mo_image.specs.Entry.{IsLawfulEntry, LacksByte}
 use Rattle.mo_image.specs.MoFile.{closed}
 use Rattle.mo_image.specs.Pairs.{entry_of}

@@ -6,20 +6,16 @@ use Rattle.std.specs.Ordering.{nat_cmp}
 use Rattle.std.specs.declared.cmp.Ordering.TheVariants.{Less}
 use Rattle.std.specs.Cmp.Lexicographic.{slice_cmp}
 use Rattle.std.specs.Str.{bytes_eq}
-pub use Rattle.po_header.specs.Charset.{HasAcceptedCharset}
+pub use Rattle.message.specs.Charset.{HasAcceptedCharset}
+pub use Rattle.message.specs.Message.{first_form}
 use Rattle.mo_image.specs.Entry.{Entry, key, IsLawfulEntry}
-use Rattle.mo_image.specs.MoFile.{spelling}
+use Rattle.mo_image.specs.MoFile.{most_file, spelling}
 
 -- each key is above the one before it, byte by byte
 abbrev pub Rises : List (List ℕ) → Type 0
 Rises [] = ⊤
 Rises (k ∷ []) = ⊤
 Rises (k ∷ l ∷ ks) = (slice_cmp nat_cmp k l ≡ Less) × Rises (l ∷ ks)
-
--- the first form, or the empty text if there is none
-abbrev pub first_form : List (List ℕ) → List ℕ
-first_form [] = []
-first_form (form ∷ forms) = form
 
 -- the entry with this key, if there is one
 abbrev pub entry_at : List Entry → List ℕ → Option Entry
@@ -30,12 +26,12 @@ entry_at m k = find (λ e. bytes_eq (key e) k) m
 abbrev pub header_text : List Entry → Option (List ℕ)
 header_text m = option_map (λ e. first_form e.forms) (entry_at m [])
 
--- what every catalogue represents; its MO file has at most 268,435,456 bytes
+-- what every catalogue represents
 pub record IsLawful (m : List Entry) : Type 0 where
   pub rises : Rises (map key m)
   pub each : AllByRecursion IsLawfulEntry m
   pub charset : IfSome (header_text m) HasAcceptedCharset
-  pub fits : length (spelling m) ≤ 268435456
+  pub fits : length (spelling m) ≤ most_file
 
 -- these bytes are the one MO file of a lawful map
 pub record IsFileOf (bytes : List ℕ) (m : List Entry) : Type 0 where

@@ -4,6 +4,18 @@ use Rattle.std.specs.List.{flat_map}
 use Rattle.byteorder.specs.Endian.{little_bytes}
 use Rattle.mo_image.specs.Entry.{Entry, original, translation}
 
+-- the number that an MO file begins with
+abbrev pub magic_number : ℕ
+magic_number = 0x950412de
+
+-- the length of the header in bytes: seven words
+abbrev pub header_len : ℕ
+header_len = 28
+
+-- the maximum size of a file in bytes: 256 MiB (ours)
+abbrev pub most_file : ℕ
+most_file = 268435456
+
 -- a little-endian word of 32 bits
 unfoldable pub word : ℕ → List ℕ
 word n = little_bytes 4 n
@@ -24,13 +36,14 @@ pool ss = flat_map closed ss
 -- the magic number, the revision, the number of strings, the offsets of the two tables, and an empty hash table after
 -- them
 abbrev pub header : ℕ → List ℕ
-header n = word 0x950412de ++ word 0 ++ word n ++ word 28 ++ word (28 + 8 * n) ++ word 0 ++ word (28 + 16 * n)
+header n = word magic_number ++ word 0 ++ word n ++ word header_len ++ word (header_len + 8 * n) ++ word 0
+    ++ word (header_len + 16 * n)
 
 -- the file of n originals and n translations
 abbrev pub file : ℕ → List (List ℕ) → List (List ℕ) → List ℕ
 file n originals translations =
-    header n ++ pairs (28 + 16 * n) originals ++ pairs (28 + 16 * n + length (pool originals)) translations
-    ++ pool originals ++ pool translations
+    header n ++ pairs (header_len + 16 * n) originals
+    ++ pairs (header_len + 16 * n + length (pool originals)) translations ++ pool originals ++ pool translations
 
 -- the one file of a map, whose entries are in rising order of their keys
 unfoldable pub spelling : List Entry → List ℕ

@@ -2,7 +2,7 @@
 use Rattle.std.specs.Prelude.{ℕ, ◌==◌, List, [], Option, Some, None, option_map}
 use Rattle.std.specs.List.{slice_split}
 use denote.Ref.{Bor}
-pub use Rattle.text_cut.specs.Cut.{cut}
+pub use Rattle.byte_text.specs.Cut.{cut}
 use Rattle.mo_image.specs.Entry.{Entry}
 
 -- the part after the cut, or the whole text if there is no cut

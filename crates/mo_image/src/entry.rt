@@ -3,13 +3,13 @@ ghost use Rattle.std.specs.Prelude.{◌≡◌, ◌<◌, ◌==◌, ◌∷◌, len
 ghost use Rattle.std.specs.List.{count_by, slice_split};
 ghost use Rattle.mo_image.specs.Entry.{IsLawfulEntry, key, translation};
 ghost use Rattle.mo_image.specs.MoFile.{closed};
-ghost use Rattle.text_cut.specs.Cut.{cut, place_of};
+ghost use Rattle.byte_text.specs.Cut.{cut, place_of};
 ghost use Rattle.mo_image.specs.Parts.{forms_left};
 ghost use Rattle.mo_image.specs.Pairs.{key_part, plural_part};
 ghost use Rattle.mo_image.specs.Lent.{IsClosedCut, IsClosedFormOf, IsLent};
 
+use byte_text::{place_of, split_at_byte, split_at_place};
 use std::marker::Model;
-use text_cut::{place_of, split_at_byte, split_at_place};
 
 /// Separates a key from its plural, and a form from the next.
 const NUL: u8 = 0;

@@ -4,8 +4,8 @@ ghost use Rattle.std.specs.Prelude.{IsTrue};
 ghost use Rattle.byteorder.specs.Endian.{little_number};
 ghost use Rattle.mo_image.specs.Entry.{Entry, key};
 ghost use Rattle.mo_image.specs.Map.{IsFileOf, IsLawful};
-ghost use Rattle.mo_image.specs.MoFile.{spelling};
-ghost use Rattle.text_cut.specs.Cut.{place_of};
+ghost use Rattle.mo_image.specs.MoFile.{header_len, spelling};
+ghost use Rattle.byte_text.specs.Cut.{place_of};
 ghost use Rattle.mo_image.specs.Tables.{word_at, string_at};
 ghost use Rattle.mo_image.specs.Pairs.{key_part};
 ghost use Rattle.mo_image.specs.Image.{listing, IsImage, NamesText};
@@ -15,10 +15,10 @@ use crate::EntryRef;
 use crate::extent::{EntryExtents, closed_in, extent_at, text_in};
 use crate::layout::{COUNT_AT, HEADER_LEN, ROW_LEN};
 use crate::writer::{EntryList, spell};
+use byte_text::place_of;
 use byteorder::{ByteOrder, LittleEndian};
 use std::alloc::{AllocError, Global};
 use std::marker::Model;
-use text_cut::place_of;
 
 /// The entries of a catalogue, in rising order of the keys' bytes, as their one MO file (GNU gettext manual, "MO
 /// Files"): the header, the table of originals, the table of translations, and the strings.
@@ -74,7 +74,7 @@ fn count_of(bytes: &[u8]) -> usize
 fn original_of(bytes: &[u8], i: usize) -> &str
     requires image { IsImage bytes.now }
     requires within { i < length (listing bytes.now) }
-    ensures string { result.now ≡ string_at little_number bytes.now (28 + 8 * i) }
+    ensures string { result.now ≡ string_at little_number bytes.now (header_len + 8 * i) }
     ensures key { IfSome (slice_get (listing bytes.now) i) (λ e. key_part result.now ≡ key e) }
 {
     text(bytes, HEADER_LEN + ROW_LEN * i)

@@ -5,7 +5,7 @@
 ghost use Rattle.std.specs.Prelude.{◌≡◌, ◌+◌, ◌*◌, ◌^◌, ◌<◌, ◌++◌, List, length, IfOk, OnOk, Some, slice_get};
 ghost use Rattle.mo_image.specs.Entry.{Entry, original, translation};
 ghost use Rattle.mo_image.specs.Map.{IsLawful};
-ghost use Rattle.mo_image.specs.MoFile.{word, closed, pool, pairs, header, spelling};
+ghost use Rattle.mo_image.specs.MoFile.{header_len, word, closed, pool, pairs, header, spelling};
 ghost use Rattle.mo_image.specs.Strings.{string_of, strings_of};
 
 use crate::layout::{self, MAGIC};
@@ -171,7 +171,7 @@ fn push_pool<L: EntryList>(out: &mut Vec<u8>, list: &L, side: Side) -> Result<()
 
 /// Appends the header of a file of `n` entries and no hash table.
 fn push_header(out: &mut Vec<u8>, n: u32) -> Result<(), AllocError>
-    requires { 28 + 16 * n < 2 ^ 32 }
+    requires { header_len + 16 * n < 2 ^ 32 }
     ensures { OnOk result (out.new.items ≡ out.old.items ++ header n) }
 {
     push_word(out, MAGIC)?;

@@ -5,8 +5,8 @@ use Rattle.std.specs.List.{filter, find}
 use Rattle.std.specs.Option.{option_map_or}
 use Rattle.po_text.specs.Entries as po
 use Rattle.po_header.specs.Rule.{Rule, HasRuleIn}
-use Rattle.mo_image.specs.Entry.{Entry, key}
-use Rattle.mo_image.specs.Map.{first_form, HasAcceptedCharset}
+use Rattle.message.specs.Message.{Entry, key, first_form}
+use Rattle.message.specs.Charset.{HasAcceptedCharset}
 use Rattle.po_checks.specs.declared.options.Options.{Options}
 
 -- ---- one entry of the text

@@ -8,7 +8,7 @@ use Rattle.std.proofs.lemmas.Bool.{cases_Bool}
 use Rattle.std.proofs.lemmas.Bool.Decides.{Decides-eqb}
 use Rattle.std.proofs.lemmas.Slice.Eq.{starts_is}
 use Rattle.std.proofs.Math.Seq.{drop-append_seam}
-use Rattle.po_header.specs.Charset.{Follows, LacksWord}
+use Rattle.message.specs.Charset.{Follows, LacksWord}
 use Rattle.po_header.specs.Searching.{behind_first}
 
 pub begins_with : (word text rest : List ℕ) → text ≡ word ++ rest → starts_with nat_eq text word ≡ true

@@ -8,7 +8,6 @@ pub mod ExprParts
 pub mod Expr
 pub mod ExprParsing
 pub mod Stack
-pub mod Charset
 pub mod Searching
 pub mod Fields
 pub mod Frames

@@ -6,7 +6,7 @@ use Rattle.po_header.specs.Tokens.{behind_blanks, decimal_value, below_limit}
 use Rattle.po_header.specs.Grammar.{Tree}
 use Rattle.po_header.specs.TreeValue.{value}
 use Rattle.po_header.specs.Expression.{IsTooLong, IsReadAs, IsMalformed}
-use Rattle.po_header.specs.Charset.{Follows, LacksWord}
+use Rattle.message.specs.Charset.{Follows, LacksWord}
 
 -- the number of forms, and the expression that selects one by n; or no rule, or one that can't be read
 pub data Rule : Type 0 where

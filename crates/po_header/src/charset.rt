@@ -2,7 +2,7 @@
 ghost use Rattle.std.specs.Prelude.{◌≡◌, ℕ, ◌↔◌, IsTrue, List, Option};
 ghost use Rattle.std.specs.List.{take_while};
 ghost use Rattle.std.specs.Option.{option_copied};
-ghost use Rattle.po_header.specs.Charset.{NamesCharset, IsAcceptedCharset, HasAcceptedCharset};
+ghost use Rattle.message.specs.Charset.{NamesCharset, IsAcceptedCharset, HasAcceptedCharset};
 ghost use Rattle.po_header.specs.Searching.{is_charset_byte};
 
 use crate::search::behind;

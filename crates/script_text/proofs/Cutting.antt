@@ -13,7 +13,7 @@ use Rattle.std.proofs.lemmas.Str.{IsUtf8-drop, IsUtf8-nil, IsCharBoundary-after_
 use Rattle.line_input.specs.Lines.{pieces, is_line_end}
 use Rattle.script_text.specs.LineFields.{is_tab, fields}
 use Rattle.bstr.specs.Find.{is_byte}
-use Rattle.text_cut.specs.Cut.{IsCut}
+use Rattle.byte_text.specs.Cut.{IsCut}
 use Rattle.script_text.specs.Scanning.{IsFirstLine}
 
 -- ---- pieces

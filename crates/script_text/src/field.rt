@@ -8,10 +8,10 @@ ghost use Rattle.script_text.specs.LineValues.{Reads};
 ghost use Rattle.script_text.specs.Scanning.{SplitsEscape};
 
 use crate::fault::LineFault;
+use byte_text::split_at_byte;
 use catalogue::Options;
 use hex::FromHexError;
 use std::alloc::Global;
-use text_cut::split_at_byte;
 
 /// The most workers that a script may have: as many as a store may have readers.
 const MOST_WORKERS: u64 = 16;

@@ -5,8 +5,8 @@ ghost use Rattle.script_text.specs.LineFields.{fields};
 ghost use Rattle.script_text.specs.Scanning.{fields_left};
 
 use crate::fault::LineFault;
+use byte_text::split_at_byte;
 use std::marker::Model;
-use text_cut::split_at_byte;
 
 /// The fields of a line that aren't read yet. Contracts see them as a list of texts.
 #[derive(Drop)]

@@ -3,7 +3,7 @@ ghost use Rattle.std.specs.Prelude.{◌≡◌, ◌<◌, [], MatchOption, length}
 ghost use Rattle.line_input.specs.Lines.{lines};
 ghost use Rattle.script_text.specs.Scanning.{IsFirstLine, TakesLines};
 
-use text_cut::split_at_byte;
+use byte_text::split_at_byte;
 
 /// The first line of a text, without its LF, and what follows it.
 pub(crate) fn split_line(text: &str) -> Option<(&str, &str)>

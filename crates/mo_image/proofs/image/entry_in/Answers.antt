@@ -1,5 +1,5 @@
 use Rattle.std.proofs.Common.{ap, sym, ◌∙◌}
-use Rattle.text_cut.specs.Cut.{place_of}
+use Rattle.byte_text.specs.Cut.{place_of}
 use Rattle.mo_image.specs.MoFile.{closed}
 use Rattle.mo_image.proofs.ImageFacts.{entry_facts}
 use Rattle.mo_image.proofs.Extents.{piece_named, piece_held}

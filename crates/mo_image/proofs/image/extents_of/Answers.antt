@@ -1,5 +1,5 @@
 use Rattle.std.proofs.Common.{ℕ, ◌≡◌, ◌+◌, ◌*◌, length, subst, arith, ap, ◌∙◌}
-use Rattle.text_cut.specs.Cut.{place_of}
+use Rattle.byte_text.specs.Cut.{place_of}
 use Rattle.mo_image.specs.Extents.{IsNamedAt}
 use Rattle.mo_image.specs.Image.{listing}
 use Rattle.mo_image.proofs.ImageFacts.{entry_facts, entry_room, image_small, string_small}

@@ -1,6 +1,6 @@
 use Rattle.std.proofs.Common.{List, ℕ, Option, sym, ap, subst, lit<}
 use Rattle.std.specs.Option.{option_copied}
-use Rattle.po_header.specs.Charset.{NamesCharset}
+use Rattle.message.specs.Charset.{NamesCharset}
 use Rattle.po_header.proofs.TextLemmas.{follows_is, lacks_is}
 use Rattle.po_header.proofs.charset.charset_of.Goals as goal
 

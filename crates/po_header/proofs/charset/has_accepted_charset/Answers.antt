@@ -1,5 +1,5 @@
 use Rattle.std.proofs.Common.{◌≡◌, ℕ, List, Some, sym, ap, ◌∙◌, subst}
-use Rattle.po_header.specs.Charset.{up_to_white, NamesCharset, IsAcceptedCharset}
+use Rattle.message.specs.Charset.{up_to_white, NamesCharset, IsAcceptedCharset}
 use Rattle.po_header.proofs.TextLemmas.{Follows-one}
 use Rattle.po_header.proofs.charset.has_accepted_charset.Goals as goal
 

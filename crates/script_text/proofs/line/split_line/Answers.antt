@@ -4,7 +4,7 @@ use Rattle.std.specs.List.{position_or_len}
 use Rattle.std.specs.Str.{IsUtf8}
 use Rattle.std.proofs.lemmas.Bool.{eqb-false}
 use Rattle.bstr.specs.Find.{is_byte}
-use Rattle.text_cut.specs.Cut.{IsCut}
+use Rattle.byte_text.specs.Cut.{IsCut}
 use Rattle.script_text.specs.Scanning.{IsFirstLine}
 use Rattle.script_text.proofs.Cutting.{first_line, last_line}
 use Rattle.script_text.proofs.line.split_line.Goals as goal

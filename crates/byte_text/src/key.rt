@@ -1,0 +1,138 @@
+//! The key of a text: the text with its front, the number that its first eight bytes spell.
+ghost use Rattle.std.specs.Prelude.{◌≡◌, ◌≤◌, drop, length, slice_index, IsTrue};
+ghost use Rattle.std.specs.Ordering.{nat_cmp};
+ghost use Rattle.std.specs.Cmp.Lexicographic.{slice_cmp};
+ghost use Rattle.std.specs.Str.{bytes_eq};
+ghost use Rattle.byte_text.specs.Front.{HaveOneFront, IsFrontOf};
+
+use byteorder::{BigEndian, ByteOrder};
+use std::cmp::Ordering;
+use std::marker::Model;
+
+/// A text with its front, for fast comparisons. Contracts see it as the text's bytes.
+#[derive(Drop)]
+pub struct TextKey<'a> {
+    text: &'a str,
+    front: u64,
+}
+
+impl<'a> Model for TextKey<'a> {
+    ghost use Rattle.std.specs.Prelude.{ℕ, List};
+
+    ghost Value = { List ℕ };
+
+    ghost use Rattle.byte_text.specs.Front.{IsFrontOf};
+
+    ghost view = { λ key. key.text.now };
+
+    ghost invariant = { λ key. IsFrontOf key.text.now key.front };
+}
+
+/// The number of bytes in a front.
+const FRONT_LEN: usize = 8;
+
+/// Whether two texts are equally long and no longer than a front.
+fn are_short(text: &str, other: &str) -> bool
+    ensures { IsTrue result → (length text.now ≡ length other.now) × (length text.now ≤ 8) }
+{
+    text.len() == other.len() && text.len() <= FRONT_LEN
+}
+
+/// The byte at index `i`, or 0 past the end.
+fn byte_at(bytes: &[u8], i: usize) -> u8
+    ensures { result ≡ slice_index bytes.now i }
+{
+    match bytes.get(i) {
+        Some(byte) => *byte,
+        None => 0,
+    }
+}
+
+/// The front of a text, given its bytes.
+fn front_in(bytes: &[u8]) -> u64
+    ensures { IsFrontOf bytes.now result }
+{
+    if FRONT_LEN <= bytes.len() {
+        return BigEndian::read_u64(bytes);
+    }
+    let first = [
+        byte_at(bytes, 0),
+        byte_at(bytes, 1),
+        byte_at(bytes, 2),
+        byte_at(bytes, 3),
+        byte_at(bytes, 4),
+        byte_at(bytes, 5),
+        byte_at(bytes, 6),
+        byte_at(bytes, 7),
+    ];
+    BigEndian::read_u64(&first)
+}
+
+/// The front of a text: its first eight bytes as a big-endian number, padded with zeros if the text is shorter.
+pub fn front_of(text: &str) -> u64
+    ensures { IsFrontOf text.now result }
+{
+    front_in(text.as_bytes())
+}
+
+/// The front of what follows a text's first eight bytes.
+pub(crate) fn next_of(text: &str) -> u64
+    ensures { IsFrontOf (drop 8 text.now) result }
+{
+    let bytes = text.as_bytes();
+    front_in(&bytes[bytes.len().min(FRONT_LEN)..])
+}
+
+impl<'a> TextKey<'a> {
+    /// The key of a text.
+    pub fn new(text: &'a str) -> TextKey<'a>
+        ensures { result ≡ text.now }
+    {
+        TextKey {
+            text,
+            front: front_of(text),
+        }
+    }
+
+    /// The key of a text whose front, as [`front_of`] computes it, is already known.
+    pub fn with_front(text: &'a str, front: u64) -> TextKey<'a>
+        requires { IsFrontOf text.now front }
+        ensures { result ≡ text.now }
+    {
+        TextKey { text, front }
+    }
+
+    /// The text.
+    pub fn as_str(&self) -> &'a str
+        ensures { result.now ≡ self.now }
+    {
+        self.text
+    }
+
+    /// The order of two texts, by their bytes.
+    pub fn compare(&self, other: &TextKey<'_>) -> Ordering
+        ensures { result ≡ slice_cmp nat_cmp self.now other.now }
+    {
+        if self.front != other.front {
+            return self.front.cmp(&other.front);
+        }
+        if are_short(self.text, other.text) {
+            return Ordering::Equal;
+        }
+        self.as_str().cmp(other.as_str())
+    }
+
+    /// Whether two texts have equal fronts.
+    pub(crate) fn has_front_of(&self, other: &TextKey<'_>) -> bool
+        ensures { IsTrue result → HaveOneFront self.now other.now }
+    {
+        self.front == other.front
+    }
+
+    /// Whether two texts have the same bytes.
+    pub fn is_same(&self, other: &TextKey<'_>) -> bool
+        ensures { result ≡ bytes_eq self.now other.now }
+    {
+        self.front == other.front && self.text == other.text
+    }
+}

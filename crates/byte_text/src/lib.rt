@@ -1,0 +1,12 @@
+//! Texts by their bytes: splitting a text at a byte, such as the NUL between the forms of a message or the end of a line,
+//! and keys that carry the number that their first eight bytes spell, which tells most texts apart in one comparison.
+#![tactic(auto)]
+
+mod cut;
+mod key;
+mod long;
+mod place;
+
+pub use cut::{lacks_byte, place_of, split_at_byte, split_at_place};
+pub use key::{TextKey, front_of};
+pub use long::LongKey;

@@ -1,6 +1,0 @@
-use Rattle.text_cut.proofs.Cutting.{lacks_is}
-use Rattle.text_cut.proofs.cut.lacks_byte.Goals as goal
-
-pub returns : goal.returns
-returns c = lacks_is c.args.byte c.args.bytes.now c.place_in.result c.is_none.result c.place_in.ensures
-    c.is_none.ensures
