@@ -356,6 +356,47 @@ def definitions_are_listed():
     return wrong
 
 
+MOST_LINES = 25  # of a crate's README
+
+
+def crates_have_readmes():
+    """each crate with definitions has a README of at most 25 lines that names those that aren't private"""
+    names = set(re.findall(r"^([a-z]\w*)", read("crates.txt"), re.M))
+    wrong = []
+    for crate in sorted({path.parent for part in ("specs", "README.md") for path in TOP.glob(f"crates/*/{part}")}):
+        path = crate / "README.md"
+        text = path.read_text(encoding="utf-8") if path.is_file() else ""
+        if crate.name not in names:
+            wrong.append(f"{crate.name} isn't in crates.txt")
+        if not text.startswith(f"# {crate.name}\n\n"):
+            wrong.append(f"{crate.name} has no README with its name as the title")
+        if (count := len(text.splitlines())) > MOST_LINES:
+            wrong.append(f"{crate.name} has {count} lines")
+        for file in sorted(crate.glob("specs/*.antt")):
+            private = file.stem == "Lib" or file.read_text(encoding="utf-8").startswith("-- Private: ")
+            if not private and f"`specs/{file.name}`" not in text:
+                wrong.append(f"{crate.name} lacks specs/{file.name}")
+    return wrong
+
+
+def names_in_readmes():
+    """each file, crate and item of code in backquotes in the README of a crate exists"""
+    known = set(re.findall(r"[a-z]\w*", re.sub(r"^#.*$", "", read("crates.txt"), flags=re.M)))
+    wrong = []
+    for path in sorted(TOP.glob("crates/*/README.md")):
+        crate = path.parent
+        files = [*crate.glob("src/**/*.rt"), *crate.glob("specs/*.antt")]
+        words = known.union(*(re.findall(r"\w+", file.read_text(encoding="utf-8")) for file in files))
+        for it in re.findall(r"`([^`]*)`", path.read_text(encoding="utf-8")):
+            if re.fullmatch(r"[\w.-]+(?:/[\w.-]+)+", it):
+                found = ((crate if it.startswith(("src/", "specs/")) else TOP) / it).exists()
+            else:
+                found = not re.fullmatch(r"\w+(?:::\w+)*", it) or words.issuperset(it.split("::"))
+            if not found:
+                wrong.append(f"{crate.name}: {it}")
+    return wrong
+
+
 MOST_WORDS = 35  # of a sentence
 
 
@@ -407,6 +448,8 @@ RULES = (
     places,
     crates_are_listed,
     definitions_are_listed,
+    crates_have_readmes,
+    names_in_readmes,
     sentences,
 )
 

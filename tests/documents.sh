@@ -53,6 +53,12 @@ crates/po_header/src/lib.rt^EXPRESSION_LIMIT: usize = 1000^EXPRESSION_LIMIT: usi
 crates/live_set/src/name.rt^NAME_LIMIT: usize = 64^NAME_LIMIT: usize = 65
 crates/live_versions/src/store.rt^MOST_READERS: u32 = 16^MOST_READERS: u32 = 32
 crates/script_text/src/field.rt^MOST_WORKERS: u64 = 16^MOST_WORKERS: u64 = 32
+crates/po_text/README.md^`specs/Outcome.antt`^`specs/Result.antt`
+crates/mo_file/README.md^`src/laws.rt`^`src/law.rt`
+crates/catalogue/README.md^`compile_owned`^`compile_own`
+crates/live_set/README.md^`test_set`^`test_sets`
+crates/kobdzila_c/README.md^`c/set.c`^`c/sets.c`
+crates/desks/README.md^# desks^# desk
 crates/script_text/src/command.rt^"loadmo" => ^"load_mo" => 
 docs/FORMATS.md^| 9 | Duplicate ^| 10 | Duplicate 
 docs/FORMATS.md^`newlines differ`^`newline differs`

@@ -1,5 +1,5 @@
-//! Texts by their bytes: splitting a text at a byte, such as the NUL between the forms of a message or the end of a line,
-//! and keys that carry the number that their first eight bytes spell, which tells most texts apart in one comparison.
+//! Texts by their bytes: splitting a text at a byte, such as the NUL between the forms of a message or the end of a
+//! line, and keys that carry the number that their first eight bytes spell, which tells most texts apart at once.
 #![tactic(auto)]
 
 mod cut;
