@@ -108,7 +108,7 @@ strip = ! command -v $(STRIP) > /dev/null || $(STRIP)
 
 install: $(PROGRAMS:%=bin/%)
 	install -d "$(to)$(docdir)"
-	install -m 644 docs/FORMATS.md "$(to)$(docdir)/FORMATS.md"
+	install -m 644 docs/reference/po.md "$(to)$(docdir)/FORMATS.md"
 	for name in $(PROGRAMS); do $(MAKE) -s install_program NAME=$$name || exit 1; done
 	if [ -f bin/$(DRIVER) ]; then $(MAKE) -s install_program NAME=$(DRIVER); fi
 	if [ -f build/lib/$(SHARED) ]; then $(MAKE) -s install_library; fi

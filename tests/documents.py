@@ -14,7 +14,7 @@ from pathlib import Path
 TOP = Path(sys.argv[1] if len(sys.argv) > 1 else ".")
 PROGRAM = sys.argv[2] if len(sys.argv) > 2 else None
 SESSION = sys.argv[3] if len(sys.argv) > 3 else None
-FORMATS = "docs/FORMATS.md"
+FORMATS = "docs/reference/po.md"
 MSGFMT_PAGE = "docs/man/msgfmt.1"
 CATSERVE_PAGE = "docs/man/catserve.1"
 SESSION_PAGE = "docs/man/catsession.1"
@@ -306,7 +306,7 @@ def limits():
         (SESSION_PAGE, f"--workers takes a number from 1 to {workers}"),
         (SESSION_PAGE, f"There are 1 to {workers} workers"),
         ("examples/python/session.py", f"MOST_LINES = {text:_} - "),
-        ("docs/LIVE.md", f"one publisher and 1 to {readers} readers"),
+        ("docs/guide/rattle.md", f"one publisher and 1 to {readers} readers"),
         ("README.md", f"from 1 to {readers} threads"),
     )
     wrong = [f"{place} has not: {words}" for place, words in places if words not in plain(place)]
@@ -324,7 +324,7 @@ def plain(name):
 def places():
     """each link, and each path in backquotes, leads to something"""
     wrong = []
-    for path in sorted([*TOP.glob("*.md"), *TOP.glob("docs/*.md")]):
+    for path in sorted([*TOP.glob("*.md"), *TOP.glob("docs/**/*.md")]):
         text = path.read_text(encoding="utf-8")
         links = [path.parent / it.split("#")[0] for it in re.findall(r"\]\(([^):]+)\)", text) if not it.startswith("#")]
         named = [TOP / it for it in re.findall(r"`((?:crates|tests|tools|examples|bench|docs)/[\w./-]+)`", text)]
@@ -336,13 +336,13 @@ def places():
 def crates_are_listed():
     """each crate has its place in README, the map of the code and the table of times"""
     names = set(re.findall(r"^([a-z]\w*)", read("crates.txt"), re.M))
-    pages = ("README.md", "docs/ARCHITECTURE.md", "docs/GATE.md")
+    pages = ("README.md", "docs/internals/architecture.md", "docs/internals/gate.md")
     return [f"{page} has not: {name}" for page in pages for name in sorted(names) if f"`{name}`" not in read(page)]
 
 
 def definitions_are_listed():
     """each file of definitions is named in the map of the code, and the private ones as private"""
-    parts = re.findall(r"^## (.+?)\n(.*?)(?=^## |\Z)", read("docs/ARCHITECTURE.md"), re.M | re.S)
+    parts = re.findall(r"^## (.+?)\n(.*?)(?=^## |\Z)", read("docs/internals/architecture.md"), re.M | re.S)
     wrong = []
     for path in sorted(TOP.glob("crates/*/specs/*.antt")):
         crate, name = path.parts[-3], path.stem
@@ -382,7 +382,7 @@ def sentences():
     """no sentence has more than 35 words"""
     end = re.compile(r'(?:(?<=[.!?])|(?<=[.!?]\*\*)|(?<=[.!?][)"]))\s+(?=[^a-z])')
     wrong = []
-    for path in sorted([*TOP.glob("*.md"), *TOP.glob("docs/*.md")]):
+    for path in sorted([*TOP.glob("*.md"), *TOP.glob("docs/**/*.md")]):
         for line, paragraph in paragraphs(path.read_text(encoding="utf-8")):
             counts = [len(sentence.split()) for sentence in end.split(paragraph)]
             wrong += [f"{path.name}:{line}: {count} words" for count in counts if count > MOST_WORDS]

@@ -54,18 +54,18 @@ crates/live_set/src/name.rt^NAME_LIMIT: usize = 64^NAME_LIMIT: usize = 65
 crates/live_versions/src/store.rt^MOST_READERS: u32 = 16^MOST_READERS: u32 = 32
 crates/script_text/src/field.rt^MOST_WORKERS: u64 = 16^MOST_WORKERS: u64 = 32
 crates/script_text/src/command.rt^"loadmo" => ^"load_mo" => 
-docs/FORMATS.md^| 9 | Duplicate ^| 10 | Duplicate 
-docs/FORMATS.md^`newlines differ`^`newline differs`
-docs/FORMATS.md^| 10 | Charset | the kept^| 9 | Charset | the kept
-docs/FORMATS.md^--statistics^--stats
-docs/FORMATS.md^67,108,864^67,108,863
-docs/FORMATS.md^no place for a reader^no room for a reader
-docs/FORMATS.md^catsession [--workers N]^catsession [--worker N]
-docs/FORMATS.md^`store closed`^`the store closed`
-docs/FORMATS.md^unknown word WORD^no such word WORD
-docs/FORMATS.md^a word is not UTF-8^a word is no UTF-8
+docs/reference/po.md^| 9 | Duplicate ^| 10 | Duplicate 
+docs/reference/po.md^`newlines differ`^`newline differs`
+docs/reference/po.md^| 10 | Charset | the kept^| 9 | Charset | the kept
+docs/reference/po.md^--statistics^--stats
+docs/reference/po.md^67,108,864^67,108,863
+docs/reference/po.md^no place for a reader^no room for a reader
+docs/reference/po.md^catsession [--workers N]^catsession [--worker N]
+docs/reference/po.md^`store closed`^`the store closed`
+docs/reference/po.md^unknown word WORD^no such word WORD
+docs/reference/po.md^a word is not UTF-8^a word is no UTF-8
 docs/man/catsession.1^a word is not UTF\-8^a word is no UTF\-8
-docs/FORMATS.md^A round has at most 67,108,864^A round has at most 67,108,863
+docs/reference/po.md^A round has at most 67,108,864^A round has at most 67,108,863
 docs/man/msgfmt.1^\-\-no\-hash ]^\-\-nohash ]
 docs/man/msgfmt.1^\-\-verbose^\-\-loud
 docs/man/msgfmt.1^1,000 bytes^1,001 bytes
@@ -84,8 +84,8 @@ tools/completion^'--workers --help --version -h -V'^'--workers --help --version 
 tools/completion^--stringtable-input^--stringtable
 c/or_gnu_words.c^{"java2",^{"java3",
 c/msgfmt_or_gnu.c^warning: header field^warning: field
-README.md^(docs/LIVE.md)^(docs/ALIVE.md)
+README.md^(docs/guide/rattle.md)^(docs/guide/rattles.md)
 crates.txt^po_text: bstr^po_words: bstr
-docs/ARCHITECTURE.md^`Lexing`, ^
+docs/internals/architecture.md^`Lexing`, ^
 CONTRIBUTING.md^in one document. The rules^in one document and in no more than this one, and the rules
 END
