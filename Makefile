@@ -107,8 +107,8 @@ to = $(DESTDIR)
 strip = ! command -v $(STRIP) > /dev/null || $(STRIP)
 
 install: $(PROGRAMS:%=bin/%)
-	install -d "$(to)$(docdir)"
-	install -m 644 docs/reference/po.md "$(to)$(docdir)/FORMATS.md"
+	install -d "$(to)$(docdir)/reference"
+	install -m 644 docs/reference/*.md "$(to)$(docdir)/reference"
 	for name in $(PROGRAMS); do $(MAKE) -s install_program NAME=$$name || exit 1; done
 	if [ -f bin/$(DRIVER) ]; then $(MAKE) -s install_program NAME=$(DRIVER); fi
 	if [ -f build/lib/$(SHARED) ]; then $(MAKE) -s install_library; fi
@@ -150,8 +150,8 @@ uninstall: uninstall_library
 	for name in $(PROGRAMS) $(DRIVER); do rm -f "$(to)$(bindir)/$(PROGRAM_PREFIX)$$name"; done
 	for name in $(PROGRAMS) $(DRIVER); do rm -f "$(to)$(mandir)/man1/$(PROGRAM_PREFIX)$$name.1"; done
 	for name in $(COMPLETED); do rm -f "$(to)$(completiondir)/$(PROGRAM_PREFIX)$$name"; done
-	rm -f "$(to)$(docdir)/FORMATS.md"
-	rmdir "$(to)$(docdir)" 2> /dev/null || true
+	for page in $(notdir $(wildcard docs/reference/*.md)); do rm -f "$(to)$(docdir)/reference/$$page"; done
+	rmdir "$(to)$(docdir)/reference" "$(to)$(docdir)" 2> /dev/null || true
 
 clean:
 	rm -rf bin build crates/*/out

@@ -1,6 +1,6 @@
 #!/usr/bin/env python3
 """Checks that the pages quote what stands in the sources: each program, in a file that its page names, and each clause
-of the tables of docs/CALLERS.md and docs/internals/proofs.md. Prints `ok callers`, or a line for what isn't there.
+of the tables of docs/guide/rattle.md and docs/internals/proofs.md. Prints `ok callers`, or a line for what isn't there.
 """
 import re
 import sys
@@ -66,7 +66,7 @@ def missing_clauses(page):
 def main():
     pages = [Path("README.md"), *sorted(Path("docs").glob("**/*.md"))]
     missing = [f"{page}: {what}" for page in pages for what in missing_programs(page)]
-    for name in ("docs/CALLERS.md", "docs/internals/proofs.md"):
+    for name in ("docs/guide/rattle.md", "docs/internals/proofs.md"):
         missing += [f"{name}: {what}" for what in missing_clauses(Path(name))]
     for what in missing:
         print(f"FAILED callers: not in the sources: {what}")

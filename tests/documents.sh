@@ -1,6 +1,7 @@
 #!/usr/bin/env bash
-# Compares what the documents, man pages, completions and the help say of kinds, numbers, texts, options and limits with
-# the code (tests/documents.py), and sees that a change in one place alone is found: each line below is such a change.
+# Compares what the documents, man pages, completions and the help say of kinds, numbers, texts, options, limits and links
+# with the code (tests/documents.py), and runs the commands that they show (tests/transcripts.py). Then it checks that a
+# contradiction is found: each line below is a change in one place alone.
 . "$(dirname "$0")/common"
 
 session=${SESSION:-bin/catsession}
@@ -9,10 +10,12 @@ if [ ! -x "$session" ]; then
   exit 0
 fi
 python3 -B tests/documents.py . "$program" "$session"
+python3 -B tests/transcripts.py "$program" README.md docs/guide/*.md
 
 top=$room/repo
 mkdir -p "$top"
-tar cf - --exclude out ./*.md crates.txt docs tools tests examples bench include c crates | tar xf - -C "$top"
+tar cf - --exclude out ./*.md .github Makefile crates.txt docs tools tests examples bench include c packaging crates |
+  tar xf - -C "$top"
 if python3 -B tests/documents.py "$top" | grep -q '^FAILED'; then
   failed 'documents, changes' 'a copy of the repository is not as the rules say'
   exit 0
@@ -55,17 +58,17 @@ crates/live_versions/src/store.rt^MOST_READERS: u32 = 16^MOST_READERS: u32 = 32
 crates/script_text/src/field.rt^MOST_WORKERS: u64 = 16^MOST_WORKERS: u64 = 32
 crates/script_text/src/command.rt^"loadmo" => ^"load_mo" => 
 docs/reference/po.md^| 9 | Duplicate ^| 10 | Duplicate 
-docs/reference/po.md^`newlines differ`^`newline differs`
+docs/reference/msgfmt.md^`newlines differ`^`newline differs`
 docs/reference/po.md^| 10 | Charset | the kept^| 9 | Charset | the kept
-docs/reference/po.md^--statistics^--stats
+docs/reference/msgfmt.md^--statistics^--stats
 docs/reference/po.md^67,108,864^67,108,863
-docs/reference/po.md^no place for a reader^no room for a reader
-docs/reference/po.md^catsession [--workers N]^catsession [--worker N]
-docs/reference/po.md^`store closed`^`the store closed`
-docs/reference/po.md^unknown word WORD^no such word WORD
-docs/reference/po.md^a word is not UTF-8^a word is no UTF-8
+docs/reference/scripts.md^no place for a reader^no room for a reader
+docs/reference/scripts.md^catsession [--workers N]^catsession [--worker N]
+docs/reference/scripts.md^`store closed`^`the store closed`
+docs/reference/scripts.md^unknown word WORD^no such word WORD
+docs/reference/scripts.md^a word is not UTF-8^a word is no UTF-8
 docs/man/catsession.1^a word is not UTF\-8^a word is no UTF\-8
-docs/reference/po.md^A round has at most 67,108,864^A round has at most 67,108,863
+docs/reference/scripts.md^A round has at most 67,108,864^A round has at most 67,108,863
 docs/man/msgfmt.1^\-\-no\-hash ]^\-\-nohash ]
 docs/man/msgfmt.1^\-\-verbose^\-\-loud
 docs/man/msgfmt.1^1,000 bytes^1,001 bytes
@@ -85,7 +88,14 @@ tools/completion^--stringtable-input^--stringtable
 c/or_gnu_words.c^{"java2",^{"java3",
 c/msgfmt_or_gnu.c^warning: header field^warning: field
 README.md^(docs/guide/rattle.md)^(docs/guide/rattles.md)
+docs/reference/po.md^(headers.md)^(headers.md#headings)
+docs/reference/po.md^(c-formats.md)^(../guide/c.md)
+docs/index.md^(internals/gate.md)^(internals/releases.md)
+docs/guide/c.md^*For programmers^*By programmers
+docs/internals/glossary.md^`crates/desks/src/desk.rt`^`crates/desks/src/desks.rt`
+tests/languages.sh^docs/reference/look-ups.md^docs/FORMATS.md
+docs/man/msgfmt.1^reference/gnu\-differences.md^reference/gnu\-msgfmt.md
 crates.txt^po_text: bstr^po_words: bstr
 docs/internals/architecture.md^`Lexing`, ^
-CONTRIBUTING.md^in one document. The rules^in one document and in no more than this one, and the rules
+CONTRIBUTING.md^in one document, and the others link to it. How to do something^in one document and in no more than this one, and the others link to it, and how to do something
 END
