@@ -10,7 +10,7 @@ REFUSED = "// does not compile: "  # such a program is tests/refused_programs.sh
 BLOCK = re.compile(r"^```rust\n(.*?)^```$", re.M | re.S)
 SOURCE = re.compile(r"`(crates/[\w/]+\.rt)`")
 USE = re.compile(r"^(?:ghost )?use ([^;]*);\n", re.M)
-CLAUSE = re.compile(r"^\|(?: [^|`]* \|)? `(\w+)` \| `([^`]*)`", re.M)
+CLAUSE = re.compile(r"^\|(?: [^|`]* \|)? `(\w+)` \| `([^`]*)` \|", re.M)
 
 
 def words_of_uses(text):
