@@ -78,7 +78,7 @@ docs/man/catserve.1^16 workers^17 workers
 docs/man/catsession.1^.BI \-\-workers^.BI \-\-threads
 docs/man/catsession.1^round too large;^round is too large;
 docs/man/catsession.1^an MO file 268,435,456^an MO file 268,435,455
-docs/man/catsession.1^from 1 to 16, and^from 1 to 17, and
+docs/man/catsession.1^threads, 1 to 16;^threads, 1 to 17;
 docs/man/msgfmt-or-gnu.1^\-\-tcl^\-\-tk
 tools/completion^--use-fuzzy^--fuzzy
 include/kobdzila.h^KOB_MO_ORDER = 9^KOB_MO_ORDER = 8
