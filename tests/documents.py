@@ -399,6 +399,12 @@ def places():
     return wrong
 
 
+def pictures():
+    """each picture is what tools/pictures draws"""
+    run = subprocess.run([TOP / "tools/pictures", "--check"], capture_output=True, text=True, check=False)
+    return [*run.stdout.splitlines(), *run.stderr.splitlines()[-1:]]
+
+
 def glossary():
     """each word of the glossary has one line, with a file that is there"""
     wrong = []
@@ -502,6 +508,7 @@ RULES = (
     reference_stands_alone,
     places,
     glossary,
+    pictures,
     names_of_pages,
     crates_are_listed,
     definitions_are_listed,

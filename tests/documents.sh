@@ -92,6 +92,8 @@ docs/reference/po.md^(headers.md)^(headers.md#headings)
 docs/reference/po.md^(c-formats.md)^(../guide/c.md)
 docs/index.md^(internals/gate.md)^(internals/releases.md)
 docs/guide/c.md^*For programmers^*By programmers
+docs/internals/benchmarks.md^| 145 ms |^| 146 ms |
+docs/images/publish.svg^version 3^version 4
 docs/internals/glossary.md^`crates/desks/src/desk.rt`^`crates/desks/src/desks.rt`
 tests/languages.sh^docs/reference/look-ups.md^docs/FORMATS.md
 docs/man/msgfmt.1^reference/gnu\-differences.md^reference/gnu\-msgfmt.md
