@@ -12,6 +12,18 @@ fi
 python3 -B tests/documents.py . "$program" "$session"
 python3 -B tests/transcripts.py "$program" README.md docs/guide/*.md
 
+# the program of the guide for C, with examples/fr.po
+sed -n '/^```c$/,/^```$/{/^```/!p; /^```$/q}' docs/guide/c.md > "$room/hello.c"
+cp examples/fr.po "$room/fr.po"
+if [ ! -f build/lib/libkobdzila.a ] || ! tests/needs gcc gcc libc6-dev; then
+  skipped 'documents: the program of the guide for C' 'no libkobdzila or no gcc'
+elif gcc -Wall -Wextra -Werror -Iinclude -o "$room/hello" "$room/hello.c" build/lib/libkobdzila.a 2> "$room/err" &&
+  [ "$(cd "$room" && ./hello)" = tomates ]; then
+  ok 'documents: the program of the guide for C'
+else
+  failed 'documents: the program of the guide for C' "$(head -n 3 "$room/err")"
+fi
+
 top=$room/repo
 mkdir -p "$top"
 tar cf - --exclude out ./*.md .github Makefile crates.txt docs tools tests examples bench include c packaging crates |
