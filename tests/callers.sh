@@ -1,5 +1,5 @@
 #!/usr/bin/env bash
-# Checks that the pages quote what stands in the sources (tests/callers.py): each program of README.md and docs/, and
+# Checks that the pages quote the sources (tests/callers.py): each program of README.md and docs/, and
 # each clause of docs/guide/rattle.md and docs/internals/proofs.md.
 no_program=1
 . "$(dirname "$0")/common"

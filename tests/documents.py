@@ -58,7 +58,7 @@ def variants(path, enum):
 
 
 def kinds(path, enum):
-    """The same with their numbers, from 1, without want of memory: {number: (name, text)}."""
+    """The variants with their numbers, from 1, without running out of memory: {number: (name, text)}."""
     found = [(name, text) for text, name in variants(path, enum) if name != "Memory"]
     return dict(enumerate(found, 1))
 
@@ -345,7 +345,7 @@ def anchors(text):
 
 
 def links(path):
-    """The places that a page links to: each with its file and what stands after `#`."""
+    """The places that a page links to: each with its file and what follows `#`."""
     for it in re.findall(r"\]\(([^)\s:]+)\)", prose(path.read_text(encoding="utf-8"))):
         name, _, anchor = it.partition("#")
         yield it, (path.parent / name).resolve() if name else path.resolve(), anchor

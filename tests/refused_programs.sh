@@ -12,7 +12,7 @@ mkdir -p "$room/repo/crates"
 cp HANDLES crates.txt "$room/repo/"
 tar cf - --exclude out crates | tar xf - -C "$room/repo"
 
-# each program behind its name into a crate of that name: the word after `pub fn`
+# each program goes into a crate that has the name of its function, after `pub fn`
 awk -v room="$room/repo/crates" '
   /^```rust$/ { inside = 1; text = ""; error = ""; next }
   /^```$/ && inside {

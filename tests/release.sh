@@ -1,6 +1,6 @@
 #!/usr/bin/env bash
-# The release: the version is the same wherever it is told; the C interface is what the last release promised; a tarball
-# packed twice, in two folders, by two users, is the same bytes, holds what it says, runs where there is no C library, and
+# The release: the version is the same everywhere; the C interface is what the last release promised; a tarball packed
+# twice, in two folders, by two users, has the same bytes, contains what it says, runs where there is no C library, and
 # is installed and removed without root; and the Debian packages are the same bytes twice, and pass lintian.
 #
 # tests/debian tries both in minimal systems of several Debian releases; it isn't a part of `make check`.
