@@ -375,6 +375,21 @@ def pages_are_linked():
     return [f"{path.relative_to(TOP)}" for path in hidden]
 
 
+MOST_LINES_OF_README = 120
+MOST_COLUMNS = 120
+
+
+def pages_are_compact():
+    """README has at most 120 lines, and no line but a table's is wider than 120 columns"""
+    count = len(read("README.md").splitlines())
+    wrong = [f"README.md: {count} lines"] if count > MOST_LINES_OF_README else []
+    for path in pages():
+        for number, line in enumerate(path.read_text(encoding="utf-8").splitlines(), 1):
+            if len(line) > MOST_COLUMNS and not line.lstrip().startswith("|"):
+                wrong.append(f"{path.relative_to(TOP)}:{number}")
+    return wrong
+
+
 def pages_say_for_whom():
     """each page of docs/ says in its first line for whom it is"""
     first = re.compile(r"# [^\n]+\n\n\*For ")
@@ -504,6 +519,7 @@ RULES = (
     limits,
     links_lead_somewhere,
     pages_are_linked,
+    pages_are_compact,
     pages_say_for_whom,
     reference_stands_alone,
     places,
