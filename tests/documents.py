@@ -472,6 +472,16 @@ def definitions_are_listed():
     return wrong
 
 
+def functions_that_wait():
+    """the functions that may wait are those whose signatures say so"""
+    waits = re.compile(r"^ *pub fn (\w+)\s*<[^(]*\bWait\b", re.M)
+    wanted = {name for path in sorted(TOP.glob("crates/*/src/*.rt")) if (path.parent.parent / "must-fail").is_dir()
+              for name in waits.findall(path.read_text(encoding="utf-8"))}
+    listed = re.search(r"public functions\s+may\s+wait:(.*?), so the", read("docs/internals/proofs.md"), re.S)[1]
+    found = {name.split("::")[-1] for name in re.findall(r"`([\w:]+)`(?! of)", re.sub(r"of `\w+`", "", listed))}
+    return differences("docs/internals/proofs.md", found, wanted)
+
+
 MOST_WORDS = 35  # of a sentence
 
 
@@ -531,6 +541,7 @@ RULES = (
     names_of_pages,
     crates_are_listed,
     definitions_are_listed,
+    functions_that_wait,
     sentences,
 )
 
