@@ -1,10 +1,10 @@
 # Kobdzila: builds, checks, measures and installs.
 #
 #   make            builds the programs into bin/ and libkobdzila into build/lib, msgfmt first, and compiles the PO files
-#                   of examples/ with it. The first time proves everything; tools/build says how far it is
+#                   of examples/ with it. The first build proves everything; tools/build shows its progress
 #   make msgfmt     builds bin/msgfmt alone; so do `make catserve` and `make catsession`
 #   make check      every check: the proofs and tests of the gate (rt ci), then the scripts of tests/
-#   make bench      times bin/msgfmt beside GNU msgfmt, scripts and a session; N=7 says how many rounds
+#   make bench      times bin/msgfmt compared with GNU msgfmt, scripts and a session; N=7 sets the number of rounds
 #   make driver     builds bin/msgfmt-or-gnu, the msgfmt for build systems, if there is a C compiler; `make` does too
 #   make library    builds libkobdzila, the look-ups for C, into build/lib, if there is a C compiler; `make` does too.
 #                   CC, CPPFLAGS, CFLAGS and LDFLAGS count
@@ -18,9 +18,9 @@
 #   make uninstall  removes what `make install` with the same variables has put there
 #   make clean      removes what was built, and what the prover kept (crates/*/out)
 #
-# Beside the Rattle toolchain (the command rt) it needs make, bash and Python 3. The checks and the bench also
-# use gettext, gcc and valgrind; tests/needs installs what is missing where it can, else that part is skipped. A release
-# needs git, gcc and binutils, and `make deb` debhelper. STATIC= installs the programs that use the shared C library.
+# It needs the Rattle toolchain (the command rt), make, bash and Python 3. The checks and the bench also use gettext, gcc and
+# valgrind; tests/needs installs what is missing if it can, otherwise that part is skipped. A release needs git, gcc and
+# binutils, and `make deb` debhelper. STATIC= installs the programs that use the shared C library.
 
 PREFIX = /usr/local
 DESTDIR =
@@ -107,8 +107,8 @@ to = $(DESTDIR)
 strip = ! command -v $(STRIP) > /dev/null || $(STRIP)
 
 install: $(PROGRAMS:%=bin/%)
-	install -d "$(to)$(docdir)"
-	install -m 644 docs/FORMATS.md "$(to)$(docdir)/FORMATS.md"
+	install -d "$(to)$(docdir)/reference"
+	install -m 644 docs/reference/*.md "$(to)$(docdir)/reference"
 	for name in $(PROGRAMS); do $(MAKE) -s install_program NAME=$$name || exit 1; done
 	if [ -f bin/$(DRIVER) ]; then $(MAKE) -s install_program NAME=$(DRIVER); fi
 	if [ -f build/lib/$(SHARED) ]; then $(MAKE) -s install_library; fi
@@ -150,8 +150,8 @@ uninstall: uninstall_library
 	for name in $(PROGRAMS) $(DRIVER); do rm -f "$(to)$(bindir)/$(PROGRAM_PREFIX)$$name"; done
 	for name in $(PROGRAMS) $(DRIVER); do rm -f "$(to)$(mandir)/man1/$(PROGRAM_PREFIX)$$name.1"; done
 	for name in $(COMPLETED); do rm -f "$(to)$(completiondir)/$(PROGRAM_PREFIX)$$name"; done
-	rm -f "$(to)$(docdir)/FORMATS.md"
-	rmdir "$(to)$(docdir)" 2> /dev/null || true
+	for page in $(notdir $(wildcard docs/reference/*.md)); do rm -f "$(to)$(docdir)/reference/$$page"; done
+	rmdir "$(to)$(docdir)/reference" "$(to)$(docdir)" 2> /dev/null || true
 
 clean:
 	rm -rf bin build crates/*/out

@@ -1,6 +1,6 @@
 #!/bin/sh
-# Talks with a live session by two named pipes: examples/session.sh [PROGRAM] (catsession). It loads a French text, asks,
-# loads another one in its place, and asks once more; each answer stands behind the version that it is of.
+# Talks to a live session over two named pipes: examples/session.sh [PROGRAM] (catsession). It loads a French text, asks,
+# replaces it by another one, and asks again; each answer is printed after its version.
 set -eu
 tab=$(printf '\t')
 room=$(mktemp -d)
@@ -15,7 +15,7 @@ say() {
   (IFS=$tab && printf '%s\n' "$*") >&3
 }
 
-# load DOMAIN LOCALE FILE: loads the PO text of a file, and prints what became of it. It is published at once
+# load DOMAIN LOCALE FILE: loads a PO file, publishes it, and prints the result
 load() {
   say load "$1" "$2" c $(($(wc -l < "$3")))
   cat "$3" >&3

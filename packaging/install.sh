@@ -15,4 +15,4 @@ find bin include lib share ! -type d | while read -r file; do
     */completions/*) sed "s|@PREFIX@|$as|g" "$file" > "$to" ;;
   esac
 done
-[ $# = 0 ] || rmdir "$prefix/share/doc/${as}kobdzila"
+[ $# = 0 ] || rmdir "$prefix/share/doc/${as}kobdzila/reference" "$prefix/share/doc/${as}kobdzila"

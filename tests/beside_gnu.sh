@@ -1,5 +1,5 @@
 #!/usr/bin/env bash
-# Asks bin/msgfmt and GNU msgfmt what docs/FORMATS.md says under "Beside GNU gettext": a text for each row of its tables
+# Asks bin/msgfmt and GNU msgfmt what docs/reference/gnu-differences.md says: a text for each row of its tables
 # that is about PO texts, what GNU msgfmt 0.21 does with it, and what ours says. Rows about later versions and about files
 # that are written are not here; tests/replace.sh has the latter, tests/or_gnu.sh those about words and charsets.
 . "$(dirname "$0")/common"

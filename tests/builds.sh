@@ -1,5 +1,5 @@
 #!/usr/bin/env bash
-# Builds three small projects by bin/msgfmt in place of GNU msgfmt, as the README says: one of CMake (FindGettext), one
+# Builds three small projects with bin/msgfmt instead of GNU msgfmt, as docs/guide/build-systems.md says: one of CMake (FindGettext), one
 # of Meson (i18n.gettext) and one of the GNU build system (po/Makefile.in.in). Each must call it, and make the MO file
 # that it makes by itself. A build system that is not here, and can't be installed, is skipped.
 . "$(dirname "$0")/common"

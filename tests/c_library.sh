@@ -1,7 +1,7 @@
 #!/usr/bin/env bash
 # Builds libkobdzila and calls it: from C, with each function and each refusal, under valgrind and with
-# AddressSanitizer; from threads that ask while catalogues are swapped; with mutated MO files, beside the refusals that
-# bin/catserve gives (CATSERVE=PATH: another program); as it is installed; and from Python, beside Python's own gettext
+# AddressSanitizer; from threads that look up while catalogues are swapped; with mutated MO files, compared with the refusals
+# of bin/catserve (CATSERVE=PATH: another program); as it is installed; and from Python, compared with Python's own gettext
 # on the catalogues of this machine.
 no_program=1
 . "$(dirname "$0")/common"

@@ -1,6 +1,6 @@
 #!/usr/bin/env bash
-# Calls libkobdzila in trouble (tests/c_trouble.c): each request for memory refused in turn, no file descriptors, files
-# of all kinds, NULL; by themselves, under valgrind and with the sanitizers. Then: in a program with an allocator of its
+# Calls libkobdzila in trouble (tests/c_trouble.c): each allocation refused in turn, no file descriptors, files
+# of all kinds, NULL; by itself, under valgrind and with the sanitizers. Then: in a program with an allocator of its
 # own; how much of a stack the calls take; and by which flags the library is compiled.
 no_program=1
 . "$(dirname "$0")/common"

@@ -1,6 +1,6 @@
 #!/usr/bin/env python3
-"""Checks that the pages quote what stands in the sources: each program, in a file that its page names, and each clause
-of the tables of docs/CALLERS.md and docs/PROVED.md. Prints `ok callers`, or a line for what isn't there.
+"""Checks that the pages quote the sources: each program, from a file that its page names, and each clause
+of the tables of docs/guide/rattle.md and docs/internals/proofs.md. Prints `ok callers`, or a line for what isn't there.
 """
 import re
 import sys
@@ -10,7 +10,7 @@ REFUSED = "// does not compile: "  # such a program is tests/refused_programs.sh
 BLOCK = re.compile(r"^```rust\n(.*?)^```$", re.M | re.S)
 SOURCE = re.compile(r"`(crates/[\w/]+\.rt)`")
 USE = re.compile(r"^(?:ghost )?use ([^;]*);\n", re.M)
-CLAUSE = re.compile(r"^\|(?: [^|`]* \|)? `(\w+)` \| `([^`]*)`", re.M)
+CLAUSE = re.compile(r"^\|(?: [^|`]* \|)? `(\w+)` \| `([^`]*)` \|", re.M)
 
 
 def words_of_uses(text):
@@ -29,12 +29,12 @@ def source(name):
 
 
 def parts(block):
-    """The items of a program, one behind another, without the `use` lines."""
+    """The items of a program, one after another, without the `use` lines."""
     return [part.strip("\n") for part in USE.sub("", block).split("\n\n") if part.strip()]
 
 
 def missing_programs(page):
-    """Of each program of a page the first line of what doesn't stand in a source that the page names."""
+    """For each program of a page, the first line of what isn't in a source that the page names."""
     text = page.read_text(encoding="utf-8")
     sources = [source(name) for name in SOURCE.findall(text)]
     uses = set().union(*map(words_of_uses, sources))
@@ -53,7 +53,7 @@ def contracts(name, text):
 
 
 def missing_clauses(page):
-    """The clauses of a page's tables that no function of the name beside them has."""
+    """The clauses of a page's tables that no function of the name next to them has."""
     sources = [path.read_text(encoding="utf-8") for path in Path("crates").glob("*/src/*.rt")]
     quoted = CLAUSE.findall(page.read_text(encoding="utf-8"))
     if not quoted:
@@ -64,9 +64,9 @@ def missing_clauses(page):
 
 
 def main():
-    pages = [Path("README.md"), *sorted(Path("docs").glob("*.md"))]
+    pages = [Path("README.md"), *sorted(Path("docs").glob("**/*.md"))]
     missing = [f"{page}: {what}" for page in pages for what in missing_programs(page)]
-    for name in ("docs/CALLERS.md", "docs/PROVED.md"):
+    for name in ("docs/guide/rattle.md", "docs/internals/proofs.md"):
         missing += [f"{name}: {what}" for what in missing_clauses(Path(name))]
     for what in missing:
         print(f"FAILED callers: not in the sources: {what}")

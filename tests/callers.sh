@@ -1,6 +1,6 @@
 #!/usr/bin/env bash
-# Checks that the pages quote what stands in the sources (tests/callers.py): each program of README.md and docs/, and
-# each clause of docs/CALLERS.md and docs/PROVED.md.
+# Checks that the pages quote the sources (tests/callers.py): each program of README.md and docs/, and
+# each clause of docs/guide/rattle.md and docs/internals/proofs.md.
 no_program=1
 . "$(dirname "$0")/common"
 

@@ -14,15 +14,22 @@ from pathlib import Path
 TOP = Path(sys.argv[1] if len(sys.argv) > 1 else ".")
 PROGRAM = sys.argv[2] if len(sys.argv) > 2 else None
 SESSION = sys.argv[3] if len(sys.argv) > 3 else None
-FORMATS = "docs/FORMATS.md"
+PO = "docs/reference/po.md"
+HEADERS = "docs/reference/headers.md"
+MO = "docs/reference/mo.md"
+LOOK_UPS = "docs/reference/look-ups.md"
+COMMAND = "docs/reference/msgfmt.md"
+SCRIPT_PAGE = "docs/reference/scripts.md"
+ARCHITECTURE = "docs/internals/architecture.md"
 MSGFMT_PAGE = "docs/man/msgfmt.1"
 CATSERVE_PAGE = "docs/man/catserve.1"
 SESSION_PAGE = "docs/man/catsession.1"
 DRIVER_PAGE = "docs/man/msgfmt-or-gnu.1"
+LIBRARY_PAGE = "docs/man/kobdzila.3"
 DRIVER_OPTIONS = "c/or_gnu_words.c"
 HEADER = "include/kobdzila.h"
 COMPLETION = "tools/completion"
-LEAST_LIMIT = 10_000_000  # a number of the documents from here on is one of the limits
+LEAST_LIMIT = 20_000_000  # a number of the documents from here on is one of the limits
 
 
 def read(name):
@@ -52,7 +59,7 @@ def variants(path, enum):
 
 
 def kinds(path, enum):
-    """The same with their numbers, from 1, without want of memory: {number: (name, text)}."""
+    """The variants with their numbers, from 1, without running out of memory: {number: (name, text)}."""
     found = [(name, text) for text, name in variants(path, enum) if name != "Memory"]
     return dict(enumerate(found, 1))
 
@@ -87,25 +94,25 @@ def numbered(text):
 def kinds_of_texts():
     """the kinds of refusal of a PO text, with their numbers"""
     wanted = [(number, name) for number, (name, _) in kinds(*LOADS).items()]
-    here = numbered(section(FORMATS, "PO texts")) + numbered(section(FORMATS, "What compile keeps and refuses"))
+    here = numbered(section(PO, "Refusals of a text")) + numbered(section(PO, "What compile keeps and refuses"))
     first = [(number, name) for number, (name, _) in kinds(*TEXTS).items()]
-    return differences(FORMATS, here, wanted) + differences(TEXTS[0], wanted[: len(first)], first)
+    return differences(PO, here, wanted) + differences(TEXTS[0], wanted[: len(first)], first)
 
 
 def kinds_of_files():
     """the kinds of refusal of an MO file, with their numbers"""
     wanted = [(number, name) for number, (name, _) in kinds(*FILES).items()]
-    return differences(FORMATS, numbered(section(FORMATS, "MO files")), wanted)
+    return differences(MO, numbered(section(MO, "The file that is read")), wanted)
 
 
 def kinds_of_scripts():
     """the kinds of fault of a script, with their numbers and texts"""
     wanted = {number: text for number, (_, text) in kinds(*SCRIPTS).items()}
     wanted[len(wanted) + 1] = dict((name, text) for text, name in variants(*SCRIPTS))["Memory"]
-    table = [row for row in rows(section(FORMATS, "Scripts of loads and look-ups")) if row[0].isdigit()]
+    table = [row for row in rows(section(SCRIPT_PAGE, "Scripts of loads and look-ups")) if row[0].isdigit()]
     found = {int(row[k]): row[k + 1] for row in table for k in range(0, len(row) - 1, 2) if row[k].isdigit()}
     missing = [f"{number} {text}" for number, text in wanted.items() if not says(page(CATSERVE_PAGE), number, text)]
-    return differences(FORMATS, found, wanted) + ([f"{CATSERVE_PAGE} has not: {missing}"] if missing else [])
+    return differences(SCRIPT_PAGE, found, wanted) + ([f"{CATSERVE_PAGE} has not: {missing}"] if missing else [])
 
 
 def says(text, number, words):
@@ -117,12 +124,12 @@ def texts_of_kinds():
     """the texts of the kinds of refusal"""
     wanted = {name: re.sub(r"\{0\}", "N", text) for name, text in kinds(*LOADS).values()}
     found = {}
-    for row in rows(section(FORMATS, "The command")):
+    for row in rows(section(COMMAND, "Its steps")):
         for name, text in zip(row[::2], row[1::2]):
             if text.startswith("`"):
                 found[name.split("(")[0]] = text.strip("`")
     first = dict(kinds(*TEXTS).values())
-    return differences(FORMATS, found, wanted) + differences(TEXTS[0], first, {name: wanted[name] for name in first})
+    return differences(COMMAND, found, wanted) + differences(TEXTS[0], first, {name: wanted[name] for name in first})
 
 
 def faults_of_the_header():
@@ -169,19 +176,19 @@ def lines_of_the_command():
     """the lines of the error output"""
     source = read("crates/msgfmt_tool/src/texts.rt") + read("crates/msgfmt_tool/src/steps.rt")
     lines = {re.sub(r" \{\w+\}", "", text) for text in re.findall(r'"(msgfmt: [^"]*)"', source)}
-    here = " ".join(read(FORMATS).split())
+    here = " ".join(read(COMMAND).split())
     found = {re.sub(r" (NAME|FILE|-)$", "", text) for text in re.findall(r"`(msgfmt: [^`]*)`", here)}
     warning = re.search(r"(warning: header field '\{field\}' missing)", source)[1].replace("{field}", "FIELD")
-    lacking = [name for name, text in ((FORMATS, here), (MSGFMT_PAGE, page(MSGFMT_PAGE))) if warning not in text]
-    return differences(FORMATS, found, lines) + [f"{name} has not: {warning}" for name in lacking]
+    lacking = [name for name, text in ((COMMAND, here), (MSGFMT_PAGE, page(MSGFMT_PAGE))) if warning not in text]
+    return differences(COMMAND, found, lines) + [f"{name} has not: {warning}" for name in lacking]
 
 
 def fields_of_a_header():
     """the fields that a header is expected to have"""
     names = re.search(r"FIELD_NAMES.*?=(.*?);", read("crates/po_header/src/fields.rt"), re.S)[1]
     wanted = re.findall(r'"([\w-]+)"', names)
-    listed = re.search(r"expected to have are, in this order:(.*?)\.\n", read(FORMATS), re.S)[1]
-    return differences(FORMATS, re.findall(r"`([\w-]+)`", listed), wanted)
+    listed = re.search(r"expected to have are, in this order:(.*?)\.\n", read(HEADERS), re.S)[1]
+    return differences(HEADERS, re.findall(r"`([\w-]+)`", listed), wanted)
 
 
 def options_of_the_code():
@@ -204,11 +211,11 @@ def options_in(text):
 def options():
     """the options of msgfmt: rules, man page, completions, help"""
     wanted = options_of_the_code()
-    usage = re.search(r"((?:^    .*\n)+)", section(FORMATS, "The command"), re.M)[1]
+    usage = re.search(r"((?:^    .*\n)+)", read(COMMAND), re.M)[1]
     manual = re.search(r"^\.SH OPTIONS\n(.*?)^\.PP\nOptions may", read(MSGFMT_PAGE), re.M | re.S)[1].replace("\\-", "-")
     heads = " ".join(re.findall(r"^\.TP\n\.BR? (.*)$", manual, re.M))
     completed = re.search(r"local options='([^']*)'", read(COMPLETION))[1]
-    found = [(FORMATS, usage), (MSGFMT_PAGE, heads), (COMPLETION, completed)]
+    found = [(COMMAND, usage), (MSGFMT_PAGE, heads), (COMPLETION, completed)]
     if PROGRAM:
         found.append(("the help", " ".join(re.findall(r"^ +(-.*?)(?:  |$)", help_of(PROGRAM), re.M))))
     short = re.search(r"^\.SH SYNOPSIS\n(.*?)^\.SH", read(MSGFMT_PAGE), re.M | re.S)[1].replace("\\-", "-")
@@ -220,7 +227,7 @@ def options():
 
 def usage_of_a_session():
     """The options of catsession, as its section shows them."""
-    return options_in(re.search(r"((?:^    .*\n)+)", section(FORMATS, "A session"), re.M)[1])
+    return options_in(re.search(r"((?:^    .*\n)+)", section(SCRIPT_PAGE, "A session"), re.M)[1])
 
 
 def options_of_a_session():
@@ -245,17 +252,17 @@ def code_of_a_session():
 
 def faults_of_a_session():
     """the texts of the faults of catsession"""
-    table = rows(section(FORMATS, "A session"))
+    table = rows(section(SCRIPT_PAGE, "A session"))
     texts = {cell.strip("`") for row in table for cell in row if cell.startswith("`")}
     manual = re.search(r"^\.TS\n.*?^\.TE$", read(SESSION_PAGE).replace("\\-", "-"), re.M | re.S)[0]
     here = {line.split(";")[0] for line in manual.splitlines()[3:-1]}
     words = {"a word is not UTF-8", "unknown word WORD", "--workers takes a number from 1 to 16"}
     numbers = len(kinds(*SCRIPTS)) + 1
     code = code_of_a_session()
-    pages = {FORMATS: " ".join(section(FORMATS, "A session").split()), SESSION_PAGE: page(SESSION_PAGE)}
+    pages = {SCRIPT_PAGE: " ".join(section(SCRIPT_PAGE, "A session").split()), SESSION_PAGE: page(SESSION_PAGE)}
     return (
         differences(SESSION_PAGE, here, texts)
-        + ([f"{FORMATS}: {len(texts)} texts, and {numbers} kinds of fault"] if len(texts) != numbers else [])
+        + ([f"{SCRIPT_PAGE}: {len(texts)} texts, and {numbers} kinds of fault"] if len(texts) != numbers else [])
         + [f"{name} has not: {text}" for name, said in pages.items() for text in sorted(words) if text not in said]
         + [f"the code has not: {text}" for text in sorted(texts | words) if code and text.removesuffix(" WORD") not in code]
     )
@@ -265,10 +272,10 @@ def words_of_scripts():
     """the words that begin a line of a script"""
     wanted = set(re.findall(r'^\s*"(\w+)" => read_\w+\(', read("crates/script_text/src/command.rt"), re.M))
     wanted -= {"gettext", "pgettext", "ngettext", "npgettext"}
-    table = rows(section(FORMATS, "Scripts of loads and look-ups"))
+    table = rows(section(SCRIPT_PAGE, "Scripts of loads and look-ups"))
     found = {row[0].split("`")[1] for row in table if row[0].startswith("`")}
     manual = set(re.findall(r"^\.TP\n\.B (\w+)", read(CATSERVE_PAGE).split(".SH EXIT")[0], re.M))
-    return differences(FORMATS, found, wanted) + differences(CATSERVE_PAGE, manual, wanted)
+    return differences(SCRIPT_PAGE, found, wanted) + differences(CATSERVE_PAGE, manual, wanted)
 
 
 def constant(path, name):
@@ -284,65 +291,174 @@ def limits():
     readers = constant("crates/live_versions/src/store.rt", "MOST_READERS")
     workers = constant("crates/script_text/src/field.rt", "MOST_WORKERS")
     places = (
-        (FORMATS, f"A text has at most {text:,} bytes"),
-        (FORMATS, f"At most {text + 1:,} bytes are read"),
-        (FORMATS, f"A script is UTF-8, has at most {text:,} bytes"),
-        (FORMATS, f"and it has at most {file:,} bytes"),
-        (FORMATS, f"and has at most {rule:,} bytes. Its tokens"),
-        (FORMATS, f"has 1 to {name} bytes, each an ASCII letter"),
-        (FORMATS, f"so many workers answer, 1 to {workers};"),
+        (PO, f"A text has at most {text:,} bytes"),
+        (COMMAND, f"INPUT is read, at most {text + 1:,} bytes of it"),
+        (SCRIPT_PAGE, f"A script is UTF-8, has at most {text:,} bytes"),
+        (MO, f"and it has at most {file:,} bytes"),
+        (HEADERS, f"and has at most {rule:,} bytes. Its tokens"),
+        (LOOK_UPS, f"has 1 to {name} bytes, each an ASCII letter"),
+        (SCRIPT_PAGE, f"use `count` worker threads, 1 to {workers} "),
         (MSGFMT_PAGE, f"a PO text;{text:,} bytes"),
         (MSGFMT_PAGE, f"an MO file;{file:,} bytes"),
         (MSGFMT_PAGE, f"expression;{rule:,} bytes"),
         (CATSERVE_PAGE, f"A script is UTF-8 and has at most {text:,} bytes"),
         (CATSERVE_PAGE, f"A script has at most {text:,} bytes, an MO file {file:,}, a name"),
         (CATSERVE_PAGE, f"a name of a domain or locale {name} letters"),
-        (CATSERVE_PAGE, f"So many workers answer, 1 to {workers}:"),
+        (CATSERVE_PAGE, f"Set the number of worker threads, 1 to {workers};"),
         (CATSERVE_PAGE, f"There are 1 to {workers} workers"),
-        (FORMATS, f"A round has at most {text:,} bytes"),
-        (FORMATS, f"`catsession: --workers takes a number from 1 to {workers}`"),
+        (SCRIPT_PAGE, f"A round has at most {text:,} bytes"),
+        (SCRIPT_PAGE, f"`catsession: --workers takes a number from 1 to {workers}`"),
         (SESSION_PAGE, f"A round has at most {text:,} bytes, an MO file {file:,}."),
-        (SESSION_PAGE, f"So many workers answer, from 1 to {workers},"),
+        (SESSION_PAGE, f"Use N worker threads, 1 to {workers};"),
         (SESSION_PAGE, f"--workers takes a number from 1 to {workers}"),
         (SESSION_PAGE, f"There are 1 to {workers} workers"),
         ("examples/python/session.py", f"MOST_LINES = {text:_} - "),
-        ("docs/LIVE.md", f"one publisher and 1 to {readers} readers"),
+        ("docs/guide/rattle.md", f"one publisher and 1 to {readers} readers"),
         ("README.md", f"from 1 to {readers} threads"),
     )
     wrong = [f"{place} has not: {words}" for place, words in places if words not in plain(place)]
     allowed = {text, text + 1, file}
-    for place in (FORMATS, MSGFMT_PAGE, CATSERVE_PAGE, SESSION_PAGE, DRIVER_PAGE):
+    guides = [str(path.relative_to(TOP)) for path in sorted(TOP.glob("docs/guide/*.md"))]
+    for place in (PO, HEADERS, MO, LOOK_UPS, COMMAND, SCRIPT_PAGE, MSGFMT_PAGE, CATSERVE_PAGE, SESSION_PAGE,
+                  DRIVER_PAGE, LIBRARY_PAGE, "SECURITY.md", *guides):
         numbers = {int(it.replace(",", "")) for it in re.findall(r"\d{1,3}(?:,\d{3})+", plain(place))}
         wrong += [f"{place}: {it:,} is no limit" for it in sorted(numbers) if it >= LEAST_LIMIT and it not in allowed]
     return wrong
 
 
 def plain(name):
-    return page(name) if name.endswith(".1") else " ".join(read(name).split())
+    return page(name) if name.endswith((".1", ".3")) else " ".join(read(name).split())
+
+
+def pages():
+    """All pages of Markdown."""
+    return sorted([*TOP.glob("*.md"), *TOP.glob(".github/*.md"), *TOP.glob("docs/**/*.md")])
+
+
+def prose(text):
+    """A text of Markdown without its programs."""
+    return re.sub(r"^```.*?^```$", "", text, flags=re.M | re.S)
+
+
+def anchors(text):
+    """What a link to a page may name after `#`: its headings as web pages spell them, and its own anchors."""
+    heads = re.findall(r"^#+ (.*)$", prose(text), re.M)
+    spelled = {re.sub(r"[^\w\- ]", "", head.lower()).replace(" ", "-") for head in heads}
+    return spelled | set(re.findall(r'<a id="([\w-]+)">', text))
+
+
+def links(path):
+    """The places that a page links to: each with its file and what follows `#`."""
+    for it in re.findall(r"\]\(([^)\s:]+)\)", prose(path.read_text(encoding="utf-8"))):
+        name, _, anchor = it.partition("#")
+        yield it, (path.parent / name).resolve() if name else path.resolve(), anchor
+
+
+def links_lead_somewhere():
+    """each link leads to a file, and to a heading of it"""
+    wrong = []
+    for path in pages():
+        for it, target, anchor in links(path):
+            if not target.exists() or (anchor and anchor not in anchors(target.read_text(encoding="utf-8"))):
+                wrong.append(f"{path.relative_to(TOP)}: {it}")
+    return wrong
+
+
+def pages_are_linked():
+    """README leads to each page, by way of others, and docs/index.md lists each page of docs/"""
+    todo, reached = [(TOP / "README.md").resolve()], set()
+    while todo:
+        path = todo.pop()
+        if path not in reached:
+            reached.add(path)
+            todo += [target for _, target, _ in links(path) if target.suffix == ".md" and target.exists()]
+    listed = {target for _, target, _ in links(TOP / "docs/index.md")} | {(TOP / "docs/index.md").resolve()}
+    hidden = [path for path in pages() if path.resolve() not in reached and path.parent.name != ".github"]
+    hidden += [path for path in TOP.glob("docs/**/*.md") if path.resolve() not in listed]
+    return [f"{path.relative_to(TOP)}" for path in hidden]
+
+
+MOST_LINES_OF_README = 120
+MOST_COLUMNS = 120
+
+
+def pages_are_compact():
+    """README has at most 120 lines, and no line but a table's is wider than 120 columns"""
+    count = len(read("README.md").splitlines())
+    wrong = [f"README.md: {count} lines"] if count > MOST_LINES_OF_README else []
+    for path in pages():
+        for number, line in enumerate(path.read_text(encoding="utf-8").splitlines(), 1):
+            if len(line) > MOST_COLUMNS and not line.lstrip().startswith("|"):
+                wrong.append(f"{path.relative_to(TOP)}:{number}")
+    return wrong
+
+
+def pages_say_for_whom():
+    """each page of docs/ says in its first line for whom it is"""
+    first = re.compile(r"# [^\n]+\n\n\*For ")
+    return [str(path.relative_to(TOP)) for path in sorted(TOP.glob("docs/**/*.md"))
+            if not first.match(path.read_text(encoding="utf-8"))]
+
+
+def reference_stands_alone():
+    """the pages of docs/reference link to each other alone, since they are installed without the others"""
+    return [f"{path.name}: {it}" for path in sorted(TOP.glob("docs/reference/*.md")) for it, target, _ in links(path)
+            if target.parent != path.parent.resolve()]
 
 
 def places():
-    """each link, and each path in backquotes, leads to something"""
+    """each path in backquotes leads to something"""
     wrong = []
-    for path in sorted([*TOP.glob("*.md"), *TOP.glob("docs/*.md")]):
-        text = path.read_text(encoding="utf-8")
-        links = [path.parent / it.split("#")[0] for it in re.findall(r"\]\(([^):]+)\)", text) if not it.startswith("#")]
-        named = [TOP / it for it in re.findall(r"`((?:crates|tests|tools|examples|bench|docs)/[\w./-]+)`", text)]
-        missing = [it.relative_to(TOP) for it in links + named if not it.exists()]
+    for path in pages():
+        named = re.findall(r"`((?:crates|tests|tools|examples|bench|docs|c|include|packaging)/[\w./-]+)`",
+                           path.read_text(encoding="utf-8"))
+        missing = [Path(it) for it in named if not (TOP / it).exists()]
         wrong += [f"{path.name}: {it}" for it in missing if not {"NAME", "out"} & set(it.parts)]
     return wrong
 
 
+def pictures():
+    """each picture is what tools/pictures draws"""
+    run = subprocess.run([TOP / "tools/pictures", "--check"], capture_output=True, text=True, check=False)
+    return [*run.stdout.splitlines(), *run.stderr.splitlines()[-1:]]
+
+
+def glossary():
+    """each word of the glossary has one line, with a file that is there"""
+    wrong = []
+    for row in rows(read("docs/internals/glossary.md")):
+        if len(row) == 3 and (named := re.fullmatch(r"`([\w./-]+)`", row[2])):
+            if not (TOP / named[1]).is_file():
+                wrong.append(f"{row[0]}: no {named[1]}")
+        elif row[0] not in ("Word", "---"):
+            wrong.append(f"no file: {row[0]}")
+    return wrong
+
+
+def names_of_pages():
+    """each page of docs/ that a source, a script or a man page names is there"""
+    wrong = []
+    for pattern in ("crates/*/src/*.rt", "crates/*/specs/*.antt", "c/**/*.[ch]", "include/*", "tests/**/*", "tools/*",
+                    "bench/**/*", "examples/**/*", "packaging/**/*", "docs/man/*", "Makefile", ".ci/*"):
+        for path in sorted(TOP.glob(pattern)):
+            if path.is_file() and path.name != "documents.sh" and "driver" not in path.parts:
+                text = path.read_text(encoding="utf-8", errors="replace").replace("\\-", "-")
+                named = re.findall(r"(?<![\w/.*])(docs/[\w./-]+\.md)", text)
+                named += [f"docs/{it}" for it in re.findall(r"/doc/kobdzila/([\w./-]+\.md)", text)]
+                wrong += [f"{path.relative_to(TOP)}: {it}" for it in named if not (TOP / it).exists()]
+    return wrong
+
+
 def crates_are_listed():
-    """each crate has its place in README, the map of the code and the table of times"""
+    """each crate has its place in the list of what is proved, the map of the code and the table of times"""
     names = set(re.findall(r"^([a-z]\w*)", read("crates.txt"), re.M))
-    pages = ("README.md", "docs/ARCHITECTURE.md", "docs/GATE.md")
-    return [f"{page} has not: {name}" for page in pages for name in sorted(names) if f"`{name}`" not in read(page)]
+    listed = ("docs/internals/proofs.md", ARCHITECTURE, "docs/internals/gate.md")
+    return [f"{page} has not: {name}" for page in listed for name in sorted(names) if f"`{name}`" not in read(page)]
 
 
 def definitions_are_listed():
     """each file of definitions is named in the map of the code, and the private ones as private"""
-    parts = re.findall(r"^## (.+?)\n(.*?)(?=^## |\Z)", read("docs/ARCHITECTURE.md"), re.M | re.S)
+    parts = re.findall(r"^## (.+?)\n(.*?)(?=^## |\Z)", read(ARCHITECTURE), re.M | re.S)
     wrong = []
     for path in sorted(TOP.glob("crates/*/specs/*.antt")):
         crate, name = path.parts[-3], path.stem
@@ -397,6 +513,16 @@ def names_in_readmes():
     return wrong
 
 
+def functions_that_wait():
+    """the functions that may wait are those whose signatures say so"""
+    waits = re.compile(r"^ *pub fn (\w+)\s*<[^(]*\bWait\b", re.M)
+    wanted = {name for path in sorted(TOP.glob("crates/*/src/*.rt")) if (path.parent.parent / "must-fail").is_dir()
+              for name in waits.findall(path.read_text(encoding="utf-8"))}
+    listed = re.search(r"public functions\s+may\s+wait:(.*?), so the", read("docs/internals/proofs.md"), re.S)[1]
+    found = {name.split("::")[-1] for name in re.findall(r"`([\w:]+)`(?! of)", re.sub(r"of `\w+`", "", listed))}
+    return differences("docs/internals/proofs.md", found, wanted)
+
+
 MOST_WORDS = 35  # of a sentence
 
 
@@ -423,7 +549,7 @@ def sentences():
     """no sentence has more than 35 words"""
     end = re.compile(r'(?:(?<=[.!?])|(?<=[.!?]\*\*)|(?<=[.!?][)"]))\s+(?=[^a-z])')
     wrong = []
-    for path in sorted([*TOP.glob("*.md"), *TOP.glob("docs/*.md")]):
+    for path in pages():
         for line, paragraph in paragraphs(path.read_text(encoding="utf-8")):
             counts = [len(sentence.split()) for sentence in end.split(paragraph)]
             wrong += [f"{path.name}:{line}: {count} words" for count in counts if count > MOST_WORDS]
@@ -445,11 +571,20 @@ RULES = (
     faults_of_a_session,
     words_of_scripts,
     limits,
+    links_lead_somewhere,
+    pages_are_linked,
+    pages_are_compact,
+    pages_say_for_whom,
+    reference_stands_alone,
     places,
+    glossary,
+    pictures,
+    names_of_pages,
     crates_are_listed,
     definitions_are_listed,
     crates_have_readmes,
     names_in_readmes,
+    functions_that_wait,
     sentences,
 )
 

@@ -1,6 +1,7 @@
 #!/usr/bin/env bash
-# Compares what the documents, man pages, completions and the help say of kinds, numbers, texts, options and limits with
-# the code (tests/documents.py), and sees that a change in one place alone is found: each line below is such a change.
+# Compares what the documents, man pages, completions and the help say of kinds, numbers, texts, options, limits and links
+# with the code (tests/documents.py), and runs the commands that they show (tests/transcripts.py). Then it checks that a
+# contradiction is found: each line below is a change in one place alone.
 . "$(dirname "$0")/common"
 
 session=${SESSION:-bin/catsession}
@@ -9,10 +10,24 @@ if [ ! -x "$session" ]; then
   exit 0
 fi
 python3 -B tests/documents.py . "$program" "$session"
+python3 -B tests/transcripts.py "$program" README.md docs/guide/*.md
+
+# the program of the guide for C, with examples/fr.po
+sed -n '/^```c$/,/^```$/{/^```/!p; /^```$/q}' docs/guide/c.md > "$room/hello.c"
+cp examples/fr.po "$room/fr.po"
+if [ ! -f build/lib/libkobdzila.a ] || ! tests/needs gcc gcc libc6-dev; then
+  skipped 'documents: the program of the guide for C' 'no libkobdzila or no gcc'
+elif gcc -Wall -Wextra -Werror -Iinclude -o "$room/hello" "$room/hello.c" build/lib/libkobdzila.a 2> "$room/err" &&
+  [ "$(cd "$room" && ./hello)" = tomates ]; then
+  ok 'documents: the program of the guide for C'
+else
+  failed 'documents: the program of the guide for C' "$(head -n 3 "$room/err")"
+fi
 
 top=$room/repo
 mkdir -p "$top"
-tar cf - --exclude out ./*.md crates.txt docs tools tests examples bench include c crates | tar xf - -C "$top"
+tar cf - --exclude out ./*.md .github Makefile crates.txt docs tools tests examples bench include c packaging crates |
+  tar xf - -C "$top"
 if python3 -B tests/documents.py "$top" | grep -q '^FAILED'; then
   failed 'documents, changes' 'a copy of the repository is not as the rules say'
   exit 0
@@ -60,18 +75,18 @@ crates/live_set/README.md^`test_set`^`test_sets`
 crates/kobdzila_c/README.md^`c/set.c`^`c/sets.c`
 crates/desks/README.md^# desks^# desk
 crates/script_text/src/command.rt^"loadmo" => ^"load_mo" => 
-docs/FORMATS.md^| 9 | Duplicate ^| 10 | Duplicate 
-docs/FORMATS.md^`newlines differ`^`newline differs`
-docs/FORMATS.md^| 10 | Charset | the kept^| 9 | Charset | the kept
-docs/FORMATS.md^--statistics^--stats
-docs/FORMATS.md^67,108,864^67,108,863
-docs/FORMATS.md^no place for a reader^no room for a reader
-docs/FORMATS.md^catsession [--workers N]^catsession [--worker N]
-docs/FORMATS.md^`store closed`^`the store closed`
-docs/FORMATS.md^unknown word WORD^no such word WORD
-docs/FORMATS.md^a word is not UTF-8^a word is no UTF-8
+docs/reference/po.md^| 9 | Duplicate ^| 10 | Duplicate 
+docs/reference/msgfmt.md^`newlines differ`^`newline differs`
+docs/reference/po.md^| 10 | Charset | the kept^| 9 | Charset | the kept
+docs/reference/msgfmt.md^--statistics^--stats
+docs/reference/po.md^67,108,864^67,108,863
+docs/reference/scripts.md^no place for a reader^no room for a reader
+docs/reference/scripts.md^catsession [--workers N]^catsession [--worker N]
+docs/reference/scripts.md^`store closed`^`the store closed`
+docs/reference/scripts.md^unknown word WORD^no such word WORD
+docs/reference/scripts.md^a word is not UTF-8^a word is no UTF-8
 docs/man/catsession.1^a word is not UTF\-8^a word is no UTF\-8
-docs/FORMATS.md^A round has at most 67,108,864^A round has at most 67,108,863
+docs/reference/scripts.md^A round has at most 67,108,864^A round has at most 67,108,863
 docs/man/msgfmt.1^\-\-no\-hash ]^\-\-nohash ]
 docs/man/msgfmt.1^\-\-verbose^\-\-loud
 docs/man/msgfmt.1^1,000 bytes^1,001 bytes
@@ -81,7 +96,7 @@ docs/man/catserve.1^16 workers^17 workers
 docs/man/catsession.1^.BI \-\-workers^.BI \-\-threads
 docs/man/catsession.1^round too large;^round is too large;
 docs/man/catsession.1^an MO file 268,435,456^an MO file 268,435,455
-docs/man/catsession.1^from 1 to 16, and^from 1 to 17, and
+docs/man/catsession.1^threads, 1 to 16;^threads, 1 to 17;
 docs/man/msgfmt-or-gnu.1^\-\-tcl^\-\-tk
 tools/completion^--use-fuzzy^--fuzzy
 include/kobdzila.h^KOB_MO_ORDER = 9^KOB_MO_ORDER = 8
@@ -90,8 +105,20 @@ tools/completion^'--workers --help --version -h -V'^'--workers --help --version 
 tools/completion^--stringtable-input^--stringtable
 c/or_gnu_words.c^{"java2",^{"java3",
 c/msgfmt_or_gnu.c^warning: header field^warning: field
-README.md^(docs/LIVE.md)^(docs/ALIVE.md)
+README.md^(docs/guide/rattle.md)^(docs/guide/rattles.md)
+docs/reference/po.md^(headers.md)^(headers.md#headings)
+docs/reference/po.md^(c-formats.md)^(../guide/c.md)
+docs/guide/catsession.md^67,108,864^67,108,863
+docs/man/kobdzila.3^268,435,456^268,435,455
+docs/internals/proofs.md^`run_script` and `run_session`^`run_session`
+docs/index.md^(internals/gate.md)^(internals/releases.md)
+docs/guide/c.md^*For programmers^*By programmers
+docs/internals/benchmarks.md^| 145 ms |^| 146 ms |
+docs/images/publish.svg^version 3^version 4
+docs/internals/glossary.md^`crates/desks/src/desk.rt`^`crates/desks/src/desks.rt`
+tests/languages.sh^docs/reference/look-ups.md^docs/FORMATS.md
+docs/man/msgfmt.1^reference/gnu\-differences.md^reference/gnu\-msgfmt.md
 crates.txt^po_text: bstr^po_words: bstr
-docs/ARCHITECTURE.md^`Lexing`, ^
-CONTRIBUTING.md^in one document. The rules^in one document and in no more than this one, and the rules
+docs/internals/architecture.md^`Lexing`, ^
+CONTRIBUTING.md^in one document, and the others link to it. How to do something^in one document and in no more than this one, and the others link to it, and how to do something
 END

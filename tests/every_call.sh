@@ -1,8 +1,8 @@
 #!/usr/bin/env bash
-# Makes the calls that take memory by the program crates/every_call, compares what all of them answer with what was
-# worked out by hand (crates/every_call/stdout), and then refuses each of its requests for memory in turn. Each line
-# must be the one of the run that nothing is refused, or say that memory was refused; none may be missing, and what a
-# refused call was given must be as it was. tests/every_call.py says which lines may stand where.
+# Makes the calls that allocate through the program crates/every_call, compares all answers with those worked out by hand
+# (crates/every_call/stdout), and then refuses each of its allocations in turn. Each line must be that of a run without
+# refusals, or say that memory was refused; none may be missing, and what a refused call was given must be as it was.
+# tests/every_call.py says which line may be where.
 . "$(dirname "$0")/common"
 
 program=${EVERY_CALL:-crates/every_call/out/every_call}

@@ -6,7 +6,7 @@
 #   tests/gnu.sh         at most 200 installed catalogues, each named by its language and domain
 #   CATALOGUES=N ..      at most N of them
 #
-# A catalogue is left out where GNU msgfmt refuses its text, and where the two differ on purpose: its charset is
+# A catalogue is left out if GNU msgfmt refuses its text, or if the two differ on purpose: its charset is
 # neither UTF-8 nor ASCII; it has no entry (GNU msgfmt then writes no file); GNU msgfmt's file has the minor revision
 # 1, as for C formats with %<PRIu64> or the flag I. The header field POT-Creation-Date, which GNU msgfmt deletes, is
 # taken out of the text before the two read it.

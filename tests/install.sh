@@ -23,9 +23,9 @@ made() {
 driver=''
 [ ! -x bin/msgfmt-or-gnu ] || driver=msgfmt-or-gnu
 
-# pages NAME PREFIX: each program has its page, without a warning, and the file that one of them names is there
+# pages NAME PREFIX: each program has its page, without a warning, and the documents that they name are there
 pages() {
-  local at=$room/image$room/usr/share/man/man1 page wrong='' documents
+  local at=$room/image$room/usr/share/man/man1 page wrong='' document
   for page in msgfmt catserve catsession $driver; do
     [ -s "$at/$2$page.1" ] || wrong+="no page of $page; "
   done
@@ -39,8 +39,10 @@ pages() {
   else
     skipped "$1, groff" 'no groff'
   fi
-  documents=$(grep -o "$room/usr/[^ ]*FORMATS.md" "$at/$2msgfmt.1" | head -n 1)
-  [ -n "$documents" ] && [ -s "$room/image$documents" ] || wrong+='no FORMATS.md where msgfmt(1) names it'
+  for page in msgfmt catserve catsession $driver; do
+    document=$(sed 's/\\-/-/g' "$at/$2$page.1" | grep -o "$room/usr/share/doc/[^ ]*\.md" | head -n 1)
+    [ -n "$document" ] && [ -s "$room/image$document" ] || wrong+="$page(1) names '$document', which isn't there; "
+  done
   if [ -z "$wrong" ]; then ok "$1"; else failed "$1" "$wrong"; fi
 }
 
@@ -162,7 +164,7 @@ if tests/needs make make; then
   else
     skipped 'install, LIBDIR' 'the libraries were not built'
   fi
-  if [ -x "$room/image$room/usr/bin/msgfmt" ] && [ -s "$room/image$room/usr/share/doc/kobdzila/FORMATS.md" ]; then
+  if [ -x "$room/image$room/usr/bin/msgfmt" ] && [ -s "$room/image$room/usr/share/doc/kobdzila/reference/msgfmt.md" ]; then
     ok 'install: uninstalling one leaves what the other has alone'
   else
     failed 'install: uninstalling one leaves what the other has alone' "$(find "$room/image" -type f)"

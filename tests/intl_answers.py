@@ -8,7 +8,7 @@ ROOM: a folder for files; ASK: tests/ask_gettext.c, compiled; LIBRARY: the path 
 more, linked with a library that has AddressSanitizer and UndefinedBehaviorSanitizer, which must answer the same.
 
 ROOM/locales has the locales of the cases. It prints `wrong: ..` for each answer that is neither the C library's nor
-the one that a row of docs/DECISIONS.md gives, and how many there were.
+the one that a row of docs/internals/decisions.md gives, and how many there were.
 """
 import itertools
 import os
@@ -264,7 +264,7 @@ def system_strings(folder: Path) -> list[Case]:
 
 
 def known_differences(folder: Path) -> list[Case]:
-    """Each one has its row in docs/DECISIONS.md."""
+    """Each one has its row in docs/internals/decisions.md."""
     install(folder, "fr_FR.utf8", "second", mo({b"a": b"utf8 a", b"b": b"utf8 b"}))
     install(folder, "fr", "", mo({b"a": b"no name"}))
     install(folder, "fr", "order", mo_falling())

@@ -1,7 +1,7 @@
 #!/usr/bin/env bash
-# Asks gettext and its kin more than 2,000 questions by one program, once with libkobdzila-intl.so put before it and
+# Asks gettext and related functions more than 2,000 questions in one program, once with libkobdzila-intl.so preloaded and
 # once with the C library alone: names of locales, lists of languages, domains, codesets, locales of threads, and files
-# of all kinds. Each answer and each errno must be the same but where docs/DECISIONS.md says that they differ.
+# of all kinds. Each answer and each errno must be the same unless docs/internals/decisions.md says that they differ.
 no_program=1
 . "$(dirname "$0")/common"
 . tests/c_common

@@ -1,5 +1,5 @@
 #!/usr/bin/env bash
-# Lists of languages: which locale answers, by the rules of docs/FORMATS.md, worked out by hand. Each table is one script of
+# Lists of languages: which locale answers, by the rules of docs/reference/look-ups.md, worked out by hand. Each table is one script of
 # bin/catserve; each row is a list, a call with its texts, and the answer.
 . "$(dirname "$0")/common"
 

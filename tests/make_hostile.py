@@ -3,7 +3,7 @@
 
     tests/make_hostile.py                      prints the names of the shapes
     tests/make_hostile.py SHAPE BYTES FILE     writes a file of about BYTES bytes, and prints its answer: 'read' and the
-                                               number of its entries, or the number of its refusal in docs/FORMATS.md
+                                               number of its entries, or the number of its refusal in docs/reference/mo.md
 
 The shape `tiny_entries` has four times as many bytes. The seed is fixed, so each file is the same each time.
 """

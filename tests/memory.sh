@@ -1,9 +1,9 @@
 #!/usr/bin/env bash
-# Refuses each request for memory of a run of bin/msgfmt in turn: the first, the second, and so on until a run makes
-# no more. Each run must say `msgfmt: out of memory` and end with 1, or answer just as the run that nothing is
-# refused: nothing third. Where it is out of memory, its standard output must be empty, or the beginning of what
-# the run writes that nothing is refused; what it said before must be the first lines of what that run says; and
-# FILE must be missing, or whole where the run had come to the statistics. No other file may be left.
+# Refuses each allocation of a run of bin/msgfmt in turn: the first, the second, and so on until a run makes no more. Each
+# run must say `msgfmt: out of memory` and end with 1, or answer exactly as a run without refusals. If it runs out of
+# memory, its standard output must be empty, or a prefix of what the run without refusals writes; what it said before must
+# be the first lines of what that run says; and FILE must be missing, or complete if the run had come to the statistics. No
+# other file may be left.
 . "$(dirname "$0")/common"
 
 makes_refuser memory || exit 0

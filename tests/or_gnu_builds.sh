@@ -1,7 +1,7 @@
 #!/usr/bin/env bash
 # Builds small projects of CMake, Meson, the GNU build system, git's makefiles and Django through bin/msgfmt-or-gnu. Each
 # has a French catalogue, which Kobdzila's msgfmt compiles, and a German one in ISO-8859-1, which is GNU's. And `make
-# distcheck` with a link to the driver in front of GNU msgfmt on the PATH.
+# distcheck` with a link to the driver before GNU msgfmt on the PATH.
 . "$(dirname "$0")/common"
 NAME=or_gnu_builds
 . tests/driver/begin

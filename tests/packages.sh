@@ -6,7 +6,7 @@
 #   tests/packages.sh           the packages of tests/packages/list, which apt-get fetches once into build/packages
 #   tests/packages.sh FOLDER    the PO files below FOLDER, and no builds
 #
-# The summary is written to build/packages/summary.md; docs/PACKAGES.md has one.
+# The summary is written to build/packages/summary.md; docs/reference/gnu-differences.md has one.
 . "$(dirname "$0")/common"
 . tests/projects
 

@@ -1,5 +1,5 @@
 #!/usr/bin/env bash
-# Hands the programs of docs/LIVE.md that must not compile to the compiler, each as a crate of its own above
+# Hands the programs of docs/guide/rattle.md that must not compile to the compiler, each as a crate of its own above
 # live_versions and live_set, and compares the error that it names with the one in the program's first line.
 . "$(dirname "$0")/common"
 read -r -a rt <<< "${RT:-rt}"
@@ -12,7 +12,7 @@ mkdir -p "$room/repo/crates"
 cp HANDLES crates.txt "$room/repo/"
 tar cf - --exclude out crates | tar xf - -C "$room/repo"
 
-# each program behind its name into a crate of that name: the word after `pub fn`
+# each program goes into a crate that has the name of its function, after `pub fn`
 awk -v room="$room/repo/crates" '
   /^```rust$/ { inside = 1; text = ""; error = ""; next }
   /^```$/ && inside {
@@ -28,7 +28,7 @@ awk -v room="$room/repo/crates" '
   inside && /^\/\/ does not compile: / { error = $NF; next }
   inside { text = text $0 "\n" }
   inside && /^pub fn / { name = $3; sub(/[(<].*/, "", name) }
-' docs/LIVE.md > "$room/programs"
+' docs/guide/rattle.md > "$room/programs"
 
 while read -r name error; do
   echo "$name: live_versions live_set" >> "$room/repo/crates.txt"
@@ -40,4 +40,4 @@ while read -r name error; do
     failed "refused program, $name" "$(grep -m 1 error "$room/answer" || tail -n 1 "$room/answer")"
   fi
 done < "$room/programs"
-[ "$(wc -l < "$room/programs")" = 3 ] || failed refused_programs 'docs/LIVE.md has not three of them'
+[ "$(wc -l < "$room/programs")" = 3 ] || failed refused_programs 'docs/guide/rattle.md has not three of them'

@@ -1,6 +1,6 @@
 #!/usr/bin/env bash
-# The release: the version is the same wherever it is told; the C interface is what the last release promised; a tarball
-# packed twice, in two folders, by two users, is the same bytes, holds what it says, runs where there is no C library, and
+# The release: the version is the same everywhere; the C interface is what the last release promised; a tarball packed
+# twice, in two folders, by two users, has the same bytes, contains what it says, runs where there is no C library, and
 # is installed and removed without root; and the Debian packages are the same bytes twice, and pass lintian.
 #
 # tests/debian tries both in minimal systems of several Debian releases; it isn't a part of `make check`.
@@ -145,8 +145,9 @@ installed() {
   fi
   says "$as: the pages have the version" "Kobdzila $version" \
     "$(sed -n 's/^\.TH.*"\(Kobdzila [^"]*\)".*/\1/p' "$to"/share/man/man?/* | sort -u)"
-  said=$(grep -o "$to/[^ ]*FORMATS.md" "$to/share/man/man1/$1msgfmt.1" | head -n 1)
-  if [ -s "$said" ]; then ok "$as: the page names FORMATS.md"; else failed "$as: the page names FORMATS.md" "'$said'"; fi
+  said=$(sed 's/\\-/-/g' "$to/share/man/man1/$1msgfmt.1" | grep -o "$to/share/doc/[^ ]*\.md" | head -n 1)
+  if [ -s "$said" ]; then ok "$as: the document that the page names"
+  else failed "$as: the document that the page names" "'$said'"; fi
   if grep -q "^complete .* $1msgfmt\$" "$to/share/bash-completion/completions/$1msgfmt"; then
     ok "$as: completions"
   else

@@ -1,7 +1,7 @@
 #!/usr/bin/env bash
 # Shows how bin/msgfmt writes FILE: whose it is afterwards, and its mode; that a call which fails leaves the old file
-# and no other; what a killed run leaves, and that the next one takes it away; names that are taken beside FILE; runs
-# at once; standard output by the names of files, and an input that doesn't block.
+# and no other; what a killed run leaves, and that the next one removes it; names next to FILE that are taken; concurrent
+# runs; standard output by the names of files, and a non-blocking input.
 . "$(dirname "$0")/common"
 tests=$PWD/tests
 can_trouble=

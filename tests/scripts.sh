@@ -1,7 +1,7 @@
 #!/usr/bin/env bash
-# Scripts of bin/catserve: two stored ones, worked cases, devices that fail, threads that can't be made, and each request
-# for memory refused in turn. A run whose request is refused must say `catserve: 9 0`, end with 1 and write nothing, or
-# answer just as the run that nothing is refused. A run that is refused threads always does the latter.
+# Scripts of bin/catserve: two stored ones, worked cases, devices that fail, threads that can't be made, and each
+# allocation refused in turn. A run with a refused allocation must say `catserve: 9 0`, end with 1 and write nothing, or
+# answer exactly as a run without refusals. A run that is refused threads always does the latter.
 . "$(dirname "$0")/common"
 
 program=${CATSERVE:-bin/catserve}

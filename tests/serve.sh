@@ -1,5 +1,5 @@
 #!/usr/bin/env bash
-# Refuses each request for memory of the program crates/serve_rows in turn, which serves two desks beside a job,
+# Refuses each allocation of the program crates/serve_rows in turn, which serves two desks while a job is done,
 # publishes, and serves the desks again, and prints what each call answered and left. A service that is refused memory
 # must leave the store as it was, or with the job's load pending or published; and what comes after it must go on.
 . "$(dirname "$0")/common"

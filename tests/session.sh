@@ -1,7 +1,7 @@
 #!/usr/bin/env bash
 # The live session bin/catsession (SESSION=PATH: another program). The scripts of catserve's tests, fed whole, line by line,
-# byte by byte and round by round (tests/session.py); bad lines behind rounds that were answered; the text of each fault;
-# words; threads and memory that are refused; many rounds; the examples of clients (tests/session_clients.py).
+# byte by byte and round by round (tests/session.py); bad lines after rounds that were answered; the text of each error;
+# arguments; threads and memory that are refused; many rounds; the examples of clients (tests/session_clients.py).
 no_program=1
 . "$(dirname "$0")/common"
 

@@ -1,6 +1,6 @@
 #!/usr/bin/env python3
-"""The Python client of examples/python over a live session: a table of steps with their answers, the lines of README,
-and the application, which is asked by 8 threads while its catalogues are replaced 100 times.
+"""The Python client of examples/python over a live session: a table of steps with their answers, the lines of README and
+of the guide, and the application, which is asked by 8 threads while its catalogues are replaced 100 times.
 
     tests/session_clients.py PROGRAM      prints lines `ok ..` and `FAILED ..`
 """
@@ -135,8 +135,16 @@ def steps():
 
 
 def readme():
-    """Each line of README's block does what the comment behind it says, where that is a value."""
-    block = re.search(r"^```python\n(.*?)^```", (TOP / "README.md").read_text(), re.M | re.S)[1]
+    shown("README.md")
+
+
+def guide():
+    shown("docs/guide/catsession.md")
+
+
+def shown(page):
+    """Each line of the first program of a page does what the comment after it says, if that is a value."""
+    block = re.search(r"^```python\n(.*?)^```", (TOP / page).read_text(), re.M | re.S)[1]
     names, wrong, here, path = {}, [], os.getcwd(), os.environ["PATH"]
     with tempfile.TemporaryDirectory() as room:
         (Path(room) / "catsession").symlink_to(PROGRAM)
@@ -153,7 +161,7 @@ def readme():
         names["session"].close()
         os.chdir(here)
         os.environ["PATH"] = path
-    report("the lines of README", wrong, f": {len(block.splitlines())} lines")
+    report(f"the lines of {page}", wrong, f": {len(block.splitlines())} lines")
 
 
 def ends():
@@ -312,7 +320,7 @@ def watcher():
     report("the application's second thread", wrong)
 
 
-for test in (steps, readme, ends, accepted, application, watcher):
+for test in (steps, readme, guide, ends, accepted, application, watcher):
     try:
         test()
     except Exception as fault:  # noqa: BLE001 (a test that breaks has failed)

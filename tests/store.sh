@@ -1,5 +1,5 @@
 #!/usr/bin/env bash
-# Refuses each request for memory of the program crates/store_rows in turn, which loads, publishes and looks up in a
+# Refuses each allocation of the program crates/store_rows in turn, which loads, publishes and looks up in a
 # live store and prints what each call answered and left. A refused load, publish or query must have changed
 # nothing, and what comes after it must go on: each line must follow from those before it.
 . "$(dirname "$0")/common"

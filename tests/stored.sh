@@ -1,6 +1,6 @@
 #!/usr/bin/env bash
 # Compiles the PO files of tests/stored/ and compares each MO file, byte for byte, with the one that is stored there.
-# The stored files were made once by GNU msgfmt 0.21, of which nothing is needed to run this:
+# The stored files were made once by GNU msgfmt 0.21, which isn't needed to run this:
 #
 #   msgfmt --no-hash -o scripts.mo scripts.po             entries in many scripts
 #   msgfmt --no-hash -o forms.mo forms.po                 contexts, three plural forms, escapes, obsolete entries

@@ -1,6 +1,6 @@
 #!/usr/bin/env bash
 # Runs bin/msgfmt and bin/catserve on the PO texts of tests/texts.txt, and compares what they answer with what follows
-# each text there, which was written by hand from the rules (docs/FORMATS.md). The entries of the answers `accepted` are
+# each text there, which was written by hand from the rules (docs/reference/po.md). The entries of the answers `accepted` are
 # those that GNU msgfmt 0.21 writes of the texts that it compiles, but for one with a macro after a faulty directive.
 #
 # A case begins with `== NAME`, and its text follows. From the first line that begins with `-- ` come the answers:

@@ -1,4 +1,4 @@
-"""Message catalogues by libkobdzila: a class with the interface of gettext.NullTranslations.
+"""Message catalogues from libkobdzila: a class with the interface of gettext.NullTranslations.
 
     import kobdzila
     french = kobdzila.Translations("fr.mo")
@@ -52,7 +52,7 @@ __version__ = _version().decode()  # of the library
 
 
 class Refused(ValueError):
-    """Why bytes are no catalogue: `fault` is the number of kobdzila.h, `line` that of a PO text, or 0."""
+    """Why bytes are refused: `fault` is the number in kobdzila.h, `line` the line of a PO text, or 0."""
 
     def __init__(self, refusal):
         text = _fault_text(refusal.fault).decode()

@@ -1,4 +1,4 @@
-"""Look-ups of gettext and its kin by one process `catsession`, from any number of threads.
+"""gettext and related look-ups by one process `catsession`, from any number of threads.
 
     with Session() as session:
         session.load("shop", "fr", open("fr.po", "rb").read())
@@ -6,8 +6,8 @@
         answer = session.gettext("shop", "fr_CA:de", "basket")
         print(answer.text, answer.version)
 
-A name with a tab or an LF, a number that is negative and a PO text that isn't UTF-8 are a ValueError. Nothing of them is
-sent, and the session goes on.
+A name with a tab or an LF, a negative number and a PO text that isn't UTF-8 raise a ValueError. Nothing of them is sent, and
+the session goes on.
 """
 from __future__ import annotations
 
@@ -16,7 +16,7 @@ import subprocess
 import threading
 from typing import NamedTuple
 
-MOST_LINES = 67_108_864 - len(b"go\n")  # the bytes that a round may have in front of its `go`
+MOST_LINES = 67_108_864 - len(b"go\n")  # the bytes that a round may have before its `go`
 TEXTS = {"gettext": 1, "pgettext": 2, "ngettext": 3, "npgettext": 4}
 ESCAPES = str.maketrans({"\\": r"\\", "\n": r"\n", "\t": r"\t"})
 
@@ -29,7 +29,7 @@ class Answer(NamedTuple):
 class Refusal(NamedTuple):
     domain: str
     locale: str
-    kind: int | None  # the number of the refusal; None where the domain or the locale is no name
+    kind: int | None  # the number of the refusal; None if the domain or the locale isn't a name
     line: int | None  # of a PO text
 
 
@@ -43,7 +43,7 @@ class LoadRefused(Exception):
 
 
 class SessionEnded(Exception):
-    """The process has ended: what it said on its error output."""
+    """The process has ended; the message is what it wrote to standard error."""
 
 
 class Session:
@@ -55,7 +55,7 @@ class Session:
         self._ended = None
 
     def load(self, domain, locale, po, options="-"):
-        """Keeps a PO text for the next publish. The options: `-`, `c` (checked), `f` (fuzzy messages too) or `cf`."""
+        """Keeps a PO text for the next publish. The options: `-`, `c` (check it), `f` (use fuzzy messages) or `cf`."""
         if options not in ("-", "c", "f", "cf"):
             raise ValueError(f"no such options: {options}")
         text = po if po.endswith(b"\n") or not po else po + b"\n"
@@ -72,7 +72,7 @@ class Session:
             self._loads.append((domain, locale, lines))
 
     def publish(self):
-        """Publishes the loads that were kept, in one step, and gives their version. LoadRefused names those refused."""
+        """Publishes the loads that were kept, in one step, and returns their version. LoadRefused names those refused."""
         with self._lock:
             loads, self._loads = self._loads, []
             *told, (_, version) = self._play([lines for _, _, lines in loads], len(loads) + 1)
@@ -82,7 +82,7 @@ class Session:
         return int(version)
 
     def ask(self, domain, languages, *questions):
-        """The answers to several questions, all of one version. A question is ("ngettext", "file", "files", 2)."""
+        """Answers several questions, all from one version. A question is ("ngettext", "file", "files", 2)."""
         asks = [_question(domain, languages, *question) for question in questions]
         _see_size(asks)
         with self._lock:
@@ -102,7 +102,7 @@ class Session:
         return self.ask(domain, languages, ("npgettext", context, text, plural, n))[0]
 
     def _play(self, lines, count):
-        """Sends a round, and gives the fields of the lines that it writes, which are so many."""
+        """Sends a round, and returns the fields of the `count` lines that it writes."""
         if self._ended is not None:
             raise SessionEnded(self._ended)
         try:

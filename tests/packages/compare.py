@@ -128,7 +128,7 @@ def table(folder, looked, counts):
     reasons = sorted(set().union(*counts), key=lambda it: (it != SAME, -counts[0][it], it))
     packages = {path.relative_to(folder).parts[0] for path, _ in looked}
     lines = [f"{len(looked)} PO files of {len(packages)} packages.", ""]
-    lines += ["| Beside GNU msgfmt | without `-c` | with `-c` |", "| --- | --- | --- |"]
+    lines += ["| Compared with GNU msgfmt | without `-c` | with `-c` |", "| --- | --- | --- |"]
     lines += [f"| {it} | {' | '.join(str(count[it]) for count in counts)} |" for it in reasons]
     return "\n".join(lines) + "\n"
 

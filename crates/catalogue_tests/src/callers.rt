@@ -1,4 +1,4 @@
-//! The first program of docs/CALLERS.md, which quotes it.
+//! The first program of docs/guide/rattle.md, which quotes it.
 use catalogue::{Catalogue, LoadFault, Options, compile};
 use std::alloc::Global;
 use std::test::Fail;

@@ -22,7 +22,7 @@ lines that a round writes are out before the next line is waited for.
   -h, --help       print this help
   -V, --version    print the version
 
-The lines of a script are described in FORMATS.md and in catserve(1).
+The lines of a script are described in catserve(1) and in scripts.md.
 ";
 
 /// What `--version` prints: that of the file VERSION, with which `tests/release.sh` compares it.

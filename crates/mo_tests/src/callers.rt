@@ -1,4 +1,4 @@
-//! A caller, proved by the contracts of what it calls. docs/CALLERS.md quotes it.
+//! A caller, proved by the contracts of what it calls. docs/guide/rattle.md quotes it.
 ghost use Rattle.std.specs.Prelude.{◌≡◌, Some, IfSome};
 ghost use Rattle.catalogue.specs.Map.{entry_at};
 ghost use Rattle.catalogue.specs.Meaning.{Means};

@@ -1,4 +1,4 @@
-//! The programs that docs/LIVE.md quotes.
+//! The programs of docs/guide/rattle.md, which quotes them.
 ghost use Rattle.std.specs.Prelude.{◌≡◌};
 
 use crate::tests::open_two;
