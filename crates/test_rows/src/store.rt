@@ -1,22 +1,11 @@
-//! Loads, publishes and looks up in a live store, and prints what each call answered and what it left. The
-//! tests refuse each of its requests for memory in turn.
-#![tactic(auto)]
-
+//! Loads, publishes, entries and queries of a live store.
 ghost use Rattle.std.specs.Prelude.{◌≡◌};
 
-use catalogue::{LoadFault, Options};
-use live_set::{Ask, Query};
+use crate::calls::{PLAIN, SALUT, print_state, publish, query};
+use catalogue::LoadFault;
 use live_versions::{Lookups, Publisher, StoreFault, open_store};
-use std::alloc::{AllocError, Global};
 use std::io;
 use std::sync::Wait;
-
-const PLAIN: Options = Options {
-    checked: false,
-    use_fuzzy: false,
-};
-
-const SALUT: &str = "msgid \"hi\"\nmsgstr \"salut\"\n";
 
 const HALLO: &str = "msgid \"hi\"\nmsgstr \"hallo\"\n";
 
@@ -26,12 +15,6 @@ const HEJ: &[u8] = b"\xde\x12\x04\x95\0\0\0\0\x02\0\0\0\x1c\0\0\0\x2c\0\0\0\0\0\
     hi\0yes\0hej\0ja\0";
 
 const TWICE: &str = "msgid \"a\"\nmsgstr \"x\"\n#, fuzzy\nmsgid \"a\"\nmsgstr \"y\"\n";
-
-/// Prints what the publisher has.
-fn print_state<R: Print>(rt: &R, publisher: &Publisher) -> io::Result<()> {
-    let (pending, version) = (publisher.pending(), publisher.version());
-    println!(rt; "  pending {pending}, version {version}")
-}
 
 /// Loads a text for a locale.
 fn load<R: Print + AllocGlobal>(
@@ -67,16 +50,6 @@ fn load_mo<R: Print + AllocGlobal>(
     print_state(rt, publisher)
 }
 
-fn publish<R: Wait + Print>(rt: &R, publisher: &mut Publisher) -> io::Result<()>
-    ensures { publisher.new.seen.book ≡ publisher.old.seen.book }
-{
-    match publisher.publish(rt) {
-        Ok(version) => println!(rt; "publish: {version}")?,
-        Err(fault) => println!(rt; "publish: {fault:?}")?,
-    }
-    print_state(rt, publisher)
-}
-
 /// Enters, and prints the version and what `hi` is in three locales.
 fn enter<R: Print>(rt: &R, reader: &mut Lookups) -> io::Result<()>
     ensures { reader.new.book ≡ reader.old.book }
@@ -92,17 +65,6 @@ fn enter<R: Print>(rt: &R, reader: &mut Lookups) -> io::Result<()>
     let printed = println!(rt; "enter: {} {fr} {de} {sv}", pinned.version());
     pinned.leave();
     printed
-}
-
-/// What `hi` is in French, as a query.
-fn query(alloc: Global) -> Result<Query, AllocError> {
-    Ok(Query {
-        domain: String::from_str(alloc, "app")?,
-        languages: String::from_str(alloc, "fr")?,
-        ask: Ask::Plain {
-            id: String::from_str(alloc, "hi")?,
-        },
-    })
 }
 
 fn ask<R: Print + AllocGlobal>(rt: &R, reader: &mut Lookups) -> io::Result<()> {
@@ -153,15 +115,16 @@ fn file_rows<R: Wait + Print + AllocGlobal>(
     enter(rt, reader)
 }
 
-fn main(rt: HostRuntime) -> io::Result<()> {
-    let (mut publisher, mut readers) = match open_store(&rt, rt.alloc(), 1, u64::MAX) {
+/// Makes these calls in a new store.
+pub fn print_rows<R: Wait + Print + AllocGlobal>(rt: &R) -> io::Result<()> {
+    let (mut publisher, mut readers) = match open_store(rt, rt.alloc(), 1, u64::MAX) {
         Ok(store) => store,
         Err(fault) => return println!(rt; "open: {fault}"),
     };
     let done = match readers.pop() {
-        Some(mut reader) => rows(&rt, &mut publisher, &mut reader),
+        Some(mut reader) => rows(rt, &mut publisher, &mut reader),
         None => Ok(()),
     };
-    publisher.end(&rt);
+    publisher.end(rt);
     done
 }

@@ -1,24 +1,14 @@
-//! Serves two desks beside a job, publishes, and serves them again, and prints what each call answered and what it
-//! left. The tests refuse each of its requests for memory in turn.
-#![tactic(auto)]
-
+//! Serves two desks and a job, publishes, and serves the desks again.
 ghost use Rattle.std.specs.Prelude.{◌≡◌, ◌≤◌, All, IfOk, vec_len};
 
-use catalogue::Options;
+use crate::calls::{PLAIN, SALUT, print_state, publish, query};
 use desks::{Accepted, Answer, Desk, Gate, Job, Place, Served, Source, serve};
-use live_set::{Ask, Query};
+use live_set::Query;
 use live_versions::{Lookups, Publisher, Version, open_store};
 use std::alloc::{AllocError, Global};
 use std::io;
 use std::sync::Wait;
 use std::thread::Threads;
-
-const PLAIN: Options = Options {
-    checked: false,
-    use_fuzzy: false,
-};
-
-const SALUT: &[u8] = b"msgid \"hi\"\nmsgstr \"salut\"\n";
 
 /// Lets all pass.
 #[derive(Drop)]
@@ -32,13 +22,7 @@ impl Gate for Open {
 fn queries_of(alloc: Global) -> Result<Vec<Query>, AllocError> {
     let mut queries = Vec::new(alloc);
     'queries: for _ in 0..3 {
-        queries.push(Query {
-            domain: String::from_str(alloc, "app")?,
-            languages: String::from_str(alloc, "fr")?,
-            ask: Ask::Plain {
-                id: String::from_str(alloc, "hi")?,
-            },
-        })?;
+        queries.push(query(alloc)?)?;
     }
     Ok(queries)
 }
@@ -78,7 +62,7 @@ fn desks_of(
 /// One job: a load in French.
 fn jobs_of(alloc: Global) -> Result<Vec<Job>, AllocError> {
     let mut bytes = Vec::new(alloc);
-    bytes.extend_from_slice(SALUT)?;
+    bytes.extend_from_slice(SALUT.as_bytes())?;
     let mut jobs = Vec::new(alloc);
     jobs.push(Job {
         domain: String::from_str(alloc, "app")?,
@@ -128,12 +112,6 @@ fn print_served<R: Print>(
     println!(rt; "  {right} right answers")
 }
 
-/// Prints what the publisher has.
-fn print_state<R: Print>(rt: &R, publisher: &Publisher) -> io::Result<()> {
-    let (pending, version) = (publisher.pending(), publisher.version());
-    println!(rt; "  pending {pending}, version {version}")
-}
-
 fn serve_desks<R: Threads + Wait + Print + AllocGlobal + Sync>(
     rt: &R,
     publisher: &mut Publisher,
@@ -166,23 +144,20 @@ fn rows<R: Threads + Wait + Print + AllocGlobal + Sync>(
         return println!(rt; "jobs: out of memory");
     };
     serve_desks(rt, publisher, desks, jobs)?;
-    match publisher.publish(rt) {
-        Ok(version) => println!(rt; "publish: {version}")?,
-        Err(fault) => println!(rt; "publish: {fault:?}")?,
-    }
-    print_state(rt, publisher)?;
+    publish(rt, publisher)?;
     serve_desks(rt, publisher, desks, Vec::new(rt.alloc()))
 }
 
-fn main(rt: HostRuntime) -> io::Result<()> {
-    let (mut publisher, readers) = match open_store(&rt, rt.alloc(), 2, 9) {
+/// Makes these calls in a new store.
+pub fn print_rows<R: Threads + Wait + Print + AllocGlobal + Sync>(rt: &R) -> io::Result<()> {
+    let (mut publisher, readers) = match open_store(rt, rt.alloc(), 2, 9) {
         Ok(store) => store,
         Err(fault) => return println!(rt; "open: {fault}"),
     };
     let done = match desks_of(rt.alloc(), &publisher, readers) {
-        Ok(mut desks) => rows(&rt, &mut publisher, &mut desks),
+        Ok(mut desks) => rows(rt, &mut publisher, &mut desks),
         Err(_) => println!(rt; "desks: out of memory"),
     };
-    publisher.end(&rt);
+    publisher.end(rt);
     done
 }
