@@ -1,13 +1,11 @@
-//! Times the look-ups of msgids in a catalogue, beside which `bench/lookups/run` times the same from C. The words are
-//! an MO file, a file of msgids, one a line, and how often all are looked up. Standard error has the time of each
-//! look-up; standard output has a number made of the translations, which a caller may compare.
-#![tactic(auto)]
-
+//! Times the look-ups of msgids in a catalogue; `bench/lookups/run` compares them with look-ups from C. Standard error
+//! has the time of one look-up; standard output has a number made of the translations, which a caller may compare.
 use catalogue::Catalogue;
 use mo_file::read_mo;
+use std::fs::Files;
 use std::rt::Clock;
 use std::time::Instant;
-use std::{env, fs, io};
+use std::{fs, io};
 
 /// Looks up all msgids, and sums the first bytes of their translations, from a number on. It is a call of its own, so
 /// that no round is taken for another one.
@@ -41,14 +39,16 @@ fn time_all<R: Print + Eprint + Clock>(
     eprintln!(rt; "{} ps", taken.saturating_mul(1000) / turns.max(1))
 }
 
-/// Opens the catalogue, makes its index, and times it.
-fn run<R: Print + Eprint + Clock + AllocGlobal>(
+/// Opens an MO file, makes its index, and times `rounds` look-ups of each line of a file of msgids.
+pub fn time_lookups<R: Print + Eprint + Clock + Files + AllocGlobal>(
     rt: &R,
-    file: &[u8],
+    file: &str,
     ids: &str,
     rounds: u32,
 ) -> io::Result<()> {
-    let Ok(mut catalogue) = read_mo(rt.alloc(), file) else {
+    let file = fs::read(rt, file)?;
+    let ids = fs::read_to_string(rt, ids)?;
+    let Ok(mut catalogue) = read_mo(rt.alloc(), &file) else {
         return eprintln!(rt; "no MO file");
     };
     catalogue.index(rt.alloc())?;
@@ -57,17 +57,4 @@ fn run<R: Print + Eprint + Clock + AllocGlobal>(
         list.push(id)?;
     }
     time_all(rt, &catalogue, &list, rounds)
-}
-
-fn main(rt: HostRuntime) -> io::Result<()> {
-    let mut words = env::args(&rt)?;
-    let (Some(file), Some(ids), Some(rounds)) = (words.nth(1), words.next(), words.next()) else {
-        return eprintln!(&rt; "usage: bench_lookups MO IDS ROUNDS");
-    };
-    let Ok(rounds) = rounds.as_str().parse::<u32>() else {
-        return eprintln!(&rt; "not a number of rounds");
-    };
-    let file = fs::read(&rt, file.as_str())?;
-    let ids = fs::read_to_string(&rt, ids.as_str())?;
-    run(&rt, &file, ids.as_str(), rounds)
 }

@@ -1,7 +1,5 @@
-//! Times `signature` on hostile texts, which number their arguments in some order. Standard output has
-//! what was listed, the same each time; standard error has the processor time, as the count doubles.
-#![tactic(auto)]
-
+//! Times `signature` on hostile texts, which number their arguments in some order. Standard output has what was listed;
+//! standard error has the processor time, as the count doubles.
 ghost use Rattle.std.specs.Prelude.{◌<◌};
 
 use c_signature::signature;
@@ -87,7 +85,8 @@ fn time_plain<R: Print + Eprint + AllocGlobal + CpuClock>(rt: &R, len: usize) ->
     eprintln!(rt; "plain, {len} bytes: {micros} us")
 }
 
-fn main(rt: HostRuntime) -> io::Result<()> {
+/// Times texts in each order, and one without a directive.
+pub fn time_formats<R: Print + Eprint + AllocGlobal + CpuClock>(rt: &R) -> io::Result<()> {
     for order in [
         Order::Unnumbered,
         Order::Rising,
@@ -96,8 +95,8 @@ fn main(rt: HostRuntime) -> io::Result<()> {
         Order::Same,
     ] {
         for count in [250_000, 500_000, 1_000_000, 2_000_000] {
-            time_one(&rt, order, count)?;
+            time_one(rt, order, count)?;
         }
     }
-    time_plain(&rt, 16_000_000)
+    time_plain(rt, 16_000_000)
 }
