@@ -1,21 +1,21 @@
 #!/usr/bin/env bash
-# Runs the program crates/answers over its list data/cases, whose answers were worked out by hand, and then refuses
+# Runs the program crates/test_answers over its list data/cases, whose answers were worked out by hand, and then refuses
 # each of its requests for memory in turn while it reads the short list data/few. It prints each case whose answer
 # isn't the one of the list: none, but those that say that memory was refused. A refused request is never taken for a
 # malformed expression, a broken rule, an invalid format or a fault of a text.
 . "$(dirname "$0")/common"
 
-program=${ANSWERS:-crates/answers/out/answers}
+program=${ANSWERS:-crates/test_answers/out/test_answers}
 if [ ! -x "$program" ]; then
-  failed answers "there is no $program: the gate builds it (make check), and so does 'rt run' in crates/answers"
+  failed answers "there is no $program: the gate builds it (make check), and so does 'rt run' in crates/test_answers"
   exit 0
 fi
 
-"$program" crates/answers/data/cases > "$room/got"
-if cmp -s "$room/got" crates/answers/stdout; then
-  ok "answers: $(grep -cvE '^(#|$)' crates/answers/data/cases) cases as worked out"
+"$program" crates/test_answers/data/cases > "$room/got"
+if cmp -s "$room/got" crates/test_answers/stdout; then
+  ok "answers: $(grep -cvE '^(#|$)' crates/test_answers/data/cases) cases as worked out"
 else
-  failed answers "$(diff crates/answers/stdout "$room/got" | head -n 3 | tr '\n' ' ')"
+  failed answers "$(diff crates/test_answers/stdout "$room/got" | head -n 3 | tr '\n' ' ')"
 fi
 
 makes_refuser 'answers, refused' || exit 0
@@ -25,7 +25,7 @@ makes_refuser 'answers, refused' || exit 0
 told='^line [0-9]+, .*: out of memory$'
 counted='^(expression|rule|format|po): [0-9]+ of [0-9]+ as written$'
 n=0 spoke=0 ended=0 wrong=
-while refuses $((n + 1)) "$program" crates/answers/data/few > "$room/got" 2> "$room/err"; do
+while refuses $((n + 1)) "$program" crates/test_answers/data/few > "$room/got" 2> "$room/err"; do
   n=$((n + 1))
   lacks=$(grep -cE "$told" "$room/got")
   spoke=$((spoke + lacks))

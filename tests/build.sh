@@ -10,7 +10,8 @@ cp -r tools/build Makefile examples "$top"
 mv "$top/build" "$top/tools/build"
 echo 'Handles allowed: none.' > "$top/HANDLES"
 cat > "$top/crates.txt" << 'END'
-# what a program needs, lowest first
+# -- what a program needs, lowest first
+
 low: bstr
 left: low
 right: low

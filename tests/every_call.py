@@ -1,4 +1,4 @@
-"""Says whether runs of crates/every_call, each with one request for memory refused, answer as they should.
+"""Says whether runs of crates/test_every_call, each with one request for memory refused, answer as they should.
 
   every_call.py WORD OWN RUNS..   WORD: the calls that were made; OWN: what they print where nothing is refused;
                                   RUNS: what they printed, each run with another request refused

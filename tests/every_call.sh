@@ -1,23 +1,23 @@
 #!/usr/bin/env bash
-# Makes the calls that allocate through the program crates/every_call, compares all answers with those worked out by hand
-# (crates/every_call/stdout), and then refuses each of its allocations in turn. Each line must be that of a run without
+# Makes the calls that allocate through the program crates/test_every_call, compares all answers with those worked out by hand
+# (crates/test_every_call/stdout), and then refuses each of its allocations in turn. Each line must be that of a run without
 # refusals, or say that memory was refused; none may be missing, and what a refused call was given must be as it was.
 # tests/every_call.py says which line may be where.
 . "$(dirname "$0")/common"
 
-program=${EVERY_CALL:-crates/every_call/out/every_call}
+program=${EVERY_CALL:-crates/test_every_call/out/test_every_call}
 if [ ! -x "$program" ]; then
-  failed every_call "there is no $program: the gate builds it (make check), and so does 'rt run' in crates/every_call"
+  failed every_call "there is no $program: the gate builds it (make check), and so does 'rt run' in crates/test_every_call"
   exit 0
 fi
 words='read_po parse_expr read_rule signature compile from_sorted from_file write_mo read_mo check reread name absorb'
 words+=' try_clone open_store publish ask serve'
 
 "$program" > "$room/all"
-if cmp -s "$room/all" crates/every_call/stdout; then
+if cmp -s "$room/all" crates/test_every_call/stdout; then
   ok "every call: $(wc -l < "$room/all") lines as worked out"
 else
-  failed 'every call' "$(diff crates/every_call/stdout "$room/all" | head -n 3 | tr '\n' ' ')"
+  failed 'every call' "$(diff crates/test_every_call/stdout "$room/all" | head -n 3 | tr '\n' ' ')"
 fi
 for word in $words; do "$program" "$word" > "$room/$word" && cat "$room/$word"; done > "$room/parts"
 if cmp -s "$room/all" "$room/parts"; then

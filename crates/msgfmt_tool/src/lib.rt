@@ -5,6 +5,7 @@
 #![tactic(auto)]
 
 mod command;
+mod failures;
 mod law;
 mod outcome;
 mod steps;
@@ -12,6 +13,7 @@ mod texts;
 mod words;
 
 pub use command::run;
+pub use failures::FileFailures;
 pub use law::one_status;
 pub use outcome::{Cause, Status};
 pub use steps::MOST_INPUT;

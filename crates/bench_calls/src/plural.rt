@@ -1,0 +1,66 @@
+//! Times plural rules; `bench/plural/run` compares them with the same rules in C.
+use po_header::read_rule;
+use std::alloc::{AllocError, Global};
+use std::fs::Files;
+use std::rt::Clock;
+use std::time::Instant;
+use std::{fs, io};
+
+/// The numbers whose forms are summed: those below this one.
+const TOP: u64 = 1001;
+
+/// How often a rule is read.
+const READS: u64 = 1000;
+
+/// The sum of the forms of the numbers below `top`, `rounds` times, by the rule of a header's text.
+#[inline(never)]
+fn sum_forms(alloc: Global, text: &str, top: u64, rounds: u64) -> Result<u64, AllocError> {
+    let rule = read_rule(alloc, text)?;
+    let mut sum: u64 = 0;
+    for _ in 0..rounds {
+        for n in 0..top {
+            sum = sum.wrapping_add(rule.form_index(n));
+        }
+    }
+    Ok(sum)
+}
+
+/// Reads the rule of a header's text `READS` times, and gives the sum of the forms of 2.
+#[inline(never)]
+fn read_often(alloc: Global, text: &str) -> Result<u64, AllocError> {
+    let mut sum: u64 = 0;
+    for _ in 0..READS {
+        let rule = read_rule(alloc, text)?;
+        sum = sum.wrapping_add(rule.form_index(2));
+    }
+    Ok(sum)
+}
+
+/// Times one rule, after a first time that isn't timed. Prints the sum of its forms, the picoseconds of a number and of
+/// a reading, and whether both times gave the same.
+fn time_rule<R: Print + Clock + AllocGlobal>(rt: &R, text: &str, rounds: u64) -> io::Result<()> {
+    let first_sum = sum_forms(rt.alloc(), text, TOP, rounds)?;
+    let first_read = read_often(rt.alloc(), text)?;
+    let start = Instant::now(rt)?;
+    let sum = sum_forms(rt.alloc(), text, TOP, rounds)?;
+    let number = start.elapsed(rt)?.as_nanos().saturating_mul(1000)
+        / u128::from(TOP.saturating_mul(rounds).max(1));
+    let start = Instant::now(rt)?;
+    let read = read_often(rt.alloc(), text)?;
+    let reading = start.elapsed(rt)?.as_nanos().saturating_mul(1000) / u128::from(READS);
+    let steady = sum == first_sum && read == first_read;
+    println!(rt; "{sum} {number} {reading} {steady}")
+}
+
+/// Times the rule of each header in a file, one header a line, over the numbers below `TOP`, `rounds` times.
+pub fn time_rules<R: Print + Clock + Files + AllocGlobal>(
+    rt: &R,
+    headers: &str,
+    rounds: u32,
+) -> io::Result<()> {
+    let headers = fs::read_to_string(rt, headers)?;
+    for header in headers.lines() {
+        time_rule(rt, header, u64::from(rounds))?;
+    }
+    Ok(())
+}

@@ -1,0 +1,8 @@
+use Rattle.std.proofs.Common.{◌≡◌, ◌+◌, All, vec_len}
+use Rattle.test_store.proofs.serving.desks_of.Given as goal
+
+abbrev pub invariant-readers : goal.invariant-readers
+invariant-readers l =
+    (vec_len l.readers + l.index ≡ vec_len l.fn.readers) × (vec_len l.desks ≡ l.index)
+    × All (λ r. r.book ≡ l.publisher.seen.book) l.readers.items
+    × All (λ d. d.reader.book ≡ l.publisher.seen.book) l.desks.items
