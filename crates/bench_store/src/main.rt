@@ -1,8 +1,13 @@
 //! Times a live store: entries, alone and of many readers beside a publisher; queries in one thread and in four, and by
 //! lists of languages; `serve` on 1 to 16 desks, alone and beside jobs; publishes beside many catalogues; loads of a PO
-//! text and of its MO file. The first word says how many messages each of 20 languages has (500 without a word), the
-//! second how often is published (100).
-//! Standard output has what went wrong, the same each time; standard error has the times by the clock.
+//! text and of its MO file.
+//!
+//!     bench_store                        all of it once, small, and each soak for a second
+//!     bench_store MESSAGES [PUBLISHES]   the times, with MESSAGES in each of 20 languages
+//!     bench_store soak [SECONDS]         look-ups while catalogues are replaced (`soak`)
+//!     bench_store soak_serve [SECONDS]   `serve`, over and over (`soak_serve`)
+//!
+//! Standard output has what went wrong, which is nothing; standard error has the times by the clock.
 #![tactic(auto)]
 
 mod languages;
@@ -11,15 +16,19 @@ mod loads;
 mod messages;
 mod readers;
 mod serving;
+mod soak;
+mod soak_serve;
 
 use crate::languages::publish_languages;
 use crate::lists::time_lists;
 use crate::loads::time_loads;
-use crate::messages::{LANGUAGES, PLAIN, locale_of, po_text, queries};
+use crate::messages::{Asked, LANGUAGES, PLAIN, locale_of, po_text, queries};
 use crate::readers::{
     ask_all, ask_all_into, ask_each, enter_many, enter_until, keep_all, look_all,
 };
 use crate::serving::time_serve;
+use crate::soak::soak;
+use crate::soak_serve::soak_serve;
 use live_set::Query;
 use live_versions::{Lookups, Publisher, open_store};
 use std::rt::Clock;
@@ -29,6 +38,12 @@ use std::sync::atomic::Ordering::SeqCst;
 use std::thread::{Threads, join, map_vec};
 use std::time::{Duration, Instant};
 use std::{env, io};
+
+/// How many messages a language has, if no argument says so.
+const MESSAGES: u32 = 500;
+
+/// How often is published while readers enter, if no argument says so.
+const TURNS: u32 = 100;
 
 /// How many entries one reader makes.
 const ENTRIES: u32 = 1_000_000;
@@ -225,13 +240,17 @@ fn time_queries<R: Print + Eprint + Clock + Threads + Wait + AllocGlobal + Sync>
     messages: u32,
     rounds: u32,
 ) -> io::Result<()> {
-    let count = messages.saturating_mul(LANGUAGES) / rounds.max(1);
+    let asked = Asked {
+        languages: LANGUAGES,
+        messages,
+        count: messages.saturating_mul(LANGUAGES) / rounds.max(1),
+    };
     let Ok((mut publisher, readers)) = open_store(rt, rt.alloc(), 4, u64::MAX) else {
         return println!(rt; "no store");
     };
     let done = match (
         publish_languages(rt, &mut publisher, messages),
-        queries(rt.alloc(), messages, count, ""),
+        queries(rt.alloc(), asked, ""),
     ) {
         (Ok(true), Ok(queries)) => run_queries(rt, readers, &queries, rounds),
         _ => println!(rt; "out of memory"),
@@ -364,10 +383,13 @@ fn number_of(word: Option<String>, otherwise: u32) -> u32 {
     number.unwrap_or(otherwise)
 }
 
-fn main(rt: HostRuntime) -> io::Result<()> {
-    let messages = number_of(env::args(&rt)?.nth(1), 500);
-    let publishes = number_of(env::args(&rt)?.nth(2), 100);
-    time_entries(&rt)?;
+/// Times a store with `messages` in each language, and `publishes` while readers enter.
+fn time_all<R: Print + Eprint + Clock + Threads + Wait + AllocGlobal + Sync>(
+    rt: &R,
+    messages: u32,
+    publishes: u32,
+) -> io::Result<()> {
+    time_entries(rt)?;
     'readers: for readers in [4, 16] {
         'work: for work in [0, WORK] {
             'publishing: for publishing in [false, true] {
@@ -376,15 +398,33 @@ fn main(rt: HostRuntime) -> io::Result<()> {
                     work,
                     publishing,
                 };
-                time_beside(&rt, beside, publishes)?;
+                time_beside(rt, beside, publishes)?;
             }
         }
     }
     'rounds: for rounds in ROUNDS {
-        time_queries(&rt, messages, rounds)?;
+        time_queries(rt, messages, rounds)?;
     }
-    time_lists(&rt, messages)?;
-    time_serve(&rt, messages)?;
-    time_publishes(&rt)?;
-    time_loads(&rt)
+    time_lists(rt, messages)?;
+    time_serve(rt, messages)?;
+    time_publishes(rt)?;
+    time_loads(rt)
+}
+
+fn main(rt: HostRuntime) -> io::Result<()> {
+    let second = env::args(&rt)?.nth(2);
+    let Some(first) = env::args(&rt)?.nth(1) else {
+        time_all(&rt, MESSAGES, TURNS)?;
+        soak(&rt, 1)?;
+        return soak_serve(&rt, 1);
+    };
+    match first.as_str() {
+        "soak" => soak(&rt, u64::from(number_of(second, 60))),
+        "soak_serve" => soak_serve(&rt, u64::from(number_of(second, 60))),
+        _ => time_all(
+            &rt,
+            number_of(Some(first), MESSAGES),
+            number_of(second, TURNS),
+        ),
+    }
 }

@@ -43,21 +43,24 @@ pub fn other_text(alloc: Global, messages: u32) -> Result<String, AllocError> {
     Ok(text)
 }
 
-/// So many queries for messages here and there, each in one of the languages, with these members of the list before it.
-pub fn queries(
-    alloc: Global,
-    messages: u32,
-    count: u32,
-    before: &str,
-) -> Result<Vec<Query>, AllocError> {
+/// What is asked for: `count` queries, each for one of the messages in one of the languages.
+#[derive(Clone, Copy)]
+pub struct Asked {
+    pub languages: u32,
+    pub messages: u32,
+    pub count: u32,
+}
+
+/// Queries for messages here and there. The list of each has the members `before` in front of the query's language.
+pub fn queries(alloc: Global, asked: Asked, before: &str) -> Result<Vec<Query>, AllocError> {
     let mut all = Vec::new(alloc);
     let mut state: u64 = 1;
-    'queries: for _ in 0..count {
+    'queries: for _ in 0..asked.count {
         state = state
             .wrapping_mul(6_364_136_223_846_793_005)
             .wrapping_add(1_442_695_040_888_963_407);
-        let message = (state >> 33) % u64::from(messages.max(1));
-        let language = (state >> 40) % u64::from(LANGUAGES);
+        let message = (state >> 33) % u64::from(asked.messages.max(1));
+        let language = (state >> 40) % u64::from(asked.languages.max(1));
         all.push(Query {
             domain: String::from_str(alloc, "app")?,
             languages: format!(in alloc; "{before}l{language}")?,
