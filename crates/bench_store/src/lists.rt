@@ -2,7 +2,7 @@
 ghost use Rattle.std.specs.Prelude.{◌≡◌};
 
 use crate::languages::publish_languages;
-use crate::messages::{LANGUAGES, PLAIN, other_text, queries};
+use crate::messages::{Asked, LANGUAGES, PLAIN, other_text, queries};
 use crate::print_time;
 use crate::readers::{ask_all, ask_each};
 use live_versions::{Lookups, Publisher, open_store};
@@ -46,8 +46,13 @@ fn run_lists<R: Print + Eprint + Clock + AllocGlobal>(
     messages: u32,
 ) -> io::Result<()> {
     let count = messages.saturating_mul(LANGUAGES) / ROUNDS;
+    let asked = Asked {
+        languages: LANGUAGES,
+        messages,
+        count,
+    };
     'lists: for (members, before) in LISTS {
-        let Ok(queries) = queries(rt.alloc(), messages, count, before) else {
+        let Ok(queries) = queries(rt.alloc(), asked, before) else {
             return println!(rt; "out of memory");
         };
         let wrong = ask_each(rt.alloc(), reader, &queries);

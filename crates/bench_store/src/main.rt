@@ -2,9 +2,12 @@
 //! four, and with lists of languages; `serve` on 1 to 16 desks, with and without jobs; publishes with many catalogues
 //! in the store; loads of a PO text and of its MO file.
 //!
-//! The first argument is the number of messages for each of 20 languages (default 500), the second the number of
-//! publishes (default 100). Standard output has only what went wrong, so it is equal for equal runs; the times go to
-//! standard error.
+//!     bench_store                        all of it once, small, and each soak for a second
+//!     bench_store MESSAGES [PUBLISHES]   the times, with MESSAGES in each of 20 languages
+//!     bench_store soak [SECONDS]         look-ups while catalogues are replaced
+//!     bench_store soak_serve [SECONDS]   `serve`, over and over
+//!
+//! Standard output has only what went wrong, so it is equal for equal runs; the times go to standard error.
 #![tactic(auto)]
 
 mod languages;
@@ -13,15 +16,19 @@ mod loads;
 mod messages;
 mod readers;
 mod serving;
+mod soak;
+mod soak_serve;
 
 use crate::languages::publish_languages;
 use crate::lists::time_lists;
 use crate::loads::time_loads;
-use crate::messages::{LANGUAGES, PLAIN, locale_of, po_text, queries};
+use crate::messages::{Asked, LANGUAGES, PLAIN, locale_of, po_text, queries};
 use crate::readers::{
     ask_all, ask_all_into, ask_each, enter_many, enter_until, keep_all, look_all,
 };
 use crate::serving::time_serve;
+use crate::soak::soak;
+use crate::soak_serve::soak_serve;
 use live_set::Query;
 use live_versions::{Lookups, Publisher, open_store};
 use std::rt::Clock;
@@ -31,6 +38,12 @@ use std::sync::atomic::Ordering::SeqCst;
 use std::thread::{Threads, join, map_vec};
 use std::time::{Duration, Instant};
 use std::{env, io};
+
+/// The number of messages of a language, if no argument says so.
+const MESSAGES: u32 = 500;
+
+/// The number of publishes while readers enter, if no argument says so.
+const TURNS: u32 = 100;
 
 /// The number of entries that one reader makes.
 const ENTRIES: u32 = 1_000_000;
@@ -228,13 +241,17 @@ fn time_queries<R: Print + Eprint + Clock + Threads + Wait + AllocGlobal + Sync>
     messages: u32,
     rounds: u32,
 ) -> io::Result<()> {
-    let count = messages.saturating_mul(LANGUAGES) / rounds.max(1);
+    let asked = Asked {
+        languages: LANGUAGES,
+        messages,
+        count: messages.saturating_mul(LANGUAGES) / rounds.max(1),
+    };
     let Ok((mut publisher, readers)) = open_store(rt, rt.alloc(), 4, u64::MAX) else {
         return println!(rt; "no store");
     };
     let done = match (
         publish_languages(rt, &mut publisher, messages),
-        queries(rt.alloc(), messages, count, ""),
+        queries(rt.alloc(), asked, ""),
     ) {
         (Ok(true), Ok(queries)) => run_queries(rt, readers, &queries, rounds),
         _ => println!(rt; "out of memory"),
@@ -367,10 +384,13 @@ fn number_of(word: Option<String>, otherwise: u32) -> u32 {
     number.unwrap_or(otherwise)
 }
 
-fn main(rt: HostRuntime) -> io::Result<()> {
-    let messages = number_of(env::args(&rt)?.nth(1), 500);
-    let publishes = number_of(env::args(&rt)?.nth(2), 100);
-    time_entries(&rt)?;
+/// Times a store with `messages` in each language, and `publishes` while readers enter.
+fn time_all<R: Print + Eprint + Clock + Threads + Wait + AllocGlobal + Sync>(
+    rt: &R,
+    messages: u32,
+    publishes: u32,
+) -> io::Result<()> {
+    time_entries(rt)?;
     'readers: for readers in [4, 16] {
         'work: for work in [0, WORK] {
             'publishing: for publishing in [false, true] {
@@ -379,15 +399,33 @@ fn main(rt: HostRuntime) -> io::Result<()> {
                     work,
                     publishing,
                 };
-                time_beside(&rt, beside, publishes)?;
+                time_beside(rt, beside, publishes)?;
             }
         }
     }
     'rounds: for rounds in ROUNDS {
-        time_queries(&rt, messages, rounds)?;
+        time_queries(rt, messages, rounds)?;
     }
-    time_lists(&rt, messages)?;
-    time_serve(&rt, messages)?;
-    time_publishes(&rt)?;
-    time_loads(&rt)
+    time_lists(rt, messages)?;
+    time_serve(rt, messages)?;
+    time_publishes(rt)?;
+    time_loads(rt)
+}
+
+fn main(rt: HostRuntime) -> io::Result<()> {
+    let second = env::args(&rt)?.nth(2);
+    let Some(first) = env::args(&rt)?.nth(1) else {
+        time_all(&rt, MESSAGES, TURNS)?;
+        soak(&rt, 1)?;
+        return soak_serve(&rt, 1);
+    };
+    match first.as_str() {
+        "soak" => soak(&rt, u64::from(number_of(second, 60))),
+        "soak_serve" => soak_serve(&rt, u64::from(number_of(second, 60))),
+        _ => time_all(
+            &rt,
+            number_of(Some(first), MESSAGES),
+            number_of(second, TURNS),
+        ),
+    }
 }

@@ -45,22 +45,25 @@ pub fn other_text(alloc: Global, messages: u32) -> Result<String, AllocError> {
     Ok(text)
 }
 
-/// `count` queries for pseudo-random messages. Each has a list of languages that begins with `before` and ends with one
-/// of the 20.
-pub fn queries(
-    alloc: Global,
-    messages: u32,
-    count: u32,
-    before: &str,
-) -> Result<Vec<Query>, AllocError> {
+/// What is asked for: `count` queries, each for one of the messages in one of the languages.
+#[derive(Clone, Copy)]
+pub struct Asked {
+    pub languages: u32,
+    pub messages: u32,
+    pub count: u32,
+}
+
+/// Queries for pseudo-random messages. Each has a list of languages that begins with `before` and ends with one of
+/// those asked for.
+pub fn queries(alloc: Global, asked: Asked, before: &str) -> Result<Vec<Query>, AllocError> {
     let mut all = Vec::new(alloc);
     let mut state: u64 = 1;
-    'queries: for _ in 0..count {
+    'queries: for _ in 0..asked.count {
         state = state
             .wrapping_mul(6_364_136_223_846_793_005)
             .wrapping_add(1_442_695_040_888_963_407);
-        let message = (state >> 33) % u64::from(messages.max(1));
-        let language = (state >> 40) % u64::from(LANGUAGES);
+        let message = (state >> 33) % u64::from(asked.messages.max(1));
+        let language = (state >> 40) % u64::from(asked.languages.max(1));
         all.push(Query {
             domain: String::from_str(alloc, "app")?,
             languages: format!(in alloc; "{before}l{language}")?,

@@ -2,7 +2,7 @@
 ghost use Rattle.std.specs.Prelude.{◌≡◌, ◌≤◌, All, IfOk, vec_len};
 
 use crate::languages::publish_languages;
-use crate::messages::{LANGUAGES, PLAIN, locale_of, po_text, queries};
+use crate::messages::{Asked, LANGUAGES, PLAIN, locale_of, po_text, queries};
 use crate::readers::is_answer;
 use desks::{Answer, Desk, Gate, Job, Place, Source, serve};
 use live_set::Query;
@@ -25,7 +25,7 @@ const JOB_MESSAGES: u32 = 10;
 
 /// A gate that holds nobody.
 #[derive(Drop)]
-struct Open;
+pub struct Open;
 
 impl Gate for Open {
     fn pass(&self, _place: Place, _index: u64) {}
@@ -48,25 +48,24 @@ fn jobs_of(alloc: Global, count: u32) -> Result<Vec<Job>, AllocError> {
     Ok(jobs)
 }
 
-/// A desk with `count` queries.
-fn desk_of(alloc: Global, reader: Lookups, messages: u32, count: u32) -> Result<Desk, AllocError>
+/// A desk with these queries.
+fn desk_of(alloc: Global, reader: Lookups, asked: Asked) -> Result<Desk, AllocError>
     ensures { IfOk result (λ d. d.reader ≡ reader) }
 {
     Ok(Desk {
         reader,
-        queries: queries(alloc, messages, count, "")?,
+        queries: queries(alloc, asked, "")?,
         answers: Vec::new(alloc),
         fault: None,
     })
 }
 
-/// A desk for each reader, with `count` queries each.
-fn desks_of(
+/// A desk for each reader, each with these queries.
+pub fn desks_of(
     alloc: Global,
     publisher: &Publisher,
     mut readers: Vec<Lookups>,
-    messages: u32,
-    count: u32,
+    asked: Asked,
 ) -> Result<Vec<Desk>, AllocError>
     requires { All (λ l. l.book ≡ publisher.now.seen.book) readers.items }
     ensures { IfOk result (λ v.
@@ -77,7 +76,7 @@ fn desks_of(
         let Some(reader) = readers.pop() else {
             break;
         };
-        let desk = desk_of(alloc, reader, messages, count)?;
+        let desk = desk_of(alloc, reader, asked)?;
         desks.push(desk)?;
     }
     Ok(desks)
@@ -150,14 +149,15 @@ fn time_desks<R: Print + Eprint + Clock + Threads + Wait + AllocGlobal + Sync>(
     let Ok((mut publisher, readers)) = open_store(rt, rt.alloc(), count, u64::MAX) else {
         return println!(rt; "no store");
     };
-    let each = messages.saturating_mul(LANGUAGES) / 10;
+    let asked = Asked {
+        languages: LANGUAGES,
+        messages,
+        count: messages.saturating_mul(LANGUAGES) / 10,
+    };
     let published = publish_languages(rt, &mut publisher, messages);
-    let done = match (
-        published,
-        desks_of(rt.alloc(), &publisher, readers, messages, each),
-    ) {
+    let done = match (published, desks_of(rt.alloc(), &publisher, readers, asked)) {
         (Ok(true), Ok(mut desks)) => {
-            let all = u64::from(each).saturating_mul(u64::from(count));
+            let all = u64::from(asked.count).saturating_mul(u64::from(count));
             run_desks(rt, &mut publisher, &mut desks, jobs, all)
         }
         _ => println!(rt; "out of memory"),

@@ -1,39 +1,28 @@
-//! Eight desks are served beside 100 jobs, over and over in the same store, for as many seconds as the first word
-//! says (1 without a word). Each job's text is the number of its load, so that an answer tells whether it is of the
-//! version that it names.
-#![tactic(auto)]
+//! Eight desks and 100 jobs are served, over and over in one store. Each job's text is the number of its load, so that
+//! an answer shows whether it is of the version that it names.
+ghost use Rattle.std.specs.Prelude.{◌≡◌, ◌≤◌, All, vec_len};
 
-ghost use Rattle.std.specs.Prelude.{◌≡◌, ◌≤◌, All, IfOk, vec_len};
-
-use catalogue::Options;
-use desks::{Answer, Desk, Gate, Job, Place, Served, Source, serve};
-use live_set::{Ask, Query};
-use live_versions::{Lookups, Publisher, Version, open_store};
+use crate::messages::{Asked, PLAIN, locale_of};
+use crate::serving::{Open, desks_of};
+use crate::soak::{text_of, version_in};
+use desks::{Answer, Desk, Job, Served, Source, serve};
+use live_versions::{Publisher, Version, open_store};
 use std::alloc::{AllocError, Global};
+use std::io;
 use std::rt::Clock;
 use std::sync::Wait;
 use std::thread::Threads;
 use std::time::Instant;
-use std::{env, io};
-
-const PLAIN: Options = Options {
-    checked: false,
-    use_fuzzy: false,
-};
 
 /// How many jobs a service has.
 const JOBS: u32 = 100;
 
-/// How many queries a desk has: for about as long as the jobs take.
-const QUERIES: u32 = 10_000;
-
-/// Lets all pass.
-#[derive(Drop)]
-struct Open;
-
-impl Gate for Open {
-    fn pass(&self, _place: Place, _index: u64) {}
-}
+/// What a desk asks for: the one message, for about as long as the jobs take.
+const ASKED: Asked = Asked {
+    languages: 1,
+    messages: 1,
+    count: 10_000,
+};
 
 /// What was counted.
 #[derive(Clone, Copy)]
@@ -47,70 +36,16 @@ struct Counts {
     lost: u64,
 }
 
-/// The version that a text tells; 0 where it is a msgid.
-fn version_in(text: &str) -> Version {
-    let number: Option<u64> = text.parse().ok();
-    number.unwrap_or(0)
-}
-
-/// What `hi` is in French, over and over.
-fn queries_of(alloc: Global) -> Result<Vec<Query>, AllocError> {
-    let mut queries = Vec::new(alloc);
-    'queries: for _ in 0..QUERIES {
-        queries.push(Query {
-            domain: String::from_str(alloc, "app")?,
-            languages: String::from_str(alloc, "fr")?,
-            ask: Ask::Plain {
-                id: String::from_str(alloc, "hi")?,
-            },
-        })?;
-    }
-    Ok(queries)
-}
-
-fn desk_of(alloc: Global, reader: Lookups) -> Result<Desk, AllocError>
-    ensures { IfOk result (λ d. d.reader ≡ reader) }
-{
-    Ok(Desk {
-        reader,
-        queries: queries_of(alloc)?,
-        answers: Vec::new(alloc),
-        fault: None,
-    })
-}
-
-/// A desk for each reader.
-fn desks_of(
-    alloc: Global,
-    publisher: &Publisher,
-    mut readers: Vec<Lookups>,
-) -> Result<Vec<Desk>, AllocError>
-    requires { All (λ l. l.book ≡ publisher.now.seen.book) readers.items }
-    ensures { IfOk result (λ v.
-        (vec_len v ≡ vec_len readers) × All (λ d. d.reader.book ≡ publisher.now.seen.book) v.items) }
-{
-    let mut desks = Vec::new(alloc);
-    'readers: for _ in 0..readers.len() {
-        let Some(reader) = readers.pop() else {
-            break;
-        };
-        let desk = desk_of(alloc, reader)?;
-        desks.push(desk)?;
-    }
-    Ok(desks)
-}
-
-/// Jobs whose texts tell the versions behind this one.
+/// Jobs whose texts are the versions after this one.
 fn jobs_of(alloc: Global, version: Version) -> Result<Vec<Job>, AllocError> {
     let mut jobs = Vec::new(alloc);
     'jobs: for job in 0..JOBS {
         let number = version.saturating_add(u64::from(job) + 1);
-        let text = format!(in alloc; "msgid \"hi\"\nmsgstr \"{number}\"\n")?;
         jobs.push(Job {
             domain: String::from_str(alloc, "app")?,
-            locale: String::from_str(alloc, "fr")?,
+            locale: locale_of(alloc, 0)?,
             source: Source::Po {
-                bytes: text.into_bytes(),
+                bytes: text_of(alloc, number)?.into_bytes(),
                 options: PLAIN,
             },
         })?;
@@ -153,7 +88,7 @@ fn count_all(counts: &mut Counts, served: &Served, desks: &[Desk], version: Vers
     }
 }
 
-/// Serves the desks over and over for so many seconds. Answers how many services there were.
+/// Serves the desks over and over for `seconds`. Answers how many services there were.
 fn serve_long<R: Threads + Wait + Clock + AllocGlobal + Sync>(
     rt: &R,
     publisher: &mut Publisher,
@@ -184,18 +119,12 @@ fn serve_long<R: Threads + Wait + Clock + AllocGlobal + Sync>(
     Ok(services)
 }
 
-/// The number of seconds that the first word says.
-fn seconds_of(word: Option<String>) -> u64 {
-    let seconds: Option<u64> = match word {
-        Some(word) => word.as_str().parse().ok(),
-        None => None,
-    };
-    seconds.unwrap_or(1)
-}
-
-fn main(rt: HostRuntime) -> io::Result<()> {
-    let seconds = seconds_of(env::args(&rt)?.nth(1));
-    let Ok((mut publisher, readers)) = open_store(&rt, rt.alloc(), 8, u64::MAX) else {
+/// Serves eight desks for `seconds`, and prints what went wrong.
+pub fn soak_serve<R: Print + Eprint + Threads + Wait + Clock + AllocGlobal + Sync>(
+    rt: &R,
+    seconds: u64,
+) -> io::Result<()> {
+    let Ok((mut publisher, readers)) = open_store(rt, rt.alloc(), 8, u64::MAX) else {
         return println!(rt; "no store");
     };
     let mut counts = Counts {
@@ -204,11 +133,11 @@ fn main(rt: HostRuntime) -> io::Result<()> {
         fallen: 0,
         lost: 0,
     };
-    let services = match desks_of(rt.alloc(), &publisher, readers) {
-        Ok(mut desks) => serve_long(&rt, &mut publisher, &mut desks, seconds, &mut counts),
+    let services = match desks_of(rt.alloc(), &publisher, readers, ASKED) {
+        Ok(mut desks) => serve_long(rt, &mut publisher, &mut desks, seconds, &mut counts),
         Err(_) => Ok(0),
     };
-    publisher.end(&rt);
+    publisher.end(rt);
     let services = services?;
     let Counts {
         answers,
@@ -217,7 +146,5 @@ fn main(rt: HostRuntime) -> io::Result<()> {
         lost,
     } = counts;
     println!(rt; "{mixed} mixed texts, {fallen} versions fell, {lost} lost")?;
-    eprintln!(rt;
-        "{seconds} s: {services} services of 8 desks beside {JOBS} jobs, {answers} answers"
-    )
+    eprintln!(rt; "{seconds} s: {services} services of 8 desks and {JOBS} jobs, {answers} answers")
 }

@@ -1,23 +1,15 @@
-//! Four readers look up in a live store while two catalogues are replaced over and over, for as many
-//! seconds as the first word says (1 without a word). Each text is the number of its version, so that a
-//! reader sees whether an answer is of the version that it entered, and whether a version went back.
-#![tactic(auto)]
-
-use catalogue::Options;
+//! Four readers look up in a live store while two catalogues are replaced over and over. Each text is the number of its
+//! version, so that a reader sees whether a text is of the version that it entered, and whether a version went back.
+use crate::messages::PLAIN;
 use live_versions::{Lookups, Publisher, Version, open_store};
-use std::alloc::AllocError;
+use std::alloc::{AllocError, Global};
+use std::io;
 use std::rt::Clock;
 use std::sync::Wait;
 use std::sync::atomic::AtomicBool;
 use std::sync::atomic::Ordering::SeqCst;
 use std::thread::{Threads, join};
 use std::time::Instant;
-use std::{env, io};
-
-const PLAIN: Options = Options {
-    checked: false,
-    use_fuzzy: false,
-};
 
 /// What a reader counted.
 #[derive(Clone, Copy)]
@@ -42,13 +34,18 @@ impl Counts {
     }
 }
 
-/// The version that a text tells; 0 where it is a msgid.
-fn version_in(text: &str) -> Version {
+/// A PO text with one message, the number of a version.
+pub fn text_of(alloc: Global, version: Version) -> Result<String, AllocError> {
+    format!(in alloc; "msgid \"message 0\"\nmsgstr \"{version}\"\n")
+}
+
+/// The version whose number a text is; 0 if it is a msgid.
+pub fn version_in(text: &str) -> Version {
     let number: Option<u64> = text.parse().ok();
     number.unwrap_or(0)
 }
 
-/// Enters until it is told to stop.
+/// Enters until `stop` is set.
 fn read(reader: &mut Lookups, stop: &AtomicBool) -> Counts {
     let mut counts = Counts {
         entries: 0,
@@ -66,8 +63,8 @@ fn read(reader: &mut Lookups, stop: &AtomicBool) -> Counts {
             continue;
         };
         let version = pinned.version();
-        let shop = version_in(pinned.gettext("shop", "fr", "hi"));
-        let mail = version_in(pinned.gettext("mail", "fr", "hi"));
+        let shop = version_in(pinned.gettext("shop", "fr", "message 0"));
+        let mail = version_in(pinned.gettext("mail", "fr", "message 0"));
         pinned.leave();
         counts.entries = counts.entries.saturating_add(1);
         if shop != version || mail != version {
@@ -81,20 +78,20 @@ fn read(reader: &mut Lookups, stop: &AtomicBool) -> Counts {
     counts
 }
 
-/// Replaces both catalogues by ones that tell this version, in one publish.
+/// Replaces both catalogues by ones with this version, in one publish.
 fn replace_both<R: Wait + AllocGlobal>(
     rt: &R,
     publisher: &mut Publisher,
     version: Version,
 ) -> Result<bool, AllocError> {
-    let text = format!(in rt.alloc(); "msgid \"hi\"\nmsgstr \"{version}\"\n")?;
+    let text = text_of(rt.alloc(), version)?;
     let shop = publisher.load(rt.alloc(), "shop", "fr", text.as_bytes(), PLAIN);
     let mail = publisher.load(rt.alloc(), "mail", "fr", text.as_bytes(), PLAIN);
     let published = publisher.publish(rt);
     Ok(shop.is_ok() && mail.is_ok() && published == Ok(version))
 }
 
-/// Publishes for so many seconds, and then tells the readers to stop. Answers how many publishes went wrong.
+/// Publishes for `seconds`, and then sets `stop`. Answers how many publishes went wrong.
 fn publish<R: Wait + Clock + AllocGlobal>(
     rt: &R,
     publisher: &mut Publisher,
@@ -141,23 +138,17 @@ fn run_all<R: Threads + Wait + Clock + AllocGlobal + Sync>(
     (wrong, a.and(b).and(c).and(d))
 }
 
-/// The number of seconds that the first word says.
-fn seconds_of(word: Option<String>) -> u64 {
-    let seconds: Option<u64> = match word {
-        Some(word) => word.as_str().parse().ok(),
-        None => None,
-    };
-    seconds.unwrap_or(1)
-}
-
-fn main(rt: HostRuntime) -> io::Result<()> {
-    let seconds = seconds_of(env::args(&rt)?.nth(1));
-    let Ok((mut publisher, mut readers)) = open_store(&rt, rt.alloc(), 4, u64::MAX) else {
+/// Publishes and looks up for `seconds`, and prints what went wrong.
+pub fn soak<R: Print + Eprint + Threads + Wait + Clock + AllocGlobal + Sync>(
+    rt: &R,
+    seconds: u64,
+) -> io::Result<()> {
+    let Ok((mut publisher, mut readers)) = open_store(rt, rt.alloc(), 4, u64::MAX) else {
         return println!(rt; "no store");
     };
     let found = match (readers.pop(), readers.pop(), readers.pop(), readers.pop()) {
         (Some(mut a), Some(mut b), Some(mut c), Some(mut d)) => Some(run_all(
-            &rt,
+            rt,
             &mut publisher,
             (&mut a, &mut b),
             (&mut c, &mut d),
@@ -166,7 +157,7 @@ fn main(rt: HostRuntime) -> io::Result<()> {
         _ => None,
     };
     let version = publisher.version();
-    publisher.end(&rt);
+    publisher.end(rt);
     match found {
         Some((wrong, counts)) => {
             let Counts {
@@ -178,10 +169,7 @@ fn main(rt: HostRuntime) -> io::Result<()> {
             println!(rt;
                 "{wrong} wrong publishes, {fallen} versions fell, {mixed} mixed texts, {closed} without an entry"
             )?;
-            eprintln!(rt;
-                "{seconds} s: {entries} entries beside {} publishes",
-                version / 2
-            )
+            eprintln!(rt; "{seconds} s: {entries} entries, {} publishes", version / 2)
         }
         None => println!(rt; "no readers"),
     }
