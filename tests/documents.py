@@ -264,7 +264,8 @@ def faults_of_a_session():
         differences(SESSION_PAGE, here, texts)
         + ([f"{SCRIPT_PAGE}: {len(texts)} texts, and {numbers} kinds of fault"] if len(texts) != numbers else [])
         + [f"{name} has not: {text}" for name, said in pages.items() for text in sorted(words) if text not in said]
-        + [f"the code has not: {text}" for text in sorted(texts | words) if code and text.removesuffix(" WORD") not in code]
+        + [f"the code has not: {text}" for text in sorted(texts | words)
+           if code and text.removesuffix(" WORD") not in code]
     )
 
 
@@ -472,6 +473,15 @@ def definitions_are_listed():
     return wrong
 
 
+def promise():
+    """each page that quotes the promise quotes it word for word"""
+    quoted = {str(path.relative_to(TOP)): " ".join(words.replace("\n>", " ").split()) for path in pages()
+              for words in re.findall(r"^> (For every list.*?)(?=\n\n)", path.read_text(encoding="utf-8"), re.M | re.S)}
+    places = ("README.md", "docs/internals/proofs.md")
+    lacking = [f"{name} has not the promise" for name in places if name not in quoted]
+    return lacking + ([f"it differs in {sorted(quoted)}"] if len(set(quoted.values())) > 1 else [])
+
+
 def functions_that_wait():
     """the functions that may wait are those whose signatures say so"""
     waits = re.compile(r"^ *pub fn (\w+)\s*<[^(]*\bWait\b", re.M)
@@ -486,7 +496,7 @@ MOST_WORDS = 35  # of a sentence
 
 
 def paragraphs(text):
-    """The paragraphs and items of a text of Markdown, each with its line; no headings, tables, programs or quotations."""
+    """The paragraphs and items of a text of Markdown with their lines; no headings, tables, programs or quotations."""
     found, words, first, in_program = [], [], 0, False
     for number, line in enumerate([*text.split("\n"), ""], 1):
         bare = line.strip()
@@ -541,6 +551,7 @@ RULES = (
     names_of_pages,
     crates_are_listed,
     definitions_are_listed,
+    promise,
     functions_that_wait,
     sentences,
 )

@@ -104,6 +104,7 @@ docs/reference/po.md^(headers.md)^(headers.md#headings)
 docs/reference/po.md^(c-formats.md)^(../guide/c.md)
 docs/guide/catsession.md^67,108,864^67,108,863
 docs/man/kobdzila.3^268,435,456^268,435,455
+README.md^a refused load changes nothing.^a refused load changes little.
 docs/internals/proofs.md^`run_script` and `run_session`^`run_session`
 docs/index.md^(internals/gate.md)^(internals/releases.md)
 docs/guide/c.md^*For programmers^*By programmers
