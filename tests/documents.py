@@ -425,14 +425,18 @@ def pictures():
 
 
 def glossary():
-    """each word of the glossary has one line, with a file that is there"""
+    """each word of the glossary has one line, with a file that is there and has the word"""
     wrong = []
     for row in rows(read("docs/internals/glossary.md")):
-        if len(row) == 3 and (named := re.fullmatch(r"`([\w./-]+)`", row[2])):
-            if not (TOP / named[1]).is_file():
-                wrong.append(f"{row[0]}: no {named[1]}")
-        elif row[0] not in ("Word", "---"):
+        named = re.fullmatch(r"`([\w./-]+)`", row[-1])
+        if row[0] in ("Word", "---"):
+            continue
+        if len(row) != 3 or not named or not (TOP / named[1]).is_file():
             wrong.append(f"no file: {row[0]}")
+            continue
+        words = [word.strip("`() ").lower() for word in re.split(r", | \(", row[0])]
+        if not any(word in read(named[1]).lower() for word in words):
+            wrong.append(f"{named[1]} hasn't: {row[0]}")
     return wrong
 
 

@@ -111,6 +111,7 @@ docs/guide/c.md^*For programmers^*By programmers
 docs/internals/benchmarks.md^| 145 ms |^| 146 ms |
 docs/images/publish.svg^version 3^version 4
 docs/internals/glossary.md^`crates/desks/src/desk.rt`^`crates/desks/src/desks.rt`
+docs/internals/glossary.md^`crates/live_versions/src/seal.rt`^`crates/live_versions/src/notice.rt`
 tests/languages.sh^docs/reference/look-ups.md^docs/FORMATS.md
 docs/man/msgfmt.1^reference/gnu\-differences.md^reference/gnu\-msgfmt.md
 crates.txt^po_text: bstr^po_words: bstr
