@@ -264,7 +264,8 @@ def faults_of_a_session():
         differences(SESSION_PAGE, here, texts)
         + ([f"{SCRIPT_PAGE}: {len(texts)} texts, and {numbers} kinds of fault"] if len(texts) != numbers else [])
         + [f"{name} has not: {text}" for name, said in pages.items() for text in sorted(words) if text not in said]
-        + [f"the code has not: {text}" for text in sorted(texts | words) if code and text.removesuffix(" WORD") not in code]
+        + [f"the code has not: {text}" for text in sorted(texts | words)
+           if code and text.removesuffix(" WORD") not in code]
     )
 
 
@@ -424,14 +425,18 @@ def pictures():
 
 
 def glossary():
-    """each word of the glossary has one line, with a file that is there"""
+    """each word of the glossary has one line, with a file that is there and has the word"""
     wrong = []
     for row in rows(read("docs/internals/glossary.md")):
-        if len(row) == 3 and (named := re.fullmatch(r"`([\w./-]+)`", row[2])):
-            if not (TOP / named[1]).is_file():
-                wrong.append(f"{row[0]}: no {named[1]}")
-        elif row[0] not in ("Word", "---"):
+        named = re.fullmatch(r"`([\w./-]+)`", row[-1])
+        if row[0] in ("Word", "---"):
+            continue
+        if len(row) != 3 or not named or not (TOP / named[1]).is_file():
             wrong.append(f"no file: {row[0]}")
+            continue
+        words = [word.strip("`() ").lower() for word in re.split(r", | \(", row[0])]
+        if not any(word in read(named[1]).lower() for word in words):
+            wrong.append(f"{named[1]} hasn't: {row[0]}")
     return wrong
 
 
@@ -513,6 +518,15 @@ def names_in_readmes():
     return wrong
 
 
+def promise():
+    """each page that quotes the promise quotes it word for word"""
+    quoted = {str(path.relative_to(TOP)): " ".join(words.replace("\n>", " ").split()) for path in pages()
+              for words in re.findall(r"^> (For every list.*?)(?=\n\n)", path.read_text(encoding="utf-8"), re.M | re.S)}
+    places = ("README.md", "docs/internals/proofs.md")
+    lacking = [f"{name} has not the promise" for name in places if name not in quoted]
+    return lacking + ([f"it differs in {sorted(quoted)}"] if len(set(quoted.values())) > 1 else [])
+
+
 def functions_that_wait():
     """the functions that may wait are those whose signatures say so"""
     waits = re.compile(r"^ *pub fn (\w+)\s*<[^(]*\bWait\b", re.M)
@@ -527,7 +541,7 @@ MOST_WORDS = 35  # of a sentence
 
 
 def paragraphs(text):
-    """The paragraphs and items of a text of Markdown, each with its line; no headings, tables, programs or quotations."""
+    """The paragraphs and items of a text of Markdown with their lines; no headings, tables, programs or quotations."""
     found, words, first, in_program = [], [], 0, False
     for number, line in enumerate([*text.split("\n"), ""], 1):
         bare = line.strip()
@@ -584,6 +598,7 @@ RULES = (
     definitions_are_listed,
     crates_have_readmes,
     names_in_readmes,
+    promise,
     functions_that_wait,
     sentences,
 )

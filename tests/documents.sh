@@ -110,12 +110,14 @@ docs/reference/po.md^(headers.md)^(headers.md#headings)
 docs/reference/po.md^(c-formats.md)^(../guide/c.md)
 docs/guide/catsession.md^67,108,864^67,108,863
 docs/man/kobdzila.3^268,435,456^268,435,455
+README.md^a refused load changes nothing.^a refused load changes little.
 docs/internals/proofs.md^`run_script` and `run_session`^`run_session`
 docs/index.md^(internals/gate.md)^(internals/releases.md)
 docs/guide/c.md^*For programmers^*By programmers
 docs/internals/benchmarks.md^| 145 ms |^| 146 ms |
 docs/images/publish.svg^version 3^version 4
 docs/internals/glossary.md^`crates/desks/src/desk.rt`^`crates/desks/src/desks.rt`
+docs/internals/glossary.md^`crates/live_versions/src/seal.rt`^`crates/live_versions/src/notice.rt`
 tests/languages.sh^docs/reference/look-ups.md^docs/FORMATS.md
 docs/man/msgfmt.1^reference/gnu\-differences.md^reference/gnu\-msgfmt.md
 crates.txt^po_text: bstr^po_words: bstr
