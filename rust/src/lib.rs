@@ -50,6 +50,11 @@ pub use entries::{Entries, Entry, Forms};
 pub use refused::{Kind, Refused};
 pub use set::Set;
 
+/// Compiles the example of the README as a test.
+#[cfg(doctest)]
+#[doc = include_str!("../README.md")]
+struct Readme;
+
 /// Returns the version of the library that is loaded. Its major version is that of this crate; the rest may be later.
 ///
 /// ```
