@@ -1,7 +1,7 @@
 //! Finds libkobdzila and tells cargo how to link it.
 //!
-//! `KOBDZILA_LIB_DIR` names the folder of the library. Without it the program `pkg-config` is asked, or the one that the
-//! variable `PKG_CONFIG` names.
+//! `KOBDZILA_LIB_DIR` names the folder of the library. Without it the program `pkg-config` is asked, or the one that
+//! the variable `PKG_CONFIG` names.
 
 use std::env;
 use std::path::{Path, PathBuf};
@@ -88,7 +88,7 @@ fn folders_by_pkg_config() -> Result<Vec<PathBuf>, String> {
 
 fn missing(why: &str) -> String {
     format!(
-        "libkobdzila {LEAST_VERSION} or later was not found. Install it, or set {LIB_DIR} to the folder that has it, such as \
-         `lib` of an unpacked release.\n{why}"
+        "libkobdzila {LEAST_VERSION} or later was not found. Install it, or set {LIB_DIR} to the folder that has it, \
+         such as `lib` of an unpacked release.\n{why}"
     )
 }

@@ -1,7 +1,7 @@
 #!/usr/bin/env bash
-# Builds the crate rust/ over libkobdzila, offline and in a folder of its own, and tests it: with the shared library and the
-# static one, under valgrind and with AddressSanitizer, its declarations against changed copies of kobdzila.h, its package,
-# and the programs of docs/guide/rust.md as a new user makes them.
+# Builds the crate rust/ over libkobdzila, offline and in a folder of its own, and tests it: with the shared library and
+# the static one, under valgrind and with AddressSanitizer, its declarations against changed copies of kobdzila.h, its
+# package, and the programs of docs/guide/rust.md as a new user makes them.
 no_program=1
 . "$(dirname "$0")/common"
 header=include/kobdzila.h
@@ -28,7 +28,7 @@ export KOBDZILA_LIB_DIR=$PWD/build/lib LD_LIBRARY_PATH=$PWD/build/lib
 unset RUSTFLAGS RUSTDOCFLAGS DOCS_RS
 
 # why: the end of what the last command said, in one line
-why() { grep -vE '^(warning: build failed|For more information|$)' "$room/log" | tail -n 6 | tr '\n' ' ' | tail -c 400; }
+why() { grep -vE '^(warning: build failed|$)' "$room/log" | tail -n 6 | tr '\n' ' ' | tail -c 400; }
 
 # does NAME COMMAND..: the command ends well in the folder of the crate
 does() {
@@ -167,7 +167,11 @@ name='the guide for Rust, its programs'
 cp examples/fr.po "$room"
 said=$(cd "$room" && rustdoc --test "$top/docs/guide/rust.md" --edition 2021 -L native="$KOBDZILA_LIB_DIR" \
   --extern kobdzila=target/debug/libkobdzila.rlib 2>&1)
-if grep -q '^test result: ok\. 4 passed' <<< "$said"; then ok "$name"; else failed "$name" "$(tail -n 4 <<< "$said")"; fi
+if grep -q '^test result: ok\. 4 passed' <<< "$said"; then
+  ok "$name"
+else
+  failed "$name" "$(tail -n 4 <<< "$said")"
+fi
 
 # --- the library is found, or the build says what to do -----------------------------------------------------------
 
@@ -180,7 +184,8 @@ elif ! make -s install_library DESTDIR="$room/image" PREFIX=/usr > "$room/log" 2
   failed "$name" "$(why)"
 else
   installed=(env PKG_CONFIG_PATH="$room/image/usr/lib/pkgconfig" PKG_CONFIG_SYSROOT_DIR="$room/image")
-  prints "$name" $'Hiver\n3 tomates' "${installed[@]}" LD_LIBRARY_PATH="$room/image/usr/lib" cargo run -q --example hello
+  prints "$name" $'Hiver\n3 tomates' "${installed[@]}" LD_LIBRARY_PATH="$room/image/usr/lib" \
+    cargo run -q --example hello
   prints "$name, static" $'Hiver\n3 tomates' "${installed[@]}" LD_LIBRARY_PATH= \
     cargo run -q --example hello --features static
 fi

@@ -224,8 +224,8 @@ impl Catalogue {
         self.find_in(context, msgid).unwrap_or(msgid)
     }
 
-    /// Returns the plural form for `n`, which the rule in the catalogue's header chooses. If there is no translation, it
-    /// is `msgid` if `n` is 1, and `plural` otherwise.
+    /// Returns the plural form for `n`, which the rule in the catalogue's header chooses. If there is no translation,
+    /// it is `msgid` if `n` is 1, and `plural` otherwise.
     ///
     /// ```
     /// use kobdzila::{Catalogue, Options};

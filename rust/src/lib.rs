@@ -30,8 +30,9 @@
 //!
 //! # Linking
 //!
-//! The build script asks `pkg-config` for libkobdzila. If the environment variable `KOBDZILA_LIB_DIR` is set, it takes the
-//! library from that folder. The feature `static` links `libkobdzila.a` into your program. The library runs on Linux.
+//! The build script asks `pkg-config` for libkobdzila. If the environment variable `KOBDZILA_LIB_DIR` is set, it takes
+//! the library from that folder. The feature `static` links `libkobdzila.a` into your program. The library runs on
+//! Linux.
 
 #![deny(missing_docs)]
 #![deny(unsafe_code)]

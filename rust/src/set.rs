@@ -59,8 +59,8 @@ impl Set {
         }
     }
 
-    /// Returns a new set that has `catalogue` for `domain` and `locale`, in place of the one that this set may have there.
-    /// This set is unchanged.
+    /// Returns a new set that has `catalogue` for `domain` and `locale`, in place of the one that this set may have
+    /// there. This set is unchanged.
     ///
     /// # Errors
     ///
@@ -79,8 +79,8 @@ impl Set {
         Ok(Set(self.0.with(domain, locale, catalogue.handle())?))
     }
 
-    /// Like [`with`](Set::with), with the catalogue of the MO file `FOLDER/LOCALE/LC_MESSAGES/DOMAIN.mo`, which is where
-    /// catalogues are installed.
+    /// Like [`with`](Set::with), with the catalogue of the MO file `FOLDER/LOCALE/LC_MESSAGES/DOMAIN.mo`, which is
+    /// where catalogues are installed.
     ///
     /// # Errors
     ///

@@ -1,6 +1,6 @@
-//! Compares the declarations of `src/sys.rs` and the kinds of `src/refused.rs` with `kobdzila.h`, as texts: each function,
-//! struct and constant that the crate declares is in the header, with the same names and types; and each fault of the
-//! header is a kind.
+//! Compares the declarations of `src/sys.rs` and the kinds of `src/refused.rs` with `kobdzila.h`, as texts: each
+//! function, struct and constant that the crate declares is in the header, with the same names and types; and each
+//! fault of the header is a kind.
 //!
 //! The header is the repository's, or that of the variable `KOBDZILA_HEADER`. The crate alone has none to compare with.
 
