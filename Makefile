@@ -12,7 +12,8 @@
 #                   is given. PROGRAM_PREFIX=kob- names them kob-msgfmt and so on, next to GNU's. What is in C is
 #                   installed, too, if it was built; `make install_library` installs the library alone. LIBDIR is its
 #                   folder (PREFIX/lib): LIBDIR=/usr/lib64, or /usr/lib/$(cc -print-multiarch) on Debian
-#   make dist       packs build/dist/kobdzila-VERSION-MACHINE-linux.tar.gz of what was built, with static programs
+#   make dist       packs build/dist/kobdzila-VERSION-MACHINE-linux.tar.gz of what was built, with static programs, and
+#                   kobdzila-VERSION.crate for Rust if there is cargo
 #   make deb        packs it as three Debian packages, into build/deb
 #   make verify TARBALL=FILE   proves and builds the commit that a tarball names, and compares every byte
 #   make uninstall  removes what `make install` with the same variables has put there
