@@ -143,6 +143,13 @@ else
   failed "$name" "status $status, $said"
 fi
 
+# (the limit leaves room for the program and the text, and none for the catalogue)
+name='the Rust crate, out of memory'
+seq 60000 | sed 's/.*/msgid "message &"\nmsgstr "the translation of &"/' > "$room/large.po"
+(cd "$crate" && cargo build -q --example check_po --features static) > "$room/log" 2>&1
+said=$(cd "$room" && ulimit -v 12000 && target/debug/examples/check_po large.po 2>&1)
+if [ "$said" = 'large.po: out of memory' ]; then ok "$name"; else failed "$name" "it said '$said'; $(why)"; fi
+
 # fenced WORD: the first block of the guide that is fenced as this
 fenced() { awk -v fence="\`\`\`$1" '$0 == "```" && on { exit } on; $0 == fence { on = 1 }' "$top/docs/guide/rust.md"; }
 
