@@ -12,8 +12,7 @@
 #                   is given. PROGRAM_PREFIX=kob- names them kob-msgfmt and so on, next to GNU's. What is in C is
 #                   installed, too, if it was built; `make install_library` installs the library alone. LIBDIR is its
 #                   folder (PREFIX/lib): LIBDIR=/usr/lib64, or /usr/lib/$(cc -print-multiarch) on Debian
-#   make dist       packs build/dist/kobdzila-VERSION-MACHINE-linux.tar.gz of what was built, with static programs, and
-#                   kobdzila-VERSION.crate for Rust if there is cargo
+#   make dist       packs build/dist/kobdzila-VERSION-MACHINE-linux.tar.gz of what was built, with static programs
 #   make deb        packs it as three Debian packages, into build/deb
 #   make verify TARBALL=FILE   proves and builds the commit that a tarball names, and compares every byte
 #   make uninstall  removes what `make install` with the same variables has put there
@@ -21,7 +20,8 @@
 #
 # It needs the Rattle toolchain (the command rt), make, bash and Python 3. The checks and the bench also use gettext, gcc and
 # valgrind; tests/needs installs what is missing if it can, otherwise that part is skipped. A release needs git, gcc and
-# binutils, and `make deb` debhelper. STATIC= installs the programs that use the shared C library.
+# binutils, and `make deb` debhelper. With cargo the crate for Rust is checked, and `make dist` packs it as well. STATIC=
+# installs the programs that use the shared C library.
 
 PREFIX = /usr/local
 DESTDIR =
