@@ -174,7 +174,7 @@ name='the guide for Rust, its programs'
 cp examples/fr.po "$room"
 said=$(cd "$room" && rustdoc --test "$top/docs/guide/rust.md" --edition 2021 -L native="$KOBDZILA_LIB_DIR" \
   --extern kobdzila=target/debug/libkobdzila.rlib 2>&1)
-if grep -q '^test result: ok\. 4 passed' <<< "$said"; then
+if grep -q '^test result: ok\. [1-9]' <<< "$said"; then
   ok "$name"
 else
   failed "$name" "$(tail -n 4 <<< "$said")"

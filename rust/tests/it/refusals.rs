@@ -156,20 +156,38 @@ fn offsets_that_lead_out_of_the_file() {
     }
 }
 
+/// Asks for all that a catalogue has: its strings are UTF-8, and each message is found.
+fn is_whole(catalogue: &Catalogue) {
+    let is_utf8 = |text: &str| std::str::from_utf8(text.as_bytes()).is_ok();
+    for entry in catalogue {
+        let strings = [entry.context(), Some(entry.msgid()), entry.plural()];
+        assert!(strings.into_iter().flatten().chain(entry.forms()).all(is_utf8));
+        let found = match entry.context() {
+            Some(context) => catalogue.find_plural_in(context, entry.msgid(), 2),
+            None => catalogue.find_plural(entry.msgid(), 2),
+        };
+        assert!(entry.forms().any(|form| Some(form) == found));
+    }
+}
+
 #[test]
-fn a_file_is_refused_or_read_but_never_panics() {
-    let file = mo_file(&[(b"", b"Plural-Forms: nplurals=2; plural=n>1;\n"), (b"a\0b", b"c\0d")]);
+fn a_changed_file_is_refused_or_read_as_a_whole() {
+    let header = b"Plural-Forms: nplurals=2; plural=n>1;\n".as_slice();
+    let plural = ("\u{4}née\0nées".as_bytes(), "é\0à".as_bytes());
+    let file = mo_file(&[(b"", header), plural, (b"c\x04d", b"e")]);
+    let mut read = 0;
     for place in 0..file.len() {
         for bit in 0..8 {
             let mut changed = file.clone();
             changed[place] ^= 1 << bit;
             if let Ok(catalogue) = Catalogue::from_mo(&changed) {
-                catalogue.ngettext("a", "b", 2);
-                assert_eq!(catalogue.entries().count(), catalogue.len());
+                is_whole(&catalogue);
+                read += 1;
             }
         }
         assert!(Catalogue::from_mo(&file[..place]).is_err());
     }
+    assert!(read > 100);
 }
 
 #[test]
