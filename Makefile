@@ -20,7 +20,8 @@
 #
 # It needs the Rattle toolchain (the command rt), make, bash and Python 3. The checks and the bench also use gettext, gcc and
 # valgrind; tests/needs installs what is missing if it can, otherwise that part is skipped. A release needs git, gcc and
-# binutils, and `make deb` debhelper. STATIC= installs the programs that use the shared C library.
+# binutils, and `make deb` debhelper. With cargo the crate for Rust is checked, and `make dist` packs it as well. STATIC=
+# installs the programs that use the shared C library.
 
 PREFIX = /usr/local
 DESTDIR =

@@ -91,6 +91,15 @@ if said=$(cd "$room/one" && tools/verify_release --as-built "$tarball" 2>&1); th
 else
   failed 'the tarball: verified' "$said"
 fi
+crate=kobdzila-$version.crate
+if ! cargo --version > /dev/null 2>&1; then
+  skipped 'the crate for Rust' 'no cargo'
+elif said=$(cd "$room/one/build/dist" && sha256sum -c SHA256SUMS 2>&1) && grep -qx "$crate: OK" <<< "$said" &&
+  tar -xzOf "$room/one/build/dist/$crate" "kobdzila-$version/src/lib.rs" | cmp -s - rust/src/lib.rs; then
+  ok 'the crate for Rust: packed, with its line in SHA256SUMS'
+else
+  failed 'the crate for Rust: packed, with its line in SHA256SUMS' "$said"
+fi
 mkdir "$room/unpacked" "$room/changed"
 tar -xzf "$tarball" -C "$room/unpacked"
 if said=$(cd "$room/unpacked/$name" && sha256sum --quiet -c SHA256SUMS 2>&1 && cd .. &&

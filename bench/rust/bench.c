@@ -1,0 +1,86 @@
+/* Look-ups and openings from C, next to those of bench.rs from Rust. Run by bench/rust/run.
+ *
+ *   bench FILE.mo FILE.ids ROUNDS
+ *
+ * It prints the picoseconds of a look-up, the nanoseconds of the fastest opening, and the sum of the answers' first
+ * bytes.
+ */
+#include "kobdzila.h"
+
+#include <stdint.h>
+#include <stdio.h>
+#include <stdlib.h>
+#include <string.h>
+#include <time.h>
+
+enum { OPENINGS = 40 };
+
+static double now(void) {
+    struct timespec t;
+    clock_gettime(CLOCK_MONOTONIC, &t);
+    return t.tv_sec * 1e9 + t.tv_nsec;
+}
+
+/* Read a whole file, with a NUL after it. */
+static char *read_text(const char *name, size_t *len) {
+    FILE *file = fopen(name, "rb");
+    if (!file) {
+        perror(name);
+        exit(1);
+    }
+    fseek(file, 0, SEEK_END);
+    *len = (size_t)ftell(file);
+    rewind(file);
+    char *text = malloc(*len + 1);
+    if (!text || fread(text, 1, *len, file) != *len)
+        exit(1);
+    text[*len] = 0;
+    fclose(file);
+    return text;
+}
+
+/* Cut a text into its lines, each terminated by NUL. */
+static const char **lines_of(char *text, size_t len, size_t *count) {
+    const char **lines = malloc((len + 1) * sizeof *lines);
+    if (!lines)
+        exit(1);
+    *count = 0;
+    for (char *line = strtok(text, "\n"); line; line = strtok(NULL, "\n"))
+        lines[(*count)++] = line;
+    return lines;
+}
+
+/* Open the bytes several times, and keep the last catalogue. */
+static kob_catalogue *opened(const char *mo, size_t len, double *fastest) {
+    kob_catalogue *catalogue = NULL;
+    *fastest = 1e18;
+    for (int i = 0; i < OPENINGS; i++) {
+        kob_release(catalogue);
+        double start = now();
+        catalogue = kob_open_mo(mo, len, NULL);
+        double time = now() - start;
+        if (!catalogue)
+            exit(1);
+        if (time < *fastest)
+            *fastest = time;
+    }
+    return catalogue;
+}
+
+int main(int argc, char **argv) {
+    if (argc != 4)
+        return 2;
+    size_t mo_len, ids_len, count;
+    char *mo = read_text(argv[1], &mo_len), *ids = read_text(argv[2], &ids_len);
+    const char **msgids = lines_of(ids, ids_len, &count);
+    uint64_t rounds = strtoull(argv[3], NULL, 10), sum = 0;
+    double fastest;
+    kob_catalogue *catalogue = opened(mo, mo_len, &fastest);
+    double start = now();
+    for (uint64_t round = 0; round < rounds; round++)
+        for (size_t i = 0; i < count; i++)
+            sum += (unsigned char)*kob_gettext(catalogue, msgids[i]);
+    double each = (now() - start) * 1000 / ((double)rounds * (double)count);
+    printf("%.0f %.0f %llu\n", each, fastest, (unsigned long long)sum);
+    kob_release(catalogue);
+}

@@ -1,0 +1,405 @@
+//! A catalogue: how it is opened, and its look-ups.
+
+use std::ffi::CString;
+use std::fmt;
+use std::os::unix::ffi::OsStrExt;
+use std::path::Path;
+
+use crate::entries::Entries;
+use crate::refused::Refused;
+use crate::sys;
+
+/// How to compile a PO text. The default runs no checks and drops fuzzy messages.
+///
+/// ```
+/// use kobdzila::{Catalogue, Options};
+///
+/// let text = b"#, fuzzy\nmsgid \"Winter\"\nmsgstr \"Hiver\"\n";
+/// let without = Catalogue::from_po(text, Options::new())?;
+/// assert_eq!(without.gettext("Winter"), "Winter");
+/// let with = Catalogue::from_po(text, Options::new().use_fuzzy(true))?;
+/// assert_eq!(with.gettext("Winter"), "Hiver");
+/// # Ok::<(), kobdzila::Refused>(())
+/// ```
+#[derive(Clone, Copy, Debug, Default, PartialEq, Eq, Hash)]
+pub struct Options {
+    checked: bool,
+    use_fuzzy: bool,
+}
+
+impl Options {
+    /// Returns the default: no checks, and no fuzzy messages.
+    ///
+    /// ```
+    /// assert_eq!(kobdzila::Options::new(), kobdzila::Options::default());
+    /// ```
+    pub fn new() -> Options {
+        Options::default()
+    }
+
+    /// Says whether to run the checks of `msgfmt -c`.
+    ///
+    /// ```
+    /// use kobdzila::{Catalogue, Kind, Options};
+    ///
+    /// let text = b"msgid \"Winter\\n\"\nmsgstr \"Hiver\"\n";
+    /// assert!(Catalogue::from_po(text, Options::new()).is_ok());
+    /// let refused = Catalogue::from_po(text, Options::new().checked(true)).unwrap_err();
+    /// assert_eq!(refused.kind(), Kind::PoNewlineMismatch);
+    /// ```
+    #[must_use]
+    pub fn checked(self, checked: bool) -> Options {
+        Options { checked, ..self }
+    }
+
+    /// Says whether to keep fuzzy messages, as `msgfmt -f` does.
+    ///
+    /// ```
+    /// use kobdzila::{Catalogue, Options};
+    ///
+    /// let text = b"#, fuzzy\nmsgid \"Winter\"\nmsgstr \"Hiver\"\n";
+    /// assert_eq!(Catalogue::from_po(text, Options::new().use_fuzzy(true))?.len(), 1);
+    /// # Ok::<(), kobdzila::Refused>(())
+    /// ```
+    #[must_use]
+    pub fn use_fuzzy(self, use_fuzzy: bool) -> Options {
+        Options { use_fuzzy, ..self }
+    }
+
+    fn flags(self) -> u32 {
+        let checked = if self.checked { sys::KOB_CHECKED } else { 0 };
+        let use_fuzzy = if self.use_fuzzy { sys::KOB_USE_FUZZY } else { 0 };
+        checked | use_fuzzy
+    }
+}
+
+/// The format of a file: what [`Catalogue::open`] is to read.
+///
+/// ```
+/// use kobdzila::{Format, Options};
+///
+/// let format = if "fr.po".ends_with(".po") { Format::Po(Options::new()) } else { Format::Mo };
+/// assert_eq!(format, Format::Po(Options::default()));
+/// ```
+#[derive(Clone, Copy, Debug, PartialEq, Eq, Hash)]
+pub enum Format {
+    /// An MO file, which programs install.
+    Mo,
+    /// A PO text, which translators write. It is compiled with these options.
+    Po(Options),
+}
+
+/// The messages of an MO file or a PO text.
+///
+/// A catalogue never changes. Cloning it counts a reference, in a few nanoseconds, and copies no message. Any number of
+/// threads may use one catalogue at once.
+///
+/// # Look-ups
+///
+/// `gettext` and the three calls named after it return the translation, or the text that you gave if there is none.
+/// `find` and its kin return `None` then. An answer borrows the catalogue, and for `gettext` also your text:
+///
+/// ```compile_fail,E0505
+/// # let po = b"msgid \"Winter\"\nmsgstr \"Hiver\"\n";
+/// # let fr = kobdzila::Catalogue::from_po(po, kobdzila::Options::new()).unwrap();
+/// let answer = fr.gettext("Winter");
+/// drop(fr);
+/// println!("{answer}"); // error: `answer` is a string of the catalogue
+/// ```
+///
+/// ```compile_fail,E0597
+/// # let po = b"msgid \"Winter\"\nmsgstr \"Hiver\"\n";
+/// # let fr = kobdzila::Catalogue::from_po(po, kobdzila::Options::new()).unwrap();
+/// let answer = {
+///     let msgid = String::from("Winter");
+///     fr.gettext(&msgid)
+/// };
+/// println!("{answer}"); // error: `answer` may be `msgid` itself
+/// ```
+///
+/// An answer of `find` is the catalogue's own, so there the msgid may go:
+///
+/// ```
+/// # let po = b"msgid \"Winter\"\nmsgstr \"Hiver\"\n";
+/// # let fr = kobdzila::Catalogue::from_po(po, kobdzila::Options::new()).unwrap();
+/// let answer = {
+///     let msgid = String::from("Winter");
+///     fr.find(&msgid)
+/// };
+/// assert_eq!(answer, Some("Hiver"));
+/// ```
+///
+/// A msgid is any `str`, also one with a NUL: no message has it, so nothing is found. As in C, a msgid that has byte 4
+/// (`"menu\u{4}Open"`) asks for the message after that byte in the context before it.
+///
+/// # Processes and signals
+///
+/// Don't call the library from a signal handler, nor in the forked child of a process that had several threads.
+#[derive(Clone)]
+pub struct Catalogue(sys::Catalogue);
+
+impl Catalogue {
+    /// Opens the bytes of an MO file, and copies them.
+    ///
+    /// ```
+    /// use kobdzila::{Catalogue, Kind, Options};
+    ///
+    /// let fr = Catalogue::from_po(b"msgid \"Winter\"\nmsgstr \"Hiver\"\n", Options::new())?;
+    /// let again = Catalogue::from_mo(fr.mo_file())?;
+    /// assert_eq!(again.gettext("Winter"), "Hiver");
+    ///
+    /// let refused = Catalogue::from_mo(b"no MO file, but long enough for one").unwrap_err();
+    /// assert_eq!(refused.kind(), Kind::MoMagic);
+    /// # Ok::<(), kobdzila::Refused>(())
+    /// ```
+    pub fn from_mo(bytes: &[u8]) -> Result<Catalogue, Refused> {
+        Ok(Catalogue(sys::Catalogue::from_mo(bytes)?))
+    }
+
+    /// Compiles a PO text, which has to be UTF-8.
+    ///
+    /// ```
+    /// use kobdzila::{Catalogue, Options};
+    ///
+    /// let text = "msgid \"Winter\"\nmsgstr \"Hiver\"\n";
+    /// let fr = Catalogue::from_po(text.as_bytes(), Options::new().checked(true))?;
+    /// assert_eq!(fr.gettext("Winter"), "Hiver");
+    /// # Ok::<(), kobdzila::Refused>(())
+    /// ```
+    pub fn from_po(text: &[u8], options: Options) -> Result<Catalogue, Refused> {
+        Ok(Catalogue(sys::Catalogue::from_po(text, options.flags())?))
+    }
+
+    /// Opens a file.
+    ///
+    /// A regular file is read up to the size that it has when it is opened. A FIFO, a device and the like are read to
+    /// their end, up to the size limit of the format; a FIFO that nobody has open for writing counts as empty.
+    ///
+    /// ```
+    /// use std::error::Error;
+    /// use kobdzila::{Catalogue, Format, Kind};
+    ///
+    /// let refused = Catalogue::open("no/such/file.mo", Format::Mo).unwrap_err();
+    /// assert_eq!(refused.kind(), Kind::Unreadable);
+    /// let cause = refused.source().and_then(|it| it.downcast_ref::<std::io::Error>());
+    /// assert_eq!(cause.map(|it| it.kind()), Some(std::io::ErrorKind::NotFound));
+    /// ```
+    pub fn open(path: impl AsRef<Path>, format: Format) -> Result<Catalogue, Refused> {
+        let name = name_of(path.as_ref())?;
+        let (kind, options) = match format {
+            Format::Mo => (sys::KOB_MO, 0),
+            Format::Po(options) => (sys::KOB_PO, options.flags()),
+        };
+        Ok(Catalogue(sys::Catalogue::open(&name, kind, options)?))
+    }
+
+    /// Returns the translation of `msgid`, or `msgid` itself if there is none.
+    ///
+    /// ```
+    /// use kobdzila::{Catalogue, Options};
+    ///
+    /// let fr = Catalogue::from_po(b"msgid \"Winter\"\nmsgstr \"Hiver\"\n", Options::new())?;
+    /// assert_eq!(fr.gettext("Winter"), "Hiver");
+    /// assert_eq!(fr.gettext("Summer"), "Summer");
+    /// # Ok::<(), kobdzila::Refused>(())
+    /// ```
+    #[inline]
+    pub fn gettext<'a>(&'a self, msgid: &'a str) -> &'a str {
+        self.find(msgid).unwrap_or(msgid)
+    }
+
+    /// Returns the translation of `msgid` in `context`, or `msgid` itself if there is none.
+    ///
+    /// ```
+    /// use kobdzila::{Catalogue, Options};
+    ///
+    /// let po = b"msgctxt \"menu\"\nmsgid \"Open\"\nmsgstr \"Ouvrir\"\n";
+    /// let fr = Catalogue::from_po(po, Options::new())?;
+    /// assert_eq!(fr.pgettext("menu", "Open"), "Ouvrir");
+    /// assert_eq!(fr.pgettext("door", "Open"), "Open");
+    /// # Ok::<(), kobdzila::Refused>(())
+    /// ```
+    #[inline]
+    pub fn pgettext<'a>(&'a self, context: &str, msgid: &'a str) -> &'a str {
+        self.find_in(context, msgid).unwrap_or(msgid)
+    }
+
+    /// Returns the plural form for `n`, which the rule in the catalogue's header chooses. If there is no translation,
+    /// it is `msgid` if `n` is 1, and `plural` otherwise.
+    ///
+    /// ```
+    /// use kobdzila::{Catalogue, Options};
+    ///
+    /// let po = br#"
+    /// msgid ""
+    /// msgstr "Plural-Forms: nplurals=2; plural=n>1;\n"
+    /// msgid "tomato"
+    /// msgid_plural "tomatoes"
+    /// msgstr[0] "tomate"
+    /// msgstr[1] "tomates"
+    /// "#;
+    /// let fr = Catalogue::from_po(po, Options::new())?;
+    /// assert_eq!(fr.ngettext("tomato", "tomatoes", 0), "tomate");
+    /// assert_eq!(fr.ngettext("tomato", "tomatoes", 3), "tomates");
+    /// assert_eq!(fr.ngettext("pea", "peas", 3), "peas");
+    /// # Ok::<(), kobdzila::Refused>(())
+    /// ```
+    #[inline]
+    pub fn ngettext<'a>(&'a self, msgid: &'a str, plural: &'a str, n: u64) -> &'a str {
+        self.find_plural(msgid, n)
+            .unwrap_or(if n == 1 { msgid } else { plural })
+    }
+
+    /// Like [`ngettext`](Catalogue::ngettext), for a message in `context`.
+    ///
+    /// ```
+    /// use kobdzila::{Catalogue, Options};
+    ///
+    /// let po = b"msgctxt \"bed\"\nmsgid \"row\"\nmsgid_plural \"rows\"\nmsgstr[0] \"rang\"\nmsgstr[1] \"rangs\"\n";
+    /// let fr = Catalogue::from_po(po, Options::new())?;
+    /// assert_eq!(fr.npgettext("bed", "row", "rows", 2), "rangs");
+    /// assert_eq!(fr.npgettext("table", "row", "rows", 2), "rows");
+    /// # Ok::<(), kobdzila::Refused>(())
+    /// ```
+    #[inline]
+    pub fn npgettext<'a>(&'a self, context: &str, msgid: &'a str, plural: &'a str, n: u64) -> &'a str {
+        let found = self.find_plural_in(context, msgid, n);
+        found.unwrap_or(if n == 1 { msgid } else { plural })
+    }
+
+    /// Returns the translation of `msgid`, if there is one. It may be empty, as that of a message whose `msgstr` is.
+    ///
+    /// ```
+    /// use kobdzila::{Catalogue, Options};
+    ///
+    /// let fr = Catalogue::from_po(b"msgid \"Winter\"\nmsgstr \"Hiver\"\n", Options::new())?;
+    /// assert_eq!(fr.find("Winter"), Some("Hiver"));
+    /// assert_eq!(fr.find("Summer"), None);
+    /// # Ok::<(), kobdzila::Refused>(())
+    /// ```
+    #[inline]
+    pub fn find(&self, msgid: &str) -> Option<&str> {
+        self.0.find(None, msgid, None)
+    }
+
+    /// Returns the translation of `msgid` in `context`, if there is one.
+    ///
+    /// ```
+    /// use kobdzila::{Catalogue, Options};
+    ///
+    /// let po = b"msgctxt \"menu\"\nmsgid \"Open\"\nmsgstr \"Ouvrir\"\n";
+    /// let fr = Catalogue::from_po(po, Options::new())?;
+    /// assert_eq!(fr.find_in("menu", "Open"), Some("Ouvrir"));
+    /// assert_eq!(fr.find_in("", "Open"), None); // the empty context, which isn't no context
+    /// # Ok::<(), kobdzila::Refused>(())
+    /// ```
+    #[inline]
+    pub fn find_in(&self, context: &str, msgid: &str) -> Option<&str> {
+        self.0.find(Some(context), msgid, None)
+    }
+
+    /// Returns the plural form of `msgid` for `n`, if there is a translation.
+    ///
+    /// ```
+    /// use kobdzila::{Catalogue, Options};
+    ///
+    /// let po = b"msgid \"row\"\nmsgid_plural \"rows\"\nmsgstr[0] \"rang\"\nmsgstr[1] \"rangs\"\n";
+    /// let fr = Catalogue::from_po(po, Options::new())?;
+    /// assert_eq!(fr.find_plural("row", 2), Some("rangs"));
+    /// assert_eq!(fr.find_plural("bed", 2), None);
+    /// # Ok::<(), kobdzila::Refused>(())
+    /// ```
+    #[inline]
+    pub fn find_plural(&self, msgid: &str, n: u64) -> Option<&str> {
+        self.0.find(None, msgid, Some(n))
+    }
+
+    /// Returns the plural form of `msgid` in `context` for `n`, if there is a translation.
+    ///
+    /// ```
+    /// use kobdzila::{Catalogue, Options};
+    ///
+    /// let po = b"msgctxt \"bed\"\nmsgid \"row\"\nmsgid_plural \"rows\"\nmsgstr[0] \"rang\"\nmsgstr[1] \"rangs\"\n";
+    /// let fr = Catalogue::from_po(po, Options::new())?;
+    /// assert_eq!(fr.find_plural_in("bed", "row", 1), Some("rang"));
+    /// assert_eq!(fr.find_plural_in("table", "row", 1), None);
+    /// # Ok::<(), kobdzila::Refused>(())
+    /// ```
+    #[inline]
+    pub fn find_plural_in(&self, context: &str, msgid: &str, n: u64) -> Option<&str> {
+        self.0.find(Some(context), msgid, Some(n))
+    }
+
+    /// Returns the number of entries, including the header.
+    ///
+    /// ```
+    /// # let po = b"msgid \"Winter\"\nmsgstr \"Hiver\"\n";
+    /// # let fr = kobdzila::Catalogue::from_po(po, kobdzila::Options::new())?;
+    /// assert_eq!(fr.len(), fr.entries().count());
+    /// # Ok::<(), kobdzila::Refused>(())
+    /// ```
+    pub fn len(&self) -> usize {
+        self.0.count()
+    }
+
+    /// Returns whether there is no entry, not even a header.
+    ///
+    /// ```
+    /// assert!(kobdzila::Catalogue::from_po(b"", kobdzila::Options::new())?.is_empty());
+    /// # Ok::<(), kobdzila::Refused>(())
+    /// ```
+    pub fn is_empty(&self) -> bool {
+        self.len() == 0
+    }
+
+    /// Returns the entries, including the header, in ascending order of their keys' bytes.
+    ///
+    /// ```
+    /// use kobdzila::{Catalogue, Options};
+    ///
+    /// let po = b"msgid \"b\"\nmsgstr \"x\"\nmsgid \"a\"\nmsgstr \"y\"\n";
+    /// let catalogue = Catalogue::from_po(po, Options::new())?;
+    /// let msgids: Vec<&str> = catalogue.entries().map(|entry| entry.msgid()).collect();
+    /// assert_eq!(msgids, ["a", "b"]);
+    /// # Ok::<(), kobdzila::Refused>(())
+    /// ```
+    pub fn entries(&self) -> Entries<'_> {
+        Entries::new(&self.0)
+    }
+
+    /// Returns the catalogue as the bytes of an MO file, whichever format it was opened from.
+    ///
+    /// ```
+    /// # let po = b"msgid \"Winter\"\nmsgstr \"Hiver\"\n";
+    /// # let fr = kobdzila::Catalogue::from_po(po, kobdzila::Options::new())?;
+    /// assert_eq!(fr.mo_file()[..4], 0x950412de_u32.to_le_bytes());
+    /// # Ok::<(), kobdzila::Refused>(())
+    /// ```
+    pub fn mo_file(&self) -> &[u8] {
+        self.0.mo_file()
+    }
+
+    pub(crate) fn handle(&self) -> &sys::Catalogue {
+        &self.0
+    }
+}
+
+impl fmt::Debug for Catalogue {
+    fn fmt(&self, f: &mut fmt::Formatter<'_>) -> fmt::Result {
+        f.debug_struct("Catalogue").field("entries", &self.len()).finish()
+    }
+}
+
+impl<'a> IntoIterator for &'a Catalogue {
+    type Item = crate::Entry<'a>;
+    type IntoIter = Entries<'a>;
+
+    fn into_iter(self) -> Entries<'a> {
+        self.entries()
+    }
+}
+
+/// A path as C takes it; one with a NUL names no file.
+pub(crate) fn name_of(path: &Path) -> Result<CString, Refused> {
+    CString::new(path.as_os_str().as_bytes()).map_err(|_| sys::Refusal::name_with_nul().into())
+}

@@ -1,0 +1,217 @@
+//! Why the library refuses a file, a text or a name.
+
+use std::error::Error;
+use std::fmt;
+use std::io;
+
+use crate::sys;
+
+/// Makes the enum and the two functions between its variants and the numbers of `kobdzila.h`.
+macro_rules! kinds {
+    ($($(#[doc = $text:literal])+ $name:ident = $number:literal,)+) => {
+        /// The reason of a refusal: the constants of `enum kob_fault` in `kobdzila.h`.
+        ///
+        /// If several reasons hold, the first one of its group (`Mo..`, `Po..`) is reported. [`Display`](fmt::Display)
+        /// writes the library's description.
+        ///
+        /// ```
+        /// use kobdzila::Kind;
+        ///
+        /// assert_eq!(Kind::PoDuplicate.to_string(), "duplicate message");
+        /// assert_eq!(Kind::PoDuplicate.number(), 109);
+        /// ```
+        #[derive(Clone, Copy, Debug, PartialEq, Eq, Hash)]
+        #[non_exhaustive]
+        pub enum Kind {
+            $($(#[doc = $text])+ $name,)+
+            /// A reason that this version of the crate doesn't know, by its number. Only a later library has one.
+            Unknown(u32),
+        }
+
+        impl Kind {
+            /// Returns the number that the reason has in `kobdzila.h`.
+            ///
+            /// ```
+            /// assert_eq!(kobdzila::Kind::MoMagic.number(), 3);
+            /// ```
+            pub fn number(self) -> u32 {
+                match self {
+                    $(Kind::$name => $number,)+
+                    Kind::Unknown(number) => number,
+                }
+            }
+
+            fn of_number(number: u32) -> Kind {
+                match number {
+                    $($number => Kind::$name,)+
+                    _ => Kind::Unknown(number),
+                }
+            }
+        }
+    };
+}
+
+kinds! {
+    /// The MO file has more than 268,435,456 bytes.
+    MoTooLarge = 1,
+    /// The MO file has fewer than 28 bytes.
+    MoShort = 2,
+    /// The file doesn't begin with the magic number of MO files, in either byte order.
+    MoMagic = 3,
+    /// The revision of the MO file isn't 0.
+    MoRevision = 4,
+    /// A table or a string isn't wholly inside the MO file.
+    MoBounds = 5,
+    /// A string of the MO file isn't terminated by NUL.
+    MoNoNul = 6,
+    /// A string of the MO file isn't UTF-8, or a key holds byte 4 twice.
+    MoBadText = 7,
+    /// An entry has several plurals, or several forms and no plural.
+    MoForms = 8,
+    /// The keys of the MO file aren't in strictly ascending order.
+    MoOrder = 9,
+    /// The header of the MO file names a charset other than UTF-8 and US-ASCII.
+    MoCharset = 10,
+    /// The MO file that [`Catalogue::mo_file`](crate::Catalogue::mo_file) would return is too large.
+    MoSwollen = 11,
+    /// Memory ran out, which says nothing about the input.
+    Memory = 12,
+    /// The PO text has more than 67,108,864 bytes.
+    PoTooLarge = 101,
+    /// The PO text isn't UTF-8.
+    PoNotUtf8 = 102,
+    /// A string has a backslash that begins no escape.
+    PoBadEscape = 103,
+    /// A string isn't closed on its line.
+    PoOpenString = 104,
+    /// A word that PO texts don't have.
+    PoBadWord = 105,
+    /// A string holds NUL or isn't UTF-8, or a context or a msgid holds byte 4.
+    PoBadText = 106,
+    /// The parts of an entry are in the wrong order, or one is missing.
+    PoBadOrder = 107,
+    /// The forms of an entry aren't numbered 0, 1, 2 and so on.
+    PoBadIndex = 108,
+    /// A message is in the text twice.
+    PoDuplicate = 109,
+    /// The header names a charset other than UTF-8 and US-ASCII.
+    PoCharset = 110,
+    /// A format has directives that depend on the system, such as `%<PRId64>`.
+    PoSystemDependent = 111,
+    /// The text has a plural message and no plural rule.
+    PoNoRule = 112,
+    /// The plural rule of the header is malformed.
+    PoBadRule = 113,
+    /// A plural message has more or fewer forms than the header says.
+    PoFormCount = 114,
+    /// The plural rule has no value for a number, or one that is no form.
+    PoPluralRange = 115,
+    /// The arguments of a translation's format differ from those of its message.
+    PoFormatMismatch = 116,
+    /// Only one of a message and its translation begins, or ends, with a newline.
+    PoNewlineMismatch = 117,
+    /// The file couldn't be read: [`Error::source`] says why.
+    Unreadable = 201,
+    /// A text domain or a locale isn't 1 to 64 letters, digits and `_ - . @ +`.
+    BadName = 202,
+}
+
+impl fmt::Display for Kind {
+    fn fmt(&self, f: &mut fmt::Formatter<'_>) -> fmt::Result {
+        f.write_str(sys::fault_text(self.number()))
+    }
+}
+
+/// Why there is no catalogue or set: the error of all calls that open one.
+///
+/// It displays as the library describes the reason, without the name of the file, which the library may not know, and
+/// without the line. `{file}:{line}: {refused}` is a line that an editor can jump to.
+///
+/// ```
+/// use kobdzila::{Catalogue, Kind, Options};
+///
+/// let twice = "msgid \"a\"\nmsgstr \"x\"\nmsgid \"a\"\nmsgstr \"y\"\n";
+/// let refused = Catalogue::from_po(twice.as_bytes(), Options::new()).unwrap_err();
+/// assert_eq!(refused.kind(), Kind::PoDuplicate);
+/// assert_eq!(refused.line(), Some(3));
+/// assert_eq!(refused.to_string(), "duplicate message");
+/// ```
+#[derive(Debug)]
+pub struct Refused {
+    kind: Kind,
+    line: Option<u32>,
+    file: Option<io::Error>,
+}
+
+impl Refused {
+    /// Returns the reason.
+    ///
+    /// ```
+    /// use kobdzila::{Catalogue, Kind};
+    ///
+    /// assert_eq!(Catalogue::from_mo(b"too short").unwrap_err().kind(), Kind::MoShort);
+    /// ```
+    pub fn kind(&self) -> Kind {
+        self.kind
+    }
+
+    /// Returns the line of the PO text, from 1, if the reason has one.
+    ///
+    /// ```
+    /// use kobdzila::{Catalogue, Options};
+    ///
+    /// let refused = Catalogue::from_po(b"msgid \"a\"\nmsgid \"b\"\n", Options::new()).unwrap_err();
+    /// assert_eq!(refused.line(), Some(2));
+    /// assert_eq!(Catalogue::from_mo(b"too short").unwrap_err().line(), None);
+    /// ```
+    pub fn line(&self) -> Option<u32> {
+        self.line
+    }
+}
+
+impl fmt::Display for Refused {
+    fn fmt(&self, f: &mut fmt::Formatter<'_>) -> fmt::Result {
+        self.kind.fmt(f)
+    }
+}
+
+impl Error for Refused {
+    fn source(&self) -> Option<&(dyn Error + 'static)> {
+        self.file.as_ref().map(|it| it as _)
+    }
+}
+
+impl From<sys::Refusal> for Refused {
+    fn from(refusal: sys::Refusal) -> Refused {
+        Refused {
+            kind: Kind::of_number(refusal.fault),
+            line: (refusal.line != 0).then_some(refusal.line),
+            file: refusal.file,
+        }
+    }
+}
+
+#[cfg(test)]
+mod tests {
+    use super::Kind;
+
+    #[test]
+    fn each_number_of_a_kind_is_that_kind() {
+        let known: Vec<Kind> = (1..300)
+            .map(Kind::of_number)
+            .filter(|it| !matches!(it, Kind::Unknown(_)))
+            .collect();
+        assert!(known.len() >= 31);
+        for kind in known {
+            assert_eq!(Kind::of_number(kind.number()), kind);
+            assert_ne!(kind.to_string(), "unknown fault");
+        }
+    }
+
+    #[test]
+    fn a_later_library_may_have_other_numbers() {
+        let kind = Kind::of_number(999);
+        assert_eq!((kind, kind.number()), (Kind::Unknown(999), 999));
+        assert_eq!(kind.to_string(), "unknown fault");
+    }
+}

@@ -1,0 +1,387 @@
+//! The C library: its declarations, and a safe handle for each of its two types.
+//!
+//! This is the only module with `unsafe` code. `tests/header.rs` compares the declarations with `kobdzila.h`. A safety
+//! comment that cites the header means its words, which kobdzila(3) repeats.
+
+#![allow(non_camel_case_types)]
+
+use std::ffi::{CStr, CString};
+use std::io;
+use std::marker::PhantomData;
+use std::os::raw::{c_char, c_int, c_uint, c_ulonglong, c_void};
+use std::ptr::{self, NonNull};
+use std::slice;
+
+pub const KOB_NO_FAULT: c_uint = 0;
+pub const KOB_UNREADABLE: c_uint = 201;
+pub const KOB_BAD_NAME: c_uint = 202;
+pub const KOB_CHECKED: c_uint = 1;
+pub const KOB_USE_FUZZY: c_uint = 2;
+pub const KOB_MO: c_uint = 0;
+pub const KOB_PO: c_uint = 1;
+
+/// An opaque C type: it has no size that Rust knows, and only the C library makes and frees it.
+#[repr(C)]
+struct kob_catalogue {
+    _opaque: [u8; 0],
+    _not_sent: PhantomData<*mut u8>,
+}
+
+/// An opaque C type, like [`kob_catalogue`].
+#[repr(C)]
+struct kob_set {
+    _opaque: [u8; 0],
+    _not_sent: PhantomData<*mut u8>,
+}
+
+#[repr(C)]
+#[derive(Clone, Copy)]
+struct kob_refusal {
+    fault: c_uint,
+    line: c_uint,
+}
+
+#[repr(C)]
+#[derive(Clone, Copy)]
+struct kob_text {
+    at: *const c_char,
+    len: usize,
+}
+
+#[repr(C)]
+#[derive(Clone, Copy)]
+struct kob_entry {
+    context: kob_text,
+    msgid: kob_text,
+    plural: kob_text,
+    forms: usize,
+}
+
+extern "C" {
+    fn kob_version() -> *const c_char;
+    fn kob_fault_text(fault: c_uint) -> *const c_char;
+    fn kob_open_mo(bytes: *const c_void, len: usize, why: *mut kob_refusal) -> *mut kob_catalogue;
+    fn kob_open_po(bytes: *const c_void, len: usize, options: c_uint, why: *mut kob_refusal) -> *mut kob_catalogue;
+    fn kob_open_file(name: *const c_char, kind: c_uint, options: c_uint, why: *mut kob_refusal) -> *mut kob_catalogue;
+    fn kob_retain(catalogue: *mut kob_catalogue) -> *mut kob_catalogue;
+    fn kob_release(catalogue: *mut kob_catalogue);
+    fn kob_find(catalogue: *const kob_catalogue, context: kob_text, msgid: kob_text, n: *const c_ulonglong)
+        -> kob_text;
+    fn kob_count(catalogue: *const kob_catalogue) -> usize;
+    fn kob_entry_at(catalogue: *const kob_catalogue, place: usize, entry: *mut kob_entry) -> c_int;
+    fn kob_form_at(catalogue: *const kob_catalogue, place: usize, form: usize) -> kob_text;
+    fn kob_mo_file(catalogue: *const kob_catalogue) -> kob_text;
+    fn kob_set_new() -> *mut kob_set;
+    fn kob_set_with(
+        set: *const kob_set,
+        domain: *const c_char,
+        locale: *const c_char,
+        catalogue: *const kob_catalogue,
+        why: *mut kob_refusal,
+    ) -> *mut kob_set;
+    fn kob_set_open(
+        set: *const kob_set,
+        folder: *const c_char,
+        domain: *const c_char,
+        locale: *const c_char,
+        why: *mut kob_refusal,
+    ) -> *mut kob_set;
+    fn kob_set_retain(set: *mut kob_set) -> *mut kob_set;
+    fn kob_set_release(set: *mut kob_set);
+    fn kob_set_version(set: *const kob_set) -> c_ulonglong;
+    fn kob_set_find(
+        set: *const kob_set,
+        domain: kob_text,
+        languages: kob_text,
+        context: kob_text,
+        msgid: kob_text,
+        n: *const c_ulonglong,
+    ) -> kob_text;
+}
+
+/// Why the library returned no catalogue or set. `file` is what errno said, if a file couldn't be read.
+pub struct Refusal {
+    pub fault: u32,
+    pub line: u32,
+    pub file: Option<io::Error>,
+}
+
+impl Refusal {
+    pub fn bad_name() -> Refusal {
+        Refusal {
+            fault: KOB_BAD_NAME,
+            line: 0,
+            file: None,
+        }
+    }
+
+    /// What the library says of a file whose name it can't be asked for, since it has a NUL.
+    pub fn name_with_nul() -> Refusal {
+        Refusal {
+            fault: KOB_UNREADABLE,
+            line: 0,
+            file: Some(io::Error::from(io::ErrorKind::InvalidInput)),
+        }
+    }
+}
+
+/// What `call` returns, or why it returned NULL. `call` has to be one of the functions that store the reason then.
+fn returned<T>(call: impl FnOnce(*mut kob_refusal) -> *mut T) -> Result<NonNull<T>, Refusal> {
+    let mut why = kob_refusal {
+        fault: KOB_NO_FAULT,
+        line: 0,
+    };
+    let made = NonNull::new(call(&mut why));
+    made.ok_or_else(|| Refusal {
+        fault: why.fault,
+        line: why.line,
+        // (nothing has run since the call that could change errno)
+        file: (why.fault == KOB_UNREADABLE).then(io::Error::last_os_error),
+    })
+}
+
+impl kob_text {
+    const NONE: kob_text = kob_text {
+        at: ptr::null(),
+        len: 0,
+    };
+
+    #[inline]
+    fn new(text: &str) -> kob_text {
+        kob_text {
+            at: text.as_ptr().cast(),
+            len: text.len(),
+        }
+    }
+
+    /// A context: none is NULL, and so another one than the empty context.
+    #[inline]
+    fn optional(text: Option<&str>) -> kob_text {
+        text.map_or(kob_text::NONE, kob_text::new)
+    }
+
+    /// The bytes, if there are any.
+    ///
+    /// # Safety
+    ///
+    /// The library returned this text, and the catalogue or set that it belongs to lives for `'a`.
+    #[inline]
+    unsafe fn bytes<'a>(self) -> Option<&'a [u8]> {
+        if self.at.is_null() {
+            return None;
+        }
+        // SAFETY: the header: a string that is returned is valid until its catalogue or set is freed, and is never
+        // changed. The caller keeps that alive for 'a.
+        Some(unsafe { slice::from_raw_parts(self.at.cast(), self.len) })
+    }
+
+    /// The text as a `str`, if there is one.
+    ///
+    /// # Safety
+    ///
+    /// As for [`kob_text::bytes`], and it isn't the text of `kob_mo_file`.
+    #[inline]
+    unsafe fn text<'a>(self) -> Option<&'a str> {
+        // SAFETY: what this function asks for.
+        let bytes = unsafe { self.bytes() }?;
+        debug_assert!(std::str::from_utf8(bytes).is_ok());
+        // SAFETY: the header: strings are UTF-8. Files with others are refused as KOB_MO_BAD_TEXT and KOB_PO_NOT_UTF8.
+        Some(unsafe { std::str::from_utf8_unchecked(bytes) })
+    }
+}
+
+/// The address of a number that may be missing.
+#[inline]
+fn address(n: &Option<c_ulonglong>) -> *const c_ulonglong {
+    n.as_ref().map_or(ptr::null(), ptr::from_ref)
+}
+
+/// The version of the library that was loaded.
+pub fn version() -> &'static str {
+    // SAFETY: the function has no condition, and its string is static and terminated by NUL.
+    let version = unsafe { CStr::from_ptr(kob_version()) };
+    version.to_str().unwrap_or("")
+}
+
+/// The library's description of a fault.
+pub fn fault_text(fault: u32) -> &'static str {
+    // SAFETY: the function takes any number, and its string is static and terminated by NUL.
+    let text = unsafe { CStr::from_ptr(kob_fault_text(fault)) };
+    text.to_str().unwrap_or("")
+}
+
+/// One reference to a catalogue.
+pub struct Catalogue(NonNull<kob_catalogue>);
+
+// SAFETY: the header: any number of threads may use one catalogue at once. The reference count is atomic, and the last
+// reference may be dropped by any thread.
+unsafe impl Send for Catalogue {}
+// SAFETY: as for Send: a shared reference allows look-ups and `clone` alone.
+unsafe impl Sync for Catalogue {}
+
+impl Clone for Catalogue {
+    fn clone(&self) -> Catalogue {
+        // SAFETY: `self` has a reference, so the catalogue is alive; the new reference is the result's.
+        unsafe { kob_retain(self.0.as_ptr()) };
+        Catalogue(self.0)
+    }
+}
+
+impl Drop for Catalogue {
+    fn drop(&mut self) {
+        // SAFETY: this drops the reference that `self` has, once. No string of the catalogue outlives `self`, as each
+        // borrows it.
+        unsafe { kob_release(self.0.as_ptr()) }
+    }
+}
+
+/// The strings of an entry, and how many forms it has.
+#[derive(Clone, Copy)]
+pub struct EntryStrings<'a> {
+    pub context: Option<&'a str>,
+    pub msgid: &'a str,
+    pub plural: Option<&'a str>,
+    pub forms: usize,
+}
+
+impl Catalogue {
+    pub fn from_mo(bytes: &[u8]) -> Result<Catalogue, Refusal> {
+        // SAFETY: the bytes are `len` readable bytes, which the library copies, and `why` may be written to.
+        returned(|why| unsafe { kob_open_mo(bytes.as_ptr().cast(), bytes.len(), why) }).map(Catalogue)
+    }
+
+    pub fn from_po(bytes: &[u8], options: u32) -> Result<Catalogue, Refusal> {
+        // SAFETY: as for `from_mo`; `options` may be any number.
+        returned(|why| unsafe { kob_open_po(bytes.as_ptr().cast(), bytes.len(), options, why) }).map(Catalogue)
+    }
+
+    /// Opens a file, where `kind` is `KOB_MO` or `KOB_PO`.
+    pub fn open(name: &CStr, kind: u32, options: u32) -> Result<Catalogue, Refusal> {
+        // SAFETY: the name is terminated by NUL, and `why` may be written to.
+        returned(|why| unsafe { kob_open_file(name.as_ptr(), kind, options, why) }).map(Catalogue)
+    }
+
+    #[inline]
+    pub fn find(&self, context: Option<&str>, msgid: &str, n: Option<u64>) -> Option<&str> {
+        let (context, msgid) = (kob_text::optional(context), kob_text::new(msgid));
+        // SAFETY: `self` keeps the catalogue alive; the texts and the number are readable until the call returns.
+        let found = unsafe { kob_find(self.0.as_ptr(), context, msgid, address(&n)) };
+        // SAFETY: the text belongs to the catalogue, which the result borrows.
+        unsafe { found.text() }
+    }
+
+    pub fn count(&self) -> usize {
+        // SAFETY: `self` keeps the catalogue alive.
+        unsafe { kob_count(self.0.as_ptr()) }
+    }
+
+    pub fn entry_at(&self, place: usize) -> Option<EntryStrings<'_>> {
+        let mut entry = kob_entry {
+            context: kob_text::NONE,
+            msgid: kob_text::NONE,
+            plural: kob_text::NONE,
+            forms: 0,
+        };
+        // SAFETY: `self` keeps the catalogue alive, any place may be asked for, and `entry` may be written to.
+        if unsafe { kob_entry_at(self.0.as_ptr(), place, &mut entry) } == 0 {
+            return None;
+        }
+        // SAFETY: the texts belong to the catalogue, which the result borrows.
+        let [context, msgid, plural] = [entry.context, entry.msgid, entry.plural].map(|it| unsafe { it.text() });
+        Some(EntryStrings {
+            context,
+            msgid: msgid.unwrap_or(""),
+            plural,
+            forms: entry.forms,
+        })
+    }
+
+    pub fn form_at(&self, place: usize, form: usize) -> Option<&str> {
+        // SAFETY: `self` keeps the catalogue alive, and any two places may be asked for.
+        let found = unsafe { kob_form_at(self.0.as_ptr(), place, form) };
+        // SAFETY: the text belongs to the catalogue, which the result borrows.
+        unsafe { found.text() }
+    }
+
+    pub fn mo_file(&self) -> &[u8] {
+        // SAFETY: `self` keeps the catalogue alive.
+        let file = unsafe { kob_mo_file(self.0.as_ptr()) };
+        // SAFETY: the bytes belong to the catalogue, which the result borrows.
+        unsafe { file.bytes() }.unwrap_or(&[])
+    }
+}
+
+/// One reference to a set of catalogues.
+pub struct Set(NonNull<kob_set>);
+
+// SAFETY: a set is immutable and counts its references atomically, as a catalogue does.
+unsafe impl Send for Set {}
+// SAFETY: as for Send.
+unsafe impl Sync for Set {}
+
+impl Clone for Set {
+    fn clone(&self) -> Set {
+        // SAFETY: `self` has a reference, so the set is alive; the new reference is the result's.
+        unsafe { kob_set_retain(self.0.as_ptr()) };
+        Set(self.0)
+    }
+}
+
+impl Drop for Set {
+    fn drop(&mut self) {
+        // SAFETY: this drops the reference that `self` has, once, and no string of the set outlives `self`.
+        unsafe { kob_set_release(self.0.as_ptr()) }
+    }
+}
+
+/// The domain and the locale of a catalogue, for C. One with a NUL is no name.
+fn names(domain: &str, locale: &str) -> Result<(CString, CString), Refusal> {
+    match (CString::new(domain), CString::new(locale)) {
+        (Ok(domain), Ok(locale)) => Ok((domain, locale)),
+        _ => Err(Refusal::bad_name()),
+    }
+}
+
+impl Set {
+    /// An empty set; `None` if memory runs out.
+    pub fn new() -> Option<Set> {
+        // SAFETY: the function has no condition.
+        NonNull::new(unsafe { kob_set_new() }).map(Set)
+    }
+
+    pub fn with(&self, domain: &str, locale: &str, catalogue: &Catalogue) -> Result<Set, Refusal> {
+        let (domain, locale) = names(domain, locale)?;
+        let (set, catalogue) = (self.0.as_ptr(), catalogue.0.as_ptr());
+        // SAFETY: both handles are alive, and the new set takes references of its own; the names are terminated by NUL,
+        // and `why` may be written to.
+        returned(|why| unsafe { kob_set_with(set, domain.as_ptr(), locale.as_ptr(), catalogue, why) }).map(Set)
+    }
+
+    pub fn with_installed(&self, folder: &CStr, domain: &str, locale: &str) -> Result<Set, Refusal> {
+        let (domain, locale) = names(domain, locale)?;
+        let set = self.0.as_ptr();
+        // SAFETY: as for `with`; the folder is terminated by NUL, too.
+        returned(|why| unsafe { kob_set_open(set, folder.as_ptr(), domain.as_ptr(), locale.as_ptr(), why) }).map(Set)
+    }
+
+    pub fn version(&self) -> u64 {
+        // SAFETY: `self` keeps the set alive.
+        unsafe { kob_set_version(self.0.as_ptr()) }
+    }
+
+    #[inline]
+    pub fn find(
+        &self,
+        [domain, languages]: [&str; 2],
+        context: Option<&str>,
+        msgid: &str,
+        n: Option<u64>,
+    ) -> Option<&str> {
+        let (domain, languages) = (kob_text::new(domain), kob_text::new(languages));
+        let (context, msgid) = (kob_text::optional(context), kob_text::new(msgid));
+        // SAFETY: `self` keeps the set alive; the texts and the number are readable until the call returns.
+        let found = unsafe { kob_set_find(self.0.as_ptr(), domain, languages, context, msgid, address(&n)) };
+        // SAFETY: the text belongs to a catalogue of the set, which the result borrows.
+        unsafe { found.text() }
+    }
+}

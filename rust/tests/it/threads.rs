@@ -1,0 +1,66 @@
+use crate::{compiled, GARDEN};
+use kobdzila::{Catalogue, Entries, Entry, Forms, Set};
+use std::sync::atomic::{AtomicBool, Ordering};
+use std::sync::RwLock;
+use std::thread;
+
+#[test]
+fn all_types_may_be_sent_and_shared() {
+    fn is_sent_and_shared<T: Send + Sync>() {}
+    is_sent_and_shared::<Catalogue>();
+    is_sent_and_shared::<Set>();
+    is_sent_and_shared::<Entries<'_>>();
+    is_sent_and_shared::<Entry<'_>>();
+    is_sent_and_shared::<Forms<'_>>();
+}
+
+#[test]
+fn threads_look_up_in_one_catalogue() {
+    let fr = compiled(GARDEN);
+    let found: usize = thread::scope(|scope| {
+        let threads: Vec<_> = (0..4)
+            .map(|_| scope.spawn(|| (0..1000).filter(|_| fr.gettext("Winter") == "Hiver").count()))
+            .collect();
+        threads.into_iter().map(|it| it.join().unwrap()).sum()
+    });
+    assert_eq!(found, 4000);
+}
+
+#[test]
+fn the_last_reference_is_dropped_by_any_thread() {
+    let fr = compiled(GARDEN);
+    let threads: Vec<_> = (0..4)
+        .map(|_| fr.clone())
+        .map(|fr| thread::spawn(move || fr.gettext("Winter") == "Hiver"))
+        .collect();
+    drop(fr);
+    assert!(threads.into_iter().all(|it| it.join().unwrap()));
+}
+
+#[test]
+fn sets_are_exchanged_while_threads_look_up() {
+    let fr = compiled(GARDEN);
+    let current = RwLock::new(Set::new().with("garden", "fr", &fr).unwrap());
+    let now = || current.read().unwrap().clone();
+    let done = AtomicBool::new(false);
+    thread::scope(|scope| {
+        let ask = || {
+            let mut seen = 0;
+            while !done.load(Ordering::Relaxed) {
+                let set = now();
+                assert!(set.version() >= seen);
+                seen = set.version();
+                assert_eq!(set.gettext("garden", "fr", "Winter"), "Hiver");
+            }
+        };
+        for _ in 0..3 {
+            scope.spawn(ask);
+        }
+        for _ in 0..500 {
+            let next = now().with("garden", "fr", &fr).unwrap();
+            *current.write().unwrap() = next;
+        }
+        done.store(true, Ordering::Relaxed);
+    });
+    assert_eq!(now().version(), 501);
+}
