@@ -120,70 +120,55 @@ static int set_has_texts(const kob_set *set) {
     return has;
 }
 
-/* What the calls are given, and one of them: it gives its catalogue or its set to *c or *set. */
+/* What the calls are given, what one of them made (a catalogue or a set), and the calls. */
 static kob_catalogue *given;
 static kob_set *given_set;
 static const void *mo_bytes;
 static size_t mo_len;
 
-typedef void action(kob_catalogue **c, kob_set **set, kob_refusal *why);
+struct made {
+    kob_catalogue *c;
+    kob_set *set;
+    kob_refusal why;
+};
+typedef void action(struct made *made);
 
-static void open_mo(kob_catalogue **c, kob_set **set, kob_refusal *why) {
-    (void)set;
-    *c = kob_open_mo(mo_bytes, mo_len, why);
+static void open_mo(struct made *made) { made->c = kob_open_mo(mo_bytes, mo_len, &made->why); }
+
+static void open_po(struct made *made) { made->c = kob_open_po(po, strlen(po), KOB_CHECKED, &made->why); }
+
+static void open_mo_file(struct made *made) { made->c = kob_open_file(name_of_mo, KOB_MO, 0, &made->why); }
+
+static void open_po_file(struct made *made) { made->c = kob_open_file(name_of_file, KOB_PO, 0, &made->why); }
+
+static void new_set(struct made *made) {
+    made->set = kob_set_new();
+    made->why = (kob_refusal){ made->set ? KOB_NO_FAULT : KOB_MEMORY, 0 };
 }
 
-static void open_po(kob_catalogue **c, kob_set **set, kob_refusal *why) {
-    (void)set;
-    *c = kob_open_po(po, strlen(po), KOB_CHECKED, why);
-}
+static void set_with(struct made *made) { made->set = kob_set_with(given_set, "app", "fr", given, &made->why); }
 
-static void open_mo_file(kob_catalogue **c, kob_set **set, kob_refusal *why) {
-    (void)set;
-    *c = kob_open_file(name_of_mo, KOB_MO, 0, why);
-}
-
-static void open_po_file(kob_catalogue **c, kob_set **set, kob_refusal *why) {
-    (void)set;
-    *c = kob_open_file(name_of_file, KOB_PO, 0, why);
-}
-
-static void new_set(kob_catalogue **c, kob_set **set, kob_refusal *why) {
-    (void)c;
-    *set = kob_set_new();
-    *why = (kob_refusal){ *set ? KOB_NO_FAULT : KOB_MEMORY, 0 };
-}
-
-static void set_with(kob_catalogue **c, kob_set **set, kob_refusal *why) {
-    (void)c;
-    *set = kob_set_with(given_set, "app", "fr", given, why);
-}
-
-static void set_open(kob_catalogue **c, kob_set **set, kob_refusal *why) {
-    (void)c;
-    *set = kob_set_open(given_set, folder, "whole", "fr", why);
-}
+static void set_open(struct made *made) { made->set = kob_set_open(given_set, folder, "whole", "fr", &made->why); }
 
 static void sweep(const char *what, action *call, int (*is_right)(const kob_catalogue *, const kob_set *)) {
     unsigned long before = blocks, n = 0;
     int was_refused = 1, told = 0;
     while (was_refused) {
-        kob_catalogue *c = NULL;
-        kob_set *set = NULL;
-        kob_refusal why = { KOB_BAD_NAME, 9 };
+        struct made made = { NULL, NULL, { KOB_BAD_NAME, 9 } };
         requests = 0;
         refused = ++n;
-        call(&c, &set, &why);
+        call(&made);
         was_refused = requests >= n;
         refused = 0;
-        if (c || set)
-            is(what, why.fault == KOB_NO_FAULT && is_right(c, set));
+        int succeeded = made.c || made.set;
+        if (succeeded)
+            is(what, made.why.fault == KOB_NO_FAULT && is_right(made.c, made.set));
         else
-            is(what, was_refused && why.fault == KOB_MEMORY && why.line == 0);
-        told += !c && !set;
+            is(what, was_refused && made.why.fault == KOB_MEMORY && made.why.line == 0);
+        told += !succeeded;
         is("what it was given stays", has_texts(given) && set_has_texts(given_set));
-        kob_release(c);
-        kob_set_release(set);
+        kob_release(made.c);
+        kob_set_release(made.set);
         is("nothing is leaked", blocks == before);
         if (wrong) {
             printf("wrong: %s, request %lu refused\n", what, n);

@@ -1,10 +1,10 @@
-/* The first look-up of a program: the translation of "write error" in the text domain gettext-tools, or the msgid. With -DKOBDZILA it
- * is by libkobdzila, else by the C library's gettext, for which LANGUAGE and the locale are set. */
+/* The first look-up of a program: the translation of "write error" in the French catalogue gettext-tools. With
+ * -DKOBDZILA it asks libkobdzila, which is given the MO file; else the C library's gettext, by LANGUAGE and the locale. */
 #include <stdio.h>
 #ifdef KOBDZILA
 #include <kobdzila.h>
-int main(int count, char **words) {
-    kob_catalogue *c = count == 2 ? kob_open_file(words[1], KOB_MO, 0, NULL) : NULL;
+int main(int count, char **arguments) {
+    kob_catalogue *c = count == 2 ? kob_open_file(arguments[1], KOB_MO, 0, NULL) : NULL;
     if (!c)
         return 1;
     puts(kob_gettext(c, "write error"));

@@ -10,13 +10,13 @@
 #include <string.h>
 #include <strings.h>
 
+enum binding { BOUND_FOLDER, BOUND_CODESET };
 struct domain {
-    struct domain *next;
-    char *folder, *codeset; /* NULL if not bound */
-    char name[];
+    struct named named;
+    char *bound[2]; /* by enum binding; NULL if not bound */
 };
 
-static struct domain *domains;
+static struct named *domains;
 static char *current; /* NULL for the default one, `messages` */
 
 /* Return the folder of a domain that isn't bound. It is looked up before there are threads, or at the first call. */
@@ -29,40 +29,24 @@ static const char *default_folder(void) {
 
 __attribute__((constructor)) static void find_early(void) { default_folder(); }
 
-static struct domain *find_domain(const char *name) {
-    for (struct domain *d = domains; d; d = d->next)
-        if (!strcmp(d->name, name))
-            return d;
-    return NULL;
-}
-
-/* Return the domain of this name, which is added if it is new; NULL if memory runs out. */
-static struct domain *domain_of(const char *name) {
-    struct domain *found = find_domain(name);
-    if (found)
-        return found;
-    size_t len = strlen(name);
-    struct domain *d = malloc(sizeof *d + len + 1);
-    if (!d)
-        return NULL;
-    *d = (struct domain){ .next = domains };
-    memcpy(d->name, name, len + 1);
-    return domains = d;
+/* Return what was bound to a domain; NULL if nothing was. */
+static const char *bound_to(const char *domain, enum binding what) {
+    const struct domain *d = (const struct domain *)find_named(domains, domain);
+    return d ? d->bound[what] : NULL;
 }
 
 const char *current_domain(void) { return current ? current : "messages"; }
 
 const char *folder_of(const char *domain) {
-    const struct domain *d = find_domain(domain);
-    return !*domain ? NULL : d && d->folder ? d->folder : default_folder();
+    const char *folder = bound_to(domain, BOUND_FOLDER);
+    return !*domain ? NULL : folder ? folder : default_folder();
 }
 
 static int is_utf8(const char *codeset) { return !strcasecmp(codeset, "UTF-8") || !strcasecmp(codeset, "UTF8"); }
 
 /* The codeset is the domain's own, else that of the variable OUTPUT_CHARSET, else that of the thread's locale. */
 int wants_utf8(const char *domain) {
-    const struct domain *d = find_domain(domain);
-    const char *codeset = d && d->codeset ? d->codeset : getenv("OUTPUT_CHARSET");
+    const char *own = bound_to(domain, BOUND_CODESET), *codeset = own ? own : getenv("OUTPUT_CHARSET");
     return is_utf8(codeset && *codeset ? codeset : nl_langinfo(CODESET));
 }
 
@@ -86,30 +70,28 @@ SHOWN char *textdomain(const char *domain) {
     return name;
 }
 
+/* Call the C library's function and, if that binds the string to the domain, keep a copy. */
+static char *bind_string(char *(*bind)(const char *, const char *), const char *domain, enum binding what,
+                         const char *string) {
+    if (!domain || !*domain || !string)
+        return bind(domain, string);
+    struct domain *d = (struct domain *)find_or_add_named(&domains, domain, sizeof *d);
+    char *copy = d ? strdup(string) : NULL;
+    return copy ? change(bind(domain, string), &d->bound[what], copy) : NULL;
+}
+
 SHOWN char *bindtextdomain(const char *domain, const char *folder) {
-    int changes = domain && *domain && folder;
     take_lock();
-    struct domain *d = changes ? domain_of(domain) : NULL;
-    char *copy = d ? strdup(folder) : NULL, *name = NULL;
-    if (!changes)
-        name = c_library()->bindtextdomain(domain, folder);
-    else if (copy)
-        name = change(c_library()->bindtextdomain(domain, folder), &d->folder, copy);
+    char *bound = bind_string(c_library()->bindtextdomain, domain, BOUND_FOLDER, folder);
     leave_lock();
-    return name;
+    return bound;
 }
 
 SHOWN char *bind_textdomain_codeset(const char *domain, const char *codeset) {
-    int changes = domain && *domain && codeset;
     take_lock();
-    struct domain *d = changes ? domain_of(domain) : NULL;
-    char *copy = d ? strdup(codeset) : NULL, *name = NULL;
-    if (!changes)
-        name = c_library()->bind_textdomain_codeset(domain, codeset);
-    else if (copy)
-        name = change(c_library()->bind_textdomain_codeset(domain, codeset), &d->codeset, copy);
+    char *bound = bind_string(c_library()->bind_textdomain_codeset, domain, BOUND_CODESET, codeset);
     leave_lock();
-    return name;
+    return bound;
 }
 
 SHOWN char *setlocale(int category, const char *locale) {

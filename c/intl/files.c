@@ -11,19 +11,10 @@
 #define MOST_MO 268435456
 #define LEAST_MO 48 /* the C library refuses shorter files */
 
-static struct file *files;
+static struct named *files;
 
 struct file *file_of(const char *name) {
-    for (struct file *f = files; f; f = f->next)
-        if (!strcmp(f->name, name))
-            return f;
-    size_t len = strlen(name);
-    struct file *f = malloc(sizeof *f + len + 1);
-    if (!f)
-        return NULL;
-    *f = (struct file){ files, NULL, UNREAD };
-    memcpy(f->name, name, len + 1);
-    return files = f;
+    return (struct file *)find_or_add_named(&files, name, sizeof(struct file));
 }
 
 /* Whether the header says ASCII. The C library then refuses other characters, and libkobdzila doesn't. */
@@ -58,7 +49,7 @@ enum standing standing_of(struct file *f) {
     if (f->standing != UNREAD)
         return f->standing;
     size_t len;
-    unsigned char *bytes = file_bytes(f->name, REGULAR_FILES, MOST_MO, &len);
+    unsigned char *bytes = file_bytes(f->named.name, REGULAR_FILES, MOST_MO, &len);
     if (bytes)
         f->standing = standing_of_bytes(f, bytes, len);
     else if (!may_pass(errno))

@@ -26,6 +26,19 @@ struct c_library {
 };
 const struct c_library *c_library(void);
 
+/* ---- named.c, under the lock: lists whose members begin with this structure, and are never removed. */
+struct named {
+    struct named *next;
+    const char *name;
+};
+
+/* Return the member of this name; NULL if there is none. */
+struct named *find_named(struct named *list, const char *name);
+
+/* Return the member of this name. If it is new, it has `size` bytes, and everything but its name is 0. NULL if memory
+ * runs out. */
+struct named *find_or_add_named(struct named **list, const char *name, size_t size);
+
 /* ---- domains.c, under the lock: the current text domain, a domain's folder, and whether its strings are wanted in
  * UTF-8. A domain without a name has no folder. */
 const char *current_domain(void);
@@ -75,17 +88,16 @@ char *put_name(char *to, const struct name *name, int parts);
 /* ---- files.c, under the lock: a catalogue's file, opened once. */
 
 enum standing {
-    UNREAD,  /* not opened yet, or memory or file descriptors ran out: try again */
+    UNREAD,  /* not opened yet (0, as in a new structure), or memory or file descriptors ran out: try again */
     MISSING, /* there is no such file, or the C library skips it too */
     TAKEN,   /* a catalogue */
     REFUSED, /* no catalogue, and unsafe for the C library: it would read outside of the file, or loop forever */
     THEIRS   /* only the C library reads it: another charset, or system-dependent strings */
 };
 struct file {
-    struct file *next;
+    struct named named;
     kob_catalogue *catalogue; /* if it is TAKEN */
     enum standing standing;
-    char name[];
 };
 
 /* Return the file of this name, unopened if it is new; NULL if memory runs out. */
