@@ -14,3 +14,6 @@ pub mod SessionFront
 pub mod SessionTalk
 pub mod SessionEnds
 pub mod Stopping
+pub mod SessionWaits
+pub mod OneDevice
+pub mod SessionInTime

@@ -1,17 +1,16 @@
 -- Lines that are taken off an input.
 use Rattle.std.proofs.Common.{◌≡◌, ◌∙◌, refl, sym, ap, subst, ℕ, zero, suc, ◌+◌, ◌-◌, ◌<◌, ◌≤◌, Bool, true, false}
-use Rattle.std.proofs.Common.{List, [], ◌∷◌, ◌++◌, length, take, drop, arith, inl, inr, append_assoc, length-append}
-use Rattle.std.proofs.Common.{Option, Result, Err, IsErrOf}
-use Rattle.std.proofs.Common.{length-take, length-drop}
+use Rattle.std.proofs.Common.{List, [], ◌∷◌, ◌++◌, length, take, drop, arith, inl, append_assoc, length-append}
+use Rattle.std.proofs.Common.{Option, Some, None, IfSome, IfNone, Result, Err, IsErrOf}
+use Rattle.std.proofs.Common.{length-drop}
 use Rattle.std.specs.List.{concat, onto_first}
 use Rattle.std.specs.Str.{IsUtf8}
 use Rattle.std.proofs.lemmas.List.{append-nil, nil_from_length, take-append-le, drop-append-le, take-append-drop}
-use Rattle.std.proofs.lemmas.List.{length-take-le, drop-drop}
+use Rattle.std.proofs.lemmas.List.{length-take-le}
 use Rattle.std.proofs.Math.Seq.{take-add}
 use Rattle.std.proofs.lemmas.List.Folds.{concat-append}
-use Rattle.devices.specs.Devices.{RisesBy}
-use Rattle.line_input.specs.Lines.{lines, pieces, is_line_end}
-use Rattle.line_input.specs.Incoming.{Incoming, MayCome, EndsLine, EndsLines, LacksLines}
+use Rattle.line_input.specs.Lines.{lines, is_line_end}
+use Rattle.line_input.specs.Incoming.{Incoming, MayCome, EndsLine, EndsLines}
 use Rattle.line_input.specs.Arrivals.{AddsInput, AddsSome, Comes}
 use Rattle.line_input.proofs.Arriving.{consumes_none, consumes_both, rises_none, rises_both}
 use Rattle.line_input.specs.declared.fault.LineInputFault.{LineInputFault}
@@ -22,7 +21,8 @@ use Rattle.script_text.specs.declared.fault.ScriptKind.TheVariants as kind
 use Rattle.catserve.specs.declared.session_fault.SessionFault.{SessionFault}
 use Rattle.catserve.specs.Run.{InputSeen, FailsToRead}
 use Rattle.catserve.specs.Hearing.{HearingValue, CountsOn, HasTaken, HasGot, Stays, HearsNothing, HearsNoText, FailsFor}
-use Rattle.catserve.specs.Hearing.{HearsText, HearsUndecodable}
+use Rattle.catserve.specs.Hearing.{EndsNext, HearsText, HearsUndecodable}
+use Rattle.catserve.specs.Session.{most_lines}
 
 -- ---- what was read
 
@@ -73,7 +73,7 @@ stays_lost i j x y adds counts number size = record {
   size = size;
 }
 
-pub stays_put : (i : InputSeen) (x : HearingValue) → Stays i i x x []
+abbrev pub stays_put : (i : InputSeen) (x : HearingValue) → Stays i i x x []
 stays_put i x = record {
   got = record {
     more = [];
@@ -87,9 +87,17 @@ stays_put i x = record {
   size = refl;
 }
 
+pub found_so : (i j : InputSeen) (x y : HearingValue) (end : Option ℕ) → Stays i j x y [] → x.number < most_lines
+    → x.size ≤ most_script → IfSome end (λ place. EndsLine y.input 0 place)
+    → IfSome end (λ place. place ≤ 67108864 - x.size) → IfNone end ((y.input.ended ≡ true) × (length y.input.left ≡ 0))
+    → EndsNext i j x y end
+found_so i j x y (Some place) stays few size line within none = record
+    { stays = stays; line = (line, omega (arith, size, within)); none = tt; few = few }
+found_so i j x y None stays few size line within none = record { stays = stays; line = tt; none = none; few = few }
+
 -- ---- what was taken
 
-pub taken_none : (i : InputSeen) (x : Incoming) → HasTaken i i x x []
+abbrev pub taken_none : (i : InputSeen) (x : Incoming) → HasTaken i i x x []
 taken_none i x = record {
   more = [];
   read = consumes_none i.left;
@@ -123,7 +131,8 @@ taken_then i j k x y z front back a b = record {
 }
 
 -- what was got is there to be taken
-pub got_taken : (i j : InputSeen) (x y z : Incoming) (raw : List (List ℕ)) → HasGot i j x y [] → z.ended ≡ y.ended
+abbrev pub got_taken : (i j : InputSeen) (x y z : Incoming) (raw : List (List ℕ)) → HasGot i j x y []
+    → z.ended ≡ y.ended
     → y.left ≡ concat raw ++ z.left
     → ((text : List ℕ) → MayCome y text → lines (y.left ++ text) ≡ raw ++ lines (z.left ++ text))
     → HasTaken i j x z raw

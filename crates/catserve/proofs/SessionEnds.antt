@@ -1,41 +1,38 @@
 -- How a session ends.
-use Rattle.std.proofs.Common.{◌≡◌, ◌∙◌, refl, sym, ap, subst, ℕ, zero, suc, ◌+◌, ◌<◌, ◌≤◌, ◌⊎◌, Bool, true, false}
+use Rattle.std.proofs.Common.{◌≡◌, ◌∙◌, refl, sym, ap, subst, ℕ, ◌+◌, ◌<◌, ◌≤◌, ◌⊎◌, Bool, true, false}
 use Rattle.std.proofs.Common.{List, [], ◌∷◌, ◌++◌, length, arith, inl, inr, append_assoc, length-append, Option, Some}
-use Rattle.std.proofs.Common.{None, Result, Ok, Err}
+use Rattle.std.proofs.Common.{None, Err}
 use Rattle.std.specs.List.{concat}
-use Rattle.std.specs.Str.{IsUtf8}
-use Rattle.std.specs.Io.KnownBytes.{Appends, Consumes, IsAtEnd}
+use Rattle.std.specs.Io.KnownBytes.{Appends, Consumes}
 use Rattle.std.proofs.KnownBytes.{Appends-nil, Appends-trans}
 use Rattle.std.proofs.lemmas.List.{append-nil}
 use Rattle.std.proofs.lemmas.List.Folds.{concat-append}
 use Rattle.std.proofs.lemmas.Str.{IsUtf8-append, IsUtf8-nil}
 use Rattle.devices.specs.Devices.{RisesBy}
 use Rattle.line_input.specs.Lines.{lines}
-use Rattle.line_input.specs.Incoming.{Incoming, MayCome}
+use Rattle.line_input.specs.Incoming.{MayCome}
 use Rattle.line_input.proofs.Arriving.{both, consumes_both, consumes_none}
 use Rattle.live_set.specs.Loads.{LoadValue}
 use Rattle.live_versions.specs.Batches.{joined}
-use Rattle.live_versions.specs.Store.{StoreValue}
-use Rattle.script_text.specs.Script.{RoundValue, ScriptValue, commands_from, script_from, script_of}
+use Rattle.desks.specs.Jobs.{JobValue}
+use Rattle.script_text.specs.Script.{QuestionValue, RoundValue, commands_from, script_of}
 use Rattle.script_text.specs.Texts.{most_script}
-use Rattle.script_text.specs.Gathering.{Gathered, empty_round, nothing, going_on, onto_open}
+use Rattle.script_text.specs.Gathering.{Gathered, both as bound, empty_round, nothing, going_on, onto_open}
 use Rattle.script_text.specs.declared.fault.ScriptKind.{ScriptKind}
 use Rattle.script_text.specs.declared.fault.ScriptKind.TheVariants as kind
-use Rattle.catserve.specs.declared.session_fault.SessionFault.{SessionFault}
 use Rattle.catserve.specs.Rounds.{PlaysAll}
-use Rattle.catserve.specs.Running.{HasPlayed}
-use Rattle.catserve.specs.Run.{InputSeen, OutputSeen, FailsToRead}
-use Rattle.catserve.specs.Session.{said, round_end, HaveEnded, StopsBehind, AnswersAll, StopsEarly, EndsFor, Converses}
-use Rattle.catserve.specs.Session.{most_lines, MayFollow}
+use Rattle.catserve.specs.Run.{InputSeen, OutputSeen}
+use Rattle.catserve.specs.Session.{said, round_end, HaveEnded, StopsBehind, AnswersAll, StopsEarly, EndsFor}
+use Rattle.catserve.specs.Session.{most_lines, BreaksOff}
 use Rattle.catserve.specs.Hearing.{HearingValue, HasTaken, Stays, HearsEnd, HearsNone, HearsNoFront, Begins, unheard}
 use Rattle.catserve.specs.Hearing.{silence, HasPassed, FailsInFront, HearsTooMuch, HearsUndecodable}
-use Rattle.catserve.specs.Talking.{TalkValue, AnswersRound, FailsToAnswer, IsFresh, HasTalked, HasHeard, HasOpen}
-use Rattle.catserve.specs.Talking.{Conversing, Continues}
+use Rattle.catserve.specs.Talking.{TalkValue, AnswersRound, BreaksRound, FailsToAnswer, IsFresh}
+use Rattle.catserve.specs.Talking.{Conversing}
 use Rattle.catserve.proofs.Playing.{plays_all}
 use Rattle.catserve.proofs.LinesTaken.{stays_put, taken_none, taken_then}
 use Rattle.catserve.proofs.SessionLines.{ended_so, follows_all, heard_none}
 use Rattle.catserve.proofs.SessionHears.{fails_later}
-use Rattle.catserve.proofs.SessionTalk.{answers_one, ended_first}
+use Rattle.catserve.proofs.SessionTalk.{answers_one, ended_first, plays_open}
 
 -- ---- where it stopped
 
@@ -57,7 +54,7 @@ pub record Answered (given : Option ℕ) (i j : InputSeen) (o o' : OutputSeen) (
   pub first : ℕ
   pub ended_before : HaveEnded given before first rounds
 
-pub stops_so : (given : Option ℕ) (i j k : InputSeen) (o o' : OutputSeen) (y z : HearingValue)
+abbrev pub stops_so : (given : Option ℕ) (i j k : InputSeen) (o o' : OutputSeen) (y z : HearingValue)
     (front : List (List ℕ)) (lost : List ℕ) (a : Answered given i j o o' y front) (s : Stays j k y z lost)
     → StopsBehind given i k o o' front (a.taken.more ++ s.got.more) z.input.left lost z.input.ended
 stops_so given i j k o o' y z front lost a s =
@@ -142,7 +139,7 @@ undecodable given i j k o o' y z front line a h =
 -- ---- in the front
 
 -- nothing is played in front of the commands
-front_answered : (i j : InputSeen) (o : OutputSeen) (y : HearingValue) (front : List (List ℕ))
+abbrev pub front_answered : (i j : InputSeen) (o : OutputSeen) (y : HearingValue) (front : List (List ℕ))
     → HasPassed i j unheard y front → Answered None i j o o y front
 front_answered i j o y front passed = record {
   taken = passed.taken;
@@ -317,24 +314,61 @@ taken_stays j k y z raw t = record {
   size = refl;
 }
 
+-- the open round, as one more `go` ends it
+open_last : (round : RoundValue) → bound round empty_round ≡ round
+open_last round =
+    let Loads : List JobValue → RoundValue = λ loads. record
+    { loads = loads; questions = round.questions ++ [] } in
+    let Questions : List QuestionValue → RoundValue = λ questions. record
+    { loads = round.loads; questions = questions } in
+    ap Loads (append-nil round.loads) ∙ ap Questions (append-nil round.questions)
+
+-- some first bytes of the open round were written
+breaks_off : (given : Option ℕ) (first i j k : InputSeen) (o o' o'' : OutputSeen) (x y z : HearingValue)
+    (workers : ℕ) (start talk : TalkValue) → IsFresh workers start
+    → (c : Conversing workers i j o o' x y start talk) → Stays j k y z [] → BreaksRound talk o' o''
+    → Begins given first i x workers → BreaksOff given first k o o''
+breaks_off given first i j k o o' o'' x y z workers start talk fresh c s h b =
+    let a = answered given first i j o o' x y workers start talk b c fresh in
+    let played = plays_open workers c.g start.store talk h.store c.written h.lines c.talked h.finishes in
+    let Batches : List (List LoadValue) → Type 0 = λ batches.
+    PlaysAll workers (joined batches) (c.g.ended ++ c.g.current ∷ []) (c.written ++ h.lines) in
+    let Last : RoundValue → Type 0 = λ last. PlaysAll workers [] (c.g.ended ++ last ∷ []) (c.written ++ h.lines) in
+    record {
+      front = b.front ++ c.lines;
+      text = a.taken.more ++ s.got.more;
+      rest = z.input.left;
+      ended = z.input.ended;
+      mid = o';
+      stops = stops_so given first j k o o' y z (b.front ++ c.lines) [] a s;
+      lines = h.lines;
+      plays = subst Last (sym (open_last c.g.current)) (subst Batches fresh.none_published
+          (plays_all workers (c.g.ended ++ c.g.current ∷ []) start.store h.store (c.written ++ h.lines) played));
+      written = h.front;
+    }
+
 -- a round isn't answered
 pub fails_so : (given : Option ℕ) (first i j k : InputSeen) (o o' o'' : OutputSeen) (x y z : HearingValue)
     (workers : ℕ) (start talk : TalkValue) (why : ScriptKind) → IsFresh workers start
-    → Conversing workers i j o o' x y start talk → Stays j k y z [] → FailsToAnswer o' o'' why
+    → Conversing workers i j o o' x y start talk → Stays j k y z [] → FailsToAnswer talk o' o'' why
     → Begins given first i x workers → EndsFor given first k o o'' why 0
 fails_so given first i j k o o' o'' x y z workers start talk why fresh c s h b =
     by_kind why h (λ same. subst (λ out. StopsEarly given first k o out) (sym same)
     (stops_early given first j k o o' y z (b.front ++ c.lines) []
     (answered given first i j o o' x y workers start talk b c fresh) s))
   where
-    by_kind : (why : ScriptKind) → FailsToAnswer o' o'' why → (o'' ≡ o' → StopsEarly given first k o o'')
+    by_kind : (why : ScriptKind) → FailsToAnswer talk o' o'' why → (o'' ≡ o' → StopsEarly given first k o o'')
         → EndsFor given first k o o'' why 0
     by_kind kind.TooLarge h early = absurd h
     by_kind kind.NotUtf8 h early = absurd h
     by_kind kind.BadLine h early = absurd h
     by_kind kind.ReadFault h early = absurd h
     by_kind kind.WriteFault h early =
-        let P : ℕ → Type 0 = λ n. RisesBy 1 n o''.failures in (subst P c.steady h, refl)
+        let P : ℕ → Type 0 = λ n. RisesBy 1 n o''.failures in (
+          breaks_off given first i j k o o' o'' x y z workers start talk fresh c s h b,
+          subst P c.steady h.failed,
+          refl,
+        )
     by_kind kind.NoPlace h early = (early h, refl)
     by_kind kind.Closed h early = (early h, refl)
     by_kind kind.Join h early = (early h, refl)
@@ -434,7 +468,7 @@ stops_begun given first i o x workers b =
     stops_early given first i i o o x x b.front [] (begun given first i o x workers b) (stays_put i x)
 
 -- the number of workers is given
-pub begins_so : (i : InputSeen) (workers : ℕ) → Begins (Some workers) i i unheard workers
+abbrev pub begins_so : (i : InputSeen) (workers : ℕ) → Begins (Some workers) i i unheard workers
 begins_so i workers = record {
   front = [];
   taken = taken_none i silence;

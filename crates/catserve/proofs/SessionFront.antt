@@ -1,6 +1,6 @@
 -- The front of a session.
-use Rattle.std.proofs.Common.{◌≡◌, ◌∙◌, refl, sym, ap, subst, ℕ, zero, suc, ◌+◌, ◌<◌, ◌≤◌, true, false, List, [], ◌∷◌}
-use Rattle.std.proofs.Common.{◌++◌, length, take, drop, arith, inl, inr, append_assoc, length-append, Option, Some}
+use Rattle.std.proofs.Common.{◌≡◌, ◌∙◌, refl, sym, ap, subst, ℕ, ◌+◌, true, false, List, [], ◌∷◌}
+use Rattle.std.proofs.Common.{◌++◌, length, take, drop, arith, inl, inr, append_assoc, length-append, Some}
 use Rattle.std.proofs.Common.{None}
 use Rattle.std.specs.List.{concat}
 use Rattle.std.specs.Str.{IsUtf8}
@@ -8,22 +8,19 @@ use Rattle.std.proofs.lemmas.List.{append-nil, length-take-le}
 use Rattle.std.proofs.lemmas.List.Folds.{concat-append}
 use Rattle.std.proofs.lemmas.Str.{IsUtf8-append, IsUtf8-nil}
 use Rattle.line_input.specs.Lines.{lines, without_end}
-use Rattle.line_input.specs.Incoming.{Incoming, MayCome, EndsLine}
+use Rattle.line_input.specs.Incoming.{Incoming, EndsLine}
 use Rattle.script_text.specs.Commands.{is_blank, workers_line}
 use Rattle.script_text.specs.LineFields.{fields}
 use Rattle.script_text.specs.Script.{commands_from, script_from, script_of}
 use Rattle.script_text.specs.declared.fault.ScriptKind.{ScriptKind}
 use Rattle.script_text.specs.declared.fault.ScriptKind.TheVariants as kind
-use Rattle.catserve.specs.declared.said.FrontLine.{FrontLine}
-use Rattle.catserve.specs.declared.said.FrontLine.TheVariants as front_line
 use Rattle.catserve.specs.Run.{InputSeen}
-use Rattle.catserve.specs.Session.{round_end, said}
-use Rattle.catserve.specs.Hearing.{HearingValue, HasTaken, Stays, EndsNext, HasPassed, Begins, Follows, BeginAlike}
+use Rattle.catserve.specs.Hearing.{HearingValue, HasTaken, Stays, HasPassed, Begins, Follows, BeginAlike}
 use Rattle.catserve.specs.Hearing.{unheard, silence, HearsNothing, HearsNoFront, FailsInFront}
 use Rattle.catserve.proofs.LinesTaken.{taken_none, taken_then, got_taken, line_cut, line_whole}
 use Rattle.catserve.proofs.SessionHears.{stays_taken}
 
-pub passed_none : (i : InputSeen) (x : HearingValue) → HasPassed i i x x []
+abbrev pub passed_none : (i : InputSeen) (x : HearingValue) → HasPassed i i x x []
 passed_none i x = record {
   taken = taken_none i x.input;
   passes = λ behind. refl;
@@ -40,16 +37,18 @@ behind_line y end = record {
   size = y.size + end;
 }
 
-line_taken : (i j : InputSeen) (x y : HearingValue) (end : ℕ) → Stays i j x y [] → EndsLine y.input 0 end
+abbrev pub line_taken : (i j : InputSeen) (x y : HearingValue) (end : ℕ) → Stays i j x y [] → EndsLine y.input 0 end
     → HasTaken i j x.input (behind_line y end).input (take end y.input.left ∷ [])
 line_taken i j x y end stays ends = got_taken i j x.input y.input (behind_line y end).input (take end y.input.left ∷ [])
     stays.got refl (line_whole y.input end) (line_cut y.input end ends)
 
-line_size : (y : HearingValue) (end : ℕ) → EndsLine y.input 0 end → length (concat (take end y.input.left ∷ [])) ≡ end
+pub line_size : (y : HearingValue) (end : ℕ) → EndsLine y.input 0 end
+    → length (concat (take end y.input.left ∷ [])) ≡ end
 line_size y end ends = ap length (append-nil (take end y.input.left)) ∙ length-take-le end y.input.left ends.within
 
 -- a line that says nothing
-pub passed_more : (i j k : InputSeen) (x y z : HearingValue) (front : List (List ℕ)) (end : ℕ) → HasPassed i j x y front
+abbrev pub passed_more : (i j k : InputSeen) (x y z : HearingValue) (front : List (List ℕ)) (end : ℕ)
+    → HasPassed i j x y front
     → Stays j k y z [] → EndsLine z.input 0 end → IsUtf8 (take end z.input.left)
     → is_blank (without_end (take end z.input.left)) ≡ true
     → HasPassed i k x (behind_line z end) (front ++ take end z.input.left ∷ [])
@@ -75,7 +74,7 @@ passed_more i j k x y z front end passed stays ends utf8 blank =
     }
 
 -- the line that gives the number of workers
-pub begins_given : (i j k : InputSeen) (y z : HearingValue) (front : List (List ℕ)) (end workers : ℕ)
+abbrev pub begins_given : (i j k : InputSeen) (y z : HearingValue) (front : List (List ℕ)) (end workers : ℕ)
     → HasPassed i j unheard y front → Stays j k y z [] → EndsLine z.input 0 end → IsUtf8 (take end z.input.left)
     → is_blank (without_end (take end z.input.left)) ≡ false
     → workers_line (fields (without_end (take end z.input.left))) ≡ Some workers
@@ -113,7 +112,7 @@ first_other number line (l ∷ behind) rest other none alike =
     ∙ none in
     rw (blank, no, blank) refl
 
-begins_first : (number : ℕ) (input : Incoming) (end : ℕ) (behind : List (List ℕ)) → EndsLine input 0 end
+pub begins_first : (number : ℕ) (input : Incoming) (end : ℕ) (behind : List (List ℕ)) → EndsLine input 0 end
     → is_blank (without_end (take end input.left)) ≡ false
     → workers_line (fields (without_end (take end input.left))) ≡ None → Follows input behind
     → script_from number behind ≡ script_of 2 (commands_from 2 number 0 behind)
@@ -122,7 +121,7 @@ begins_first number input end behind ends other none (inr (text, may, alike)) =
     first_other number (take end input.left) behind (lines (drop end input.left ++ text)) other none
     (subst (BeginAlike behind) (line_cut input end ends text may) alike)
 
-pub begins_other : (i j k : InputSeen) (y z : HearingValue) (front : List (List ℕ)) (end : ℕ)
+abbrev pub begins_other : (i j k : InputSeen) (y z : HearingValue) (front : List (List ℕ)) (end : ℕ)
     → HasPassed i j unheard y front → Stays j k y z [] → EndsLine z.input 0 end
     → is_blank (without_end (take end z.input.left)) ≡ false
     → workers_line (fields (without_end (take end z.input.left))) ≡ None → Begins None i k z 2
@@ -140,7 +139,7 @@ begins_other i j k y z front end passed stays ends other none =
     }
 
 -- the input has ended
-ended_first : (number : ℕ) (input : Incoming) (behind : List (List ℕ)) → input.left ≡ [] → input.ended ≡ true
+pub ended_first : (number : ℕ) (input : Incoming) (behind : List (List ℕ)) → input.left ≡ [] → input.ended ≡ true
     → Follows input behind → script_from number behind ≡ script_of 2 (commands_from 2 number 0 behind)
 ended_first number input behind none ended (inl alone) = rw alone refl
 ended_first number input behind none ended (inr (text, may, alike)) =
@@ -152,7 +151,8 @@ ended_first number input behind none ended (inr (text, may, alike)) =
     nothing_follows [] alike = refl
     nothing_follows (l ∷ ls) alike = absurd alike
 
-pub begins_ended : (i j k : InputSeen) (y z : HearingValue) (front : List (List ℕ)) → HasPassed i j unheard y front
+abbrev pub begins_ended : (i j k : InputSeen) (y z : HearingValue) (front : List (List ℕ))
+    → HasPassed i j unheard y front
     → Stays j k y z [] → z.input.left ≡ [] → z.input.ended ≡ true → Begins None i k z 2
 begins_ended i j k y z front passed stays none ended =
     let all = taken_then i j k silence y.input z.input front [] passed.taken (stays_taken j k y z stays) in

@@ -1,14 +1,13 @@
 -- What was heard of a session's input.
-use Rattle.std.proofs.Common.{◌≡◌, ◌∙◌, refl, sym, ap, subst, ℕ, zero, suc, ◌+◌, ◌-◌, ◌<◌, ◌≤◌, true, List, [], ◌∷◌}
-use Rattle.std.proofs.Common.{◌++◌, length, take, drop, arith, inl, inr, append_assoc, length-append}
+use Rattle.std.proofs.Common.{◌≡◌, ◌∙◌, refl, sym, ap, subst, ℕ, ◌+◌, ◌<◌, List, [], ◌∷◌}
+use Rattle.std.proofs.Common.{◌++◌, length, take, drop, arith, inl, inr, append_assoc}
 use Rattle.std.proofs.Common.{Option, Some, None, Result, Ok, Err, IsErrOf}
 use Rattle.std.specs.List.{concat}
 use Rattle.std.specs.Str.{IsUtf8}
-use Rattle.std.proofs.lemmas.List.{append-nil, length-take-le, take-append-drop}
+use Rattle.std.proofs.lemmas.List.{append-nil, length-take-le}
 use Rattle.line_input.specs.Lines.{lines, without_end}
-use Rattle.line_input.specs.Incoming.{Incoming, MayCome, EndsLine, LacksLines}
+use Rattle.line_input.specs.Incoming.{MayCome, EndsLine}
 use Rattle.line_input.proofs.Arriving.{consumes_both, rises_both, rises_later}
-use Rattle.devices.specs.Devices.{RisesBy}
 use Rattle.catalogue.specs.declared.Options.{Options}
 use Rattle.script_text.specs.Commands.{Line, Loads, line_of}
 use Rattle.desks.specs.Jobs.{Po}
@@ -22,9 +21,9 @@ use Rattle.catserve.specs.declared.said.SaidFault.{SaidFault}
 use Rattle.catserve.specs.declared.said.SaidFault.TheVariants as said_fault
 use Rattle.catserve.specs.Run.{InputSeen, FailsToRead}
 use Rattle.catserve.specs.Session.{most_lines}
-use Rattle.catserve.specs.Hearing.{HearingValue, CountsOn, HasTaken, HasGot, HasSaid, Hears, HearsEnd, Stays}
-use Rattle.catserve.specs.Hearing.{HearsBad, HearsUndecodable, HearsTooMuch, HearsNothing, HearsNone, HearsNoText}
-use Rattle.catserve.specs.Hearing.{HearsText, HearsOne, EndsNext, FailsToSay, size_behind, commands_of}
+use Rattle.catserve.specs.Hearing.{HearingValue, CountsOn, HasTaken, HasSaid, Hears, Stays}
+use Rattle.catserve.specs.Hearing.{HearsNothing, HearsNone, HearsNoText}
+use Rattle.catserve.specs.Hearing.{HearsText, HearsOne, FailsToSay, size_behind, commands_of}
 use Rattle.catserve.proofs.LinesTaken.{counts_both, taken_then, got_taken, first_same, line_cut, line_later, line_whole}
 use Rattle.catserve.proofs.LinesTaken.{stays_put}
 use Rattle.catserve.proofs.SessionLines.{says_line, says_text, bad_line, bad_text}
@@ -35,7 +34,7 @@ pub fails_later : (i j k : InputSeen) → CountsOn i j → FailsToRead j k → F
 fails_later i j k counts (inl failed) = inl (rises_later 1 i.failures j.failures k.failures counts.later failed)
 fails_later i j k counts (inr reads) = inr (rises_both 0 134217728 i.reads j.reads k.reads counts.reads reads)
 
-stays_then : (i j k : InputSeen) (x y z : HearingValue) (lost : List ℕ) → Stays i j x y [] → Stays j k y z lost
+pub stays_then : (i j k : InputSeen) (x y z : HearingValue) (lost : List ℕ) → Stays i j x y [] → Stays j k y z lost
     → Stays i k x z lost
 stays_then i j k x y z lost a b = record {
   got = record {
@@ -53,7 +52,7 @@ stays_then i j k x y z lost a b = record {
 }
 
 -- nothing was taken yet
-pub stays_taken : (i j : InputSeen) (x y : HearingValue) → Stays i j x y [] → HasTaken i j x.input y.input []
+abbrev pub stays_taken : (i j : InputSeen) (x y : HearingValue) → Stays i j x y [] → HasTaken i j x.input y.input []
 stays_taken i j x y stays = got_taken i j x.input y.input y.input [] stays.got refl refl (λ text may. refl)
 
 pub none_then : (i j k : InputSeen) (workers : ℕ) (x y z : HearingValue) (kind : ScriptKind) (line : ℕ)
@@ -91,7 +90,8 @@ none_then i j k workers x y z kind.NoPlace line a h = absurd h
 none_then i j k workers x y z kind.Closed line a h = absurd h
 none_then i j k workers x y z kind.Join line a h = absurd h
 
-pub hears_then : (i j k : InputSeen) (workers : ℕ) (x y z : HearingValue) (r : Result (Option Heard) SessionFault)
+abbrev pub hears_then : (i j k : InputSeen) (workers : ℕ) (x y z : HearingValue)
+    (r : Result (Option Heard) SessionFault)
     → Stays i j x y [] → HearsOne j k workers y z r → HearsOne i k workers x z r
 hears_then i j k workers x y z (Ok (Some thing)) a h =
     let Said : ℕ → Type 0 = λ n. HasSaid workers n h.raw (commands_of thing) in
@@ -124,7 +124,7 @@ none_of i j workers x y kind.Memory line h = h
 -- ---- a line
 
 -- it is taken off
-pub hears_line : (i : InputSeen) (workers : ℕ) (x : HearingValue) (end size : ℕ) (line : Line)
+abbrev pub hears_line : (i : InputSeen) (workers : ℕ) (x : HearingValue) (end size : ℕ) (line : Line)
     (commands : List Command) → x.number < most_lines → EndsLine x.input 0 end → IsUtf8 (take end x.input.left)
     → line_of workers (without_end (take end x.input.left)) ≡ Some line
     → ((behind : List (List ℕ)) → saying (Some line) behind ≡ Says commands 0)
@@ -173,7 +173,8 @@ hears_none i workers x end said_fault.Memory f ends undecodable bad is = rw is (
 
 -- ---- a load with its text
 
-pub hears_load : (i j : InputSeen) (workers : ℕ) (x y : HearingValue) (end count : ℕ) (domain locale bytes : List ℕ)
+abbrev pub hears_load : (i j : InputSeen) (workers : ℕ) (x y : HearingValue) (end count : ℕ)
+    (domain locale bytes : List ℕ)
     (options : Options) → x.number < most_lines
     → line_of workers (without_end (take end x.input.left)) ≡ Some (Loads domain locale options count)
     → HearsText i j x y end count bytes

@@ -1,11 +1,11 @@
 -- What the lines of a session say, one after another.
-use Rattle.std.proofs.Common.{◌≡◌, ◌∙◌, refl, sym, ap, subst, ℕ, zero, suc, ◌+◌, ◌<◌, ◌≤◌, Bool, true, false, fold}
+use Rattle.std.proofs.Common.{◌≡◌, ◌∙◌, refl, sym, ap, subst, ℕ, ◌+◌, ◌<◌, ◌≤◌, fold}
 use Rattle.std.proofs.Common.{List, [], ◌∷◌, ◌++◌, length, take, drop, arith, inl, inr, append_assoc, length-append}
-use Rattle.std.proofs.Common.{Option, Some, None, Result, Ok, Err}
+use Rattle.std.proofs.Common.{Option, Some, None, Err}
 use Rattle.std.specs.List.{concat}
 use Rattle.std.specs.Str.{IsUtf8}
 use Rattle.std.proofs.lemmas.Bool.{le-leb}
-use Rattle.std.proofs.lemmas.List.{append-nil, take-append-le, drop-append-le}
+use Rattle.std.proofs.lemmas.List.{append-nil}
 use Rattle.std.proofs.lemmas.List.Folds.{concat-append}
 use Rattle.std.proofs.lemmas.Str.{IsUtf8-append}
 use Rattle.std.proofs.Math.Seq.{take-append_seam, drop-append_seam}
@@ -14,14 +14,14 @@ use Rattle.desks.specs.Jobs.{JobValue, Po}
 use Rattle.line_input.specs.Lines.{lines, without_end}
 use Rattle.line_input.specs.Incoming.{Incoming, MayCome}
 use Rattle.script_text.specs.Commands.{Line, Loads, line_of}
-use Rattle.script_text.specs.Script.{Command, Load, Ask, Go, RoundValue, Says, IsBad, saying, and_then, commands_from}
-use Rattle.script_text.specs.Script.{script_from, script_of}
-use Rattle.script_text.specs.Gathering.{Gathered, empty_round, nothing, both, gathered, onto_open, going_on}
+use Rattle.script_text.specs.Script.{Command, Load, Says, saying, and_then, commands_from}
+use Rattle.script_text.specs.Script.{script_of}
+use Rattle.script_text.specs.Gathering.{Gathered, empty_round, nothing, both, gathered, going_on}
 use Rattle.script_text.specs.Gathering.{loads_so_far}
 use Rattle.script_text.proofs.Parsing.{skips, too_long, gathers, begins_with}
 use Rattle.catserve.specs.Run.{InputSeen}
 use Rattle.catserve.specs.Session.{round_end, said, HaveEnded}
-use Rattle.catserve.specs.Hearing.{HearingValue, HasTaken, HasSaid, BeginAlike, Follows, Begins, unheard, HasPassed}
+use Rattle.catserve.specs.Hearing.{HearingValue, HasTaken, HasSaid, BeginAlike, Follows, Begins}
 use Rattle.catserve.specs.Talking.{HasHeard}
 
 -- ---- one line
@@ -123,7 +123,7 @@ follows_end i j x y (l ∷ front) taken =
     inr (taken.more ++ [], taken.may [] none, subst P (sym cut) refl)
 
 -- the rounds that have ended
-pub ended_so : (given : Option ℕ) (first i j : InputSeen) (x y : HearingValue) (workers : ℕ)
+abbrev pub ended_so : (given : Option ℕ) (first i j : InputSeen) (x y : HearingValue) (workers : ℕ)
     (b : Begins given first i x workers) (front : List (List ℕ)) (g : Gathered) → HasTaken i j x.input y.input front
     → HasHeard workers x.number front g y.number → HaveEnded given (b.front ++ front) workers g.ended
 ended_so given first i j x y workers b front g taken heard = record {

@@ -1,5 +1,5 @@
 -- How a session goes on, thing by thing.
-use Rattle.std.proofs.Common.{◌≡◌, ◌∙◌, refl, sym, ap, subst, ℕ, zero, suc, ◌+◌, ◌<◌, ◌≤◌, Bool, true, false, fold}
+use Rattle.std.proofs.Common.{◌≡◌, ◌∙◌, refl, sym, ap, subst, ℕ, ◌+◌, ◌<◌, ◌≤◌, fold}
 use Rattle.std.proofs.Common.{List, [], ◌∷◌, ◌++◌, length, arith, append_assoc, length-append, All}
 use Rattle.std.proofs.Common.{Option, Some, None}
 use Rattle.std.specs.List.{concat, filter_map}
@@ -7,26 +7,25 @@ use Rattle.std.specs.Io.KnownBytes.{Appends}
 use Rattle.std.proofs.KnownBytes.{Appends-nil, Appends-trans}
 use Rattle.std.proofs.lemmas.List.{append-nil}
 use Rattle.std.proofs.lemmas.List.Folds.{concat-append}
-use Rattle.live_set.specs.Loads.{LoadValue}
 use Rattle.live_set.specs.Asks.{QueryValue}
 use Rattle.live_versions.specs.Seen.{SeenValue}
-use Rattle.live_versions.specs.Batches.{joined, version_of}
-use Rattle.live_versions.specs.Store.{StoreValue, HasRoom, accepted}
+use Rattle.live_versions.specs.Batches.{version_of}
+use Rattle.live_versions.specs.Store.{StoreValue, HasRoom}
 use Rattle.desks.specs.Jobs.{JobValue}
 use Rattle.desks.specs.declared.desk.Desk.{Desk}
-use Rattle.script_text.specs.Script.{Command, Load, Ask, Go, RoundValue, QuestionValue, load_count, round_of}
+use Rattle.script_text.specs.Script.{Command, Load, Ask, Go, RoundValue, QuestionValue}
 use Rattle.script_text.specs.Gathering.{Gathered, empty_round, nothing, gathered, loads_so_far}
 use Rattle.script_text.proofs.Parsing.{few_go, few_ask, few_load}
 use Rattle.catserve.specs.declared.hearing.Heard.{Heard}
 use Rattle.catserve.specs.declared.hearing.Heard.TheVariants as heard
-use Rattle.catserve.specs.Asking.{readers_of, AreAsked, GivesOne}
-use Rattle.catserve.specs.Rounds.{accepted_load, PlaysAll}
-use Rattle.catserve.specs.Running.{AreReady, HaveBook, HasLoaded, HasPlayed, PlaysOne}
+use Rattle.catserve.specs.Asking.{readers_of, AreAsked}
+use Rattle.catserve.specs.Rounds.{accepted_load}
+use Rattle.catserve.specs.Running.{Finishes, HaveBook, HasLoaded, HasPlayed, PlaysOne}
 use Rattle.catserve.specs.Run.{InputSeen, OutputSeen}
 use Rattle.catserve.specs.Session.{HaveEnded}
-use Rattle.catserve.specs.Hearing.{HearingValue, HasTaken, HasSaid, Hears, Begins, commands_of, size_behind}
+use Rattle.catserve.specs.Hearing.{HearingValue, Hears, commands_of, size_behind}
 use Rattle.catserve.specs.Talking.{TalkValue, AnswersRound, MakesLoad, GivesQuestion, Responds, IsFresh, HasTalked}
-use Rattle.catserve.specs.Talking.{HasHeard, HasOpen, Conversing}
+use Rattle.catserve.specs.Talking.{HasOpen, Conversing}
 use Rattle.catserve.proofs.Asked.{asked_more, count_of, readers-given}
 use Rattle.catserve.proofs.Playing.{loads_more, plays_more, plays_none, few_outcomes}
 use Rattle.catserve.proofs.LinesTaken.{taken_none, taken_then}
@@ -64,16 +63,24 @@ played_behind workers round was now written lines one = record {
   written = ap (λ xs. written ++ xs) one.written;
 }
 
--- the open round was answered
+-- the open round has these lines
+pub plays_open : (workers : ℕ) (g : Gathered) (start : StoreValue) (old : TalkValue) (now : StoreValue)
+    (written lines : List ℕ) → HasTalked workers g start old written
+    → Finishes (length old.desks) old.store old.desks old.held now lines
+    → HasPlayed workers (g.ended ++ g.current ∷ []) start now (written ++ lines)
+plays_open workers g start old now written lines talked finishes =
+    let one : PlaysOne (length old.desks) g.current talked.before now [] lines =
+    finishes g.current talked.before [] talked.played.none_pending talked.loaded talked.asked in
+    let P : ℕ → Type 0 = λ n. PlaysOne n g.current talked.before now [] lines in
+    plays_more workers g.ended g.current start talked.before now written (written ++ lines) talked.played
+    (played_behind workers g.current talked.before now written lines (subst P talked.count one))
+
+-- it was answered
 pub answers_one : (workers : ℕ) (g : Gathered) (start : StoreValue) (old new : TalkValue) (o o' : OutputSeen)
     (written : List ℕ) (talked : HasTalked workers g start old written) (a : AnswersRound old new o o')
     → HasPlayed workers (g.ended ++ g.current ∷ []) start new.store (written ++ a.lines)
-answers_one workers g start old new o o' written talked a =
-    let one : PlaysOne (length old.desks) g.current talked.before new.store [] a.lines =
-    a.finishes g.current talked.before [] talked.played.none_pending talked.loaded talked.asked in
-    let P : ℕ → Type 0 = λ n. PlaysOne n g.current talked.before new.store [] a.lines in
-    plays_more workers g.ended g.current start talked.before new.store written (written ++ a.lines) talked.played
-    (played_behind workers g.current talked.before new.store written a.lines (subst P talked.count one))
+answers_one workers g start old new o o' written talked a = plays_open workers g start old new.store written a.lines
+    talked a.finishes
 
 -- ---- the talk
 
@@ -90,7 +97,7 @@ talked_none workers start fresh = record {
   begun = fresh.begun;
 }
 
-talked_load : (workers : ℕ) (g : Gathered) (start : StoreValue) (old new : TalkValue) (written : List ℕ)
+pub talked_load : (workers : ℕ) (g : Gathered) (start : StoreValue) (old new : TalkValue) (written : List ℕ)
     (load : JobValue) → HasTalked workers g start old written → MakesLoad load old new
     → HasTalked workers (gathered g (Load load)) start new written
 talked_load workers g start old new written load talked makes =
@@ -108,7 +115,7 @@ talked_load workers g start old new written load talked makes =
       begun = makes.begun;
     }
 
-talked_ask : (workers : ℕ) (g : Gathered) (start : StoreValue) (old new : TalkValue) (written : List ℕ)
+pub talked_ask : (workers : ℕ) (g : Gathered) (start : StoreValue) (old new : TalkValue) (written : List ℕ)
     (worker : ℕ) (query : QueryValue) → HasTalked workers g start old written → GivesQuestion worker query old new
     → HasTalked workers (gathered g (Ask worker query)) start new written
 talked_ask workers g start old new written worker query talked gives =
@@ -131,7 +138,7 @@ talked_ask workers g start old new written worker query talked gives =
       begun = gives.begun;
     }
 
-talked_go : (workers : ℕ) (g : Gathered) (start : StoreValue) (old new : TalkValue) (o o' : OutputSeen)
+pub talked_go : (workers : ℕ) (g : Gathered) (start : StoreValue) (old new : TalkValue) (o o' : OutputSeen)
     (written : List ℕ) (talked : HasTalked workers g start old written) (a : AnswersRound old new o o')
     → HasTalked workers (gathered g Go) start new (written ++ a.lines)
 talked_go workers g start old new o o' written talked a = record {
@@ -151,7 +158,7 @@ abbrev pub ended_first : (given : Option ℕ) → (workers : ℕ) × HaveEnded g
 ended_first None = (2, record { last = empty_round; says = refl })
 ended_first (Some workers) = (workers, record { last = empty_round; says = refl })
 
-pub converses_none : (workers : ℕ) (i : InputSeen) (o : OutputSeen) (x : HearingValue) (start : TalkValue)
+abbrev pub converses_none : (workers : ℕ) (i : InputSeen) (o : OutputSeen) (x : HearingValue) (start : TalkValue)
     → 0 < x.number → IsFresh workers start → Conversing workers i i o o x x start start
 converses_none workers i o x start some fresh = record {
   lines = [];
@@ -173,7 +180,7 @@ converses_none workers i o x start some fresh = record {
 }
 
 -- the open round with some lines more
-open_more : (given : Option ℕ) (front raw : List (List ℕ)) (g h : Gathered) (size next : ℕ) → h.ended ≡ g.ended
+pub open_more : (given : Option ℕ) (front raw : List (List ℕ)) (g h : Gathered) (size next : ℕ) → h.ended ≡ g.ended
     → next ≡ size + length (concat raw) → HasOpen given front g size → HasOpen given (front ++ raw) h next
 open_more given front raw g h size next same next_is was =
     let P : List RoundValue → Type 0 = λ rs. HaveEnded given was.before was.workers rs in
@@ -193,7 +200,7 @@ open_more given front raw g h size next same next_is was =
     }
 
 -- a round has ended
-open_none : (given : Option ℕ) (front : List (List ℕ)) (g : Gathered) (size workers : ℕ) → size ≡ 0
+pub open_none : (given : Option ℕ) (front : List (List ℕ)) (g : Gathered) (size workers : ℕ) → size ≡ 0
     → HaveEnded given front workers g.ended → HasOpen given front g size
 open_none given front g size workers none ended = record {
   before = front;
@@ -205,7 +212,8 @@ open_none given front g size workers none ended = record {
 }
 
 -- something that doesn't end the round
-goes_on : (workers : ℕ) (i j k : InputSeen) (o o' o'' : OutputSeen) (x y z : HearingValue) (start old new : TalkValue)
+abbrev pub goes_on : (workers : ℕ) (i j k : InputSeen) (o o' o'' : OutputSeen) (x y z : HearingValue)
+    (start old new : TalkValue)
     (commands : List Command) (c : Conversing workers i j o o' x y start old)
     (h : Hears j k workers y z commands) (few : loads_so_far (fold gathered c.g commands) ≤ loads_so_far c.g + 1)
     → size_behind commands (y.size + length (concat h.raw)) ≡ y.size + length (concat h.raw)
@@ -231,7 +239,7 @@ goes_on workers i j k o o' o'' x y z start old new commands c h few size same ta
     }
 
 -- what was heard was done
-pub converses_more : (workers : ℕ) (i j k : InputSeen) (o o' o'' : OutputSeen) (x y z : HearingValue)
+abbrev pub converses_more : (workers : ℕ) (i j k : InputSeen) (o o' o'' : OutputSeen) (x y z : HearingValue)
     (start old new : TalkValue) (thing : Heard) → Conversing workers i j o o' x y start old
     → Hears j k workers y z (commands_of thing) → Responds thing old new o' o''
     → Conversing workers i k o o'' x z start new

@@ -1,5 +1,5 @@
 -- Private: how a session hears its input, line by line.
-use Rattle.std.specs.Prelude.{◌≡◌, ◌⊎◌, ⊤, ℕ, ◌+◌, ◌<◌, ◌≤◌, Bool, true, false, List, [], ◌∷◌, ◌++◌, length}
+use Rattle.std.specs.Prelude.{◌≡◌, ◌⊎◌, ⊤, ℕ, ◌+◌, ◌<◌, ◌≤◌, true, false, List, [], ◌∷◌, ◌++◌, length}
 use Rattle.std.specs.Prelude.{take, Option, Some, None, IfSome, IfNone, Result, Ok, Err, string_bytes}
 use Rattle.std.specs.List.{concat}
 use Rattle.std.specs.Str.{IsUtf8}
@@ -9,7 +9,6 @@ use Rattle.line_input.specs.Lines.{lines, without_end}
 use Rattle.line_input.specs.Incoming.{Incoming, MayCome, EndsLine, LacksLines}
 use Rattle.line_input.specs.declared.fault.LineInputFault.{LineInputFault}
 use Rattle.line_input.specs.declared.fault.LineInputFault.TheVariants as line_fault
-use Rattle.desks.specs.Jobs.{JobValue}
 use Rattle.script_text.specs.Commands.{Line, Blank, Loads, LoadsMo, Asks, Goes, is_blank, workers_line}
 use Rattle.script_text.specs.LineFields.{fields}
 use Rattle.script_text.specs.Script.{Command, Load, Ask, Go, Says, and_then, commands_from, script_from}

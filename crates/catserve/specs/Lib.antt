@@ -7,3 +7,4 @@ pub mod Asking
 pub mod Running
 pub mod Hearing
 pub mod Talking
+pub mod Timing

@@ -1,7 +1,7 @@
 -- What a run of a script does to the reader and the writer that it is given.
 use Rattle.std.specs.Prelude.{◌≡◌, ◌⊎◌, ℕ, List, Option, IfSome, take, Result, Ok, Err}
 use Rattle.std.specs.Io.KnownBytes.{Appends, Consumes}
-use Rattle.devices.specs.Devices.{RisesBy}
+use Rattle.devices.specs.Devices.{AppendsFront, RisesBy}
 use Rattle.script_text.specs.declared.fault.ScriptFault.{ScriptFault}
 use Rattle.script_text.specs.declared.fault.ScriptKind.{ScriptKind}
 use Rattle.script_text.specs.declared.fault.ScriptKind.TheVariants.{TooLarge, NotUtf8, BadLine, ReadFault, WriteFault}
@@ -59,12 +59,13 @@ pub record IsUnreadable (i i' : InputSeen) (o o' : OutputSeen) : Type 0 where
   pub failed : FailsToRead i i'
   pub unwritten : o' ≡ o
 
--- the text that was read has an output, which can't be written
+-- the text that was read has an output, and only some first ones of its bytes could be written
 pub record IsUnwritable (i i' : InputSeen) (o o' : OutputSeen) : Type 0 where
   pub text : List ℕ
   pub read : ReadsText i i' text
   pub output : List ℕ
   pub is : HasOutput text output
+  pub front : AppendsFront o.bytes o'.bytes output
   pub failed : RisesBy 1 o.failures o'.failures
 
 -- the text that was read is a script, for which there is no store or no thread, and nothing was written

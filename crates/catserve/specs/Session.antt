@@ -1,11 +1,15 @@
 -- What a session does: it is a script that is answered round by round, while it comes.
-use Rattle.std.specs.Prelude.{◌≡◌, ◌⊎◌, ℕ, ◌+◌, ◌<◌, ◌≤◌, Bool, true, List, [], ◌∷◌, ◌++◌, length, codes}
+use Rattle.std.specs.Prelude.{◌≡◌, ◌⊎◌, ℕ, ◌+◌, ◌<◌, ◌≤◌, Bool, true, false, List, [], ◌∷◌, ◌++◌, length, take, codes}
 use Rattle.std.specs.Prelude.{Option, Some, None, Result, Ok, Err}
 use Rattle.std.specs.List.{concat}
 use Rattle.std.specs.Str.{IsUtf8}
 use Rattle.std.specs.Io.KnownBytes.{Appends, Consumes, IsAtEnd}
-use Rattle.devices.specs.Devices.{RisesBy}
-use Rattle.line_input.specs.Lines.{lines}
+use Rattle.devices.specs.Devices.{AppendsFront, RisesBy}
+use Rattle.devices.specs.Logs.{AnswersFirst, Event, Grows, Log}
+use Rattle.catalogue.specs.declared.Options.{Options}
+use Rattle.line_input.specs.Lines.{lines, without_end}
+use Rattle.line_input.specs.Incoming.{Incoming, EndsLines, LacksEnd}
+use Rattle.script_text.specs.Commands.{Loads, line_of}
 use Rattle.script_text.specs.Script.{RoundValue, ScriptValue, commands_from, script_from, script_of}
 use Rattle.script_text.specs.Texts.{most_script}
 use Rattle.script_text.specs.declared.fault.ScriptKind.{ScriptKind}
@@ -128,13 +132,25 @@ pub record StopsEarly (given : Option ℕ) (i i' : InputSeen) (o o' : OutputSeen
   pub ended : Bool
   pub stops : StopsBehind given i i' o o' front text rest lost ended
 
+-- the rounds that have ended in the lines `front` were answered, and a prefix of the next round's lines was written
+pub record BreaksOff (given : Option ℕ) (i i' : InputSeen) (o o' : OutputSeen) : Type 0 where
+  pub front : List (List ℕ)
+  pub text : List ℕ
+  pub rest : List ℕ
+  pub ended : Bool
+  pub mid : OutputSeen
+  pub stops : StopsBehind given i i' o mid front text rest [] ended
+  pub lines : List ℕ
+  pub plays : PlaysAll stops.workers [] (stops.rounds ++ stops.ended_are.last ∷ []) (stops.output ++ lines)
+  pub written : AppendsFront mid.bytes o'.bytes lines
+
 -- why a session ends early
 abbrev pub EndsFor : Option ℕ → InputSeen → InputSeen → OutputSeen → OutputSeen → ScriptKind → ℕ → Type 0
 EndsFor given i i' o o' TooLarge line = MeetsTooMuch given i i' o o' line
 EndsFor given i i' o o' NotUtf8 line = MeetsUndecodable given i i' o o' line
 EndsFor given i i' o o' BadLine line = MeetsBadLine given i i' o o' line
 EndsFor given i i' o o' ReadFault line = StopsEarly given i i' o o' × FailsToRead i i' × (line ≡ 0)
-EndsFor given i i' o o' WriteFault line = RisesBy 1 o.failures o'.failures × (line ≡ 0)
+EndsFor given i i' o o' WriteFault line = BreaksOff given i i' o o' × RisesBy 1 o.failures o'.failures × (line ≡ 0)
 EndsFor given i i' o o' kind line = StopsEarly given i i' o o' × (line ≡ 0)
 
 -- what a session did, by its answer
@@ -142,3 +158,48 @@ abbrev pub Converses : {T : Type 0} → Option ℕ → InputSeen → InputSeen �
     → Result T SessionFault → Type 0
 Converses given i i' o o' (Ok _) = AnswersAll given i i' o o'
 Converses given i i' o o' (Err fault) = EndsFor given i i' o o' fault.kind fault.line
+
+-- ---- when a session answers
+
+-- bytes of an input that goes on
+abbrev pub coming : List ℕ → Incoming
+coming left = record { left = left; ended = false }
+
+-- the first line is a load, and fewer lines of its text have come than it counts
+pub record IsOpenLoad (workers : ℕ) (left : List ℕ) : Type 0 where
+  pub end : ℕ
+  pub first : EndsLines 1 (coming left) 0 end
+  pub domain : List ℕ
+  pub locale : List ℕ
+  pub options : Options
+  pub count : ℕ
+  pub says : line_of workers (without_end (take end left)) ≡ Some (Loads domain locale options count)
+  pub lines : ℕ
+  pub fewer : lines < count
+  pub text_end : ℕ
+  pub ends : EndsLines lines (coming left) end text_end
+  pub lacks : LacksEnd left text_end (length left)
+
+-- no whole line has come, or a load without its whole text: no round ends here
+abbrev pub IsOpen : ℕ → List ℕ → Type 0
+IsOpen workers left = LacksEnd left 0 (length left) ⊎ IsOpenLoad workers left
+
+-- The output is that of the rounds that have ended in the text, and of no other round: they have ended in its lines
+-- `front`, and no round ends in the rest.
+pub record IsAnswered (given : Option ℕ) (text output : List ℕ) : Type 0 where
+  pub front : List (List ℕ)
+  pub rest : List ℕ
+  pub whole : text ≡ concat front ++ rest
+  pub lines_are : (more : List ℕ) → lines (text ++ more) ≡ front ++ lines (rest ++ more)
+  pub workers : ℕ
+  pub rounds : List RoundValue
+  pub ended_are : HaveEnded given front workers rounds
+  pub plays : PlaysAll workers [] rounds output
+  pub is_open : IsOpen workers rest
+
+-- before each read, the output of all rounds that had ended was written, and nothing else: no answer is due while the
+-- session waits
+pub record AnswersInTime (given : Option ℕ) (log log' : Log) : Type 0 where
+  pub events : List Event
+  pub logged : Grows log log' events
+  pub first : AnswersFirst (IsAnswered given) events

@@ -1,9 +1,9 @@
 -- Private: how a session is answered, round by round.
-use Rattle.std.specs.Prelude.{◌≡◌, ℕ, ◌+◌, ◌<◌, ◌≤◌, Bool, true, false, List, [], ◌∷◌, ◌++◌, length, Option, Result}
+use Rattle.std.specs.Prelude.{◌≡◌, ℕ, ◌+◌, ◌<◌, ◌≤◌, Bool, true, false, List, [], ◌++◌, length, Option, Result}
 use Rattle.std.specs.List.{concat}
 use Rattle.std.specs.Str.{IsUtf8}
 use Rattle.std.specs.Io.KnownBytes.{Appends}
-use Rattle.devices.specs.Devices.{RisesBy}
+use Rattle.devices.specs.Devices.{AppendsFront, RisesBy}
 use Rattle.live_set.specs.Asks.{QueryValue}
 use Rattle.live_versions.specs.Store.{StoreValue}
 use Rattle.desks.specs.Jobs.{JobValue}
@@ -61,14 +61,22 @@ Responds (heard.Load job) old new o o' = MakesLoad job old new × (o' ≡ o)
 Responds (heard.Ask worker query) old new o o' = GivesQuestion worker query old new × (o' ≡ o)
 Responds heard.Go old new o o' = AnswersRound old new o o'
 
+-- the round was finished, and some first ones of its bytes were written before the writer failed
+pub record BreaksRound (old : TalkValue) (o o' : OutputSeen) : Type 0 where
+  pub lines : List ℕ
+  pub store : StoreValue
+  pub finishes : Finishes (length old.desks) old.store old.desks old.held store lines
+  pub front : AppendsFront o.bytes o'.bytes lines
+  pub failed : RisesBy 1 o.failures o'.failures
+
 -- why a round isn't answered
-abbrev pub FailsToAnswer : OutputSeen → OutputSeen → ScriptKind → Type 0
-FailsToAnswer o o' WriteFault = RisesBy 1 o.failures o'.failures
-FailsToAnswer o o' NoPlace = o' ≡ o
-FailsToAnswer o o' Closed = o' ≡ o
-FailsToAnswer o o' Join = o' ≡ o
-FailsToAnswer o o' Memory = o' ≡ o
-FailsToAnswer o o' _ = ⊥
+abbrev pub FailsToAnswer : TalkValue → OutputSeen → OutputSeen → ScriptKind → Type 0
+FailsToAnswer old o o' WriteFault = BreaksRound old o o'
+FailsToAnswer old o o' NoPlace = o' ≡ o
+FailsToAnswer old o o' Closed = o' ≡ o
+FailsToAnswer old o o' Join = o' ≡ o
+FailsToAnswer old o o' Memory = o' ≡ o
+FailsToAnswer old o o' _ = ⊥
 
 -- a talk at the beginning of a session
 pub record IsFresh (workers : ℕ) (talk : TalkValue) : Type 0 where

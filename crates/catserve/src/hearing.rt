@@ -4,10 +4,12 @@ ghost use Rattle.std.specs.Str.{IsUtf8};
 ghost use Rattle.line_input.specs.Lines.{without_end};
 ghost use Rattle.script_text.specs.Commands.{line_of};
 ghost use Rattle.line_input.specs.Incoming.{EndsLine};
+ghost use Rattle.line_input.specs.Waiting.{ReadsWhile, StillCounts, StillWaits, WaitsUntil};
+ghost use Rattle.catserve.specs.Timing.{BeginsInTime, HearsInTime, ReadsText};
 ghost use Rattle.catserve.specs.Run.{input_seen};
-ghost use Rattle.catserve.specs.Session.{most_lines};
-ghost use Rattle.catserve.specs.Hearing.{unheard, Begins, EndsNext, FailsFor, FailsInFront, HearsNothing, HearsNoText};
-ghost use Rattle.catserve.specs.Hearing.{said_value, FailsToSay, HearsOne, HearsText};
+ghost use Rattle.catserve.specs.Session.{most_lines, AnswersInTime};
+ghost use Rattle.catserve.specs.Hearing.{unheard, EndsNext, FailsFor, FailsInFront, HearsNothing, HearsNoText};
+ghost use Rattle.catserve.specs.Hearing.{said_value, FailsToSay, HearsText};
 
 use crate::said::{FrontLine, Said, SaidFault, read_front_line, read_said};
 use crate::session_fault::SessionFault;
@@ -121,6 +123,9 @@ impl Hearing {
         ensures fault { let input = input_seen R.remaining R.reads R.failures in
             IfErr result (λ fault.
             HearsNothing (input reader.old) (input reader.new) self.old self.new fault.kind fault.line) }
+        ensures waits { WaitsUntil (R.log reader.old) (R.log reader.new) self.old.input self.new.input
+            (StillWaits self.old.input 0) result }
+        ensures keeps { R.output reader.new ≡ R.output reader.old }
     {
         if self.number >= MOST_LINES {
             return Err(self.fault_here(ScriptKind::TooLarge));
@@ -148,6 +153,11 @@ impl Hearing {
         ensures fault { let input = input_seen R.remaining R.reads R.failures in
             IfErr result (λ fault.
             HearsNoText (input reader.old) (input reader.new) self.old self.new end count fault.kind fault.line) }
+        ensures waits { IfOk result (λ bytes. ReadsText (R.log reader.old) (R.log reader.new) self.old.input
+            self.new.input end count bytes.items) }
+        ensures waited { IfErr result (λ _. ReadsWhile (R.log reader.old) (R.log reader.new)
+            (StillCounts count self.old.input end)) }
+        ensures keeps { R.output reader.new ≡ R.output reader.old }
     {
         let most = MOST_SCRIPT - self.size;
         let found = match self.input.lines_end(reader, end, count, most) {
@@ -191,9 +201,11 @@ impl Hearing {
         requires size { self.old.size + end ≤ 67108864 }
         requires few { self.old.number < most_lines }
         requires utf8 { IsUtf8 (take end self.old.input.left) }
-        ensures { let input = input_seen R.remaining R.reads R.failures in (workers : ℕ)
+        ensures heard { let input = input_seen R.remaining R.reads R.failures in (workers : ℕ)
             → line_of workers (without_end (take end self.old.input.left)) ≡ Some (said_value said)
-            → HearsOne (input reader.old) (input reader.new) workers self.old self.new result }
+            → HearsInTime (input reader.old) (input reader.new) (R.log reader.old) (R.log reader.new) workers self.old
+            self.new result }
+        ensures keeps { R.output reader.new ≡ R.output reader.old }
     {
         match said {
             Said::Nothing => {
@@ -244,8 +256,10 @@ impl Hearing {
         workers: u32,
         reader: &mut R,
     ) -> Result<Option<Heard>, SessionFault>
-        ensures { let input = input_seen R.remaining R.reads R.failures in
-            HearsOne (input reader.old) (input reader.new) workers self.old self.new result }
+        ensures heard { let input = input_seen R.remaining R.reads R.failures in
+            HearsInTime (input reader.old) (input reader.new) (R.log reader.old) (R.log reader.new) workers self.old
+            self.new result }
+        ensures keeps { R.output reader.new ≡ R.output reader.old }
     {
         let found = match self.next_end(reader) {
             Ok(found) => found,
@@ -265,9 +279,12 @@ impl Hearing {
     pub(crate) fn hear_front<R: Source>(&mut self, reader: &mut R) -> Result<u32, SessionFault>
         requires { self.old ≡ unheard }
         ensures begins { let input = input_seen R.remaining R.reads R.failures in
-            IfOk result (λ workers. Begins None (input reader.old) (input reader.new) self.new workers) }
+            IfOk result (λ workers. BeginsInTime None (input reader.old) (input reader.new) self.new workers
+            (R.log reader.old) (R.log reader.new)) }
         ensures fault { let input = input_seen R.remaining R.reads R.failures in
             IfErr result (λ fault. FailsInFront (input reader.old) (input reader.new) fault.kind fault.line) }
+        ensures in_time { IfErr result (λ _. AnswersInTime None (R.log reader.old) (R.log reader.new)) }
+        ensures keeps { R.output reader.new ≡ R.output reader.old }
     {
         'front: while let Some(end) = self.next_end(reader)? {
             match read_front_line(&self.input.left()[..end]) {

@@ -115,7 +115,8 @@ fn read_text<R: Source>(alloc: Global, reader: &mut R) -> Result<Vec<u8>, Script
 ///
 /// Each round's loads are made and published, and then the workers answer what the round asks them, beside one another
 /// (`desks::serve`). There are two, or as many as the line `workers` says. At most 67,108,865 bytes are read, in at
-/// most 134,217,728 reads. After every fault but `WriteFault` nothing was written; what a failed write left is open.
+/// most 134,217,728 reads. After every fault but `WriteFault` nothing was written; after a failed write a prefix of the
+/// output was.
 /// `NoPlace`, `Closed` and `Join` are answered only for a text that is a script.
 pub fn run_script<T: Threads + Wait + Sync, R: Source, W: Sink>(
     rt: &T,

@@ -1,8 +1,9 @@
 //! A session: a script that is answered round by round, while it comes.
 ghost use Rattle.std.specs.Prelude.{◌≡◌, ◌<◌};
 ghost use Rattle.catserve.specs.Run.{input_seen, output_seen};
-ghost use Rattle.catserve.specs.Session.{Converses};
+ghost use Rattle.catserve.specs.Session.{AnswersInTime, Converses};
 ghost use Rattle.catserve.specs.Talking.{Continues, IsFresh};
+ghost use Rattle.catserve.specs.Timing.{ContinuesInTime};
 
 use crate::asking::open_desks;
 use crate::hearing::Hearing;
@@ -16,43 +17,47 @@ use std::sync::Wait;
 use std::thread::Threads;
 
 /// Hears and answers what comes behind the front of a session, to the end of the input.
-fn converse<T: Threads + Wait + Sync, R: Source, W: Sink>(
+fn converse<T: Threads + Wait + Sync, D: Source + Sink>(
     rt: &T,
     alloc: Global,
     workers: u32,
     hearing: &mut Hearing,
     talk: &mut Talk,
-    reader: &mut R,
-    writer: &mut W,
+    device: &mut D,
 ) -> Result<(), SessionFault>
     requires number { 0 < hearing.old.number }
     requires fresh { IsFresh workers talk.old }
-    ensures { let input = input_seen R.remaining R.reads R.failures in let output = output_seen W.contents W.failures in
-        Continues workers (input reader.old) (input reader.new) (output writer.old) (output writer.new) hearing.old
+    ensures all { let input = input_seen D.remaining D.reads D.Source.failures in
+        let output = output_seen D.contents D.Sink.failures in
+        Continues workers (input device.old) (input device.new) (output device.old) (output device.new) hearing.old
         result }
+    ensures in_time { let input = input_seen D.remaining D.reads D.Source.failures in
+        ContinuesInTime workers (input device.old) hearing.old (D.log device.old) (D.log device.new) }
 {
-    'lines: while let Some(thing) = hearing.hear(alloc, workers, reader)? {
-        talk.respond(rt, alloc, thing, writer)?;
+    'lines: while let Some(thing) = hearing.hear(alloc, workers, device)? {
+        talk.respond(rt, alloc, thing, device)?;
     }
     if talk.has_begun() {
-        talk.answer(rt, alloc, writer)?;
+        talk.answer(rt, alloc, device)?;
     }
     Ok(())
 }
 
 /// Opens a store for so many workers, and answers what comes behind the front of a session.
-fn converse_by_store<T: Threads + Wait + Sync, R: Source, W: Sink>(
+fn converse_by_store<T: Threads + Wait + Sync, D: Source + Sink>(
     rt: &T,
     alloc: Global,
     workers: u32,
     hearing: &mut Hearing,
-    reader: &mut R,
-    writer: &mut W,
+    device: &mut D,
 ) -> Result<(), SessionFault>
     requires { 0 < hearing.old.number }
-    ensures { let input = input_seen R.remaining R.reads R.failures in let output = output_seen W.contents W.failures in
-        Continues workers (input reader.old) (input reader.new) (output writer.old) (output writer.new) hearing.old
+    ensures all { let input = input_seen D.remaining D.reads D.Source.failures in
+        let output = output_seen D.contents D.Sink.failures in
+        Continues workers (input device.old) (input device.new) (output device.old) (output device.new) hearing.old
         result }
+    ensures in_time { let input = input_seen D.remaining D.reads D.Source.failures in
+        ContinuesInTime workers (input device.old) hearing.old (D.log device.old) (D.log device.new) }
 {
     let (publisher, readers) = match open_store(rt, alloc, workers, u64::MAX) {
         Ok(opened) => opened,
@@ -62,7 +67,7 @@ fn converse_by_store<T: Threads + Wait + Sync, R: Source, W: Sink>(
     match open_desks(alloc, readers) {
         Ok(desks) => {
             let mut talk = Talk::new(alloc, publisher, desks);
-            let done = converse(rt, alloc, workers, hearing, &mut talk, reader, writer);
+            let done = converse(rt, alloc, workers, hearing, &mut talk, device);
             talk.end(rt);
             done
         }
@@ -76,30 +81,32 @@ fn converse_by_store<T: Threads + Wait + Sync, R: Source, W: Sink>(
 /// Reads a script as it comes, and answers each round when its `go` has come, by a store of its own with a reader for
 /// each worker.
 ///
-/// A round's lines are written and flushed in one piece before the next line is waited for. At the end of the input the
-/// last round is answered too, if a load or a question stands in it. The number of workers may be given; else the first
-/// line that says something may give it, as in a script, or there are two. `NoPlace` is answered where it isn't 1 to
-/// 16.
+/// A round's lines are written and flushed in one piece. Before each read that gives bytes or the end of the input, the
+/// output of all rounds that had ended has been written, and nothing else. At the end of the input the last round is
+/// answered too, if it has a load or a question. The number of workers may be given; else the first line that says
+/// something may give it, as in a script, or there are two. `NoPlace` is answered where it isn't 1 to 16.
 ///
 /// A round has at most 67,108,864 bytes, with the lines in it that say nothing, and a session at most 2^63 lines. For
 /// each line at most 134,217,728 reads are made; how many a session makes is not limited. After a fault the rounds that
-/// ended before it are answered, and nothing is written of the open one; what a failed write left is open.
-pub fn run_session<T: Threads + Wait + Sync, R: Source, W: Sink>(
+/// ended before it are answered, and nothing is written of the open one. After a failed write a prefix of the next
+/// round's lines was written too.
+pub fn run_session<T: Threads + Wait + Sync, D: Source + Sink>(
     rt: &T,
     alloc: Global,
     workers: Option<u32>,
-    reader: &mut R,
-    writer: &mut W,
+    device: &mut D,
 ) -> Result<(), SessionFault>
-    ensures { let input = input_seen R.remaining R.reads R.failures in let output = output_seen W.contents W.failures in
-        Converses workers (input reader.old) (input reader.new) (output writer.old) (output writer.new) result }
+    ensures all { let input = input_seen D.remaining D.reads D.Source.failures in
+        let output = output_seen D.contents D.Sink.failures in
+        Converses workers (input device.old) (input device.new) (output device.old) (output device.new) result }
+    ensures in_time { AnswersInTime workers (D.log device.old) (D.log device.new) }
 {
     let mut hearing = Hearing::new(alloc)?;
     match workers {
-        Some(count) => converse_by_store(rt, alloc, count, &mut hearing, reader, writer),
+        Some(count) => converse_by_store(rt, alloc, count, &mut hearing, device),
         None => {
-            let count = hearing.hear_front(reader)?;
-            converse_by_store(rt, alloc, count, &mut hearing, reader, writer)
+            let count = hearing.hear_front(device)?;
+            converse_by_store(rt, alloc, count, &mut hearing, device)
         }
     }
 }

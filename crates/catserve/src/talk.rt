@@ -4,7 +4,8 @@ ghost use Rattle.live_versions.specs.Store.{HasRoom};
 ghost use Rattle.script_text.specs.LineValues.{source_value};
 ghost use Rattle.catserve.specs.Run.{output_seen};
 ghost use Rattle.catserve.specs.Running.{HaveBook, LoadsOne};
-ghost use Rattle.catserve.specs.Talking.{AnswersRound, FailsToAnswer, GivesQuestion, MakesLoad, Responds};
+ghost use Rattle.catserve.specs.Talking.{FailsToAnswer, GivesQuestion, MakesLoad};
+ghost use Rattle.catserve.specs.Timing.{GivesRound, GivesSome, RespondsInTime};
 
 use crate::asking::give;
 use crate::hearing::Heard;
@@ -152,9 +153,12 @@ impl Talk {
         requires book { HaveBook self.old.store.seen self.old.desks }
         requires count { (1 ≤ length self.old.desks) × (length self.old.desks ≤ 16) }
         ensures ok { let output = output_seen W.contents W.failures in
-            IfOk result (λ _. AnswersRound self.old self.new (output writer.old) (output writer.new)) }
+            IfOk result (λ _. GivesRound self.old self.new (output writer.old) (output writer.new) (W.log writer.old)
+            (W.log writer.new)) }
         ensures fault { let output = output_seen W.contents W.failures in
-            IfErr result (λ kind. FailsToAnswer (output writer.old) (output writer.new) kind) }
+            IfErr result (λ kind. FailsToAnswer self.old (output writer.old) (output writer.new) kind) }
+        ensures broken { IfErr result (λ _. GivesSome (W.log writer.old) (W.log writer.new)) }
+        ensures keeps { W.input writer.new ≡ W.input writer.old }
     {
         finish(
             rt,
@@ -163,12 +167,14 @@ impl Talk {
             &mut self.desks,
             &mut self.held,
         )?;
-        if writer.write_all(self.held.as_slice()).is_err() {
-            return Err(ScriptKind::WriteFault);
+        match writer.write_all(self.held.as_slice()) {
+            Ok(()) => {
+                self.held.clear();
+                self.begun = false;
+                Ok(())
+            }
+            Err(_) => Err(ScriptKind::WriteFault),
         }
-        self.held.clear();
-        self.begun = false;
-        Ok(())
     }
 
     /// Does what was heard. Only the end of a round is answered.
@@ -183,9 +189,12 @@ impl Talk {
         requires book { HaveBook self.old.store.seen self.old.desks }
         requires count { (1 ≤ length self.old.desks) × (length self.old.desks ≤ 16) }
         ensures ok { let output = output_seen W.contents W.failures in
-            IfOk result (λ _. Responds thing self.old self.new (output writer.old) (output writer.new)) }
+            IfOk result (λ _. RespondsInTime thing self.old self.new (output writer.old) (output writer.new)
+            (W.log writer.old) (W.log writer.new)) }
         ensures fault { let output = output_seen W.contents W.failures in
-            IfErr result (λ kind. FailsToAnswer (output writer.old) (output writer.new) kind) }
+            IfErr result (λ kind. FailsToAnswer self.old (output writer.old) (output writer.new) kind) }
+        ensures broken { IfErr result (λ _. GivesSome (W.log writer.old) (W.log writer.new)) }
+        ensures keeps { W.input writer.new ≡ W.input writer.old }
     {
         match thing {
             Heard::Nothing => Ok(()),

@@ -1,4 +1,4 @@
-//! The program `catsession`: it reads its words, and hands standard input and standard output to
+//! The program `catsession`: it reads its words, and hands standard input and standard output as one device to
 //! `catserve::run_session`. It ends with the exit status 0 or 1.
 #![tactic(auto)]
 
@@ -6,7 +6,7 @@ mod words;
 
 use crate::words::{Asked, WordsFault, read_words};
 use catserve::{ScriptKind, SessionFault, run_session};
-use devices::{Reading, Sink, Writing};
+use devices::{Pair, Reading, Sink, Writing};
 use std::alloc::Global;
 use std::io;
 use std::process::ExitCode;
@@ -46,8 +46,11 @@ fn main(rt: HostRuntime) -> ExitCode {
         Ok(Asked::Version) => return print(VERSION, &mut writer, &mut errors),
         Err(fault) => return refuse_words(alloc, fault, &mut errors),
     };
-    let mut reader = Reading::new(rt.stdin());
-    match run_session(&rt, alloc, workers, &mut reader, &mut writer) {
+    let mut device = Pair {
+        reader: Reading::new(rt.stdin()),
+        writer,
+    };
+    match run_session(&rt, alloc, workers, &mut device) {
         Ok(()) => ExitCode::SUCCESS,
         Err(fault) => {
             tell(alloc, fault, &mut errors);

@@ -1,5 +1,6 @@
 -- How devices count their reads and failures.
-use Rattle.std.specs.Prelude.{◌⊎◌, ◌≤◌, ◌+◌, ℕ, Result, IsErrOf}
+use Rattle.std.specs.Prelude.{◌⊎◌, ◌≤◌, ◌+◌, ℕ, List, Option, None, Result, IsErrOf, take}
+use Rattle.std.specs.Io.KnownBytes.{Appends}
 use Rattle.devices.specs.declared.device.ReadFault.{ReadFault}
 use Rattle.devices.specs.declared.device.ReadFault.TheVariants.{Failed}
 
@@ -16,3 +17,26 @@ pub record CountsRead {T : Type 0} (failures failures' reads reads' : ℕ) (resu
   pub later : failures ≤ failures'
   pub counted : RisesBy 1 reads reads'
   pub failed : IsErrOf result Failed → RisesBy 1 failures failures'
+
+-- what is known of the reading side of a device: the bytes still to be read, where they are told, and the counts
+pub record InputSeen : Type 0 where
+  pub left : Option (List ℕ)
+  pub reads : ℕ
+  pub failures : ℕ
+
+-- what is known of the writing side: the bytes that were written, where they are told, and the count of failures
+pub record OutputSeen : Type 0 where
+  pub bytes : Option (List ℕ)
+  pub failures : ℕ
+
+-- a device that isn't read
+abbrev pub unread : InputSeen
+unread = record { left = None; reads = 0; failures = 0 }
+
+-- a device that isn't written
+abbrev pub unwritten : OutputSeen
+unwritten = record { bytes = None; failures = 0 }
+
+-- some first ones of the bytes were written
+abbrev pub AppendsFront : Option (List ℕ) → Option (List ℕ) → List ℕ → Type 0
+AppendsFront old new bytes = (n : ℕ) × Appends old new (take n bytes)

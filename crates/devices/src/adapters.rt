@@ -1,8 +1,9 @@
 //! The readers and writers of `std::io` as devices.
-ghost use Rattle.std.specs.Prelude.{◌≡◌, OnOk};
+ghost use Rattle.std.specs.Prelude.{◌≡◌, IfErr, None, OnOk, refl};
 ghost use Rattle.std.specs.Io.KnownBytes.{Appends};
+ghost use Rattle.devices.specs.Devices.{AppendsFront, unread, unwritten};
 
-use crate::device::{ReadFault, Sink, Source, WriteFault};
+use crate::device::{Device, ReadFault, Sink, Source, WriteFault};
 use std::io;
 use std::io::{Read, Write};
 
@@ -30,12 +31,22 @@ impl<R> Reading<R> {
     }
 }
 
+impl<R: Read> Device for Reading<R> {
+    ghost log = { λ _. None };
+
+    ghost input = { λ r. record { left = R.remaining r.inner; reads = r.reads; failures = r.failures } };
+
+    ghost output = { λ _. unwritten };
+}
+
 impl<R: Read> Source for Reading<R> {
     ghost remaining = { λ r. R.remaining r.inner };
 
     ghost failures = { λ r. r.failures };
 
     ghost reads = { λ r. r.reads };
+
+    ghost sees = { λ _. refl };
 
     fn read(&mut self, buf: &mut [u8]) -> Result<usize, ReadFault> {
         self.reads = self.reads.saturating_add(1);
@@ -70,12 +81,39 @@ impl<W> Writing<W> {
     }
 }
 
-/// Writes all the bytes and flushes.
-fn write_through<W: Write>(writer: &mut W, bytes: &[u8]) -> io::Result<()>
-    ensures { OnOk result (Appends (W.contents writer.old) (W.contents writer.new) bytes.now) }
+/// Writes all the bytes, and flushes. A write that is interrupted is tried again.
+#[tactic(auto, using(crate::proofs::WriteLemmas::many_writes))]
+fn write_through<W: Write>(writer: &mut W, bytes: &[u8]) -> Result<(), WriteFault>
+    ensures bytes { OnOk result (Appends (W.contents writer.old) (W.contents writer.new) bytes.now) }
+    ensures front { IfErr result (λ _. AppendsFront (W.contents writer.old) (W.contents writer.new) bytes.now) }
 {
-    writer.write_all(bytes)?;
-    writer.flush()
+    let mut written = 0;
+    'writes: for turn in 0..u64::MAX {
+        if written == bytes.len() {
+            return match writer.flush() {
+                Ok(()) => Ok(()),
+                Err(_) => Err(WriteFault),
+            };
+        }
+        match writer.write(&bytes[written..]) {
+            Ok(0) => return Err(WriteFault),
+            Ok(n) => written += n,
+            Err(error) => {
+                if error.kind() != io::ErrorKind::Interrupted {
+                    return Err(WriteFault);
+                }
+            }
+        }
+    }
+    Err(WriteFault)
+}
+
+impl<W: Write> Device for Writing<W> {
+    ghost log = { λ _. None };
+
+    ghost input = { λ _. unread };
+
+    ghost output = { λ w. record { bytes = W.contents w.inner; failures = w.failures } };
 }
 
 impl<W: Write> Sink for Writing<W> {
@@ -83,12 +121,14 @@ impl<W: Write> Sink for Writing<W> {
 
     ghost failures = { λ w. w.failures };
 
+    ghost shows = { λ _. refl };
+
     fn write_all(&mut self, bytes: &[u8]) -> Result<(), WriteFault> {
         match write_through(&mut self.inner, bytes) {
             Ok(()) => Ok(()),
-            Err(_) => {
+            Err(fault) => {
                 self.failures = self.failures.saturating_add(1);
-                Err(WriteFault)
+                Err(fault)
             }
         }
     }

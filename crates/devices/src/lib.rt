@@ -9,8 +9,10 @@ mod adapters;
 mod device;
 mod file;
 mod input;
+mod pair;
 
 pub use adapters::{Reading, Writing};
-pub use device::{ReadFault, Sink, Source, WriteFault};
+pub use device::{Device, ReadFault, Sink, Source, WriteFault};
 pub use file::{FileFault, Files};
 pub use input::{InputFault, MOST_READS, read_all};
+pub use pair::Pair;

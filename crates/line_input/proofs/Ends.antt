@@ -7,7 +7,7 @@ use Rattle.line_input.specs.Seeking.{IsKnownEnd, HasNoEnd}
 use Rattle.std.proofs.lemmas.List.{append-nil, get_or-drop, drop-drop, take_all, drop_all}
 use Rattle.std.specs.List.{slice_index}
 use Rattle.line_input.specs.Lines.{is_line_end, lines}
-use Rattle.line_input.specs.Incoming.{Incoming, MayCome, LacksEnd, EndsLine}
+use Rattle.line_input.specs.Incoming.{Incoming, LacksEnd, EndsLine}
 
 -- a line that ends in the first LF of a text
 ends_at : (xs text : List ℕ) (n : ℕ) → n < length xs → ((k : ℕ) → k < n → is_line_end (get_or xs k 0) ≡ false)

@@ -2,3 +2,4 @@ pub mod Ends
 pub mod Arriving
 pub mod LineSeeking
 pub mod LineCounting
+pub mod Waitings

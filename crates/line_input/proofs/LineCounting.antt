@@ -8,7 +8,7 @@ use Rattle.std.proofs.lemmas.Bool.{cases_Bool, cases_lt}
 use Rattle.std.proofs.lemmas.List.{append-nil, drop-append-le, take-append-le, drop-drop, drop_all, get_or-drop}
 use Rattle.std.proofs.lemmas.List.{get_or_append_left, get_or-append_right}
 use Rattle.std.proofs.lemmas.List.Sums.{fails_before_first, passes_at_first}
-use Rattle.std.specs.List.{concat, onto_first, position_or_len, slice_index}
+use Rattle.std.specs.List.{concat, onto_first, position_or_len}
 use Rattle.devices.specs.Devices.{RisesBy}
 use Rattle.line_input.specs.Lines.{is_line_end, lines}
 use Rattle.line_input.specs.Incoming.{Incoming, MayCome, HasLineEnd, HasEnd, HasEnds, EndsLine, EndsLines, CutsLines}
@@ -51,7 +51,7 @@ some_line (x ∷ xs) some = elim (cases_Bool (is_line_end x)) [
 
 -- ---- more comes
 
-ends_grown : (count : ℕ) (x y : Incoming) (from end : ℕ) (more : List ℕ) → x.ended ≡ false → y.left ≡ x.left ++ more
+pub ends_grown : (count : ℕ) (x y : Incoming) (from end : ℕ) (more : List ℕ) → x.ended ≡ false → y.left ≡ x.left ++ more
     → EndsLines count x from end → EndsLines count y from end
 ends_grown count x y from end more going grown had = record {
   low = had.low;
@@ -84,7 +84,7 @@ ends_later count a b x y from end adds had = elim (cases_Bool x.ended) [
 
 -- ---- one line more
 
-ends_none : (input : Incoming) (from : ℕ) → from ≤ length input.left → EndsLines 0 input from from
+pub ends_none : (input : Incoming) (from : ℕ) → from ≤ length input.left → EndsLines 0 input from from
 ends_none input from within = record {
   low = omega arith;
   within = within;
@@ -95,7 +95,7 @@ ends_none input from within = record {
   };
 }
 
-ends_more : (count : ℕ) (input : Incoming) (from end behind : ℕ) → EndsLines count input from end
+pub ends_more : (count : ℕ) (input : Incoming) (from end behind : ℕ) → EndsLines count input from end
     → EndsLine input end behind → EndsLines (count + 1) input from behind
 ends_more count input from end behind had line = record {
   low = omega (arith, had.low, line.some);

@@ -1,12 +1,12 @@
 -- What stands after some reads while the end of a line is looked for.
-use Rattle.std.proofs.Common.{◌≡◌, ◌∙◌, refl, sym, ap, ℕ, ◌+◌, ◌<◌, ◌≤◌, Bool, true, false, List, length, arith}
-use Rattle.std.proofs.Common.{inl, inr, append-nil, length-append, Option, Some, None, get_or, ◌++◌, subst}
+use Rattle.std.proofs.Common.{◌≡◌, ap, ℕ, ◌+◌, ◌<◌, ◌≤◌, true, List, length, arith}
+use Rattle.std.proofs.Common.{inl, inr, length-append, Option, subst}
 use Rattle.std.proofs.lemmas.List.{get_or_append_left}
 use Rattle.std.specs.List.{slice_index}
 use Rattle.std.specs.Io.KnownBytes.{IsAtEnd}
 use Rattle.devices.specs.Devices.{RisesBy}
 use Rattle.line_input.specs.Lines.{is_line_end}
-use Rattle.line_input.specs.Incoming.{Incoming, LacksEnd, HasLineEnd, HasEnd}
+use Rattle.line_input.specs.Incoming.{Incoming, LacksEnd, HasEnd}
 use Rattle.line_input.specs.Arrivals.{AddsInput}
 use Rattle.line_input.specs.Seeking.{AddsBytes, HasNoEnd, IsKnownEnd}
 use Rattle.line_input.proofs.Arriving.{adds_none, adds_read, adds_then, both, rises_both, rises_none}

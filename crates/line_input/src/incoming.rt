@@ -6,6 +6,7 @@ ghost use Rattle.devices.specs.Devices.{RisesBy};
 ghost use Rattle.line_input.specs.Incoming.{HasEnd, HasEnds, EndsFewer, EndsLine, EndsLines, LacksEnd};
 ghost use Rattle.line_input.specs.Incoming.{LacksLines};
 ghost use Rattle.line_input.specs.Arrivals.{Comes};
+ghost use Rattle.line_input.specs.Waiting.{ReadsOnce, StillCounts, StillWaits, WaitsUntil};
 ghost use Rattle.line_input.specs.Seeking.{AddsBytes, LosesBytes, Reads, IsKnownEnd, HasNoEnd};
 
 use crate::fault::LineInputFault;
@@ -46,6 +47,8 @@ fn read_chunk<R: Source>(
     ensures cause { IsErrOf result LineInputFault.Unreadable
         → RisesBy 1 (R.failures reader.old) (R.failures reader.new) }
     ensures long { IsErrOf result LineInputFault.TooLong → ⊥ }
+    ensures logged { ReadsOnce (R.log reader.old) (R.log reader.new) bytes.old.items bytes.new.items result }
+    ensures keeps { R.output reader.new ≡ R.output reader.old }
 {
     match reader.read(chunk) {
         Ok(0) => Ok(true),
@@ -143,6 +146,8 @@ impl LineInput {
         ensures cause { IsErrOf result LineInputFault.Unreadable
             → RisesBy 1 (R.failures reader.old) (R.failures reader.new) }
         ensures long { IsErrOf result LineInputFault.TooLong → ⊥ }
+        ensures logged { ReadsOnce (R.log reader.old) (R.log reader.new) self.old.left self.new.left result }
+        ensures keeps { R.output reader.new ≡ R.output reader.old }
     {
         drop_front(&mut self.bytes, self.taken);
         self.taken = 0;
@@ -178,6 +183,9 @@ impl LineInput {
         ensures later { R.failures reader.old ≤ R.failures reader.new }
         ensures reads { RisesBy 0 (R.reads reader.old) (R.reads reader.new) }
         ensures lazy { HasEnd self.old from → (reader.new ≡ reader.old) × (self.new ≡ self.old) }
+        ensures waits { WaitsUntil (R.log reader.old) (R.log reader.new) self.old self.new
+            (StillWaits self.old from) result }
+        ensures keeps { R.output reader.new ≡ R.output reader.old }
     {
         let mut searched = from;
         for turn in 0..MOST_READS {
@@ -225,6 +233,9 @@ impl LineInput {
         ensures later { R.failures reader.old ≤ R.failures reader.new }
         ensures reads { RisesBy 0 (R.reads reader.old) (R.reads reader.new) }
         ensures lazy { HasEnds count self.old from → (reader.new ≡ reader.old) × (self.new ≡ self.old) }
+        ensures waits { WaitsUntil (R.log reader.old) (R.log reader.new) self.old self.new
+            (StillCounts count self.old from) result }
+        ensures keeps { R.output reader.new ≡ R.output reader.old }
     {
         let mut end = from;
         'lines: for counted in 0..count {

@@ -3,7 +3,6 @@ use Rattle.std.specs.List.{AllZip}
 use Rattle.live_versions.specs.Batches.{version_of}
 use Rattle.live_versions.specs.Store.{StoreValue}
 use Rattle.live_versions.specs.Seen.{SeenValue}
-use Rattle.desks.specs.Desks.{IsServed}
 use Rattle.desks.specs.declared.desk.Desk.{Desk}
 use Rattle.catserve.specs.Asking.{desk_lines, IsFreed}
 use Rattle.catserve.specs.Running.{AreReady}

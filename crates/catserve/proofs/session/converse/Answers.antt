@@ -1,117 +1,235 @@
-use Rattle.std.proofs.Common.{◌≡◌, ◌∙◌, ℕ, refl, sym, ap, subst, arith}
+use Rattle.std.proofs.Common.{◌≡◌, ◌∙◌, inr, sym, ap, subst, arith}
 use Rattle.std.proofs.lemmas.Result.{err_from_is_err_and}
+use Rattle.devices.specs.Logs.{Log}
 use Rattle.catserve.specs.Run.{InputSeen, OutputSeen, input_seen, output_seen}
+use Rattle.catserve.proofs.OneDevice.{as_input, as_output}
+use Rattle.catserve.specs.Session.{AnswersAll, Converses}
+use Rattle.catserve.specs.Talking.{AnswersRound, FailsToAnswer}
+use Rattle.catserve.specs.Timing.{RespondsInTime, TalksInTime}
 use Rattle.catserve.proofs.SessionEnds.{all_answered, fails_so, last_answered, none_ends, taken_stays}
-use Rattle.catserve.proofs.SessionTalk.{converses_more, converses_none, has_room}
+use Rattle.catserve.proofs.SessionInTime.{gives_none, reads_open, talks_last, talks_more, talks_none}
+use Rattle.catserve.proofs.SessionTalk.{has_room}
 use Rattle.catserve.proofs.session.converse.Goals as goal
 
 pub lines-init : goal.lines-init
-lines-init g c = converses_none c.args.workers
-    (input_seen g.R.Source.remaining g.R.Source.reads g.R.Source.failures c.args.reader.now)
-    (output_seen g.W.Sink.contents g.W.Sink.failures c.args.writer.now) c.args.hearing.now c.args.talk.now
-    c.requires.number
-    c.requires.fresh
+lines-init g c = talks_none c.args.workers
+    (input_seen g.D.Source.remaining g.D.Source.reads g.D.Source.failures c.args.device.now)
+    (output_seen g.D.Sink.contents g.D.Sink.failures c.args.device.now) c.args.hearing.now c.args.talk.now
+    (g.D.Device.log c.args.device.now) c.requires.number c.requires.fresh
 
 pub lines-preserved : goal.lines-preserved
 lines-preserved g c =
-    let i : InputSeen = input_seen g.R.Source.remaining g.R.Source.reads g.R.Source.failures c.args.reader.now in
-    let j : InputSeen = input_seen g.R.Source.remaining g.R.Source.reads g.R.Source.failures c.lines.reader in
-    let o : OutputSeen = output_seen g.W.Sink.contents g.W.Sink.failures c.args.writer.now in
-    let p : OutputSeen = output_seen g.W.Sink.contents g.W.Sink.failures c.lines.writer in
+    let i : InputSeen = input_seen g.D.Source.remaining g.D.Source.reads g.D.Source.failures c.args.device.now in
+    let j : InputSeen = input_seen g.D.Source.remaining g.D.Source.reads g.D.Source.failures c.lines.device in
+    let o : OutputSeen = output_seen g.D.Sink.contents g.D.Sink.failures c.args.device.now in
+    let p : OutputSeen = output_seen g.D.Sink.contents g.D.Sink.failures c.lines.device in
     let start = c.args.talk.now in
     let x = c.args.hearing.now in
-    let k : InputSeen = input_seen g.R.Source.remaining g.R.Source.reads g.R.Source.failures c.hear.new.reader in
-    let q : OutputSeen = output_seen g.W.Sink.contents g.W.Sink.failures c.respond.new.writer in
-    converses_more c.args.workers i j k o p q x c.lines.hearing c.hear.new.self start c.lines.talk c.respond.new.self
-    c.in-Some.thing c.lines.invariant (rw c.in-Some.is at c.in_ok-thing.ensures) c.in_ok-respond.ensures.ok
+    let k : InputSeen = input_seen g.D.Source.remaining g.D.Source.reads g.D.Source.failures c.hear.new.reader in
+    let q : OutputSeen = output_seen g.D.Sink.contents g.D.Sink.failures c.respond.new.writer in
+    let p' : OutputSeen = output_seen g.D.Sink.contents g.D.Sink.failures c.hear.new.reader in
+    let out : p' ≡ p = ap as_output (sym (g.met.D.Sink.shows c.hear.new.reader) ∙ c.in_ok-thing.ensures.keeps
+    ∙ g.met.D.Sink.shows c.lines.device) in
+    let k' : InputSeen = input_seen g.D.Source.remaining g.D.Source.reads g.D.Source.failures c.respond.new.writer in
+    let inn : k' ≡ k = ap as_input (sym (g.met.D.Source.sees c.respond.new.writer) ∙ c.in_ok-respond.ensures.keeps
+    ∙ g.met.D.Source.sees c.hear.new.reader) in
+    let a : Log = g.D.Device.log c.args.device.now in
+    let b : Log = g.D.Device.log c.lines.device in
+    let m : Log = g.D.Device.log c.hear.new.reader in
+    let d : Log = g.D.Device.log c.respond.new.writer in
+    let R : OutputSeen → Type 0 = λ v. RespondsInTime c.in-Some.thing c.lines.talk c.respond.new.self v q m d in
+    let C : InputSeen → Type 0 = λ v.
+    TalksInTime c.args.workers i v o q x c.hear.new.self start c.respond.new.self a d in
+    subst C (sym inn) (talks_more c.args.workers i j k o p q x c.lines.hearing c.hear.new.self start c.lines.talk
+    c.respond.new.self a b m d c.in-Some.thing c.requires.fresh c.lines.invariant
+    (rw c.in-Some.is at c.in_ok-thing.ensures.heard) (subst R out c.in_ok-respond.ensures.ok))
 
 pub lines-smaller : goal.lines-smaller
 lines-smaller g c =
-    let h = rw c.in-Some.is at c.in_ok-thing.ensures in
+    let h = (rw c.in-Some.is at c.in_ok-thing.ensures.heard).0 in
     omega (arith, h.few, h.number, h.said.some)
 
 pub respond-requires-clause-room : goal.respond-requires-clause-room
 respond-requires-clause-room g c κs within =
-    let i : InputSeen = input_seen g.R.Source.remaining g.R.Source.reads g.R.Source.failures c.args.reader.now in
-    let j : InputSeen = input_seen g.R.Source.remaining g.R.Source.reads g.R.Source.failures c.lines.reader in
-    let o : OutputSeen = output_seen g.W.Sink.contents g.W.Sink.failures c.args.writer.now in
-    let p : OutputSeen = output_seen g.W.Sink.contents g.W.Sink.failures c.lines.writer in
+    let i : InputSeen = input_seen g.D.Source.remaining g.D.Source.reads g.D.Source.failures c.args.device.now in
+    let j : InputSeen = input_seen g.D.Source.remaining g.D.Source.reads g.D.Source.failures c.lines.device in
+    let o : OutputSeen = output_seen g.D.Sink.contents g.D.Sink.failures c.args.device.now in
+    let p : OutputSeen = output_seen g.D.Sink.contents g.D.Sink.failures c.lines.device in
     let start = c.args.talk.now in
     let x = c.args.hearing.now in
-    let h = rw c.in-Some.is at c.in_ok-thing.ensures in
-    has_room c.args.workers i j o p x c.lines.hearing start c.lines.talk c.lines.invariant c.requires.fresh
+    let h = (rw c.in-Some.is at c.in_ok-thing.ensures.heard).0 in
+    has_room c.args.workers i j o p x c.lines.hearing start c.lines.talk c.lines.invariant.0 c.requires.fresh
     (omega (arith, h.few))
 
-pub returns-in_err-thing : goal.returns-in_err-thing
-returns-in_err-thing g c given first b =
-    let i : InputSeen = input_seen g.R.Source.remaining g.R.Source.reads g.R.Source.failures c.args.reader.now in
-    let j : InputSeen = input_seen g.R.Source.remaining g.R.Source.reads g.R.Source.failures c.lines.reader in
-    let o : OutputSeen = output_seen g.W.Sink.contents g.W.Sink.failures c.args.writer.now in
-    let p : OutputSeen = output_seen g.W.Sink.contents g.W.Sink.failures c.lines.writer in
+pub returns-in_err-thing-clause-all : goal.returns-in_err-thing-clause-all
+returns-in_err-thing-clause-all g c given first b =
+    let i : InputSeen = input_seen g.D.Source.remaining g.D.Source.reads g.D.Source.failures c.args.device.now in
+    let j : InputSeen = input_seen g.D.Source.remaining g.D.Source.reads g.D.Source.failures c.lines.device in
+    let o : OutputSeen = output_seen g.D.Sink.contents g.D.Sink.failures c.args.device.now in
+    let p : OutputSeen = output_seen g.D.Sink.contents g.D.Sink.failures c.lines.device in
     let start = c.args.talk.now in
     let x = c.args.hearing.now in
-    let k : InputSeen = input_seen g.R.Source.remaining g.R.Source.reads g.R.Source.failures c.hear.new.reader in
-    let p' = err_from_is_err_and c.from_residual.result c.from_residual.ensures.1 in
-    rw (p'.1, p'.2) (none_ends given first i j k o p x c.lines.hearing c.hear.new.self c.args.workers start c.lines.talk
-    c.in_err-thing.field-0.0.kind c.in_err-thing.field-0.0.line c.requires.fresh c.lines.invariant
-    c.in_err-thing.ensures
-    b)
+    let k : InputSeen = input_seen g.D.Source.remaining g.D.Source.reads g.D.Source.failures c.hear.new.reader in
+    let e = err_from_is_err_and c.from_residual.result c.from_residual.ensures.1 in
+    let p' : OutputSeen = output_seen g.D.Sink.contents g.D.Sink.failures c.hear.new.reader in
+    let out : p' ≡ p = ap as_output (sym (g.met.D.Sink.shows c.hear.new.reader) ∙ c.in_err-thing.ensures.keeps
+    ∙ g.met.D.Sink.shows c.lines.device) in
+    let Q : OutputSeen → Type 0 = λ v. Converses given first k o v c.from_residual.result in
+    subst Q (sym out) (rw (e.1, e.2) (none_ends given first i j k o p x c.lines.hearing c.hear.new.self
+    c.args.workers start c.lines.talk
+    c.in_err-thing.field-0.0.kind c.in_err-thing.field-0.0.line c.requires.fresh c.lines.invariant.0
+    c.in_err-thing.ensures.heard.0
+    b))
 
-pub returns-in_err-respond : goal.returns-in_err-respond
-returns-in_err-respond g c given first b =
-    let i : InputSeen = input_seen g.R.Source.remaining g.R.Source.reads g.R.Source.failures c.args.reader.now in
-    let j : InputSeen = input_seen g.R.Source.remaining g.R.Source.reads g.R.Source.failures c.lines.reader in
-    let o : OutputSeen = output_seen g.W.Sink.contents g.W.Sink.failures c.args.writer.now in
-    let p : OutputSeen = output_seen g.W.Sink.contents g.W.Sink.failures c.lines.writer in
+pub returns-in_err-respond-clause-all : goal.returns-in_err-respond-clause-all
+returns-in_err-respond-clause-all g c given first b =
+    let i : InputSeen = input_seen g.D.Source.remaining g.D.Source.reads g.D.Source.failures c.args.device.now in
+    let j : InputSeen = input_seen g.D.Source.remaining g.D.Source.reads g.D.Source.failures c.lines.device in
+    let o : OutputSeen = output_seen g.D.Sink.contents g.D.Sink.failures c.args.device.now in
+    let p : OutputSeen = output_seen g.D.Sink.contents g.D.Sink.failures c.lines.device in
     let start = c.args.talk.now in
     let x = c.args.hearing.now in
-    let k : InputSeen = input_seen g.R.Source.remaining g.R.Source.reads g.R.Source.failures c.hear.new.reader in
-    let q : OutputSeen = output_seen g.W.Sink.contents g.W.Sink.failures c.respond.new.writer in
-    let h = rw c.in-Some.is at c.in_ok-thing.ensures in
+    let k : InputSeen = input_seen g.D.Source.remaining g.D.Source.reads g.D.Source.failures c.hear.new.reader in
+    let q : OutputSeen = output_seen g.D.Sink.contents g.D.Sink.failures c.respond.new.writer in
+    let h = (rw c.in-Some.is at c.in_ok-thing.ensures.heard).0 in
     let e = err_from_is_err_and c.from_residual-in_err-respond.result c.from_residual-in_err-respond.ensures.1 in
-    rw (e.1, e.2) (fails_so given first i j k o p q x c.lines.hearing _ c.args.workers start c.lines.talk
-    c.in_err-respond.field-0.0 c.requires.fresh c.lines.invariant
-    (taken_stays j k c.lines.hearing c.hear.new.self h.raw h.taken) c.in_err-respond.ensures.fault b)
+    let p' : OutputSeen = output_seen g.D.Sink.contents g.D.Sink.failures c.hear.new.reader in
+    let out : p' ≡ p = ap as_output (sym (g.met.D.Sink.shows c.hear.new.reader) ∙ c.in_ok-thing.ensures.keeps
+    ∙ g.met.D.Sink.shows c.lines.device) in
+    let k' : InputSeen = input_seen g.D.Source.remaining g.D.Source.reads g.D.Source.failures c.respond.new.writer in
+    let inn : k' ≡ k = ap as_input (sym (g.met.D.Source.sees c.respond.new.writer) ∙ c.in_err-respond.ensures.keeps
+    ∙ g.met.D.Source.sees c.hear.new.reader) in
+    let Q : InputSeen → Type 0 = λ v. Converses given first v o q c.from_residual-in_err-respond.result in
+    let F : OutputSeen → Type 0 = λ v. FailsToAnswer c.lines.talk v q c.in_err-respond.field-0.0 in
+    subst Q (sym inn) (rw (e.1, e.2) (fails_so given first i j k o p q x c.lines.hearing _ c.args.workers start
+    c.lines.talk
+    c.in_err-respond.field-0.0 c.requires.fresh c.lines.invariant.0
+    (taken_stays j k c.lines.hearing c.hear.new.self h.raw h.taken) (subst F out c.in_err-respond.ensures.fault) b))
 
-pub returns-in_err-answer : goal.returns-in_err-answer
-returns-in_err-answer g c given first b =
-    let i : InputSeen = input_seen g.R.Source.remaining g.R.Source.reads g.R.Source.failures c.args.reader.now in
-    let j : InputSeen = input_seen g.R.Source.remaining g.R.Source.reads g.R.Source.failures c.lines.reader in
-    let o : OutputSeen = output_seen g.W.Sink.contents g.W.Sink.failures c.args.writer.now in
-    let p : OutputSeen = output_seen g.W.Sink.contents g.W.Sink.failures c.lines.writer in
+pub returns-in_err-answer-clause-all : goal.returns-in_err-answer-clause-all
+returns-in_err-answer-clause-all g c given first b =
+    let i : InputSeen = input_seen g.D.Source.remaining g.D.Source.reads g.D.Source.failures c.args.device.now in
+    let j : InputSeen = input_seen g.D.Source.remaining g.D.Source.reads g.D.Source.failures c.lines.device in
+    let o : OutputSeen = output_seen g.D.Sink.contents g.D.Sink.failures c.args.device.now in
+    let p : OutputSeen = output_seen g.D.Sink.contents g.D.Sink.failures c.lines.device in
     let start = c.args.talk.now in
     let x = c.args.hearing.now in
-    let k : InputSeen = input_seen g.R.Source.remaining g.R.Source.reads g.R.Source.failures c.hear.new.reader in
-    let q : OutputSeen = output_seen g.W.Sink.contents g.W.Sink.failures c.answer.new.writer in
-    let h = rw c.in_default.is at c.in_ok-thing.ensures in
+    let k : InputSeen = input_seen g.D.Source.remaining g.D.Source.reads g.D.Source.failures c.hear.new.reader in
+    let q : OutputSeen = output_seen g.D.Sink.contents g.D.Sink.failures c.answer.new.writer in
+    let h = (rw c.in_default.is at c.in_ok-thing.ensures.heard).0 in
     let e = err_from_is_err_and c.from_residual-in_err-answer.result c.from_residual-in_err-answer.ensures.1 in
-    rw (e.1, e.2) (fails_so given first i j k o p q x c.lines.hearing c.hear.new.self c.args.workers start c.lines.talk
-    c.in_err-answer.field-0.0 c.requires.fresh c.lines.invariant
-    (record { got = h.got; number = h.number; size = h.size }) c.in_err-answer.ensures.fault b)
+    let p' : OutputSeen = output_seen g.D.Sink.contents g.D.Sink.failures c.hear.new.reader in
+    let out : p' ≡ p = ap as_output (sym (g.met.D.Sink.shows c.hear.new.reader) ∙ c.in_ok-thing.ensures.keeps
+    ∙ g.met.D.Sink.shows c.lines.device) in
+    let k' : InputSeen = input_seen g.D.Source.remaining g.D.Source.reads g.D.Source.failures c.answer.new.writer in
+    let inn : k' ≡ k = ap as_input (sym (g.met.D.Source.sees c.answer.new.writer) ∙ c.in_err-answer.ensures.keeps
+    ∙ g.met.D.Source.sees c.hear.new.reader) in
+    let Q : InputSeen → Type 0 = λ v. Converses given first v o q c.from_residual-in_err-answer.result in
+    let F : OutputSeen → Type 0 = λ v. FailsToAnswer c.lines.talk v q c.in_err-answer.field-0.0 in
+    subst Q (sym inn) (rw (e.1, e.2) (fails_so given first i j k o p q x c.lines.hearing c.hear.new.self
+    c.args.workers start c.lines.talk
+    c.in_err-answer.field-0.0 c.requires.fresh c.lines.invariant.0
+    (record { got = h.got; number = h.number; size = h.size }) (subst F out c.in_err-answer.ensures.fault) b))
 
-pub returns-in_ok-answer : goal.returns-in_ok-answer
-returns-in_ok-answer g c given first b =
-    let i : InputSeen = input_seen g.R.Source.remaining g.R.Source.reads g.R.Source.failures c.args.reader.now in
-    let j : InputSeen = input_seen g.R.Source.remaining g.R.Source.reads g.R.Source.failures c.lines.reader in
-    let o : OutputSeen = output_seen g.W.Sink.contents g.W.Sink.failures c.args.writer.now in
-    let p : OutputSeen = output_seen g.W.Sink.contents g.W.Sink.failures c.lines.writer in
+pub returns-in_ok-answer-clause-all : goal.returns-in_ok-answer-clause-all
+returns-in_ok-answer-clause-all g c given first b =
+    let i : InputSeen = input_seen g.D.Source.remaining g.D.Source.reads g.D.Source.failures c.args.device.now in
+    let j : InputSeen = input_seen g.D.Source.remaining g.D.Source.reads g.D.Source.failures c.lines.device in
+    let o : OutputSeen = output_seen g.D.Sink.contents g.D.Sink.failures c.args.device.now in
+    let p : OutputSeen = output_seen g.D.Sink.contents g.D.Sink.failures c.lines.device in
     let start = c.args.talk.now in
     let x = c.args.hearing.now in
-    let k : InputSeen = input_seen g.R.Source.remaining g.R.Source.reads g.R.Source.failures c.hear.new.reader in
-    let q : OutputSeen = output_seen g.W.Sink.contents g.W.Sink.failures c.answer.new.writer in
-    last_answered given first i j k o p q x c.lines.hearing c.hear.new.self c.args.workers start c.lines.talk
-    c.answer.new.self c.requires.fresh c.lines.invariant (rw c.in_default.is at c.in_ok-thing.ensures)
-    (sym c.has_begun.ensures ∙ c.if-has_begun.true) c.in_ok-answer.ensures.ok b
+    let k : InputSeen = input_seen g.D.Source.remaining g.D.Source.reads g.D.Source.failures c.hear.new.reader in
+    let q : OutputSeen = output_seen g.D.Sink.contents g.D.Sink.failures c.answer.new.writer in
+    let p' : OutputSeen = output_seen g.D.Sink.contents g.D.Sink.failures c.hear.new.reader in
+    let out : p' ≡ p = ap as_output (sym (g.met.D.Sink.shows c.hear.new.reader) ∙ c.in_ok-thing.ensures.keeps
+    ∙ g.met.D.Sink.shows c.lines.device) in
+    let k' : InputSeen = input_seen g.D.Source.remaining g.D.Source.reads g.D.Source.failures c.answer.new.writer in
+    let inn : k' ≡ k = ap as_input (sym (g.met.D.Source.sees c.answer.new.writer) ∙ c.in_ok-answer.ensures.keeps
+    ∙ g.met.D.Source.sees c.hear.new.reader) in
+    let A : OutputSeen → Type 0 = λ v. AnswersRound c.lines.talk c.answer.new.self v q in
+    let Q : InputSeen → Type 0 = λ v. AnswersAll given first v o q in
+    subst Q (sym inn) (last_answered given first i j k o p q x c.lines.hearing c.hear.new.self c.args.workers start
+    c.lines.talk
+    c.answer.new.self c.requires.fresh c.lines.invariant.0 (rw c.in_default.is at c.in_ok-thing.ensures.heard).0
+    (sym c.has_begun.ensures ∙ c.if-has_begun.true) (subst A out c.in_ok-answer.ensures.ok.0) b)
 
-pub returns-else-has_begun : goal.returns-else-has_begun
-returns-else-has_begun g c given first b =
-    let i : InputSeen = input_seen g.R.Source.remaining g.R.Source.reads g.R.Source.failures c.args.reader.now in
-    let j : InputSeen = input_seen g.R.Source.remaining g.R.Source.reads g.R.Source.failures c.lines.reader in
-    let o : OutputSeen = output_seen g.W.Sink.contents g.W.Sink.failures c.args.writer.now in
-    let p : OutputSeen = output_seen g.W.Sink.contents g.W.Sink.failures c.lines.writer in
+pub returns-else-has_begun-clause-all : goal.returns-else-has_begun-clause-all
+returns-else-has_begun-clause-all g c given first b =
+    let i : InputSeen = input_seen g.D.Source.remaining g.D.Source.reads g.D.Source.failures c.args.device.now in
+    let j : InputSeen = input_seen g.D.Source.remaining g.D.Source.reads g.D.Source.failures c.lines.device in
+    let o : OutputSeen = output_seen g.D.Sink.contents g.D.Sink.failures c.args.device.now in
+    let p : OutputSeen = output_seen g.D.Sink.contents g.D.Sink.failures c.lines.device in
     let start = c.args.talk.now in
     let x = c.args.hearing.now in
-    let k : InputSeen = input_seen g.R.Source.remaining g.R.Source.reads g.R.Source.failures c.hear.new.reader in
-    all_answered given first i j k o p x c.lines.hearing c.hear.new.self c.args.workers start c.lines.talk
-    c.requires.fresh c.lines.invariant (rw c.in_default.is at c.in_ok-thing.ensures)
-    (sym c.has_begun.ensures ∙ c.if-has_begun.false) b
+    let k : InputSeen = input_seen g.D.Source.remaining g.D.Source.reads g.D.Source.failures c.hear.new.reader in
+    let p' : OutputSeen = output_seen g.D.Sink.contents g.D.Sink.failures c.hear.new.reader in
+    let out : p' ≡ p = ap as_output (sym (g.met.D.Sink.shows c.hear.new.reader) ∙ c.in_ok-thing.ensures.keeps
+    ∙ g.met.D.Sink.shows c.lines.device) in
+    let Q : OutputSeen → Type 0 = λ v. AnswersAll given first k o v in
+    subst Q (sym out) (all_answered given first i j k o p x c.lines.hearing c.hear.new.self c.args.workers start
+    c.lines.talk
+    c.requires.fresh c.lines.invariant.0 (rw c.in_default.is at c.in_ok-thing.ensures.heard).0
+    (sym c.has_begun.ensures ∙ c.if-has_begun.false) b)
+
+pub returns-in_err-thing-clause-in_time : goal.returns-in_err-thing-clause-in_time
+returns-in_err-thing-clause-in_time g c =
+    let i : InputSeen = input_seen g.D.Source.remaining g.D.Source.reads g.D.Source.failures c.args.device.now in
+    let j : InputSeen = input_seen g.D.Source.remaining g.D.Source.reads g.D.Source.failures c.lines.device in
+    let o : OutputSeen = output_seen g.D.Sink.contents g.D.Sink.failures c.args.device.now in
+    let p : OutputSeen = output_seen g.D.Sink.contents g.D.Sink.failures c.lines.device in
+    let m : Log = g.D.Device.log c.hear.new.reader in
+    talks_last c.args.workers i j o p c.args.hearing.now c.lines.hearing c.args.talk.now c.lines.talk
+    (g.D.Device.log c.args.device.now) (g.D.Device.log c.lines.device) m m c.requires.fresh c.lines.invariant
+    c.in_err-thing.ensures.heard.1 (gives_none m)
+
+pub returns-in_err-respond-clause-in_time : goal.returns-in_err-respond-clause-in_time
+returns-in_err-respond-clause-in_time g c =
+    let i : InputSeen = input_seen g.D.Source.remaining g.D.Source.reads g.D.Source.failures c.args.device.now in
+    let j : InputSeen = input_seen g.D.Source.remaining g.D.Source.reads g.D.Source.failures c.lines.device in
+    let o : OutputSeen = output_seen g.D.Sink.contents g.D.Sink.failures c.args.device.now in
+    let p : OutputSeen = output_seen g.D.Sink.contents g.D.Sink.failures c.lines.device in
+    let m : Log = g.D.Device.log c.hear.new.reader in
+    talks_last c.args.workers i j o p c.args.hearing.now c.lines.hearing c.args.talk.now c.lines.talk
+    (g.D.Device.log c.args.device.now) (g.D.Device.log c.lines.device) m (g.D.Device.log c.respond.new.writer)
+    c.requires.fresh c.lines.invariant
+    (reads_open (g.D.Device.log c.lines.device) m c.args.workers c.lines.hearing.input _
+    (rw c.in-Some.is at c.in_ok-thing.ensures.heard).1) c.in_err-respond.ensures.broken
+
+pub returns-in_err-answer-clause-in_time : goal.returns-in_err-answer-clause-in_time
+returns-in_err-answer-clause-in_time g c =
+    let i : InputSeen = input_seen g.D.Source.remaining g.D.Source.reads g.D.Source.failures c.args.device.now in
+    let j : InputSeen = input_seen g.D.Source.remaining g.D.Source.reads g.D.Source.failures c.lines.device in
+    let o : OutputSeen = output_seen g.D.Sink.contents g.D.Sink.failures c.args.device.now in
+    let p : OutputSeen = output_seen g.D.Sink.contents g.D.Sink.failures c.lines.device in
+    let m : Log = g.D.Device.log c.hear.new.reader in
+    talks_last c.args.workers i j o p c.args.hearing.now c.lines.hearing c.args.talk.now c.lines.talk
+    (g.D.Device.log c.args.device.now) (g.D.Device.log c.lines.device) m (g.D.Device.log c.answer.new.writer)
+    c.requires.fresh c.lines.invariant
+    (rw c.in_default.is at c.in_ok-thing.ensures.heard).1 c.in_err-answer.ensures.broken
+
+pub returns-in_ok-answer-clause-in_time : goal.returns-in_ok-answer-clause-in_time
+returns-in_ok-answer-clause-in_time g c =
+    let i : InputSeen = input_seen g.D.Source.remaining g.D.Source.reads g.D.Source.failures c.args.device.now in
+    let j : InputSeen = input_seen g.D.Source.remaining g.D.Source.reads g.D.Source.failures c.lines.device in
+    let o : OutputSeen = output_seen g.D.Sink.contents g.D.Sink.failures c.args.device.now in
+    let p : OutputSeen = output_seen g.D.Sink.contents g.D.Sink.failures c.lines.device in
+    let m : Log = g.D.Device.log c.hear.new.reader in
+    talks_last c.args.workers i j o p c.args.hearing.now c.lines.hearing c.args.talk.now c.lines.talk
+    (g.D.Device.log c.args.device.now) (g.D.Device.log c.lines.device) m (g.D.Device.log c.answer.new.writer)
+    c.requires.fresh c.lines.invariant
+    (rw c.in_default.is at c.in_ok-thing.ensures.heard).1 (inr (
+      c.in_ok-answer.ensures.ok.0.lines,
+      c.in_ok-answer.ensures.ok.1,
+    ))
+
+pub returns-else-has_begun-clause-in_time : goal.returns-else-has_begun-clause-in_time
+returns-else-has_begun-clause-in_time g c =
+    let i : InputSeen = input_seen g.D.Source.remaining g.D.Source.reads g.D.Source.failures c.args.device.now in
+    let j : InputSeen = input_seen g.D.Source.remaining g.D.Source.reads g.D.Source.failures c.lines.device in
+    let o : OutputSeen = output_seen g.D.Sink.contents g.D.Sink.failures c.args.device.now in
+    let p : OutputSeen = output_seen g.D.Sink.contents g.D.Sink.failures c.lines.device in
+    let m : Log = g.D.Device.log c.hear.new.reader in
+    talks_last c.args.workers i j o p c.args.hearing.now c.lines.hearing c.args.talk.now c.lines.talk
+    (g.D.Device.log c.args.device.now) (g.D.Device.log c.lines.device) m m c.requires.fresh c.lines.invariant
+    (rw c.in_default.is at c.in_ok-thing.ensures.heard).1 (gives_none m)

@@ -1,24 +1,24 @@
-use Rattle.std.proofs.Common.{◌≡◌, ◌∙◌, ℕ, List, Some, None, refl, sym, ap, subst, arith}
-use Rattle.std.proofs.lemmas.Result.{err_from_is_err_and}
+use Rattle.std.proofs.Common.{◌∙◌, [], refl, sym, subst, arith}
 use Rattle.catserve.specs.Run.{InputSeen, OutputSeen, input_seen, output_seen}
 use Rattle.catserve.specs.declared.session_fault.SessionFault.{SessionFault}
-use Rattle.catserve.specs.Session.{Converses, EndsFor}
+use Rattle.catserve.specs.Session.{EndsFor}
 use Rattle.catserve.specs.Talking.{IsFresh}
 use Rattle.catserve.proofs.Asked.{count_of, ready_first}
 use Rattle.catserve.proofs.SessionEnds.{stops_begun}
+use Rattle.catserve.proofs.SessionInTime.{ends_at}
 use Rattle.catserve.proofs.session.converse_by_store.Goals as goal
 
-pub returns-in-Err-Memory : goal.returns-in-Err-Memory
-returns-in-Err-Memory g c given first b =
-    let i : InputSeen = input_seen g.R.Source.remaining g.R.Source.reads g.R.Source.failures c.args.reader.now in
-    let o : OutputSeen = output_seen g.W.Sink.contents g.W.Sink.failures c.args.writer.now in
+pub returns-in-Err-Memory-clause-all : goal.returns-in-Err-Memory-clause-all
+returns-in-Err-Memory-clause-all g c given first b =
+    let i : InputSeen = input_seen g.D.Source.remaining g.D.Source.reads g.D.Source.failures c.args.device.now in
+    let o : OutputSeen = output_seen g.D.Sink.contents g.D.Sink.failures c.args.device.now in
     let P : SessionFault → Type 0 = λ f. EndsFor given first i o o f.kind f.line in
     subst P (sym c.from.ensures) (stops_begun given first i o c.args.hearing.now c.args.workers b, refl)
 
-pub returns-in-Err : goal.returns-in-Err
-returns-in-Err g c given first b =
-    let i : InputSeen = input_seen g.R.Source.remaining g.R.Source.reads g.R.Source.failures c.args.reader.now in
-    let o : OutputSeen = output_seen g.W.Sink.contents g.W.Sink.failures c.args.writer.now in
+pub returns-in-Err-clause-all : goal.returns-in-Err-clause-all
+returns-in-Err-clause-all g c given first b =
+    let i : InputSeen = input_seen g.D.Source.remaining g.D.Source.reads g.D.Source.failures c.args.device.now in
+    let o : OutputSeen = output_seen g.D.Sink.contents g.D.Sink.failures c.args.device.now in
     let P : SessionFault → Type 0 = λ f. EndsFor given first i o o f.kind f.line in
     subst P (sym c.from-in-Err.ensures) (stops_begun given first i o c.args.hearing.now c.args.workers b, refl)
 
@@ -41,12 +41,26 @@ converse-done-requires-clause-fresh g c κs within =
       begun = refl;
     })
 
-pub returns-in-Err-open_desks : goal.returns-in-Err-open_desks
-returns-in-Err-open_desks g c given first b =
-    let i : InputSeen = input_seen g.R.Source.remaining g.R.Source.reads g.R.Source.failures c.args.reader.now in
-    let o : OutputSeen = output_seen g.W.Sink.contents g.W.Sink.failures c.args.writer.now in
+pub returns-in-Err-open_desks-clause-all : goal.returns-in-Err-open_desks-clause-all
+returns-in-Err-open_desks-clause-all g c given first b =
+    let i : InputSeen = input_seen g.D.Source.remaining g.D.Source.reads g.D.Source.failures c.args.device.now in
+    let o : OutputSeen = output_seen g.D.Sink.contents g.D.Sink.failures c.args.device.now in
     let P : SessionFault → Type 0 = λ f. EndsFor given first i o o f.kind f.line in
     subst P (sym c.from-in-Err-open_desks.ensures) (
       stops_begun given first i o c.args.hearing.now c.args.workers b,
       refl,
     )
+
+pub returns-in-Err-Memory-clause-in_time : goal.returns-in-Err-Memory-clause-in_time
+returns-in-Err-Memory-clause-in_time g c given first b before begun = ends_at given before
+    (g.D.Device.log c.args.device.now)
+    b.taken.more [] begun
+
+pub returns-in-Err-clause-in_time : goal.returns-in-Err-clause-in_time
+returns-in-Err-clause-in_time g c given first b before begun = ends_at given before (g.D.Device.log c.args.device.now)
+    b.taken.more [] begun
+
+pub returns-in-Err-open_desks-clause-in_time : goal.returns-in-Err-open_desks-clause-in_time
+returns-in-Err-open_desks-clause-in_time g c given first b before begun = ends_at given before
+    (g.D.Device.log c.args.device.now)
+    b.taken.more [] begun

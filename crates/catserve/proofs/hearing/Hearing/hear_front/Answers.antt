@@ -1,8 +1,12 @@
-use Rattle.std.proofs.Common.{◌≡◌, ◌∙◌, ◌++◌, ◌∷◌, [], ℕ, List, Some, None, refl, sym, ap, subst, take}
+use Rattle.std.proofs.Common.{◌∙◌, ◌++◌, ◌∷◌, [], ℕ, List, None, refl, sym, ap, subst, take}
+use Rattle.std.proofs.lemmas.List.{nil_from_length}
 use Rattle.std.proofs.lemmas.Result.{err_from_is_err_and}
+use Rattle.devices.specs.Logs.{Log}
 use Rattle.catserve.specs.Run.{InputSeen, input_seen}
 use Rattle.catserve.specs.declared.session_fault.SessionFault.{SessionFault}
-use Rattle.catserve.specs.Hearing.{HearingValue, FailsInFront, HasPassed, Begins, IsFront, unheard}
+use Rattle.catserve.specs.Hearing.{HearingValue, FailsInFront, IsFront, unheard}
+use Rattle.catserve.specs.Timing.{BeginsInTime}
+use Rattle.catserve.proofs.SessionInTime.{PassesInTime, ends_at, passed_last, passed_timely, passes_none}
 use Rattle.catserve.proofs.SessionFront.{begins_ended, begins_given, begins_other, front_fails, front_undecodable}
 use Rattle.catserve.proofs.SessionFront.{passed_more}
 use Rattle.catserve.proofs.hearing.Hearing.hear_front.Goals as goal
@@ -14,14 +18,14 @@ returns-in_err-end-clause-fault g c =
     let k : InputSeen = input_seen g.R.Source.remaining g.R.Source.reads g.R.Source.failures c.next_end.new.reader in
     let p = err_from_is_err_and c.from_residual.result c.from_residual.ensures.1 in
     rw (p.1, p.2) (front_fails i j k c.front.self c.next_end.new.self c.front.invariant.0 c.in_err-end.field-0.0.kind
-    c.in_err-end.field-0.0.line c.front.invariant.1 c.in_err-end.ensures.fault)
+    c.in_err-end.field-0.0.line c.front.invariant.1.0 c.in_err-end.ensures.fault)
 
 pub returns-in-NotUtf8-clause-fault : goal.returns-in-NotUtf8-clause-fault
 returns-in-NotUtf8-clause-fault g c =
     let i : InputSeen = input_seen g.R.Source.remaining g.R.Source.reads g.R.Source.failures c.args.reader.now in
     let j : InputSeen = input_seen g.R.Source.remaining g.R.Source.reads g.R.Source.failures c.front.reader in
     let k : InputSeen = input_seen g.R.Source.remaining g.R.Source.reads g.R.Source.failures c.next_end.new.reader in
-    let passed = c.front.invariant.1 in
+    let passed = c.front.invariant.1.0 in
     let found = rw c.in-Some.is at c.in_ok-end.ensures.found.line in
     let left = c.left.ensures ∙ ap (λ (x : HearingValue). x.input.left) c.self.view_is in
     let Is : List ℕ → Type 0 = λ left. IsFront (take c.in-Some.end left) c.read_front_line.result in
@@ -36,7 +40,7 @@ front-preserved g c =
     let i : InputSeen = input_seen g.R.Source.remaining g.R.Source.reads g.R.Source.failures c.args.reader.now in
     let j : InputSeen = input_seen g.R.Source.remaining g.R.Source.reads g.R.Source.failures c.front.reader in
     let k : InputSeen = input_seen g.R.Source.remaining g.R.Source.reads g.R.Source.failures c.next_end.new.reader in
-    let passed = c.front.invariant.1 in
+    let passed = c.front.invariant.1.0 in
     let found = rw c.in-Some.is at c.in_ok-end.ensures.found.line in
     let left = c.left.ensures ∙ ap (λ (x : HearingValue). x.input.left) c.self.view_is in
     let Is : List ℕ → Type 0 = λ left. IsFront (take c.in-Some.end left) c.read_front_line.result in
@@ -44,11 +48,19 @@ front-preserved g c =
     (subst Is left c.read_front_line.ensures) in
     let front = c.front.invariant.0 in
     let line = take c.in-Some.end c.next_end.new.self.input.left in
-    let P : HearingValue → Type 0 = λ y. HasPassed i k unheard y (front ++ line ∷ []) in (
+    let a : Log = g.R.Device.log c.args.reader.now in
+    let b : Log = g.R.Device.log c.next_end.new.reader in
+    let timely = passed_timely i j k c.front.self c.next_end.new.self c.front.invariant.0 a
+    (g.R.Device.log c.front.reader) b c.front.invariant.1.0 c.front.invariant.1.1 c.in_ok-end.ensures.found.stays
+    c.in_ok-end.ensures.waits in
+    let P : HearingValue → Type 0 = λ y. PassesInTime i k y (front ++ line ∷ []) a b in (
       front ++ line ∷ [],
-      subst P (sym c.take.ensures) (passed_more i j k unheard c.front.self c.next_end.new.self front c.in-Some.end
-          passed
-          c.in_ok-end.ensures.found.stays found.0 is.0 is.1),
+      subst P (sym c.take.ensures) (
+        passed_more i j k unheard c.front.self c.next_end.new.self front c.in-Some.end passed
+            c.in_ok-end.ensures.found.stays found.0 is.0 is.1,
+        timely,
+      ),
+      c.in_ok-end.ensures.keeps ∙ c.front.invariant.2,
     )
 
 pub returns-in-Workers-clause-begins : goal.returns-in-Workers-clause-begins
@@ -56,26 +68,89 @@ returns-in-Workers-clause-begins g c =
     let i : InputSeen = input_seen g.R.Source.remaining g.R.Source.reads g.R.Source.failures c.args.reader.now in
     let j : InputSeen = input_seen g.R.Source.remaining g.R.Source.reads g.R.Source.failures c.front.reader in
     let k : InputSeen = input_seen g.R.Source.remaining g.R.Source.reads g.R.Source.failures c.next_end.new.reader in
-    let passed = c.front.invariant.1 in
+    let passed = c.front.invariant.1.0 in
     let found = rw c.in-Some.is at c.in_ok-end.ensures.found.line in
     let left = c.left.ensures ∙ ap (λ (x : HearingValue). x.input.left) c.self.view_is in
     let Is : List ℕ → Type 0 = λ left. IsFront (take c.in-Some.end left) c.read_front_line.result in
     let is = subst (λ line. IsFront (take c.in-Some.end c.next_end.new.self.input.left) line) c.in-Workers.is
     (subst Is left c.read_front_line.ensures) in
-    let P : HearingValue → Type 0 = λ y. Begins None i k y c.in-Workers.workers in
-    subst P (sym c.take-in-Workers.ensures) (begins_given i j k c.front.self c.next_end.new.self c.front.invariant.0
-    c.in-Some.end c.in-Workers.workers passed c.in_ok-end.ensures.found.stays found.0 is.0 is.1 is.2)
+    let a : Log = g.R.Device.log c.args.reader.now in
+    let b : Log = g.R.Device.log c.next_end.new.reader in
+    let timely = passed_timely i j k c.front.self c.next_end.new.self c.front.invariant.0 a
+    (g.R.Device.log c.front.reader) b c.front.invariant.1.0 c.front.invariant.1.1 c.in_ok-end.ensures.found.stays
+    c.in_ok-end.ensures.waits in
+    let P : HearingValue → Type 0 = λ y. BeginsInTime None i k y c.in-Workers.workers a b in
+    subst P (sym c.take-in-Workers.ensures) (
+      begins_given i j k c.front.self c.next_end.new.self c.front.invariant.0 c.in-Some.end c.in-Workers.workers passed
+          c.in_ok-end.ensures.found.stays found.0 is.0 is.1 is.2,
+      timely,
+    )
 
 pub returns-in-Other-clause-begins : goal.returns-in-Other-clause-begins
 returns-in-Other-clause-begins g c =
     let i : InputSeen = input_seen g.R.Source.remaining g.R.Source.reads g.R.Source.failures c.args.reader.now in
     let j : InputSeen = input_seen g.R.Source.remaining g.R.Source.reads g.R.Source.failures c.front.reader in
     let k : InputSeen = input_seen g.R.Source.remaining g.R.Source.reads g.R.Source.failures c.next_end.new.reader in
-    let passed = c.front.invariant.1 in
+    let passed = c.front.invariant.1.0 in
     let found = rw c.in-Some.is at c.in_ok-end.ensures.found.line in
     let left = c.left.ensures ∙ ap (λ (x : HearingValue). x.input.left) c.self.view_is in
     let Is : List ℕ → Type 0 = λ left. IsFront (take c.in-Some.end left) c.read_front_line.result in
     let is = subst (λ line. IsFront (take c.in-Some.end c.next_end.new.self.input.left) line) c.in-Other.is
     (subst Is left c.read_front_line.ensures) in
-    begins_other i j k c.front.self c.next_end.new.self c.front.invariant.0 c.in-Some.end passed
-    c.in_ok-end.ensures.found.stays found.0 is.1 is.2
+    let a : Log = g.R.Device.log c.args.reader.now in
+    let b : Log = g.R.Device.log c.next_end.new.reader in
+    let timely = passed_timely i j k c.front.self c.next_end.new.self c.front.invariant.0 a
+    (g.R.Device.log c.front.reader) b c.front.invariant.1.0 c.front.invariant.1.1 c.in_ok-end.ensures.found.stays
+    c.in_ok-end.ensures.waits in (
+      begins_other i j k c.front.self c.next_end.new.self c.front.invariant.0 c.in-Some.end passed
+          c.in_ok-end.ensures.found.stays found.0 is.1 is.2,
+      timely,
+    )
+
+pub returns-clause-begins : goal.returns-clause-begins
+returns-clause-begins g c =
+    let i : InputSeen = input_seen g.R.Source.remaining g.R.Source.reads g.R.Source.failures c.args.reader.now in
+    let j : InputSeen = input_seen g.R.Source.remaining g.R.Source.reads g.R.Source.failures c.front.reader in
+    let k : InputSeen = input_seen g.R.Source.remaining g.R.Source.reads g.R.Source.failures c.next_end.new.reader in
+    let a : Log = g.R.Device.log c.args.reader.now in
+    let b : Log = g.R.Device.log c.next_end.new.reader in
+    let found = c.in_ok-end.ensures.found in
+    let none = rw c.in_default.is at found.none in
+    let timely = passed_timely i j k c.front.self c.next_end.new.self c.front.invariant.0 a
+    (g.R.Device.log c.front.reader) b c.front.invariant.1.0 c.front.invariant.1.1 c.in_ok-end.ensures.found.stays
+    c.in_ok-end.ensures.waits in (
+      begins_ended i j k c.front.self c.next_end.new.self c.front.invariant.0 c.front.invariant.1.0 found.stays
+          (nil_from_length c.next_end.new.self.input.left none.1) none.0,
+      timely,
+    )
+
+pub returns-in_err-end-clause-in_time : goal.returns-in_err-end-clause-in_time
+returns-in_err-end-clause-in_time g c =
+    let i : InputSeen = input_seen g.R.Source.remaining g.R.Source.reads g.R.Source.failures c.args.reader.now in
+    let j : InputSeen = input_seen g.R.Source.remaining g.R.Source.reads g.R.Source.failures c.front.reader in
+    let k : InputSeen = input_seen g.R.Source.remaining g.R.Source.reads g.R.Source.failures c.next_end.new.reader in
+    let a : Log = g.R.Device.log c.args.reader.now in
+    let b : Log = g.R.Device.log c.next_end.new.reader in
+    let waits = c.in_err-end.ensures.waits in
+    let p = err_from_is_err_and c.from_residual.result c.from_residual.ensures.1 in
+    rw (p.1) (passed_last i j c.front.self c.next_end.new.self.input c.front.invariant.0 waits.0 a
+    (g.R.Device.log c.front.reader) b c.front.invariant.1.0 c.front.invariant.1.1 waits.1)
+
+pub returns-in-NotUtf8-clause-in_time : goal.returns-in-NotUtf8-clause-in_time
+returns-in-NotUtf8-clause-in_time g c =
+    let i : InputSeen = input_seen g.R.Source.remaining g.R.Source.reads g.R.Source.failures c.args.reader.now in
+    let j : InputSeen = input_seen g.R.Source.remaining g.R.Source.reads g.R.Source.failures c.front.reader in
+    let k : InputSeen = input_seen g.R.Source.remaining g.R.Source.reads g.R.Source.failures c.next_end.new.reader in
+    let a : Log = g.R.Device.log c.args.reader.now in
+    let b : Log = g.R.Device.log c.next_end.new.reader in
+    let timely = passed_timely i j k c.front.self c.next_end.new.self c.front.invariant.0 a
+    (g.R.Device.log c.front.reader) b c.front.invariant.1.0 c.front.invariant.1.1 c.in_ok-end.ensures.found.stays
+    c.in_ok-end.ensures.waits in
+    ends_at None a b (c.front.invariant.1.0.taken.more ++ c.in_ok-end.ensures.found.stays.got.more) [] timely
+
+pub front-init : goal.front-init
+front-init g c =
+    let i : InputSeen = input_seen g.R.Source.remaining g.R.Source.reads g.R.Source.failures c.args.reader.now in
+    let a : Log = g.R.Device.log c.args.reader.now in
+    let P : HearingValue → Type 0 = λ y. PassesInTime i i y [] a a in
+    ([], subst P (sym c.requires) (passes_none i a), refl)

@@ -1,12 +1,17 @@
-use Rattle.std.proofs.Common.{◌≡◌, ◌-◌, ◌∙◌, ◌∷◌, [], ℕ, List, refl, sym, ap, subst, arith, take, drop, zero, suc}
+use Rattle.std.proofs.Common.{◌≡◌, ◌-◌, ◌∙◌, [], ℕ, List, refl, sym, ap, subst, arith, take, drop}
 use Rattle.std.specs.Str.{IsUtf8}
+use Rattle.devices.specs.Logs.{Log}
 use Rattle.line_input.specs.Incoming.{EndsLine}
+use Rattle.line_input.specs.Waiting.{ReadsWhile, StillCounts}
 use Rattle.line_input.proofs.Arriving.{both}
 use Rattle.catserve.specs.Run.{InputSeen, input_seen}
 use Rattle.catserve.specs.declared.session_fault.SessionFault.{SessionFault}
 use Rattle.catserve.specs.Hearing.{HearingValue, HearsNoText, HearsText}
 use Rattle.catserve.proofs.LinesTaken.{nothing_heard, no_text_heard, stays_whole, text_ends_within, text_within}
 use Rattle.catserve.proofs.LinesTaken.{text_taken, text_undecodable}
+use Rattle.catserve.specs.Timing.{ReadsText}
+use Rattle.catserve.proofs.SessionInTime.{text_reads}
+use Rattle.catserve.proofs.SessionWaits.{reads_of as counts_of}
 use Rattle.catserve.proofs.hearing.Hearing.hear_text.Goals as goal
 
 pub returns-in-Err-clause-fault : goal.returns-in-Err-clause-fault
@@ -134,3 +139,58 @@ returns-clause-heard g c =
     (text_taken i j here after c.args.end c.args.count c.in-Some.text_end c.in-Ok-copied.bytes.items stays line ends
     utf8
     bytes))
+
+pub returns-in-Err-clause-waited : goal.returns-in-Err-clause-waited
+returns-in-Err-clause-waited g c =
+    let a : Log = g.R.Device.log c.args.reader.now in
+    let b : Log = g.R.Device.log c.lines_end.new.reader in
+    let P : HearingValue → Type 0 = λ x. ReadsWhile a b (StillCounts c.args.count x.input c.args.end) in
+    subst P c.self.view_is (counts_of a b c.self.inside.input c.lines_end.new.self _
+    (StillCounts c.args.count c.self.inside.input c.args.end) c.in-Err.ensures.waits.1)
+
+pub returns-in_default-clause-waited : goal.returns-in_default-clause-waited
+returns-in_default-clause-waited g c =
+    let a : Log = g.R.Device.log c.args.reader.now in
+    let b : Log = g.R.Device.log c.lines_end.new.reader in
+    let P : HearingValue → Type 0 = λ x. ReadsWhile a b (StillCounts c.args.count x.input c.args.end) in
+    subst P c.self.view_is (counts_of a b c.self.inside.input c.lines_end.new.self _
+    (StillCounts c.args.count c.self.inside.input c.args.end) c.in-Ok.ensures.waits)
+
+pub returns-then-not-is_utf8-clause-waited : goal.returns-then-not-is_utf8-clause-waited
+returns-then-not-is_utf8-clause-waited g c =
+    let a : Log = g.R.Device.log c.args.reader.now in
+    let b : Log = g.R.Device.log c.lines_end.new.reader in
+    let P : HearingValue → Type 0 = λ x. ReadsWhile a b (StillCounts c.args.count x.input c.args.end) in
+    subst P c.self.view_is (counts_of a b c.self.inside.input c.lines_end.new.self _
+    (StillCounts c.args.count c.self.inside.input c.args.end) c.in-Ok.ensures.waits)
+
+pub returns-in_default-copied-clause-waited : goal.returns-in_default-copied-clause-waited
+returns-in_default-copied-clause-waited g c =
+    let a : Log = g.R.Device.log c.args.reader.now in
+    let b : Log = g.R.Device.log c.lines_end.new.reader in
+    let P : HearingValue → Type 0 = λ x. ReadsWhile a b (StillCounts c.args.count x.input c.args.end) in
+    subst P c.self.view_is (counts_of a b c.self.inside.input c.lines_end.new.self _
+    (StillCounts c.args.count c.self.inside.input c.args.end) c.in-Ok.ensures.waits)
+
+pub returns-clause-waits : goal.returns-clause-waits
+returns-clause-waits g c =
+    let a : Log = g.R.Device.log c.args.reader.now in
+    let b : Log = g.R.Device.log c.lines_end.new.reader in
+    let here : HearingValue = record
+    { input = c.self.inside.input; number = c.self.inside.number; size = c.self.inside.size } in
+    let ends = rw c.in-Some.is at c.in-Ok.ensures.lines in
+    let line = subst (λ x. EndsLine x 0 c.args.end) (sym (ap (λ (x : HearingValue). x.input) c.self.view_is))
+    c.requires.line in
+    let text : List ℕ = take (c.in-Some.text_end - c.args.end) (drop c.args.end c.lines_end.new.self.left) in
+    let bytes : c.in-Ok-copied.bytes.items ≡ text = c.in-Ok-copied.ensures
+    ∙ ap (λ left. take (c.in-Some.text_end - c.args.end) (drop c.args.end left)) c.left-left.ensures in
+    let P : HearingValue → Type 0 = λ x.
+    ReadsText a b x.input c.take.new.self.input c.args.end c.args.count c.in-Ok-copied.bytes.items in
+    let Q : HearingValue → Type 0 = λ y.
+    ReadsText a b here.input y.input c.args.end c.args.count c.in-Ok-copied.bytes.items in
+    let R : List ℕ → Type 0 = λ bs. ReadsText a b here.input (record {
+      left = drop c.in-Some.text_end c.lines_end.new.self.left;
+      ended = c.lines_end.new.self.ended;
+    }) c.args.end c.args.count bs in
+    subst P c.self.view_is (subst Q (sym c.take.ensures) (subst R (sym bytes) (text_reads a b here.input
+    c.lines_end.new.self c.args.end c.args.count c.in-Some.text_end line ends c.in-Ok.ensures.waits)))

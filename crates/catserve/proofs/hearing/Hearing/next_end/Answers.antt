@@ -1,7 +1,9 @@
-use Rattle.std.proofs.Common.{refl, subst, arith}
+use Rattle.std.proofs.Common.{[], refl, subst, arith}
+use Rattle.line_input.specs.Waiting.{StillWaits}
+use Rattle.line_input.proofs.Waitings.{waits_none}
 use Rattle.catserve.specs.Run.{InputSeen, input_seen}
-use Rattle.catserve.specs.Hearing.{HearingValue, HearsNothing}
-use Rattle.catserve.proofs.LinesTaken.{nothing_heard}
+use Rattle.catserve.specs.Hearing.{EndsNext, HearingValue, HearsNothing}
+use Rattle.catserve.proofs.LinesTaken.{found_so, nothing_heard, stays_whole}
 use Rattle.catserve.proofs.hearing.Hearing.next_end.Goals as goal
 
 pub returns-in-Err-clause-fault : goal.returns-in-Err-clause-fault
@@ -24,3 +26,23 @@ returns-in-Err-clause-fault g c =
     subst P c.self.view_is (nothing_heard i j at after c.in-Err.fault c.fault_of.result c.in-Err.ensures.comes
     (record { later = c.in-Err.ensures.later; reads = c.in-Err.ensures.reads }) refl refl
     (λ long. omega (arith, (c.in-Err.ensures.long long).0, c.self.invariant)) c.in-Err.ensures.cause c.fault_of.ensures)
+
+pub returns-in-Ok-clause-found : goal.returns-in-Ok-clause-found
+returns-in-Ok-clause-found g c =
+    let i : InputSeen = input_seen g.R.Source.remaining g.R.Source.reads g.R.Source.failures c.args.reader.now in
+    let j : InputSeen = input_seen g.R.Source.remaining g.R.Source.reads g.R.Source.failures c.line_end.new.reader in
+    let at : HearingValue = record
+    { input = c.self.inside.input; number = c.self.inside.number; size = c.self.inside.size } in
+    let after : HearingValue = record
+    { input = c.line_end.new.self; number = c.self.inside.number; size = c.self.inside.size } in
+    let known = c.in-Ok.ensures in
+    let P : HearingValue → Type 0 = λ x. EndsNext i j x after c.in-Ok.end in
+    subst P c.self.view_is (found_so i j at after c.in-Ok.end (stays_whole i j at after known.comes
+    (record { later = known.later; reads = known.reads }) refl refl) c.if-self-ge-MOST_LINES.false c.self.invariant
+    known.line known.within known.none)
+
+pub returns-then-self-ge-MOST_LINES-clause-waits : goal.returns-then-self-ge-MOST_LINES-clause-waits
+returns-then-self-ge-MOST_LINES-clause-waits g c = (
+  [],
+  waits_none (g.R.Device.log c.args.reader.now) c.args.self.now.input (StillWaits c.args.self.now.input 0),
+)

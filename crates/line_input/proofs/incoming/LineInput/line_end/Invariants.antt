@@ -1,4 +1,5 @@
-use Rattle.std.proofs.Common.{◌≡◌}
+use Rattle.std.proofs.Common.{◌≡◌, []}
+use Rattle.line_input.specs.Waiting.{StillWaits, Waits}
 use Rattle.line_input.specs.Incoming.{HasEnd}
 use Rattle.line_input.proofs.LineSeeking.{HasSearched}
 use Rattle.line_input.proofs.incoming.LineInput.line_end.Given as goal
@@ -8,3 +9,6 @@ invariant-loop-turn g l = HasSearched (g.R.Source.remaining l.fn.reader) (g.R.So
     (g.R.Source.failures l.fn.reader) (g.R.Source.failures l.reader) (g.R.Source.reads l.fn.reader)
     (g.R.Source.reads l.reader) l.turn l.fn.self l.self l.from l.searched
     × (HasEnd l.fn.self l.from → (l.reader ≡ l.fn.reader) × (l.self ≡ l.fn.self))
+    × Waits (g.R.Device.log l.fn.reader) (g.R.Device.log l.reader) l.fn.self l.self []
+    (StillWaits l.fn.self l.from)
+    × (g.R.Device.output l.reader ≡ g.R.Device.output l.fn.reader)

@@ -1,4 +1,5 @@
-use Rattle.std.proofs.Common.{◌≡◌}
+use Rattle.std.proofs.Common.{◌≡◌, []}
+use Rattle.line_input.specs.Waiting.{StillCounts, Waits}
 use Rattle.line_input.specs.Incoming.{HasEnds}
 use Rattle.line_input.proofs.LineCounting.{HasCounted}
 use Rattle.line_input.proofs.incoming.LineInput.lines_end.Given as goal
@@ -8,3 +9,6 @@ invariant-lines g l = HasCounted (g.R.Source.remaining l.fn.reader) (g.R.Source.
     (g.R.Source.failures l.fn.reader) (g.R.Source.failures l.reader) (g.R.Source.reads l.fn.reader)
     (g.R.Source.reads l.reader) l.counted l.fn.self l.self l.from l.end l.most
     × (HasEnds l.count l.fn.self l.from → (l.reader ≡ l.fn.reader) × (l.self ≡ l.fn.self))
+    × Waits (g.R.Device.log l.fn.reader) (g.R.Device.log l.reader) l.fn.self l.self []
+    (StillCounts l.count l.fn.self l.from)
+    × (g.R.Device.output l.reader ≡ g.R.Device.output l.fn.reader)

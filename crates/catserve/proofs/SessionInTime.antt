@@ -1,0 +1,402 @@
+-- What a session has answered when it waits.
+use Rattle.std.proofs.Common.{◌≡◌, ◌∙◌, refl, sym, ap, subst, ℕ, ◌+◌, ◌-◌, ◌<◌, true, List, [], ◌∷◌}
+use Rattle.std.proofs.Common.{◌++◌, length, take, drop}
+use Rattle.std.proofs.Common.{arith, inl, inr, append_assoc, Option, Some, None, Result, Ok, Err}
+use Rattle.std.specs.List.{concat}
+use Rattle.std.proofs.Math.Seq.{take-add}
+use Rattle.std.proofs.lemmas.List.{append-nil, nil_from_length, take-append-drop, take-append-le}
+use Rattle.devices.specs.Logs.{AnswersFirst, Event, Gave, Grows, Log, came, given as gave}
+use Rattle.devices.proofs.Logging.{answers_none, answers_so, answers_then, answers_write, came_then, given_then}
+use Rattle.devices.proofs.Logging.{grows_none, grows_then}
+use Rattle.line_input.specs.Incoming.{EndsLine, EndsLines, Incoming}
+use Rattle.line_input.specs.Lines.{lines, without_end}
+use Rattle.line_input.specs.Waiting.{ReadsWhile, StillCounts, StillWaits, Waits}
+use Rattle.line_input.proofs.Arriving.{both}
+use Rattle.std.specs.Str.{IsUtf8}
+use Rattle.catalogue.specs.declared.Options.{Options}
+use Rattle.desks.specs.Jobs.{Po}
+use Rattle.script_text.specs.Commands.{Line, Loads, line_of}
+use Rattle.script_text.specs.Script.{Command, Load, Says, saying}
+use Rattle.catserve.specs.declared.hearing.Heard.{Heard}
+use Rattle.catserve.specs.declared.hearing.Heard.TheVariants as heard
+use Rattle.catserve.specs.declared.session_fault.SessionFault.{SessionFault}
+use Rattle.catserve.specs.Run.{InputSeen, OutputSeen}
+use Rattle.catserve.specs.Rounds.{PlaysAll}
+use Rattle.catserve.specs.Session.{AnswersInTime, IsAnswered, most_lines}
+use Rattle.catserve.specs.Hearing.{Begins, HasGot, HasPassed, Hears, HearsEnd, HearingValue, HearsText, Stays}
+use Rattle.catserve.specs.Hearing.{commands_of}
+use Rattle.catserve.specs.Hearing.{size_behind, unheard}
+use Rattle.catserve.specs.Talking.{Conversing, IsFresh, TalkValue}
+use Rattle.catserve.specs.Timing.{ContinuesInTime, GivesSome, HearsInTime, InTime, ReadsOpen, ReadsText}
+use Rattle.catserve.specs.Timing.{RespondsInTime}
+use Rattle.catserve.specs.Timing.{StillOpen, TalksInTime}
+use Rattle.catserve.proofs.SessionEnds.{Answered, answered, front_answered}
+use Rattle.catserve.proofs.SessionFront.{passed_none}
+use Rattle.catserve.proofs.SessionHears.{hears_line, hears_load, hears_then}
+use Rattle.catserve.proofs.SessionTalk.{converses_more, converses_none}
+use Rattle.catserve.proofs.SessionWaits.{open_each, open_line, open_text, open_then}
+
+-- ---- reads
+
+append_cancel : (xs ys zs : List ℕ) → xs ++ ys ≡ xs ++ zs → ys ≡ zs
+append_cancel [] ys zs same = same
+append_cancel (x ∷ xs) ys zs same = append_cancel xs ys zs (cc)
+
+abbrev pub open_none : (log : Log) (workers : ℕ) (x : Incoming) → ReadsOpen log log workers x []
+open_none log workers x = record {
+  events = [];
+  logged = grows_none log;
+  came_is = refl;
+  silent = refl;
+  each = answers_none (StillOpen workers x);
+}
+
+-- what came is known
+pub open_known : (a b : Log) (workers : ℕ) (x : Incoming) (more : List ℕ) (reads : ReadsWhile a b (StillOpen workers x))
+    → came reads.events ≡ more → ReadsOpen a b workers x more
+open_known a b workers x more reads known = record {
+  events = reads.events;
+  logged = reads.logged;
+  came_is = known;
+  silent = reads.silent;
+  each = reads.each;
+}
+
+abbrev pub reads_open : (a b : Log) (workers : ℕ) (x : Incoming) (more : List ℕ) → ReadsOpen a b workers x more
+    → ReadsWhile a b (StillOpen workers x)
+reads_open a b workers x more reads = record
+    { events = reads.events; logged = reads.logged; silent = reads.silent; each = reads.each }
+
+-- a line was waited for
+pub line_reads : (i j : InputSeen) (workers : ℕ) (a b : Log) (x y : Incoming) (got : HasGot i j x y [])
+    → Waits a b x y [] (StillWaits x 0) → ReadsOpen a b workers x got.more
+line_reads i j workers a b x y got waits = open_known a b workers x got.more (open_line workers a b x y [] waits)
+    (append_cancel x.left (came waits.events) got.more (waits.placed ∙ append-nil y.left ∙ got.behind))
+
+-- a line was waited for, and then more
+pub open_more : (i j : InputSeen) (workers : ℕ) (a b c : Log) (x y : Incoming) (more : List ℕ) (got : HasGot i j x y [])
+    → Waits a b x y [] (StillWaits x 0) → ReadsOpen b c workers y more
+    → ReadsOpen a c workers x (got.more ++ more)
+open_more i j workers a b c x y more got waits reads = record {
+  events = waits.events ++ reads.events;
+  logged = grows_then a b c waits.events reads.events waits.logged reads.logged;
+  came_is = came_then waits.events reads.events ∙ ap (λ xs. xs ++ came reads.events) first
+      ∙ ap (λ xs. got.more ++ xs) reads.came_is;
+  silent = given_then waits.events reads.events ∙ ap (λ xs. xs ++ gave reads.events) waits.silent ∙ reads.silent;
+  each = open_each workers a b c x y got.more got.may waits (reads_open b c workers y more reads);
+} where
+  first : came waits.events ≡ got.more
+  first = append_cancel x.left (came waits.events) got.more (waits.placed ∙ append-nil y.left ∙ got.behind)
+
+pub in_time_then : (i j k : InputSeen) (a b c : Log) (workers : ℕ) (x y z : HearingValue)
+    (r : Result (Option Heard) SessionFault) (stays : Stays i j x y [])
+    → Waits a b x.input y.input [] (StillWaits x.input 0)
+    → HearsInTime j k b c workers y z r → HearsInTime i k a c workers x z r
+in_time_then i j k a b c workers x y z (Ok (Some thing)) stays waits (h, reads) = (
+  hears_then i j k workers x y z (Ok (Some thing)) stays h,
+  open_more i j workers a b c x.input y.input h.taken.more stays.got waits reads,
+)
+in_time_then i j k a b c workers x y z (Ok None) stays waits (h, reads) = (
+  hears_then i j k workers x y z (Ok None) stays h,
+  open_then workers a b c x.input y.input stays.got.more stays.got.may waits reads,
+)
+in_time_then i j k a b c workers x y z (Err fault) stays waits (h, reads) = (
+  hears_then i j k workers x y z (Err fault) stays h,
+  open_then workers a b c x.input y.input stays.got.more stays.got.may waits reads,
+)
+
+-- the input has ended
+pub end_heard : (i j : InputSeen) (a b : Log) (workers : ℕ) (x y : HearingValue) → Stays i j x y []
+    → (y.input.ended ≡ true) × (length y.input.left ≡ 0) → Waits a b x.input y.input [] (StillWaits x.input 0)
+    → HearsEnd i j x y × ReadsWhile a b (StillOpen workers x.input)
+end_heard i j a b workers x y stays (ended, none) waits = (
+  record {
+    got = stays.got;
+    left = nil_from_length y.input.left none;
+    ended = ended;
+    number = stays.number;
+    size = stays.size;
+  },
+  open_line workers a b x.input y.input [] waits,
+)
+
+-- ---- a load's text
+
+pub text_reads : (a b : Log) (x y : Incoming) (end count place : ℕ) → EndsLine x 0 end → EndsLines count y end place
+    → Waits a b x y [] (StillCounts count x end)
+    → ReadsText a b x (record { left = drop place y.left; ended = y.ended }) end count
+    (take (place - end) (drop end y.left))
+text_reads a b x y end count place line ends waits = record {
+  events = waits.events;
+  logged = waits.logged;
+  placed = here ∙ sym (take-append-drop place y.left) ∙ ap (λ xs. xs ++ drop place y.left) (cut ∙ ap (λ xs. xs
+      ++ take (place - end) (drop end y.left)) first);
+  silent = waits.silent;
+  each = waits.each;
+} where
+  here : x.left ++ came waits.events ≡ y.left
+  here = waits.placed ∙ append-nil y.left
+
+  cut : take place y.left ≡ take end y.left ++ take (place - end) (drop end y.left)
+  cut = ap (λ n. take n y.left) (omega (arith, ends.low)) ∙ take-add end (place - end) y.left
+
+  first : take end y.left ≡ take end x.left
+  first = ap (take end) (sym here) ∙ take-append-le end x.left (came waits.events) line.within
+
+abbrev pub text_whole : (a b : Log) (x y : Incoming) (end count : ℕ) (bytes : List ℕ)
+    → ReadsText a b x y end count bytes
+    → ReadsWhile a b (StillCounts count x end)
+text_whole a b x y end count bytes reads = record
+    { events = reads.events; logged = reads.logged; silent = reads.silent; each = reads.each }
+
+-- the text came that was heard
+pub text_came : (i j : InputSeen) (a b : Log) (x y : HearingValue) (end count : ℕ) (bytes : List ℕ)
+    (h : HearsText i j x y end count bytes) (reads : ReadsText a b x.input y.input end count bytes)
+    → came reads.events ≡ h.taken.more
+text_came i j a b x y end count bytes h reads = append_cancel x.input.left (came reads.events) h.taken.more
+    (reads.placed ∙ ap (λ bs. (take end x.input.left ++ bs) ++ y.input.left) h.bytes_are ∙ sym h.taken.whole)
+
+-- ---- what was heard
+
+-- lines were heard that say these commands, and how they were read
+abbrev pub HearsSo : InputSeen → InputSeen → Log → Log → ℕ → HearingValue → HearingValue → List Command → Type 0
+HearsSo i j a b workers x y commands = (h : Hears i j workers x y commands)
+    × ReadsOpen a b workers x.input h.taken.more
+
+pub line_heard : (log : Log) (i : InputSeen) (workers : ℕ) (x : HearingValue) (end size : ℕ) (line : Line)
+    (commands : List Command) → x.number < most_lines → EndsLine x.input 0 end → IsUtf8 (take end x.input.left)
+    → line_of workers (without_end (take end x.input.left)) ≡ Some line
+    → ((behind : List (List ℕ)) → saying (Some line) behind ≡ Says commands 0)
+    → size ≡ size_behind commands (x.size + end)
+    → HearsSo i i log log workers x (record {
+      input = record { left = drop end x.input.left; ended = x.input.ended };
+      number = x.number + 1;
+      size = size;
+    }) commands
+line_heard log i workers x end size line commands few ends utf8 is says size_is = (
+  hears_line i workers x end size line commands few ends utf8 is says size_is,
+  open_none log workers x.input,
+)
+
+pub load_heard : (i j : InputSeen) (a b : Log) (workers : ℕ) (x y : HearingValue) (end count : ℕ)
+    (domain locale bytes : List ℕ) (options : Options) → x.number < most_lines → EndsLine x.input 0 end
+    → line_of workers (without_end (take end x.input.left)) ≡ Some (Loads domain locale options count)
+    → HearsText i j x y end count bytes → ReadsText a b x.input y.input end count bytes
+    → HearsSo i j a b workers x y (Load (record { domain = domain; locale = locale; source = Po bytes options }) ∷ [])
+load_heard i j a b workers x y end count domain locale bytes options few line is h reads = (
+  hears_load i j workers x y end count domain locale bytes options few is h,
+  open_known a b workers x.input h.taken.more (open_text workers a b x.input end count domain locale options line is
+      (text_whole a b x.input y.input end count bytes reads)) (text_came i j a b x y end count bytes h reads),
+)
+
+-- ---- steps
+
+-- all that had ended is answered, while no further round ends
+pub is_answered : (given : Option ℕ) (i j : InputSeen) (o o' : OutputSeen) (y : HearingValue) (front : List (List ℕ))
+    (a : Answered given i j o o' y front) (t g : List ℕ) → StillOpen a.workers y.input t g
+    → IsAnswered given (a.taken.more ++ t) (a.output ++ g)
+is_answered given i j o o' y front a t g still =
+    let Plays : List ℕ → Type 0 = λ out. PlaysAll a.workers [] a.rounds out in
+    record {
+      front = front;
+      rest = y.input.left ++ t;
+      whole = ap (λ xs. xs ++ t) a.taken.whole ∙ append_assoc (concat front) y.input.left t;
+      lines_are = λ more. ap lines (append_assoc a.taken.more t more)
+          ∙ a.taken.cut (t ++ more) (λ ended. both y.input.ended ended still.going)
+          ∙ ap (λ xs. front ++ lines xs) (sym (append_assoc y.input.left t more));
+      workers = a.workers;
+      rounds = a.rounds;
+      ended_are = a.ended;
+      plays = subst Plays (sym (ap (λ xs. a.output ++ xs) still.silent ∙ append-nil a.output)) a.plays;
+      is_open = still.is_open;
+    }
+
+pub begins_timely : (given : Option ℕ) (log : Log) → InTime given log log [] []
+begins_timely given log = record {
+  events = [];
+  logged = grows_none log;
+  came_is = refl;
+  given_is = refl;
+  first = answers_none (IsAnswered given);
+}
+
+-- reads, before each of which all was answered
+reads_first : (given : Option ℕ) (a b c : Log) (text output : List ℕ) (workers : ℕ) (y : Incoming)
+    (had : InTime given a b text output)
+    → ((t g : List ℕ) → StillOpen workers y t g → IsAnswered given (text ++ t) (output ++ g))
+    → (reads : ReadsWhile b c (StillOpen workers y)) → AnswersFirst (IsAnswered given) (had.events ++ reads.events)
+reads_first given a b c text output workers y had here reads =
+    let Here : List ℕ → List ℕ → Type 0 = λ xs ys. (t g : List ℕ) → StillOpen workers y t g
+    → IsAnswered given (xs ++ t) (ys ++ g) in
+    let at : Here (came had.events) (gave had.events) = subst (λ xs. Here xs (gave had.events)) (sym had.came_is)
+    (subst (λ ys. Here text ys) (sym had.given_is) here) in
+    answers_then (IsAnswered given) had.events reads.events had.first (answers_so (StillOpen workers y)
+    (λ t g. IsAnswered given (came had.events ++ t) (gave had.events ++ g)) reads.events at reads.each)
+
+pub reads_timely : (given : Option ℕ) (a b c : Log) (text output more : List ℕ) (workers : ℕ) (y : Incoming)
+    → InTime given a b text output
+    → ((t g : List ℕ) → StillOpen workers y t g → IsAnswered given (text ++ t) (output ++ g))
+    → ReadsOpen b c workers y more → InTime given a c (text ++ more) output
+reads_timely given a b c text output more workers y had here reads = record {
+  events = had.events ++ reads.events;
+  logged = grows_then a b c had.events reads.events had.logged reads.logged;
+  came_is = came_then had.events reads.events ∙ ap (λ xs. xs ++ came reads.events) had.came_is
+      ∙ ap (λ xs. text ++ xs) reads.came_is;
+  given_is = given_then had.events reads.events ∙ ap (λ xs. gave had.events ++ xs) reads.silent
+      ∙ append-nil (gave had.events) ∙ had.given_is;
+  first = reads_first given a b c text output workers y had here (reads_open b c workers y more reads);
+}
+
+pub gives_timely : (given : Option ℕ) (a b c : Log) (text output bytes : List ℕ) → InTime given a b text output
+    → Grows b c (Gave bytes ∷ []) → InTime given a c text (output ++ bytes)
+gives_timely given a b c text output bytes had logged = record {
+  events = had.events ++ Gave bytes ∷ [];
+  logged = grows_then a b c had.events (Gave bytes ∷ []) had.logged logged;
+  came_is = came_then had.events (Gave bytes ∷ []) ∙ append-nil (came had.events) ∙ had.came_is;
+  given_is = given_then had.events (Gave bytes ∷ []) ∙ ap (λ xs. gave had.events ++ xs) (append-nil bytes)
+      ∙ ap (λ xs. xs ++ bytes) had.given_is;
+  first = answers_then (IsAnswered given) had.events (Gave bytes ∷ []) had.first (answers_write
+      (λ t g. IsAnswered given (came had.events ++ t) (gave had.events ++ g)) bytes);
+}
+
+-- ---- the end
+
+gives_last : (given : Option ℕ) (a b c : Log) (events : List Event) → Grows a b events
+    → AnswersFirst (IsAnswered given) events → GivesSome b c → AnswersInTime given a c
+gives_last given a b c events logged first (inl none) = record {
+  events = events;
+  logged = subst (Grows a c) (append-nil events) (grows_then a b c events [] logged none);
+  first = first;
+}
+gives_last given a b c events logged first (inr (bytes, gave_it)) = record {
+  events = events ++ Gave bytes ∷ [];
+  logged = grows_then a b c events (Gave bytes ∷ []) logged gave_it;
+  first = answers_then (IsAnswered given) events (Gave bytes ∷ []) first (answers_write
+      (λ t g. IsAnswered given (came events ++ t) (gave events ++ g)) bytes);
+}
+
+pub gives_none : (log : Log) → GivesSome log log
+gives_none log = inl (grows_none log)
+
+pub ends_at : (given : Option ℕ) (a b : Log) (text output : List ℕ) → InTime given a b text output
+    → AnswersInTime given a b
+ends_at given a b text output had = record { events = had.events; logged = had.logged; first = had.first }
+
+-- more is read, and then some bytes may be given
+pub ends_timely : (given : Option ℕ) (a b c d : Log) (text output : List ℕ) (workers : ℕ) (y : Incoming)
+    → InTime given a b text output
+    → ((t g : List ℕ) → StillOpen workers y t g → IsAnswered given (text ++ t) (output ++ g))
+    → ReadsWhile b c (StillOpen workers y) → GivesSome c d → AnswersInTime given a d
+ends_timely given a b c d text output workers y had here reads gives =
+    gives_last given a c d (had.events ++ reads.events) (grows_then a b c had.events reads.events had.logged
+    reads.logged)
+    (reads_first given a b c text output workers y had here reads) gives
+
+-- ---- the talk
+
+pub talks_none : (workers : ℕ) (i : InputSeen) (o : OutputSeen) (x : HearingValue) (start : TalkValue) (log : Log)
+    → 0 < x.number → IsFresh workers start → TalksInTime workers i i o o x x start start log log
+talks_none workers i o x start log some fresh = (
+  converses_none workers i o x start some fresh,
+  λ given first b before begun. subst (λ xs. InTime given before log xs []) (sym (append-nil b.taken.more)) begun,
+)
+
+-- what is read for the next line is read in time
+pub talks_here : (given : Option ℕ) (first i j : InputSeen) (o o' : OutputSeen) (x y : HearingValue) (workers : ℕ)
+    (start talk : TalkValue) (begun : Begins given first i x workers) (c : Conversing workers i j o o' x y start talk)
+    → IsFresh workers start → (t g : List ℕ) → StillOpen workers y.input t g
+    → IsAnswered given ((begun.taken.more ++ c.taken.more) ++ t) (c.written ++ g)
+talks_here given first i j o o' x y workers start talk begun c fresh = is_answered given first j o o' y
+    (begun.front ++ c.lines) (answered given first i j o o' x y workers start talk begun c fresh)
+
+moved : (given : Option ℕ) (a b c : Log) (front mid back output : List ℕ)
+    → InTime given a b ((front ++ mid) ++ back) output
+    → c ≡ b → InTime given a c (front ++ (mid ++ back)) output
+moved given a b c front mid back output had same = subst (λ log. InTime given a log (front ++ (mid ++ back)) output)
+    (sym same) (subst (λ xs. InTime given a b xs output) (append_assoc front mid back) had)
+
+pub talks_more : (workers : ℕ) (i j k : InputSeen) (o o' o'' : OutputSeen) (x y z : HearingValue)
+    (start old new : TalkValue) (a b c d : Log) (thing : Heard) → IsFresh workers start
+    → TalksInTime workers i j o o' x y start old a b
+    → (h : Hears j k workers y z (commands_of thing)) × ReadsOpen b c workers y.input h.taken.more
+    → RespondsInTime thing old new o' o'' c d → TalksInTime workers i k o o'' x z start new a d
+talks_more workers i j k o o' o'' x y z start old new a b c d thing fresh talks heard_it responds =
+    by_thing thing heard_it responds
+  where
+    read : (more : List ℕ) → ReadsOpen b c workers y.input more → (given : Option ℕ) (first : InputSeen)
+        (begun : Begins given first i x workers) (before : Log) → InTime given before a begun.taken.more []
+        → InTime given before c ((begun.taken.more ++ talks.0.taken.more) ++ more) talks.0.written
+    read more reads given first begun before timely = reads_timely given before b c
+        (begun.taken.more ++ talks.0.taken.more) talks.0.written more workers y.input
+        (talks.1 given first begun before timely)
+        (talks_here given first i j o o' x y workers start old begun talks.0 fresh) reads
+
+    by_thing : (thing : Heard)
+        → (h : Hears j k workers y z (commands_of thing)) × ReadsOpen b c workers y.input h.taken.more
+        → RespondsInTime thing old new o' o'' c d → TalksInTime workers i k o o'' x z start new a d
+    by_thing heard.Nothing (h, reads) (done, same) = (
+      converses_more workers i j k o o' o'' x y z start old new heard.Nothing talks.0 h done,
+      λ given first begun before timely. moved given before c d begun.taken.more talks.0.taken.more h.taken.more
+          talks.0.written (read h.taken.more reads given first begun before timely) same,
+    )
+    by_thing (heard.Load job) (h, reads) (done, same) = (
+      converses_more workers i j k o o' o'' x y z start old new (heard.Load job) talks.0 h done,
+      λ given first begun before timely. moved given before c d begun.taken.more talks.0.taken.more h.taken.more
+          talks.0.written (read h.taken.more reads given first begun before timely) same,
+    )
+    by_thing (heard.Ask worker query) (h, reads) (done, same) = (
+      converses_more workers i j k o o' o'' x y z start old new (heard.Ask worker query) talks.0 h done,
+      λ given first begun before timely. moved given before c d begun.taken.more talks.0.taken.more h.taken.more
+          talks.0.written (read h.taken.more reads given first begun before timely) same,
+    )
+    by_thing heard.Go (h, reads) (answers, logged) = (
+      converses_more workers i j k o o' o'' x y z start old new heard.Go talks.0 h answers,
+      λ given first begun before timely. gives_timely given before c d
+          (begun.taken.more ++ (talks.0.taken.more ++ h.taken.more)) talks.0.written answers.lines
+          (moved given before c c begun.taken.more talks.0.taken.more h.taken.more talks.0.written
+          (read h.taken.more reads given first begun before timely) refl) logged,
+    )
+
+-- nothing more is heard, or what was heard isn't answered
+pub talks_last : (workers : ℕ) (i j : InputSeen) (o o' : OutputSeen) (x y : HearingValue) (start talk : TalkValue)
+    (a b c d : Log) → IsFresh workers start → TalksInTime workers i j o o' x y start talk a b
+    → ReadsWhile b c (StillOpen workers y.input) → GivesSome c d → ContinuesInTime workers i x a d
+talks_last workers i j o o' x y start talk a b c d fresh talks reads gives given first begun before timely =
+    ends_timely given before b c d (begun.taken.more ++ talks.0.taken.more) talks.0.written workers y.input
+    (talks.1 given first begun before timely)
+    (talks_here given first i j o o' x y workers start talk begun talks.0 fresh) reads gives
+
+-- ---- the front
+
+abbrev no_output : OutputSeen
+no_output = record { bytes = None; failures = 0 }
+
+-- nothing is due in front of the commands
+passed_here : (i j : InputSeen) (y : HearingValue) (front : List (List ℕ)) (passed : HasPassed i j unheard y front)
+    (t g : List ℕ) → StillOpen 2 y.input t g → IsAnswered None (passed.taken.more ++ t) ([] ++ g)
+passed_here i j y front passed = is_answered None i j no_output no_output y front
+    (front_answered i j no_output y front passed)
+
+-- lines in front that say nothing were passed in time
+abbrev pub PassesInTime : InputSeen → InputSeen → HearingValue → List (List ℕ) → Log → Log → Type 0
+PassesInTime i j y front a b = (passed : HasPassed i j unheard y front) × InTime None a b passed.taken.more []
+
+pub passes_none : (i : InputSeen) (log : Log) → PassesInTime i i unheard [] log log
+passes_none i log = (passed_none i unheard, begins_timely None log)
+
+-- one line more was waited for
+pub passed_timely : (i j k : InputSeen) (y z : HearingValue) (front : List (List ℕ)) (a b c : Log)
+    (passed : HasPassed i j unheard y front) → InTime None a b passed.taken.more []
+    → (stays : Stays j k y z []) → Waits b c y.input z.input [] (StillWaits y.input 0)
+    → InTime None a c (passed.taken.more ++ stays.got.more) []
+passed_timely i j k y z front a b c passed timely stays waits = reads_timely None a b c passed.taken.more []
+    stays.got.more 2 y.input timely (passed_here i j y front passed)
+    (line_reads j k 2 b c y.input z.input stays.got waits)
+
+-- it didn't come
+pub passed_last : (i j : InputSeen) (y : HearingValue) (z : Incoming) (front : List (List ℕ)) (lost : List ℕ)
+    (a b c : Log) (passed : HasPassed i j unheard y front) → InTime None a b passed.taken.more []
+    → Waits b c y.input z lost (StillWaits y.input 0) → AnswersInTime None a c
+passed_last i j y z front lost a b c passed timely waits = ends_timely None a b c c passed.taken.more [] 2 y.input
+    timely
+    (passed_here i j y front passed) (open_line 2 b c y.input z lost waits) (gives_none c)

@@ -1,0 +1,115 @@
+-- When a session waits.
+use Rattle.std.proofs.Common.{◌≡◌, ◌∙◌, refl, sym, ap, subst, ℕ, false, List, [], ◌∷◌, ◌++◌}
+use Rattle.std.proofs.Common.{length, arith}
+use Rattle.std.proofs.Common.{take, inl, inr, append_assoc, length-append, Some}
+use Rattle.std.proofs.lemmas.Bool.{cases_Bool}
+use Rattle.std.proofs.lemmas.List.{append-nil, take-append-le}
+use Rattle.catalogue.specs.declared.Options.{Options}
+use Rattle.devices.specs.Logs.{AnswersFirst, Log, came, given}
+use Rattle.devices.proofs.Logging.{answers_none, answers_so, answers_then, given_then, grows_none, grows_then}
+use Rattle.line_input.specs.Lines.{without_end}
+use Rattle.line_input.specs.Incoming.{EndsLine, Incoming, MayCome}
+use Rattle.line_input.specs.Waiting.{ReadsWhile, StillCounts, StillWaits, Waits}
+use Rattle.line_input.proofs.Arriving.{both}
+use Rattle.line_input.proofs.LineCounting.{ends_grown, ends_more, ends_none}
+use Rattle.script_text.specs.Commands.{Loads, line_of}
+use Rattle.catserve.specs.Session.{IsOpen, coming}
+use Rattle.catserve.specs.Timing.{StillOpen}
+
+pub reads_none : (log : Log) (Still : List ℕ → List ℕ → Type 0) → ReadsWhile log log Still
+reads_none log Still = record { events = []; logged = grows_none log; silent = refl; each = answers_none Still }
+
+abbrev pub reads_of : (a b : Log) (x y : Incoming) (lost : List ℕ) (Still : List ℕ → List ℕ → Type 0)
+    → Waits a b x y lost Still → ReadsWhile a b Still
+reads_of a b x y lost Still waits = record
+    { events = waits.events; logged = waits.logged; silent = waits.silent; each = waits.each }
+
+abbrev pub reads_so : (a b : Log) (Still Other : List ℕ → List ℕ → Type 0) → ((c g : List ℕ) → Still c g → Other c g)
+    → ReadsWhile a b Still → ReadsWhile a b Other
+reads_so a b Still Other so reads = record {
+  events = reads.events;
+  logged = reads.logged;
+  silent = reads.silent;
+  each = answers_so Still Other reads.events so reads.each;
+}
+
+-- no whole line has come
+pub line_open : (workers : ℕ) (x : Incoming) (c g : List ℕ) → StillWaits x 0 c g → StillOpen workers x c g
+line_open workers x c g still = record { going = still.going; is_open = inl still.lacks; silent = still.silent }
+
+abbrev pub open_line : (workers : ℕ) (a b : Log) (x y : Incoming) (lost : List ℕ) → Waits a b x y lost (StillWaits x 0)
+    → ReadsWhile a b (StillOpen workers x)
+open_line workers a b x y lost waits = reads_so a b (StillWaits x 0) (StillOpen workers x)
+    (line_open workers x)
+    (reads_of a b x y lost (StillWaits x 0) waits)
+
+-- a load without its whole text
+pub text_open : (workers : ℕ) (x : Incoming) (end count : ℕ) (domain locale : List ℕ) (options : Options)
+    → EndsLine x 0 end → line_of workers (without_end (take end x.left)) ≡ Some (Loads domain locale options count)
+    → (c g : List ℕ) → StillCounts count x end c g → StillOpen workers x c g
+text_open workers x end count domain locale options line says c g still = record {
+  going = still.going;
+  is_open = inr (record {
+    end = end;
+    first = ends_grown 1 x (coming (x.left ++ c)) 0 end c still.going refl
+        (ends_more 0 x 0 0 end (ends_none x 0 (omega arith)) line);
+    domain = domain;
+    locale = locale;
+    options = options;
+    count = count;
+    says = ap (λ raw. line_of workers (without_end raw)) (take-append-le end x.left c line.within) ∙ says;
+    lines = still.ended;
+    fewer = still.fewer;
+    text_end = still.end;
+    ends = still.ends;
+    lacks = still.lacks;
+  });
+  silent = still.silent;
+}
+
+abbrev pub open_text : (workers : ℕ) (a b : Log) (x : Incoming) (end count : ℕ) (domain locale : List ℕ)
+    (options : Options)
+    → EndsLine x 0 end → line_of workers (without_end (take end x.left)) ≡ Some (Loads domain locale options count)
+    → ReadsWhile a b (StillCounts count x end) → ReadsWhile a b (StillOpen workers x)
+open_text workers a b x end count domain locale options line says reads = reads_so a b (StillCounts count x end)
+    (StillOpen workers x) (text_open workers x end count domain locale options line says) reads
+
+-- ---- one after another
+
+going_before : (x : Incoming) (more : List ℕ) → ((text : List ℕ) → MayCome x (more ++ text)) → x.ended ≡ false
+going_before x more may = elim (cases_Bool x.ended) [
+  | inl ended ↦ absurd (omega (arith, ap length (may (65 ∷ []) ended), length-append more (65 ∷ [])))
+  | inr goes ↦ goes
+]
+
+pub open_each : (workers : ℕ) (a b c : Log) (x y : Incoming) (more : List ℕ)
+    → ((text : List ℕ) → MayCome y text → MayCome x (more ++ text)) → (waits : Waits a b x y [] (StillWaits x 0))
+    → (reads : ReadsWhile b c (StillOpen workers y))
+    → AnswersFirst (StillOpen workers x) (waits.events ++ reads.events)
+open_each workers a b c x y more may waits reads =
+    answers_then (StillOpen workers x) waits.events reads.events
+    (answers_so (StillWaits x 0) (StillOpen workers x) waits.events (line_open workers x) waits.each)
+    (answers_so (StillOpen workers y) (λ t g. StillOpen workers x (came waits.events ++ t) (given waits.events ++ g))
+    reads.events still reads.each)
+  where
+    here : x.left ++ came waits.events ≡ y.left
+    here = waits.placed ∙ append-nil y.left
+
+    still : (t g : List ℕ) → StillOpen workers y t g
+        → StillOpen workers x (came waits.events ++ t) (given waits.events ++ g)
+    still t g was = record {
+      going = going_before x more (λ text. may text (λ ended. both y.ended ended was.going));
+      is_open = subst (IsOpen workers) (sym (sym (append_assoc x.left (came waits.events) t) ∙ ap (λ xs. xs ++ t) here))
+          was.is_open;
+      silent = ap (λ h. h ++ g) waits.silent ∙ was.silent;
+    }
+
+pub open_then : (workers : ℕ) (a b c : Log) (x y : Incoming) (more : List ℕ)
+    → ((text : List ℕ) → MayCome y text → MayCome x (more ++ text)) → Waits a b x y [] (StillWaits x 0)
+    → ReadsWhile b c (StillOpen workers y) → ReadsWhile a c (StillOpen workers x)
+open_then workers a b c x y more may waits reads = record {
+  events = waits.events ++ reads.events;
+  logged = grows_then a b c waits.events reads.events waits.logged reads.logged;
+  silent = given_then waits.events reads.events ∙ ap (λ g. g ++ given reads.events) waits.silent ∙ reads.silent;
+  each = open_each workers a b c x y more may waits reads;
+}
