@@ -18,10 +18,15 @@ use Rattle.life.specs.Laws.{EnterKeeps, AskKeeps, AskFaultKeeps, LearnKeeps, Set
 
 -- ---- a reader
 
-leads_snoc : (a : List (List LoadValue)) (acts : List Act) (b c : List (List LoadValue)) (act : Act)
+pub leads_snoc : (a : List (List LoadValue)) (acts : List Act) (b c : List (List LoadValue)) (act : Act)
     → LeadsAll a acts b → Leads b act c → LeadsAll a (acts ++ act ∷ []) c
 leads_snoc a [] b c act all one = (c, subst (λ (x : List (List LoadValue)). Leads x act c) all one, refl)
 leads_snoc a (x ∷ xs) b c act (next, here, rest) one = (next, here, leads_snoc next xs b c act rest one)
+
+pub leads_append : (a : List (List LoadValue)) (xs : List Act) (b : List (List LoadValue)) (ys : List Act)
+    (c : List (List LoadValue)) → LeadsAll a xs b → LeadsAll b ys c → LeadsAll a (xs ++ ys) c
+leads_append a [] b ys c is more = subst (λ (x : List (List LoadValue)). LeadsAll x ys c) is more
+leads_append a (x ∷ xs) b ys c (next, here, rest) more = (next, here, leads_append next xs b ys c rest more)
 
 pub enter_keeps : EnterKeeps
 enter_keeps acts old entry new version looked acted later is texts same =
@@ -43,7 +48,7 @@ ask_fault_keeps acts old new acted later =
     record { later = later; version_is = refl; texts = tt } in
     leads_snoc [] acts old.batches new.batches (Enters (version_of new.batches) []) acted one
 
-same_batches : (new old notice : SeenValue) → (new ≡ old) ⊎ (new ≡ notice)
+pub same_batches : (new old notice : SeenValue) → (new ≡ old) ⊎ (new ≡ notice)
     → (new.batches ≡ old.batches) ⊎ (new.batches ≡ notice.batches)
 same_batches new old notice (inl is) = inl (ap (λ (x : SeenValue). x.batches) is)
 same_batches new old notice (inr is) = inr (ap (λ (x : SeenValue). x.batches) is)

@@ -1,7 +1,9 @@
 pub mod Calls
+pub mod Entries
 pub mod Histories
 pub mod Weaving
 pub mod OneLife
 pub mod Serving
+pub mod Clients
 pub mod Running
 pub mod Fresh

@@ -4,28 +4,28 @@ use Rattle.std.specs.Prelude.{get_or}
 use Rattle.std.proofs.Common.{◌≡◌, ℕ, ◌+◌, ◌<◌, List, [], ◌∷◌, ◌++◌, take, drop, length, refl, sym, ap, ◌∙◌, subst}
 use Rattle.std.proofs.lemmas.List.{take_more, take-append-drop}
 use Rattle.live_set.specs.Loads.{LoadValue}
-use Rattle.live_versions.specs.Batches.{version_of, StartsWith}
+use Rattle.live_versions.specs.Batches.{version_of}
 use Rattle.live_versions.specs.Seen.{SeenValue}
 use Rattle.live_versions.specs.Store.{StoreValue}
 use Rattle.live_versions.specs.declared.fault.StoreFault.{StoreFault}
 use Rattle.live_versions.specs.declared.fault.StoreFault.TheVariants as fault
 use Rattle.live_versions.specs.History.{Event, State, Accept, Refuse, opened, state_from, state_of}
 use Rattle.live_versions.specs.History.{Publish as Publishes}
-use Rattle.desks.specs.declared.desk.Desk.{Desk}
 use Rattle.desks.specs.Jobs.{JobValue, IsRefused, after_publish}
-use Rattle.desks.specs.Desks.{IsServed}
-use Rattle.desks.proofs.Runs.{Runs, Level, runs_level, level_from, grows}
+use Rattle.desks.proofs.Runs.{Runs, Level, runs_level, level_from}
 use Rattle.desks.proofs.Learning.{state_append}
+use Rattle.life.specs.declared.client.Client.{Client}
 use Rattle.life.specs.declared.command.Command.{Command}
 use Rattle.life.specs.declared.command.Command.TheVariants.{Load, Publish}
 use Rattle.life.specs.declared.command.Outcome.{Outcome}
 use Rattle.life.specs.declared.command.Outcome.TheVariants.{Loaded, Refused, Published, Unpublished}
 use Rattle.life.specs.Reached.{NoneIsReaders, lists_of, HasWorked, Reached}
 use Rattle.life.specs.PublisherWork.{Does, DoesAll, StopsAfter, store_in, AreCommands}
-use Rattle.life.specs.Serving.{seen_at, with_served}
-use Rattle.life.specs.Continuing.{HasLife, KeepsWorking, StopKeeps}
+use Rattle.life.specs.Clients.{IsServed, seen_by_all}
+use Rattle.life.specs.Continuing.{acts_after, HasLife, StopKeeps}
 use Rattle.life.proofs.Calls.{work_append}
-use Rattle.life.proofs.Serving.{state_at, served_all, settled_all}
+use Rattle.life.proofs.Clients.{acted_all, settled_all}
+use Rattle.life.proofs.Serving.{state_at}
 use Rattle.life.proofs.OneLife.{one_life}
 
 pub does_more : (s u t : StoreValue) (commands : List Command) (command : Command) (outcomes : List Outcome)
@@ -150,7 +150,6 @@ pub record Worked (work : List Event) (s t : StoreValue) (commands : List Comman
     pub are : AreCommands s.most (state_of work) commands outcomes events
     pub most : t.most ≡ s.most
     pub worked : HasWorked (work ++ events) (lists_of t)
-    pub begins : StartsWith t.seen.batches s.seen.batches
 
 worked_all : (work : List Event) (s t : StoreValue) (commands : List Command) (outcomes : List Outcome)
     → HasWorked work (lists_of s) → DoesAll s commands outcomes t → Worked work s t commands outcomes
@@ -171,8 +170,6 @@ worked_all work s t commands outcomes w does =
           (runs_level s.most (state_at seen s) (state_of work) events same all.runs)
           (ap (λ (x : State). x.batches) split ∙ (sym level.batches ∙ all.level.batches))
           (ap (λ (x : State). x.pending) split ∙ (sym level.pending ∙ all.level.pending));
-      begins = subst (λ (l : List (List LoadValue)). StartsWith l s.seen.batches) all.level.batches
-          (grows (state_at seen s) events);
     }
 
 pub stop_keeps : StopKeeps
@@ -189,17 +186,16 @@ stop_keeps work s t commands w stops =
       worked = all.worked;
     }
 
-pub run_lives : (s t : StoreValue) (commands : List Command) (outcomes : List Outcome) (before done : List Desk)
+pub run_lives : (s t : StoreValue) (commands : List Command) (outcomes : List Outcome) (before done : List Client)
     → DoesAll s commands outcomes t → AllZip (IsServed s.seen t.seen) before done
     → HasLife s t commands outcomes before done
 run_lives s t commands outcomes before done does served work acts reached =
     let all : Worked work s t commands outcomes = worked_all work s t commands outcomes reached.worked does in
     let events : List Event = all.events in
-    let now : Reached (lists_of t) (seen_at done) (work ++ events)
-    (with_served s.seen t.seen acts before done) = record {
+    let now : Reached (lists_of t) (seen_by_all done) (work ++ events) (acts_after s t acts done) = record {
       worked = all.worked;
-      acted = served_all s.seen t.seen acts before done all.begins reached.acted served;
+      acted = acted_all s.seen t.seen acts before done reached.acted served;
     } in
-    let life = one_life (lists_of t) (seen_at done) (work ++ events) (with_served s.seen t.seen acts before done) now
+    let life = one_life (lists_of t) (seen_by_all done) (work ++ events) (acts_after s t acts done) now
     (settled_all s.seen t.seen before done served) in
     record { events = events; commands_are = all.are; most = all.most; reached = now; history = life.0; life = life.1 }

@@ -25,7 +25,7 @@ use Rattle.desks.proofs.Learning.{state_append}
 use Rattle.life.specs.Acts.{Act, Learns, IsEntry, IsLearning, LeadsAll}
 use Rattle.life.specs.Reached.{NoneIsReaders, lists_of, HasActed}
 use Rattle.life.specs.Serving.{entered, served_acts, with_served, seen_at, ServeKeeps}
-use Rattle.life.proofs.Calls.{work_append}
+use Rattle.life.proofs.Calls.{leads_append, work_append}
 
 -- ---- the publisher
 
@@ -96,11 +96,6 @@ either_begins (w ∷ z) (x ∷ a) (y ∷ b) p q =
     let heads : x ≡ y = cc (p.1, q.1) in
     ⊎_elim (λ (r : StartsWith a b). inl (r.0, cc (heads, r.1))) (λ (r : StartsWith b a). inr (r.0, cc (heads, r.1)))
     (either_begins z a b (p.0, cc (p.1)) (q.0, cc (q.1)))
-
-leads_append : (a : List (List LoadValue)) (xs : List Act) (b : List (List LoadValue)) (ys : List Act)
-    (c : List (List LoadValue)) → LeadsAll a xs b → LeadsAll b ys c → LeadsAll a (xs ++ ys) c
-leads_append a [] b ys c is more = subst (λ (x : List (List LoadValue)). LeadsAll x ys c) is more
-leads_append a (x ∷ xs) b ys c (next, here, rest) more = (next, here, leads_append next xs b ys c rest more)
 
 -- the answer is out of an entry that begins with what was seen
 record Entered (end cur : List (List LoadValue)) (query : QueryValue) (answer : Answer) : Type 0 where

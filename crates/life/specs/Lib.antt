@@ -1,4 +1,6 @@
 pub mod Acts
+pub mod Replies
+pub mod Clients
 pub mod Reached
 pub mod Life
 pub mod Laws

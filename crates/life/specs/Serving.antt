@@ -1,5 +1,5 @@
 -- What a call of `serve` adds to all that was done with its store before.
-use Rattle.std.specs.Prelude.{◌≡◌, List, [], ◌∷◌, ◌++◌, map}
+use Rattle.std.specs.Prelude.{List, [], ◌∷◌, ◌++◌, map}
 use Rattle.std.specs.List.{AllZip, AllByRecursion}
 use Rattle.std.specs.String.{string_bytes}
 use Rattle.live_set.specs.Asks.{QueryValue}

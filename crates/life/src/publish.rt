@@ -3,7 +3,7 @@ ghost use Rattle.std.specs.Prelude.{◌≡◌, OnOk};
 ghost use Rattle.life.specs.PublisherWork.{Does, DoesAll, StopsAfter};
 
 use crate::command::{Command, Outcome};
-use desks::load_job;
+use desks::{Gate, Place, load_job};
 use live_versions::Publisher;
 use std::alloc::{AllocError, Global};
 use std::sync::Wait;
@@ -31,8 +31,9 @@ fn do_command<R: Wait>(
 }
 
 /// Does the commands in turn.
-pub(crate) fn do_commands<R: Wait>(
+pub(crate) fn do_commands<R: Wait, G: Gate>(
     rt: &R,
+    gate: &G,
     alloc: Global,
     publisher: &mut Publisher,
     commands: &[Command],
@@ -44,6 +45,7 @@ pub(crate) fn do_commands<R: Wait>(
 {
     outcomes.clear();
     for index in 0..commands.len() {
+        gate.pass(Place::Publishing, index as u64);
         let outcome = do_command(rt, alloc, publisher, &commands[index]);
         outcomes.push(outcome)?;
     }

@@ -12,6 +12,8 @@ mod pending;
 #[cfg(test)]
 mod random;
 #[cfg(test)]
+mod rounds;
+#[cfg(test)]
 mod serving;
 #[cfg(test)]
 mod sizes;

@@ -1,9 +1,7 @@
-//! Random lists of commands and queries. Each outcome and answer is compared with a plain fold over the loads, which
+//! Random lists of commands and requests. Each outcome and reply is compared with a plain fold over the loads, which
 //! knows of no store, no catalogue and no history.
-use crate::made::{DUPLICATE, TWICE, live, load_text, query, translated};
-use desks::{Answer, Desk};
-use life::{Command, Outcome};
-use live_set::Query;
+use crate::made::{DUPLICATE, TWICE, Way, live, load_text, push_requests, query, translated};
+use life::{Client, Command, Outcome, Reply, Request};
 use live_versions::{StoreFault, Version};
 use std::alloc::{AllocError, Global};
 use std::sync::Wait;
@@ -56,6 +54,13 @@ type Step = Option<Load>;
 struct Asked {
     locale: u64,
     id: u64,
+}
+
+/// Queries that are looked up in one way: a group, or one after another.
+#[derive(Drop)]
+struct Batch {
+    way: Way,
+    asked: Vec<Asked>,
 }
 
 fn locale_of(number: u64) -> &'static str {
@@ -116,7 +121,7 @@ fn random_steps(alloc: Global, random: &mut Random) -> Result<Vec<Step>, AllocEr
 
 fn random_asked(alloc: Global, random: &mut Random) -> Result<Vec<Asked>, AllocError> {
     let mut asked = Vec::new(alloc);
-    let count = random.below(9);
+    let count = random.below(5);
     for _ in 0..count {
         asked.push(Asked {
             locale: random.below(2),
@@ -124,6 +129,22 @@ fn random_asked(alloc: Global, random: &mut Random) -> Result<Vec<Asked>, AllocE
         })?;
     }
     Ok(asked)
+}
+
+fn random_batches(alloc: Global, random: &mut Random) -> Result<Vec<Batch>, AllocError> {
+    let mut batches = Vec::new(alloc);
+    let count = random.below(5);
+    for _ in 0..count {
+        batches.push(Batch {
+            way: match random.below(3) {
+                0 => Way::Ask,
+                1 => Way::AskInto,
+                _ => Way::Group,
+            },
+            asked: random_asked(alloc, random)?,
+        })?;
+    }
+    Ok(batches)
 }
 
 /// The text of a load, in which each msgid of it is translated to its number.
@@ -163,12 +184,16 @@ fn commands_of(alloc: Global, steps: &[Step]) -> Result<Vec<Command>, AllocError
     Ok(commands)
 }
 
-fn queries_of(alloc: Global, asked: &[Asked]) -> Result<Vec<Query>, AllocError> {
-    let mut queries = Vec::new(alloc);
-    for one in asked {
-        queries.push(query(alloc, locale_of(one.locale), id_of(one.id))?)?;
+fn requests_of(alloc: Global, batches: &[Batch]) -> Result<Vec<Request>, AllocError> {
+    let mut requests = Vec::new(alloc);
+    for batch in batches {
+        let mut queries = Vec::new(alloc);
+        for one in batch.asked.as_slice() {
+            queries.push(query(alloc, locale_of(one.locale), id_of(one.id))?)?;
+        }
+        push_requests(&mut requests, batch.way, queries)?;
     }
-    Ok(queries)
+    Ok(requests)
 }
 
 /// What came of some first commands: the loads that were accepted, and the versions that were published.
@@ -226,32 +251,59 @@ impl Fold {
         found
     }
 
-    /// Whether this is the answer to a query, at a version that was published, and not below `least`.
-    fn answers(&self, asked: Asked, answer: &Answer, least: Version) -> bool {
-        let was_published = answer.version == 0 || self.published.contains(&answer.version);
-        let text = answer.text.as_str();
+    /// Whether this text is the answer to a query at a version.
+    fn gives(&self, version: Version, asked: Asked, text: &str) -> bool {
         let said: Option<u64> = text.parse().ok();
-        let right = match self.number(answer.version, asked) {
+        match self.number(version, asked) {
             Some(number) => said == Some(number),
             None => text == id_of(asked.id),
-        };
-        was_published && answer.version >= least && right
+        }
     }
 
-    /// Whether a desk has an answer to each query.
-    fn answers_all(&self, asked: &[Asked], desk: &Desk) -> bool {
-        if desk.answers.len() != asked.len() {
+    /// Whether these are the answers to some queries, all of them at one version that was published, and not below
+    /// `least`.
+    fn answers(&self, asked: &[Asked], reply: &Reply, least: Version) -> bool {
+        let was_published = reply.version == 0 || self.published.contains(&reply.version);
+        if !was_published || reply.version < least || reply.texts.len() != asked.len() {
             return false;
         }
-        let mut least = 0;
-        for (one, answer) in asked.iter().zip(desk.answers.iter()) {
-            if !self.answers(*one, answer, least) {
+        for (one, text) in asked.iter().zip(reply.texts.iter()) {
+            if !self.gives(reply.version, *one, text.as_str()) {
                 return false;
             }
-            least = answer.version;
         }
         true
     }
+
+    /// Whether a client has a reply to each request.
+    fn answers_all(&self, asked: &[&[Asked]], client: &Client) -> bool {
+        if client.replies.len() != asked.len() {
+            return false;
+        }
+        let mut least = 0;
+        for (group, reply) in asked.iter().zip(client.replies.iter()) {
+            if !self.answers(*group, reply, least) {
+                return false;
+            }
+            least = reply.version;
+        }
+        true
+    }
+}
+
+/// The queries of each request.
+fn groups_of(alloc: Global, batches: &[Batch]) -> Result<Vec<&[Asked]>, AllocError> {
+    let mut groups = Vec::new(alloc);
+    for batch in batches {
+        if batch.way == Way::Group {
+            groups.push(batch.asked.as_slice())?;
+        } else {
+            for one in batch.asked.as_slice().chunks(1) {
+                groups.push(one)?;
+            }
+        }
+    }
+    Ok(groups)
 }
 
 /// Whether a random life is as the fold says.
@@ -266,8 +318,8 @@ fn is_right<R: Threads + Wait + Sync>(
     let mut asked = Vec::new(alloc);
     let mut lists = Vec::new(alloc);
     for _ in 0..readers {
-        let one = random_asked(alloc, random)?;
-        lists.push(queries_of(alloc, one.as_slice())?)?;
+        let one = random_batches(alloc, random)?;
+        lists.push(requests_of(alloc, one.as_slice())?)?;
         asked.push(one)?;
     }
     let commands = commands_of(alloc, steps.as_slice())?;
@@ -277,7 +329,7 @@ fn is_right<R: Threads + Wait + Sync>(
         accepted: Vec::new(alloc),
         published: Vec::new(alloc),
     };
-    if life.outcomes.len() != steps.len() || life.desks.len() != asked.len() {
+    if life.outcomes.len() != steps.len() || life.clients.len() != asked.len() {
         return Ok(false);
     }
     for (step, outcome) in steps.iter().zip(life.outcomes.iter()) {
@@ -285,8 +337,9 @@ fn is_right<R: Threads + Wait + Sync>(
             return Ok(false);
         }
     }
-    for (one, desk) in asked.iter().zip(life.desks.iter()) {
-        if !fold.answers_all(one.as_slice(), desk) {
+    for (one, client) in asked.iter().zip(life.clients.iter()) {
+        let groups = groups_of(alloc, one.as_slice())?;
+        if !fold.answers_all(groups.as_slice(), client) {
             return Ok(false);
         }
     }

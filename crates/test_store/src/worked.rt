@@ -1,8 +1,9 @@
 //! Worked lives. The values were written by hand, and not taken from a run.
-use crate::made::{DUPLICATE, SALUT, TWICE, live, load_file, load_text, query, translated};
-use desks::{Accepted, Desk};
-use life::{Command, Outcome};
-use live_set::Query;
+use crate::made::{
+    DUPLICATE, SALUT, TWICE, Way, live, load_file, load_text, push_requests, query, translated,
+};
+use desks::Accepted;
+use life::{Client, Command, Outcome, Reply, Request};
 use live_versions::{StoreFault, Version};
 use mo_file::MoFault;
 use std::alloc::{AllocError, Global};
@@ -15,15 +16,26 @@ const FILE: &[u8] = b"\xde\x12\x04\x95\0\0\0\0\x02\0\0\0\x1c\0\0\0\x2c\0\0\0\0\0
     \x02\0\0\0\x3c\0\0\0\x03\0\0\0\x3f\0\0\0\x05\0\0\0\x43\0\0\0\x03\0\0\0\x49\0\0\0\
     hi\0yes\0salut\0oui\0";
 
-/// A list of `count` queries for `hi` in French for each reader.
-fn lists(alloc: Global, readers: u32, count: u32) -> Result<Vec<Vec<Query>>, AllocError> {
+/// How each reader of a test looks up, the first one first, and then all over again.
+fn way_of(reader: u32) -> Way {
+    match reader % 3 {
+        0 => Way::Group,
+        1 => Way::Ask,
+        _ => Way::AskInto,
+    }
+}
+
+/// Requests for `count` queries of `hi` in French for each reader.
+fn lists(alloc: Global, readers: u32, count: u32) -> Result<Vec<Vec<Request>>, AllocError> {
     let mut lists = Vec::new(alloc);
-    for _ in 0..readers {
+    for reader in 0..readers {
         let mut queries = Vec::new(alloc);
         for _ in 0..count {
             queries.push(query(alloc, "fr", "hi")?)?;
         }
-        lists.push(queries)?;
+        let mut requests = Vec::new(alloc);
+        push_requests(&mut requests, way_of(reader), queries)?;
+        lists.push(requests)?;
     }
     Ok(lists)
 }
@@ -32,21 +44,27 @@ fn salut(alloc: Global) -> Result<Command, AllocError> {
     load_text(alloc, "app", "fr", SALUT)
 }
 
-/// Whether each desk has `count` answers and has seen `end`. Each answer is `hi` at 0 or `salut` at `end`, and none
-/// is at 0 after one at `end`.
-fn are_right(desks: &[Desk], count: usize, end: Version) -> bool {
-    for desk in desks {
-        if desk.answers.len() != count || desk.fault.is_some() || desk.reader.seen() != end {
-            return false;
-        }
+/// Whether each text of a reply is `hi` at 0 or `salut` at `end`.
+fn is_right(reply: &Reply, end: Version) -> bool {
+    let wanted = if reply.version == 0 { "hi" } else { "salut" };
+    let whole = reply.version == 0 || reply.version == end;
+    whole && reply.texts.iter().all(|text| text.as_str() == wanted)
+}
+
+/// Whether each client has `count` texts and has seen `end`. All are right, and no reply is at 0 after one at `end`.
+fn are_right(clients: &[Client], count: usize, end: Version) -> bool {
+    for client in clients {
+        let mut texts: usize = 0;
         let mut last = 0;
-        for answer in desk.answers.as_slice() {
-            let text = if answer.version == 0 { "hi" } else { "salut" };
-            let whole = answer.version == 0 || answer.version == end;
-            if answer.version < last || !whole || answer.text.as_str() != text {
+        for reply in client.replies.as_slice() {
+            if reply.version < last || !is_right(reply, end) {
                 return false;
             }
-            last = answer.version;
+            texts = texts.saturating_add(reply.texts.len());
+            last = reply.version;
+        }
+        if texts != count || client.reader.seen() != end {
+            return false;
         }
     }
     true
@@ -70,8 +88,8 @@ fn refused(outcomes: &[Outcome], command: usize, reason: StoreFault) -> bool {
 #[test]
 fn nothing_to_do(rt: HostRuntime) -> Result<(), Fail> {
     let life = live(&rt, rt.alloc(), 9, &[], lists(rt.alloc(), 2, 0)?)?;
-    assert_eq!(rt; (life.outcomes.len(), life.desks.len()), (0, 2));
-    assert!(rt; are_right(life.desks.as_slice(), 0, 0));
+    assert_eq!(rt; (life.outcomes.len(), life.clients.len()), (0, 2));
+    assert!(rt; are_right(life.clients.as_slice(), 0, 0));
     Ok(())
 }
 
@@ -86,8 +104,8 @@ fn one_load<R: Threads + Wait + Sync>(rt: &R, alloc: Global, readers: u32) -> Re
         outcomes.len() == 2
             && loaded(outcomes, 0, translated(1))
             && published(outcomes, 1, 1)
-            && life.desks.len() == readers as usize
-            && are_right(life.desks.as_slice(), 3, 1),
+            && life.clients.len() == readers as usize
+            && are_right(life.clients.as_slice(), 3, 1),
     )
 }
 
@@ -114,7 +132,7 @@ fn loads_of_one_publish_are_seen_together(rt: HostRuntime) -> Result<(), Fail> {
         lists(rt.alloc(), 3, 50)?,
     )?;
     assert!(rt; published(life.outcomes.as_slice(), 3, 3));
-    assert!(rt; are_right(life.desks.as_slice(), 50, 3));
+    assert!(rt; are_right(life.clients.as_slice(), 50, 3));
     Ok(())
 }
 
@@ -139,7 +157,7 @@ fn each_refusal_has_its_reason(rt: HostRuntime) -> Result<(), Fail> {
     assert!(rt; refused(outcomes, 1, DUPLICATE));
     assert!(rt; refused(outcomes, 2, StoreFault::BadName));
     assert!(rt; published(outcomes, 3, 1) && published(outcomes, 4, 1));
-    assert!(rt; are_right(life.desks.as_slice(), 3, 1));
+    assert!(rt; are_right(life.clients.as_slice(), 3, 1));
     Ok(())
 }
 
@@ -164,7 +182,7 @@ fn files_have_their_outcomes(rt: HostRuntime) -> Result<(), Fail> {
     assert!(rt; loaded(outcomes, 0, Accepted::Mo(2)));
     assert!(rt; refused(outcomes, 1, StoreFault::RefusedMo(MoFault::Bounds)));
     assert!(rt; published(outcomes, 2, 1));
-    assert!(rt; are_right(life.desks.as_slice(), 3, 1));
+    assert!(rt; are_right(life.clients.as_slice(), 3, 1));
     Ok(())
 }
 
@@ -187,6 +205,6 @@ fn a_store_takes_no_more_than_its_most(rt: HostRuntime) -> Result<(), Fail> {
     assert!(rt; refused(outcomes, 1, StoreFault::VersionsSpent));
     assert!(rt; published(outcomes, 2, 1));
     assert!(rt; refused(outcomes, 3, StoreFault::VersionsSpent));
-    assert!(rt; are_right(life.desks.as_slice(), 3, 1));
+    assert!(rt; are_right(life.clients.as_slice(), 3, 1));
     Ok(())
 }

@@ -1,10 +1,11 @@
-use Rattle.desks.proofs.Desks.{kept_book}
+use Rattle.life.proofs.Clients.{kept_book}
 use Rattle.life.proofs.Running.{run_lives}
 use Rattle.life.proofs.service.run_on.Goals as goal
 
 pub returns-in-Ok-clause-life : goal.returns-in-Ok-clause-life
-returns-in-Ok-clause-life g c = run_lives c.args.publisher.now c.run_slice.new.publisher c.args.commands.now
-    c.run_slice.new.outcomes.items c.args.desks.now c.run_slice.new.desks c.in-Ok.ensures.does c.in-Ok.ensures.desks
+returns-in-Ok-clause-life g c =
+    run_lives c.args.publisher.now c.run_slice.new.publisher c.args.commands.now c.run_slice.new.outcomes.items
+    c.args.clients.now c.run_slice.new.clients c.in-Ok.ensures.does c.in-Ok.ensures.served
 
 pub returns-in-Ok-clause-again : goal.returns-in-Ok-clause-again
 returns-in-Ok-clause-again g c =

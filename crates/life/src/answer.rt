@@ -1,0 +1,206 @@
+//! The reading threads: each client's requests.
+ghost use Rattle.std.specs.List.{AllZip};
+ghost use Rattle.std.specs.Thread.{IsSync};
+ghost use Rattle.std.specs.Prelude.{◌≡◌, ◌+◌, ◌<◌, ◌^◌, [], ◌∷◌, length, IfOk, OnOk};
+ghost use Rattle.live_versions.specs.Batches.{joined, version_of, StartsWith};
+ghost use Rattle.live_versions.specs.Entering.{entry_of};
+ghost use Rattle.life.specs.Acts.{LeadsAll};
+ghost use Rattle.life.specs.Replies.{AreTextsOf, AreReplies, queries_in, acts_for};
+ghost use Rattle.life.specs.Clients.{KeepsClient, HasAnswered};
+
+use crate::client::{Client, Reply, Request};
+use desks::{Gate, Place, ServeFault};
+use live_set::Query;
+use live_versions::{AskFault, Lookups, Pinned, Version};
+use std::alloc::{AllocError, Global};
+use std::mem;
+use std::thread::{Threads, join_mut};
+
+#[tactic(auto, using(crate::proofs::Entries::texts_more))]
+/// A copy of each query's text in one entry.
+fn look_all(
+    alloc: Global,
+    pinned: &Pinned<'_>,
+    queries: &[Query],
+) -> Result<Vec<String>, AllocError>
+    ensures { IfOk result (λ texts. AreTextsOf (joined (entry_of pinned.now).batches) queries.now texts.items) }
+{
+    let mut texts = Vec::new(alloc);
+    for index in 0..queries.len() {
+        let text = String::from_str(alloc, (&*pinned).look(&queries[index]))?;
+        texts.push(text)?;
+    }
+    Ok(texts)
+}
+
+/// Answers a group of queries in one entry.
+fn answer_group(alloc: Global, reader: &mut Lookups, queries: &[Query]) -> Result<Reply, ServeFault>
+    ensures book { reader.new.book ≡ reader.old.book }
+    ensures later { StartsWith reader.new.batches reader.old.batches }
+    ensures version { IfOk result (λ reply. reply.version ≡ version_of reader.new.batches) }
+    ensures texts { IfOk result (λ reply. AreTextsOf (joined reader.new.batches) queries.now reply.texts.items) }
+{
+    let Ok(pinned) = reader.enter() else {
+        return Err(ServeFault::Closed);
+    };
+    let version = pinned.version();
+    let looked = look_all(alloc, &pinned, queries);
+    pinned.leave();
+    match looked {
+        Ok(texts) => Ok(Reply { version, texts }),
+        Err(_) => Err(ServeFault::Memory),
+    }
+}
+
+/// The reply with one text.
+fn reply_of(alloc: Global, version: Version, text: String) -> Result<Reply, ServeFault>
+    ensures { IfOk result (λ reply. (reply.version ≡ version) × (reply.texts.items ≡ text ∷ [])) }
+{
+    let mut texts = Vec::new(alloc);
+    match texts.push(text) {
+        Ok(()) => Ok(Reply { version, texts }),
+        Err(_) => Err(ServeFault::Memory),
+    }
+}
+
+/// Answers a query by `Lookups::ask`.
+fn answer_ask(alloc: Global, reader: &mut Lookups, query: &Query) -> Result<Reply, ServeFault>
+    ensures book { reader.new.book ≡ reader.old.book }
+    ensures later { StartsWith reader.new.batches reader.old.batches }
+    ensures version { IfOk result (λ reply. reply.version ≡ version_of reader.new.batches) }
+    ensures texts { IfOk result (λ reply. AreTextsOf (joined reader.new.batches) (query.now ∷ []) reply.texts.items) }
+{
+    match reader.ask(alloc, query) {
+        Ok((version, text)) => reply_of(alloc, version, text),
+        Err(AskFault::Closed) => Err(ServeFault::Closed),
+        Err(AskFault::Memory) => Err(ServeFault::Memory),
+    }
+}
+
+/// Answers a query by `Lookups::ask_into`, by way of the text `kept`.
+fn answer_into(
+    alloc: Global,
+    reader: &mut Lookups,
+    kept: &mut String,
+    query: &Query,
+) -> Result<Reply, ServeFault>
+    ensures book { reader.new.book ≡ reader.old.book }
+    ensures later { StartsWith reader.new.batches reader.old.batches }
+    ensures version { IfOk result (λ reply. reply.version ≡ version_of reader.new.batches) }
+    ensures texts { IfOk result (λ reply. AreTextsOf (joined reader.new.batches) (query.now ∷ []) reply.texts.items) }
+{
+    match reader.ask_into(query, kept) {
+        Ok(version) => match String::from_str(alloc, kept.as_str()) {
+            Ok(text) => reply_of(alloc, version, text),
+            Err(_) => Err(ServeFault::Memory),
+        },
+        Err(AskFault::Closed) => Err(ServeFault::Closed),
+        Err(AskFault::Memory) => Err(ServeFault::Memory),
+    }
+}
+
+/// Answers a request by one entry.
+fn answer(
+    alloc: Global,
+    reader: &mut Lookups,
+    kept: &mut String,
+    request: &Request,
+) -> Result<Reply, ServeFault>
+    ensures book { reader.new.book ≡ reader.old.book }
+    ensures later { StartsWith reader.new.batches reader.old.batches }
+    ensures version { IfOk result (λ reply. reply.version ≡ version_of reader.new.batches) }
+    ensures texts { IfOk result (λ reply.
+        AreTextsOf (joined reader.new.batches) (queries_in request.now) reply.texts.items) }
+{
+    match request {
+        Request::Ask(query) => answer_ask(alloc, reader, query),
+        Request::AskInto(query) => answer_into(alloc, reader, kept, query),
+        Request::Group(queries) => answer_group(alloc, reader, queries.as_slice()),
+    }
+}
+
+/// Answers each request, one after another.
+fn answer_all<G: Gate>(
+    gate: &G,
+    alloc: Global,
+    place: u32,
+    reader: &mut Lookups,
+    requests: &[Request],
+    replies: &mut Vec<Reply>,
+) -> Result<(), ServeFault>
+    ensures book { reader.new.book ≡ reader.old.book }
+    ensures later { StartsWith reader.new.batches reader.old.batches }
+    ensures each { OnOk result (AreReplies requests.now replies.new.items) }
+    ensures leads { OnOk result
+        (LeadsAll reader.old.batches (acts_for requests.now replies.new.items) reader.new.batches) }
+{
+    replies.clear();
+    let mut kept = String::new(alloc);
+    for index in 0..requests.len() {
+        gate.pass(Place::Worker(place), index as u64);
+        let reply = answer(alloc, reader, &mut kept, &requests[index])?;
+        if replies.push(reply).is_err() {
+            return Err(ServeFault::Memory);
+        }
+    }
+    Ok(())
+}
+
+/// Answers one client's requests. The replies are collected on the thread's own stack, since the clients are
+/// neighbours in memory.
+fn answer_client<G: Gate>(
+    gate: &G,
+    alloc: Global,
+    place: u32,
+    client: &mut Client,
+) -> Result<(), ServeFault>
+    ensures kept { KeepsClient client.old client.new }
+    ensures answered { OnOk result (HasAnswered client.old client.new) }
+{
+    let mut replies = mem::replace(&mut client.replies, Vec::new(alloc));
+    let answered = answer_all(
+        gate,
+        alloc,
+        place,
+        &mut client.reader,
+        client.requests.as_slice(),
+        &mut replies,
+    );
+    client.replies = replies;
+    answered
+}
+
+/// Answers the requests of all clients, whose places are counted from `place`. Each client but the last takes a thread
+/// of its own.
+pub(crate) fn answer_each<R: Threads + Sync, G: Gate + Sync>(
+    rt: &R,
+    gate: &G,
+    alloc: Global,
+    place: u32,
+    clients: &mut [Client],
+) -> Result<(), ServeFault>
+    requires { place + length clients.old < 2 ^ 32 }
+    ensures kept { AllZip KeepsClient clients.old clients.new }
+    ensures answered { OnOk result (AllZip HasAnswered clients.old clients.new) }
+{
+    let Some((client, rest)) = clients.split_first_mut() else {
+        return Ok(());
+    };
+    if rest.is_empty() {
+        return answer_client(gate, alloc, place, client);
+    }
+    let (mine, theirs) = join_mut(
+        rt,
+        &mut ||
+            ensures kept { KeepsClient client.entry.now client.exit.now }
+            ensures answered { OnOk result (HasAnswered client.entry.now client.exit.now) }
+        { answer_client(gate, alloc, place, client) },
+        &mut ||
+            requires { IsSync R.row × IsSync G.row × (place + 1 + length rest.now < 2 ^ 32) }
+            ensures kept { AllZip KeepsClient rest.entry.now rest.exit.now }
+            ensures answered { OnOk result (AllZip HasAnswered rest.entry.now rest.exit.now) }
+        { answer_each(rt, gate, alloc, place + 1, rest) },
+    );
+    mine?;
+    theirs
+}
