@@ -24,6 +24,8 @@ fi
 tar cf - --exclude target --exclude Cargo.lock rust include | tar xf - -C "$room"
 crate=$room/rust
 export CARGO_TARGET_DIR=$room/target CARGO_NET_OFFLINE=true CARGO_TERM_COLOR=never
+# (neither files for a next build nor all debug information: a quarter less processor time)
+export CARGO_INCREMENTAL=0 CARGO_PROFILE_DEV_DEBUG=line-tables-only
 export KOBDZILA_LIB_DIR=$PWD/build/lib LD_LIBRARY_PATH=$PWD/build/lib
 unset RUSTFLAGS RUSTDOCFLAGS DOCS_RS
 
