@@ -121,6 +121,35 @@ else
   failed 'the tarball: a changed program is found' "$said"
 fi
 
+# make verify, by a toolchain that doesn't prove: it hands out what was built here
+proved_before=yes
+for it in msgfmt/out/msgfmt catserve_program/out/catserve_program catsession/out/catsession; do
+  [ -f "crates/$it" ] && [ -f "crates/$it.o" ] || proved_before=
+done
+cat > "$room/rt" << END
+#!/bin/sh
+case \$1 in lib | run) ;; *) exec ${RT:-rt} "\$@" ;; esac
+name=\$(basename "\$PWD")
+mkdir -p out
+for it in "\$name" "\$name.o" "lib\$name.a"; do
+  [ ! -f "$PWD/crates/\$name/out/\$it" ] || cp "$PWD/crates/\$name/out/\$it" out
+done
+END
+chmod +x "$room/rt"
+if [ -z "$proved_before" ] || [ ! -f crates/kobdzila_c/out/libkobdzila_c.a ]; then
+  skipped 'make verify' 'no program of crates/ with its object file is here, as `make check` leaves them'
+else
+  copied "$room/made"
+  git -C "$room/made" -c user.name=test -c user.email=test commit -q --allow-empty -m sources
+  if said=$(cd "$room/made" && export RT=$room/rt && tools/dist 2>&1 &&
+    timeout 300 tools/verify_release "build/dist/$name.tar.gz" 2>&1) &&
+    [ "$(tail -n 1 <<< "$said")" = "$name.tar.gz: every byte is the same" ]; then
+    ok 'make verify'
+  else
+    failed 'make verify' "$(tail -n 3 <<< "$said")"
+  fi
+fi
+
 # --- what is in it ------------------------------------------------------------------------------------------------
 
 program=$room/unpacked/$name/bin/msgfmt
