@@ -1,8 +1,8 @@
 """Builds the wheel of kobdzila: a backend for pip (PEP 517) without dependencies, and the command of tools/wheel.
 
 It compiles the extension with the C compiler, links build/lib/libkobdzila.a into it, and packs it with the package and
-build/static/catsession, if that was built. The wheel of a commit is the same bytes in any folder and at any time: the
-members are sorted, and their time is SOURCE_DATE_EPOCH, or 1980.
+build/static/catsession, if that was built. With the same Python and compiler, the wheel of a commit is the same bytes
+in any folder and at any time: the members are sorted, and their time is SOURCE_DATE_EPOCH, or 1980.
 
 CC names the C compiler if it isn't cc, and CFLAGS adds to its options. KOBDZILA_BUILD is the build folder if it isn't
 build/ of the repository.
@@ -66,7 +66,7 @@ def compile_extension(to: Path, *more: str) -> None:
         raise Trouble(f"there is no Python.h in {headers}: Debian has it in python3-dev")
     flags = [*FLAGS, f"-ffile-prefix-map={TOP}=.", *shlex.split(os.environ.get("CFLAGS", "")), *more]
     run(*shlex.split(os.environ.get("CC", "cc")), *flags, f"-I{TOP / 'include'}", f"-I{headers}",
-        str(HERE / "src" / "_kobdzila.c"), str(archive), *LINKED, "-o", str(to))
+        *map(str, sorted((HERE / "src").glob("*.c"))), str(archive), *LINKED, "-o", str(to))
 
 
 def tag_of(extension: Path) -> str:

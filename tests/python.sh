@@ -11,9 +11,7 @@ top=$PWD
 is_usable() { "$1" -c 'import sys, ensurepip, venv; sys.exit(sys.version_info < (3, 10))' > /dev/null 2>&1; }
 
 # has_headers PYTHON
-has_headers() {
-  "$1" -c 'import os, sys, sysconfig; sys.exit(not os.path.isfile(sysconfig.get_path("include") + "/Python.h"))' 2> /dev/null
-}
+has_headers() { [ -f "$("$1" -c 'import sysconfig; print(sysconfig.get_path("include"))' 2> /dev/null)/Python.h" ]; }
 
 # script NAME LINE: a program $room/NAME, for tests/needs
 script() {
@@ -30,14 +28,16 @@ if [ ! -f build/lib/libkobdzila.a ]; then
   [ ! -f crates/kobdzila_c/out/libkobdzila_c.a ] || made=(--made)
   tools/build_library "${made[@]}" > "$room/log" 2>&1 || failed 'the Python package' "$(tail -n 2 "$room/log")"
 fi
-[ -f build/lib/libkobdzila.a ] || { skipped 'the Python package' 'no build/lib/libkobdzila.a: make library builds it'; exit 0; }
+if [ ! -f build/lib/libkobdzila.a ]; then
+  skipped 'the Python package' 'no build/lib/libkobdzila.a: make library builds it'
+  exit 0
+fi
 
 # Debian's Python first, since Flask, Jinja2 and mypy can be installed for it
 first=${PYTHON:-}
 if [ -z "$first" ]; then
   first=/usr/bin/python3
-  script debian 'python3 -c "import ensurepip" && test -f "$(python3 -c "import sysconfig; print(sysconfig.get_path(\"include\"))")/Python.h"'
-  sed -i 's/python3 -c/\/usr\/bin\/python3 -c/g' "$room/debian"
+  script debian '/usr/bin/python3 -c "import ensurepip" && /usr/bin/python3-config --includes'
   tests/needs "$room/debian" python3-dev python3-venv
   script frameworks '/usr/bin/python3 -c "import flask, jinja2"'
   tests/needs "$room/frameworks" python3-flask python3-jinja2
@@ -107,7 +107,8 @@ tested() {
     failed "$name, pip install" "$(tail -n 2 "$room/log")"
     return
   fi
-  (cd "$room" && timeout 600 "$at/bin/python" -W error -m unittest discover -v -s "$top/python/tests") > "$room/log" 2>&1
+  (cd "$room" && timeout 600 "$at/bin/python" -W error -m unittest discover -v -s "$top/python/tests") \
+    > "$room/log" 2>&1
   judged "$name" $? "$room/log"
   if ! "$at/bin/python" -c 'import test.test_gettext' > /dev/null 2>&1; then
     skipped "$name, CPython's tests of gettext" 'its installation has no module test.test_gettext'
@@ -156,7 +157,8 @@ wheel_backend.compile_extension(pathlib.Path(sys.argv[1]), "-fsanitize=address",
   failed "$name" "$(tail -n 2 "$room/log")"
 else
   (cd "$room" && PYTHONPATH=$room/sanitized LD_PRELOAD=$library ASAN_OPTIONS=detect_leaks=0 PYTHONMALLOC=malloc \
-    KOBDZILA_SANITIZED=1 timeout 900 "$first" -W error -m unittest discover -v -s "$top/python/tests") > "$room/log" 2>&1
+    KOBDZILA_SANITIZED=1 timeout 900 "$first" -W error -m unittest discover -v -s "$top/python/tests") \
+    > "$room/log" 2>&1
   judged "$name" $? "$room/log"
 fi
 

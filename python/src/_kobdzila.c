@@ -2,16 +2,10 @@
  *
  * It uses the limited API of Python 3.10, so one build serves each later version, too. The type has the look-ups of
  * the standard module gettext as methods in C; the classes of the package inherit them. */
-#define PY_SSIZE_T_CLEAN
-#define Py_LIMITED_API 0x030a0000
-#include <Python.h>
+#include "answers.h"
 
 #include <errno.h>
-#include <stdint.h>
-#include <stdlib.h>
 #include <string.h>
-
-#include <kobdzila.h>
 
 static struct PyModuleDef definition;
 
@@ -24,39 +18,12 @@ struct state {
     PyObject *names[CALLS];
 };
 
-/* The texts that were answered last, as str: a hash table with linear probing. Its keys are the place of an entry's first
- * form and the number of the form that was answered. It grows to 1 << MOST_BITS slots, and then begins anew. */
-enum { LEAST_BITS = 5, MOST_BITS = 12 };
-
-struct answer {
-    const char *first;
-    size_t form;
-    PyObject *text;
-};
-
-struct answers {
-    struct answer *slots; /* NULL, or 1 << bits of them, at most half of them used */
-    size_t used;
-    unsigned bits;
-};
-
-enum { SMALL = 128, UNKNOWN = 255 };
-
-/* What is known of the plural rule: the forms that small numbers take. They are learned from the library, by asking for
- * an entry that has every form, since a look-up with a number takes several times as long as one without. */
-struct rule {
-    enum { NOT_LOOKED_AT, NO_PLURALS, NO_WITNESS, HAS_WITNESS } state;
-    size_t witness;             /* the number of that entry */
-    unsigned char forms[SMALL]; /* or UNKNOWN */
-};
-
 struct catalogue {
     PyObject_HEAD
     kob_catalogue *held;        /* NULL: an empty catalogue */
     const struct state *state;  /* of the module, which the type keeps alive */
     PyObject *fallback;         /* asked for what isn't found; NULL or None: nobody */
     struct answers answers;
-    struct rule rule;
 };
 
 typedef PyObject *(*fast_function)(PyObject *, PyObject *const *, Py_ssize_t, PyObject *);
@@ -118,7 +85,8 @@ static int take(const struct signature *wanted, PyObject *const *args, Py_ssize_
     return 0;
 }
 
-/* Return the arguments of a call that takes all of them: `args` itself in the usual case, or `out`. NULL: an exception. */
+/* Return the arguments of a call that takes all of them: `args` itself in the usual case, else `out`. NULL: an
+ * exception. */
 static inline PyObject *const *all_of(const struct signature *wanted, PyObject *const *args, Py_ssize_t given,
                                       PyObject *keywords, PyObject **out) {
     if (given == wanted->count && !keywords)
@@ -141,8 +109,8 @@ static int utf8_of(PyObject *object, kob_text *text) {
     return 0;
 }
 
-/* Store the value of an int from 0 to 2**64 - 1 in *n and return 1. Return 0 if the object is anything else, and -1 with
- * an exception. */
+/* Store the value of an int from 0 to 2**64 - 1 in *n and return 1. Return 0 if the object is anything else, and -1
+ * with an exception. */
 static int number_of(PyObject *object, unsigned long long *n) {
     *n = PyLong_AsUnsignedLongLong(object);
     if (*n != (unsigned long long)-1 || !PyErr_Occurred())
@@ -169,111 +137,6 @@ static PyObject *bytes_of(PyObject *object) {
 static int truth_of(PyObject *object, int *truth) {
     *truth = object ? PyObject_IsTrue(object) : 0;
     return *truth < 0 ? -1 : 0;
-}
-
-/* ------------------------------------------------------------------------------------------------ answers */
-
-/* Return the slot of this answer: its own, or the free one where it belongs. */
-static struct answer *slot_of(const struct answers *answers, const char *first, size_t form) {
-    size_t mask = ((size_t)1 << answers->bits) - 1;
-    uint64_t key = (uint64_t)(uintptr_t)first + ((uint64_t)form << 56);
-    size_t place = (size_t)(key * UINT64_C(0x9E3779B97F4A7C15) >> (64 - answers->bits));
-    while (answers->slots[place].first && (answers->slots[place].first != first || answers->slots[place].form != form))
-        place = (place + 1) & mask;
-    return &answers->slots[place];
-}
-
-static void forget(struct answers *answers) {
-    struct answers before = *answers;
-    *answers = (struct answers){ NULL, 0, 0 };
-    for (size_t k = 0; before.slots && k < (size_t)1 << before.bits; k++)
-        Py_XDECREF(before.slots[k].text);
-    PyMem_Free(before.slots);
-}
-
-/* Make room for one more answer. Return 0, or -1 if memory runs out. */
-static int grow(struct answers *answers) {
-    if (answers->slots && answers->used < (size_t)1 << answers->bits >> 1)
-        return 0;
-    if (answers->bits == MOST_BITS)
-        forget(answers);
-    struct answers more = { NULL, answers->used, answers->slots ? answers->bits + 1 : LEAST_BITS };
-    more.slots = PyMem_Calloc((size_t)1 << more.bits, sizeof *more.slots);
-    if (!more.slots)
-        return -1;
-    for (size_t k = 0; answers->slots && k < (size_t)1 << answers->bits; k++)
-        if (answers->slots[k].first)
-            *slot_of(&more, answers->slots[k].first, answers->slots[k].form) = answers->slots[k];
-    PyMem_Free(answers->slots);
-    *answers = more;
-    return 0;
-}
-
-/* Return an answer that was given before, as a new reference, or NULL. */
-static PyObject *known_answer(const struct answers *answers, const char *first, size_t form) {
-    PyObject *text = answers->slots ? slot_of(answers, first, form)->text : NULL;
-    return Py_XNewRef(text);
-}
-
-/* Return a text as str, a new reference, and keep it: a text is decoded once. */
-static PyObject *new_answer(struct answers *answers, const char *first, size_t form, kob_text text) {
-    PyObject *string = PyUnicode_FromStringAndSize(text.at, (Py_ssize_t)text.len);
-    if (!string || grow(answers) < 0)
-        return string; /* (without room it is decoded again) */
-    *slot_of(answers, first, form) = (struct answer){ first, form, Py_NewRef(string) };
-    answers->used++;
-    return string;
-}
-
-/* ------------------------------------------------------------------------------------------------ plural forms */
-
-/* Return a number of forms that no value of the plural rule reaches: nplurals, or 2 if there is no rule. */
-static size_t most_forms(const kob_catalogue *held) {
-    kob_text fields = kob_find(held, (kob_text){ NULL, 0 }, (kob_text){ "", 0 }, NULL);
-    const char *count = fields.at ? strstr(fields.at, "nplurals=") : NULL;
-    size_t most = count ? (size_t)strtoull(count + strlen("nplurals="), NULL, 10) : 0;
-    return most < 2 ? 2 : most;
-}
-
-/* Look for an entry that has every form. */
-static void find_witness(struct rule *rule, const kob_catalogue *held) {
-    size_t most = most_forms(held);
-    kob_entry entry;
-    memset(rule->forms, UNKNOWN, sizeof rule->forms);
-    rule->state = NO_PLURALS;
-    for (size_t k = 0; kob_entry_at(held, k, &entry); k++) {
-        if (entry.forms > 1)
-            rule->state = NO_WITNESS;
-        if (entry.forms >= most && entry.forms < UNKNOWN) {
-            rule->state = HAS_WITNESS;
-            rule->witness = k;
-            return;
-        }
-    }
-}
-
-/* Return the number of the form that `n` takes, as the entry with every form shows it. */
-static unsigned char form_of_witness(const struct rule *rule, const kob_catalogue *held, unsigned long long n) {
-    kob_entry entry;
-    if (!kob_entry_at(held, rule->witness, &entry))
-        return UNKNOWN;
-    kob_text text = kob_find(held, entry.context, entry.msgid, &n);
-    for (size_t k = 0; k < entry.forms; k++)
-        if (kob_form_at(held, rule->witness, k).at == text.at)
-            return (unsigned char)k;
-    return UNKNOWN;
-}
-
-/* Return the number of the form that `n` takes, or UNKNOWN: the library is then asked with the number. */
-static unsigned char form_for(struct catalogue *self, unsigned long long n) {
-    struct rule *rule = &self->rule;
-    if (rule->state == NOT_LOOKED_AT)
-        find_witness(rule, self->held);
-    if (rule->state != HAS_WITNESS || n >= SMALL)
-        return rule->state == NO_PLURALS ? 0 : UNKNOWN;
-    if (rule->forms[n] == UNKNOWN)
-        rule->forms[n] = form_of_witness(rule, self->held, n);
-    return rule->forms[n];
 }
 
 /* ------------------------------------------------------------------------------------------------ opening */
@@ -340,10 +203,9 @@ static int open_bytes(struct catalogue *self, PyObject *object, int options) {
         refuse(self->state, &why);
         return -1;
     }
-    forget(&self->answers);
     kob_release(self->held);
     self->held = opened;
-    self->rule.state = NOT_LOOKED_AT;
+    forget(&self->answers);
     return 0;
 }
 
@@ -463,27 +325,36 @@ static PyObject *share(PyObject *object, PyObject *unused) {
 
 /* ------------------------------------------------------------------------------------------------ look-ups */
 
+/* Look a message up in the library, and keep the answer. Return it as `found` does. */
+static PyObject *looked_up(struct catalogue *self, PyObject *context, PyObject *msgid, unsigned long long n,
+                           size_t form) {
+    kob_text key, in = { NULL, 0 };
+    if (utf8_of(msgid, &key) <= 0 || (context && utf8_of(context, &in) <= 0))
+        return NULL;
+    kob_text text = kob_find(self->held, in, key, form == UNKNOWN ? &n : NULL);
+    if (!text.at)
+        return NULL;
+    /* (if the form is unknown, the text itself is the key, which is no other entry's first form) */
+    const char *first = text.at;
+    size_t number = form == UNKNOWN ? 0 : form;
+    PyObject *answer = known_answer(&self->answers, first, number);
+    if (!answer) {
+        if (number)
+            text = kob_find(self->held, in, key, &n);
+        answer = new_answer(&self->answers, first, number, text);
+    }
+    if (answer && form != UNKNOWN)
+        keep_recent(&self->answers, context, msgid, form, answer);
+    return answer;
+}
+
 /* Return the plural form for `n`, as str. Return NULL if there is no translation, or with an exception. */
 static PyObject *found(struct catalogue *self, PyObject *context, PyObject *msgid, unsigned long long n) {
-    kob_text key, in = { NULL, 0 };
-    if (!self->held || utf8_of(msgid, &key) <= 0 || (context && utf8_of(context, &in) <= 0))
+    if (!self->held)
         return NULL;
-    kob_text first = kob_find(self->held, in, key, NULL);
-    if (!first.at)
-        return NULL;
-    size_t form = form_for(self, n);
-    kob_text text = first;
-    if (form == UNKNOWN) { /* then the text itself is the key, which is no other entry's first form */
-        text = kob_find(self->held, in, key, &n);
-        first = text;
-        form = 0;
-    }
-    PyObject *known = known_answer(&self->answers, first.at, form);
-    if (known)
-        return known;
-    if (form)
-        text = kob_find(self->held, in, key, &n);
-    return new_answer(&self->answers, first.at, form, text);
+    size_t form = form_for(&self->answers, self->held, n);
+    PyObject *recent = recent_answer(&self->answers, context, msgid, form);
+    return recent ? recent : looked_up(self, context, msgid, n, form);
 }
 
 static int has_fallback(const struct catalogue *self) { return self->fallback && self->fallback != Py_None; }

@@ -28,7 +28,7 @@ DIFFERENT = {
 
 
 def stand_in() -> types.ModuleType:
-    """The module of kobdzila's functions, with the other names of the package, and two functions that the tests call."""
+    """The module of kobdzila's functions, with the package's other names, and two functions that the tests call."""
     module = kobdzila._gettext
     for name in kobdzila.__all__:
         setattr(module, name, getattr(kobdzila, name))

@@ -65,6 +65,19 @@ def differences(theirs: gettext.GNUTranslations, ours: kobdzila.GNUTranslations)
     return wrong
 
 
+def mutated(chance: random.Random, whole: bytes) -> bytes:
+    """Some bytes are others: in half of the files letters of the texts, in the others any bytes, or the end is gone."""
+    data = bytearray(whole)
+    in_texts = chance.random() < 0.5
+    first = 28 + 16 * int.from_bytes(whole[8:12], "little") if in_texts else 0
+    for _ in range(chance.randint(1, 3)):
+        value = chance.randrange(32, 127) if in_texts else chance.choice((0, 1, 4, 255, chance.randrange(256)))
+        data[chance.randrange(first, len(data))] = value
+    if not in_texts and chance.random() < 0.1:
+        del data[chance.randrange(len(data)):]
+    return bytes(data)
+
+
 class AgainstPythonTest(unittest.TestCase):
     def test_installed(self) -> None:
         names = sorted(Path("/usr/share/locale").glob("*/LC_MESSAGES/*.mo"))
@@ -86,15 +99,12 @@ class AgainstPythonTest(unittest.TestCase):
         chance, both, refused = random.Random(1), 0, 0
         whole = [kobdzila.Catalogue.from_po(text.encode()).mo_file() for text in (FRENCH, ARABIC)]
         for number in range(MUTATED):
-            data = bytearray(whole[number % 2])
-            for _ in range(chance.randint(1, 3)):
-                data[chance.randrange(len(data))] = chance.choice((0, 1, 4, 255, chance.randrange(256)))
-            if chance.random() < 0.1:
-                del data[chance.randrange(len(data)):]
-            theirs, ours = read_by_python(bytes(data)), read(bytes(data))
+            data = mutated(chance, whole[number % 2])
+            theirs, ours = read_by_python(data), read(data)
             refused += ours is None
             if ours is not None:
-                ours.gettext("basket"), ours.ngettext("%d file", "", 3), list(ours.entries()), ours.info(), ours.forms("x")
+                ours.gettext("basket"), ours.ngettext("%d file", "", 3), ours.info(), ours.forms("x")
+                self.assertEqual(len(list(ours.entries())), ours.count)
             if theirs is not None and ours is not None:
                 both += 1
                 self.assertEqual(differences(theirs, ours)[:3], [], f"mutation {number}")

@@ -17,6 +17,11 @@ import kobdzila
 from kobdzila import Catalogue, Fault, GNUTranslations, Refused
 from texts import ARABIC, FRENCH, HEADER, french, mo
 
+try:
+    import _testcapi
+except ImportError:
+    _testcapi = None
+
 SANITIZED = "KOBDZILA_SANITIZED" in os.environ
 
 # PO texts and the refusal of each: its kind and line
@@ -154,6 +159,46 @@ class OpeningTest(unittest.TestCase):
         self.assertEqual(os.waitstatus_to_exitcode(os.waitpid(child, 0)[1]), 0)
 
 
+    @unittest.skipIf(_testcapi is None, "this Python has no _testcapi")
+    def test_each_allocation(self) -> None:
+        """Each allocation of Python's in a call fails in turn: MemoryError, or the right answer, and all goes on.
+
+        The calls are those of the extension, since Python's compiler and its functions don't survive everywhere.
+        """
+        file, po, last = french().mo_file(), FRENCH.encode(), french()
+        last._fallback = kobdzila.NullTranslations()
+        last.plural(2)
+
+        def is_well() -> bool:
+            it = GNUTranslations(file)
+            texts = (it.gettext("basket"), it.ngettext("%d file", n=2, msgid2=""), it.pgettext("verb", "order"),
+                     it.gettext("é" * 9), last.ngettext("%d file", "", -1), last.gettext("none"), last.gettext("\ud800"))
+            copied, again = it._share(), Catalogue.from_po(po, checked=True)
+            listed = again.count, copied._entry(2)[3], again.mo_file() == file
+            return texts[:3] == ("panier", "%d fichiers supprimés", "commander") and listed == (5, ("panier",), True)
+
+        def refused() -> bool:
+            try:
+                Catalogue.from_mo(b"")
+            except Refused as refusal:
+                return refusal.kind is Fault.MO_SHORT
+            return False
+
+        failed = 0
+        for call in (is_well, refused):
+            self.assertTrue(call())
+            for number in range(400):
+                _testcapi.set_nomemory(number, number + 1)
+                try:
+                    well = call()
+                except MemoryError:
+                    well, failed = True, failed + 1
+                finally:
+                    _testcapi.remove_mem_hooks()
+                self.assertTrue(well, (call, number))
+        self.assertGreater(failed, 20)
+
+
 class LookUpTest(unittest.TestCase):
     def test_calls(self) -> None:
         it = french()
@@ -180,7 +225,7 @@ class LookUpTest(unittest.TestCase):
 
     def test_strange_texts(self) -> None:
         it = french()
-        for text in ("bas\0ket", "basket\0", "%d file\0%d files", "\ud800", "basket\udfff", "a" * 100_000, "\U0010ffff"):
+        for text in ("bas\0ket", "basket\0", "%d file\0%d files", "\ud800", "basket\udfff", "a" * 10**5, "\U0010ffff"):
             self.assertIs(it.gettext(text), text)
             self.assertIs(it.pgettext("verb", text), text)
             self.assertIs(it.pgettext(text, "order"), "order")
@@ -224,7 +269,7 @@ class LookUpTest(unittest.TestCase):
         self.assertEqual([it.ngettext("%d file", "", n) for n in (0, 1, 2, 200, 2**70)], ["none", "one", *["many"] * 3])
         self.assertEqual(it.gettext("%d file"), "one")
         # (a form that an entry doesn't have is its first one)
-        self.assertEqual([it.ngettext("short", "", n) for n in (0, 1, 2, 200, 2**70)], ["a", "b", "a", "a", "a"])
+        self.assertEqual([it.ngettext("!short", "", n) for n in (0, 1, 2, 200, 2**70)], ["a", "b", "a", "a", "a"])
         alone = Catalogue.from_po(ARABIC.replace("msgstr[2]", "#").encode())
         self.assertEqual([alone.ngettext("%d file", "", n) for n in (0, 1, 2, 1)], ["none", "one", "none", "one"])
 
@@ -234,6 +279,21 @@ class LookUpTest(unittest.TestCase):
         it = Catalogue.from_po(text.encode())
         for k in [*range(10_000), *range(0, 10_000, 7), *range(500), *range(500)]:
             self.assertEqual(it.gettext(f"m{k}"), f"é{k}")
+
+    def test_recent_answers(self) -> None:
+        """Calls with the same objects, many of whose answers share a place among those that a catalogue keeps."""
+        text = "".join(f'msgctxt "c{k}"\nmsgid "a"\nmsgstr "a{k}"\n' for k in range(300))
+        forms = "".join(f'msgstr[{form}] "%d {form}"\n' for form in range(6))
+        text += "".join(f'msgid "m{k}"\nmsgid_plural "p"\n{forms.replace("%d", str(k))}' for k in range(300))
+        rule = "nplurals=6; plural=n<5 ? n : 5;"
+        it = Catalogue.from_po(HEADER.replace("nplurals=2; plural=n>1;", rule).encode() + text.encode())
+        contexts, messages = [f"c{k}" for k in range(300)], [f"m{k}" for k in range(300)]
+        for _ in range(3):
+            for k in range(300):
+                for other in (k, k // 2, k):
+                    self.assertEqual(it.pgettext(contexts[other], "a"), f"a{other}")
+                for form in (0, 1, 2, 3, 4, 5, 9, 4, 3, 2, 1, 0):
+                    self.assertEqual(it.ngettext(messages[k], "p", form), f"{k} {min(form, 5)}")
 
     def test_empty(self) -> None:
         it = GNUTranslations()
@@ -323,7 +383,8 @@ class ObjectTest(unittest.TestCase):
         it = GNUTranslations(french().mo_file())
         other = copy.copy(it)
         other.add_fallback(Catalogue.from_po(b'msgid "cart"\nmsgstr "chariot"\n'))
-        self.assertEqual((it.gettext("cart"), other.gettext("cart"), other.gettext("basket")), ("cart", "chariot", "panier"))
+        self.assertEqual((it.gettext("cart"), other.gettext("cart")), ("cart", "chariot"))
+        self.assertEqual(other.gettext("basket"), "panier")
 
     def test_cycle(self) -> None:
         it = GNUTranslations(french().mo_file())
@@ -355,7 +416,11 @@ class ObjectTest(unittest.TestCase):
         file, bad = french().mo_file(), [data for data, _ in REFUSED_FILES]
         count = int(os.environ.get("KOBDZILA_OPENS", "100000"))
 
+        lasting = french()
+
         def round_of(number: int) -> None:
+            lasting._fallback = gettext.NullTranslations()
+            lasting.gettext("".join(("bas", "ket")))  # a new object each time
             it = GNUTranslations(file)
             it.gettext("basket"), it.ngettext("%d file", "", 5), it.gettext(f"none {number}"), it.gettext("\ud800")
             if number % 10 == 0:

@@ -9,7 +9,7 @@ from pathlib import Path
 import kobdzila
 from texts import FRENCH
 
-EXAMPLE = Path(__file__).parents[2] / "examples" / "python" / "flask_shop.py"
+EXAMPLE = Path(__file__).parents[2] / "examples" / "flask" / "shop.py"
 SHOP = FRENCH + r"""
 msgid "%(num)s file"
 msgid_plural "%(num)s files"

@@ -107,7 +107,7 @@ class Catalogue(_kobdzila.Catalogue):
         return msgid if context is None else f"{context}\x04{msgid}"
 
     def _other_number(self, context: str | None, msgid1: str, msgid2: str, n: Any) -> str:
-        """Answer ngettext and npgettext for an `n` that isn't an int from 0 to 2**64 - 1, as the standard gettext does."""
+        """Answer ngettext and npgettext for an `n` that isn't an int from 0 to 2**64 - 1, as the standard one does."""
         forms = self.forms(msgid1, context)
         if not forms and self._fallback is not None:
             words = (msgid1, msgid2, n) if context is None else (context, msgid1, msgid2, n)

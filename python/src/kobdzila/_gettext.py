@@ -53,7 +53,9 @@ def _opened(class_: Callable[[Any], Any], name: str) -> Any:
 Catalog = translation
 
 
-def install(domain: str, localedir: str | os.PathLike[str] | None = None, *, names: Container[str] | None = None) -> None:
+def install(
+    domain: str, localedir: str | os.PathLike[str] | None = None, *, names: Container[str] | None = None
+) -> None:
     """Install `_`, and the functions in `names`, among the builtins."""
     translation(domain, localedir, fallback=True).install(names)
 

@@ -1,6 +1,6 @@
 """A Flask application whose pages are in the language of the request.
 
-    FLASK_APP=examples/python/flask_shop.py flask run
+    FLASK_APP=examples/flask/shop.py flask run
     curl -H 'Accept-Language: fr' http://localhost:5000/3
 
 The catalogues are LOCALEDIR/LANGUAGE/LC_MESSAGES/shop.mo; LOCALEDIR is `locale` unless the environment names another.
