@@ -83,6 +83,31 @@ for compiler in gcc clang; do
   fi
 done
 
+# what the wheel has: the files that RECORD lists, and an extension that shows one function and needs the C library alone
+said=$("$first" - "$wheel" "$room/extension.so" << 'END'
+import base64, hashlib, sys, zipfile
+archive = zipfile.ZipFile(sys.argv[1])
+record = next(name for name in archive.namelist() if name.endswith("/RECORD"))
+rows = dict(line.split(",", 1) for line in archive.read(record).decode().splitlines())
+for name in archive.namelist():
+    data = archive.read(name)
+    digest = base64.urlsafe_b64encode(hashlib.sha256(data).digest()).rstrip(b"=").decode()
+    if name != record and rows[name] != f"sha256={digest},{len(data)}":
+        print(name, "is not as RECORD says")
+    if name.endswith(".so"):
+        open(sys.argv[2], "wb").write(data)
+if rows.keys() != set(archive.namelist()) or archive.namelist()[:-1] != sorted(archive.namelist()[:-1]):
+    print("other files than RECORD says, or not in order")
+END
+)
+said+=$(nm -D --defined-only "$room/extension.so" | awk '$3 != "PyInit__kobdzila" { print "it shows", $3 }')
+said+=$(readelf -d "$room/extension.so" | awk '/NEEDED/ && !/libc\.so\.6/ || /TEXTREL/ { print "it has", $2, $NF }')
+if [ -z "$said" ]; then
+  ok 'the Python package, RECORD and what the extension needs'
+else
+  failed 'the Python package, RECORD and what the extension needs' "$said"
+fi
+
 # --- the tests, in an environment of each Python
 
 # judged NAME STATUS FILE: reports a run of unittest, and what was skipped in it

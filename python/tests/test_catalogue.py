@@ -5,7 +5,9 @@ import copy
 import gc
 import gettext
 import os
+import pickle
 import resource
+import sys
 import tempfile
 import threading
 import unittest
@@ -109,6 +111,7 @@ class OpeningTest(unittest.TestCase):
 
     def test_wrong_arguments(self) -> None:
         calls = [
+            lambda: Catalogue("fr.mo"),
             lambda: Catalogue.from_mo("text"),
             lambda: Catalogue.from_mo([1, 2]),
             lambda: Catalogue.from_mo(3),
@@ -402,6 +405,25 @@ class ObjectTest(unittest.TestCase):
         with self.assertRaises(Refused):
             it._read_mo(b"")
         self.assertEqual(it.gettext("basket"), "Korb")
+
+    def test_references(self) -> None:
+        """Objects and calls keep no references to their types and arguments."""
+        message, plural = "".join(("no", "ne")), "".join(("no", "nes"))
+        it, counted = french(), (Catalogue, GNUTranslations, type(None), message, plural)
+        before = [sys.getrefcount(one) for one in counted]
+        for _ in range(1000):
+            other = GNUTranslations(it.mo_file())
+            other.gettext(message), other.ngettext(message, plural, 2), other.ngettext(message, plural, -2)
+            other.pgettext(message, message), other.npgettext(context=message, msgid1=message, msgid2=plural, n=1)
+            other._fallback = None
+            copy.copy(other)
+        del other
+        for one, count in zip(counted, before):
+            self.assertLess(abs(sys.getrefcount(one) - count), 100, one)
+
+    def test_pickle(self) -> None:
+        with self.assertRaises(TypeError):
+            pickle.dumps(french())
 
     def test_other_type(self) -> None:
         with self.assertRaises(TypeError):

@@ -137,6 +137,10 @@ class ClassTest(unittest.TestCase):
             self.assertEqual(caught.exception.filename, "some.mo")
             self.assertTrue(caught.exception.strerror)
 
+    def test_memory(self) -> None:
+        with mock.patch.object(gettext, "GNUTranslations", side_effect=MemoryError), self.assertRaises(MemoryError):
+            GNUTranslations(mo((b"x", b"y"), (b"a", b"b")))
+
     def test_header(self) -> None:
         text = r'''msgid ""
 msgstr "Content-Type: text/plain; charset=UTF-8\n#-#-#-#-#  a.po  #-#-#-#-#\nX: a\n b\n\nno colon\nY:\n"

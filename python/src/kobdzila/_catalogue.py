@@ -46,6 +46,9 @@ class Catalogue(_kobdzila.Catalogue):
     'cart'
     """
 
+    def __init__(self) -> None:
+        """Make an empty catalogue. The others come from open, from_po and from_mo."""
+
     def entries(self) -> Iterator[Entry]:
         """Yield each entry, in ascending order of the keys.
 
@@ -155,7 +158,7 @@ class GNUTranslations(Catalogue, python_gettext.NullTranslations):
         setattr(file, "name", name)
         try:
             reader = python_gettext.GNUTranslations(file)
-        except OSError:
+        except (OSError, MemoryError):
             raise
         except Exception as fault:
             raise OSError(0, refused.text, name) from fault
