@@ -13,6 +13,7 @@
 #                   installed, too, if it was built; `make install_library` installs the library alone. LIBDIR is its
 #                   folder (PREFIX/lib): LIBDIR=/usr/lib64, or /usr/lib/$(cc -print-multiarch) on Debian
 #   make dist       packs build/dist/kobdzila-VERSION-MACHINE-linux.tar.gz of what was built, with static programs
+#   make wheel      packs the Python package into build/dist, of the library that was built; it needs Python's headers
 #   make deb        packs it as three Debian packages, into build/deb
 #   make verify TARBALL=FILE   proves and builds the commit that a tarball names, and compares every byte
 #   make uninstall  removes what `make install` with the same variables has put there
@@ -52,7 +53,7 @@ preloaddir = $(LIBDIR)/kobdzila
 SHARED = libkobdzila.so.0
 PRELOADED = libkobdzila-intl.so
 
-.PHONY: all $(PROGRAMS) programs examples compiled_examples driver library check bench dist deb verify
+.PHONY: all $(PROGRAMS) programs examples compiled_examples driver library check bench dist wheel deb verify
 .PHONY: install install_program install_library uninstall uninstall_library clean
 
 all:
@@ -93,6 +94,9 @@ bench: programs
 
 dist:
 	@tools/dist
+
+wheel: library
+	@tools/wheel
 
 deb:
 	@tools/deb

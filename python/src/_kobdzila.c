@@ -1,0 +1,653 @@
+/* The extension module kobdzila._kobdzila: the catalogues of libkobdzila as a Python type.
+ *
+ * It uses the limited API of Python 3.10, so one build serves each later version, too. The type has the look-ups of
+ * the standard module gettext as methods in C; the classes of the package inherit them. */
+#include "answers.h"
+
+#include <errno.h>
+#include <string.h>
+
+static struct PyModuleDef definition;
+
+/* The calls that are passed on to a fallback, and their names. */
+enum call { GETTEXT, PGETTEXT, NGETTEXT, NPGETTEXT, OTHER_NUMBER, CALLS };
+
+struct state {
+    PyObject *catalogue; /* the type */
+    PyObject *refused;   /* kobdzila.Refused */
+    PyObject *names[CALLS];
+};
+
+struct catalogue {
+    PyObject_HEAD
+    kob_catalogue *held;        /* NULL: an empty catalogue */
+    const struct state *state;  /* of the module, which the type keeps alive */
+    PyObject *fallback;         /* asked for what isn't found; NULL or None: nobody */
+    struct answers answers;
+};
+
+typedef PyObject *(*fast_function)(PyObject *, PyObject *const *, Py_ssize_t, PyObject *);
+
+static struct catalogue *catalogue_of(PyObject *object) { return (struct catalogue *)object; }
+
+/* ------------------------------------------------------------------------------------------------ arguments */
+
+/* The arguments of a function: its name for messages, their names, and how many must be given. */
+struct signature {
+    const char *function;
+    const char *const *names;
+    Py_ssize_t count, required;
+};
+
+/* Return the number of the argument that `keyword` names, or -1. */
+static Py_ssize_t place_of(const struct signature *wanted, PyObject *keyword) {
+    for (Py_ssize_t k = 0; k < wanted->count; k++)
+        if (PyUnicode_CompareWithASCIIString(keyword, wanted->names[k]) == 0)
+            return k;
+    return -1;
+}
+
+/* Store the keyword arguments in `out`. Return 0, or -1 with an exception. */
+static int take_keywords(const struct signature *wanted, PyObject *const *values, PyObject *keywords, PyObject **out) {
+    Py_ssize_t count = PyTuple_Size(keywords);
+    for (Py_ssize_t k = 0; k < count; k++) {
+        PyObject *keyword = PyTuple_GetItem(keywords, k);
+        Py_ssize_t place = place_of(wanted, keyword);
+        if (place < 0) {
+            PyErr_Format(PyExc_TypeError, "%s() got an unexpected keyword argument '%U'", wanted->function, keyword);
+            return -1;
+        }
+        if (out[place]) {
+            PyErr_Format(PyExc_TypeError, "%s() got multiple values for argument '%U'", wanted->function, keyword);
+            return -1;
+        }
+        out[place] = values[k];
+    }
+    return 0;
+}
+
+/* Store the arguments, borrowed, in `out`, with NULL for those that aren't given. Return 0, or -1 with an exception. */
+static int take(const struct signature *wanted, PyObject *const *args, Py_ssize_t given, PyObject *keywords,
+                PyObject **out) {
+    if (given > wanted->count) {
+        PyErr_Format(PyExc_TypeError, "%s() takes %zd arguments (%zd given)", wanted->function, wanted->count, given);
+        return -1;
+    }
+    for (Py_ssize_t k = 0; k < wanted->count; k++)
+        out[k] = k < given ? args[k] : NULL;
+    if (keywords && take_keywords(wanted, args + given, keywords, out) < 0)
+        return -1;
+    for (Py_ssize_t k = 0; k < wanted->required; k++)
+        if (!out[k]) {
+            PyErr_Format(PyExc_TypeError, "%s() missing argument: '%s'", wanted->function, wanted->names[k]);
+            return -1;
+        }
+    return 0;
+}
+
+/* Return the arguments of a call that takes all of them: `args` itself in the usual case, else `out`. NULL: an
+ * exception. */
+static inline PyObject *const *all_of(const struct signature *wanted, PyObject *const *args, Py_ssize_t given,
+                                      PyObject *keywords, PyObject **out) {
+    if (given == wanted->count && !keywords)
+        return args;
+    return take(wanted, args, given, keywords, out) < 0 ? NULL : out;
+}
+
+/* Store the UTF-8 of a str in *text and return 1. Return 0 if the object isn't a str or has a surrogate, since no
+ * catalogue has such a message, and -1 with an exception if memory runs out. */
+static int utf8_of(PyObject *object, kob_text *text) {
+    Py_ssize_t len;
+    text->at = PyUnicode_AsUTF8AndSize(object, &len);
+    if (text->at) {
+        text->len = (size_t)len;
+        return 1;
+    }
+    if (!PyErr_ExceptionMatches(PyExc_UnicodeEncodeError) && !PyErr_ExceptionMatches(PyExc_TypeError))
+        return -1;
+    PyErr_Clear();
+    return 0;
+}
+
+/* Store the value of an int from 0 to 2**64 - 1 in *n and return 1. Return 0 if the object is anything else, and -1
+ * with an exception. */
+static int number_of(PyObject *object, unsigned long long *n) {
+    *n = PyLong_AsUnsignedLongLong(object);
+    if (*n != (unsigned long long)-1 || !PyErr_Occurred())
+        return 1;
+    if (!PyErr_ExceptionMatches(PyExc_OverflowError) && !PyErr_ExceptionMatches(PyExc_TypeError))
+        return -1;
+    PyErr_Clear();
+    return 0;
+}
+
+/* Return a new reference to the bytes of an object that has the buffer protocol. */
+static PyObject *bytes_of(PyObject *object) {
+    if (PyBytes_Check(object))
+        return Py_NewRef(object);
+    PyObject *view = PyMemoryView_FromObject(object);
+    if (!view)
+        return NULL;
+    PyObject *bytes = PyBytes_FromObject(view);
+    Py_DECREF(view);
+    return bytes;
+}
+
+/* Store the truth of an argument, or of False if it isn't given, in *truth. Return 0, or -1 with an exception. */
+static int truth_of(PyObject *object, int *truth) {
+    *truth = object ? PyObject_IsTrue(object) : 0;
+    return *truth < 0 ? -1 : 0;
+}
+
+/* ------------------------------------------------------------------------------------------------ opening */
+
+/* Return the state of the module whose type `type` is or inherits from. */
+static const struct state *state_of(PyTypeObject *type) {
+    for (; type; type = PyType_GetSlot(type, Py_tp_base)) {
+        PyObject *module = PyType_GetModule(type);
+        if (module && PyModule_GetDef(module) == &definition)
+            return PyModule_GetState(module);
+        PyErr_Clear();
+    }
+    PyErr_SetString(PyExc_TypeError, "not a type of catalogues");
+    return NULL;
+}
+
+static PyObject *new_catalogue(PyTypeObject *type) {
+    const struct state *state = state_of(type);
+    if (!state)
+        return NULL;
+    allocfunc allocate = (allocfunc)PyType_GetSlot(type, Py_tp_alloc);
+    PyObject *self = allocate(type, 0);
+    if (self)
+        catalogue_of(self)->state = state;
+    return self;
+}
+
+static PyObject *catalogue_new(PyTypeObject *type, PyObject *args, PyObject *keywords) {
+    (void)args, (void)keywords; /* they are for __init__ */
+    return new_catalogue(type);
+}
+
+/* Raise what a refusal means, and return NULL. */
+static PyObject *refuse(const struct state *state, const kob_refusal *why) {
+    if (why->fault == KOB_MEMORY)
+        return PyErr_NoMemory();
+    PyObject *refusal =
+        PyObject_CallFunction(state->refused, "iIs", (int)why->fault, why->line, kob_fault_text(why->fault));
+    if (refusal) {
+        PyErr_SetObject(state->refused, refusal);
+        Py_DECREF(refusal);
+    }
+    return NULL;
+}
+
+enum { MO = -1 }; /* the options of an MO file */
+
+/* Open the bytes as an MO file, or as a PO text with these options, in `self`. Return 0, or -1 with an exception. */
+static int open_bytes(struct catalogue *self, PyObject *object, int options) {
+    PyObject *bytes = bytes_of(object);
+    char *at;
+    Py_ssize_t len;
+    if (!bytes || PyBytes_AsStringAndSize(bytes, &at, &len) < 0) {
+        Py_XDECREF(bytes);
+        return -1;
+    }
+    kob_refusal why;
+    kob_catalogue *opened;
+    Py_BEGIN_ALLOW_THREADS
+    opened = options == MO ? kob_open_mo(at, (size_t)len, &why) : kob_open_po(at, (size_t)len, (unsigned)options, &why);
+    Py_END_ALLOW_THREADS
+    Py_DECREF(bytes);
+    if (!opened) {
+        refuse(self->state, &why);
+        return -1;
+    }
+    kob_release(self->held);
+    self->held = opened;
+    forget(&self->answers);
+    return 0;
+}
+
+/* Return a new catalogue of the class, opened from bytes. */
+static PyObject *opened_from(PyObject *class, PyObject *object, int options) {
+    PyObject *self = new_catalogue((PyTypeObject *)class);
+    if (self && open_bytes(catalogue_of(self), object, options) < 0)
+        Py_CLEAR(self);
+    return self;
+}
+
+PyDoc_STRVAR(from_mo_text, "from_mo($type, data, /)\n--\n\n"
+                           "Open the MO file in `data`, a bytes-like object.");
+
+static PyObject *from_mo(PyObject *class, PyObject *data) { return opened_from(class, data, MO); }
+
+/* Store the options of a PO text in *options. Return 0, or -1 with an exception. */
+static int options_of(PyObject *checked, PyObject *use_fuzzy, int *options) {
+    int is_checked, keeps_fuzzy;
+    if (truth_of(checked, &is_checked) < 0 || truth_of(use_fuzzy, &keeps_fuzzy) < 0)
+        return -1;
+    *options = (is_checked ? KOB_CHECKED : 0) | (keeps_fuzzy ? KOB_USE_FUZZY : 0);
+    return 0;
+}
+
+PyDoc_STRVAR(from_po_text, "from_po($type, data, checked=False, use_fuzzy=False)\n--\n\n"
+                           "Compile the PO text in `data`, a bytes-like object.\n\n"
+                           "`checked` runs the checks of `msgfmt -c`; `use_fuzzy` keeps fuzzy messages, too.");
+
+static PyObject *from_po(PyObject *class, PyObject *const *args, Py_ssize_t given, PyObject *keywords) {
+    static const char *const names[] = { "data", "checked", "use_fuzzy" };
+    static const struct signature wanted = { "from_po", names, 3, 1 };
+    PyObject *got[3];
+    int options;
+    if (take(&wanted, args, given, keywords, got) < 0 || options_of(got[1], got[2], &options) < 0)
+        return NULL;
+    return opened_from(class, got[0], options);
+}
+
+/* Open the file `name`, as bytes in the file system's encoding, in `self`. Return 0, or -1 with an exception. */
+static int open_file(struct catalogue *self, PyObject *name, int options) {
+    const char *at = PyBytes_AsString(name);
+    kob_refusal why;
+    kob_catalogue *opened;
+    int cause;
+    Py_BEGIN_ALLOW_THREADS
+    opened = kob_open_file(at, options == MO ? KOB_MO : KOB_PO, options == MO ? 0 : (unsigned)options, &why);
+    cause = errno;
+    Py_END_ALLOW_THREADS
+    if (opened) {
+        self->held = opened;
+        return 0;
+    }
+    if (why.fault == KOB_UNREADABLE) {
+        PyObject *path = PyUnicode_DecodeFSDefault(at);
+        errno = cause;
+        if (path)
+            PyErr_SetFromErrnoWithFilenameObject(PyExc_OSError, path);
+        Py_XDECREF(path);
+    } else {
+        refuse(self->state, &why);
+    }
+    return -1;
+}
+
+/* Return whether the file `name`, as bytes, is a PO file: as `po` says, or by the end of its name. -1: an exception. */
+static int is_po(PyObject *po, PyObject *name) {
+    if (po && po != Py_None)
+        return PyObject_IsTrue(po);
+    const char *at = PyBytes_AsString(name);
+    size_t len = strlen(at);
+    return len > 3 && strcmp(at + len - 3, ".po") == 0;
+}
+
+PyDoc_STRVAR(open_text, "open($type, path, po=None, checked=False, use_fuzzy=False)\n--\n\n"
+                        "Open the MO file or PO file `path`.\n\n"
+                        "`po` says which of the two it is; if it is None, a name that ends in .po is a PO file.\n"
+                        "The other options are those of from_po. OSError if the file can't be read.");
+
+static PyObject *open_path(PyObject *class, PyObject *const *args, Py_ssize_t given, PyObject *keywords) {
+    static const char *const names[] = { "path", "po", "checked", "use_fuzzy" };
+    static const struct signature wanted = { "open", names, 4, 1 };
+    PyObject *got[4], *name = NULL, *self = NULL;
+    int options;
+    if (take(&wanted, args, given, keywords, got) < 0 || options_of(got[2], got[3], &options) < 0 ||
+        !PyUnicode_FSConverter(got[0], &name))
+        return NULL;
+    int po = is_po(got[1], name);
+    if (po >= 0)
+        self = new_catalogue((PyTypeObject *)class);
+    if (self && open_file(catalogue_of(self), name, po ? options : MO) < 0)
+        Py_CLEAR(self);
+    Py_DECREF(name);
+    return self;
+}
+
+PyDoc_STRVAR(read_mo_text, "_read_mo($self, data, /)\n--\n\n"
+                           "Open the MO file in `data` in place of this catalogue.");
+
+static PyObject *read_mo(PyObject *self, PyObject *data) {
+    return open_bytes(catalogue_of(self), data, MO) < 0 ? NULL : Py_NewRef(Py_None);
+}
+
+PyDoc_STRVAR(share_text, "_share($self, /)\n--\n\n"
+                         "Return an object of this class with the same catalogue and the same fallback.");
+
+static PyObject *share(PyObject *object, PyObject *unused) {
+    (void)unused;
+    struct catalogue *self = catalogue_of(object);
+    PyObject *other = new_catalogue(Py_TYPE(object));
+    if (!other)
+        return NULL;
+    catalogue_of(other)->held = self->held ? kob_retain(self->held) : NULL;
+    catalogue_of(other)->fallback = Py_XNewRef(self->fallback);
+    return other;
+}
+
+/* ------------------------------------------------------------------------------------------------ look-ups */
+
+/* Look a message up in the library, and keep the answer. Return it as `found` does. */
+static PyObject *looked_up(struct catalogue *self, PyObject *context, PyObject *msgid, unsigned long long n,
+                           size_t form) {
+    kob_text key, in = { NULL, 0 };
+    if (utf8_of(msgid, &key) <= 0 || (context && utf8_of(context, &in) <= 0))
+        return NULL;
+    kob_text text = kob_find(self->held, in, key, form == UNKNOWN ? &n : NULL);
+    if (!text.at)
+        return NULL;
+    /* (if the form is unknown, the text itself is the key, which is no other entry's first form) */
+    const char *first = text.at;
+    size_t number = form == UNKNOWN ? 0 : form;
+    PyObject *answer = known_answer(&self->answers, first, number);
+    if (!answer) {
+        if (number)
+            text = kob_find(self->held, in, key, &n);
+        answer = new_answer(&self->answers, first, number, text);
+    }
+    if (answer && form != UNKNOWN)
+        keep_recent(&self->answers, context, msgid, form, answer);
+    return answer;
+}
+
+/* Return the plural form for `n`, as str. Return NULL if there is no translation, or with an exception. */
+static PyObject *found(struct catalogue *self, PyObject *context, PyObject *msgid, unsigned long long n) {
+    if (!self->held)
+        return NULL;
+    size_t form = form_for(&self->answers, self->held, n);
+    PyObject *recent = recent_answer(&self->answers, context, msgid, form);
+    return recent ? recent : looked_up(self, context, msgid, n, form);
+}
+
+static int has_fallback(const struct catalogue *self) { return self->fallback && self->fallback != Py_None; }
+
+/* Return the fallback's answer to a call with up to 4 arguments, or `own` if there is no fallback. */
+static PyObject *passed_on(const struct catalogue *self, enum call call, PyObject *const *got, PyObject *own) {
+    static const int counts[] = { 1, 2, 3, 4, 4 };
+    if (PyErr_Occurred())
+        return NULL;
+    if (!has_fallback(self))
+        return Py_NewRef(own);
+    PyObject *name = self->state->names[call], *fallback = self->fallback, *answer;
+    Py_INCREF(fallback);
+    switch (counts[call]) {
+    case 1: answer = PyObject_CallMethodObjArgs(fallback, name, got[0], NULL); break;
+    case 2: answer = PyObject_CallMethodObjArgs(fallback, name, got[0], got[1], NULL); break;
+    case 3: answer = PyObject_CallMethodObjArgs(fallback, name, got[0], got[1], got[2], NULL); break;
+    default: answer = PyObject_CallMethodObjArgs(fallback, name, got[0], got[1], got[2], got[3], NULL);
+    }
+    Py_DECREF(fallback);
+    return answer;
+}
+
+PyDoc_STRVAR(gettext_text, "gettext($self, /, message)\n--\n\n"
+                           "Return the translation of `message`, or `message` itself if there is none.");
+
+static PyObject *catalogue_gettext(PyObject *object, PyObject *const *args, Py_ssize_t given, PyObject *keywords) {
+    static const char *const names[] = { "message" };
+    static const struct signature wanted = { "gettext", names, 1, 1 };
+    PyObject *room[1], *const *got = all_of(&wanted, args, given, keywords, room);
+    if (!got)
+        return NULL;
+    PyObject *answer = found(catalogue_of(object), NULL, got[0], 1);
+    return answer ? answer : passed_on(catalogue_of(object), GETTEXT, got, got[0]);
+}
+
+PyDoc_STRVAR(pgettext_text, "pgettext($self, /, context, message)\n--\n\n"
+                            "Return the translation of `message` in `context`, or `message` if there is none.");
+
+static PyObject *catalogue_pgettext(PyObject *object, PyObject *const *args, Py_ssize_t given, PyObject *keywords) {
+    static const char *const names[] = { "context", "message" };
+    static const struct signature wanted = { "pgettext", names, 2, 2 };
+    PyObject *room[2], *const *got = all_of(&wanted, args, given, keywords, room);
+    if (!got)
+        return NULL;
+    PyObject *answer = found(catalogue_of(object), got[0], got[1], 1);
+    return answer ? answer : passed_on(catalogue_of(object), PGETTEXT, got, got[1]);
+}
+
+/* Answer ngettext or npgettext, whose last three arguments are msgid1, msgid2 and n. */
+static PyObject *counted(struct catalogue *self, enum call call, PyObject *const *got, PyObject *context) {
+    PyObject *const *last = got + (context ? 1 : 0);
+    unsigned long long n;
+    int is_plain = number_of(last[2], &n);
+    if (is_plain < 0)
+        return NULL;
+    if (!is_plain && !self->held && has_fallback(self))
+        return passed_on(self, call, got, last[1]);
+    if (!is_plain) /* negative, too large or no int: Python's rule decides */
+        return PyObject_CallMethodObjArgs((PyObject *)self, self->state->names[OTHER_NUMBER],
+                                          context ? context : Py_None, last[0], last[1], last[2], NULL);
+    PyObject *answer = found(self, context, last[0], n);
+    return answer ? answer : passed_on(self, call, got, n == 1 ? last[0] : last[1]);
+}
+
+PyDoc_STRVAR(ngettext_text, "ngettext($self, /, msgid1, msgid2, n)\n--\n\n"
+                            "Return the plural form for `n`. If there is no translation, return `msgid1` if `n` is 1\n"
+                            "and `msgid2` otherwise.");
+
+static PyObject *catalogue_ngettext(PyObject *object, PyObject *const *args, Py_ssize_t given, PyObject *keywords) {
+    static const char *const names[] = { "msgid1", "msgid2", "n" };
+    static const struct signature wanted = { "ngettext", names, 3, 3 };
+    PyObject *room[3], *const *got = all_of(&wanted, args, given, keywords, room);
+    if (!got)
+        return NULL;
+    return counted(catalogue_of(object), NGETTEXT, got, NULL);
+}
+
+PyDoc_STRVAR(npgettext_text, "npgettext($self, /, context, msgid1, msgid2, n)\n--\n\n"
+                             "Return the plural form for `n` of a message in `context`, like ngettext.");
+
+static PyObject *catalogue_npgettext(PyObject *object, PyObject *const *args, Py_ssize_t given, PyObject *keywords) {
+    static const char *const names[] = { "context", "msgid1", "msgid2", "n" };
+    static const struct signature wanted = { "npgettext", names, 4, 4 };
+    PyObject *room[4], *const *got = all_of(&wanted, args, given, keywords, room);
+    if (!got)
+        return NULL;
+    return counted(catalogue_of(object), NPGETTEXT, got, got[0]);
+}
+
+/* ------------------------------------------------------------------------------------------------ listing */
+
+/* Return the text as a new str, or None if there is none. */
+static PyObject *text_or_none(kob_text text) {
+    return text.at ? PyUnicode_DecodeUTF8(text.at, (Py_ssize_t)text.len, NULL) : Py_NewRef(Py_None);
+}
+
+static PyObject *forms_of(const kob_catalogue *held, size_t place, size_t count) {
+    PyObject *forms = PyTuple_New((Py_ssize_t)count);
+    for (size_t k = 0; forms && k < count; k++) {
+        PyObject *form = text_or_none(kob_form_at(held, place, k));
+        if (!form || PyTuple_SetItem(forms, (Py_ssize_t)k, form) < 0)
+            Py_CLEAR(forms);
+    }
+    return forms;
+}
+
+PyDoc_STRVAR(entry_text, "_entry($self, place, /)\n--\n\n"
+                         "Return the context, msgid, plural and forms of an entry. IndexError if there is none.");
+
+static PyObject *entry_at(PyObject *object, PyObject *place) {
+    const kob_catalogue *held = catalogue_of(object)->held;
+    kob_entry entry;
+    size_t number = PyLong_AsSize_t(place);
+    if (number == (size_t)-1 && PyErr_Occurred())
+        return NULL;
+    if (!held || !kob_entry_at(held, number, &entry)) {
+        PyErr_SetString(PyExc_IndexError, "no such entry");
+        return NULL;
+    }
+    PyObject *parts[] = { text_or_none(entry.context), text_or_none(entry.msgid), text_or_none(entry.plural),
+                          forms_of(held, number, entry.forms) };
+    PyObject *all = NULL;
+    if (parts[0] && parts[1] && parts[2] && parts[3])
+        all = PyTuple_Pack(4, parts[0], parts[1], parts[2], parts[3]);
+    for (int k = 0; k < 4; k++)
+        Py_XDECREF(parts[k]);
+    return all;
+}
+
+PyDoc_STRVAR(mo_file_text, "mo_file($self, /)\n--\n\n"
+                           "Return the catalogue as the bytes of an MO file, whichever format it was opened from.");
+
+static PyObject *mo_file(PyObject *object, PyObject *unused) {
+    (void)unused;
+    if (!catalogue_of(object)->held) {
+        PyErr_SetString(PyExc_ValueError, "no catalogue was opened");
+        return NULL;
+    }
+    kob_text file = kob_mo_file(catalogue_of(object)->held);
+    return PyBytes_FromStringAndSize(file.at, (Py_ssize_t)file.len);
+}
+
+static PyObject *count_of(PyObject *object, void *unused) {
+    (void)unused;
+    const kob_catalogue *held = catalogue_of(object)->held;
+    return PyLong_FromSize_t(held ? kob_count(held) : 0);
+}
+
+static PyObject *fallback_of(PyObject *object, void *unused) {
+    (void)unused;
+    PyObject *fallback = catalogue_of(object)->fallback;
+    return Py_NewRef(fallback ? fallback : Py_None);
+}
+
+static int set_fallback(PyObject *object, PyObject *fallback, void *unused) {
+    (void)unused;
+    PyObject *before = catalogue_of(object)->fallback;
+    catalogue_of(object)->fallback = Py_XNewRef(fallback);
+    Py_XDECREF(before);
+    return 0;
+}
+
+/* ------------------------------------------------------------------------------------------------ the type */
+
+static int catalogue_traverse(PyObject *object, visitproc visit, void *arg) {
+    Py_VISIT(Py_TYPE(object));
+    Py_VISIT(catalogue_of(object)->fallback);
+    return 0;
+}
+
+static int catalogue_clear(PyObject *object) {
+    Py_CLEAR(catalogue_of(object)->fallback);
+    return 0;
+}
+
+static void catalogue_dealloc(PyObject *object) {
+    PyTypeObject *type = Py_TYPE(object);
+    PyObject_GC_UnTrack(object);
+    catalogue_clear(object);
+    forget(&catalogue_of(object)->answers);
+    kob_release(catalogue_of(object)->held);
+    freefunc release = (freefunc)PyType_GetSlot(type, Py_tp_free);
+    release(object);
+    Py_DECREF(type);
+}
+
+#define FAST(function) ((PyCFunction)(void (*)(void))(fast_function)(function))
+#define KEYWORDS (METH_FASTCALL | METH_KEYWORDS)
+
+static PyMethodDef catalogue_methods[] = {
+    { "from_mo", from_mo, METH_O | METH_CLASS, from_mo_text },
+    { "from_po", FAST(from_po), KEYWORDS | METH_CLASS, from_po_text },
+    { "open", FAST(open_path), KEYWORDS | METH_CLASS, open_text },
+    { "gettext", FAST(catalogue_gettext), KEYWORDS, gettext_text },
+    { "pgettext", FAST(catalogue_pgettext), KEYWORDS, pgettext_text },
+    { "ngettext", FAST(catalogue_ngettext), KEYWORDS, ngettext_text },
+    { "npgettext", FAST(catalogue_npgettext), KEYWORDS, npgettext_text },
+    { "mo_file", mo_file, METH_NOARGS, mo_file_text },
+    { "_entry", entry_at, METH_O, entry_text },
+    { "_read_mo", read_mo, METH_O, read_mo_text },
+    { "_share", share, METH_NOARGS, share_text },
+    { NULL, NULL, 0, NULL },
+};
+
+static PyGetSetDef catalogue_properties[] = {
+    { "count", count_of, NULL, "The number of entries, including the header.", NULL },
+    { "_fallback", fallback_of, set_fallback, "The translations that are asked for what isn't found, or None.", NULL },
+    { NULL, NULL, NULL, NULL, NULL },
+};
+
+PyDoc_STRVAR(catalogue_text, "A message catalogue. It never changes once it is open.");
+
+static PyType_Slot catalogue_slots[] = {
+    { Py_tp_doc, (void *)catalogue_text },
+    { Py_tp_new, catalogue_new },
+    { Py_tp_dealloc, catalogue_dealloc },
+    { Py_tp_traverse, catalogue_traverse },
+    { Py_tp_clear, catalogue_clear },
+    { Py_tp_methods, catalogue_methods },
+    { Py_tp_getset, catalogue_properties },
+    { 0, NULL },
+};
+
+static PyType_Spec catalogue_spec = {
+    .name = "kobdzila._kobdzila.Catalogue",
+    .basicsize = sizeof(struct catalogue),
+    .flags = Py_TPFLAGS_DEFAULT | Py_TPFLAGS_BASETYPE | Py_TPFLAGS_HAVE_GC,
+    .slots = catalogue_slots,
+};
+
+/* ------------------------------------------------------------------------------------------------ the module */
+
+/* Return the attribute `name` of a module of the package. */
+static PyObject *imported(const char *module_name, const char *name) {
+    PyObject *module = PyImport_ImportModule(module_name);
+    PyObject *value = module ? PyObject_GetAttrString(module, name) : NULL;
+    Py_XDECREF(module);
+    return value;
+}
+
+static int fill(PyObject *module) {
+    static const char *const names[CALLS] = { "gettext", "pgettext", "ngettext", "npgettext", "_other_number" };
+    struct state *state = PyModule_GetState(module);
+    for (int k = 0; k < CALLS; k++) {
+        state->names[k] = PyUnicode_InternFromString(names[k]);
+        if (!state->names[k])
+            return -1;
+    }
+    state->refused = imported("kobdzila._refused", "Refused");
+    if (!state->refused)
+        return -1;
+    state->catalogue = PyType_FromModuleAndSpec(module, &catalogue_spec, NULL);
+    if (!state->catalogue || PyModule_AddObjectRef(module, "Catalogue", state->catalogue) < 0)
+        return -1;
+    return PyModule_AddStringConstant(module, "version", kob_version());
+}
+
+static int module_traverse(PyObject *module, visitproc visit, void *arg) {
+    struct state *state = PyModule_GetState(module);
+    Py_VISIT(state->catalogue);
+    Py_VISIT(state->refused);
+    for (int k = 0; k < CALLS; k++)
+        Py_VISIT(state->names[k]);
+    return 0;
+}
+
+static int module_clear(PyObject *module) {
+    struct state *state = PyModule_GetState(module);
+    Py_CLEAR(state->catalogue);
+    Py_CLEAR(state->refused);
+    for (int k = 0; k < CALLS; k++)
+        Py_CLEAR(state->names[k]);
+    return 0;
+}
+
+static void module_free(void *module) { module_clear(module); }
+
+static PyModuleDef_Slot module_slots[] = {
+    { Py_mod_exec, fill },
+    { 0, NULL },
+};
+
+static struct PyModuleDef definition = {
+    PyModuleDef_HEAD_INIT,
+    .m_name = "kobdzila._kobdzila",
+    .m_doc = "The catalogues of libkobdzila.",
+    .m_size = sizeof(struct state),
+    .m_slots = module_slots,
+    .m_traverse = module_traverse,
+    .m_clear = module_clear,
+    .m_free = module_free,
+};
+
+PyMODINIT_FUNC PyInit__kobdzila(void);
+PyMODINIT_FUNC PyInit__kobdzila(void) { return PyModuleDef_Init(&definition); }

@@ -1,0 +1,63 @@
+"""Why bytes are no catalogue."""
+from __future__ import annotations
+
+import enum
+
+
+class Fault(enum.IntEnum):
+    """The kinds of refusal, with the numbers of kobdzila.h."""
+
+    MO_TOO_LARGE = 1
+    MO_SHORT = 2
+    MO_MAGIC = 3
+    MO_REVISION = 4
+    MO_BOUNDS = 5
+    MO_NO_NUL = 6
+    MO_BAD_TEXT = 7
+    MO_FORMS = 8
+    MO_ORDER = 9
+    MO_CHARSET = 10
+    MO_SWOLLEN = 11
+    PO_TOO_LARGE = 101
+    PO_NOT_UTF8 = 102
+    PO_BAD_ESCAPE = 103
+    PO_OPEN_STRING = 104
+    PO_BAD_WORD = 105
+    PO_BAD_TEXT = 106
+    PO_BAD_ORDER = 107
+    PO_BAD_INDEX = 108
+    PO_DUPLICATE = 109
+    PO_CHARSET = 110
+    PO_SYSTEM_DEPENDENT = 111
+    PO_NO_RULE = 112
+    PO_BAD_RULE = 113
+    PO_FORM_COUNT = 114
+    PO_PLURAL_RANGE = 115
+    PO_FORMAT_MISMATCH = 116
+    PO_NEWLINE_MISMATCH = 117
+
+
+class Refused(ValueError):
+    """An MO file or a PO text was refused.
+
+    `kind` is the kind of refusal, `line` the line of a PO text (0 if the refusal has no line), and `text` a short
+    description.
+
+    >>> from kobdzila import Catalogue, Refused
+    >>> try:
+    ...     Catalogue.from_po(b'msgid "basket"\\nmsgstr "pan\\\\y"\\n')
+    ... except Refused as refused:
+    ...     print(refused, refused.kind.name)
+    line 2: bad escape PO_BAD_ESCAPE
+    """
+
+    kind: Fault
+    line: int
+    text: str
+
+    def __init__(self, kind: int, line: int, text: str) -> None:
+        super().__init__(kind, line, text)
+        self.kind, self.line, self.text = Fault(kind), line, text
+
+    def __str__(self) -> str:
+        return f"line {self.line}: {self.text}" if self.line else self.text

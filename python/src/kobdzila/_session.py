@@ -1,0 +1,215 @@
+"""Look-ups by a process catsession, from any number of threads, while catalogues are replaced."""
+from __future__ import annotations
+
+import os
+import re
+import shutil
+import subprocess
+import threading
+from collections.abc import Callable, Sequence
+from pathlib import Path
+from types import TracebackType
+from typing import TYPE_CHECKING, NamedTuple
+
+if TYPE_CHECKING:
+    from typing_extensions import Self
+
+MOST_LINES = 67_108_864 - len(b"go\n")  # the bytes that a round may have before its `go`
+TEXTS = {"gettext": 1, "pgettext": 2, "ngettext": 3, "npgettext": 4}
+ESCAPES = str.maketrans({"\\": r"\\", "\n": r"\n", "\t": r"\t"})
+UNESCAPED = {"n": "\n", "t": "\t"}
+BUNDLED = Path(__file__).with_name("bin") / "catsession"
+
+
+class Answer(NamedTuple):
+    """An answer, and the version that it is of."""
+
+    version: int
+    text: str
+
+
+class Refusal(NamedTuple):
+    """Why a load was refused. `kind` is None if the domain or the locale is no name."""
+
+    domain: str
+    locale: str
+    kind: int | None
+    line: int | None
+
+
+class LoadRefused(Exception):
+    """Some loads of a publish were refused. The others are published, as `version`."""
+
+    version: int
+    refusals: Sequence[Refusal]
+
+    def __init__(self, version: int, refusals: Sequence[Refusal]) -> None:
+        super().__init__(version, refusals)
+        self.version, self.refusals = version, refusals
+        self.kind, self.line = refusals[0].kind, refusals[0].line
+
+    def __str__(self) -> str:
+        return "; ".join(f"{it.locale} in {it.domain}: kind {it.kind}, line {it.line}" for it in self.refusals)
+
+
+class SessionEnded(Exception):
+    """The process has ended. The text is what it wrote to its error output."""
+
+
+class Session:
+    """A process catsession. Its look-ups may come from any number of threads.
+
+    `program` is the path of catsession: by default the one in this package, or else the one on the PATH.
+
+    A name with a tab or an LF, a number that isn't from 0 to 2**64 - 1 and a PO text that isn't UTF-8 are a ValueError.
+    Nothing of them is sent, and the session goes on.
+
+        with kobdzila.Session() as session:
+            session.load("shop", "fr", Path("fr.po").read_bytes())
+            session.publish()
+            print(session.gettext("shop", "fr_CA:de", "basket").text)
+    """
+
+    def __init__(self, program: str | os.PathLike[str] | None = None) -> None:
+        self._process = subprocess.Popen(
+            [program or _program(), "--workers", "1"],
+            stdin=subprocess.PIPE,
+            stdout=subprocess.PIPE,
+            stderr=subprocess.PIPE,
+        )
+        assert self._process.stdin is not None and self._process.stdout is not None
+        self._to, self._from = self._process.stdin, self._process.stdout
+        self._lock = threading.Lock()
+        self._loads: list[tuple[str, str, bytes]] = []  # for the next publish: domain, locale, and the lines
+        self._ended: str | None = None
+
+    def load(self, domain: str, locale: str, po: bytes, options: str = "-") -> None:
+        """Keep a PO text for the next publish.
+
+        `options` is `-`, `c` (checked), `f` (fuzzy messages, too) or `cf`.
+        """
+        if options not in ("-", "c", "f", "cf"):
+            raise ValueError(f"no such options: {options}")
+        text = po if po.endswith(b"\n") or not po else po + b"\n"
+        text.decode()
+        self._keep(domain, locale, _line("load", domain, locale, options, text.count(b"\n")) + text)
+
+    def load_mo(self, domain: str, locale: str, mo: bytes) -> None:
+        """Keep an MO file for the next publish."""
+        self._keep(domain, locale, _line("loadmo", domain, locale, mo.hex()))
+
+    def publish(self) -> int:
+        """Publish the loads that were kept, in one step, and return their version. LoadRefused lists those refused."""
+        with self._lock:
+            loads, self._loads = self._loads, []
+            *reported, (_, version) = self._play([lines for _, _, lines in loads], len(loads) + 1)
+        refusals = [_refusal(load, line) for load, line in zip(loads, reported) if line[0].startswith("refused")]
+        if refusals:
+            raise LoadRefused(int(version), refusals)
+        return int(version)
+
+    def ask(self, domain: str, languages: str, *questions: tuple[str | int, ...]) -> list[Answer]:
+        """Return the answers to several questions, all of one version, such as ("ngettext", "file", "files", 2)."""
+        lines = [_question(domain, languages, *question) for question in questions]
+        _check_size(lines)
+        with self._lock:
+            _, *reported = self._play(lines, 1 + len(lines))
+        return [Answer(int(version), _unescaped(text)) for _, version, text in reported]
+
+    def gettext(self, domain: str, languages: str, text: str) -> Answer:
+        """Return the translation of `text`."""
+        return self.ask(domain, languages, ("gettext", text))[0]
+
+    def pgettext(self, domain: str, languages: str, context: str, text: str) -> Answer:
+        """Return the translation of `text` in `context`."""
+        return self.ask(domain, languages, ("pgettext", context, text))[0]
+
+    def ngettext(self, domain: str, languages: str, text: str, plural: str, n: int) -> Answer:
+        """Return the plural form for `n`."""
+        return self.ask(domain, languages, ("ngettext", text, plural, n))[0]
+
+    def npgettext(self, domain: str, languages: str, context: str, text: str, plural: str, n: int) -> Answer:
+        """Return the plural form for `n` of a message in `context`."""
+        return self.ask(domain, languages, ("npgettext", context, text, plural, n))[0]
+
+    def close(self) -> None:
+        """End the process."""
+        with self._lock:
+            if self._ended is None:
+                self._end("closed")
+
+    def __enter__(self) -> Self:
+        return self
+
+    def __exit__(
+        self, kind: type[BaseException] | None, fault: BaseException | None, trace: TracebackType | None
+    ) -> None:
+        self.close()
+
+    def _keep(self, domain: str, locale: str, lines: bytes) -> None:
+        with self._lock:
+            _check_size([*(kept for _, _, kept in self._loads), lines])
+            self._loads.append((domain, locale, lines))
+
+    def _play(self, lines: list[bytes], count: int) -> list[list[str]]:
+        """Send a round, and return the fields of the `count` lines that it writes."""
+        if self._ended is not None:
+            raise SessionEnded(self._ended)
+        try:
+            self._to.write(b"".join([*lines, b"go\n"]))
+            self._to.flush()
+            reported = [self._from.readline() for _ in range(count)]
+        except BrokenPipeError:
+            reported = [b""]
+        except BaseException:
+            self._end("interrupted in a round", self._process.kill)
+            raise
+        if not reported[-1].endswith(b"\n"):
+            raise SessionEnded(self._end("it ended"))
+        return [line[:-1].decode().split("\t") for line in reported]
+
+    def _end(self, why: str, first: Callable[[], object] = lambda: None) -> str:
+        first()
+        _, text = self._process.communicate()
+        self._ended = text.decode(errors="replace").strip() or why
+        return self._ended
+
+
+def _program() -> str:
+    """Return the path of catsession."""
+    found = str(BUNDLED) if os.access(BUNDLED, os.X_OK) else shutil.which("catsession")
+    if found is None:
+        raise FileNotFoundError("no catsession: it is neither in this package nor on the PATH")
+    return found
+
+
+def _check_size(lines: Sequence[bytes]) -> None:
+    if sum(map(len, lines)) > MOST_LINES:
+        raise ValueError(f"more than {MOST_LINES} bytes for one round")
+
+
+def _line(*fields: str | int) -> bytes:
+    texts = [str(field) for field in fields]
+    if any("\t" in text or "\n" in text for text in texts):
+        raise ValueError(f"a tab or an LF in a name: {texts}")
+    return "\t".join(texts).encode() + b"\n"
+
+
+def _question(domain: str, languages: str, call: str | int, *texts: str | int) -> bytes:
+    call = str(call)
+    if len(texts) != TEXTS[call]:
+        raise ValueError(f"{call} takes {TEXTS[call]} texts")
+    n = texts[-1]
+    if call in ("ngettext", "npgettext") and not (isinstance(n, int) and 0 <= n < 2**64):
+        raise ValueError(f"{n} is not a number from 0 to 2^64 - 1")
+    return _line("ask", 0, domain, languages, call, *(str(text).translate(ESCAPES) for text in texts))
+
+
+def _unescaped(text: str) -> str:
+    return re.sub(r"\\(.)", lambda found: UNESCAPED.get(found[1], found[1]), text)
+
+
+def _refusal(load: tuple[str, str, bytes], line: list[str]) -> Refusal:
+    numbers = [None if field == "name" else int(field) for field in line[1:]]
+    kind, place = [*numbers, None, None][:2]
+    return Refusal(load[0], load[1], kind, place)

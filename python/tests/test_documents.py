@@ -1,0 +1,70 @@
+"""The examples of the docstrings and of docs/guide/python.md."""
+from __future__ import annotations
+
+import contextlib
+import doctest
+import importlib.util
+import os
+import tempfile
+import unittest
+from pathlib import Path
+
+import kobdzila
+from kobdzila import _catalogue, _gettext, _refused, _session
+from texts import HEADER
+
+PAGE = Path(__file__).parents[2] / "docs" / "guide" / "python.md"
+SHOP = HEADER + r"""
+msgid "basket"
+msgstr "panier"
+
+msgctxt "verb"
+msgid "order"
+msgstr "commander"
+
+msgid "%d file"
+msgid_plural "%d files"
+msgstr[0] "%d fichier"
+msgstr[1] "%d fichiers"
+"""
+
+
+def sections(text: str) -> str:
+    """The page without the sections whose program or package isn't there."""
+    parts = text.split("\n## ")
+    missing = [] if importlib.util.find_spec("jinja2") else ["Jinja2"]
+    with contextlib.suppress(FileNotFoundError):
+        if _session._program():
+            return "\n## ".join(part for part in parts if part.split("\n")[0] not in missing)
+    missing.append("Reloading without a restart")
+    return "\n## ".join(part for part in parts if part.split("\n")[0] not in missing)
+
+
+class DocumentsTest(unittest.TestCase):
+    def test_docstrings(self) -> None:
+        tried = 0
+        for module in (kobdzila, _catalogue, _gettext, _refused, _session):
+            result = doctest.testmod(module)
+            self.assertEqual(result.failed, 0, module)
+            tried += result.attempted
+        self.assertGreater(tried, 15)
+
+    def test_page(self) -> None:
+        text = sections(PAGE.read_text(encoding="utf-8")).replace("\n```", "\n")
+        test = doctest.DocTestParser().get_doctest(text, {}, PAGE.name, str(PAGE), 0)
+        self.assertGreater(len(test.examples), 10)
+        before = os.getcwd()
+        with tempfile.TemporaryDirectory() as room:
+            folder = Path(room, "locale", "fr", "LC_MESSAGES")
+            folder.mkdir(parents=True)
+            (folder / "shop.mo").write_bytes(kobdzila.Catalogue.from_po(SHOP.encode()).mo_file())
+            Path(room, "fr.po").write_text(SHOP, encoding="utf-8")
+            os.chdir(room)
+            try:
+                self.assertEqual(doctest.DocTestRunner().run(test).failed, 0)
+            finally:
+                os.chdir(before)
+
+
+if __name__ == "__main__":
+    unittest.main()

@@ -1,0 +1,105 @@
+"""The client of catsession, over the program in the package."""
+from __future__ import annotations
+
+import os
+import tempfile
+import threading
+import unittest
+from pathlib import Path
+from unittest import mock
+
+import kobdzila
+from kobdzila import LoadRefused, Session, SessionEnded, _session
+from texts import FRENCH, french
+
+
+def program() -> str | None:
+    try:
+        return _session._program()
+    except FileNotFoundError:
+        return None
+
+
+@unittest.skipIf(program() is None, "no catsession in the package nor on the PATH")
+class SessionTest(unittest.TestCase):
+    def test_calls(self) -> None:
+        with Session() as session:
+            session.load("shop", "fr", FRENCH.encode())
+            session.load_mo("shop", "fr_CA", french().mo_file())
+            self.assertEqual(session.publish(), 2)
+            self.assertEqual(session.gettext("shop", "fr", "basket"), (2, "panier"))
+            self.assertEqual(session.pgettext("shop", "fr_CA:de", "verb", "order").text, "commander")
+            self.assertEqual(session.ngettext("shop", "fr", "%d file", "%d files", 2).text, "%d fichiers supprimés")
+            self.assertEqual(session.npgettext("shop", "fr", "menu", "%d item", "", 1).text, "%d article")
+            self.assertEqual(session.gettext("shop", "fr", "a\tb\\n\n").text, "a\tb\\n\n")
+            answers = session.ask("shop", "de", ("gettext", "x"), ("ngettext", "a", "b", 2))
+            self.assertEqual(answers, [(2, "x"), (2, "b")])
+
+    def test_refusals(self) -> None:
+        with Session() as session:
+            session.load("shop", "fr", b'msgid "a"\n\nmessage')
+            session.load("shop", "de", b"")
+            session.load("a b", "de", b"")
+            with self.assertRaises(LoadRefused) as caught:
+                session.publish()
+            self.assertEqual((caught.exception.version, caught.exception.refusals[0][:3]), (1, ("shop", "fr", 5)))
+            self.assertEqual(caught.exception.refusals[1], ("a b", "de", None, None))
+            self.assertIn("fr in shop: kind 5, line 3", str(caught.exception))
+            for call in (
+                lambda: session.load("shop", "fr", b"", "x"),
+                lambda: session.load("shop", "fr", b"\xff"),
+                lambda: session.load("sh\top", "fr", b""),
+                lambda: session.ngettext("shop", "fr", "a", "b", -1),
+                lambda: session.ngettext("shop", "fr", "a", "b", "2"),
+                lambda: session.ask("shop", "fr", ("gettext", "a", "b")),
+                lambda: session.load_mo("shop", "fr", b"x" * 40_000_000),
+            ):
+                with self.assertRaises(ValueError):
+                    call()
+            self.assertEqual(session.gettext("shop", "fr", "a").text, "a")
+
+    def test_end(self) -> None:
+        session = Session()
+        session._process.kill()
+        session._process.wait()
+        for _ in range(2):
+            with self.assertRaises(SessionEnded):
+                session.gettext("shop", "fr", "a")
+        session = Session(program())
+        session.close()
+        session.close()
+        with self.assertRaisesRegex(SessionEnded, "closed"):
+            session.publish()
+
+    def test_threads(self) -> None:
+        wrong: list[object] = []
+        with Session() as session:
+            session.load("shop", "fr", FRENCH.encode())
+            session.publish()
+
+            def ask() -> None:
+                for n in range(200):
+                    answer = session.ngettext("shop", "fr", "%d file", "%d files", n)
+                    if answer.text != ("%d fichiers supprimés" if n > 1 else "%d fichier supprimé"):
+                        wrong.append(answer)
+
+            threads = [threading.Thread(target=ask) for _ in range(4)]
+            for thread in threads:
+                thread.start()
+            for thread in threads:
+                thread.join()
+        self.assertEqual(wrong, [])
+
+    def test_program(self) -> None:
+        found = str(program())
+        with mock.patch.object(_session, "BUNDLED", Path("/none")), tempfile.TemporaryDirectory() as room:
+            with mock.patch.dict(os.environ, PATH=room):
+                with self.assertRaises(FileNotFoundError):
+                    kobdzila.Session()
+                os.symlink(found, Path(room, "catsession"))
+                self.assertEqual(_session._program(), str(Path(room, "catsession")))
+                kobdzila.Session().close()
+
+
+if __name__ == "__main__":
+    unittest.main()

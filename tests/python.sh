@@ -1,0 +1,196 @@
+#!/usr/bin/env bash
+# The Python package: its wheel is built, twice and by two compilers, and installed from a file into an environment of
+# each Python 3.10 and later of this machine (PYTHON=PATH: that one first). There its tests run (python/tests), and
+# CPython's own tests of gettext. Then the tests run over an extension that AddressSanitizer watches, and mypy looks at
+# the types. KOBDZILA_OPENS says how many catalogues the test for leaks opens (100,000).
+no_program=1
+. "$(dirname "$0")/common"
+top=$PWD
+
+# is_usable PYTHON: it is 3.10 or later, and makes environments with pip
+is_usable() { "$1" -c 'import sys, ensurepip, venv; sys.exit(sys.version_info < (3, 10))' > /dev/null 2>&1; }
+
+# has_headers PYTHON
+has_headers() { [ -f "$("$1" -c 'import sysconfig; print(sysconfig.get_path("include"))' 2> /dev/null)/Python.h" ]; }
+
+# script NAME LINE: a program $room/NAME, for tests/needs
+script() {
+  printf '#!/bin/sh\n%s\n' "$2" > "$room/$1"
+  chmod +x "$room/$1"
+}
+
+if ! tests/needs cc gcc libc6-dev; then
+  skipped 'the Python package' 'no C compiler, and it could not be installed'
+  exit 0
+fi
+if [ ! -f build/lib/libkobdzila.a ]; then
+  made=()
+  [ ! -f crates/kobdzila_c/out/libkobdzila_c.a ] || made=(--made)
+  tools/build_library "${made[@]}" > "$room/log" 2>&1 || failed 'the Python package' "$(tail -n 2 "$room/log")"
+fi
+if [ ! -f build/lib/libkobdzila.a ]; then
+  skipped 'the Python package' 'no build/lib/libkobdzila.a: make library builds it'
+  exit 0
+fi
+
+# Debian's Python first, since Flask, Jinja2 and mypy can be installed for it
+first=${PYTHON:-}
+if [ -z "$first" ]; then
+  first=/usr/bin/python3
+  script debian '/usr/bin/python3 -c "import ensurepip" && /usr/bin/python3-config --includes'
+  tests/needs "$room/debian" python3-dev python3-venv
+  script frameworks '/usr/bin/python3 -c "import flask, jinja2"'
+  tests/needs "$room/frameworks" python3-flask python3-jinja2
+  is_usable "$first" && has_headers "$first" || first=$(command -v python3 || echo none)
+fi
+if ! is_usable "$first"; then
+  skipped 'the Python package' 'no Python 3.10 or later with ensurepip, and it could not be installed'
+  exit 0
+fi
+if ! has_headers "$first"; then
+  skipped 'the Python package' 'no Python.h, and python3-dev could not be installed'
+  exit 0
+fi
+export PYTHON=$first PYTHONDONTWRITEBYTECODE=1
+
+# --- the wheel
+
+if ! said=$(tools/wheel "$room/wheel" 2>&1); then
+  failed 'the Python package, wheel' "$(head -c 300 <<< "$said")"
+  exit 1
+fi
+wheel=$(echo "$room"/wheel/*.whl)
+ok "the Python package, ${wheel##*/}: $(wc -c < "$wheel") bytes"
+
+mkdir -p "$room/copy/build/static" "$room/copy/build/lib"
+cp -R python include tools VERSION "$room/copy"
+cp build/lib/libkobdzila.a "$room/copy/build/lib"
+[ ! -f build/static/catsession ] || cp build/static/catsession "$room/copy/build/static"
+epoch=$(git log -1 --format=%ct 2> /dev/null || echo 0)
+SOURCE_DATE_EPOCH=$epoch "$room/copy/tools/wheel" "$room/again" > /dev/null 2>&1
+if cmp -s "$wheel" "$room"/again/*.whl; then
+  ok 'the Python package, a wheel of another folder has the same bytes'
+else
+  failed 'the Python package, a wheel of another folder' 'it has other bytes'
+fi
+for compiler in gcc clang; do
+  if ! command -v $compiler > /dev/null; then
+    skipped "the Python package, $compiler without warnings" "no $compiler"
+  elif said=$(CC=$compiler tools/wheel "$room/$compiler" 2>&1); then
+    ok "the Python package, $compiler without warnings"
+  else
+    failed "the Python package, $compiler" "$(head -c 300 <<< "$said")"
+  fi
+done
+
+# what the wheel has: the files that RECORD lists, and an extension that shows one function and needs the C library alone
+said=$("$first" - "$wheel" "$room/extension.so" << 'END'
+import base64, hashlib, sys, zipfile
+archive = zipfile.ZipFile(sys.argv[1])
+record = next(name for name in archive.namelist() if name.endswith("/RECORD"))
+rows = dict(line.split(",", 1) for line in archive.read(record).decode().splitlines())
+for name in archive.namelist():
+    data = archive.read(name)
+    digest = base64.urlsafe_b64encode(hashlib.sha256(data).digest()).rstrip(b"=").decode()
+    if name != record and rows[name] != f"sha256={digest},{len(data)}":
+        print(name, "is not as RECORD says")
+    if name.endswith(".so"):
+        open(sys.argv[2], "wb").write(data)
+if rows.keys() != set(archive.namelist()) or archive.namelist()[:-1] != sorted(archive.namelist()[:-1]):
+    print("other files than RECORD says, or not in order")
+END
+)
+said+=$(nm -D --defined-only "$room/extension.so" | awk '$3 != "PyInit__kobdzila" { print "it shows", $3 }')
+said+=$(readelf -d "$room/extension.so" | awk '/NEEDED/ && !/libc\.so\.6/ || /TEXTREL/ { print "it has", $2, $NF }')
+if [ -z "$said" ]; then
+  ok 'the Python package, RECORD and what the extension needs'
+else
+  failed 'the Python package, RECORD and what the extension needs' "$said"
+fi
+
+# --- the tests, in an environment of each Python
+
+# judged NAME STATUS FILE: reports a run of unittest, and what was skipped in it
+judged() {
+  local count
+  count=$(sed -n 's/^Ran \([0-9]*\) tests.*/\1/p' "$3")
+  if [ "$2" = 0 ] && [ "${count:-0}" -gt 40 ]; then
+    ok "$1: $count tests$(grep -oE '[0-9]+ (installed|mutated) catalogues.*' "$3" | sed 's/^/; /' | tr -d '\n')"
+    sed -n "s/.* skipped ['\"]\\(.*\\)['\"]\$/\\1/p" "$3" | sort | uniq -c | while read -r count why; do
+      skipped "$1, $count tests" "$why"
+    done
+  else
+    failed "$1" "$(grep -E -A 12 '^(ERROR|FAIL)' "$3" | head -c 600 | tr '\n' ' ')"
+  fi
+}
+
+# tested PYTHON VERSION: installs the wheel for it, and runs the tests
+tested() {
+  local at=$room/$2 name="the Python package, Python $2" said
+  if ! "$1" -m venv --system-site-packages "$at" > "$room/log" 2>&1 ||
+     ! "$at/bin/pip" install -q --no-index --disable-pip-version-check "$wheel" > "$room/log" 2>&1; then
+    failed "$name, pip install" "$(tail -n 2 "$room/log")"
+    return
+  fi
+  (cd "$room" && timeout 600 "$at/bin/python" -W error -m unittest discover -v -s "$top/python/tests") \
+    > "$room/log" 2>&1
+  judged "$name" $? "$room/log"
+  if ! "$at/bin/python" -c 'import test.test_gettext' > /dev/null 2>&1; then
+    skipped "$name, CPython's tests of gettext" 'its installation has no module test.test_gettext'
+  elif said=$(cd "$room" && timeout 300 "$at/bin/python" "$top/python/tests/cpython.py" 2>&1); then
+    ok "$name, CPython's tests of gettext: $(tail -n 1 <<< "$said")"
+  else
+    failed "$name, CPython's tests of gettext" "$(grep -m 3 ^FAILED <<< "$said" | head -c 400)"
+  fi
+}
+
+seen=' '
+roots=$(command -v pyenv > /dev/null && pyenv root 2> /dev/null)
+for it in "$first" python3 /usr/bin/python3 ${roots:+"$roots"/versions/*/bin/python3}; do
+  is_usable "$it" || continue
+  version=$("$it" -c 'import platform; print(platform.python_version())')
+  case $seen in *" $version "*) continue ;; esac
+  seen="$seen$version "
+  tested "$it" "$version"
+  export KOBDZILA_OPENS=10000
+done
+case $seen in
+  ' '*' '*' ') ;;
+  *) skipped 'the Python package, another version' 'this machine has one Python 3.10 or later' ;;
+esac
+
+# --- from the sources; AddressSanitizer; types
+
+version=${seen# } && version=${version%% *}
+if said=$("$room/$version/bin/pip" install -q --no-index --force-reinstall "$top/python" 2>&1); then
+  ok 'the Python package, pip install of the folder'
+else
+  failed 'the Python package, pip install of the folder' "$(tail -n 2 <<< "$said" | head -c 300)"
+fi
+
+name='the Python package, AddressSanitizer'
+mkdir "$room/sanitized"
+cp -R python/src/kobdzila "$room/sanitized"
+mkdir "$room/sanitized/kobdzila/bin"
+[ ! -f build/static/catsession ] || cp build/static/catsession "$room/sanitized/kobdzila/bin"
+library=$(cc -print-file-name=libasan.so)
+if [ ! -f "$library" ] || ! LD_PRELOAD=$library ASAN_OPTIONS=detect_leaks=0 "$first" -c '' > "$room/log" 2>&1; then
+  skipped "$name" "Python doesn't run with the sanitizer's library"
+elif ! (cd python && "$first" -c 'import pathlib, sys, wheel_backend
+wheel_backend.compile_extension(pathlib.Path(sys.argv[1]), "-fsanitize=address", "-g")' \
+    "$room/sanitized/kobdzila/_kobdzila.abi3.so") > "$room/log" 2>&1; then
+  failed "$name" "$(tail -n 2 "$room/log")"
+else
+  (cd "$room" && PYTHONPATH=$room/sanitized LD_PRELOAD=$library ASAN_OPTIONS=detect_leaks=0 PYTHONMALLOC=malloc \
+    KOBDZILA_SANITIZED=1 timeout 900 "$first" -W error -m unittest discover -v -s "$top/python/tests") \
+    > "$room/log" 2>&1
+  judged "$name" $? "$room/log"
+fi
+
+if ! tests/needs mypy mypy; then
+  skipped 'the Python package, mypy --strict' 'no mypy, and it could not be installed'
+elif said=$(cd python && mypy --cache-dir="$room/mypy" 2>&1); then
+  ok "the Python package, mypy --strict: $(tail -n 1 <<< "$said")"
+else
+  failed 'the Python package, mypy --strict' "$(head -c 300 <<< "$said")"
+fi
