@@ -95,7 +95,10 @@ bench: programs
 dist:
 	@tools/dist
 
-wheel: library
+build/lib/libkobdzila.a:
+	@tools/build library
+
+wheel: build/lib/libkobdzila.a
 	@tools/wheel
 
 deb:

@@ -5,6 +5,7 @@
 #include "answers.h"
 
 #include <errno.h>
+#include <stdlib.h>
 #include <string.h>
 
 static struct PyModuleDef definition;
@@ -633,8 +634,18 @@ static int module_clear(PyObject *module) {
 
 static void module_free(void *module) { module_clear(module); }
 
-static PyModuleDef_Slot module_slots[] = {
+/* From Python 3.12 on a module says that an interpreter with a lock of its own may load it. Earlier ones refuse a slot
+ * that they don't know. */
+enum { MULTIPLE_INTERPRETERS = 3, OWN_LOCK = 2 };
+
+static PyModuleDef_Slot first_slots[] = {
     { Py_mod_exec, fill },
+    { 0, NULL },
+};
+
+static PyModuleDef_Slot slots_since_12[] = {
+    { Py_mod_exec, fill },
+    { MULTIPLE_INTERPRETERS, (void *)OWN_LOCK },
     { 0, NULL },
 };
 
@@ -643,11 +654,15 @@ static struct PyModuleDef definition = {
     .m_name = "kobdzila._kobdzila",
     .m_doc = "The catalogues of libkobdzila.",
     .m_size = sizeof(struct state),
-    .m_slots = module_slots,
+    .m_slots = first_slots,
     .m_traverse = module_traverse,
     .m_clear = module_clear,
     .m_free = module_free,
 };
 
 PyMODINIT_FUNC PyInit__kobdzila(void);
-PyMODINIT_FUNC PyInit__kobdzila(void) { return PyModuleDef_Init(&definition); }
+PyMODINIT_FUNC PyInit__kobdzila(void) {
+    if (strtoul(Py_GetVersion() + strlen("3."), NULL, 10) >= 12)
+        definition.m_slots = slots_since_12;
+    return PyModuleDef_Init(&definition);
+}

@@ -4,6 +4,7 @@ from __future__ import annotations
 import copy
 import gc
 import gettext
+import importlib
 import os
 import pickle
 import resource
@@ -420,6 +421,25 @@ class ObjectTest(unittest.TestCase):
         del other
         for one, count in zip(counted, before):
             self.assertLess(abs(sys.getrefcount(one) - count), 100, one)
+
+    @unittest.skipIf(sys.version_info < (3, 12), "no interpreters with a lock of their own before Python 3.12")
+    def test_interpreters(self) -> None:
+        interpreters = importlib.import_module("_interpreters" if sys.version_info >= (3, 13) else "_xxsubinterpreters")
+        code = f"""if True:
+            import kobdzila
+            it = kobdzila.Catalogue.from_po({FRENCH.encode()!r})
+            assert it.gettext("basket") == "panier" and it.ngettext("%d file", "", -1) != ""
+            try:
+                it.from_mo(b"")
+            except kobdzila.Refused:
+                pass
+        """
+        for _ in range(3):
+            number = interpreters.create()
+            try:
+                self.assertIsNone(interpreters.run_string(number, code))
+            finally:
+                interpreters.destroy(number)
 
     def test_pickle(self) -> None:
         with self.assertRaises(TypeError):

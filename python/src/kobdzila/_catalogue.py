@@ -7,7 +7,6 @@ import io
 import os
 import sys
 import warnings
-from bisect import bisect_left
 from collections.abc import Callable, Iterator
 from functools import cached_property
 from typing import TYPE_CHECKING, Any, NamedTuple
@@ -65,10 +64,14 @@ class Catalogue(_kobdzila.Catalogue):
         ('salut',)
         """
         key = msgid if context is None else f"{context}\x04{msgid}"
-        place = bisect_left(range(self.count), key, key=self._key_at)
-        if place == self.count or self._key_at(place) != key:
-            return ()
-        return self._entry(place)[3]
+        first, end = 0, self.count
+        while first < end:
+            middle = (first + end) // 2
+            found = self._key_at(middle)
+            if found == key:
+                return self._entry(middle)[3]
+            first, end = (middle + 1, end) if found < key else (first, middle)
+        return ()
 
     def info(self) -> dict[str, str]:
         """Return the fields of the header, by their names in lower case."""
