@@ -36,7 +36,7 @@ def keys_of(theirs):
 
 
 def installed(names):
-    import kobdzila
+    import kobdzila_ctypes as kobdzila
     files = asked = refused = 0
     for name in names:
         data = Path(name).read_bytes()

@@ -18,7 +18,7 @@ says 'version: kobdzila.h' "$version" "$(sed -n 's/^#define KOB_VERSION "\(.*\)"
 says 'version: CHANGELOG.md' 1 "$(grep -c "^## \[$version\]" CHANGELOG.md)"
 if [ -f build/lib/libkobdzila.so.0 ] && command -v python3 > /dev/null; then
   says 'version: the library and the Python module' "$version" "$(LIBKOBDZILA=$PWD/build/lib/libkobdzila.so.0 \
-    PYTHONPATH=examples/python python3 -B -c 'import kobdzila; print(kobdzila.__version__)' 2>&1 | tail -n 1)"
+    PYTHONPATH=examples/python python3 -B -c 'import kobdzila_ctypes; print(kobdzila_ctypes.__version__)' 2>&1 | tail -n 1)"
 else
   skipped 'version: the library and the Python module' 'no library was built, or there is no python3'
 fi

@@ -1,10 +1,11 @@
 """Message catalogues from libkobdzila: a class with the interface of gettext.NullTranslations.
 
-    import kobdzila
-    french = kobdzila.Translations("fr.mo")
+    import kobdzila_ctypes
+    french = kobdzila_ctypes.Translations("fr.mo")
     print(french.ngettext("file", "files", 2))
 
-A file that is refused raises kobdzila.Refused, which names the fault.
+A file that is refused raises Refused, which names the fault. The package kobdzila (docs/guide/python.md) does more, and
+faster; this module needs nothing but the shared library.
 """
 import ctypes
 import gettext
