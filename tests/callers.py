@@ -64,7 +64,8 @@ def missing_clauses(page):
 
 
 def main():
-    pages = [Path("README.md"), *sorted(Path("docs").glob("**/*.md"))]
+    # (what docs/guide/rust.md quotes is Rust, which tests/rust.sh compiles and runs)
+    pages = [Path("README.md"), *sorted(it for it in Path("docs").glob("**/*.md") if it.name != "rust.md")]
     missing = [f"{page}: {what}" for page in pages for what in missing_programs(page)]
     for name in ("docs/guide/rattle.md", "docs/internals/proofs.md"):
         missing += [f"{name}: {what}" for what in missing_clauses(Path(name))]
