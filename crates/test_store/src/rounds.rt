@@ -1,6 +1,6 @@
 //! A worked script of `catserve`, played by `run_life`: `tests/stored/rounds_with_file.script`. A gate holds the
-//! publisher and both readers to the rounds of the script, so each reply is of one known version. The outcomes and texts
-//! are those that `catserve` answers by `serve`, and that are stored next to the script.
+//! publisher and both readers to the rounds of the script, so each reply is of one known version. The outcomes and
+//! texts are those that `catserve` answers by `serve`, and that are stored next to the script.
 use crate::made::{
     DUPLICATE, SALUT, TWICE, Way, live_by, load_checked, load_file, load_text, push_requests,
     query, query_of, translated,
