@@ -6,6 +6,7 @@ pub mod Named
 pub mod LawfulStrings
 pub mod ReadBack
 pub mod OneMap
+pub mod Ranking
 pub mod SomeMap
 pub mod Spelt
 pub mod PartLemmas

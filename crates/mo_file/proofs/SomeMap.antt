@@ -1,49 +1,12 @@
 -- Bytes are an MO file of a map, or are refused: assuming neither leads to ⊥.
-use Rattle.std.proofs.Common.{◌≡◌, ℕ, zero, suc, ◌+◌, ◌<◌, List, [], ◌∷◌, get_or, refl, sym, ap, subst, ◌∙◌, arith, inl}
-use Rattle.std.proofs.Common.{inr}
+use Rattle.std.proofs.Common.{◌≡◌, ℕ, zero, suc, ◌+◌, ◌<◌, List, sym, subst, ◌∙◌, arith, inl, inr}
 use Rattle.std.proofs.lemmas.Bool.{cases_lt}
 use Rattle.catalogue.specs.Entry.{Entry}
 use Rattle.mo_file.specs.MoReading.{order, file_of, Passes, rank, PassesBelow, Refused, Mo, IsMoFile}
 use Rattle.mo_file.specs.declared.fault.MoFault.{MoFault}
-use Rattle.mo_file.specs.declared.fault.MoFault.TheVariants.{TooLarge, Short, Magic, Revision, Bounds, NoNul, BadText}
-use Rattle.mo_file.specs.declared.fault.MoFault.TheVariants.{Forms, Order, Charset, Swollen, Memory}
 use Rattle.mo_file.specs.Pairs.{named_in}
 use Rattle.mo_file.proofs.Named.{is_mo}
-
--- ---- each rank has one refusal
-
-abbrev in_order : List MoFault
-in_order = TooLarge ∷ Short ∷ Magic ∷ Revision ∷ Bounds ∷ NoNul ∷ BadText ∷ Forms ∷ Order ∷ Charset ∷ Swollen ∷ Memory
-    ∷ []
-
-abbrev fault_at : ℕ → MoFault
-fault_at k = get_or in_order k Memory
-
-record HasPlace (fault : MoFault) : Type 0 where
-  place : ℕ
-  rank_is : rank fault ≡ place + 1
-  fault_is : fault_at place ≡ fault
-
-has_place : (fault : MoFault) → HasPlace fault
-has_place TooLarge = record { place = 0; rank_is = refl; fault_is = refl }
-has_place Short = record { place = 1; rank_is = refl; fault_is = refl }
-has_place Magic = record { place = 2; rank_is = refl; fault_is = refl }
-has_place Revision = record { place = 3; rank_is = refl; fault_is = refl }
-has_place Bounds = record { place = 4; rank_is = refl; fault_is = refl }
-has_place NoNul = record { place = 5; rank_is = refl; fault_is = refl }
-has_place BadText = record { place = 6; rank_is = refl; fault_is = refl }
-has_place Forms = record { place = 7; rank_is = refl; fault_is = refl }
-has_place Order = record { place = 8; rank_is = refl; fault_is = refl }
-has_place Charset = record { place = 9; rank_is = refl; fault_is = refl }
-has_place Swollen = record { place = 10; rank_is = refl; fault_is = refl }
-has_place Memory = record { place = 11; rank_is = refl; fault_is = refl }
-
-rank_one : (f g : MoFault) → rank f ≡ rank g → f ≡ g
-rank_one f g e =
-    let p = has_place f in
-    let q = has_place g in
-    let same : p.place ≡ q.place = omega (arith, p.rank_is, q.rank_is, e) in
-    sym p.fault_is ∙ ap fault_at same ∙ q.fault_is
+use Rattle.mo_file.proofs.Ranking.{has_place, rank_one}
 
 -- ---- a file that no refusal applies to passes all tests
 

@@ -10,7 +10,7 @@ use crate::fault::PoKind;
 use crate::plain::plain_len;
 use crate::scan::split_byte;
 
-/// The byte that a backslash followed by this letter stands for.
+/// The byte that a backslash followed by this letter means.
 fn escape_value(letter: u8) -> Option<u8>
     ensures { result ≡ escaped letter }
 {
@@ -86,7 +86,7 @@ fn octal_number(digits: &[u8]) -> u16
     }
 }
 
-/// Reads the octal digits after a backslash, of which there is at least one; `BadEscape` above 255.
+/// Reads one or more octal digits after a backslash; `BadEscape` above 255.
 fn read_octal(text: &[u8]) -> Result<(u8, &[u8]), PoKind>
     requires { 0 < length (octal_run text.now) }
     ensures ok { IfOk result (λ found. ReadsUnit (92 ∷ text.now) found.0 found.1.now) }

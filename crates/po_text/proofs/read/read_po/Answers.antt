@@ -1,4 +1,4 @@
-use Rattle.std.proofs.Common.{◌≡◌, List, ◌∷◌, [], ◌++◌, inl, inr, sym, ap, ◌∙◌, subst}
+use Rattle.std.proofs.Common.{◌≡◌, List, ◌∷◌, [], ◌++◌, inl, inr, sym, ap, ◌∙◌, subst, rules}
 use Rattle.std.proofs.lemmas.Result.{err_from_is_err_and}
 use Rattle.std.proofs.lemmas.List.{map-append}
 use Rattle.po_text.specs.Entries.{Entry}
@@ -28,3 +28,6 @@ entries-preserved c =
     = ap entries_view c.in_ok-push.ensures.items ∙ map-append entry_view before (c.in_ok-entry.entry ∷ [])
     ∙ ap (λ (x : Entry). entries_view before ++ (x ∷ [])) c.in_ok-entry.ensures in
     subst (λ (x : List Entry). HasRead text x c.next_entry.new.self) (sym all) had
+
+pub returns-clause-ok : goal.returns-clause-ok
+returns-clause-ok c = search rules
