@@ -1,15 +1,9 @@
-//! The program `msgfmt`: it hands its words, the files of the system, standard input, standard output and the
+//! The program `msgfmt`: it hands its arguments, the files of the system, standard input, standard output and the
 //! error output to `msgfmt_tool`, and ends with the exit status 0 or 1.
 #![tactic(auto)]
 
-mod beside;
-mod disk;
-mod replace;
-mod settle;
-mod stream;
-
-use crate::disk::Disk;
 use devices::{Reading, Sink, Writing};
+use disk::Disk;
 use msgfmt_tool::{Status, run};
 use std::io;
 use std::process::ExitCode;
@@ -40,7 +34,7 @@ fn main(rt: HostRuntime) -> ExitCode {
     }
 }
 
-/// Words that can't be had: one of them isn't UTF-8, or there is no memory for them.
+/// Arguments that can't be read: one of them isn't UTF-8, or memory for them ran out.
 fn refuse<E: Sink>(error: &io::Error, errors: &mut E) -> ExitCode {
     match error.kind() {
         io::ErrorKind::OutOfMemory => fail("msgfmt: out of memory\n", errors),

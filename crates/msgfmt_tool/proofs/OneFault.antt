@@ -1,4 +1,4 @@
--- The words of a command without subcommands have one fault at most.
+-- The arguments of a command without subcommands have one fault at most.
 use Rattle.std.proofs.Common.{◌≡◌, ℕ, Bool, true, false, zero, suc, List, [], ◌∷◌, Option, Some, None, if◌then◌else◌}
 use Rattle.std.proofs.Common.{ap, sym, inl, inr, length}
 use Rattle.std.specs.Option.{option_map_or}
@@ -43,7 +43,7 @@ none = record { one = tt }
 single : (k : ErrorKind) → One (k ∷ [])
 single k = record { one = tt }
 
--- ---- the words that definitions are made of
+-- ---- the terms of the definitions
 
 else_one : (a b : Kinds) → One a → One b → One (or_else a b)
 else_one [] b first second = second
@@ -111,7 +111,7 @@ use_one : (again : Bool) (a : Rule) (values : List Text) (rows : List Row) → O
 use_one again a values rows = else_one _ _ (range_one (unwrap_or_range a.range).start_inclusive (most_values a)
     (length values)) (action_one (action_of a) again a (values_or_missing a values) rows)
 
--- ---- the walk over the words
+-- ---- the walk over the arguments
 
 settle_one : (c : List Rule) (again : Bool) (h : Held) → One (settle_fault c again h)
 settle_one c again h = map_one _ h.pending (λ p. map_one _ (arg_by_id c p.0) (λ a. use_one again a p.1 h.rows))
@@ -158,7 +158,7 @@ flag_word_one c again (Some p) word h = long_one c again (arg_by_long c p.0) p.1
 flag_word_one c again None word h = map_one _ (short_of word)
     (λ flags. flags_one c again (length flags) flags h.skip (record h { skip = 0 }))
 
--- no word names a subcommand, where there is none
+-- no argument names a subcommand if there is none
 word_one : (s : Shape) (is_trailing : Bool) (waiting : Waiting) (word : Text) (h : Held)
     → One (word_fault s [] is_trailing waiting word h)
 word_one s true waiting word h = none

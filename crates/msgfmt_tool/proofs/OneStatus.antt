@@ -1,4 +1,4 @@
--- The same words have one status over the same files and input.
+-- Two runs with the same arguments, files and input have one status.
 use Rattle.std.proofs.Common.{◌≡◌, ◌∙◌, ap, sym, subst, refl, inl, inr, ℕ, Bool, true, false, List, [], ◌∷◌, Option}
 use Rattle.std.proofs.Common.{Some, None, IsSome, unwrap_or}
 use Rattle.clap.specs.Kinds.{Kinds}
@@ -8,8 +8,9 @@ use Rattle.catalogue.specs.declared.Compiled.{Compiled}
 use Rattle.catalogue.specs.declared.LoadFault.{LoadFault}
 use Rattle.catalogue.proofs.OneMeaning.{meaning_one, means_or_refuses, refusal_one}
 use Rattle.msgfmt_tool.specs.Words.{AreFaulty, AreTaken, AskForHelp, Asked, asked}
-use Rattle.msgfmt_tool.specs.Runs.{Change, FilesSeen, InputSeen, IsFront, IsRefused, MakesFile, Reads, Run, Runs}
-use Rattle.msgfmt_tool.specs.Runs.{is_standard}
+use Rattle.devices.specs.Devices.{IsFront}
+use Rattle.msgfmt_tool.specs.Runs.{Change, FilesSeen, InputSeen, IsRefused, MakesFile, Reads, Run, Runs}
+use Rattle.msgfmt_tool.specs.Runs.{is_standard, most_read}
 use Rattle.msgfmt_tool.specs.Laws.{BeginAlike, IsSettled}
 use Rattle.msgfmt_tool.specs.declared.outcome.Cause.TheVariants.{Words, NoInput, CannotRead, Refused, CannotWrite}
 use Rattle.msgfmt_tool.specs.declared.outcome.Cause.TheVariants.{ErrorOutput, Memory}
@@ -19,10 +20,10 @@ use Rattle.msgfmt_tool.specs.declared.outcome.Status.TheVariants.{Done, Failed}
 -- ---- one text
 
 front_one : (known other : Option (List ℕ)) (text other_text : List ℕ) → other ≡ known → IsSome known
-    → IsFront known text → IsFront other other_text → text ≡ other_text
+    → IsFront most_read known text → IsFront most_read other other_text → text ≡ other_text
 front_one None other text other_text is some front other_front = absurd (cc some)
 front_one (Some bytes) other text other_text is some front other_front =
-    front ∙ sym (subst (λ o. IsFront o other_text) is other_front)
+    front ∙ sym (subst (λ o. IsFront most_read o other_text) is other_front)
 
 module _ (run other : Run) (alike : BeginAlike run other) where
   read_one : (standard : Bool) (name text other_text : List ℕ)
@@ -76,7 +77,7 @@ module _ (run other : Run) (alike : BeginAlike run other) where
       means_or_refuses q.text request.options makes.compiled fault.kind fault.line q.means
       (subst (λ t. Refuses t request.options fault.kind fault.line) same p.refuses)
 
--- ---- one outcome of the words
+-- ---- one outcome of the arguments
 
 abbrev first_kind : Kinds → ErrorKind → ErrorKind
 first_kind [] k = k

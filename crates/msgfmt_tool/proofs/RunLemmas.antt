@@ -174,12 +174,12 @@ pub kept_same : (log : Log) → KeepsLog log log
 kept_same None = tt
 kept_same (Some files) = refl
 
--- FILE may be made before a line can't be told
+-- FILE may be written before a line of the error output fails
 untold_line : (run : Run) (a : Asked) → FailsToWarn run a ⊎ MakesFileFirst run a → Fails run a Memory
 untold_line run a (inl h) = inl h.unwritten
 untold_line run a (inr h) = inr (inr h)
 
--- there was no memory for the line that tells the cause
+-- memory for the line with the cause ran out
 untold : (run : Run) (a : Asked) (cause : Cause) → Fails run a cause → Fails run a Memory
 untold run a Words h = absurd h
 untold run a NoInput h = inl (record {
@@ -195,7 +195,7 @@ untold run a Memory h = h
 -- another failure of the error output changes nothing
 module _ (files : Change FilesSeen) (input : Change InputSeen) (output : Change OutputSeen)
     (e e' e'' : ℕ) (later : e' ≤ e'') where
-  -- the run when its work had ended, and when that was told
+  -- the run after its work, and after the report of it
   abbrev worked : Run
   worked = run_over files input output (between e e')
 
@@ -258,7 +258,7 @@ module _ (files : Change FilesSeen) (input : Change InputSeen) (output : Change 
     failed ErrorOutput h = (taken, h)
     failed Memory h = inr (inr (taken, h))
 
-    -- the work ended, and that was told
+    -- the work ended, and that was reported
     pub ended : {T : Type 0} (a : Asked) (is : a ≡ asked words) (done : Result T Cause) (status : Status)
         → Works worked a done → Tells (between e' e'') done status → Runs told words status
     ended a is (Ok u) status works tells =

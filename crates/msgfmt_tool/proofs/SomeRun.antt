@@ -1,4 +1,4 @@
--- Words have an outcome over all files and inputs: it leads to ⊥ that they have none.
+-- Arguments have an outcome over all files and inputs: that they have none leads to ⊥.
 use Rattle.std.proofs.Common.{◌≡◌, ◌∙◌, ap, refl, inl, inr, ℕ, Bool, true, false, List, [], ◌∷◌, ◌++◌, Option}
 use Rattle.std.proofs.Common.{Some, None, sym, take, drop}
 use Rattle.std.proofs.lemmas.List.{take-append-drop}
@@ -10,7 +10,9 @@ use Rattle.catalogue.specs.MoFile.{spelling}
 use Rattle.catalogue.specs.declared.Compiled.{Compiled}
 use Rattle.catalogue.proofs.SomeMeaning.{some_meaning}
 use Rattle.msgfmt_tool.specs.Words.{AreTaken, AskForHelp, asked, word_faults}
-use Rattle.msgfmt_tool.specs.Runs.{Change, FilesSeen, InputSeen, IsFront, OutputSeen, Reads, Run, Writes, is_standard}
+use Rattle.devices.specs.Devices.{IsFront}
+use Rattle.msgfmt_tool.specs.Runs.{Change, FilesSeen, InputSeen, OutputSeen, Reads, Run, Writes, is_standard}
+use Rattle.msgfmt_tool.specs.Runs.{most_read}
 use Rattle.msgfmt_tool.specs.Laws.{SettledRun}
 use Rattle.msgfmt_tool.specs.declared.outcome.Cause.TheVariants.{Words, NoInput, Refused}
 use Rattle.msgfmt_tool.specs.declared.outcome.Status.TheVariants.{Done, Failed}
@@ -22,19 +24,19 @@ use Rattle.msgfmt_tool.proofs.RunLemmas.{between, kept_same, run_over}
 
 abbrev front : Option (List ℕ) → List ℕ
 front None = []
-front (Some bytes) = take 67108865 bytes
+front (Some bytes) = take most_read bytes
 
-front_is : (known : Option (List ℕ)) → IsFront known (front known)
+front_is : (known : Option (List ℕ)) → IsFront most_read known (front known)
 front_is None = tt
 front_is (Some bytes) = refl
 
 abbrev rest : Option (List ℕ) → Option (List ℕ)
 rest None = None
-rest (Some bytes) = Some (drop 67108865 bytes)
+rest (Some bytes) = Some (drop most_read bytes)
 
 rest_is : (known : Option (List ℕ)) → Consumes known (rest known) (front known)
 rest_is None = tt
-rest_is (Some bytes) = sym (take-append-drop 67108865 bytes)
+rest_is (Some bytes) = sym (take-append-drop most_read bytes)
 
 appended : (known : Option (List ℕ)) (bytes : List ℕ) → Appends known (append_known known bytes) bytes
 appended None bytes = tt
@@ -75,7 +77,7 @@ written false files output name bytes = (
   record { written = logged_is files.log name bytes; no_output = refl },
 )
 
--- ---- the cases of the words
+-- ---- the cases of the arguments
 
 module _ (words : List (List ℕ)) (files : FilesSeen) (input : InputSeen) (output : OutputSeen)
     (none : SettledRun words files input output → ⊥) where

@@ -1,4 +1,4 @@
--- From the answers of `clap` to what the words ask for.
+-- From the answers of `clap` to what the arguments ask for.
 use Rattle.std.proofs.Common.{◌≡◌, ◌∙◌, ◌⊎◌, ap, sym, subst, inl, inr, true≢false, Bool, true, false, ℕ, List, [], ◌∷◌}
 use Rattle.std.proofs.Common.{Option, Some, None, codes, option_map, refl, unwrap_or}
 use Rattle.std.specs.Borrow.{Bor}
@@ -41,7 +41,7 @@ asked_built f checked use_fuzzy statistics input output checked_is fuzzy_is stat
       output = o k;
     }
 
--- the text that stands in place of none
+-- the text for a value that is missing
 unwrapped : (found : Option (Bor (List ℕ))) (other : Bor (List ℕ)) → (unwrap_or found other).now
     ≡ unwrap_or (option_map (λ s. s.now) found) other.now
 unwrapped None other = refl
@@ -56,11 +56,11 @@ abbrev is_help : ErrorKind → Bool
 is_help kind.DisplayHelp = true
 is_help _ = false
 
--- the words have one fault at most
+-- the arguments have one fault at most
 pub one_fault : (words : List (List ℕ)) → One (word_faults words)
 one_fault words = built_one (built msgfmt).top refl nothing_held (argument_words msgfmt words)
 
--- an answer to an error of `clap` explains the words
+-- an answer to an error of `clap` explains the arguments
 pub explained : (words : List (List ℕ)) (k : ErrorKind) (r : WordsFault) → (k ≡ kind.OutOfMemory)
     ⊎ IsAmong k (word_faults words)
     → AnswersKind k r → Explains words r

@@ -13,7 +13,7 @@ abbrev pub cause_of_input : InputFault → Cause
 cause_of_input input.Unreadable = CannotRead
 cause_of_input input.Memory = Memory
 
--- want of memory
+-- memory ran out
 abbrev pub is_memory : LoadKind → Bool
 is_memory load.Memory = true
 is_memory _ = false

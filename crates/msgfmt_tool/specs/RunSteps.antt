@@ -50,7 +50,7 @@ EndsCompiling files input name options _ = ⊥
 
 -- ---- lines on the error output
 
--- why a line wasn't told
+-- why a line wasn't written
 abbrev pub EndsTelling : Change ℕ → Cause → Type 0
 EndsTelling errors ErrorOutput = RisesBy 1 errors.before errors.after
 EndsTelling errors Memory = ⊤
@@ -85,17 +85,17 @@ Delivers files output errors request compiled (Err _) = ⊥
 
 -- ---- a run
 
--- the work on what the words ask for
+-- the work on what the arguments ask for
 abbrev pub Works : {T : Type 0} → Run → Asked → Result T Cause → Type 0
 Works run request (Ok done) = TellsAll run.error_failures × MakesFile run request
 Works run request (Err cause) = Fails run request cause
 
--- work that was done has nothing to tell; a failure was told on the error output, or there was no memory for its line
+-- work that was done has nothing to report; a failure was reported on the error output, or memory for its line ran out
 abbrev pub Tells : {T : Type 0} → Change ℕ → Result T Cause → Status → Type 0
 Tells errors (Ok done) status = TellsAll errors × (status ≡ Done)
 Tells errors (Err cause) status = (status ≡ Failed cause) ⊎ (status ≡ Failed Memory)
 
--- words that give no request: the help text was written, or they are faulty, or there was no memory
+-- arguments that give no request: the help text was written, or they are faulty, or memory ran out
 abbrev pub AnswersWords : {T : Type 0} → Change OutputSeen → WordsFault → Result T Cause → Type 0
 AnswersWords output (Help text) (Ok done) = (text : List ℕ) × Appends output.before.bytes output.after.bytes text
 AnswersWords output (Help text) (Err CannotWrite) = RisesBy 1 output.before.failures output.after.failures

@@ -2,7 +2,7 @@
 use Rattle.std.specs.Prelude.{◌≡◌, ◌⊎◌, ℕ, Bool, true, false, List, Option, Some, None, IsTrue, IfSome, codes, take}
 use Rattle.std.specs.Str.{bytes_eq}
 use Rattle.std.specs.Io.KnownBytes.{Appends, Consumes}
-use Rattle.devices.specs.Devices.{RisesBy}
+use Rattle.devices.specs.Devices.{RisesBy, IsFront, most_reads}
 use Rattle.devices.specs.Files.{KeepsLog, Log, Logs, MayLog}
 use Rattle.catalogue.specs.MoFile.{spelling}
 use Rattle.catalogue.specs.Meaning.{Means, Refuses}
@@ -17,20 +17,20 @@ use Rattle.msgfmt_tool.specs.declared.outcome.Status.TheVariants.{Done, Failed}
 
 -- ---- the devices
 
--- what is known of the files: the bytes of each and what was written, where they are told, and the count of failures
+-- what is known of the files: the bytes of each and what was written, if they report them, and the count of failures
 pub record FilesSeen : Type 0 where
   pub content : List ℕ → Option (List ℕ)
   pub log : Log
   pub failures : ℕ
 
--- what is known of standard input: the bytes still to be read, where they are told, and the counts of reads and of
+-- what is known of standard input: the bytes still to be read, if it reports them, and the counts of reads and of
 -- failures
 pub record InputSeen : Type 0 where
   pub left : Option (List ℕ)
   pub reads : ℕ
   pub failures : ℕ
 
--- what is known of standard output: the bytes that were written, where they are told, and the count of failures
+-- what is known of standard output: the bytes that were written, if it reports them, and the count of failures
 pub record OutputSeen : Type 0 where
   pub bytes : Option (List ℕ)
   pub failures : ℕ
@@ -47,17 +47,17 @@ pub record Run : Type 0 where
   pub output : Change OutputSeen
   pub error_failures : Change ℕ
 
--- the files as they stand, by what their type tells of them
+-- the files now, by what their type reports of them
 abbrev pub files_seen : {F : Type 0} → (F → List ℕ → Option (List ℕ)) → (F → Log) → (F → ℕ) → F → FilesSeen
 files_seen content written failures files =
     record { content = content files; log = written files; failures = failures files }
 
--- the same of standard input
+-- standard input now
 abbrev pub input_seen : {R : Type 0} → (R → Option (List ℕ)) → (R → ℕ) → (R → ℕ) → R → InputSeen
 input_seen remaining reads failures reader =
     record { left = remaining reader; reads = reads reader; failures = failures reader }
 
--- the same of standard output
+-- standard output now
 abbrev pub output_seen : {W : Type 0} → (W → Option (List ℕ)) → (W → ℕ) → W → OutputSeen
 output_seen contents failures writer = record { bytes = contents writer; failures = failures writer }
 
@@ -86,18 +86,18 @@ pub record IsUnwritten (files : Change FilesSeen) (output : Change OutputSeen) :
 abbrev pub is_standard : List ℕ → Bool
 is_standard name = bytes_eq name (codes "-")
 
--- all of the bytes that are known, or the first 67,108,865 where there are more
-abbrev pub IsFront : Option (List ℕ) → List ℕ → Type 0
-IsFront known text = IfSome known (λ bytes. text ≡ take 67108865 bytes)
+-- how many bytes of INPUT are read: one more than a text may have
+abbrev pub most_read : ℕ
+most_read = 67108865
 
 -- the text was read from standard input
 pub record ReadsStandard (input : Change InputSeen) (text : List ℕ) : Type 0 where
-  pub front : IsFront input.before.left text
+  pub front : IsFront most_read input.before.left text
   pub consumed : Consumes input.before.left input.after.left text
 
 -- the text was read from the file of this name
 pub record ReadsFile (files : FilesSeen) (input : Change InputSeen) (name text : List ℕ) : Type 0 where
-  pub front : IsFront (files.content name) text
+  pub front : IsFront most_read (files.content name) text
   pub unread : input.after ≡ input.before
 
 -- the text was read from INPUT, which is standard input (true) or a file
@@ -109,7 +109,7 @@ Reads false files input name text = ReadsFile files input name text
 -- standard input
 abbrev pub FailsToRead : Bool → Change FilesSeen → Change InputSeen → Type 0
 FailsToRead true files input =
-    RisesBy 1 input.before.failures input.after.failures ⊎ RisesBy 134217728 input.before.reads input.after.reads
+    RisesBy 1 input.before.failures input.after.failures ⊎ RisesBy most_reads input.before.reads input.after.reads
 FailsToRead false files input =
     RisesBy 1 files.before.failures files.after.failures × (input.after ≡ input.before)
 
@@ -144,7 +144,7 @@ abbrev pub FailsToWrite : Bool → Change FilesSeen → Change OutputSeen → Li
 FailsToWrite true files output name = FailsOnStandard files output
 FailsToWrite false files output name = FailsOnFile files output name
 
--- ---- the work on what the words ask for
+-- ---- the work on what the arguments ask for
 
 -- the text of INPUT compiles to this
 pub record Compiles (run : Run) (request : Asked) (compiled : Compiled) : Type 0 where
@@ -209,7 +209,7 @@ Fails run request Memory =
 
 -- ---- a run
 
--- the words ask for the help text, which was written to standard output, and nothing else
+-- the arguments ask for the help text, which was written to standard output, and nothing else
 pub record Helps (run : Run) (words : List (List ℕ)) : Type 0 where
   pub asks : AskForHelp words
   pub unread : run.input.after ≡ run.input.before
@@ -217,14 +217,14 @@ pub record Helps (run : Run) (words : List (List ℕ)) : Type 0 where
   pub text : List ℕ
   pub written : Appends run.output.before.bytes run.output.after.bytes text
 
--- the words ask for the help text, which can't be written
+-- the arguments ask for the help text, which can't be written
 pub record HelpFails (run : Run) (words : List (List ℕ)) : Type 0 where
   pub asks : AskForHelp words
   pub unread : run.input.after ≡ run.input.before
   pub no_file : run.files.after ≡ run.files.before
   pub failed : RisesBy 1 run.output.before.failures run.output.after.failures
 
--- what a run of these words did, by its status
+-- what a run of these arguments did, by its status
 abbrev pub Runs : Run → List (List ℕ) → Status → Type 0
 Runs run words Done =
     TellsAll run.error_failures × (Helps run words ⊎ (AreTaken words × MakesFile run (asked words)))

@@ -1,4 +1,4 @@
--- What the words of a command line ask for, by the definitions of the crate `clap` (GNU gettext manual, "msgfmt
+-- What the arguments of a command line ask for, by the definitions of the crate `clap` (GNU gettext manual, "msgfmt
 -- Invocation").
 use Rattle.std.specs.Prelude.{◌≡◌, ◌≢◌, ℕ, Bool, false, List, [], ◌∷◌, Option, Some, codes, unwrap_or}
 use Rattle.std.specs.Option.{option_map_or}
@@ -17,7 +17,7 @@ use Rattle.catalogue.specs.declared.Options.{Options}
 abbrev pub flag_rule : List ℕ → Rule
 flag_rule id = record (new_rule id) { long = Some id; action = Some SetTrue }
 
--- the same with a letter
+-- a flag by its long name and a letter
 abbrev pub letter_flag_rule : List ℕ → ℕ → Rule
 letter_flag_rule id letter = record (new_rule id) { short = Some letter; long = Some id; action = Some SetTrue }
 
@@ -53,11 +53,11 @@ pub record Asked : Type 0 where
   pub input : Option (List ℕ)
   pub output : List ℕ
 
--- clap gives a flag the text "true" where it stands among the words
+-- clap gives a flag the text "true" if it is among the arguments
 abbrev pub is_true : Option (List ℕ) → Bool
 is_true value = option_map_or (λ text. bytes_eq text (codes "true")) value false
 
--- the flag of this id stands among the words
+-- the flag of this id is among the arguments
 abbrev pub is_on : List ℕ → List Row → Bool
 is_on id rows = is_true (first_of id rows)
 
@@ -70,24 +70,24 @@ asked_by rows = record {
   output = unwrap_or (first_of (codes "output-file") rows) (codes "messages.mo");
 }
 
--- what the words ask for
+-- what the arguments ask for
 abbrev pub asked : List (List ℕ) → Asked
 asked words = asked_by (matches_of msgfmt words)
 
--- ---- words that aren't taken
+-- ---- arguments that are refused
 
--- the fault that the words have, of this kind, and none where they are taken
+-- the fault of the arguments, of this kind, or none if they are accepted
 abbrev pub word_faults : List (List ℕ) → Kinds
 word_faults words = fault_of msgfmt words
 
--- the words are those of a command line
+-- the arguments are those of `msgfmt`
 abbrev pub AreTaken : List (List ℕ) → Type 0
 AreTaken words = word_faults words ≡ []
 
--- the words ask for the help text
+-- the arguments ask for the help text
 abbrev pub AskForHelp : List (List ℕ) → Type 0
 AskForHelp words = word_faults words ≡ DisplayHelp ∷ []
 
--- the words have another fault
+-- the arguments have another fault
 abbrev pub AreFaulty : List (List ℕ) → Type 0
 AreFaulty words = (k : ErrorKind) × (word_faults words ≡ k ∷ []) × (k ≢ DisplayHelp)

@@ -44,7 +44,7 @@ fn deliver<F: Files, W: Sink, E: Sink>(
     Ok(())
 }
 
-/// Does what the words ask for.
+/// Does what the arguments ask for.
 fn work<F: Files, R: Source, W: Sink, E: Sink>(
     alloc: Global,
     request: &Request<'_>,
@@ -67,7 +67,7 @@ fn work<F: Files, R: Source, W: Sink, E: Sink>(
     deliver(alloc, request, name, &compiled, files, writer, errors)
 }
 
-/// Answers words that give no request: with the help text where they ask for it.
+/// Answers arguments that give no request: with the help text if they ask for it.
 fn answer_words<W: Sink>(fault: &WordsFault, writer: &mut W) -> Result<(), Cause>
     ensures { AnswersWords (change (output_seen W.contents W.failures) writer.old writer.new) fault.now result }
 {
@@ -81,15 +81,15 @@ fn answer_words<W: Sink>(fault: &WordsFault, writer: &mut W) -> Result<(), Cause
     }
 }
 
-/// Says a line on the error output. Where that can't be written, the run has failed all the same.
+/// Writes a line to the error output. If that can't be written, the run has failed all the same.
 fn say<E: Sink>(errors: &mut E, line: &str)
     ensures { E.failures errors.old ≤ E.failures errors.new }
 {
     let _written = errors.write_all(line.as_bytes());
 }
 
-/// The status of a run whose work is done, after a line that says why it failed; there is none where the
-/// error output has failed. The status is `Memory` where there is no memory for the line.
+/// The status of a run whose work is done, after a line that says why it failed. There is no line if the
+/// error output fails. The status is `Memory` if there is no memory for the line.
 fn end<E: Sink>(
     alloc: Global,
     done: Result<(), Cause>,
@@ -123,15 +123,15 @@ fn end<E: Sink>(
     }
 }
 
-/// Does what the words of a command line ask for, of which the first is the program's name: reads the PO text
-/// INPUT and writes its MO file FILE, or the help text to `writer`. The name `-` stands for `reader` and
-/// `writer`; without a FILE the name is `messages.mo`.
+/// Runs a command line, whose first argument is the program's name: reads the PO text INPUT and writes its MO
+/// file FILE, or the help text to `writer`. The name `-` means `reader` and `writer`; without a FILE the name is
+/// `messages.mo`.
 ///
 /// With `-c` the text is checked, and a warning for each missing header field goes to `errors` before FILE is
-/// written; with `--statistics` their line goes there after it. A failure is told in one line on `errors`;
-/// where that can't be written, the status is still that of the failure. At most 67,108,865 bytes are read,
-/// of `reader` in at most 134,217,728 reads. Where the text is refused, or can't be read, nothing is written
-/// but that line.
+/// written; with `--statistics` their line goes there after it. A failure is reported in one line on `errors`;
+/// if that can't be written, the status is still that of the failure. At most 67,108,865 bytes are read, from
+/// `reader` in at most 134,217,728 reads. If the text is refused, or can't be read, nothing but that line is
+/// written.
 pub fn run<F: Files, R: Source, W: Sink, E: Sink>(
     alloc: Global,
     words: Vec<String>,

@@ -1,10 +1,10 @@
-//! What holds of the runs of all words.
+//! What holds for the runs of every command line.
 ghost use Rattle.msgfmt_tool.specs.Laws.{HasOneFile, HasOneStatus, HasSomeRun};
 
-/// Words have one outcome over the same files and the same input: the help text, a fault of the words, a missing
-/// INPUT, a refusal of its text, or its MO file; and never none. So the status that a run ends with is settled by
-/// its words and the bytes it reads alone, but for devices that fail and for want of memory. It does nothing when
-/// it is called; its contract is the law.
+/// Every command line has exactly one outcome over the same files and the same input: the help text, bad arguments,
+/// a missing INPUT, a refusal of its text, or its MO file. So the arguments and the bytes that are read decide the
+/// exit status, unless a device fails or memory runs out. The function does nothing when it is called; its contract
+/// is the law.
 pub fn one_status()
     ensures one { HasOneStatus }
     ensures file { HasOneFile }

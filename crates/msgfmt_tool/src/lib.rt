@@ -1,11 +1,10 @@
 //! The command `msgfmt`: it compiles a PO text to an MO file.
 //!
-//! `msgfmt [-c] [-f] [--statistics] [-o FILE] INPUT` reads a PO file and writes an MO file; the name `-` stands
-//! for standard input and standard output.
+//! `msgfmt [-c] [-f] [--statistics] [-o FILE] INPUT` reads a PO file and writes an MO file; the name `-` means
+//! standard input and standard output.
 #![tactic(auto)]
 
 mod command;
-mod failures;
 mod law;
 mod outcome;
 mod steps;
@@ -13,7 +12,6 @@ mod texts;
 mod words;
 
 pub use command::run;
-pub use failures::FileFailures;
 pub use law::one_status;
 pub use outcome::{Cause, Status};
 pub use steps::MOST_INPUT;

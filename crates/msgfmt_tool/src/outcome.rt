@@ -10,9 +10,9 @@ use std::alloc::AllocError;
 /// Why a run failed.
 #[derive(Clone, Copy, Debug, PartialEq, Eq)]
 pub enum Cause {
-    /// The words aren't those of a command line of `msgfmt`.
+    /// The arguments aren't those of `msgfmt`.
     Words,
-    /// The words name no INPUT.
+    /// No INPUT is named.
     NoInput,
     /// INPUT can't be read.
     CannotRead,
@@ -22,7 +22,7 @@ pub enum Cause {
     CannotWrite,
     /// A warning or the statistics can't be written.
     ErrorOutput,
-    /// Want of memory, which may stand in place of any other answer.
+    /// Memory ran out, which may come in place of any other answer.
     Memory,
 }
 

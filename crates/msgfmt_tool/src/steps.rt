@@ -42,7 +42,7 @@ fn read_input<F: Files, R: Source>(
     }
 }
 
-/// What the text of INPUT compiles to. The text is handed over: it and its MO file aren't held at once.
+/// Compiles the text of INPUT. It takes the text, so that the text and its MO file aren't in memory at once.
 pub(crate) fn compile_input<F: Files, R: Source>(
     alloc: Global,
     name: &str,
@@ -64,7 +64,7 @@ pub(crate) fn compile_input<F: Files, R: Source>(
     Ok(compiled)
 }
 
-/// Tells a line on the error output.
+/// Writes a line to the error output.
 fn tell<E: Sink>(errors: &mut E, line: &str) -> Result<(), Cause>
     ensures later { E.failures errors.old ≤ E.failures errors.new }
     ensures told { OnOk result (TellsAll (change E.failures errors.old errors.new)) }
@@ -126,7 +126,7 @@ pub(crate) fn write_output<F: Files, W: Sink>(
     }
 }
 
-/// Tells the statistics.
+/// Writes the statistics to the error output.
 pub(crate) fn report<E: Sink>(alloc: Global, stats: Stats, errors: &mut E) -> Result<(), Cause>
     ensures later { E.failures errors.old ≤ E.failures errors.new }
     ensures told { OnOk result (TellsAll (change E.failures errors.old errors.new)) }

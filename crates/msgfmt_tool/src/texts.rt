@@ -5,8 +5,7 @@ use catalogue::{LoadFault, Stats};
 use std::fmt;
 use std::fmt::{Display, Formatter};
 
-/// Why a run failed, and the words that named INPUT and FILE: the line that says so. A failing error
-/// output has none.
+/// The line that says why a run failed, with the names of INPUT and FILE. None for a failing error output.
 #[derive(Drop)]
 pub(crate) struct Failure<'a> {
     pub(crate) cause: Cause,
@@ -64,7 +63,7 @@ impl Display for StatisticsText {
     }
 }
 
-/// The noun for so many.
+/// The noun for `count` messages, in the singular or the plural.
 fn noun<'a>(count: u32, one: &'a str, more: &'a str) -> &'a str {
     if count == 1 { one } else { more }
 }

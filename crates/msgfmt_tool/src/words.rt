@@ -1,4 +1,4 @@
-//! What the words of the command line ask for.
+//! What the arguments of the command line ask for.
 ghost use Rattle.std.specs.Prelude.{◌≡◌, IfOk, IfErr, codes, false, map, string_bytes, unwrap_or};
 ghost use Rattle.clap.specs.Words.{app_of, first_value, found_of, kind_of, new_app, rows_of, rule_of};
 ghost use Rattle.msgfmt_tool.specs.Words.{AreTaken, asked, asked_by, is_true, msgfmt, msgfmt_flags};
@@ -10,7 +10,7 @@ use clap::error::ErrorKind;
 use clap::{Arg, ArgAction, ArgMatches, Command};
 use std::alloc::{AllocError, Global};
 
-/// What the words ask for.
+/// What the arguments ask for.
 #[derive(Drop)]
 pub(crate) struct Request<'a> {
     pub(crate) options: Options,
@@ -20,18 +20,18 @@ pub(crate) struct Request<'a> {
     pub(crate) output: &'a str,
 }
 
-/// Why the words give no request.
+/// Why the arguments give no request.
 #[derive(Drop)]
 pub(crate) enum WordsFault {
     /// They ask for this help text.
     Help(String),
     /// They aren't those of a command line.
     Faulty,
-    /// Want of memory.
+    /// Memory ran out.
     Memory,
 }
 
-/// What stands under the options in the help text.
+/// The last lines of the help text, after the options.
 const EXAMPLES: &str = "Examples:
   msgfmt -c --statistics -o fr.mo fr.po
   msgfmt -o - - < fr.po > fr.mo";
@@ -47,7 +47,7 @@ fn flag<'a>(alloc: Global, id: &'static str, help: &'static str) -> Arg<'a>
         .action(ArgAction::SetTrue)
 }
 
-/// The same with a letter.
+/// A flag by its long name, which is its id, and a letter.
 fn letter_flag<'a>(alloc: Global, id: &'static str, letter: char, help: &'static str) -> Arg<'a>
     ensures rule { rule_of result ≡ letter_flag_rule id.now letter }
     ensures local { result.global ≡ false }
@@ -156,7 +156,7 @@ fn request_of<'a>(matches: &ArgMatches<'a>) -> Request<'a>
     }
 }
 
-/// What an error of `clap` says of the words.
+/// What an error of `clap` says about the arguments.
 fn fault_of(alloc: Global, error: &clap::Error) -> WordsFault
     ensures { AnswersKind (kind_of error.now) result }
 {
@@ -170,7 +170,7 @@ fn fault_of(alloc: Global, error: &clap::Error) -> WordsFault
     }
 }
 
-/// What the words ask for, of which the first is the program's name.
+/// What the arguments ask for. The first one is the program's name.
 pub(crate) fn parse<'a>(alloc: Global, words: &'a [String]) -> Result<Request<'a>, WordsFault>
     ensures taken { IfOk result (λ r. AreTaken (map string_bytes words.entry.now)) }
     ensures asked { IfOk result (λ r. asked_in r ≡ asked (map string_bytes words.entry.now)) }

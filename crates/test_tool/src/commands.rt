@@ -142,7 +142,7 @@ impl Ran {
     }
 }
 
-/// The words of a line, behind the program's name.
+/// The arguments of a line, after the program's name.
 fn words(alloc: Global, line: &str) -> Result<Vec<String>, AllocError> {
     let mut words = Vec::new(alloc);
     words.push("msgfmt".to_string(alloc)?)?;

@@ -1,7 +1,7 @@
-//! Tests of `devices`, `line_input` and `msgfmt_tool` by their public calls: streams that fail in the middle, lines
+//! Tests of `devices`, `line_input` and `msgfmt_tool` through their public API: streams that fail in the middle, lines
 //! that come in parts, and whole runs of the compiler over such streams.
 //!
-//! They stand in a crate of their own, since a crate with tests is proved twice, with them and without.
+//! They are a crate of their own because a crate with tests is proved twice, with and without them.
 #![tactic(auto)]
 
 #[cfg(test)]

@@ -104,7 +104,7 @@ fn lines_come_byte_by_byte_and_in_any_two_parts(rt: HostRuntime) {
     }
 }
 
-// A line that is there is given before the next read. The read behind a line that lacks its LF finds the end.
+// A line that is there is given before the next read. The read after a line without an LF finds the end.
 #[test]
 fn no_read_is_tried_while_the_line_is_there(rt: HostRuntime) {
     for (first, step, reads) in [
@@ -189,7 +189,7 @@ fn a_line_is_too_long(rt: HostRuntime) {
     }
 }
 
-// What came before the failure is there, and the next call goes on behind it.
+// What came before the failure is there, and the next call continues after it.
 #[test]
 fn a_reader_fails_in_mid_stream(rt: HostRuntime) {
     for failing in 0..15u64 {

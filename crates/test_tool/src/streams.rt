@@ -121,7 +121,7 @@ fn a_reader_fails_in_mid_stream(rt: HostRuntime) {
     }
 }
 
-/// A reader that is interrupted so many times, and then is at its end.
+/// A reader that is interrupted a number of times, and then is at its end.
 #[derive(Drop)]
 struct InterruptedReader {
     left: u32,

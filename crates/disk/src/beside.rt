@@ -1,8 +1,8 @@
-//! The file that is written beside another one.
+//! The temporary file that is written next to the target.
 //!
-//! It has a numbered name, and whoever writes it holds a lock on it. So a file of such a name on which nobody holds a
-//! lock was left by a run that was killed, and is removed. Only who holds its lock renames or removes it, so its name
-//! is looked at again behind the lock: else it could be another run's file by then. No file that is there is written.
+//! It has a numbered name, and its writer holds a lock on it. So a file of such a name without a lock was left by a run
+//! that was killed, and is removed. Only the owner of its lock renames or removes it. Its name is checked again once
+//! the lock is held: another run may have taken the name by then. An existing file is never written to.
 
 use std::alloc::Global;
 use std::fs::{File, Metadata, OpenOptions, TryLockError};
@@ -11,13 +11,13 @@ use std::os::unix::fs::{MetadataExt, OpenOptionsExt};
 use std::random::RandomSource;
 use std::{fs, io};
 
-/// How many numbered names there are. Where all are taken, a random number is, which nobody can have taken before.
+/// How many numbered names there are. If all are taken, a random number is used, which nobody can have foreseen.
 const NAMES: u64 = 16;
 
-/// How many bytes of a file's own name the name of the one beside it has at most.
+/// How many bytes of the target's name the temporary file's name repeats, at most.
 const MOST_OF_NAME: usize = 100;
 
-/// A new file beside another one.
+/// A new temporary file next to its target.
 #[derive(Drop)]
 pub(crate) struct Beside {
     file: File,
@@ -25,7 +25,7 @@ pub(crate) struct Beside {
 }
 
 impl Beside {
-    /// A new file beside a path. A secret one can be read by its owner alone, until it is given another mode.
+    /// A new file next to a path. A secret one can be read by its owner alone, until it is given another mode.
     pub(crate) fn new(
         rt: &HostRuntime,
         alloc: Global,
@@ -55,8 +55,8 @@ impl Beside {
         self.name.as_str()
     }
 
-    /// Removes what runs that were killed have left beside a path. A file of another owner than ours and that of the
-    /// file at the path stays.
+    /// Removes the temporary files of a path that killed runs have left. A file stays if its owner is neither ours nor
+    /// that of the file at the path.
     pub(crate) fn remove_stale(
         &self,
         rt: &HostRuntime,
@@ -121,7 +121,7 @@ fn has_name(rt: &HostRuntime, file: &File, name: &str) -> bool {
     }
 }
 
-/// The name of the file of a number beside a path: in the same folder, the front of the file's own name and a mark.
+/// The name of a path's temporary file with this number: in the path's folder, the start of its name and a mark.
 fn name_beside(alloc: Global, path: &str, number: u64) -> io::Result<String> {
     let (folder, slash, own) = match path.rsplit_once('/') {
         Some((folder, own)) => (folder, "/", own),
@@ -137,7 +137,7 @@ fn front_of(name: &str) -> &str {
         .unwrap_or(name)
 }
 
-/// A number that nobody knows before.
+/// A number that nobody can foresee.
 fn random(rt: &HostRuntime) -> io::Result<u64> {
     let mut bytes = [0u8; 8];
     rt.fill_bytes(&mut bytes)?;

@@ -1,8 +1,8 @@
 //! Errors that a file system may keep until a file is closed.
 //!
-//! A network's file system tells some errors of writes, as that of a full quota, only when the file is closed, and
-//! `File` can't hand on what the close says. `sync_all` is told them in time. It costs milliseconds on a disk, where
-//! errors are told by the writes themselves, so only files without a disk of this machine are settled.
+//! A network file system reports some write errors, such as a full quota, only when the file is closed, and `File`
+//! can't return what close reports. `sync_all` reports them in time. It costs milliseconds on a disk, where the writes
+//! report all errors themselves, so only files that aren't on a local disk are synced.
 
 use std::alloc::Global;
 use std::fs::File;
@@ -10,27 +10,27 @@ use std::io::ErrorKind;
 use std::os::unix::fs::MetadataExt;
 use std::{fs, io};
 
-/// The mounts of this process, a line for each: the third word is the device's number, and behind a word `-` stands the
-/// kind of the file system (proc(5)).
+/// The mounts of this process, one line each: the third field is the device's number, and the field after `-` is the
+/// type of the file system (proc(5)).
 const MOUNTS: &str = "/proc/self/mountinfo";
 
-/// Kinds of file systems that have no device of their own, but whose writes tell all errors.
+/// Types of file systems that have no device of their own, but whose writes report all errors.
 const TELLING: [&str; 5] = ["btrfs", "overlay", "ramfs", "tmpfs", "zfs"];
 
-/// Has an error of the writes to a file told that else only its close would tell.
+/// Reports an error of the writes to a file that otherwise only its close would report.
 pub(crate) fn settle(rt: &HostRuntime, alloc: Global, file: &File) -> io::Result<()> {
     let device = file.metadata()?.dev();
     if major(device) != 0 || is_telling(rt, alloc, device)? {
         return Ok(());
     }
     match file.sync_all() {
-        // (what can't be settled has kept nothing back)
+        // (a file that can't be synced has held nothing back)
         Err(error) if error.kind() == ErrorKind::InvalidInput => Ok(()),
         settled => settled,
     }
 }
 
-/// Whether a device's file system is of a kind that tells all errors at the write.
+/// Whether a device's file system is of a type that reports all errors at the write.
 fn is_telling(rt: &HostRuntime, alloc: Global, device: u64) -> io::Result<bool> {
     let Ok(mounts) = fs::read_to_string(rt, MOUNTS) else {
         return Ok(false);
@@ -40,7 +40,7 @@ fn is_telling(rt: &HostRuntime, alloc: Global, device: u64) -> io::Result<bool> 
     Ok(mounts.lines().any(|line| is_mounted(line, number.as_str())))
 }
 
-/// Whether a line of the mounts has a device, and a kind that tells all errors at the write.
+/// Whether a line of the mounts has a device, and a type that reports all errors at the write.
 fn is_mounted(line: &str, number: &str) -> bool {
     let mut words = line.split(' ');
     if words.nth(2) != Some(number) {
@@ -52,7 +52,7 @@ fn is_mounted(line: &str, number: &str) -> bool {
     }
 }
 
-/// The major number of a device; it is 0 for all that are no device of this machine.
+/// The major number of a device; it is 0 for file systems without a local device.
 fn major(device: u64) -> u64 {
     device >> 8 & 0xfff | device >> 32 & 0xffff_f000
 }

@@ -1,7 +1,7 @@
 //! How a file gets its bytes.
 //!
-//! A regular file is written beside its place and then renamed, so that whoever reads it meanwhile has the whole old
-//! file or the whole new one, and a failure leaves the old one as it was. Others are written straight.
+//! A regular file is written under a temporary name in its folder and then renamed, so that a reader always has the
+//! whole old file or the whole new one, and a failure leaves the old one as it was. Other files are written directly.
 
 use crate::beside::Beside;
 use crate::settle::settle;
@@ -12,8 +12,8 @@ use std::io::{ErrorKind, Write};
 use std::os::unix::fs::{MetadataExt, fchown};
 use std::{fs, io};
 
-/// Makes these the bytes of the file at a path. A regular file is replaced, and keeps its owner, group and mode; a new
-/// one is made; a symbolic link is followed; a device or a pipe is written straight, and so is an open descriptor.
+/// Writes these bytes to the file at a path. A regular file is replaced and keeps its owner, group and mode; a missing
+/// one is created; a symbolic link is followed; a device, a pipe or an open descriptor is written directly.
 pub(crate) fn write_file(
     rt: &HostRuntime,
     alloc: Global,
@@ -69,7 +69,7 @@ fn replace_target(
     }
 }
 
-/// Writes where no file is. A symbolic link to nothing is written through.
+/// Writes to a path without a file. A symbolic link to nothing is written through.
 fn write_new(rt: &HostRuntime, alloc: Global, path: &str, bytes: &[u8]) -> io::Result<()> {
     if fs::symlink_metadata(rt, path).is_ok() {
         return write_settled(rt, alloc, File::create(rt, path)?, bytes);
@@ -96,7 +96,7 @@ fn write_settled(rt: &HostRuntime, alloc: Global, mut file: File, bytes: &[u8]) 
     begun(settle(rt, alloc, &file))
 }
 
-/// What came of a write that was begun. Its failure is never want of memory, after which nothing is written.
+/// The result of a write that was begun. Its failure is never `Memory`, which means that nothing was written.
 fn begun(written: io::Result<()>) -> io::Result<()> {
     match written {
         Ok(()) => Ok(()),
@@ -109,14 +109,14 @@ fn write_whole<W: Write>(writer: &mut W, bytes: &[u8]) -> io::Result<()> {
     begun(write_through(writer, bytes))
 }
 
-/// Writes all the bytes and hands on what a buffer holds back.
+/// Writes all the bytes and flushes them.
 fn write_through<W: Write>(writer: &mut W, bytes: &[u8]) -> io::Result<()> {
     writer.write_all(bytes)?;
     writer.flush()
 }
 
-/// Whether the folder of a file refuses a file beside it or its renaming, or the system the owner of the old file:
-/// then the file is written straight.
+/// Whether the folder refuses the temporary file or its renaming, or the system refuses the old file's owner. Then the
+/// file is written directly.
 fn is_refused(error: &io::Error) -> bool {
     match error.kind() {
         ErrorKind::PermissionDenied
@@ -128,7 +128,7 @@ fn is_refused(error: &io::Error) -> bool {
     }
 }
 
-/// Writes a file beside a path and renames it to the path. After a failure no file is left beside it.
+/// Writes a temporary file next to a path and renames it to the path. A failure leaves no temporary file.
 fn replace(
     rt: &HostRuntime,
     alloc: Global,
@@ -147,7 +147,7 @@ fn replace(
     moved
 }
 
-/// Gives the file beside a path the owner and group of the old file, its bytes, and then the old mode.
+/// Gives the temporary file the owner and group of the old file, the new bytes, and then the old mode.
 fn fill(
     rt: &HostRuntime,
     alloc: Global,
@@ -168,7 +168,7 @@ fn fill(
     settle(rt, alloc, file)
 }
 
-/// Gives a file the owner and the group of the old one. A system that doesn't let us refuses, whatever it answers.
+/// Gives a file the owner and the group of the old one. Any error means that the system refuses.
 fn keep_owner(file: &File, old: &Metadata) -> io::Result<()> {
     if is_owned_as(&file.metadata()?, old) {
         return Ok(());

@@ -1,21 +1,22 @@
 //! The files of the system.
 ghost use Rattle.std.specs.Prelude.{None};
 
+use crate::failures::FileFailures;
 use crate::replace::write_file;
 use devices::{FileFault, Files, InputFault, Reading, read_all};
-use msgfmt_tool::FileFailures;
 use std::alloc::Global;
 use std::fs::File;
 
 /// The files of the system, by their paths.
 #[derive(Drop)]
-pub(crate) struct Disk<'a> {
+pub struct Disk<'a> {
     rt: &'a HostRuntime,
     failures: FileFailures,
 }
 
 impl<'a> Disk<'a> {
-    pub(crate) fn new(rt: &'a HostRuntime) -> Disk<'a> {
+    /// The files of the system that `rt` gives, none of which has failed yet.
+    pub fn new(rt: &'a HostRuntime) -> Disk<'a> {
         Disk {
             rt,
             failures: FileFailures { count: 0 },

@@ -8,14 +8,14 @@ use std::io::ErrorKind;
 
 /// A count of the failures of files.
 #[derive(Clone, Copy, Debug)]
-pub struct FileFailures {
+pub(crate) struct FileFailures {
     /// How many calls failed; it stops at the largest number.
-    pub count: u64,
+    pub(crate) count: u64,
 }
 
 impl FileFailures {
     /// Counts a failure.
-    pub fn fail(&mut self) -> FileFault
+    pub(crate) fn fail(&mut self) -> FileFault
         ensures later { self.old.count ≤ self.new.count }
         ensures counted { RisesBy 1 self.old.count self.new.count }
     {
@@ -24,7 +24,7 @@ impl FileFailures {
     }
 
     /// What an error means. It is counted, unless memory ran out.
-    pub fn fault_of(&mut self, error: &io::Error) -> FileFault
+    pub(crate) fn fault_of(&mut self, error: &io::Error) -> FileFault
         ensures later { self.old.count ≤ self.new.count }
         ensures counted { result ≡ FileFault.Device → RisesBy 1 self.old.count self.new.count }
     {
