@@ -18,7 +18,7 @@ pub enum Outcome {
     Loaded(Accepted),
     /// The load was refused for this reason, and changed nothing.
     Refused(StoreFault),
-    /// So many loads are published now.
+    /// This many loads are published now.
     Published(Version),
     /// The publish was refused memory. The loads stay pending.
     Unpublished,

@@ -3,5 +3,6 @@ pub mod Ascii
 pub mod Finding
 pub mod Slotting
 pub mod Folding
+pub mod Latest
 pub mod Listing
 pub mod Running

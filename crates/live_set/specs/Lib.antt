@@ -1,5 +1,6 @@
 pub mod Names
 pub mod Loads
+pub mod Laws
 pub mod Languages
 pub mod Asks
 pub mod FirstFound

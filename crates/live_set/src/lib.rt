@@ -2,12 +2,14 @@
 #![tactic(auto)]
 
 mod languages;
+mod law;
 mod load;
 mod name;
 mod query;
 mod runs;
 mod set;
 
+pub use law::latest_suffice;
 pub use load::Load;
 pub use name::{Name, NameFault, is_name};
 pub use query::{Ask, Query};

@@ -9,7 +9,7 @@ use std::marker::Model;
 use thiserror::Error;
 
 /// The most bytes that a name may have.
-pub const NAME_LIMIT: usize = 64;
+const NAME_LIMIT: usize = 64;
 
 /// Why a text isn't taken as a name.
 #[derive(Clone, Copy, Debug, PartialEq, Eq, Error)]

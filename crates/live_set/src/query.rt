@@ -32,7 +32,7 @@ pub enum Ask {
 ///
 /// The list names the locales in which the message is looked up, in order, as in the variable LANGUAGE (GNU gettext
 /// manual, "The LANGUAGE variable"). Its members are separated by `:`, and empty ones are skipped. A member `ll_CC`
-/// with no codeset and no variant stands for itself, and then for `ll`. A member `C` or `POSIX` ends the list.
+/// with no codeset and no variant means itself, and then `ll`. A member `C` or `POSIX` ends the list.
 #[derive(Debug, Drop)]
 pub struct Query {
     pub domain: String,

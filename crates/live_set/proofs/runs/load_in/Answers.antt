@@ -1,4 +1,4 @@
-use Rattle.std.proofs.Common.{sym, ◌∙◌}
+use Rattle.std.proofs.Common.{sym}
 use Rattle.live_set.proofs.Slotting.{find_at, find_gap}
 use Rattle.live_set.proofs.runs.load_in.Goals as goal
 

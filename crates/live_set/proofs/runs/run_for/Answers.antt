@@ -1,5 +1,4 @@
-use Rattle.std.proofs.Common.{rules, subst, sym}
-use Rattle.std.specs.List.Sorted.{IsPartitionPoint}
+use Rattle.std.proofs.Common.{rules}
 use Rattle.std.proofs.lemmas.List.Sorted.{IsPartitionPoint-from_clause}
 use Rattle.live_set.specs.LoadRuns.{begins_by}
 use Rattle.live_set.proofs.Running.{begun_by}

@@ -1,6 +1,3 @@
-use Rattle.std.proofs.Common.{sym, subst, ap₂, ◌++◌, flat_map}
-use Rattle.std.specs.List.{AllByRecursion}
-use Rattle.live_set.specs.Slots.{Rises}
 use Rattle.live_set.proofs.Slotting.{rises_none}
 use Rattle.live_set.proofs.runs.LoadRuns.new.Goals as goal
 

@@ -1,4 +1,4 @@
-use Rattle.std.proofs.Common.{◌≡◌, List, [], ◌++◌, Option, None, Some, MatchOption, option_map, map, find}
+use Rattle.std.proofs.Common.{◌≡◌, List, [], ◌++◌, Option, None, Some, MatchOption, option_map, map, find, rules}
 use Rattle.std.proofs.Common.{flat_map, sym, ap, subst, ◌∙◌}
 use Rattle.std.proofs.lemmas.List.{append-nil}
 use Rattle.catalogue.specs.Entry.{Entry, key_bytes}
@@ -29,3 +29,6 @@ returns-then-not-has_colon c =
     let P : Option (List Entry) → Type 0 = λ o. MatchOption c.find_by_language.result (o ≡ None)
     (λ f. (o ≡ Some f.0.now) × (entry_at f.0.now key ≡ Some f.1)) in
     subst P (sym same) c.find_by_language.ensures
+
+pub members-preserved : goal.members-preserved
+members-preserved c = search rules
