@@ -52,7 +52,7 @@ queries-same worker other questions query differs =
     ∙ ap (λ xs. queries_for worker questions ++ xs) (rw (for_other worker other query differs) refl)
     ∙ append-nil (queries_for worker questions)
 
--- a question to a worker in front of these desks
+-- a question to a worker before these desks
 asked_behind : (worker other : ℕ) (questions : List QuestionValue) (query : QueryValue) (desks : List Desk)
     → other < worker → AreAsked worker questions desks
     → AreAsked worker (questions ++ record { worker = other; query = query } ∷ []) desks
@@ -93,7 +93,7 @@ readers-given (desk ∷ desks) (d ∷ after) zero query (items, reader, same) = 
 readers-given (desk ∷ desks) (d ∷ after) (suc worker) query (same, given) =
     rw (same, readers-given desks after worker query given) refl
 
--- a query was put behind those of the desk with this number
+-- a query was appended to those of the desk with this number
 pub gives_at : (desks : List Desk) (worker : ℕ) (query : QueryValue) (desk d : Desk) → worker < length desks
     → d.queries.items ≡ (get_or desks worker desk).queries.items ++ query ∷ []
     → d.reader ≡ (get_or desks worker desk).reader → GivesOne desks worker query (set desks worker d)
@@ -104,7 +104,7 @@ gives_at (x ∷ desks) (suc worker) query desk d below items reader = (
   gives_at desks worker query desk d (omega arith) items reader,
 )
 
--- the same of desks that are so known
+-- a query was appended to those of a desk that is known by its value
 pub gives_so : (desks after : List Desk) (worker : ℕ) (query : QueryValue) (desk d : Desk) → after ≡ set desks worker d
     → worker < length desks → desk ≡ get_or desks worker desk → d.queries.items ≡ desk.queries.items ++ query ∷ []
     → d.reader ≡ desk.reader → GivesOne desks worker query after
@@ -121,7 +121,7 @@ gives_none (desk ∷ desks) (suc worker) query beyond = (refl, gives_none desks 
 
 -- ---- answers
 
--- answers of which none is below the last version are all of that version
+-- answers that are all of the last version or later are of that version
 answered_all : (batches : List (List LoadValue)) (least : ℕ) (queries : List QueryValue) (answers : List Answer)
     → version_of batches ≤ least → Answered batches least queries answers → AllZip
     (λ (query : QueryValue) (answer : Answer). (answer.version ≡ version_of batches)
@@ -182,7 +182,7 @@ answers_in_turn start end questions worker (desk ∷ asked) (s ∷ served) same 
 
 -- ---- from round to round
 
--- desks that were served and let go are ready for the next round
+-- desks that were served and freed are ready for the next round
 pub ready_again : (start end : SeenValue) (asked served freed : List Desk) → AllZip (IsServed start end) asked served
     → AllZip IsFreed served freed → AreReady end freed
 ready_again start end asked served freed all gone = record

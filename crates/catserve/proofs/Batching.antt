@@ -1,4 +1,4 @@
--- Batches behind one another, and answers one after another.
+-- Batches that are appended, and answers one after another.
 use Rattle.std.proofs.Common.{◌≡◌, ◌∙◌, refl, sym, ap, List, [], ◌∷◌, ◌++◌, append_assoc}
 use Rattle.std.proofs.lemmas.List.{append-nil}
 use Rattle.std.specs.List.{AllZip, flat_map}

@@ -20,7 +20,7 @@ use Rattle.script_text.specs.declared.fault.ScriptKind.{ScriptKind}
 use Rattle.script_text.specs.declared.fault.ScriptKind.TheVariants as kind
 use Rattle.catserve.specs.declared.session_fault.SessionFault.{SessionFault}
 use Rattle.catserve.specs.Run.{InputSeen, FailsToRead}
-use Rattle.catserve.specs.Hearing.{HearingValue, CountsOn, HasTaken, HasGot, Stays, HearsNothing, HearsNoText, FailsFor}
+use Rattle.catserve.specs.Hearing.{HearingValue, CountsOn, HasTaken, HasGot, Stays, HearsNothing, HearsNoLine, FailsFor}
 use Rattle.catserve.specs.Hearing.{EndsNext, HearsText, HearsUndecodable}
 use Rattle.catserve.specs.Session.{most_lines}
 
@@ -89,8 +89,8 @@ stays_put i x = record {
 
 pub found_so : (i j : InputSeen) (x y : HearingValue) (end : Option ℕ) → Stays i j x y [] → x.number < most_lines
     → x.size ≤ most_script → IfSome end (λ place. EndsLine y.input 0 place)
-    → IfSome end (λ place. place ≤ 67108864 - x.size) → IfNone end ((y.input.ended ≡ true) × (length y.input.left ≡ 0))
-    → EndsNext i j x y end
+    → IfSome end (λ place. place ≤ most_script - x.size)
+    → IfNone end ((y.input.ended ≡ true) × (length y.input.left ≡ 0)) → EndsNext i j x y end
 found_so i j x y (Some place) stays few size line within none = record
     { stays = stays; line = (line, omega (arith, size, within)); none = tt; few = few }
 found_so i j x y None stays few size line within none = record { stays = stays; line = tt; none = none; few = few }
@@ -216,7 +216,7 @@ pub first_same : (i j : InputSeen) (x y : Incoming) (end : ℕ) → HasGot i j x
     → take end y.left ≡ take end x.left
 first_same i j x y end got ends = ap (take end) got.behind ∙ take-append-le end x.left got.more ends.within
 
--- the line that ends there, and the text behind it
+-- the line that ends there, and the text that follows it
 pub text_heard : (i j : InputSeen) (x y : Incoming) (end count place : ℕ) → HasGot i j x y [] → EndsLine x 0 end
     → EndsLines count y end place
     → (texts : List (List ℕ)) × (length texts ≡ count) × (take (place - end) (drop end y.left) ≡ concat texts)
@@ -316,18 +316,18 @@ nothing_heard i j x y line_fault.Unreadable f comes counts number size over fail
 nothing_heard i j x y line_fault.Memory f comes counts number size over failed is = rw is
     ((comes.lost, stays_lost i j x y comes counts number size), refl)
 
--- the same of a load's text
-pub no_text_heard : (i j : InputSeen) (x y : HearingValue) (end count : ℕ) (kind : ScriptKind) (line : ℕ)
-    → HearsNothing i j x y kind line → HearsNoText i j x y end count kind line
-no_text_heard i j x y end count kind.TooLarge line h = h
-no_text_heard i j x y end count kind.NotUtf8 line h = absurd h
-no_text_heard i j x y end count kind.BadLine line h = absurd h
-no_text_heard i j x y end count kind.ReadFault line h = h
-no_text_heard i j x y end count kind.WriteFault line h = absurd h
-no_text_heard i j x y end count kind.NoPlace line h = absurd h
-no_text_heard i j x y end count kind.Closed line h = absurd h
-no_text_heard i j x y end count kind.Join line h = absurd h
-no_text_heard i j x y end count kind.Memory line h = h
+-- whatever a bad line means
+pub no_line : (Bad : ℕ → Type 0) (i j : InputSeen) (x y : HearingValue) (kind : ScriptKind) (line : ℕ)
+    → HearsNothing i j x y kind line → HearsNoLine Bad i j x y kind line
+no_line Bad i j x y kind.TooLarge line h = h
+no_line Bad i j x y kind.NotUtf8 line h = absurd h
+no_line Bad i j x y kind.BadLine line h = absurd h
+no_line Bad i j x y kind.ReadFault line h = h
+no_line Bad i j x y kind.WriteFault line h = absurd h
+no_line Bad i j x y kind.NoPlace line h = absurd h
+no_line Bad i j x y kind.Closed line h = absurd h
+no_line Bad i j x y kind.Join line h = absurd h
+no_line Bad i j x y kind.Memory line h = h
 
 some_onto : (b : ℕ) (ls : List (List ℕ)) → length (onto_first b ls) ≡ 0 → ⊥
 some_onto b [] e = omega (arith, e)
@@ -357,7 +357,7 @@ text_within y end count place ends =
     no_bytes [] e = refl
     no_bytes (b ∷ text) e = absurd (some_line b text (is_line_end b) refl e)
 
--- so the text stands within what its line is within
+-- so the text ends within the limit that its line ends within
 pub text_ends_within : (y : Incoming) (end count place most : ℕ) → EndsLines count y end place → end ≤ most
     → (0 < count → place ≤ most) → place ≤ most
 text_ends_within y end zero place most ends line text = omega (arith, line, (text_within y end zero place ends).1 refl)

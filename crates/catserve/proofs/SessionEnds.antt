@@ -138,7 +138,7 @@ undecodable given i j k o o' y z front line a h =
 
 -- ---- in the front
 
--- nothing is played in front of the commands
+-- nothing is played before the first command
 abbrev pub front_answered : (i j : InputSeen) (o : OutputSeen) (y : HearingValue) (front : List (List ℕ))
     → HasPassed i j unheard y front → Answered None i j o o y front
 front_answered i j o y front passed = record {
@@ -208,9 +208,9 @@ ends_at_once given i o =
       };
     }
 
--- ---- behind the front
+-- ---- after the front
 
--- the rounds that have ended behind a front
+-- the rounds that have ended after a front
 abbrev pub answered : (given : Option ℕ) (first i j : InputSeen) (o o' : OutputSeen) (x y : HearingValue) (workers : ℕ)
     (start talk : TalkValue) (b : Begins given first i x workers) (c : Conversing workers i j o o' x y start talk)
     → IsFresh workers start → Answered given first j o o' y (b.front ++ c.lines)
@@ -437,7 +437,7 @@ last_answered given first i j k o o' o'' x y z workers start talk after fresh c 
     (plays_all workers (c.g.ended ++ c.g.current ∷ []) start.store after.store written played)))
     (Appends-trans o.bytes o'.bytes o''.bytes c.written answers.lines c.output answers.written)
 
--- ---- before anything was heard behind the front
+-- ---- before anything was heard after the front
 
 begun : (given : Option ℕ) (first i : InputSeen) (o : OutputSeen) (x : HearingValue) (workers : ℕ)
     (b : Begins given first i x workers) → Answered given first i o o x b.front

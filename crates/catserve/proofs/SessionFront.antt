@@ -16,8 +16,8 @@ use Rattle.script_text.specs.declared.fault.ScriptKind.{ScriptKind}
 use Rattle.script_text.specs.declared.fault.ScriptKind.TheVariants as kind
 use Rattle.catserve.specs.Run.{InputSeen}
 use Rattle.catserve.specs.Hearing.{HearingValue, HasTaken, Stays, HasPassed, Begins, Follows, BeginAlike}
-use Rattle.catserve.specs.Hearing.{unheard, silence, HearsNothing, HearsNoFront, FailsInFront}
-use Rattle.catserve.proofs.LinesTaken.{taken_none, taken_then, got_taken, line_cut, line_whole}
+use Rattle.catserve.specs.Hearing.{unheard, silence, HearsNothing, FailsInFront}
+use Rattle.catserve.proofs.LinesTaken.{no_line, taken_none, taken_then, got_taken, line_cut, line_whole}
 use Rattle.catserve.proofs.SessionHears.{stays_taken}
 
 abbrev pub passed_none : (i : InputSeen) (x : HearingValue) → HasPassed i i x x []
@@ -169,22 +169,10 @@ begins_ended i j k y z front passed stays none ended =
 
 -- ---- why the front wasn't heard
 
-no_front : (i j : InputSeen) (x y : HearingValue) (kind : ScriptKind) (line : ℕ) → HearsNothing i j x y kind line
-    → HearsNoFront i j x y kind line
-no_front i j x y kind.TooLarge line h = h
-no_front i j x y kind.NotUtf8 line h = absurd h
-no_front i j x y kind.BadLine line h = absurd h
-no_front i j x y kind.ReadFault line h = h
-no_front i j x y kind.WriteFault line h = absurd h
-no_front i j x y kind.NoPlace line h = absurd h
-no_front i j x y kind.Closed line h = absurd h
-no_front i j x y kind.Join line h = absurd h
-no_front i j x y kind.Memory line h = h
-
 pub front_fails : (i j k : InputSeen) (y z : HearingValue) (front : List (List ℕ)) (kind : ScriptKind) (line : ℕ)
     → HasPassed i j unheard y front → HearsNothing j k y z kind line → FailsInFront i k kind line
 front_fails i j k y z front kind line passed h = record
-    { mid = j; y = y; z = z; front = front; passed = passed; none = no_front j k y z kind line h }
+    { mid = j; y = y; z = z; front = front; passed = passed; none = no_line (λ line. ⊥) j k y z kind line h }
 
 pub front_undecodable : (i j k : InputSeen) (y z : HearingValue) (front : List (List ℕ)) (end : ℕ)
     → HasPassed i j unheard y front → Stays j k y z [] → EndsLine z.input 0 end → ¬ IsUtf8 (take end z.input.left)

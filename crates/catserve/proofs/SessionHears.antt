@@ -22,13 +22,13 @@ use Rattle.catserve.specs.declared.said.SaidFault.TheVariants as said_fault
 use Rattle.catserve.specs.Run.{InputSeen, FailsToRead}
 use Rattle.catserve.specs.Session.{most_lines}
 use Rattle.catserve.specs.Hearing.{HearingValue, CountsOn, HasTaken, HasSaid, Hears, Stays}
-use Rattle.catserve.specs.Hearing.{HearsNothing, HearsNone, HearsNoText}
+use Rattle.catserve.specs.Hearing.{HearsNone, HearsNoText}
 use Rattle.catserve.specs.Hearing.{HearsText, HearsOne, FailsToSay, size_behind, commands_of}
 use Rattle.catserve.proofs.LinesTaken.{counts_both, taken_then, got_taken, first_same, line_cut, line_later, line_whole}
 use Rattle.catserve.proofs.LinesTaken.{stays_put}
 use Rattle.catserve.proofs.SessionLines.{says_line, says_text, bad_line, bad_text}
 
--- ---- one step behind another
+-- ---- one step after another
 
 pub fails_later : (i j k : InputSeen) → CountsOn i j → FailsToRead j k → FailsToRead i k
 fails_later i j k counts (inl failed) = inl (rises_later 1 i.failures j.failures k.failures counts.later failed)
@@ -107,19 +107,6 @@ hears_then i j k workers x y z (Ok None) a h =
     let both = stays_then i j k x y z [] a (record { got = h.got; number = h.number; size = h.size }) in
     record { got = both.got; left = h.left; ended = h.ended; number = both.number; size = both.size }
 hears_then i j k workers x y z (Err fault) a h = none_then i j k workers x y z fault.kind fault.line a h
-
--- why nothing was heard
-pub none_of : (i j : InputSeen) (workers : ℕ) (x y : HearingValue) (kind : ScriptKind) (line : ℕ)
-    → HearsNothing i j x y kind line → HearsNone i j workers x y kind line
-none_of i j workers x y kind.TooLarge line h = h
-none_of i j workers x y kind.NotUtf8 line h = absurd h
-none_of i j workers x y kind.BadLine line h = absurd h
-none_of i j workers x y kind.ReadFault line h = h
-none_of i j workers x y kind.WriteFault line h = absurd h
-none_of i j workers x y kind.NoPlace line h = absurd h
-none_of i j workers x y kind.Closed line h = absurd h
-none_of i j workers x y kind.Join line h = absurd h
-none_of i j workers x y kind.Memory line h = h
 
 -- ---- a line
 

@@ -220,7 +220,7 @@ begins_timely given log = record {
   first = answers_none (IsAnswered given);
 }
 
--- reads, before each of which all was answered
+-- only reads, and all was answered before each of them
 reads_first : (given : Option ℕ) (a b c : Log) (text output : List ℕ) (workers : ℕ) (y : Incoming)
     (had : InTime given a b text output)
     → ((t g : List ℕ) → StillOpen workers y t g → IsAnswered given (text ++ t) (output ++ g))
@@ -371,13 +371,13 @@ talks_last workers i j o o' x y start talk a b c d fresh talks reads gives given
 abbrev no_output : OutputSeen
 no_output = record { bytes = None; failures = 0 }
 
--- nothing is due in front of the commands
+-- nothing is due before the first command
 passed_here : (i j : InputSeen) (y : HearingValue) (front : List (List ℕ)) (passed : HasPassed i j unheard y front)
     (t g : List ℕ) → StillOpen 2 y.input t g → IsAnswered None (passed.taken.more ++ t) ([] ++ g)
 passed_here i j y front passed = is_answered None i j no_output no_output y front
     (front_answered i j no_output y front passed)
 
--- lines in front that say nothing were passed in time
+-- lines before the first command that say nothing were passed in time
 abbrev pub PassesInTime : InputSeen → InputSeen → HearingValue → List (List ℕ) → Log → Log → Type 0
 PassesInTime i j y front a b = (passed : HasPassed i j unheard y front) × InTime None a b passed.taken.more []
 

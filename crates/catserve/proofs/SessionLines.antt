@@ -102,7 +102,7 @@ heard_more workers first front raw g number next commands heard said next_is few
   utf8 = rw (concat-append front raw) (IsUtf8-append (concat front) (concat raw) heard.utf8 said.utf8);
 }
 
--- ---- behind the front
+-- ---- after the front
 
 alike_self : (ls : List (List ℕ)) → BeginAlike ls ls
 alike_self [] = tt
@@ -112,7 +112,7 @@ alike_self (l ∷ ls) = refl
 pub follows_all : (input : Incoming) (text : List ℕ) → MayCome input text → Follows input (lines (input.left ++ text))
 follows_all input text may = inr (text, may, alike_self (lines (input.left ++ text)))
 
--- so do the first lines of it, with the end of a round behind them
+-- so do the first lines of it, followed by the end of a round
 pub follows_end : (i j : InputSeen) (x y : Incoming) (front : List (List ℕ)) → HasTaken i j x y front
     → Follows x (front ++ round_end ∷ [])
 follows_end i j x y [] taken = inl refl

@@ -33,7 +33,7 @@ use Rattle.catserve.proofs.SessionLines.{heard_none, heard_more, ended_so}
 
 -- ---- the open round
 
--- nothing stands in it
+-- without a load
 loaded_none : (store : StoreValue) (held : List ℕ) → held ≡ [] → HasLoaded [] store store [] held
 loaded_none store held none = record {
   loaded = record { outcomes = []; each = tt; pending_are = sym (append-nil store.pending); written = none };
@@ -52,7 +52,7 @@ loaded_more loads load before old new loaded makes = record {
   most = makes.most ∙ loaded.most;
 }
 
--- a round that is played behind nothing is played behind what was written
+-- a round whose lines begin with nothing, after what was written
 played_behind : (workers : ℕ) (round : RoundValue) (was now : StoreValue) (written lines : List ℕ)
     → PlaysOne workers round was now [] lines → PlaysOne workers round was now written (written ++ lines)
 played_behind workers round was now written lines one = record {

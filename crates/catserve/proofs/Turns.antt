@@ -2,7 +2,7 @@
 use Rattle.std.proofs.Common.{◌≡◌, ◌∙◌, refl, sym, ap, ℕ, ◌+◌, List, [], ◌∷◌, ◌++◌, length, append_assoc, arith}
 use Rattle.std.proofs.lemmas.List.{append-nil}
 
--- all of it stands in what was taken and what is left, of which there are so many
+-- the list is what was taken, followed by what is left; `count` elements are left
 pub record HasTaken {X : Type 0} (all taken left : List X) (count : ℕ) : Type 0 where
   pub whole : taken ++ left ≡ all
   pub count_is : count ≡ length left

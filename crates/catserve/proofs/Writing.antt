@@ -44,7 +44,7 @@ escaped-at rest at found =
     ap escaped (sym (take-append-drop at rest)) ∙ flat_map-append escape run (drop at rest)
     ∙ ap (λ front. front ++ escaped (drop at rest)) plain ∙ ap (λ behind. run ++ escaped behind) next
 
--- a run and the escape behind it were written
+-- a run and the escape after it were written
 pub writes_more : (whole out with_run with_escape rest : List ℕ) (at : ℕ) → out ++ escaped rest ≡ whole
     → IsFirstByte (is_in (10 ∷ 9 ∷ 92 ∷ [])) rest (Some at) → with_run ≡ out ++ take at rest → with_escape ≡ with_run
     ++ escape (get_or rest at 0) → with_escape ++ escaped (take (length rest - (at + 1)) (drop (at + 1) rest)) ≡ whole

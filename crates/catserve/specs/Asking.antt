@@ -27,7 +27,7 @@ GivesOne (desk ∷ desks) zero query (after ∷ others) = (after.queries.items �
 GivesOne (desk ∷ desks) (suc worker) query (after ∷ others) = (after ≡ desk) × GivesOne desks worker query others
 GivesOne _ worker query _ = ⊥
 
--- the questions and the answers of a desk are let go
+-- the questions and the answers of a desk are freed
 pub record IsFreed (desk after : Desk) : Type 0 where
   pub reader : after.reader ≡ desk.reader
   pub queries : after.queries.items ≡ []

@@ -58,7 +58,7 @@ pub record CountsOn (i i' : InputSeen) : Type 0 where
   pub later : i.failures ≤ i'.failures
   pub reads : RisesBy 0 i.reads i'.reads
 
--- these lines were taken off an input, of which more was read
+-- more of an input was read, and these lines were taken off
 pub record HasTaken (i i' : InputSeen) (x y : Incoming) (front : List (List ℕ)) : Type 0 where
   pub more : List ℕ
   pub read : Consumes i.left i'.left more
@@ -68,7 +68,7 @@ pub record HasTaken (i i' : InputSeen) (x y : Incoming) (front : List (List ℕ)
   pub at_end : (x.ended ≡ true → IsAtEnd i.left) → y.ended ≡ true → IsAtEnd i'.left
   pub counts : CountsOn i i'
 
--- more was read, of which the last may be lost, and nothing was taken off
+-- more was read, and nothing was taken off; the last of what was read may be lost
 pub record HasGot (i i' : InputSeen) (x y : Incoming) (lost : List ℕ) : Type 0 where
   pub more : List ℕ
   pub read : Consumes i.left i'.left (more ++ lost)
@@ -77,14 +77,14 @@ pub record HasGot (i i' : InputSeen) (x y : Incoming) (lost : List ℕ) : Type 0
   pub at_end : (x.ended ≡ true → IsAtEnd i.left) → y.ended ≡ true → IsAtEnd i'.left
   pub counts : CountsOn i i'
 
--- lines with these numbers say these commands, whatever stands behind them
+-- lines from this number on say these commands, whatever follows them
 pub record HasSaid (workers number : ℕ) (raw : List (List ℕ)) (commands : List Command) : Type 0 where
   pub some : 0 < length raw
   pub says : (behind : List (List ℕ)) → commands_from workers number 0 (raw ++ behind)
       ≡ and_then (Says commands 0) number (λ text. commands_from workers (number + length raw) text behind)
   pub utf8 : IsUtf8 (concat raw)
 
--- how many bytes the open round has behind these commands, with so many bytes more
+-- how many bytes the open round has after these commands, if it had `size` bytes with their lines
 abbrev pub size_behind : List Command → ℕ → ℕ
 size_behind (Go ∷ commands) size = 0
 size_behind _ size = size
@@ -137,28 +137,28 @@ pub record HearsTooMuch (i i' : InputSeen) (x y : HearingValue) (line : ℕ) : T
   pub line_is : line ≡ x.number
   pub over : (most_script < x.size + length y.input.left) ⊎ (most_lines ≤ x.number)
 
--- the input can't be read, or want of memory
+-- the round or the session is too large, the input can't be read, or memory ran out
 abbrev pub HearsNothing : InputSeen → InputSeen → HearingValue → HearingValue → ScriptKind → ℕ → Type 0
 HearsNothing i i' x y TooLarge line = HearsTooMuch i i' x y line
 HearsNothing i i' x y ReadFault line = ((lost : List ℕ) × Stays i i' x y lost) × FailsToRead i i' × (line ≡ 0)
 HearsNothing i i' x y Memory line = ((lost : List ℕ) × Stays i i' x y lost) × (line ≡ 0)
 HearsNothing i i' x y _ line = ⊥
 
+-- why no line was heard, if a bad line means this
+abbrev pub HearsNoLine : (ℕ → Type 0) → InputSeen → InputSeen → HearingValue → HearingValue → ScriptKind → ℕ → Type 0
+HearsNoLine Bad i i' x y NotUtf8 line = HearsUndecodable i i' x y line
+HearsNoLine Bad i i' x y BadLine line = Bad line
+HearsNoLine Bad i i' x y kind line = HearsNothing i i' x y kind line
+
 -- why nothing was heard
 abbrev pub HearsNone : InputSeen → InputSeen → ℕ → HearingValue → HearingValue → ScriptKind → ℕ → Type 0
-HearsNone i i' workers x y TooLarge line = HearsTooMuch i i' x y line
-HearsNone i i' workers x y NotUtf8 line = HearsUndecodable i i' x y line
-HearsNone i i' workers x y BadLine line = HearsBad i i' workers x y line
-HearsNone i i' workers x y ReadFault line = ((lost : List ℕ) × Stays i i' x y lost) × FailsToRead i i' × (line ≡ 0)
-HearsNone i i' workers x y Memory line = ((lost : List ℕ) × Stays i i' x y lost) × (line ≡ 0)
-HearsNone i i' workers x y _ line = ⊥
+HearsNone i i' workers x y = HearsNoLine (HearsBad i i' workers x y) i i' x y
 
--- why the front of a session wasn't heard
+-- why the front of a session wasn't heard: no line of it is bad
 abbrev pub HearsNoFront : InputSeen → InputSeen → HearingValue → HearingValue → ScriptKind → ℕ → Type 0
-HearsNoFront i i' x y NotUtf8 line = HearsUndecodable i i' x y line
-HearsNoFront i i' x y kind line = HearsNothing i i' x y kind line
+HearsNoFront = HearsNoLine (λ line. ⊥)
 
--- what a line in front of a session is
+-- what a line before the first command is
 abbrev pub IsFront : List ℕ → FrontLine → Type 0
 IsFront line front_line.NotUtf8 = ¬ IsUtf8 line
 IsFront line front_line.Blank = IsUtf8 line × (is_blank (without_end line) ≡ true)
@@ -174,7 +174,7 @@ pub record EndsNext (i i' : InputSeen) (x y : HearingValue) (end : Option ℕ) :
   pub none : IfNone end ((y.input.ended ≡ true) × (length y.input.left ≡ 0))
   pub few : x.number < most_lines
 
--- the text of a load was heard, behind the line that ends there
+-- the line that ends there was heard, and the lines of its text
 pub record HearsText (i i' : InputSeen) (x y : HearingValue) (end count : ℕ) (bytes : List ℕ) : Type 0 where
   pub texts : List (List ℕ)
   pub counted : length texts ≡ count
@@ -184,16 +184,14 @@ pub record HearsText (i i' : InputSeen) (x y : HearingValue) (end count : ℕ) (
   pub number : y.number ≡ x.number + (1 + count)
   pub size : y.size ≡ x.size + length (concat (take end x.input.left ∷ texts))
 
--- fewer lines than a load counts stand behind the line that ends there
+-- fewer lines than a load counts follow the line that ends there
 pub record LacksText (i i' : InputSeen) (x y : HearingValue) (end count : ℕ) : Type 0 where
   pub stays : Stays i i' x y []
   pub fewer : LacksLines count y.input end
 
 -- why the text wasn't heard
 abbrev pub HearsNoText : InputSeen → InputSeen → HearingValue → HearingValue → ℕ → ℕ → ScriptKind → ℕ → Type 0
-HearsNoText i i' x y end count BadLine line = LacksText i i' x y end count × (line ≡ x.number)
-HearsNoText i i' x y end count NotUtf8 line = HearsUndecodable i i' x y line
-HearsNoText i i' x y end count kind line = HearsNothing i i' x y kind line
+HearsNoText i i' x y end count = HearsNoLine (λ line. LacksText i i' x y end count × (line ≡ x.number)) i i' x y
 
 -- the fault of an input as that of a session whose next line has this number
 abbrev pub FailsFor : LineInputFault → ℕ → SessionFault → Type 0
@@ -216,11 +214,11 @@ HearsOne i i' workers x y (Err fault) = HearsNone i i' workers x y fault.kind fa
 
 -- ---- the front of a session
 
--- a session of which nothing was heard
+-- a session whose input wasn't read
 abbrev pub unheard : HearingValue
 unheard = record { input = silence; number = 1; size = 0 }
 
--- lines in front of a session that say nothing
+-- lines before the first command that say nothing
 pub record HasPassed (i i' : InputSeen) (x y : HearingValue) (front : List (List ℕ)) : Type 0 where
   pub taken : HasTaken i i' x.input y.input front
   pub passes : (behind : List (List ℕ)) → script_from x.number (front ++ behind) ≡ script_from y.number behind
@@ -237,7 +235,7 @@ pub record FailsInFront (i i' : InputSeen) (kind : ScriptKind) (line : ℕ) : Ty
   pub passed : HasPassed i mid unheard y front
   pub none : HearsNoFront mid i' y z kind line
 
--- two lists begin with the same line, if they begin at all
+-- two lists of lines have equal first lines, or both are empty
 abbrev pub BeginAlike : List (List ℕ) → List (List ℕ) → Type 0
 BeginAlike [] [] = ⊤
 BeginAlike (line ∷ lines) (other ∷ others) = line ≡ other
@@ -248,7 +246,7 @@ abbrev pub Follows : Incoming → List (List ℕ) → Type 0
 Follows input behind = (behind ≡ round_end ∷ []) ⊎ ((text : List ℕ) × MayCome input text
     × BeginAlike behind (lines (input.left ++ text)))
 
--- the session has so many workers, and its commands begin behind its first lines
+-- the session has this number of workers, and its commands begin after its first lines
 pub record Begins (given : Option ℕ) (i i' : InputSeen) (y : HearingValue) (workers : ℕ) : Type 0 where
   pub front : List (List ℕ)
   pub taken : HasTaken i i' silence y.input front

@@ -1,4 +1,4 @@
--- The laws of the words above: a text has one output, or a fault, and the output of its first rounds stands in front.
+-- The laws: a text has one output, or a fault, and the output of its first rounds is a prefix of its output.
 use Rattle.std.specs.Prelude.{◌≡◌, ◌⊎◌, ℕ, ◌<◌, List, [], ◌++◌, length}
 use Rattle.script_text.specs.Script.{RoundValue, ScriptValue}
 use Rattle.script_text.specs.Texts.{most_script, IsScript, IsUndecodable, HasBadLine}
@@ -19,7 +19,7 @@ HaveFirstOutput = (text output : List ℕ) (value : ScriptValue) (rounds more : 
     → IsScript text value → value.rounds ≡ rounds ++ more
     → (first : List ℕ) × PlaysAll value.workers [] rounds first
 
--- and the output of its first rounds is a front of its output
+-- and the output of its first rounds is a prefix of its output
 abbrev pub IsInFront : Type 0
 IsInFront = (text output : List ℕ) (value : ScriptValue) (rounds more : List RoundValue) (first : List ℕ)
     → HasOutput text output → IsScript text value → value.rounds ≡ rounds ++ more

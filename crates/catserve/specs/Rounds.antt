@@ -38,7 +38,7 @@ outcome_line (Refused fault) = refused_line fault.kind fault.line
 outcome_line (RefusedMo fault) = refused_mo_line fault
 outcome_line Unnamed = unnamed_line
 
--- the load, where it was accepted
+-- the load, if it was accepted
 abbrev pub accepted_load : Outcome → Option LoadValue
 accepted_load (Accepted load answer) = Some load
 accepted_load _ = None
@@ -48,14 +48,14 @@ abbrev pub Answers : List LoadValue → ℕ → List QueryValue → List ℕ →
 Answers loads worker queries output = (texts : List (List ℕ)) × AllZip (IsAnswer loads) queries texts
     × (output ≡ flat_map (answer_line worker (length loads)) texts)
 
--- so many workers, from this one on, answer one behind another, each what it is asked
+-- `count` workers, from this one on, answer one after another, each what it is asked
 abbrev pub AnswersInTurn : List LoadValue → List QuestionValue → (worker count : ℕ) → List ℕ → Type 0
 AnswersInTurn loads questions worker zero output = output ≡ []
 AnswersInTurn loads questions worker (suc count) output = (front : List ℕ) × (back : List ℕ)
     × Answers loads worker (queries_for worker questions) front
     × AnswersInTurn loads questions (worker + 1) count back × (output ≡ front ++ back)
 
--- a round behind these loads: its own loads, its version, and the answers of so many workers over all loads up to it
+-- a round after these loads: its own loads, its version, and the answers of `workers` workers over all loads so far
 pub record Plays (workers : ℕ) (before : List LoadValue) (round : RoundValue) (after : List LoadValue)
     (output : List ℕ) : Type 0 where
   pub outcomes : List Outcome
@@ -65,7 +65,7 @@ pub record Plays (workers : ℕ) (before : List LoadValue) (round : RoundValue) 
   pub answered : AnswersInTurn after round.questions 0 workers answers
   pub output_is : output ≡ flat_map outcome_line outcomes ++ version_line (length after) ++ answers
 
--- the rounds behind these loads
+-- the rounds after these loads
 abbrev pub PlaysAll : ℕ → List LoadValue → List RoundValue → List ℕ → Type 0
 PlaysAll workers before [] output = output ≡ []
 PlaysAll workers before (round ∷ rounds) output = (after : List LoadValue) × (front : List ℕ) × (back : List ℕ)

@@ -10,27 +10,27 @@ use Rattle.script_text.specs.Script.{ScriptValue}
 use Rattle.script_text.specs.Texts.{IsRefused, IsScript}
 use Rattle.catserve.specs.Rounds.{HasOutput}
 
--- what is known of a reader: the bytes still to be read, where they are told, and the counts of reads and failures
+-- what is known of a reader: the bytes still to be read, if it reports them, and the counts of reads and failures
 pub record InputSeen : Type 0 where
   pub left : Option (List ℕ)
   pub reads : ℕ
   pub failures : ℕ
 
--- what is known of a writer: the bytes that were written, where they are told, and the count of failures
+-- what is known of a writer: the bytes that were written, if it reports them, and the count of failures
 pub record OutputSeen : Type 0 where
   pub bytes : Option (List ℕ)
   pub failures : ℕ
 
--- a reader as it stands, by what its type tells of it
+-- what is known of a reader by the ghost functions of its type
 abbrev pub input_seen : {R : Type 0} → (R → Option (List ℕ)) → (R → ℕ) → (R → ℕ) → R → InputSeen
 input_seen remaining reads failures reader = record
     { left = remaining reader; reads = reads reader; failures = failures reader }
 
--- the same of a writer
+-- what is known of a writer by the ghost functions of its type
 abbrev pub output_seen : {W : Type 0} → (W → Option (List ℕ)) → (W → ℕ) → W → OutputSeen
 output_seen contents failures writer = record { bytes = contents writer; failures = failures writer }
 
--- the text was read: all that was left, or the first 67,108,865 bytes where there are more
+-- the text was read: all that was left, or the first 67,108,865 bytes if there are more
 pub record ReadsText (i i' : InputSeen) (text : List ℕ) : Type 0 where
   pub front : IfSome i.left (λ bytes. text ≡ take 67108865 bytes)
   pub consumed : Consumes i.left i'.left text
@@ -59,7 +59,7 @@ pub record IsUnreadable (i i' : InputSeen) (o o' : OutputSeen) : Type 0 where
   pub failed : FailsToRead i i'
   pub unwritten : o' ≡ o
 
--- the text that was read has an output, and only some first ones of its bytes could be written
+-- the text that was read has an output, and only a prefix of it could be written
 pub record IsUnwritable (i i' : InputSeen) (o o' : OutputSeen) : Type 0 where
   pub text : List ℕ
   pub read : ReadsText i i' text

@@ -26,7 +26,7 @@ pub record AreReady (seen : SeenValue) (desks : List Desk) : Type 0 where
   pub book : HaveBook seen desks
   pub free : AreAsked 0 [] desks
 
--- a store has room for so many loads more
+-- a store has room for `count` loads more
 abbrev pub HasRoomFor : ℕ → StoreValue → Type 0
 HasRoomFor count store = accepted store + count ≤ store.most
 
@@ -44,7 +44,7 @@ pub record LoadsAll (loads : List JobValue) (pending pending' : List LoadValue) 
   pub pending_are : pending' ≡ pending ++ filter_map accepted_load outcomes
   pub written : after ≡ before ++ flat_map outcome_line outcomes
 
--- some first loads were made, by a publisher of the same published batches
+-- some first loads were made, and nothing was published
 pub record HasLoaded (loads : List JobValue) (was now : StoreValue) (before after : List ℕ) : Type 0 where
   pub loaded : LoadsAll loads was.pending now.pending before after
   pub seen : now.seen ≡ was.seen
@@ -58,14 +58,14 @@ pub record PlaysOne (workers : ℕ) (round : RoundValue) (was now : StoreValue) 
   pub most : now.most ≡ was.most
   pub written : after ≡ before ++ output
 
--- the round is finished whose loads were made behind a store and whose questions the desks have
+-- a round whose loads were made and whose questions the desks have is finished
 abbrev pub Finishes : (workers : ℕ) (loaded : StoreValue) (asked : List Desk) (loads_are : List ℕ) (now : StoreValue)
     (after : List ℕ) → Type 0
 Finishes workers loaded asked loads_are now after = (round : RoundValue) (was : StoreValue) (before : List ℕ)
     → was.pending ≡ [] → HasLoaded round.loads was loaded before loads_are → AreAsked 0 round.questions asked
     → PlaysOne workers round was now before after
 
--- these rounds were played behind a store's loads: what comes behind them in a script goes on from here
+-- these rounds were played after a store's loads: what follows them in a script goes on from here
 pub record HasPlayed (workers : ℕ) (rounds : List RoundValue) (was now : StoreValue) (output : List ℕ) : Type 0 where
   pub going : (rest : List RoundValue) (tail : List ℕ) → PlaysAll workers (joined now.seen.batches) rest tail
       → PlaysAll workers (joined was.seen.batches) (rounds ++ rest) (output ++ tail)

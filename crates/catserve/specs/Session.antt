@@ -20,7 +20,7 @@ use Rattle.catserve.specs.Run.{InputSeen, OutputSeen, FailsToRead}
 
 -- ---- what the lines mean
 
--- the lines of a session say what those of a script do; the number of workers may be given in front of them
+-- the lines of a session say what those of a script do; the number of workers may be given apart from them
 abbrev pub said : Option ℕ → List (List ℕ) → Result ScriptValue ℕ
 said None lines = script_from 1 lines
 said (Some workers) lines = script_of workers (commands_from workers 1 0 lines)
@@ -29,7 +29,7 @@ said (Some workers) lines = script_of workers (commands_from workers 1 0 lines)
 abbrev pub round_end : List ℕ
 round_end = codes "go" ++ 10 ∷ []
 
--- for so many workers these rounds have ended in the lines: with one more `go` there is one round more
+-- for this number of workers these rounds have ended in the lines: with one more `go` there is one round more
 pub record HaveEnded (given : Option ℕ) (front : List (List ℕ)) (workers : ℕ) (rounds : List RoundValue) : Type 0 where
   pub last : RoundValue
   pub says : said given (front ++ round_end ∷ []) ≡ Ok (record { workers = workers; rounds = rounds ++ last ∷ [] })
@@ -40,12 +40,12 @@ pub record HaveEnded (given : Option ℕ) (front : List (List ℕ)) (workers : �
 abbrev pub most_lines : ℕ
 most_lines = 9223372036854775808
 
--- this may follow what was read: nothing, where the input has ended
+-- this may follow what was read: nothing, if the input has ended
 abbrev pub MayFollow : Bool → List ℕ → Type 0
 MayFollow ended text = ended ≡ true → text ≡ []
 
 -- The session has answered the rounds that have ended in the lines `front`, the first ones of its input, and has
--- written nothing else. What it has read is a text, of which `rest` stands behind those lines, and what a fault lost.
+-- written nothing else. What it has read is a text, whose part after those lines is `rest`, and what a fault lost.
 pub record StopsBehind (given : Option ℕ) (i i' : InputSeen) (o o' : OutputSeen) (front : List (List ℕ))
     (text rest lost : List ℕ) (ended : Bool) : Type 0 where
   pub read : Consumes i.left i'.left (text ++ lost)
@@ -59,7 +59,7 @@ pub record StopsBehind (given : Option ℕ) (i i' : InputSeen) (o o' : OutputSee
   pub plays : PlaysAll workers [] rounds output
   pub written : Appends o.bytes o'.bytes output
 
--- the line behind the front, by its number
+-- the line after the front, by its number
 abbrev pub IsNext : List (List ℕ) → ℕ → Type 0
 IsNext front line = line ≡ length front + 1
 

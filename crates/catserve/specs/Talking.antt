@@ -21,7 +21,7 @@ use Rattle.catserve.specs.Run.{InputSeen, OutputSeen}
 use Rattle.catserve.specs.Session.{HaveEnded, Converses}
 use Rattle.catserve.specs.Hearing.{HearingValue, HasTaken, Begins}
 
--- a store, its desks, the lines of the open round that are held back, and whether something stands in that round
+-- a store, its desks, the lines that are held back, and whether the open round has a load or a question
 pub record TalkValue : Type 0 where
   pub store : StoreValue
   pub desks : List Desk
@@ -61,7 +61,7 @@ Responds (heard.Load job) old new o o' = MakesLoad job old new × (o' ≡ o)
 Responds (heard.Ask worker query) old new o o' = GivesQuestion worker query old new × (o' ≡ o)
 Responds heard.Go old new o o' = AnswersRound old new o o'
 
--- the round was finished, and some first ones of its bytes were written before the writer failed
+-- the round was finished, and a prefix of its lines was written before the writer failed
 pub record BreaksRound (old : TalkValue) (o o' : OutputSeen) : Type 0 where
   pub lines : List ℕ
   pub store : StoreValue
@@ -78,7 +78,7 @@ FailsToAnswer old o o' Join = o' ≡ o
 FailsToAnswer old o o' Memory = o' ≡ o
 FailsToAnswer old o o' _ = ⊥
 
--- a talk at the beginning of a session
+-- a player before its first round
 pub record IsFresh (workers : ℕ) (talk : TalkValue) : Type 0 where
   pub ready : AreReady talk.store.seen talk.desks
   pub count : length talk.desks ≡ workers
@@ -102,7 +102,7 @@ pub record HasTalked (workers : ℕ) (g : Gathered) (start : StoreValue) (talk :
     pub count : length talk.desks ≡ workers
     pub begun : talk.begun ≡ g.begun
 
--- these lines were heard behind the front of a session
+-- these lines were heard after the front of a session
 pub record HasHeard (workers first : ℕ) (lines : List (List ℕ)) (g : Gathered) (number : ℕ) : Type 0 where
   pub going : (behind : List (List ℕ)) → script_of workers (commands_from workers first 0 (lines ++ behind))
       ≡ going_on workers g (commands_from workers number 0 behind)
@@ -110,7 +110,7 @@ pub record HasHeard (workers first : ℕ) (lines : List (List ℕ)) (g : Gathere
   pub few : loads_so_far g < number
   pub utf8 : IsUtf8 (concat lines)
 
--- the lines of the open round, of which there are so many bytes
+-- the lines of the open round, which have `size` bytes
 pub record HasOpen (given : Option ℕ) (front : List (List ℕ)) (g : Gathered) (size : ℕ) : Type 0 where
   pub before : List (List ℕ)
   pub round : List (List ℕ)
@@ -133,7 +133,7 @@ pub record Conversing (workers : ℕ) (i i' : InputSeen) (o o' : OutputSeen) (x 
   pub is_open : (given : Option ℕ) (first : InputSeen) (b : Begins given first i x workers)
       → HasOpen given (b.front ++ lines) g y.size
 
--- what a session does from here on, behind every front that it may have
+-- what a session does from here on, after every front that it may have
 abbrev pub Continues : {T : Type 0} → ℕ → InputSeen → InputSeen → OutputSeen → OutputSeen → HearingValue
     → Result T SessionFault → Type 0
 Continues workers i i' o o' x result = (given : Option ℕ) (first : InputSeen) → Begins given first i x workers

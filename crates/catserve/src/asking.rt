@@ -1,4 +1,4 @@
-//! The desks of a script's workers: questions are given to them, and what they answer is written.
+//! The desks of the workers: they are given questions, and their answers are written.
 ghost use Rattle.std.specs.Prelude.{◌≡◌, ◌+◌, ◌≤◌, ◌<◌, ◌^◌, ◌++◌, [], List, OnOk, IfOk, length, map};
 ghost use Rattle.std.specs.List.{AllZip};
 ghost use Rattle.catserve.specs.Asking.{readers_of, AreAsked, GivesOne, answer_lines, desk_lines, IsFreed};
@@ -11,7 +11,7 @@ use script_text::Question;
 use std::alloc::{AllocError, Global};
 use std::mem;
 
-/// A desk for each reader, which is asked nothing.
+/// A desk for each reader, without queries.
 pub(crate) fn open_desks(alloc: Global, readers: Vec<Lookups>) -> Result<Vec<Desk>, AllocError>
     ensures { IfOk result (λ desks. (readers_of desks.items ≡ readers.items) × AreAsked 0 [] desks.items) }
 {
@@ -27,7 +27,7 @@ pub(crate) fn open_desks(alloc: Global, readers: Vec<Lookups>) -> Result<Vec<Des
     Ok(desks)
 }
 
-/// Gives a query to a worker's desk, behind those that it has. Where there is no such worker, nobody is asked.
+/// Appends a query to the queries of a worker's desk. A worker that doesn't exist isn't asked.
 pub(crate) fn give(desks: &mut [Desk], worker: u32, query: Query) -> Result<(), AllocError>
     ensures { OnOk result (GivesOne desks.old worker query desks.new) }
 {
@@ -51,7 +51,7 @@ pub(crate) fn give_all(desks: &mut [Desk], questions: Vec<Question>) -> Result<(
     Ok(())
 }
 
-/// Writes a worker's answers, and lets each go once it is written: together they are as long as the output.
+/// Writes a worker's answers. Each is freed once it is written, since together they are as long as the output.
 fn write_answers(
     alloc: Global,
     worker: u32,
@@ -66,7 +66,7 @@ fn write_answers(
     Ok(())
 }
 
-/// Writes what the workers have answered, from this worker on, and lets their questions and answers go.
+/// Writes the answers of all workers from this one on, and frees their questions and answers.
 pub(crate) fn write_all(
     alloc: Global,
     worker: u32,

@@ -1,8 +1,9 @@
-//! The lines of a session as they come, and what they say.
+//! The lines of a session as they arrive, and what they say.
 ghost use Rattle.std.specs.Prelude.{◌≡◌, ◌+◌, ◌<◌, ◌≤◌, ◌^◌, ℕ, IfOk, IfErr, Some, None, drop, take};
 ghost use Rattle.std.specs.Str.{IsUtf8};
 ghost use Rattle.line_input.specs.Lines.{without_end};
 ghost use Rattle.script_text.specs.Commands.{line_of};
+ghost use Rattle.script_text.specs.Texts.{most_script};
 ghost use Rattle.line_input.specs.Incoming.{EndsLine};
 ghost use Rattle.line_input.specs.Waiting.{ReadsWhile, StillCounts, StillWaits, WaitsUntil};
 ghost use Rattle.catserve.specs.Timing.{BeginsInTime, HearsInTime, ReadsText};
@@ -48,16 +49,17 @@ pub(crate) struct Hearing {
 
 impl Model for Hearing {
     ghost use Rattle.std.specs.Prelude.{◌≤◌};
+    ghost use Rattle.script_text.specs.Texts.{most_script};
     ghost use Rattle.catserve.specs.Hearing.{HearingValue};
 
     ghost Value = { HearingValue };
 
     ghost view = { λ h. record { input = h.input; number = h.number; size = h.size } };
 
-    ghost invariant = { λ h. h.size ≤ 67108864 };
+    ghost invariant = { λ h. h.size ≤ most_script };
 }
 
-/// Some bytes of its own.
+/// A copy of some bytes.
 fn copied(alloc: Global, bytes: &[u8]) -> Result<Vec<u8>, AllocError>
     ensures { IfOk result (λ copy. copy.items ≡ bytes.now) }
 {
@@ -67,7 +69,7 @@ fn copied(alloc: Global, bytes: &[u8]) -> Result<Vec<u8>, AllocError>
 }
 
 impl Hearing {
-    /// A session of which nothing has come.
+    /// A session whose input hasn't been read.
     pub(crate) fn new(alloc: Global) -> Result<Hearing, AllocError>
         ensures { IfOk result (λ hearing. hearing ≡ unheard) }
     {
@@ -88,7 +90,7 @@ impl Hearing {
         }
     }
 
-    /// Why the end of a line isn't known.
+    /// The fault of an input that gives no end of the next line.
     fn fault_of(&self, fault: LineInputFault) -> SessionFault
         ensures { FailsFor fault self.now.number result }
     {
@@ -101,9 +103,9 @@ impl Hearing {
 }
 
 impl Hearing {
-    /// Takes so many bytes off, which are so many lines.
+    /// Takes off the next `bytes` bytes, which are `lines` lines.
     fn take(&mut self, bytes: usize, lines: u64)
-        requires size { self.old.size + bytes ≤ 67108864 }
+        requires size { self.old.size + bytes ≤ most_script }
         requires number { self.old.number + lines < 2 ^ 64 }
         ensures { self.new ≡ record {
           input = record { left = drop bytes self.old.input.left; ended = self.old.input.ended };
@@ -116,7 +118,7 @@ impl Hearing {
         self.size += bytes;
     }
 
-    /// Where the next line ends, if one comes.
+    /// Where the next line ends. None: the input has ended.
     fn next_end<R: Source>(&mut self, reader: &mut R) -> Result<Option<usize>, SessionFault>
         ensures found { let input = input_seen R.remaining R.reads R.failures in
             IfOk result (λ end. EndsNext (input reader.old) (input reader.new) self.old self.new end) }
@@ -136,7 +138,8 @@ impl Hearing {
         }
     }
 
-    /// Takes off the line that ends there and the `count` lines behind it, and answers the bytes of these.
+    /// Takes off the line that ends at `end` and the `count` lines that follow it. Returns the bytes of those `count`
+    /// lines.
     fn hear_text<R: Source>(
         &mut self,
         alloc: Global,
@@ -145,7 +148,7 @@ impl Hearing {
         count: u64,
     ) -> Result<Vec<u8>, SessionFault>
         requires line { EndsLine self.old.input 0 end }
-        requires size { self.old.size + end ≤ 67108864 }
+        requires size { self.old.size + end ≤ most_script }
         requires few { self.old.number < most_lines }
         ensures heard { let input = input_seen R.remaining R.reads R.failures in
             IfOk result (λ bytes.
@@ -178,7 +181,7 @@ impl Hearing {
         Ok(bytes)
     }
 
-    /// Why it isn't known what the next line says.
+    /// The fault of a next line that wasn't understood.
     fn fault_of_line(&self, fault: SaidFault) -> SessionFault
         ensures { FailsToSay fault self.now.number result }
     {
@@ -189,7 +192,7 @@ impl Hearing {
         }
     }
 
-    /// Takes off the line that ends there and says this, with the lines that are its text.
+    /// Takes off the line that ends at `end` and says this, with the lines of its text.
     fn hear_said<R: Source>(
         &mut self,
         alloc: Global,
@@ -198,7 +201,7 @@ impl Hearing {
         said: Said,
     ) -> Result<Option<Heard>, SessionFault>
         requires line { EndsLine self.old.input 0 end }
-        requires size { self.old.size + end ≤ 67108864 }
+        requires size { self.old.size + end ≤ most_script }
         requires few { self.old.number < most_lines }
         requires utf8 { IsUtf8 (take end self.old.input.left) }
         ensures heard { let input = input_seen R.remaining R.reads R.failures in (workers : ℕ)
@@ -249,7 +252,8 @@ impl Hearing {
         }
     }
 
-    /// The next thing that a session of so many workers says, if one comes. It reads only where no whole one has come.
+    /// The next line of a session with this number of workers, with its text. None: the input has ended. It reads only
+    /// if the line and its text haven't come yet.
     pub(crate) fn hear<R: Source>(
         &mut self,
         alloc: Global,
@@ -274,8 +278,8 @@ impl Hearing {
         }
     }
 
-    /// How many workers a session has: what its first line that says something gives, or two. Takes off that line and
-    /// those in front of it that say nothing.
+    /// The number of workers: what the first line that says something gives, or `DEFAULT_WORKERS`. Takes off the lines
+    /// before it that say nothing, and the line itself if it gives the number.
     pub(crate) fn hear_front<R: Source>(&mut self, reader: &mut R) -> Result<u32, SessionFault>
         requires { self.old ≡ unheard }
         ensures begins { let input = input_seen R.remaining R.reads R.failures in

@@ -1,8 +1,9 @@
-//! Runs of scripts of loads and look-ups, and what they write; and `serve`, by which each round of a script is
-//! answered.
+//! Runs scripts of loads and look-ups. A script has rounds: a round's loads are made and published, and then the
+//! workers look up what the round asks them.
 //!
-//! A script is read whole before anything is done. It has rounds: in each round its loads are made and
-//! published, and then the workers look up what the round asks them.
+//! `run_script` reads a script whole before it does anything, and writes at the end. `run_session` answers each round
+//! when its last line has arrived. The crate also exports `serve` and its types from `desks`, which answers a round's
+//! questions.
 #![tactic(auto)]
 
 mod asking;
@@ -22,6 +23,6 @@ pub use desks::{
 };
 pub use law::{first_rounds, one_output};
 pub use run::run_script;
-pub use script_text::{MOST_SCRIPT, ScriptFault, ScriptKind};
+pub use script_text::{MOST_SCRIPT, MOST_WORKERS, ScriptFault, ScriptKind};
 pub use session::run_session;
 pub use session_fault::SessionFault;

@@ -43,7 +43,7 @@ fn write_text(output: &mut Vec<u8>, text: &str) -> Result<(), AllocError>
     output.extend_from_slice(text.as_bytes())
 }
 
-/// The number of a PO text's refusal.
+/// The number of a refusal of a PO text in the output.
 fn rank_of(kind: LoadKind) -> u32
     ensures { result ≡ rank kind }
 {

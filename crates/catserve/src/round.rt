@@ -24,7 +24,7 @@ impl Gate for OpenGate {
     fn pass(&self, _place: Place, _index: u64) {}
 }
 
-/// Gives a load to the publisher. Where it is refused, nothing changes.
+/// Gives a load to the publisher. A refused load changes nothing.
 fn add_load(
     alloc: Global,
     publisher: &mut Publisher,
@@ -116,7 +116,7 @@ pub(crate) fn finish<R: Threads + Wait + Sync>(
     Ok(())
 }
 
-/// Runs a round, and writes its lines behind the output so far.
+/// Plays a round, and appends its lines to the output.
 pub(crate) fn play<R: Threads + Wait + Sync>(
     rt: &R,
     alloc: Global,

@@ -59,7 +59,7 @@ fn play_by<T: Threads + Wait + Sync>(
     play_rounds(rt, alloc, publisher, &mut desks, rounds)
 }
 
-/// The output of a script, by a store of its own, which has a reader for each worker and takes all loads of a script.
+/// The output of a script. Its store has a reader for each worker, and room for all its loads.
 fn play_script<T: Threads + Wait + Sync>(
     rt: &T,
     alloc: Global,
@@ -97,7 +97,7 @@ fn output_of<T: Threads + Wait + Sync>(
     }
 }
 
-/// The text of a script: at most one byte more than it may have.
+/// Reads the text of a script, and at most one byte more than it may have.
 fn read_text<R: Source>(alloc: Global, reader: &mut R) -> Result<Vec<u8>, ScriptFault>
     ensures ok { let input = input_seen R.remaining R.reads R.failures in
         IfOk result (λ text. ReadsText (input reader.old) (input reader.new) text.items) }
@@ -113,11 +113,10 @@ fn read_text<R: Source>(alloc: Global, reader: &mut R) -> Result<Vec<u8>, Script
 
 /// Reads a script whole, runs it by a store of its own with a reader for each worker, and writes its output at the end.
 ///
-/// Each round's loads are made and published, and then the workers answer what the round asks them, beside one another
-/// (`desks::serve`). There are two, or as many as the line `workers` says. At most 67,108,865 bytes are read, in at
-/// most 134,217,728 reads. After every fault but `WriteFault` nothing was written; after a failed write a prefix of the
-/// output was.
-/// `NoPlace`, `Closed` and `Join` are answered only for a text that is a script.
+/// Each round's loads are made and published, and then the workers answer the round's questions, all at once
+/// (`desks::serve`). The line `workers` gives their number; without it there are two. At most 67,108,865 bytes are
+/// read, in at most 134,217,728 reads. After a `WriteFault` a prefix of the output was written, and after any other
+/// fault nothing was. `NoPlace`, `Closed` and `Join` are returned only for a text that is a script.
 pub fn run_script<T: Threads + Wait + Sync, R: Source, W: Sink>(
     rt: &T,
     alloc: Global,

@@ -1,4 +1,4 @@
-//! What a line of a session says, apart from the input that it stands in.
+//! What a line of a session says, whatever input it comes from.
 ghost use Rattle.std.specs.Prelude.{◌≡◌, IfOk, IsErrOf, Some, None};
 ghost use Rattle.std.specs.Str.{IsUtf8};
 ghost use Rattle.line_input.specs.Lines.{without_end};
@@ -40,7 +40,7 @@ pub(crate) enum Said {
     Goes,
 }
 
-/// What a line in front of a session's commands is.
+/// What a line before the first command is.
 #[derive(Clone, Copy)]
 pub(crate) enum FrontLine {
     /// It isn't UTF-8.
@@ -49,18 +49,18 @@ pub(crate) enum FrontLine {
     Blank,
     /// It gives the number of workers.
     Workers(u32),
-    /// It is the first command.
+    /// It is the first command, or a bad line.
     Other,
 }
 
-/// Why it isn't known what a line says.
+/// Why a line wasn't understood.
 #[derive(Clone, Copy)]
 pub(crate) enum SaidFault {
     /// The line isn't UTF-8.
     NotUtf8,
-    /// It is no line of a session with so many workers.
+    /// A session with this number of workers can't have it.
     Bad,
-    /// Want of memory.
+    /// Out of memory.
     Memory,
 }
 
@@ -74,7 +74,7 @@ impl From<AllocError> for SaidFault {
     }
 }
 
-/// What a line says, with texts of its own.
+/// A copy of a line that owns its texts.
 fn owned(alloc: Global, line: Line<'_>) -> Result<Said, AllocError>
     ensures { IfOk result (λ said. said_value said ≡ line_value line.entry) }
 {
@@ -115,7 +115,7 @@ fn without_lf(line: &str) -> &str
     }
 }
 
-/// What a line says in a session of so many workers.
+/// What a line says in a session with this number of workers.
 pub(crate) fn read_said(alloc: Global, workers: u32, line: &[u8]) -> Result<Said, SaidFault>
     ensures ok { IfOk result (λ said. line_of workers (without_end line.now) ≡ Some (said_value said)) }
     ensures utf8 { IfOk result (λ _. IsUtf8 line.now) }
@@ -132,7 +132,7 @@ pub(crate) fn read_said(alloc: Global, workers: u32, line: &[u8]) -> Result<Said
     }
 }
 
-/// What a line in front of a session's commands is.
+/// What a line before the first command is.
 pub(crate) fn read_front_line(line: &[u8]) -> FrontLine
     ensures { IsFront line.now result }
 {

@@ -1,4 +1,4 @@
-//! A session: a script that is answered round by round, while it comes.
+//! A session: a script that is answered round by round, while it arrives.
 ghost use Rattle.std.specs.Prelude.{◌≡◌, ◌<◌};
 ghost use Rattle.catserve.specs.Run.{input_seen, output_seen};
 ghost use Rattle.catserve.specs.Session.{AnswersInTime, Converses};
@@ -16,7 +16,7 @@ use std::alloc::Global;
 use std::sync::Wait;
 use std::thread::Threads;
 
-/// Hears and answers what comes behind the front of a session, to the end of the input.
+/// Answers what follows the front of a session, to the end of the input.
 fn converse<T: Threads + Wait + Sync, D: Source + Sink>(
     rt: &T,
     alloc: Global,
@@ -43,7 +43,7 @@ fn converse<T: Threads + Wait + Sync, D: Source + Sink>(
     Ok(())
 }
 
-/// Opens a store for so many workers, and answers what comes behind the front of a session.
+/// Opens a store with this number of workers, and answers what follows the front of a session.
 fn converse_by_store<T: Threads + Wait + Sync, D: Source + Sink>(
     rt: &T,
     alloc: Global,
@@ -78,18 +78,18 @@ fn converse_by_store<T: Threads + Wait + Sync, D: Source + Sink>(
     }
 }
 
-/// Reads a script as it comes, and answers each round when its `go` has come, by a store of its own with a reader for
-/// each worker.
+/// Reads a script as it arrives, and answers each round when its `go` has arrived. The session has a store of its own
+/// with a reader for each worker.
 ///
 /// A round's lines are written and flushed in one piece. Before each read that gives bytes or the end of the input, the
 /// output of all rounds that had ended has been written, and nothing else. At the end of the input the last round is
-/// answered too, if it has a load or a question. The number of workers may be given; else the first line that says
-/// something may give it, as in a script, or there are two. `NoPlace` is answered where it isn't 1 to 16.
+/// answered too, if it has a load or a question. The number of workers may be given in `workers`. Otherwise the first
+/// line that says something may give it, as in a script, or there are two. `NoPlace` is returned if it isn't 1 to 16.
 ///
-/// A round has at most 67,108,864 bytes, with the lines in it that say nothing, and a session at most 2^63 lines. For
-/// each line at most 134,217,728 reads are made; how many a session makes is not limited. After a fault the rounds that
-/// ended before it are answered, and nothing is written of the open one. After a failed write a prefix of the next
-/// round's lines was written too.
+/// A round has at most 67,108,864 bytes, counting the lines in it that say nothing, and a session at most 2^63 lines.
+/// At most 134,217,728 reads are made for each line; the number of reads of a session isn't limited. After a fault the
+/// rounds that ended before it have been answered, and nothing of the open one was written, unless a write failed: then
+/// a prefix of that round's lines was.
 pub fn run_session<T: Threads + Wait + Sync, D: Source + Sink>(
     rt: &T,
     alloc: Global,

@@ -5,8 +5,8 @@ use script_text::ScriptKind;
 use std::alloc::AllocError;
 use thiserror::Error;
 
-/// Why a session ended before its input did: the kind, and the line for `BadLine`, `NotUtf8` and `TooLarge`, else 0.
-/// Lines are counted from 1 through the whole session.
+/// Why a session ended before its input did: the kind, and the line of a `BadLine`, `NotUtf8` or `TooLarge`, counted
+/// from 1 through the whole session. For other kinds the line is 0.
 #[derive(Clone, Copy, Debug, PartialEq, Eq, Error)]
 #[error("{kind} (line {line})")]
 pub struct SessionFault {

@@ -1,4 +1,4 @@
-//! The talk of a session: the open round is held until it ends, and then answered.
+//! The player of a session: the open round's lines are held back until it ends.
 ghost use Rattle.std.specs.Prelude.{◌≡◌, ◌≤◌, [], false, IfOk, IfErr, OnOk, length};
 ghost use Rattle.live_versions.specs.Store.{HasRoom};
 ghost use Rattle.script_text.specs.LineValues.{source_value};
@@ -20,7 +20,7 @@ use std::marker::Model;
 use std::sync::Wait;
 use std::thread::Threads;
 
-/// Makes a load of this source, and writes its line.
+/// Makes a load of this source, and appends its line to `held`.
 fn make(
     alloc: Global,
     publisher: &mut Publisher,
@@ -46,8 +46,8 @@ fn make(
     make_load(alloc, publisher, &load, held)
 }
 
-/// A store with its desks, and what the open round has come to: the lines that it holds back, and whether something
-/// stands in it.
+/// A store with a desk for each worker, and the open round: the lines that are held back, and whether the round has a
+/// load or a question.
 pub(crate) struct Talk {
     publisher: Publisher,
     desks: Vec<Desk>,
@@ -64,7 +64,7 @@ impl Model for Talk {
 }
 
 impl Talk {
-    /// The talk of a session of which nothing was heard.
+    /// The player of a session before its first line.
     pub(crate) fn new(alloc: Global, publisher: Publisher, desks: Vec<Desk>) -> Talk
         ensures { result ≡ record { store = publisher; desks = desks.items; held = []; begun = false } }
     {
@@ -76,7 +76,7 @@ impl Talk {
         }
     }
 
-    /// Ends the talk. What stands in the open round is dropped.
+    /// Ends the store. The open round is dropped.
     pub(crate) fn end<T: Wait>(self, rt: &T) {
         let Talk {
             publisher,
@@ -87,14 +87,14 @@ impl Talk {
         publisher.end(rt);
     }
 
-    /// Whether something stands in the open round.
+    /// Whether the open round has a load or a question.
     pub(crate) fn has_begun(&self) -> bool
         ensures { result ≡ self.now.begun }
     {
         self.begun
     }
 
-    /// Makes a load, and holds its line.
+    /// Makes a load, and holds its line back.
     fn load(&mut self, alloc: Global, job: Job) -> Result<(), AllocError>
         requires { HasRoom self.old.store }
         ensures { OnOk result (MakesLoad job self.old self.new) }
@@ -134,13 +134,21 @@ impl Talk {
         Ok(())
     }
 
-    /// Gives a question to its worker.
+    /// Gives a question to the desk of its worker.
     fn ask(&mut self, worker: u32, query: Query) -> Result<(), AllocError>
         ensures { OnOk result (GivesQuestion worker query self.old self.new) }
     {
         give(self.desks.as_mut_slice(), worker, query)?;
         self.begun = true;
         Ok(())
+    }
+
+    /// Opens the next round, with no lines held back.
+    fn next_round(&mut self)
+        ensures { self.new ≡ record self.old { held = []; begun = false } }
+    {
+        self.held.clear();
+        self.begun = false;
     }
 
     /// Ends the round: publishes its loads, answers its questions, and writes all its lines.
@@ -169,15 +177,14 @@ impl Talk {
         )?;
         match writer.write_all(self.held.as_slice()) {
             Ok(()) => {
-                self.held.clear();
-                self.begun = false;
+                self.next_round();
                 Ok(())
             }
             Err(_) => Err(ScriptKind::WriteFault),
         }
     }
 
-    /// Does what was heard. Only the end of a round is answered.
+    /// Does what was heard. Only the end of a round writes something.
     pub(crate) fn respond<T: Threads + Wait + Sync, W: Sink>(
         &mut self,
         rt: &T,

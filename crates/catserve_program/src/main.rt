@@ -1,5 +1,5 @@
-//! The program `catserve`: it hands standard input and standard output to the library of its name, and ends
-//! with the exit status 0 or 1. It looks at no arguments.
+//! The program `catserve`: it passes standard input and standard output to `catserve::run_script`, and exits with the
+//! status 0 or 1. It ignores its arguments.
 #![tactic(auto)]
 
 use catserve::{ScriptFault, ScriptKind, run_script};
@@ -23,7 +23,7 @@ fn main(rt: HostRuntime) -> ExitCode {
     }
 }
 
-/// The number of a kind of fault.
+/// The number of a kind of error, as catserve(1) lists them.
 fn number_of(kind: ScriptKind) -> u32 {
     match kind {
         ScriptKind::TooLarge => 1,
@@ -38,8 +38,8 @@ fn number_of(kind: ScriptKind) -> u32 {
     }
 }
 
-/// Tells a fault in one line: its number, and its line. Where there is no memory for that, the line is that of
-/// want of memory.
+/// Reports an error in one line: its number, and the line of the script. If there is no memory for that, it reports
+/// that memory ran out.
 fn tell<E: Sink>(alloc: Global, fault: ScriptFault, errors: &mut E) {
     let (number, at) = (number_of(fault.kind), fault.line);
     let _written = match format!(in alloc; "catserve: {number} {at}\n") {

@@ -119,7 +119,7 @@ impl Write for FailingWriter {
     }
 }
 
-/// What a run answers and writes, where so many reads and writes succeed.
+/// What a run returns and writes if `reads` reads and `writes` writes succeed.
 fn run_over<T: Threads + Wait + Sync>(
     rt: &T,
     alloc: Global,
@@ -213,7 +213,7 @@ fn each_write_fails(rt: HostRuntime) -> Result<(), Fail> {
     Ok(())
 }
 
-/// Each kind has its number. Some of the kinds are what no run ends with: so the numbers are told here.
+/// Each kind has its number. No run ends with some of these kinds, so this test lists the numbers.
 #[test]
 fn each_kind_is_told(rt: HostRuntime) {
     for (kind, line, said) in [

@@ -1,5 +1,5 @@
-//! The program `catsession`: it reads its words, and hands standard input and standard output as one device to
-//! `catserve::run_session`. It ends with the exit status 0 or 1.
+//! The program `catsession`: it parses its arguments, and passes standard input and standard output as one device to
+//! `catserve::run_session`. It exits with the status 0 or 1.
 #![tactic(auto)]
 
 mod words;
@@ -15,17 +15,18 @@ use std::process::ExitCode;
 const HELP: &str = "\
 Usage: catsession [--workers N] < INPUT
 
-Answers a script of loads and questions round by round, while it comes. The
-lines that a round writes are out before the next line is waited for.
+Answers a script of loads and questions round by round, while it arrives. The
+output of a round is written before the next line is waited for.
 
-      --workers N  so many workers, 1 to 16; then no line `workers` may come
+      --workers N  use N worker threads, 1 to 16 (default 2); the input must then
+                   have no line `workers`
   -h, --help       print this help
   -V, --version    print the version
 
 The lines of a script are described in catserve(1) and in scripts.md.
 ";
 
-/// What `--version` prints: that of the file VERSION, with which `tests/release.sh` compares it.
+/// What `--version` prints. `tests/release.sh` compares it with the file VERSION.
 const VERSION: &str = "catsession (Kobdzila) 0.2.0\n";
 
 fn main(rt: HostRuntime) -> ExitCode {
@@ -64,7 +65,7 @@ fn fail<E: Sink>(line: &str, errors: &mut E) -> ExitCode {
     ExitCode::FAILURE
 }
 
-/// Words that can't be had: one of them isn't UTF-8, or there is no memory for them.
+/// Reports that the arguments can't be read: one of them isn't UTF-8, or memory ran out.
 fn refuse<E: Sink>(error: &io::Error, errors: &mut E) -> ExitCode {
     match error.kind() {
         io::ErrorKind::OutOfMemory => fail("catsession: out of memory\n", errors),
@@ -80,7 +81,7 @@ fn print<W: Sink, E: Sink>(text: &str, writer: &mut W, errors: &mut E) -> ExitCo
     }
 }
 
-/// Words that ask for nothing.
+/// Reports a faulty argument.
 fn refuse_words<E: Sink>(alloc: Global, fault: WordsFault<'_>, errors: &mut E) -> ExitCode {
     let line = match fault {
         WordsFault::NoCount => {
@@ -97,7 +98,7 @@ fn refuse_words<E: Sink>(alloc: Global, fault: WordsFault<'_>, errors: &mut E) -
     }
 }
 
-/// The text of a fault.
+/// The message for a kind of error.
 fn text_of(kind: ScriptKind) -> &'static str {
     match kind {
         ScriptKind::TooLarge => "round too large",
@@ -112,8 +113,8 @@ fn text_of(kind: ScriptKind) -> &'static str {
     }
 }
 
-/// Tells a fault in one line, with its line where it has one. Where there is no memory for that, the line is that of
-/// want of memory.
+/// Reports an error in one line, with the line of the session if it has one. If there is no memory for that, it reports
+/// that memory ran out.
 fn tell<E: Sink>(alloc: Global, fault: SessionFault, errors: &mut E) {
     let (text, line) = (text_of(fault.kind), fault.line);
     let said = if line == 0 {

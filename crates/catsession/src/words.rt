@@ -1,27 +1,25 @@
-//! The words of the command line.
+//! The arguments of the command line.
+use catserve::MOST_WORKERS;
 
-/// What the words ask for.
+/// What the arguments ask for.
 #[derive(Clone, Copy)]
 pub(crate) enum Asked {
     /// The help.
     Help,
     /// The version.
     Version,
-    /// A session, and how many workers it has where that is given.
+    /// A session, and its number of workers if it is given.
     Session(Option<u32>),
 }
 
-/// Why the words ask for nothing.
+/// Which argument is faulty.
 #[derive(Clone, Copy)]
 pub(crate) enum WordsFault<'a> {
-    /// There is no such word, or not at this place.
+    /// An argument that isn't known, or not in this place.
     Unknown(&'a str),
     /// What follows `--workers` is no number from 1 to 16.
     NoCount,
 }
-
-/// The most workers that a session may have: as many as a store may have readers.
-const MOST_WORKERS: u32 = 16;
 
 /// A number of workers, in decimal digits.
 fn count_of(word: &str) -> Option<u32> {
@@ -29,11 +27,11 @@ fn count_of(word: &str) -> Option<u32> {
         return None;
     }
     let count = word.parse::<u32>().ok()?;
-    (count >= 1 && count <= MOST_WORKERS).then_some(count)
+    (count >= 1 && count as u64 <= MOST_WORKERS).then_some(count)
 }
 
-/// What the words ask for, of which the first is the program's name. The first request for the help or
-/// the version, or the first faulty word, decides.
+/// Parses the arguments; the first one is the program's name. The first request for the help or the version, or the
+/// first faulty argument, decides.
 pub(crate) fn read_words(words: &[String]) -> Result<Asked, WordsFault<'_>> {
     let mut workers = None;
     let mut wants_count = false;

@@ -1,10 +1,10 @@
--- What files tell of what was written, and how they count their failures.
+-- What files report of what was written, and how they count their failures.
 use Rattle.std.specs.Prelude.{◌≡◌, ◌⊎◌, ◌≤◌, ⊤, ℕ, List, [], ◌∷◌, ◌++◌, Option, Some, None, Result, IsErrOf}
 use Rattle.devices.specs.Devices.{RisesBy}
 use Rattle.devices.specs.declared.file.FileFault.{FileFault}
 use Rattle.devices.specs.declared.file.FileFault.TheVariants.{Device}
 
--- the files that were written, where they are told: the name and the bytes of each, the last one last
+-- the files that were written, where they are reported: the name and the bytes of each, the last one last
 abbrev pub Log : Type 0
 Log = Option (List (List ℕ × List ℕ))
 

@@ -6,7 +6,7 @@ pub data Event : Type 0 where
   Came : (bytes : List ℕ) → Event
   Gave : (bytes : List ℕ) → Event
 
--- the reads and writes of a device, where it tells them, the last one last
+-- the reads and writes of a device, where it reports them, the last one last
 abbrev pub Log : Type 0
 Log = Option (List Event)
 
@@ -33,7 +33,7 @@ abbrev pub read_events : {E : Type 0} → Result ℕ E → List ℕ → List Eve
 read_events (Ok n) buffer = Came (take n buffer) ∷ []
 read_events (Err fault) buffer = []
 
--- all the bytes were given; after a fault some first ones, or the log is as it was
+-- all the bytes were given; after a fault a prefix of them, or the log is as it was
 abbrev pub Gives : {T E : Type 0} → Log → Log → List ℕ → Result T E → Type 0
 Gives old new bytes (Ok done) = Grows old new (Gave bytes ∷ [])
 Gives old new bytes (Err fault) = Grows old new [] ⊎ ((n : ℕ) × Grows old new (Gave (take n bytes) ∷ []))

@@ -19,7 +19,7 @@ pub struct Reading<R> {
 }
 
 impl<R> Reading<R> {
-    /// A reader of which no read is counted yet.
+    /// A reader with both counts at zero.
     pub fn new(inner: R) -> Reading<R>
         ensures { result ≡ record { inner = inner; reads = 0; failures = 0 } }
     {
@@ -73,7 +73,7 @@ pub struct Writing<W> {
 }
 
 impl<W> Writing<W> {
-    /// A writer of which no failure is counted yet.
+    /// A writer with its count at zero.
     pub fn new(inner: W) -> Writing<W>
         ensures { result ≡ record { inner = inner; failures = 0 } }
     {

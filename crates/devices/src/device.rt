@@ -37,7 +37,7 @@ pub trait Device {
 
 /// A reader.
 pub trait Source: Device {
-    /// The bytes that are still to be read, where the reader tells them.
+    /// The bytes that are still to be read, where the reader reports them.
     ghost remaining: { Self → Option (List ℕ) };
 
     /// How many reads failed.
@@ -61,7 +61,7 @@ pub trait Source: Device {
 
 /// A writer.
 pub trait Sink: Device {
-    /// The bytes that were written, where the writer tells them.
+    /// The bytes that were written, where the writer reports them.
     ghost contents: { Self → Option (List ℕ) };
 
     /// How many writes failed.

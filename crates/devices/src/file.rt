@@ -11,17 +11,17 @@ pub enum FileFault {
     /// The file, or the device that holds it, failed.
     #[error("the file can't be read or written")]
     Device,
-    /// Want of memory.
+    /// Memory ran out.
     #[error("out of memory")]
     Memory,
 }
 
 /// Files that are read and written whole, by their names.
 pub trait Files {
-    /// The bytes of the file of a name, where the files tell them.
+    /// The bytes of the file of a name, where the files report them.
     ghost content: { Self → List ℕ → Option (List ℕ) };
 
-    /// Which files were written, in order: the name and the bytes of each, where the files tell them.
+    /// Which files were written, in order: the name and the bytes of each, where the files report them.
     ghost written: { Self → Log };
 
     /// How many reads and writes failed.
@@ -33,7 +33,7 @@ pub trait Files {
         ensures none_written { KeepsLog (written self.old) (written self.new) }
         ensures counts { CountsFault (failures self.old) (failures self.new) result };
 
-    /// Makes these the bytes of a file, which is made where there is none. After `Memory` no file was written;
+    /// Writes a file with these bytes, and creates it if there is none. After `Memory` no file was written;
     /// after `Device` the file may have any bytes, but no other was written.
     fn write(&mut self, alloc: Global, name: &str, bytes: &[u8]) -> Result<(), FileFault>
         ensures bytes { OnOk result (Logs (written self.old) (written self.new) name.now bytes.now) }

@@ -1,7 +1,7 @@
 //! Reading a whole input, up to a limit.
-ghost use Rattle.std.specs.Prelude.{◌≡◌, ◌⊎◌, ◌<◌, ◌≤◌, IfOk, IfSome, IsErrOf, false, length, take, true};
+ghost use Rattle.std.specs.Prelude.{◌≡◌, ◌⊎◌, ◌<◌, ◌≤◌, IfOk, IsErrOf, false, length, true};
 ghost use Rattle.std.specs.Io.KnownBytes.{Consumes};
-ghost use Rattle.devices.specs.Devices.{RisesBy};
+ghost use Rattle.devices.specs.Devices.{IsFront, RisesBy};
 ghost use Rattle.devices.specs.Chunks.{IsWhole, ReadsMore};
 
 use crate::device::{ReadFault, Source};
@@ -20,7 +20,7 @@ pub enum InputFault {
     /// The reader failed, or `MOST_READS` reads didn't reach the end.
     #[error("the input can't be read")]
     Unreadable,
-    /// Want of memory.
+    /// Memory ran out.
     #[error("out of memory")]
     Memory,
 }
@@ -79,7 +79,7 @@ pub(crate) fn read_within<R: Source>(
     most_reads: u32,
 ) -> Result<Vec<u8>, InputFault>
     requires { 0 < length chunk.old }
-    ensures bytes { IfOk result (λ v. IfSome (R.remaining reader.old) (λ xs. v.items ≡ take limit xs)) }
+    ensures bytes { IfOk result (λ v. IsFront limit (R.remaining reader.old) v.items) }
     ensures none_lost { IfOk result (λ v. Consumes (R.remaining reader.old) (R.remaining reader.new) v.items) }
     ensures later { R.failures reader.old ≤ R.failures reader.new }
     ensures cause { IsErrOf result InputFault.Unreadable
@@ -103,7 +103,7 @@ pub fn read_all<R: Source>(
     reader: &mut R,
     limit: usize,
 ) -> Result<Vec<u8>, InputFault>
-    ensures bytes { IfOk result (λ v. IfSome (R.remaining reader.old) (λ xs. v.items ≡ take limit xs)) }
+    ensures bytes { IfOk result (λ v. IsFront limit (R.remaining reader.old) v.items) }
     ensures none_lost { IfOk result (λ v. Consumes (R.remaining reader.old) (R.remaining reader.new) v.items) }
     ensures later { R.failures reader.old ≤ R.failures reader.new }
     ensures cause { IsErrOf result InputFault.Unreadable

@@ -1,4 +1,4 @@
-//! Devices that are read and written: what they tell of their bytes, and how they count their failures.
+//! Devices that are read and written: what they report of their bytes, and how they count their failures.
 //!
 //! A program is written over the traits `Source`, `Sink` and `Files`, so that its contract can say which
 //! bytes it read and wrote, and that it blames a device only where that device failed. `Reading` and

@@ -112,7 +112,7 @@ comes_then a b c x y z (Err Memory) first second = adds_some_then a b c x y z fi
 abbrev pub failed : (T : Type 0) → LineInputFault → Result T LineInputFault
 failed T fault = Err fault
 
--- a read that fails behind what came
+-- a read that fails after what came
 pub comes_lost : (S T : Type 0) (a b c : Option (List ℕ)) (x y z : Incoming) (fault : LineInputFault)
     → AddsInput a b x y
     → y.ended ≡ false → LosesBytes b c y.left z.left × (z.ended ≡ y.ended)

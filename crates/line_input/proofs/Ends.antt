@@ -27,12 +27,12 @@ one_line (x ∷ y ∷ ys) some fails =
     let head : is_line_end x ≡ false = fails 0 (omega arith) in
     rw (head, one_line (y ∷ ys) (omega arith) (λ k l. fails (suc k) (omega arith))) refl
 
--- no LF stands in what is behind a place
+-- there is no LF after a place
 pub lacks_behind : (xs : List ℕ) (from to : ℕ) → LacksEnd xs from to → (k : ℕ) → from + k < to
     → is_line_end (get_or (drop from xs) k 0) ≡ false
 lacks_behind xs from to lacks k lt = rw (get_or-drop from xs k 0) (lacks (from + k) (omega arith) lt)
 
--- a line ends behind its LF
+-- a line ends after its LF
 pub line_at : (input : Incoming) (from place : ℕ) → from ≤ place → place < length input.left
     → LacksEnd input.left from place → is_line_end (slice_index input.left place) ≡ true
     → EndsLine input from (place + 1)
@@ -67,9 +67,9 @@ line_last input from some lacks ended = record {
       (λ k l. lacks_behind input.left from (length input.left) lacks k (omega (arith, length-drop from input.left))));
 }
 
--- ---- a search for an LF behind the bytes that were searched before
+-- ---- a search for an LF after the bytes that were searched before
 
--- what is behind a place, as a part of a text that reaches to its end
+-- what follows a place, as a part of a text that reaches to its end
 pub rest_is : (xs : List ℕ) (from : ℕ) → take (length xs - from) (drop from xs) ≡ drop from xs
 rest_is xs from = take_all (length xs - from) (drop from xs) (omega (arith, length-drop from xs))
 

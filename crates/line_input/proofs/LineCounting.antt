@@ -21,7 +21,7 @@ use Rattle.line_input.proofs.Ends.{one_line}
 
 -- ---- lists of lines
 
--- behind place i of a list stand y and ys
+-- y and ys follow place i of a list
 record Cut {X : Type 0} (i : ℕ) (xs : List X) (y : X) (ys : List X) : Type 0 where
   within : i < length xs
   behind : drop (suc i) xs ≡ ys
@@ -147,7 +147,7 @@ lacks_lines count n input from end fewer had ended whole =
 
 -- ---- the end of each line is there, where the ends of all are
 
--- where the first LF of a text stands; its length, where it has none
+-- where the first LF of a text is; its length if it has none
 abbrev first_end : List ℕ → ℕ
 first_end text = position_or_len is_line_end text
 
@@ -216,7 +216,7 @@ has_end count n input from here below had (inr whole) = elim (cases_Bool input.e
 
 -- ---- the loop
 
--- so many lines end at `end`
+-- `counted` lines end at `end`
 pub record HasCounted (before after : Option (List ℕ)) (failed failed' reads reads' counted : ℕ) (old new : Incoming)
     (from end most : ℕ) : Type 0 where
   pub came : AddsInput before after old new
@@ -265,7 +265,7 @@ lazy_more count n a a' a'' x y z from here below had before one all =
     let second = one there in
     (second.0 ∙ first.0, second.1 ∙ first.1)
 
--- the line behind those that end is too long
+-- the line after those that end is too long
 pub ends_fewer : (T : Type 0) (a b c : Option (List ℕ)) (f f' r r' n count : ℕ) (x y z : Incoming)
     (from end most : ℕ) (fault : LineInputFault) → HasCounted a b f f' r r' n x y from end most → n < count
     → Comes b c y z (failed T fault)

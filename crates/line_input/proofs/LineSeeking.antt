@@ -1,4 +1,4 @@
--- What stands after some reads while the end of a line is looked for.
+-- What holds after some reads while the end of a line is looked for.
 use Rattle.std.proofs.Common.{◌≡◌, ap, ℕ, ◌+◌, ◌<◌, ◌≤◌, true, List, length, arith}
 use Rattle.std.proofs.Common.{inl, inr, length-append, Option, subst}
 use Rattle.std.proofs.lemmas.List.{get_or_append_left}
@@ -11,7 +11,7 @@ use Rattle.line_input.specs.Arrivals.{AddsInput}
 use Rattle.line_input.specs.Seeking.{AddsBytes, HasNoEnd, IsKnownEnd}
 use Rattle.line_input.proofs.Arriving.{adds_none, adds_read, adds_then, both, rises_both, rises_none}
 
--- so many reads were made, and no LF stands from `from` to `searched`
+-- `turn` reads were made, and there is no LF from `from` to `searched`
 pub record HasSearched (before after : Option (List ℕ)) (failed failed' reads reads' turn : ℕ) (old new : Incoming)
     (from searched : ℕ) : Type 0 where
   pub came : AddsInput before after old new

@@ -5,7 +5,7 @@ use Rattle.line_input.specs.Incoming.{Incoming}
 use Rattle.line_input.specs.declared.fault.LineInputFault.{LineInputFault}
 use Rattle.line_input.specs.declared.fault.LineInputFault.TheVariants.{TooLong, Unreadable, Memory}
 
--- what was read stands behind what was there; an input that has ended stays as it was
+-- what was read follows what was there; an input that has ended stays as it was
 pub record AddsInput (before after : Option (List ℕ)) (old new : Incoming) : Type 0 where
   pub more : List ℕ
   pub behind : new.left ≡ old.left ++ more
@@ -14,7 +14,7 @@ pub record AddsInput (before after : Option (List ℕ)) (old new : Incoming) : T
   pub stays : old.ended ≡ true → new ≡ old
   pub idle : old.ended ≡ true → after ≡ before
 
--- the same, but the last of what was read may be lost
+-- what was read follows what was there, but its last part may be lost
 pub record AddsSome (before after : Option (List ℕ)) (old new : Incoming) : Type 0 where
   pub more : List ℕ
   pub lost : List ℕ
@@ -23,7 +23,7 @@ pub record AddsSome (before after : Option (List ℕ)) (old new : Incoming) : Ty
   pub at_end : (old.ended ≡ true → IsAtEnd before) → new.ended ≡ true → IsAtEnd after
   pub stays : old.ended ≡ true → new ≡ old
 
--- nothing is lost but by a reader that can't be read, and for want of memory
+-- bytes are lost only when the reader fails or memory runs out
 abbrev pub Comes : {T : Type 0} → Option (List ℕ) → Option (List ℕ) → Incoming → Incoming → Result T LineInputFault
     → Type 0
 Comes before after old new (Ok _) = AddsInput before after old new

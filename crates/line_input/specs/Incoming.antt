@@ -13,18 +13,18 @@ pub record Incoming : Type 0 where
 abbrev pub MayCome : Incoming → List ℕ → Type 0
 MayCome input text = input.ended ≡ true → text ≡ []
 
--- no LF stands from one place of a text up to another
+-- there is no LF from one place of a text up to another
 abbrev pub LacksEnd : List ℕ → ℕ → ℕ → Type 0
 LacksEnd text from to = (k : ℕ) → from ≤ k → k < to → is_line_end (slice_index text k) ≡ false
 
--- an LF stands at a place of a text, or behind it
+-- there is an LF at a place of a text, or after it
 pub record HasLineEnd (text : List ℕ) (from : ℕ) : Type 0 where
   pub place : ℕ
   pub low : from ≤ place
   pub high : place < length text
   pub ends : is_line_end (slice_index text place) ≡ true
 
--- the end is there of the line that begins at a place
+-- the end of the line that begins at a place has come
 abbrev pub HasEnd : Incoming → ℕ → Type 0
 HasEnd input from = (input.ended ≡ true) ⊎ HasLineEnd input.left from
 
@@ -36,13 +36,13 @@ pub record EndsLine (input : Incoming) (from end : ℕ) : Type 0 where
       → lines (drop from input.left ++ text)
       ≡ take (end - from) (drop from input.left) ∷ lines (drop end input.left ++ text)
 
--- a text begins with so many lines, and the rest follows
+-- a text begins with `count` lines, and the rest follows
 pub record CutsLines (count : ℕ) (text front rest : List ℕ) : Type 0 where
   pub enough : count ≤ length (lines text)
   pub front_is : front ≡ concat (take count (lines text))
   pub rest_is : lines rest ≡ drop count (lines text)
 
--- so many lines that begin at `from` end at `end`, whatever comes
+-- `count` lines that begin at `from` end at `end`, whatever comes
 pub record EndsLines (count : ℕ) (input : Incoming) (from end : ℕ) : Type 0 where
   pub low : from ≤ end
   pub within : end ≤ length input.left
@@ -55,7 +55,7 @@ pub record LacksLines (count : ℕ) (input : Incoming) (from : ℕ) : Type 0 whe
   pub ended : input.ended ≡ true
   pub fewer : length (lines (drop from input.left)) < count
 
--- the ends are there of so many lines that begin at `from`
+-- the ends of `count` lines that begin at `from` have come
 abbrev pub HasEnds : ℕ → Incoming → ℕ → Type 0
 HasEnds count input from = (input.ended ≡ true) ⊎ ((end : ℕ) × EndsLines count input from end)
 

@@ -8,7 +8,7 @@ abbrev pub IsPlaced : {T E : Type 0} → List ℕ → List ℕ → List ℕ → 
 IsPlaced old new part (Ok _) = new ≡ old ++ part
 IsPlaced old new part (Err _) = new ≡ old
 
--- one read was made, or one that failed, of which nothing came
+-- one read was made, or one that failed and gave nothing
 abbrev pub GrowsOnce : Log → Log → List ℕ → Type 0
 GrowsOnce log log' part = Grows log log' (Came part ∷ []) ⊎ (Grows log log' [] × (part ≡ []))
 

@@ -13,7 +13,7 @@ pub enum LineInputFault {
     /// The reader failed, or `devices::MOST_READS` reads gave no end of the line.
     #[error("the input can't be read")]
     Unreadable,
-    /// Want of memory.
+    /// Memory ran out.
     #[error("out of memory")]
     Memory,
 }

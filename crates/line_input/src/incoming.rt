@@ -63,7 +63,7 @@ fn read_chunk<R: Source>(
 
 /// The part of an input that has come and isn't taken yet.
 ///
-/// A line ends behind its LF, or where the input ends, as the last line of a text stream may in ISO C (7.21.2).
+/// A line ends after its LF, or where the input ends, as the last line of a text stream may in ISO C (7.21.2).
 #[derive(Drop)]
 pub struct LineInput {
     bytes: Vec<u8>,
@@ -84,7 +84,7 @@ impl Model for LineInput {
 }
 
 impl LineInput {
-    /// An input of which nothing has come.
+    /// An input before its first read.
     pub fn new(alloc: Global) -> Result<LineInput, AllocError>
         ensures { IfOk result (λ input. input ≡ record { left = []; ended = false }) }
     {
@@ -111,7 +111,7 @@ impl LineInput {
         self.ended
     }
 
-    /// Takes so many bytes off, or all where there are fewer.
+    /// Takes `count` bytes off, or all if there are fewer.
     pub fn take(&mut self, count: usize)
         ensures { self.new ≡ record { left = drop count self.old.left; ended = self.old.ended } }
     {
@@ -155,7 +155,7 @@ impl LineInput {
         Ok(())
     }
 
-    /// Where the line ends that begins at `from`: behind its LF, or at the end of the input. It reads more only while
+    /// Where the line ends that begins at `from`: after its LF, or at the end of the input. It reads more only while
     /// no end of the line has come. None: no line begins there, the input has ended.
     ///
     /// At most `devices::MOST_READS` reads are tried, and one that is interrupted is tried again. After a fault that
@@ -207,7 +207,7 @@ impl LineInput {
         Err(LineInputFault::Unreadable)
     }
 
-    /// The same for the end of `count` lines that begin at `from`; None: the input has ended with fewer.
+    /// Where `count` lines end that begin at `from`. It reads as `line_end` does. None: the input has ended with fewer.
     ///
     /// The reads of each line are at most `devices::MOST_READS`.
     pub fn lines_end<R: Source>(

@@ -61,7 +61,7 @@ before-at p (x ∷ front) y rest d fails passes =
 pub take-all : {X : Type 0} (n : ℕ) (xs : List X) → n ≡ length xs → take n xs ≡ xs
 take-all n xs e = rw e (take-length xs)
 
--- what stands behind an ASCII byte of a text is a text
+-- what follows an ASCII byte of a text is a text
 pub utf8_behind : (c : ℕ) (text front behind : List ℕ) → IsUtf8 text → text ≡ front ++ c ∷ behind → c < 128
     → IsUtf8 behind
 utf8_behind c text front behind utf8 e small =
@@ -87,7 +87,7 @@ pub cut_get : (n : ℕ) (xs : List ℕ) (k : ℕ) → k < length (take n xs) →
 cut_get n xs k below = sym (get_or_append_left (take n xs) (drop n xs) 0 k below)
     ∙ ap (λ zs. get_or zs k 0) (take-append-drop n xs)
 
--- the byte stands between the two parts
+-- the byte is between the two parts
 pub cut_whole : (byte : ℕ) (text front behind : List ℕ) → IsCut byte text front behind → text ≡ front ++ byte ∷ behind
 cut_whole byte text front behind cut =
     let is : get_or text (position_or_len (is_byte byte) text) 0

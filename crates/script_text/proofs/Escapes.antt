@@ -22,7 +22,7 @@ no_escape text n t b letter rest e =
     let no_b : letter ≢ 92 = λ is. b rest (e ∙ ap (λ l. l ∷ rest) is) in
     rw (ne_eqb letter 110 no_n, ne_eqb letter 116 no_t, ne_eqb letter 92 no_b) refl
 
--- bytes without a backslash stand for themselves
+-- bytes without a backslash mean themselves
 pub unescaped-plain : (plain rest : List ℕ) → ((k : ℕ) → k < length plain → get_or plain k 0 ≢ 92)
     → unescaped (plain ++ rest) ≡ option_map (λ more. plain ++ more) (unescaped rest)
 unescaped-plain [] rest none = map-same (unescaped rest) where
@@ -64,7 +64,7 @@ unescaped-escape : (letter byte : ℕ) (after : List ℕ) → escaped_byte lette
     → unescaped (92 ∷ letter ∷ after) ≡ option_map (λ more. (byte ∷ []) ++ more) (unescaped after)
 unescaped-escape letter byte after e = rw e (bind-map byte (unescaped after))
 
--- one more part without a backslash, and an escape behind it
+-- one more part without a backslash, followed by an escape
 pub reads_more : (field bytes rest plain behind after : List ℕ) (letter byte : ℕ) → unescaped field
     ≡ option_map (λ more. bytes ++ more) (unescaped rest) → rest ≡ plain ++ 92 ∷ behind
     → ((k : ℕ) → k < length plain → get_or plain k 0 ≢ 92) → behind ≡ letter ∷ after → escaped_byte letter ≡ Some byte
@@ -78,7 +78,7 @@ reads_more field bytes rest plain behind after letter byte h cut none e is =
     ∙ map-map bytes (plain ++ byte ∷ []) (unescaped after)
     ∙ ap (λ front. option_map (λ more. front ++ more) (unescaped after)) (sym (append_assoc bytes plain (byte ∷ [])))
 
--- a backslash behind which no letter stands
+-- a backslash that no letter follows
 pub reads_none : (field bytes rest plain behind : List ℕ) → unescaped field
     ≡ option_map (λ more. bytes ++ more) (unescaped rest) → rest ≡ plain ++ 92 ∷ behind
     → ((k : ℕ) → k < length plain → get_or plain k 0 ≢ 92) → SplitsEscape None behind → unescaped field ≡ None

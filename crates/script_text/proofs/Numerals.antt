@@ -16,7 +16,7 @@ own = numerals_by_fold (λ ds. list_all is_ascii_digit ds ≡ true) (search rule
 pub no_digits : (text : List ℕ) → list_all is_ascii_digit text ≡ false → number text ≡ None
 no_digits text other = rw other refl
 
--- digits of which `parse` makes a number are that number
+-- digits that `parse` accepts are the number that it returns
 pub some_number : {E : Type 0} (text : List ℕ) (r : Result ℕ E) (n : ℕ) → list_all is_ascii_digit text ≡ true
     → ParsesUnsigned 64 10 text r → r ≡ Ok n → number text ≡ Some n
 some_number {E} text r n digits parsed e =
@@ -26,7 +26,7 @@ some_number {E} text r n digits parsed e =
     × (n ≡ digits_value 10 text) = subst P e (parse_digits own 64 text r parsed digits) in
     rw (digits, lt-ltb 0 (length text) h.0.0, lt-ltb (digits_value 10 text) (2 ^ 64) h.0.1) (ap (λ m. Some m) (sym h.1))
 
--- and digits of which it makes none are no number
+-- and digits that it refuses are no number
 pub no_number : {E : Type 0} (text : List ℕ) (r : Result ℕ E) (fault : E) → list_all is_ascii_digit text ≡ true
     → ParsesUnsigned 64 10 text r → r ≡ Err fault → number text ≡ None
 no_number {E} text r fault digits parsed e =

@@ -40,7 +40,7 @@ both_assoc a b c = rw (
 both_empty : (a : RoundValue) → both a empty_round ≡ a
 both_empty a = rw (append-nil a.loads, append-nil a.questions) refl
 
--- one command that isn't `go`, in front of others
+-- one command that isn't `go`, followed by others
 onto_round : (g : Gathered) (c : Command) (cs : List Command) → is_go c ≡ false → gathered g c
     ≡ record { ended = g.ended; current = both g.current (round_of (c ∷ [])); begun = true }
     → ((p : List Command) → round_of (c ∷ p) ≡ both (round_of (c ∷ [])) (round_of p)) → onto_open g (rounds_of (c ∷ cs))
@@ -240,7 +240,7 @@ bad_text text workers rest line behind rounds number saw parsed first is bad =
     ∙ ap (λ s. going_on workers rounds (and_then s number (λ n. commands_from workers (number + 1) n
     (lines behind)))) bad
 
--- commands in front of others
+-- commands followed by others
 pub gathers : (workers number : ℕ) (g : Gathered) (commands : List Command) (found : Result (List Command) ℕ)
     → going_on workers g (and_then (Says commands 0) number (λ n. found))
     ≡ going_on workers (fold gathered g commands) found

@@ -6,7 +6,7 @@ use Rattle.std.specs.List.{concat}
 use Rattle.line_input.specs.Lines.{lines}
 use Rattle.script_text.specs.Scanning.{IsFirstLine, HasTaken}
 
--- behind place i of a list stand y and ys
+-- from index i on a list is y, followed by ys
 record Cut {X : Type 0} (i : ℕ) (xs : List X) (y : X) (ys : List X) : Type 0 where
   within : i < length xs
   behind : drop (suc i) xs ≡ ys

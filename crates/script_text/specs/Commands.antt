@@ -6,8 +6,8 @@ use Rattle.live_set.specs.Asks.{AskValue, QueryValue, Plain, Context, Number, Co
 use Rattle.script_text.specs.LineFields.{fields}
 use Rattle.script_text.specs.ScriptFields.{number, unescaped, options_of, hex_bytes, worker_of, worker_count, ◌>>=◌}
 
--- an empty line or a comment; a load of the next lines, of which it counts so many; a load of an MO file with these
--- bytes; a question to a worker; the end of a round
+-- an empty line or a comment; a load of the next `count` lines; a load of an MO file with these bytes; a question to a
+-- worker; the end of a round
 pub data Line : Type 0 where
   Blank : Line
   Loads : (domain locale : List ℕ) (options : Options) (count : ℕ) → Line
@@ -57,7 +57,7 @@ call_of name texts =
     if bytes_eq name (codes "ngettext") then number_call texts else
     if bytes_eq name (codes "npgettext") then context_number_call texts else None
 
--- behind `load`: a domain, a locale, the options, and how many lines the text has
+-- after `load`: a domain, a locale, the options, and how many lines the text has
 abbrev pub load_line : List (List ℕ) → Option Line
 load_line (domain ∷ locale ∷ options ∷ count ∷ []) = do
   o ← options_of options
@@ -65,14 +65,14 @@ load_line (domain ∷ locale ∷ options ∷ count ∷ []) = do
   Some (Loads domain locale o n)
 load_line _ = None
 
--- behind `loadmo`: a domain, a locale, and the digits of an MO file
+-- after `loadmo`: a domain, a locale, and the digits of an MO file
 abbrev pub load_mo_line : List (List ℕ) → Option Line
 load_mo_line (domain ∷ locale ∷ digits ∷ []) = do
   bytes ← hex_bytes digits
   Some (LoadsMo domain locale bytes)
 load_mo_line _ = None
 
--- behind `ask`: one of so many workers, a domain, a list of languages, and a call
+-- after `ask`: one of `workers` workers, a domain, a list of languages, and a call
 abbrev pub ask_line : ℕ → List (List ℕ) → Option Line
 ask_line workers (worker ∷ domain ∷ languages ∷ call ∷ texts) = do
   w ← worker_of workers worker
@@ -80,7 +80,7 @@ ask_line workers (worker ∷ domain ∷ languages ∷ call ∷ texts) = do
   Some (Asks w (record { domain = domain; languages = languages; ask = a }))
 ask_line workers _ = None
 
--- behind `go`: nothing
+-- after `go`: nothing
 abbrev pub go_line : List (List ℕ) → Option Line
 go_line [] = Some Goes
 go_line _ = None
@@ -99,7 +99,7 @@ abbrev pub is_blank : List ℕ → Bool
 is_blank [] = true
 is_blank (b ∷ text) = b == 35
 
--- what a line says in a script of so many workers, if it is one that such a script may have
+-- what a line says in a script with `workers` workers, if such a script may have it
 abbrev pub line_of : ℕ → List ℕ → Option Line
 line_of workers text = if is_blank text then Some Blank else command_line workers (fields text)
 

@@ -9,13 +9,13 @@ use Rattle.script_text.specs.Script.{Command, Load, Ask, Go, RoundValue, round_o
 use Rattle.script_text.specs.Script.{commands_from}
 use Rattle.script_text.specs.Script.{load_count, ScriptValue, script_from, script_of, script}
 
--- the rounds that have ended, the open one, and whether something stands in it
+-- the rounds that have ended, the open one, and whether it has a load or a question
 pub record Gathered : Type 0 where
   pub ended : List RoundValue
   pub current : RoundValue
   pub begun : Bool
 
--- a round in which nothing stands
+-- a round without loads and questions
 abbrev pub empty_round : RoundValue
 empty_round = record { loads = []; questions = [] }
 
@@ -27,7 +27,7 @@ loads_so_far g = load_count g.ended + length g.current.loads
 abbrev pub nothing : Gathered
 nothing = record { ended = []; current = empty_round; begun = false }
 
--- one round behind another, as one
+-- one round followed by another, as one
 abbrev pub both : RoundValue → RoundValue → RoundValue
 both a b = record { loads = a.loads ++ b.loads; questions = a.questions ++ b.questions }
 
@@ -38,16 +38,16 @@ gathered g (Ask worker query) = record
     { ended = g.ended; current = both g.current (round_of (Ask worker query ∷ [])); begun = true }
 gathered g Go = record { ended = g.ended ++ g.current ∷ []; current = empty_round; begun = false }
 
--- the open round with what follows in it, and the rounds behind it
+-- the open round with what follows in it, and the rounds after it
 abbrev pub onto_open : Gathered → List RoundValue → List RoundValue
 onto_open g [] = if g.begun then g.current ∷ [] else []
 onto_open g (round ∷ rounds) = both g.current round ∷ rounds
 
--- the rounds that have ended, and the open one if something stands in it
+-- the rounds that have ended, and the open one if it has a load or a question
 abbrev pub all_rounds : Gathered → List RoundValue
 all_rounds g = g.ended ++ onto_open g []
 
--- the script of so many workers, where these commands follow
+-- the script with `workers` workers, if these commands follow
 abbrev pub going_on : ℕ → Gathered → Result (List Command) ℕ → Result ScriptValue ℕ
 going_on workers g (Ok commands) = Ok (record
     { workers = workers; rounds = g.ended ++ onto_open g (rounds_of commands) })
@@ -67,21 +67,21 @@ pub record TakesIn (old new : Gathered) (line : Line) (behind : List ℕ) (numbe
     pub shorter : text + length rest ≤ length behind
     pub utf8 : IsUtf8 rest
 
--- nothing is said in front of the line with this number, from which on the rest is left
+-- the lines before this number say nothing, and `rest` is the text from that line on
 pub record HasSkipped (text rest : List ℕ) (number : ℕ) : Type 0 where
   pub going : script text ≡ script_from number (lines rest)
   pub some : 0 < number
   pub bounded : number + length rest ≤ 67108865
   pub utf8 : IsUtf8 rest
 
--- there are so many workers, and the commands are in the lines from this number on
+-- the script has this number of workers, and its commands begin on the line with this number
 pub record HasBegun (text : List ℕ) (workers : ℕ) (rest : List ℕ) (number : ℕ) : Type 0 where
   pub going : script text ≡ script_of workers (commands_from workers number 0 (lines rest))
   pub some : 0 < number
   pub bounded : number + length rest ≤ 67108865
   pub utf8 : IsUtf8 rest
 
--- the text was read up to the line with this number, from which on the rest is left
+-- the lines before this number were read, and `rest` is the text from that line on
 pub record HasParsed (text : List ℕ) (workers : ℕ) (rounds : Gathered) (rest : List ℕ) (number : ℕ) : Type 0 where
   pub going : script text ≡ going_on workers rounds (commands_from workers number 0 (lines rest))
   pub few : loads_so_far rounds < number

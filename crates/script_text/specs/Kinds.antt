@@ -1,4 +1,4 @@
--- The kinds of fault of a service as those of a script.
+-- The errors of a service as those of a script.
 use Rattle.desks.specs.declared.desk.ServeFault.{ServeFault}
 use Rattle.desks.specs.declared.desk.ServeFault.TheVariants as fault
 use Rattle.script_text.specs.declared.fault.ScriptKind.{ScriptKind}

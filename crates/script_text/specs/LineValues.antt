@@ -1,4 +1,4 @@
--- What a line is, as the code has it, where the catalogue of a load comes from, and what reading a part answers.
+-- What a line of the code says, where the catalogue of a load comes from, and what reading a part of a line returns.
 use Rattle.std.specs.Prelude.{◌≡◌, ⊤, Option, Some, None, Result, Ok, Err}
 use Rattle.script_text.specs.declared.fault.LineFault.{LineFault}
 use Rattle.script_text.specs.declared.fault.LineFault.TheVariants.{Bad, Memory}
@@ -22,7 +22,8 @@ abbrev pub source_value : LoadSource → SourceValue
 source_value (code_source.Po text options) = Po text.now options
 source_value (code_source.Mo bytes) = Mo bytes.items
 
--- what was read is what there is to read: there is nothing where it is bad, and want of memory says nothing
+-- The value that was read is the one that is meant: nothing is meant if it is bad. Running out of memory says nothing
+-- about it.
 abbrev pub Reads : {T V : Type 0} → (T → V) → Result T LineFault → Option V → Type 0
 Reads value (Ok x) meant = meant ≡ Some (value x)
 Reads value (Err Bad) meant = meant ≡ None

@@ -24,7 +24,7 @@ pub record IsFirstLine (text line rest : List ℕ) : Type 0 where
   pub some : 0 < length raw
   pub utf8 : IsUtf8 rest
 
--- the text begins with so many lines, and the rest follows
+-- the text begins with `count` lines, and the rest follows
 pub record TakesLines (count : ℕ) (text taken rest : List ℕ) : Type 0 where
   pub enough : count ≤ length (lines text)
   pub taken_is : taken ≡ concat (take count (lines text))
@@ -37,7 +37,7 @@ abbrev pub fields_left : Option (List ℕ) → List (List ℕ)
 fields_left (Some text) = fields text
 fields_left None = []
 
--- a letter that may stand behind a backslash was cut off: the byte that it stands for, and the rest
+-- a letter that may follow a backslash was cut off: the byte that it means, and the rest
 abbrev pub SplitsEscape : Option (ℕ × Bor (List ℕ)) → List ℕ → Type 0
 SplitsEscape None text = (letter : ℕ) (rest : List ℕ) → text ≡ letter ∷ rest → escaped_byte letter ≡ None
 SplitsEscape (Some (byte, rest)) text = (letter : ℕ) × (text ≡ letter ∷ rest.now) × (escaped_byte letter ≡ Some byte)
@@ -56,7 +56,7 @@ ParseFails outcome fault = FailsBy fault.kind outcome fault.line where
   FailsBy kind.Memory outcome line = line ≡ 0
   FailsBy _ outcome line = ⊥
 
--- so many lines of the text were taken off, and the rest is left
+-- `count` lines of the text were taken off, and the rest is left
 pub record HasTaken (count : ℕ) (text rest : List ℕ) : Type 0 where
   pub within : count ≤ length (lines text)
   pub left : lines rest ≡ drop count (lines text)

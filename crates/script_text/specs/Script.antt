@@ -16,12 +16,13 @@ pub data Command : Type 0 where
   Ask : (worker : ℕ) (query : QueryValue) → Command
   Go : Command
 
--- what a line says where it stands: its commands, and how many of the lines behind it are its text; or that it is bad
+-- what a line says with the lines that follow it: its commands, and how many of these lines are its text; or that it is
+-- bad
 pub data Saying : Type 0 where
   Says : (commands : List Command) (text : ℕ) → Saying
   IsBad : Saying
 
--- the PO text of a load is the lines behind it, of which there are as many as it counts
+-- the PO text of a load is the next `count` lines
 abbrev pub saying : Option Line → List (List ℕ) → Saying
 saying None behind = IsBad
 saying (Some Blank) behind = Says [] 0
@@ -36,7 +37,7 @@ saying (Some (LoadsMo domain locale bytes)) behind =
 saying (Some (Asks worker query)) behind = Says (Ask worker query ∷ []) 0
 saying (Some Goes) behind = Says (Go ∷ []) 0
 
--- these commands, and then those that are read from the lines behind the text; or this line is the bad one
+-- these commands, and then those that are read from the lines after the text; or this line is the bad one
 abbrev pub and_then : Saying → ℕ → (ℕ → Result (List Command) ℕ) → Result (List Command) ℕ
 and_then IsBad number behind = Err number
 and_then (Says commands text) number behind = in_front commands (behind text) where
@@ -44,8 +45,8 @@ and_then (Says commands text) number behind = in_front commands (behind text) wh
   in_front first (Ok rest) = Ok (first ++ rest)
   in_front first (Err bad) = Err bad
 
--- For so many workers, the commands of the lines from this number on, of which some first ones are a load's text; or
--- the first bad line.
+-- For this number of workers, the commands of the lines from this number on, or the first bad line. The first `text`
+-- lines are a load's text.
 abbrev pub commands_from : (workers number text : ℕ) → List (List ℕ) → Result (List Command) ℕ
 commands_from workers number text [] = Ok []
 commands_from workers number (suc text) (line ∷ rest) = commands_from workers (number + 1) text rest
@@ -106,13 +107,13 @@ pub record ScriptValue : Type 0 where
   pub workers : ℕ
   pub rounds : List RoundValue
 
--- so many workers with the rounds of these commands, or the first bad line
+-- this number of workers with the rounds of these commands, or the first bad line
 abbrev pub script_of : ℕ → Result (List Command) ℕ → Result ScriptValue ℕ
 script_of workers (Ok commands) = Ok (record { workers = workers; rounds = rounds_of commands })
 script_of workers (Err bad) = Err bad
 
--- The lines from this number on, in front of which nothing is said. The first that says something may give the number
--- of workers; else there are two.
+-- The lines from this number on, if those before say nothing. The first that says something may give the number of
+-- workers; otherwise there are two.
 abbrev pub script_from : ℕ → List (List ℕ) → Result ScriptValue ℕ
 script_from number [] = Ok (record { workers = 2; rounds = [] })
 script_from number (line ∷ rest) =

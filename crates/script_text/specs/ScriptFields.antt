@@ -1,4 +1,4 @@
--- What the fields of a line stand for.
+-- What the fields of a line mean.
 use Rattle.std.specs.Prelude.{ℕ, ◌^◌, ◌&&◌, ◌==◌, Bool, true, false, if◌then◌else◌, nat_lt, nat_le, List, [], ◌∷◌}
 use Rattle.std.specs.Prelude.{length}
 use Rattle.std.specs.Prelude.{codes, Option, Some, None, option_and_then}
@@ -10,7 +10,7 @@ use Rattle.std.specs.Result.{result_ok}
 use Rattle.hex.specs.Hex.{decode_of}
 use Rattle.catalogue.specs.declared.Options.{Options}
 
--- one field after another, where each of them can be read
+-- one field after another, if each of them can be read
 infixl 10 ◌>>=◌
 abbrev pub ◌>>=◌ : {A B : Type 0} → Option A → (A → Option B) → Option B
 o >>= f = option_and_then f o
@@ -24,7 +24,7 @@ is_number digits = list_all is_ascii_digit digits
 abbrev pub number : List ℕ → Option ℕ
 number digits = if is_number digits then Some (digits_value 10 digits) else None
 
--- the letter behind a backslash: `n` for LF, `t` for a tab, or a backslash again
+-- the letter after a backslash: `n` for LF, `t` for a tab, or a backslash again
 abbrev pub escaped_byte : ℕ → Option ℕ
 escaped_byte letter =
     if letter == 110 then Some 10 else
@@ -50,16 +50,16 @@ options_of text =
     if bytes_eq text (codes "f") then Some (record { checked = false; use_fuzzy = true }) else
     if bytes_eq text (codes "cf") then Some (record { checked = true; use_fuzzy = true }) else None
 
--- the bytes of hexadecimal digits, of which two in either case stand for each byte
+-- the bytes that hexadecimal digits spell: two digits a byte, in either case
 abbrev pub hex_bytes : List ℕ → Option (List ℕ)
 hex_bytes digits = result_ok (decode_of digits)
 
--- a 0 stands in front of other digits
+-- several bytes, and the first is a 0
 abbrev pub has_leading_zero : List ℕ → Bool
 has_leading_zero (b ∷ c ∷ text) = b == 48
 has_leading_zero _ = false
 
--- one of so many workers, by its number, which are counted from 0
+-- one of `workers` workers, by its number, which is counted from 0
 abbrev pub worker_of : ℕ → List ℕ → Option ℕ
 worker_of workers text = if has_leading_zero text then None else (do
   n ← number text

@@ -45,6 +45,6 @@ OfText BadLine = ⊤
 OfText Memory = ⊤
 OfText _ = ⊥
 
--- the fault is the refusal of a text, or want of memory
+-- the fault is the refusal of a text, or memory ran out
 abbrev pub IsTextFault : List ℕ → ScriptFault → Type 0
 IsTextFault text fault = OfText fault.kind × IsRefused text fault.kind fault.line

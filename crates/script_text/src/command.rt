@@ -103,7 +103,7 @@ fn read_call(alloc: Global, name: &str, texts: Fields<'_>) -> Result<Ask, LineFa
     }
 }
 
-/// What stands behind `load`.
+/// The fields after `load`.
 fn read_load(mut fields: Fields<'_>) -> Result<Line<'_>, LineFault>
     ensures { Reads line_value result (load_line fields.entry) }
 {
@@ -120,7 +120,7 @@ fn read_load(mut fields: Fields<'_>) -> Result<Line<'_>, LineFault>
     })
 }
 
-/// What stands behind `loadmo`.
+/// The fields after `loadmo`.
 fn read_load_mo(alloc: Global, mut fields: Fields<'_>) -> Result<Line<'_>, LineFault>
     ensures { Reads line_value result (load_mo_line fields.entry) }
 {
@@ -136,7 +136,7 @@ fn read_load_mo(alloc: Global, mut fields: Fields<'_>) -> Result<Line<'_>, LineF
     })
 }
 
-/// What stands behind `ask`, where there are so many workers.
+/// The fields after `ask`, in a script with this number of workers.
 fn read_ask<'a>(alloc: Global, workers: u32, mut fields: Fields<'a>) -> Result<Line<'a>, LineFault>
     ensures { Reads line_value result (ask_line workers fields.entry) }
 {
@@ -153,7 +153,7 @@ fn read_ask<'a>(alloc: Global, workers: u32, mut fields: Fields<'a>) -> Result<L
     Ok(Line::Asks { worker, query })
 }
 
-/// What stands behind `go`: nothing.
+/// The fields after `go`: none.
 fn read_go<'a>(fields: Fields<'a>) -> Result<Line<'a>, LineFault>
     ensures { Reads line_value result (go_line fields.entry) }
 {
@@ -178,14 +178,14 @@ fn read_command<'a>(
     }
 }
 
-/// Whether a line, which is given without its LF, says nothing: it is empty, or a comment.
+/// Whether a line, without its LF, says nothing: it is empty, or a comment.
 pub fn says_nothing(text: &str) -> bool
     ensures { result ≡ is_blank text.now }
 {
     text.is_empty() || text.starts_with('#')
 }
 
-/// How many workers a line gives a script. `Bad` where it is no such line.
+/// The number of workers in a line `workers`. `Bad` for any other line.
 pub fn read_workers(text: &str) -> Result<u32, LineFault>
     ensures reads { Reads (λ n. n) result (workers_line (fields text.now)) }
     ensures bad { IfErr result (λ fault. fault ≡ LineFault.Bad) }
@@ -200,8 +200,7 @@ pub fn read_workers(text: &str) -> Result<u32, LineFault>
     }
 }
 
-/// What a line says in a script of so many workers. The line is given without its LF. `Bad` where it is none that such
-/// a script may have.
+/// What a line, without its LF, says in a script with this number of workers. `Bad` if such a script can't have it.
 pub fn read_line(alloc: Global, workers: u32, text: &str) -> Result<Line<'_>, LineFault>
     ensures { Reads line_value result (line_of workers text.now) }
 {

@@ -1,4 +1,4 @@
-//! Why a script isn't answered.
+//! The errors of a script.
 ghost use Rattle.std.specs.Prelude.{◌≡◌};
 ghost use Rattle.script_text.specs.declared.fault.LineFault.TheVariants.{Memory};
 
@@ -6,12 +6,12 @@ use desks::ServeFault;
 use std::alloc::AllocError;
 use thiserror::Error;
 
-/// Why a part of a line wasn't read.
+/// Why a line, or a field of it, wasn't read.
 #[derive(Clone, Copy, Debug, PartialEq, Eq)]
 pub enum LineFault {
-    /// It is no such part.
+    /// It is malformed.
     Bad,
-    /// Want of memory, which may stand in place of any other answer.
+    /// Out of memory. This error can take the place of any other result.
     Memory,
 }
 
@@ -23,7 +23,7 @@ impl From<AllocError> for LineFault {
     }
 }
 
-/// The kinds of fault of a run.
+/// Which error stopped a script or a session.
 #[derive(Clone, Copy, Debug, PartialEq, Eq, Error)]
 pub enum ScriptKind {
     /// The script has more than 67,108,864 bytes.
@@ -32,30 +32,31 @@ pub enum ScriptKind {
     /// The script isn't UTF-8.
     #[error("the script isn't UTF-8")]
     NotUtf8,
-    /// A line is no line of a script, or a load counts more lines than are left.
+    /// A line is malformed, or a load counts more lines than are left.
     #[error("bad line")]
     BadLine,
-    /// The reader failed, or too many reads didn't reach the end of the script.
+    /// The reader failed, or the end of the script wasn't reached within the limit on reads.
     #[error("the script can't be read")]
     ReadFault,
     /// The writer failed.
     #[error("the output can't be written")]
     WriteFault,
-    /// There was no place for a reader of the store.
+    /// The store had no place for a reader.
     #[error("no place for a reader")]
     NoPlace,
     /// A reader found the store closed, or had seen more than was published.
     #[error("the store is closed")]
     Closed,
-    /// A thread couldn't be made.
+    /// A thread couldn't be started.
     #[error("no thread")]
     Join,
-    /// Want of memory, which may stand in place of any other answer.
+    /// Out of memory. This error can take the place of any other result.
     #[error("out of memory")]
     Memory,
 }
 
-/// Why a script wasn't run to its end: the kind, and the line for `BadLine`, else 0.
+/// Why a script wasn't run to its end: the kind, and the line of a `BadLine`, counted from 1. For other kinds the line
+/// is 0.
 #[derive(Clone, Copy, Debug, PartialEq, Eq, Error)]
 #[error("{kind} (line {line})")]
 pub struct ScriptFault {

@@ -1,4 +1,4 @@
-//! What a field stands for.
+//! The fields of a line: numbers, texts, options and hexadecimal digits.
 ghost use Rattle.std.specs.Prelude.{◌≡◌, MatchOption, IfErr, IfSome, option_map, string_bytes};
 ghost use Rattle.std.specs.List.{list_all};
 ghost use Rattle.std.specs.Char.{is_ascii_digit};
@@ -13,10 +13,10 @@ use catalogue::Options;
 use hex::FromHexError;
 use std::alloc::Global;
 
-/// The most workers that a script may have: as many as a store may have readers.
-const MOST_WORKERS: u64 = 16;
+/// The most workers that a script may have: the limit on a store's readers.
+pub const MOST_WORKERS: u64 = 16;
 
-/// Whether the text has no byte but decimal digits.
+/// Whether the text consists of decimal digits.
 fn all_digits(text: &str) -> bool
     ensures { result ≡ list_all is_ascii_digit text.now }
 {
@@ -38,7 +38,7 @@ pub(crate) fn read_number(field: &str) -> Result<u64, LineFault>
     }
 }
 
-/// The byte that a letter behind a backslash stands for, and what follows the letter.
+/// The byte that a letter after a backslash means, and what follows the letter.
 fn split_escape(text: &str) -> Option<(char, &str)>
     ensures { SplitsEscape result text.now }
 {
@@ -52,7 +52,7 @@ fn split_escape(text: &str) -> Option<(char, &str)>
     Some(('\\', rest))
 }
 
-/// The text of a field with escapes.
+/// Replaces the escapes in a field.
 pub(crate) fn read_text(alloc: Global, field: &str) -> Result<String, LineFault>
     ensures { Reads string_bytes result (unescaped field.now) }
 {
@@ -70,7 +70,7 @@ pub(crate) fn read_text(alloc: Global, field: &str) -> Result<String, LineFault>
     Ok(text)
 }
 
-/// How a text is compiled.
+/// The options to compile a text with.
 pub(crate) fn read_options(field: &str) -> Result<Options, LineFault>
     ensures { Reads (λ o. o) result (options_of field.now) }
 {
@@ -84,7 +84,7 @@ pub(crate) fn read_options(field: &str) -> Result<Options, LineFault>
     Ok(Options { checked, use_fuzzy })
 }
 
-/// The bytes of hexadecimal digits, of which two in either case stand for each byte.
+/// The bytes that hexadecimal digits spell: two digits a byte, in either case.
 pub(crate) fn read_hex(alloc: Global, field: &str) -> Result<Vec<u8>, LineFault>
     ensures { Reads (λ bytes. bytes.items) result (hex_bytes field.now) }
 {
@@ -95,14 +95,14 @@ pub(crate) fn read_hex(alloc: Global, field: &str) -> Result<Vec<u8>, LineFault>
     }
 }
 
-/// Whether a zero stands in front of other bytes.
+/// Whether the first of several bytes is a zero digit.
 fn leads_with_zero(field: &str) -> bool
     ensures { result ≡ has_leading_zero field.now }
 {
     field.len() > 1 && field.as_bytes()[0] == b'0'
 }
 
-/// The number of one of so many workers, without leading zeros.
+/// The number of one of `workers` workers, from 0, without leading zeros.
 pub(crate) fn read_worker(workers: u32, field: &str) -> Result<u32, LineFault>
     ensures { Reads (λ n. n) result (worker_of workers field.now) }
 {
@@ -116,7 +116,7 @@ pub(crate) fn read_worker(workers: u32, field: &str) -> Result<u32, LineFault>
     Ok(worker as u32)
 }
 
-/// How many workers a script has: 1 to 16.
+/// A number of workers: 1 to 16.
 pub(crate) fn read_worker_count(field: &str) -> Result<u32, LineFault>
     ensures reads { Reads (λ n. n) result (worker_count field.now) }
     ensures bad { IfErr result (λ fault. fault ≡ LineFault.Bad) }

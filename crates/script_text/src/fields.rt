@@ -42,7 +42,7 @@ impl<'a> Fields<'a> {
         Fields { rest: Some(line) }
     }
 
-    /// The next field. `Bad` where there is none.
+    /// The next field. `Bad` if no field is left.
     pub(crate) fn next(&mut self) -> Result<&'a str, LineFault>
         ensures { MatchResult result (λ field. self.old ≡ field.now ∷ self.new)
             (λ fault. (fault ≡ LineFault.Bad) × (self.old ≡ [])) }
@@ -55,7 +55,7 @@ impl<'a> Fields<'a> {
         Ok(field)
     }
 
-    /// Whether no field is left; `Bad` where one is.
+    /// `Bad` if a field is left.
     #[tactic(auto, using(crate::proofs::Cutting::some_field))]
     pub(crate) fn end(&self) -> Result<(), LineFault>
         ensures { MatchResult result (λ _. self.now ≡ []) (λ fault. (fault ≡ LineFault.Bad) × (self.now ≢ [])) }

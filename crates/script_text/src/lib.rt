@@ -1,7 +1,7 @@
-//! What the text of a script says: its workers, and its rounds of loads and questions; or its first bad line.
+//! Parses the text of a script: its number of workers, and its rounds of loads and questions; or its first bad line.
 //!
-//! A script is read whole by `read_script`. `read_workers` and `read_line` read one line by itself, for callers to whom
-//! the lines come one after another.
+//! `read_script` reads a whole script. `read_workers` and `read_line` read a single line, for callers whose lines
+//! arrive one after another.
 #![tactic(auto)]
 
 mod command;
@@ -14,5 +14,6 @@ mod rounds;
 
 pub use command::{Line, read_line, read_workers, says_nothing};
 pub use fault::{LineFault, ScriptFault, ScriptKind};
+pub use field::MOST_WORKERS;
 pub use parse::{DEFAULT_WORKERS, MOST_SCRIPT, read_script};
 pub use rounds::{LoadSource, Question, Round, Script, ScriptLoad};

@@ -1,4 +1,4 @@
-//! Lines of a text.
+//! The lines of a text.
 ghost use Rattle.std.specs.Prelude.{◌≡◌, ◌<◌, [], MatchOption, length};
 ghost use Rattle.line_input.specs.Lines.{lines};
 ghost use Rattle.script_text.specs.Scanning.{IsFirstLine, TakesLines};

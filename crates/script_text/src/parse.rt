@@ -1,4 +1,4 @@
-//! Reading a script whole.
+//! Parsing a whole script.
 ghost use Rattle.std.specs.Prelude.{◌≡◌, ◌<◌, ◌≤◌, ◌+◌, ◌^◌, IfOk, IfErr, Some, Ok, length};
 ghost use Rattle.line_input.specs.Lines.{lines};
 ghost use Rattle.script_text.specs.Script.{load_count, script, saying, IsBad};
@@ -15,13 +15,13 @@ use catalogue::MAX_TEXT;
 use simdutf8::compat::from_utf8;
 use std::alloc::Global;
 
-/// The most bytes that a script may have: as many as a PO text.
+/// The most bytes that a script may have: 64 MiB, the limit on a PO text.
 pub const MOST_SCRIPT: usize = MAX_TEXT;
 
-/// How many workers a script has that doesn't say it.
+/// The number of workers of a script without a line `workers`.
 pub const DEFAULT_WORKERS: u32 = 2;
 
-/// The fault of a line.
+/// The fault for line number `line`.
 fn fault_at(fault: LineFault, line: u32) -> ScriptFault
     ensures { IsLineFault fault line result }
 {
@@ -34,8 +34,8 @@ fn fault_at(fault: LineFault, line: u32) -> ScriptFault
     }
 }
 
-/// Takes in a line, of which `behind` follows and which has this number, with the text of its load.
-/// Answers what follows the text, and the number of the next line.
+/// Takes in a line, which has this number and is followed by `behind`, with the text of its load. Returns what follows
+/// the text, and the number of the next line.
 fn take_in<'a>(
     alloc: Global,
     rounds: &mut Rounds<'a>,
@@ -92,14 +92,14 @@ fn take_in<'a>(
     }
 }
 
-/// The front of a script: how many workers it has. The commands are in the lines from `number` on.
+/// The front of a script: its number of workers. `rest` is the text of its commands, which begin on line `number`.
 struct Front<'a> {
     workers: u32,
     rest: &'a str,
     number: u32,
 }
 
-/// The front of a text. Without a line `workers` there are two.
+/// Reads the front of a script. Without a line `workers` there are `DEFAULT_WORKERS`.
 fn read_front(text: &str) -> Front<'_>
     requires { length text.now ≤ MOST_SCRIPT }
     ensures { HasBegun text.now result.workers result.rest.now result.number }
@@ -131,7 +131,7 @@ fn read_front(text: &str) -> Front<'_>
     }
 }
 
-/// What a text says.
+/// Parses a script.
 fn parse(alloc: Global, text: &str) -> Result<Script<'_>, ScriptFault>
     requires { length text.now ≤ MOST_SCRIPT }
     ensures ok { IfOk result (λ value. script text.now ≡ Ok value) }
@@ -163,7 +163,9 @@ fn parse(alloc: Global, text: &str) -> Result<Script<'_>, ScriptFault>
     })
 }
 
-/// What the text of a script says, which is read whole.
+/// Parses a whole script: UTF-8 of at most `MOST_SCRIPT` bytes.
+///
+/// Err: the text is too large, isn't UTF-8 or has a bad line (the fault names the first one), or memory ran out.
 pub fn read_script(alloc: Global, bytes: &[u8]) -> Result<Script<'_>, ScriptFault>
     ensures ok { IfOk result (λ value. IsScript bytes.now value) }
     ensures few { IfOk result (λ value. load_count value.rounds ≤ MOST_SCRIPT) }

@@ -18,7 +18,7 @@ pub enum LoadSource<'a> {
     Mo { bytes: Vec<u8> },
 }
 
-/// A load for a domain and a locale.
+/// A load of a source for a domain and a locale.
 #[derive(Drop)]
 pub struct ScriptLoad<'a> {
     pub domain: &'a str,
@@ -35,7 +35,7 @@ impl<'a> Model for ScriptLoad<'a> {
     ghost view = { λ l. record { domain = l.domain.now; locale = l.locale.now; source = source_value l.source } };
 }
 
-/// A question, and the number of the worker that is asked.
+/// A question to a worker, which has this number.
 #[derive(Drop)]
 pub struct Question {
     pub worker: u32,
@@ -76,7 +76,7 @@ impl Round<'_> {
     }
 }
 
-/// A script that was read: how many workers it has, and its rounds.
+/// A parsed script: its number of workers, and its rounds.
 #[derive(Drop)]
 pub struct Script<'a> {
     pub workers: u32,
@@ -91,8 +91,8 @@ impl<'a> Model for Script<'a> {
     ghost view = { λ s. record { workers = s.workers; rounds = s.rounds.items } };
 }
 
-/// The rounds that are read so far. Contracts see the rounds that have ended, the one that is current, and
-/// whether something stands in it.
+/// The rounds that are read so far. Contracts see the rounds that have ended, the open one, and whether it has a load
+/// or a question.
 #[derive(Drop)]
 pub(crate) struct Rounds<'a> {
     ended: Vec<Round<'a>>,
@@ -120,7 +120,7 @@ impl<'a> Rounds<'a> {
         }
     }
 
-    /// One more load in the current round.
+    /// Appends a load to the open round.
     pub(crate) fn load(&mut self, load: ScriptLoad<'a>) -> Result<(), AllocError>
         ensures { OnOk result (self.new ≡ gathered self.old (Load load.entry)) }
     {
@@ -129,7 +129,7 @@ impl<'a> Rounds<'a> {
         Ok(())
     }
 
-    /// One more question in the current round.
+    /// Appends a question to the open round.
     pub(crate) fn ask(&mut self, worker: u32, query: Query) -> Result<(), AllocError>
         ensures { OnOk result (self.new ≡ gathered self.old (Ask worker query)) }
     {
@@ -138,7 +138,7 @@ impl<'a> Rounds<'a> {
         Ok(())
     }
 
-    /// The current round ends, and a new one is current.
+    /// Ends the open round, and opens the next one.
     pub(crate) fn go(&mut self, alloc: Global) -> Result<(), AllocError>
         ensures { OnOk result (self.new ≡ gathered self.old Go) }
     {
@@ -148,7 +148,7 @@ impl<'a> Rounds<'a> {
         Ok(())
     }
 
-    /// All rounds: the current one too, if something stands in it.
+    /// All rounds, with the open one if it has a load or a question.
     pub(crate) fn all(self) -> Result<Vec<Round<'a>>, AllocError>
         ensures { IfOk result (λ rounds. rounds.items ≡ all_rounds self.entry) }
     {

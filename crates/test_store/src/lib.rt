@@ -4,20 +4,12 @@
 #![tactic(auto)]
 
 #[cfg(test)]
-mod made;
-#[cfg(test)]
 mod page;
 #[cfg(test)]
 mod pending;
-#[cfg(test)]
-mod random;
-#[cfg(test)]
-mod rounds;
 #[cfg(test)]
 mod serving;
 #[cfg(test)]
 mod sizes;
 #[cfg(test)]
 mod tests;
-#[cfg(test)]
-mod worked;

@@ -6,7 +6,8 @@ use Rattle.catserve.specs.Run.{InputSeen, input_seen}
 use Rattle.script_text.specs.Commands.{line_of}
 use Rattle.catserve.specs.declared.said.SaidFault.TheVariants as said_fault
 use Rattle.catserve.specs.Hearing.{HearingValue, said_value}
-use Rattle.catserve.proofs.SessionHears.{Unsaid, hears_none, none_of, none_then}
+use Rattle.catserve.proofs.LinesTaken.{no_line}
+use Rattle.catserve.proofs.SessionHears.{Unsaid, hears_none, none_then}
 use Rattle.catserve.proofs.SessionInTime.{end_heard, in_time_then}
 use Rattle.catserve.proofs.SessionWaits.{open_line}
 use Rattle.catserve.proofs.hearing.Hearing.hear.Goals as goal
@@ -18,8 +19,7 @@ returns-in-Err-clause-heard g c =
     let a : Log = g.R.Device.log c.args.reader.now in
     let b : Log = g.R.Device.log c.next_end.new.reader in
     let waits = c.in-Err.ensures.waits in (
-      none_of i j c.args.workers c.args.self.now c.next_end.new.self c.in-Err.fault.kind c.in-Err.fault.line
-          c.in-Err.ensures.fault,
+      no_line _ i j c.args.self.now c.next_end.new.self c.in-Err.fault.kind c.in-Err.fault.line c.in-Err.ensures.fault,
       open_line c.args.workers a b c.args.self.now.input c.next_end.new.self.input waits.0 waits.1,
     )
 

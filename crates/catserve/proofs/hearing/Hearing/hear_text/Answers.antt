@@ -6,8 +6,9 @@ use Rattle.line_input.specs.Waiting.{ReadsWhile, StillCounts}
 use Rattle.line_input.proofs.Arriving.{both}
 use Rattle.catserve.specs.Run.{InputSeen, input_seen}
 use Rattle.catserve.specs.declared.session_fault.SessionFault.{SessionFault}
+use Rattle.script_text.specs.Texts.{most_script}
 use Rattle.catserve.specs.Hearing.{HearingValue, HearsNoText, HearsText}
-use Rattle.catserve.proofs.LinesTaken.{nothing_heard, no_text_heard, stays_whole, text_ends_within, text_within}
+use Rattle.catserve.proofs.LinesTaken.{nothing_heard, no_line, stays_whole, text_ends_within, text_within}
 use Rattle.catserve.proofs.LinesTaken.{text_taken, text_undecodable}
 use Rattle.catserve.specs.Timing.{ReadsText}
 use Rattle.catserve.proofs.SessionInTime.{text_reads}
@@ -24,8 +25,8 @@ returns-in-Err-clause-fault g c =
     { input = c.lines_end.new.self; number = c.self.inside.number; size = c.self.inside.size } in
     let P : HearingValue → Type 0 = λ x.
     HearsNoText i j x after c.args.end c.args.count c.fault_of.result.kind c.fault_of.result.line in
-    subst P c.self.view_is (no_text_heard i j here after c.args.end c.args.count c.fault_of.result.kind
-    c.fault_of.result.line (nothing_heard i j here after c.in-Err.fault c.fault_of.result c.in-Err.ensures.comes
+    subst P c.self.view_is (no_line _ i j here after c.fault_of.result.kind c.fault_of.result.line
+    (nothing_heard i j here after c.in-Err.fault c.fault_of.result c.in-Err.ensures.comes
     (record { later = c.in-Err.ensures.later; reads = c.in-Err.ensures.reads }) refl refl
     (λ long. omega (arith, (c.in-Err.ensures.long long).over, c.self.invariant)) c.in-Err.ensures.cause
     c.fault_of.ensures))
@@ -60,7 +61,7 @@ pub take-requires-clause-size : goal.take-requires-clause-size
 take-requires-clause-size g c =
     let ends = rw c.in-Some.is at c.in-Ok.ensures.lines in
     let within = rw c.in-Some.is at c.in-Ok.ensures.within in
-    let most : ℕ = 67108864 - c.self.inside.size in
+    let most : ℕ = most_script - c.self.inside.size in
     let known = ap (λ (x : HearingValue). x.size) c.self.view_is in
     let placed = text_ends_within c.lines_end.new.self c.args.end c.args.count c.in-Some.text_end most ends
     (omega (arith, known, c.requires.size)) within in
@@ -70,7 +71,7 @@ pub take-requires-clause-number : goal.take-requires-clause-number
 take-requires-clause-number g c =
     let ends = rw c.in-Some.is at c.in-Ok.ensures.lines in
     let within = rw c.in-Some.is at c.in-Ok.ensures.within in
-    let most : ℕ = 67108864 - c.self.inside.size in
+    let most : ℕ = most_script - c.self.inside.size in
     let known = ap (λ (x : HearingValue). x.size) c.self.view_is in
     let placed = text_ends_within c.lines_end.new.self c.args.end c.args.count c.in-Some.text_end most ends
     (omega (arith, known, c.requires.size)) within in

@@ -1,4 +1,4 @@
-use Rattle.std.proofs.Common.{◌∷◌, [], List, ℕ, arith, false, refl, subst}
+use Rattle.std.proofs.Common.{◌∷◌, [], List, ℕ, arith, false, refl, sym, subst}
 use Rattle.std.specs.Io.KnownBytes.{Appends}
 use Rattle.devices.specs.Devices.{AppendsFront}
 use Rattle.devices.specs.Logs.{Gave, Grows, Log}
@@ -32,20 +32,21 @@ returns-in-Ok-clause-ok g c =
     let new : TalkValue = record {
       store = c.finish.new.publisher;
       desks = c.finish.new.desks.items;
-      held = c.clear.new.self.items;
+      held = [];
       begun = false;
     } in
     let P : TalkValue → Type 0 = λ x. GivesRound x new o p a b in
-    subst P c.self.view_is (
+    let Q : TalkValue → Type 0 = λ y. GivesRound c.args.self.now y o p a b in
+    subst Q (sym c.next_round.ensures) (subst P c.self.view_is (
       record {
         lines = c.finish.new.output.items;
         finishes = c.in_ok-finish.ensures.ok;
         ready = c.in_ok-finish.ensures.ready;
         count = omega (arith, c.in_ok-finish.ensures.count, c.finish.new.desks.ok, c.self.inside.desks.ok);
-        held = c.clear.ensures.items;
+        held = refl;
         begun = refl;
         written = subst Written c.as_slice.ensures.value c.in-Ok.ensures.bytes;
         steady = c.in-Ok.ensures.steady;
       },
       subst Logged c.as_slice.ensures.value c.in-Ok.ensures.logged,
-    )
+    ))

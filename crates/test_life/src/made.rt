@@ -32,7 +32,7 @@ impl Gate for Open {
     fn pass(&self, _place: Place, _index: u64) {}
 }
 
-/// The counts of a text with so many translated entries and no other.
+/// The counts of a text with this number of translated entries and no other.
 pub(crate) fn translated(entries: u32) -> Accepted {
     Accepted::Po(Stats {
         translated: entries,
@@ -151,7 +151,7 @@ pub(crate) fn push_requests(
     Ok(())
 }
 
-/// The life of a store with these commands and lists of requests, of which there are 1 to 16.
+/// The life of a store with these commands and lists of requests (1 to 16 lists).
 pub(crate) fn live<R: Threads + Wait + Sync>(
     rt: &R,
     alloc: Global,
