@@ -1,0 +1,37 @@
+-- The set and the version after one more batch.
+use Rattle.std.proofs.Common.{◌≡◌, ◌≢◌, ℕ, ◌+◌, ◌∷◌, ◌++◌, [], List, length, fold, sym, refl, ap, ◌∙◌}
+use Rattle.std.proofs.lemmas.List.{append-nil}
+use Rattle.live_set.specs.Loads.{LoadValue}
+use Rattle.live_set.specs.Sets.{SetValue, absorbed}
+use Rattle.live_set.specs.Sets.{fold as fold_of}
+use Rattle.live_set.proofs.Folding.{map_in-fold}
+use Rattle.live_versions.specs.Batches.{joined, version_of, published}
+use Rattle.live_versions.proofs.Joining.{joined-append, fold-append_of, version-published}
+use Rattle.snapshot_store.specs.Holding.{IsSetOf}
+
+-- the loads of one more batch
+pub joined_add : (v : List (List LoadValue)) (batch : List LoadValue) → joined (v ++ batch ∷ []) ≡ joined v ++ batch
+joined_add v batch = joined-append v (batch ∷ []) ∙ ap (λ l. joined v ++ l) (append-nil batch)
+
+-- the set after one more batch
+pub set_add : (v : List (List LoadValue)) (batch : List LoadValue) → fold absorbed (fold_of (joined v)) batch
+    ≡ fold_of (joined (v ++ batch ∷ []))
+set_add v batch = sym (fold-append_of (joined v) batch) ∙ ap fold_of (sym (joined_add v batch))
+
+-- the set of a version has the maps of its loads
+pub set_of : (batches : List (List LoadValue)) (set : SetValue) → set ≡ fold_of (joined batches) → IsSetOf batches set
+set_of batches set is = record {
+  is = is;
+  maps = λ domain locale. rw is (map_in-fold (joined batches) domain locale);
+}
+
+-- pending loads become one new last batch, if there are any
+pub published_some : (v : List (List LoadValue)) (loads : List LoadValue) → loads ≢ [] → published v loads
+    ≡ v ++ loads ∷ []
+published_some v [] some = absurd (some refl)
+published_some v (x ∷ xs) some = refl
+
+-- the version after a publish
+pub version_published : (v : List (List LoadValue)) (loads : List LoadValue) → version_of (published v loads)
+    ≡ version_of v + length loads
+version_published = version-published

@@ -1,0 +1,4 @@
+pub mod Ordering
+pub mod Events
+pub mod Adding
+pub mod Growing

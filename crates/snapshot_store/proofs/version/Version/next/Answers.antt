@@ -1,0 +1,12 @@
+use Rattle.std.proofs.Common.{ap, arith}
+use Rattle.live_versions.specs.Batches.{version_of}
+use Rattle.live_versions.proofs.Joining.{version-add}
+use Rattle.snapshot_store.proofs.version.Version.next.Goals as goal
+
+pub invariant_of-result : goal.invariant_of-result
+invariant_of-result c =
+    let grown = ap (λ s. s.batches) c.in_ok-seen.ensures in
+    let more = version-add c.self.inside.seen.batches c.args.batch.now.items in (
+      omega (arith, ap version_of grown, more, c.self.invariant.0, c.len.ensures),
+      cc (c.requires.set, grown, c.self.view_is),
+    )

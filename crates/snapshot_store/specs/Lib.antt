@@ -1,0 +1,2 @@
+pub mod SlotBook
+pub mod Holding

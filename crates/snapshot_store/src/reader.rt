@@ -1,0 +1,107 @@
+//! Readers.
+ghost use Rattle.std.specs.Prelude.{◌≡◌, ◌≤◌, ◌/◌, length, IsTrue};
+ghost use Rattle.std.specs.Arc.{arc_value};
+ghost use Rattle.live_versions.specs.Batches.{StartsWith, version_of};
+ghost use Rattle.snapshot_store.specs.Holding.{IsSetOf};
+
+use crate::book::{Known, shown_after, tie};
+use crate::notice::Notice;
+use crate::shared::{SLOTS, Shared};
+use crate::version::Version;
+use live_set::CatalogueSet;
+use std::marker::Model;
+use std::sync::Arc;
+
+/// A reader of a store, in the version that it entered last. None of its methods waits or allocates, and a reader frees
+/// nothing while the store has its publisher. Contracts see it as the batches of that version.
+#[derive(Drop)]
+pub struct Reader {
+    shared: Arc<Shared>,
+    version: Arc<Version>,
+    known: Known,
+}
+
+impl Model for Reader {
+    ghost use Rattle.std.specs.Prelude.{◌≡◌};
+    ghost use Rattle.std.specs.Arc.{arc_value};
+    ghost use Rattle.live_versions.specs.Seen.{SeenValue};
+
+    ghost Value = { SeenValue };
+
+    ghost view = { λ r. arc_value r.version };
+
+    ghost invariant = { λ r. ((arc_value r.shared).head.word.book ≡ (arc_value r.version).book)
+        × (r.known.book ≡ (arc_value r.version).book) };
+}
+
+impl Reader {
+    pub(crate) fn new(shared: Arc<Shared>, version: Arc<Version>, known: Known) -> Reader
+        requires { ((arc_value shared).head.word.book ≡ (arc_value version).book)
+            × (known.book ≡ (arc_value version).book) }
+        ensures { result ≡ arc_value version }
+    {
+        Reader {
+            shared,
+            version,
+            known,
+        }
+    }
+
+    /// Enters the newest version. It is never older than the one that was entered before. If nothing new is published,
+    /// this costs one load.
+    pub fn enter(&mut self)
+        ensures later { StartsWith self.new.batches self.old.batches }
+        ensures book { self.new.book ≡ self.old.book }
+    {
+        let known = self.known.again();
+        self.enter_after_known(&known);
+    }
+
+    /// Like `enter`; the version isn't older than the notice's either, whichever thread made the notice. The notice
+    /// must be of this reader's store. Returns false, and stays in its version, only after 2^64 failed attempts.
+    pub fn enter_after(&mut self, notice: &Notice) -> bool
+        requires { notice.now.book ≡ self.old.book }
+        ensures sees { IsTrue result → StartsWith self.new.batches notice.now.batches }
+        ensures later { StartsWith self.new.batches self.old.batches }
+        ensures book { self.new.book ≡ self.old.book }
+    {
+        self.enter_after_known(notice.known())
+    }
+
+    fn enter_after_known(&mut self, known: &Known) -> bool
+        requires { known.now.book ≡ self.old.book }
+        ensures sees { IsTrue result → StartsWith self.new.batches known.now.batches }
+        ensures later { StartsWith self.new.batches self.old.batches }
+        ensures book { self.new.book ≡ self.old.book }
+    {
+        let word = shown_after(&self.shared.shown, known);
+        if word / SLOTS == self.version.number() {
+            tie(self.version.seen(), known);
+            return true;
+        }
+        let Some(version) = self.shared.newest(known) else {
+            return false;
+        };
+        // It is never older than what was entered, though no contract says so.
+        if !self.version.begins(&version) {
+            return false;
+        }
+        tie(version.seen(), known);
+        self.version = version;
+        true
+    }
+
+    /// The number of loads that are published in the version that was entered last.
+    pub fn version(&self) -> u64
+        ensures { result ≡ version_of self.now.batches }
+    {
+        self.version.version()
+    }
+
+    /// The set of the version that was entered last. It is lent until the next entry.
+    pub fn set(&self) -> &CatalogueSet
+        ensures { IsSetOf self.now.batches result.now }
+    {
+        self.version.set()
+    }
+}

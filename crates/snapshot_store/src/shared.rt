@@ -1,0 +1,190 @@
+//! What the publisher and the readers share: some slots, and the number of the version that is shown.
+//!
+//! A slot has the `Arc` of a version, and counts who is just copying it. The publisher changes only a slot in which no
+//! one is, and never the one of the version that is shown.
+ghost use Rattle.std.specs.Prelude.{◌≡◌, ◌<◌, ◌≤◌, length, ◌*◌, ◌/◌, ◌%◌, ◌^◌, ◌+◌, All, IfSome, IfOk};
+ghost use Rattle.std.specs.Arc.{arc_value};
+ghost use Rattle.counted_slot.specs.Counting.{readers};
+
+use crate::book::{Head, Known, Seen, Shown, shown_after};
+use crate::version::Version;
+use counted_slot::{Claim, Counted, FREE, Fits, MOST_READERS, ONE_READER, PRESENT, TAKEN};
+use std::alloc::{AllocError, Global};
+use std::sync::Arc;
+
+/// With fewer readers than slots but one, a slot is always free for the publisher.
+pub(crate) const SLOTS: u64 = 64;
+
+/// The greatest number of a version.
+pub(crate) const LAST: u64 = 0x3ff_ffff_ffff_ffff;
+
+/// A version in a slot.
+#[derive(Drop)]
+pub(crate) struct Held {
+    pub(crate) version: Arc<Version>,
+}
+
+/// A slot has versions of one book alone.
+impl Fits for Held {
+    type Tag = Seen;
+
+    ghost fits = { λ tag held. (arc_value held.version).book ≡ tag.book };
+}
+
+pub(crate) type Slot = Counted<Option<Held>>;
+
+#[derive(Drop)]
+pub(crate) struct Shared {
+    pub(crate) head: Head,
+    pub(crate) shown: Shown,
+    slots: Vec<Slot>,
+    pub ghost shown_book: { shown.word.book ≡ head.word.book },
+    pub ghost one_book: { All (λ tag. tag.book ≡ head.word.book) slots.items },
+}
+
+fn readers_of(word: u64) -> u64
+    ensures { result ≡ readers word }
+{
+    word % 0x1_0000_0000 / 4
+}
+
+/// Slots with nothing in them, for versions of this book.
+fn new_slots(alloc: Global, seen: &Seen) -> Result<Vec<Slot>, AllocError>
+    ensures { IfOk result (λ slots. All (λ tag. tag.book ≡ seen.now.book) slots.items) }
+{
+    let mut slots = Vec::new(alloc);
+    for _ in 0..SLOTS {
+        slots.push(Counted::new(None, seen))?;
+    }
+    Ok(slots)
+}
+
+impl Shared {
+    /// Slots of which the first one has this version, which is shown, and the others nothing.
+    pub(crate) fn new(
+        alloc: Global,
+        head: Head,
+        shown: Shown,
+        seen: &Seen,
+        first: &Arc<Version>,
+    ) -> Result<Shared, AllocError>
+        requires seen { (head.word.book ≡ seen.now.book) × (shown.word.book ≡ seen.now.book) }
+        requires first { (arc_value first.now).book ≡ head.word.book }
+        ensures { IfOk result (λ shared. shared.head ≡ head) }
+    {
+        let slots = new_slots(alloc, seen)?;
+        let shared = Shared { head, shown, slots };
+        let version = Arc::try_clone(first)?;
+        let Some(claim) = shared.room(0) else {
+            return Err(AllocError);
+        };
+        drop(claim.put(Some(Held { version }), PRESENT));
+        Ok(shared)
+    }
+
+    fn slot(&self, at: u64) -> Option<&Slot>
+        ensures { IfSome result (λ slot. slot.now.book ≡ self.now.head.word.book) }
+    {
+        self.slots.get((at % SLOTS) as usize)
+    }
+
+    /// The right to write a slot, where no one is copying what is in it.
+    fn room(&self, at: u64) -> Option<Claim<'_, Option<Held>>>
+        ensures { IfSome result (λ claim. (claim.right ≡ 2) × (claim.tag.book ≡ self.now.head.word.book)) }
+    {
+        let slot = self.slot(at)?;
+        let seen = slot.load();
+        if seen % 4 == TAKEN || readers_of(seen) != 0 {
+            return None;
+        }
+        let (found, claim) = slot.turn(seen, TAKEN);
+        if found != seen {
+            claim.done();
+            return None;
+        }
+        Some(claim)
+    }
+
+    /// The right to write any slot but this one.
+    pub(crate) fn any_room(&self, but: u64) -> Option<(u64, Claim<'_, Option<Held>>)>
+        ensures { IfSome result (λ r. (r.0 < 64) × (r.1.right ≡ 2) × (r.1.tag.book ≡ self.now.head.word.book)) }
+    {
+        for at in 0..SLOTS {
+            if at != but {
+                if let Some(claim) = self.room(at) {
+                    return Some((at, claim));
+                }
+            }
+        }
+        None
+    }
+
+    /// A copy of what is in a slot, if something is.
+    fn copy(&self, at: u64) -> Option<Arc<Version>>
+        ensures { IfSome result (λ version. (arc_value version).book ≡ self.now.head.word.book) }
+    {
+        let slot = self.slot(at)?;
+        for _ in 0..u64::MAX {
+            let seen = slot.load();
+            if seen % 4 != PRESENT || readers_of(seen) == MOST_READERS {
+                return None;
+            }
+            let (found, claim) = slot.turn(seen, seen + ONE_READER);
+            if found == seen {
+                return copied(claim);
+            }
+            claim.done();
+        }
+        None
+    }
+
+    /// The version that is shown, which is not behind what is known. It gives up only where it failed very often.
+    pub(crate) fn newest(&self, known: &Known) -> Option<Arc<Version>>
+        requires { known.now.book ≡ self.now.head.word.book }
+        ensures { IfSome result (λ version. ((arc_value version).book ≡ self.now.head.word.book)
+            × (length known.now.batches ≤ length (arc_value version).batches)) }
+    {
+        for _ in 0..u64::MAX {
+            let word = shown_after(&self.shown, known);
+            if let Some(version) = self.copy(word) {
+                // The slot may have a later version already, which is not shown yet.
+                if version.number() == word / SLOTS {
+                    return Some(version);
+                }
+            }
+        }
+        None
+    }
+
+    /// Empties each slot but this one, where no one is copying what is in it. One in which someone was when its version
+    /// was replaced is emptied by a later publish.
+    pub(crate) fn empty_others(&self, but: u64) {
+        for at in 0..SLOTS {
+            if at != but {
+                self.empty(at);
+            }
+        }
+    }
+
+    fn empty(&self, at: u64) {
+        let Some(slot) = self.slot(at) else { return };
+        if slot.load() % 4 == PRESENT {
+            if let Some(claim) = self.room(at) {
+                drop(claim.put(None, FREE));
+            }
+        }
+    }
+}
+
+/// A copy of what the claim lets its holder read.
+fn copied(claim: Claim<'_, Option<Held>>) -> Option<Arc<Version>>
+    requires { claim.right ≡ 1 }
+    ensures { IfSome result (λ version. (arc_value version).book ≡ claim.entry.tag.book) }
+{
+    let copy = match claim.get() {
+        Some(held) => Arc::try_clone(&held.version).ok(),
+        None => None,
+    };
+    claim.leave();
+    copy
+}

@@ -1,0 +1,124 @@
+//! Versions: the set of catalogues after some batches.
+ghost use Rattle.std.specs.Prelude.{◌≡◌, ◌+◌, ◌<◌, ◌^◌, ◌++◌, ◌∷◌, [], length, fold, MatchBool, IfOk, IfSome};
+ghost use Rattle.live_set.specs.Sets.{absorbed, fold as fold_of};
+ghost use Rattle.live_versions.specs.Batches.{StartsWith, joined, version_of};
+ghost use Rattle.snapshot_store.specs.Holding.{IsSetOf};
+
+use crate::book::{Head, Seen, add_batch};
+use live_set::{CatalogueSet, Load};
+use std::alloc::{AllocError, Global};
+use std::marker::Model;
+
+/// A version that was made. Contracts see it as the batches up to and with its own.
+#[derive(Drop)]
+pub(crate) struct Version {
+    seen: Seen,
+    /// The number of loads.
+    version: u64,
+    set: CatalogueSet,
+}
+
+impl Model for Version {
+    ghost use Rattle.std.specs.Prelude.{◌≡◌};
+    ghost use Rattle.live_set.specs.Sets.{fold};
+    ghost use Rattle.live_versions.specs.Batches.{joined, version_of};
+    ghost use Rattle.live_versions.specs.Seen.{SeenValue};
+
+    ghost Value = { SeenValue };
+
+    ghost view = { λ v. v.seen };
+
+    ghost invariant = { λ v. (v.version ≡ version_of v.seen.batches) × (v.set ≡ fold (joined v.seen.batches)) };
+}
+
+/// The set with the loads of one more batch. It shares all catalogues with `set`.
+fn grown(alloc: Global, set: &CatalogueSet, batch: &Vec<Load>) -> Result<CatalogueSet, AllocError>
+    ensures { IfOk result (λ grown. grown ≡ fold absorbed set.now batch.now.items) }
+{
+    let mut grown = set.try_clone(alloc)?;
+    'loads: for load in batch {
+        grown.absorb(load)?;
+    }
+    Ok(grown)
+}
+
+impl Version {
+    /// The version of no batches.
+    pub(crate) fn first(alloc: Global, seen: &Seen) -> Version
+        requires { seen.now.batches ≡ [] }
+        ensures { result ≡ seen.now }
+    {
+        Version {
+            seen: seen.again(),
+            version: 0,
+            set: CatalogueSet::new(alloc),
+        }
+    }
+
+    /// The number of batches.
+    pub(crate) fn number(&self) -> u64
+        ensures { result ≡ length self.now.batches }
+    {
+        self.seen.number()
+    }
+
+    /// The number of loads.
+    pub(crate) fn version(&self) -> u64
+        ensures { result ≡ version_of self.now.batches }
+    {
+        self.version
+    }
+
+    pub(crate) fn seen(&self) -> &Seen
+        ensures { result.now ≡ self.now }
+    {
+        &self.seen
+    }
+
+    #[tactic(auto, using(crate::proofs::Growing::set_of))]
+    pub(crate) fn set(&self) -> &CatalogueSet
+        ensures { IsSetOf self.now.batches result.now }
+    {
+        &self.set
+    }
+
+    /// Whether `self` is a beginning of `other`; if not, `other` is a shorter beginning of `self`.
+    pub(crate) fn begins(&self, other: &Version) -> bool
+        requires { other.now.book ≡ self.now.book }
+        ensures { MatchBool result (StartsWith other.now.batches self.now.batches)
+            (StartsWith self.now.batches other.now.batches
+            × (length other.now.batches < length self.now.batches)) }
+    {
+        self.seen.begins(&other.seen)
+    }
+
+    /// The set of the next version. It shares all catalogues with this one's.
+    #[tactic(auto, using(crate::proofs::Growing::set_add))]
+    pub(crate) fn next_set(
+        &self,
+        alloc: Global,
+        batch: &Vec<Load>,
+    ) -> Result<CatalogueSet, AllocError>
+        ensures { IfOk result (λ set. set ≡ fold_of (joined (self.now.batches ++ batch.now.items ∷ []))) }
+    {
+        let set = grown(alloc, &self.set, batch)?;
+        Ok(set)
+    }
+
+    /// The next version, which has the batch and this set. Returns `None` if the book has moved on.
+    pub(crate) fn next(&self, head: &Head, batch: &Vec<Load>, set: CatalogueSet) -> Option<Version>
+        requires book { head.now.word.book ≡ self.now.book }
+        requires room { length self.now.batches + 1 < 2 ^ 58 }
+        requires loads { version_of self.now.batches + length batch.now.items < 2 ^ 64 }
+        requires set { set ≡ fold_of (joined (self.now.batches ++ batch.now.items ∷ [])) }
+        ensures { IfSome result (λ v. v
+            ≡ record { book = self.now.book; batches = self.now.batches ++ batch.now.items ∷ [] }) }
+    {
+        let seen = add_batch(head, &self.seen, batch)?;
+        Some(Version {
+            seen,
+            version: self.version + batch.len() as u64,
+            set,
+        })
+    }
+}
