@@ -34,7 +34,7 @@ impl Order {
     }
 }
 
-/// A text of so many directives in this order.
+/// A text of `count` directives in this order.
 fn format_of(alloc: Global, order: Order, count: u32) -> Result<String, AllocError> {
     let mut text = String::new(alloc);
     for place in 0..count {

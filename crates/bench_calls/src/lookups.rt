@@ -21,7 +21,7 @@ fn look_all(catalogue: &Catalogue, ids: &[&str], from: u64) -> u64 {
     sum
 }
 
-/// Looks up all msgids so many times, after a first time that isn't timed.
+/// Looks up all msgids several times, after a first time that isn't timed.
 fn time_all<R: Print + Eprint + Clock>(
     rt: &R,
     catalogue: &Catalogue,

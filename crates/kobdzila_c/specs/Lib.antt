@@ -2,4 +2,5 @@ pub mod Opening
 pub mod Answering
 pub mod Listing
 pub mod Making
+pub mod Storing
 pub mod Shared

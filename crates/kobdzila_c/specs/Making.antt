@@ -41,27 +41,35 @@ abbrev pub AreNames : List ℕ → List ℕ → Type 0
 AreNames domain locale = IsName domain × IsName locale
 
 -- the set with one more map, or out of memory, if both are names; otherwise the fault of a name
-abbrev pub IsMore : MadeSet → List ℕ → List ℕ → List Entry → MadeSet → Type 0
+abbrev pub IsMore : SetValue → List ℕ → List ℕ → List Entry → MadeSet → Type 0
 IsMore old domain locale map new =
     (AreNames domain locale
-    × (IsMade (HasAbsorbed (load_of domain locale map) old.set) new ⊎ IsWithout (name_number Memory) new))
+    × (IsMade (HasAbsorbed (load_of domain locale map) old) new ⊎ IsWithout (name_number Memory) new))
     ⊎ (¬ AreNames domain locale × IsWithout (name_number BadName) new)
 
 -- like IsMore, with the map of what was opened; if that was refused, no set, for the same reason
-abbrev pub IsWith : MadeSet → List ℕ → List ℕ → Opened → MadeSet → Type 0
-IsWith old domain locale opened new = MatchOption opened.catalogue (IsWithout opened.fault new)
+abbrev pub IsWithSet : SetValue → List ℕ → List ℕ → Opened → MadeSet → Type 0
+IsWithSet old domain locale opened new = MatchOption opened.catalogue (IsWithout opened.fault new)
     (λ shared. IsMore old domain locale (arc_value shared) new)
+
+-- what is made of a set that C holds
+abbrev pub IsWith : MadeSet → List ℕ → List ℕ → Opened → MadeSet → Type 0
+IsWith old = IsWithSet old.set
 
 -- 0 is the fault, 1 the number of maps that were added to the set
 abbrev pub set_number : MadeSet → ℕ → ℕ
 set_number s which = if which == 0 then s.fault else (if which == 1 then s.set.version else 0)
 
 -- the map that answers a question in a text domain and a list of languages
-abbrev pub answering : MadeSet → List ℕ → List ℕ → Question → List Entry
-answering s domain languages q = map_with (map_in s.set.held) domain languages (key_of q)
+abbrev pub answering : SetValue → List ℕ → List ℕ → Question → List Entry
+answering set domain languages q = map_with (map_in set.held) domain languages (key_of q)
 
 -- the answer to a question there; no bytes if the domain or the list isn't UTF-8
-pub record IsSetAnswer (s : MadeSet) (domain languages : List ℕ) (q : Question) (text : List ℕ) : Type 0 where
-  pub asked : IsUtf8 domain → IsUtf8 languages → IsClosedAnswer (answering s domain languages q) q text
+pub record IsAnswerIn (set : SetValue) (domain languages : List ℕ) (q : Question) (text : List ℕ) : Type 0 where
+  pub asked : IsUtf8 domain → IsUtf8 languages → IsClosedAnswer (answering set domain languages q) q text
   pub no_domain : ¬ IsUtf8 domain → text ≡ []
   pub no_languages : ¬ IsUtf8 languages → text ≡ []
+
+-- the answer to a question to a set that C holds
+abbrev pub IsSetAnswer : MadeSet → List ℕ → List ℕ → Question → List ℕ → Type 0
+IsSetAnswer s = IsAnswerIn s.set

@@ -14,10 +14,17 @@ use Rattle.kobdzila_c.specs.declared.opened.Opened.{Opened}
 use Rattle.kobdzila_c.specs.contracts.opened.Opened.{the_row}
 use Rattle.kobdzila_c.specs.declared.sets.MadeSet.{MadeSet}
 use Rattle.kobdzila_c.specs.contracts.sets.MadeSet.{the_row as set_row}
+use Rattle.kobdzila_c.specs.declared.stores.HeldStore.{HeldStore}
+use Rattle.kobdzila_c.specs.contracts.stores.HeldStore.{the_row as store_row}
+use Rattle.kobdzila_c.specs.declared.stores.HeldReader.{HeldReader}
+use Rattle.kobdzila_c.specs.contracts.stores.HeldReader.{the_row as reader_row}
+use Rattle.kobdzila_c.specs.declared.stores.HeldNotice.{HeldNotice}
+use Rattle.kobdzila_c.specs.contracts.stores.HeldNotice.{the_row as notice_row}
 use Rattle.kobdzila_c.specs.Answering.{IsClosedAnswer, Question, map_of}
 use Rattle.kobdzila_c.specs.Listing.{text}
 use Rattle.kobdzila_c.specs.Making.{IsSetAnswer}
 use Rattle.kobdzila_c.specs.Opening.{IsOpenedMo, IsOpenedPo}
+use Rattle.kobdzila_c.specs.Storing.{IsReaderAnswer}
 
 -- what was opened is at p, and its holder alone may use it
 abbrev pub holds : Ptr → Opened → Fml
@@ -67,3 +74,46 @@ reads_set κ q p s = fsep (lent_at set_row p s κ) (flft κ q)
 abbrev pub set_answered : Lft → Ptr → MadeSet → List ℕ → List ℕ → Question → Fml
 set_answered κ out s domain languages q = fex (Bor (List ℕ)) (λ r. fex (IsSetAnswer s domain languages q r.now)
     (λ _. lies_at (Text κ) full_share out r))
+
+-- ---- live stores, readers and notices
+
+-- a store is at p, and its holder alone may use it
+abbrev pub holds_store : Ptr → HeldStore → Fml
+holds_store p s = lies_at store_row full_share p s
+
+-- at p is a store with this property
+abbrev pub store_at : Ptr → (HeldStore → Type 0) → Fml
+store_at p Is = fex HeldStore (λ s. fex (Is s) (λ _. holds_store p s))
+
+-- the right to use a shared store: it is shared at p for the lifetime κ, and a share q of κ's token shows that κ lasts
+abbrev pub reads_store : Lft → Share → Ptr → HeldStore → Fml
+reads_store κ q p s = fsep (lent_at store_row p s κ) (flft κ q)
+
+-- a reader is at p, and its holder alone may use it
+abbrev pub holds_reader : Ptr → HeldReader → Fml
+holds_reader p r = lies_at reader_row full_share p r
+
+-- at p is a reader with this property
+abbrev pub reader_at : Ptr → (HeldReader → Type 0) → Fml
+reader_at p Is = fex HeldReader (λ r. fex (Is r) (λ _. holds_reader p r))
+
+-- the right to use a shared reader: it is shared at p for the lifetime κ, and a share q of κ's token shows that κ lasts
+abbrev pub reads_reader : Lft → Share → Ptr → HeldReader → Fml
+reads_reader κ q p r = fsep (lent_at reader_row p r κ) (flft κ q)
+
+-- a notice is at p, and its holder alone may use it
+abbrev pub holds_notice : Ptr → HeldNotice → Fml
+holds_notice p n = lies_at notice_row full_share p n
+
+-- at p is a notice with this property
+abbrev pub notice_at : Ptr → (HeldNotice → Type 0) → Fml
+notice_at p Is = fex HeldNotice (λ n. fex (Is n) (λ _. holds_notice p n))
+
+-- the right to use a shared notice: it is shared at p for the lifetime κ, and a share q of κ's token shows that κ lasts
+abbrev pub reads_notice : Lft → Share → Ptr → HeldNotice → Fml
+reads_notice κ q p n = fsep (lent_at notice_row p n κ) (flft κ q)
+
+-- at out is the answer to a question in the version that the reader entered last, shared for as long as κ
+abbrev pub reader_answered : Lft → Ptr → HeldReader → List ℕ → List ℕ → Question → Fml
+reader_answered κ out r domain languages q = fex (Bor (List ℕ)) (λ t. fex (IsReaderAnswer r domain languages q t.now)
+    (λ _. lies_at (Text κ) full_share out t))

@@ -21,14 +21,26 @@ ghost use Rattle.kobdzila_c.specs.Making.{IsEmpty, IsWith, set_number};
 ghost use Rattle.kobdzila_c.specs.Opening.{options_of};
 ghost use Rattle.kobdzila_c.specs.Shared.{Text, answered, holds, listed, mo_opened_at, po_opened_at, reads};
 ghost use Rattle.kobdzila_c.specs.Shared.{holds_set, made_at, reads_set, set_answered};
+ghost use Rattle.kobdzila_c.specs.contracts.stores.HeldStore.{the_row as store_row};
+ghost use Rattle.kobdzila_c.specs.declared.stores.HeldStore.{HeldStore as AStore};
+ghost use Rattle.kobdzila_c.specs.contracts.stores.HeldReader.{the_row as reader_row};
+ghost use Rattle.kobdzila_c.specs.declared.stores.HeldReader.{HeldReader as AReader};
+ghost use Rattle.kobdzila_c.specs.contracts.stores.HeldNotice.{the_row as notice_row};
+ghost use Rattle.kobdzila_c.specs.declared.stores.HeldNotice.{HeldNotice as ANotice};
+ghost use Rattle.kobdzila_c.specs.Storing.{AreOfOne, IsEntered, IsEnteredAfter, IsLoaded, IsNewStore, IsNoticeOf};
+ghost use Rattle.kobdzila_c.specs.Storing.{IsPublished, IsReaderOf, IsReaderWith, IsStoreNumber, reader_number};
+ghost use Rattle.kobdzila_c.specs.Shared.{holds_notice, holds_reader, holds_store, notice_at, reader_answered};
+ghost use Rattle.kobdzila_c.specs.Shared.{reader_at, reads_notice, reads_reader, reads_store, store_at};
 
 mod answers;
 mod opened;
 mod sets;
+mod stores;
 
 pub use opened::Opened;
 pub use sets::MadeSet;
 use std::alloc::Global;
+pub use stores::{HeldNotice, HeldReader, HeldStore};
 
 /// The type that C's pointers to a catalogue have. C must not read or write its bytes.
 pub struct Opaque {
@@ -241,4 +253,241 @@ pub unsafe extern "C" fn kobdzila_set_answer(
         call,
         n,
     );
+}
+
+/// The type that C's pointers to a live store have. C must not read or write its bytes.
+pub struct OpaqueStore {
+    byte: u8,
+}
+
+/// The type that C's pointers to a reader of a live store have. C must not read or write its bytes.
+pub struct OpaqueReader {
+    byte: u8,
+}
+
+/// The type that C's pointers to a notice of a live store have. C must not read or write its bytes.
+pub struct OpaqueNotice {
+    byte: u8,
+}
+
+/// The number of bytes that C allocates for a live store. `malloc` aligns them well enough.
+#[unsafe(no_mangle)]
+pub extern "C" fn kobdzila_store_size() -> usize
+    ensures size { result ≡ size (layout store_row) }
+    ensures alignment { align (layout store_row) ≤ 16 }
+{
+    std::mem::size_of::<HeldStore>()
+}
+
+/// The number of bytes that C allocates for a reader. `malloc` aligns them well enough.
+#[unsafe(no_mangle)]
+pub extern "C" fn kobdzila_reader_size() -> usize
+    ensures size { result ≡ size (layout reader_row) }
+    ensures alignment { align (layout reader_row) ≤ 16 }
+{
+    std::mem::size_of::<HeldReader>()
+}
+
+/// The number of bytes that C allocates for a notice. `malloc` aligns them well enough.
+#[unsafe(no_mangle)]
+pub extern "C" fn kobdzila_notice_size() -> usize
+    ensures size { result ≡ size (layout notice_row) }
+    ensures alignment { align (layout notice_row) ≤ 16 }
+{
+    std::mem::size_of::<HeldNotice>()
+}
+
+/// Writes a store in which nothing is published to `out`, or none if memory runs out.
+#[unsafe(no_mangle)]
+pub unsafe extern "C" fn kobdzila_store_open(alloc: Global, out: *mut OpaqueStore)
+    requires* { sem 𝓛 (room_at store_row out) }
+    ensures* { sem 𝓛 (store_at out IsNewStore) }
+{
+    (out as *mut HeldStore).write(stores::open(alloc));
+}
+
+/// Makes the catalogue at `catalogue` pending in the store at `held`, or refuses it, which changes nothing. The store
+/// shares the catalogue.
+#[unsafe(no_mangle)]
+pub unsafe extern "C" fn kobdzila_store_load(
+    alloc: Global,
+    domain: &[u8],
+    locale: &[u8],
+    catalogue: *const Opaque,
+    held: *mut OpaqueStore,
+)
+    ghost g: { Lft × Share × Held × AStore }
+    requires* { sem 𝓛 (holds_store held g.3) ∗ sem 𝓛 (reads g.0 g.1 catalogue g.2) }
+    ensures* { sem 𝓛 (flft g.0 g.1) ∗ sem 𝓛 (store_at held (IsLoaded g.3 domain.now locale.now g.2)) }
+{
+    (held as *mut HeldStore).write(stores::load(
+        alloc,
+        domain,
+        locale,
+        &*(catalogue as *const Opened),
+        (held as *mut HeldStore).read(),
+    ));
+}
+
+/// Publishes all pending loads of the store at `held` in one step, or changes nothing.
+#[unsafe(no_mangle)]
+pub unsafe extern "C" fn kobdzila_store_publish(alloc: Global, held: *mut OpaqueStore)
+    ghost value: { AStore }
+    requires* { sem 𝓛 (holds_store held value) }
+    ensures* { sem 𝓛 (store_at held (IsPublished value)) }
+{
+    (held as *mut HeldStore).write(stores::publish(alloc, (held as *mut HeldStore).read()));
+}
+
+/// A number of the store at `held`: 0 is the fault of the last call, 1 how many loads are published, 2 how many are
+/// pending, 3 how many replaced versions a reader may still have.
+#[unsafe(no_mangle)]
+pub unsafe extern "C" fn kobdzila_store_number(held: *const OpaqueStore, which: u32) -> u64
+    ghost g: { Lft × Share × AStore }
+    requires* { sem 𝓛 (reads_store g.0 g.1 held g.2) }
+    ensures* { sem 𝓛 (flft g.0 g.1) ∗ ⌜ IsStoreNumber g.2 which result ⌝ }
+{
+    stores::store_number(&*(held as *const HeldStore), which)
+}
+
+/// Drops the store at `held`, and gives its memory back to C. Its readers and notices stay.
+#[unsafe(no_mangle)]
+pub unsafe extern "C" fn kobdzila_store_close(held: *mut OpaqueStore)
+    ghost value: { AStore }
+    requires* { sem 𝓛 (holds_store held value) }
+    ensures* { sem 𝓛 (room_at store_row held) }
+{
+    stores::close_store((held as *mut HeldStore).read());
+}
+
+/// Writes a notice of what is published in the store at `held` to `out`.
+#[unsafe(no_mangle)]
+pub unsafe extern "C" fn kobdzila_store_notice(held: *const OpaqueStore, out: *mut OpaqueNotice)
+    ghost g: { Lft × Share × AStore }
+    requires* { sem 𝓛 (reads_store g.0 g.1 held g.2) ∗ sem 𝓛 (room_at notice_row out) }
+    ensures* { sem 𝓛 (flft g.0 g.1) ∗ sem 𝓛 (notice_at out (IsNoticeOf g.2)) }
+{
+    (out as *mut HeldNotice).write(stores::notice(&*(held as *const HeldStore)));
+}
+
+/// Drops the notice at `held`, and gives its memory back to C.
+#[unsafe(no_mangle)]
+pub unsafe extern "C" fn kobdzila_notice_close(held: *mut OpaqueNotice)
+    ghost value: { ANotice }
+    requires* { sem 𝓛 (holds_notice held value) }
+    ensures* { sem 𝓛 (room_at notice_row held) }
+{
+    stores::close_notice((held as *mut HeldNotice).read());
+}
+
+/// Writes a reader of the store at `held`, in what is published, to `out`, or none if memory runs out.
+#[unsafe(no_mangle)]
+pub unsafe extern "C" fn kobdzila_store_reader(held: *const OpaqueStore, out: *mut OpaqueReader)
+    ghost g: { Lft × Share × AStore }
+    requires* { sem 𝓛 (reads_store g.0 g.1 held g.2) ∗ sem 𝓛 (room_at reader_row out) }
+    ensures* { sem 𝓛 (flft g.0 g.1) ∗ sem 𝓛 (reader_at out (IsReaderOf g.2)) }
+{
+    (out as *mut HeldReader).write(stores::reader(&*(held as *const HeldStore)));
+}
+
+/// The reader at `held` enters the newest version of its store.
+#[unsafe(no_mangle)]
+pub unsafe extern "C" fn kobdzila_reader_enter(held: *mut OpaqueReader)
+    ghost value: { AReader }
+    requires* { sem 𝓛 (holds_reader held value) }
+    ensures* { sem 𝓛 (reader_at held (IsEntered value)) }
+{
+    (held as *mut HeldReader).write(stores::enter((held as *mut HeldReader).read()));
+}
+
+/// The reader at `held` enters the newest version of its store, which isn't older than the notice at `notice`. Both
+/// must be of one store.
+#[unsafe(no_mangle)]
+pub unsafe extern "C" fn kobdzila_reader_enter_after(
+    held: *mut OpaqueReader,
+    notice: *const OpaqueNotice,
+)
+    ghost g: { AReader × Lft × Share × ANotice }
+    requires* { (sem 𝓛 (holds_reader held g.0) ∗ sem 𝓛 (reads_notice g.1 g.2 notice g.3)) ∗ ⌜ AreOfOne g.0 g.3 ⌝ }
+    ensures* { sem 𝓛 (flft g.1 g.2) ∗ sem 𝓛 (reader_at held (IsEnteredAfter g.0 g.3)) }
+{
+    (held as *mut HeldReader).write(stores::enter_after(
+        (held as *mut HeldReader).read(),
+        &*(notice as *const HeldNotice),
+    ));
+}
+
+/// A number of the reader at `held`: 0 is the fault of the last call, 1 how many loads are published in the version
+/// that it entered last.
+#[unsafe(no_mangle)]
+pub unsafe extern "C" fn kobdzila_reader_number(held: *const OpaqueReader, which: u32) -> u64
+    ghost g: { Lft × Share × AReader }
+    requires* { sem 𝓛 (reads_reader g.0 g.1 held g.2) }
+    ensures* { sem 𝓛 (flft g.0 g.1) ∗ ⌜ result ≡ reader_number g.2 which ⌝ }
+{
+    stores::reader_number(&*(held as *const HeldReader), which)
+}
+
+/// Like `kobdzila_set_answer`, in the version that the reader at `held` entered last.
+#[unsafe(no_mangle)]
+pub unsafe extern "C" fn kobdzila_reader_answer(
+    held: *const OpaqueReader,
+    domain: &[u8],
+    languages: &[u8],
+    context: &[u8],
+    id: &[u8],
+    call: u32,
+    n: u64,
+    out: *mut &[u8],
+)
+    ghost g: { Lft × Share × AReader }
+    requires* { sem 𝓛 (reads_reader g.0 g.1 held g.2) ∗ sem 𝓛 (room_at (Text g.0) out) }
+    ensures* { sem 𝓛 (flft g.0 g.1) ∗ sem 𝓛 (reader_answered g.0 out g.2 domain.now languages.now
+        (question call context.now id.now n)) }
+{
+    *out = stores::reader_answer(
+        &*(held as *const HeldReader),
+        domain,
+        languages,
+        context,
+        id,
+        call,
+        n,
+    );
+}
+
+/// Like `kobdzila_set_with`, for the set of the version that the reader at `held` entered last. The set that is made is
+/// C's own.
+#[unsafe(no_mangle)]
+pub unsafe extern "C" fn kobdzila_reader_with(
+    alloc: Global,
+    held: *const OpaqueReader,
+    domain: &[u8],
+    locale: &[u8],
+    catalogue: *const Opaque,
+    out: *mut OpaqueSet,
+)
+    ghost g: { Lft × Share × AReader × Lft × Share × Held }
+    requires* { (sem 𝓛 (reads_reader g.0 g.1 held g.2) ∗ sem 𝓛 (reads g.3 g.4 catalogue g.5))
+        ∗ sem 𝓛 (room_at set_row out) }
+    ensures* { (sem 𝓛 (flft g.0 g.1) ∗ sem 𝓛 (flft g.3 g.4))
+        ∗ sem 𝓛 (made_at out (IsReaderWith g.2 domain.now locale.now g.5)) }
+{
+    (out as *mut MadeSet).write(stores::reader_with(
+        alloc,
+        &*(held as *const HeldReader),
+        domain,
+        locale,
+        &*(catalogue as *const Opened),
+    ));
+}
+
+/// Drops the reader at `held`, and gives its memory back to C.
+#[unsafe(no_mangle)]
+pub unsafe extern "C" fn kobdzila_reader_close(held: *mut OpaqueReader)
+    ghost value: { AReader }
+    requires* { sem 𝓛 (holds_reader held value) }
+    ensures* { sem 𝓛 (room_at reader_row held) }
+{
+    stores::close_reader((held as *mut HeldReader).read());
 }

@@ -4,8 +4,8 @@ ghost use Rattle.std.specs.Arc.{arc_value};
 ghost use Rattle.live_set.specs.Names.{IsName};
 ghost use Rattle.live_set.specs.Sets.{no_loads, HasAbsorbed};
 ghost use Rattle.kobdzila_c.specs.Answering.{question};
-ghost use Rattle.kobdzila_c.specs.Making.{AreNames, IsEmpty, IsMade, IsWith, IsWithout, load_of, name_number};
-ghost use Rattle.kobdzila_c.specs.Making.{IsSetAnswer, set_number};
+ghost use Rattle.kobdzila_c.specs.Making.{AreNames, IsAnswerIn, IsEmpty, IsMade, IsWith, IsWithSet, IsWithout, load_of};
+ghost use Rattle.kobdzila_c.specs.Making.{IsSetAnswer, name_number, set_number};
 
 use crate::Opened;
 use crate::answers::{context_in, number_in};
@@ -34,7 +34,7 @@ fn name_number(fault: NameFault) -> u32
 }
 
 /// No set, for this reason.
-fn without(alloc: Global, fault: u32) -> MadeSet
+pub(crate) fn without(alloc: Global, fault: u32) -> MadeSet
     ensures { IsWithout fault result }
 {
     MadeSet {
@@ -111,6 +111,28 @@ fn more(
 
 /// The set with one more catalogue, which replaces the one for its text domain and locale. Memory is taken only if the
 /// catalogue was opened and both are names.
+pub(crate) fn with_one_in(
+    alloc: Global,
+    set: &CatalogueSet,
+    domain: &[u8],
+    locale: &[u8],
+    opened: &Opened,
+) -> MadeSet
+    ensures { IsWithSet set.now domain.now locale.now opened.now result }
+{
+    let Some(catalogue) = &opened.catalogue else {
+        return without(alloc, opened.fault);
+    };
+    if !are_names(domain, locale) {
+        return without(alloc, name_number(NameFault::BadName));
+    }
+    match more(alloc, set, domain, locale, catalogue) {
+        Ok(set) => MadeSet { set, fault: 0 },
+        Err(_) => without(alloc, name_number(NameFault::Memory)),
+    }
+}
+
+/// Like `with_one_in`, for a set that C holds.
 pub(crate) fn with_one(
     alloc: Global,
     made: &MadeSet,
@@ -120,16 +142,7 @@ pub(crate) fn with_one(
 ) -> MadeSet
     ensures { IsWith made.now domain.now locale.now opened.now result }
 {
-    let Some(catalogue) = &opened.catalogue else {
-        return without(alloc, opened.fault);
-    };
-    if !are_names(domain, locale) {
-        return without(alloc, name_number(NameFault::BadName));
-    }
-    match more(alloc, &made.set, domain, locale, catalogue) {
-        Ok(set) => MadeSet { set, fault: 0 },
-        Err(_) => without(alloc, name_number(NameFault::Memory)),
-    }
+    with_one_in(alloc, &made.set, domain, locale, opened)
 }
 
 /// Drops a set.
@@ -149,6 +162,30 @@ pub(crate) fn set_number(made: &MadeSet, which: u32) -> u64
 }
 
 /// The string that answers a question to a set, with its terminating NUL, or no bytes if there is none.
+#[inline(always)]
+pub(crate) fn answer_in<'k>(
+    set: &'k CatalogueSet,
+    domain: &[u8],
+    languages: &[u8],
+    context: &[u8],
+    id: &[u8],
+    call: u32,
+    n: u64,
+) -> &'k [u8]
+    ensures { IsAnswerIn set.now domain.now languages.now (question call context.now id.now n) result.now }
+{
+    let (Ok(domain), Ok(languages)) = (from_utf8(domain), from_utf8(languages)) else {
+        return &[];
+    };
+    let context = context_in(call, context);
+    let n = number_in(call, n);
+    match set.translated_closed(domain, languages, context, id, n) {
+        Some(text) => text,
+        None => &[],
+    }
+}
+
+/// Like `answer_in`, for a set that C holds.
 pub(crate) fn set_answer<'k>(
     made: &'k MadeSet,
     domain: &[u8],
@@ -160,16 +197,5 @@ pub(crate) fn set_answer<'k>(
 ) -> &'k [u8]
     ensures { IsSetAnswer made.now domain.now languages.now (question call context.now id.now n) result.now }
 {
-    let (Ok(domain), Ok(languages)) = (from_utf8(domain), from_utf8(languages)) else {
-        return &[];
-    };
-    let context = context_in(call, context);
-    let n = number_in(call, n);
-    match made
-        .set
-        .translated_closed(domain, languages, context, id, n)
-    {
-        Some(text) => text,
-        None => &[],
-    }
+    answer_in(&made.set, domain, languages, context, id, call, n)
 }
