@@ -1,4 +1,4 @@
-/* What the C files of the library share: reference-counted memory, and strings. */
+/* What the C files of the library share: memory of handles, reference counts, and strings. */
 #ifndef HELD_H
 #define HELD_H
 
@@ -18,17 +18,23 @@ struct lent {
     size_t len;
 };
 
-/* A catalogue or a set of the header: a reference count, followed by the proved library's value. */
+/* A catalogue, a set, a reader or a notice of the header: a reference count, followed by the proved library's value. A
+ * reader has no count, and is the set that it has entered. */
 struct counted {
     atomic_size_t holders;
+    unsigned long long store; /* which store a reader or a notice is of */
     alignas(max_align_t) unsigned char held[];
 };
+enum { NO_HOLDERS = 0 };
 
 static inline struct held *held_by(void *handle) { return (struct held *)(void *)((struct counted *)handle)->held; }
 
 static inline const struct held *read_by(const void *handle) {
     return (const struct held *)(const void *)((const struct counted *)handle)->held;
 }
+
+/* A number of a reader of the proved library: 0 is the fault of its last call, 1 its version. */
+uint64_t kobdzila_reader_number(const struct held *reader, uint32_t which);
 
 /* Allocate room for a value of `size` bytes, with one reference. Return NULL if memory runs out. */
 static inline void *room_for(size_t size) {
@@ -45,6 +51,12 @@ static inline void free_quietly(void *block) {
     free(block);
     atomic_signal_fence(memory_order_seq_cst);
     errno = cause;
+}
+
+/* Whether a set is lent by a reader, and is the reader itself. */
+static inline int is_lent(const kob_set *set) {
+    const struct counted *counted = (const struct counted *)(const void *)set;
+    return atomic_load_explicit(&counted->holders, memory_order_relaxed) == NO_HOLDERS;
 }
 
 static inline void add_holder(void *handle) { atomic_fetch_add(&((struct counted *)handle)->holders, 1); }

@@ -156,5 +156,10 @@ const char *kob_fault_text(enum kob_fault fault) {
         return mo[fault];
     if (fault >= KOB_PO_TOO_LARGE && fault <= KOB_PO_NEWLINE_MISMATCH)
         return po[fault - KOB_PO_TOO_LARGE];
-    return fault == KOB_UNREADABLE ? "file not readable" : fault == KOB_BAD_NAME ? "not a name" : "unknown fault";
+    switch (fault) {
+    case KOB_UNREADABLE: return "file not readable";
+    case KOB_BAD_NAME: return "not a name";
+    case KOB_VERSIONS_SPENT: return "no more versions";
+    default: return "unknown fault";
+    }
 }

@@ -16,8 +16,15 @@ void kobdzila_set_answer(const struct held *set, const unsigned char *domain, si
                          size_t context_len, const unsigned char *msgid, size_t msgid_len, uint32_t call, uint64_t n,
                          struct lent *out);
 bool kobdzila_is_name(const unsigned char *bytes, size_t len);
+void kobdzila_reader_with(const struct held *reader, const unsigned char *domain, size_t domain_len,
+                          const unsigned char *locale, size_t locale_len, const struct held *catalogue,
+                          struct held *out);
+void kobdzila_reader_answer(const struct held *reader, const unsigned char *domain, size_t domain_len,
+                            const unsigned char *languages, size_t languages_len, const unsigned char *context,
+                            size_t context_len, const unsigned char *msgid, size_t msgid_len, uint32_t call, uint64_t n,
+                            struct lent *out);
 
-enum { FAULT, VERSION }; /* `which` of kobdzila_set_number */
+enum { FAULT, VERSION }; /* `which` of kobdzila_set_number, and of kobdzila_reader_number */
 
 kob_set *kob_set_new(void) {
     kob_set *set = room_for(kobdzila_set_size());
@@ -32,8 +39,9 @@ kob_set *kob_set_with(const kob_set *set, const char *domain, const char *locale
     kob_set *more = room_for(kobdzila_set_size());
     if (!more)
         return refuse(why, KOB_MEMORY, 0);
-    kobdzila_set_with(read_by(set), bytes_of(domain_text), domain_text.len, bytes_of(locale_text), locale_text.len,
-                      read_by(catalogue), held_by(more));
+    (is_lent(set) ? kobdzila_reader_with : kobdzila_set_with)(
+        read_by(set), bytes_of(domain_text), domain_text.len, bytes_of(locale_text), locale_text.len,
+        read_by(catalogue), held_by(more));
     enum kob_fault fault = (enum kob_fault)kobdzila_set_number(read_by(more), FAULT);
     refuse(why, fault, 0);
     if (fault == KOB_NO_FAULT)
@@ -78,13 +86,16 @@ void kob_set_release(kob_set *set) {
     errno = cause;
 }
 
-unsigned long long kob_set_version(const kob_set *set) { return kobdzila_set_number(read_by(set), VERSION); }
+unsigned long long kob_set_version(const kob_set *set) {
+    return (is_lent(set) ? kobdzila_reader_number : kobdzila_set_number)(read_by(set), VERSION);
+}
 
 static struct lent ask(const kob_set *set, kob_text domain, kob_text languages, kob_text context, kob_text msgid,
                        uint32_t call, uint64_t n) {
     struct lent out;
-    kobdzila_set_answer(read_by(set), bytes_of(domain), domain.len, bytes_of(languages), languages.len,
-                        bytes_of(context), context.len, bytes_of(msgid), msgid.len, call, n, &out);
+    (is_lent(set) ? kobdzila_reader_answer : kobdzila_set_answer)(
+        read_by(set), bytes_of(domain), domain.len, bytes_of(languages), languages.len, bytes_of(context), context.len,
+        bytes_of(msgid), msgid.len, call, n, &out);
     return out;
 }
 

@@ -12,9 +12,10 @@
  *   - a `domain`, a `locale` or `languages`: the empty string, which is no name and finds nothing;
  *   - `why`: the caller doesn't want the reason;
  *   - `bytes`, if `len` is 0;
- *   - the argument of kob_release and kob_set_release, which do nothing then.
+ *   - `version`: the caller doesn't want the number;
+ *   - the argument of kob_release, kob_set_release and the functions whose name ends in _free, which do nothing then.
  *
- * kob_release and kob_set_release leave errno as it was.
+ * These functions leave errno as it was.
  */
 #ifndef KOBDZILA_H
 #define KOBDZILA_H
@@ -70,7 +71,8 @@ enum kob_fault {
     KOB_PO_FORMAT_MISMATCH = 116,
     KOB_PO_NEWLINE_MISMATCH = 117,
     KOB_UNREADABLE = 201,   /* kob_open_file, kob_set_open: can't read the file; see errno */
-    KOB_BAD_NAME = 202      /* a text domain or locale isn't 1 to 64 letters, digits and _ - . @ + */
+    KOB_BAD_NAME = 202,     /* a text domain or locale isn't 1 to 64 letters, digits and _ - . @ + */
+    KOB_VERSIONS_SPENT = 204 /* kob_store_load: the store has taken 2^58 - 1 loads, and takes no more */
 };
 
 /* Why there is no catalogue or set, and the line of a PO text. */
@@ -159,7 +161,7 @@ kob_text kob_form_at(const kob_catalogue *catalogue, size_t place, size_t form);
 kob_text kob_mo_file(const kob_catalogue *catalogue);
 
 /* A set of catalogues, each for a text domain and a locale. It is immutable and reference-counted. To replace
- * catalogues while threads use them, make a new set and exchange the pointer to it: see THREADS in kobdzila(3). */
+ * catalogues while threads look up in them, use a kob_store. */
 typedef struct kob_set kob_set;
 
 /* Return an empty set, with one reference, or NULL if memory runs out. */
@@ -196,6 +198,69 @@ const char *kob_set_npgettext(const kob_set *set, const char *domain, const char
 /* Like kob_find, for the catalogues of a text domain, in the order of a list of languages. */
 kob_text kob_set_find(const kob_set *set, kob_text domain, kob_text languages, kob_text context, kob_text msgid,
                       const unsigned long long *n);
+
+/* A live store: a set of catalogues that is replaced while threads look up in it. Readers never wait, neither for a
+ * publish nor for each other, and a publish never waits for readers.
+ *
+ * Any number of threads may use one store at once. Loads and publishes of several threads are put in order by a lock,
+ * which readers don't take. */
+typedef struct kob_store kob_store;
+
+/* A reader of a store: what one thread looks up with. It is in one call at a time, but may move between threads. */
+typedef struct kob_reader kob_reader;
+
+/* A notice: proof that a version was published, to be passed to another thread. It is in one call at a time, too. */
+typedef struct kob_notice kob_notice;
+
+/* Return a store that has published the empty set, at version 0, or NULL if memory runs out. */
+kob_store *kob_store_new(void);
+
+/* Add a load to those that are pending: from the next publish on, `catalogue` is the one for `domain` and `locale`.
+ * Return 1, or 0 and store the reason (KOB_BAD_NAME, KOB_MEMORY or KOB_VERSIONS_SPENT) in *why. A refused load leaves
+ * the store, and the loads that are pending, as they were. The caller keeps its reference to `catalogue`. */
+int kob_store_load(kob_store *store, const char *domain, const char *locale, const kob_catalogue *catalogue,
+                   kob_refusal *why);
+
+/* Publish all pending loads in one step: a reader sees all of them or none. Return 1 and store the new version in
+ * *version, or return 0 if memory ran out or the store was busy. Then nothing has changed, the loads are still pending,
+ * and you can publish again. With no load pending, it publishes nothing and stores the version that there is.
+ *
+ * A store is busy if some 60 readers were all interrupted at the same point of an entry, a few instructions long. */
+int kob_store_publish(kob_store *store, unsigned long long *version);
+
+/* Return the version that is published: the number of loads published so far. */
+unsigned long long kob_store_version(const kob_store *store);
+
+/* Return the number of loads that the next publish will show. */
+unsigned long long kob_store_pending(const kob_store *store);
+
+/* Return how many replaced sets are kept, since a reader still has them or no publish has freed them yet. */
+size_t kob_store_retained(const kob_store *store);
+
+/* Return a notice of the version that is published now, or NULL if memory runs out. */
+kob_notice *kob_store_notice(const kob_store *store);
+
+/* Return a new reader, which has entered the version that is published now, or NULL if memory runs out. Make one for
+ * each thread, as many as you want. */
+kob_reader *kob_store_reader(const kob_store *store);
+
+/* Enter the newest version, and return its set. Look-ups in the set, and their answers, are valid until this reader's
+ * next entry or its end, whatever is published meanwhile; the set is lent, so don't retain or release it. An entry
+ * allocates nothing and can't fail. A reader's versions never fall. */
+const kob_set *kob_reader_enter(kob_reader *reader);
+
+/* Like kob_reader_enter, but the set is never older than the version that `notice` tells of. Return NULL if the
+ * notice is of another store; the reader then keeps its entry. */
+const kob_set *kob_reader_enter_after(kob_reader *reader, const kob_notice *notice);
+
+/* Return the version that the reader entered last. It is that of kob_set_version for its set. */
+unsigned long long kob_reader_version(const kob_reader *reader);
+
+/* Free a notice, a reader or a store, in any order: readers keep working after their store was freed. No other call
+ * may be using what is freed. */
+void kob_notice_free(kob_notice *notice);
+void kob_reader_free(kob_reader *reader);
+void kob_store_free(kob_store *store);
 
 #ifdef __cplusplus
 }

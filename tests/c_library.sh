@@ -84,7 +84,7 @@ if command -v python3 > /dev/null; then
     skipped "$name" "there is no $catserve"
   fi
 
-  # installed catalogues, beside Python's own gettext
+  # installed catalogues, compared with Python's own gettext
   tests/needs tools/gnu-msgfmt gettext
   find /usr/share/locale -name '*.mo' 2> /dev/null | sort | head -n 400 > "$room/installed"
   said=$(LIBKOBDZILA=$PWD/$library/libkobdzila.so.0 PYTHONPATH=examples/python timeout 600 \

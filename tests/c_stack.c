@@ -39,12 +39,36 @@ static void ask_all(const kob_catalogue *c) {
     kob_set_release(set);
 }
 
+static void show(kob_store *store, const kob_catalogue *c, kob_reader *reader) {
+    kob_store_load(store, "app", "fr", c, NULL);
+    kob_store_load(store, "app", "de", c, NULL);
+    kob_store_publish(store, NULL);
+    kob_notice *notice = kob_store_notice(store);
+    kob_set_ngettext(kob_reader_enter_after(reader, notice), "app", "fr:de", "no such message", "x", 5);
+    kob_notice_free(notice);
+}
+
+/* The store is given the last reference to the catalogue, and frees it in a publish, with a set that it replaced. */
+static void publish(kob_catalogue *c) {
+    kob_catalogue *empty = kob_open_po("", 0, 0, NULL);
+    kob_store *store = kob_store_new();
+    kob_reader *reader = kob_store_reader(store);
+    show(store, c, reader);
+    kob_release(c);
+    for (int i = 0; i < 3; i++)
+        show(store, empty, reader);
+    kob_release(empty);
+    kob_store_free(store);
+    kob_reader_free(reader);
+}
+
 static void *work(void *none) {
     kob_refusal why;
     kob_catalogue *c = kob_open_file(name, is_po() ? KOB_PO : KOB_MO, KOB_CHECKED, &why);
-    if (c)
+    if (c) {
         ask_all(c);
-    kob_release(c);
+        publish(c);
+    }
     return none;
 }
 

@@ -28,8 +28,8 @@ REFUSED = {
     'name': ['gives Err(Memory)'],
 }
 
-# the answers for which memory is taken: what is given, but for a rule that is absent; and by `check`, which gives
-# nothing, those of the tests behind the first pass over a file
+# the answers that take memory: values, except for an absent rule, and the refusals of `check` that are found after
+# the first pass over a file
 GIVEN = ('Ok', 'Given')
 TAKES = {'check': ('Err(BadText', 'Err(Forms', 'Err(Order', 'Err(Charset')}
 
@@ -249,7 +249,7 @@ def serve_store(run, label, most, pending, outcomes, queries):
     elif run.ungiven:
         return
     else:
-        # nothing done, or some jobs, of which the last one's load may be pending
+        # nothing done, or some jobs; the load of the last one may be pending
         states = {(before, 0)}
         for jobs in range(done + 1):
             states |= {(0, before + jobs)} | ({(1, before + jobs - 1)} if jobs else set())
