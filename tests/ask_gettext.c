@@ -13,9 +13,14 @@
  *   chdir FOLDER
  *   user                      prints the effective user's number
  *   descriptors N             leaves the program N file descriptors
+ *   put FROM TO               makes TO a link to the file FROM, in place of the file that it is
+ *   remove FILE
  *   ask DOMAIN MSGID          dgettext; gettext for the domain `-`
  *   plural DOMAIN N           dngettext of `file` and `files`
  *   of CATEGORY DOMAIN MSGID  dcgettext in the category of this number
+ *   first                     prints the first answer of `ask` once more, from where it was
+ *
+ * The last three before `first` ask three times, and the answers must be the same.
  */
 #define _GNU_SOURCE
 #include <errno.h>
@@ -55,6 +60,31 @@ static void limit_descriptors(unsigned long n) {
         exit(3);
 }
 
+/* The file appears at once, as an installer puts it there. */
+static void put(const char *from, const char *to) {
+    char new[4096];
+    snprintf(new, sizeof new, "%s.new", to);
+    unlink(new);
+    if (link(from, new) || rename(new, to))
+        exit(3);
+    unlink(new);
+}
+
+static const char *first;
+
+static const char *ask(const char *domain, const char *msgid) {
+    const char *text = domain ? dgettext(domain, msgid) : gettext(msgid);
+    if (!first)
+        first = text;
+    return text;
+}
+
+/* Whether it is the answer that was given before. */
+static const char *again(const char *before, const char *now) {
+    return !before || !now ? now : strcmp(before, now) ? "another answer" : now;
+}
+#define THRICE(call) again(again(call, call), call)
+
 static void *run(void *words);
 
 static void run_in_thread(char **words) {
@@ -89,11 +119,17 @@ static char **step(char **words) {
     if (!strcmp(what, "env"))
         return setenv(a, b, 1) ? exit(3) : (void)0, words + 3;
     if (!strcmp(what, "ask"))
-        return print(text_of(a) ? dgettext(a, text_of(b)) : gettext(text_of(b))), words + 3;
+        return print(THRICE(ask(text_of(a), text_of(b)))), words + 3;
     if (!strcmp(what, "plural"))
-        return print(dngettext(a, "file", "files", strtoul(b, NULL, 10))), words + 3;
+        return print(THRICE(dngettext(a, "file", "files", strtoul(b, NULL, 10)))), words + 3;
     if (!strcmp(what, "of"))
-        return print(dcgettext(b, words[3], atoi(a))), words + 4;
+        return print(THRICE(dcgettext(b, words[3], atoi(a)))), words + 4;
+    if (!strcmp(what, "put"))
+        return put(a, b), words + 3;
+    if (!strcmp(what, "remove"))
+        return unlink(a), words + 2;
+    if (!strcmp(what, "first"))
+        return print(first), words + 1;
     exit(3);
 }
 

@@ -5,8 +5,9 @@
  *
  * FOLDER and OTHER have catalogues fr/LC_MESSAGES/app.mo, which translate `text` as `one` and `other`; LANGUAGE is fr,
  * and LC_ALL a locale in UTF-8. Eight threads ask, half of them in a locale of their own; two bind the text domain to
- * the folders by turns; one changes the process's locale by turns; one forks TIMES times, and each child asks; one is
- * cancelled TIMES times while it asks for files that nobody has asked for. All of it goes on for SECONDS at least.
+ * the folders by turns; one replaces the catalogue in FOLDER by the other one and back; one changes the process's locale
+ * by turns; one forks TIMES times, and each child asks; one is cancelled TIMES times while it asks for files that nobody
+ * has asked for. All of it goes on for SECONDS at least.
  * Then one text domain is bound to one folder a million times, which takes no memory and leaves a look-up as fast as
  * it was.
  *
@@ -74,6 +75,27 @@ static void *rebind(void *none) {
     return none;
 }
 
+/* Each catalogue appears at once, in place of the one before. */
+static void *replace(void *none) {
+    char place[4096], kept[4100], other[4096], new[4100];
+    snprintf(place, sizeof place, "%s/fr/LC_MESSAGES/app.mo", folders[0]);
+    snprintf(other, sizeof other, "%s/fr/LC_MESSAGES/app.mo", folders[1]);
+    snprintf(kept, sizeof kept, "%s.one", place);
+    snprintf(new, sizeof new, "%s.new", place);
+    unlink(kept);
+    if (link(place, kept))
+        fault("a file isn't linked:", kept);
+    const struct timespec pause = { 0, 100000 };
+    for (unsigned i = 0; !atomic_load(&ended) || i % 2; i++) {
+        unlink(new);
+        if (link(i % 2 ? kept : other, new) || rename(new, place))
+            fault("a file isn't replaced:", place);
+        nanosleep(&pause, NULL);
+    }
+    unlink(new);
+    return none;
+}
+
 static void *change_locale(void *none) {
     const struct timespec pause = { 0, 20000 };
     for (unsigned i = 0; !atomic_load(&ended); i++) {
@@ -121,12 +143,13 @@ static void *cancel_often(void *none) {
 }
 
 static void run_threads(unsigned seconds) {
-    pthread_t asking[ASKING], changing[3], counted[2];
+    pthread_t asking[ASKING], changing[4], counted[2];
     for (int i = 0; i < ASKING; i++)
         pthread_create(&asking[i], NULL, ask, i % 2 ? &wrong : NULL);
     pthread_create(&changing[0], NULL, rebind, NULL);
     pthread_create(&changing[1], NULL, rebind, NULL);
     pthread_create(&changing[2], NULL, change_locale, NULL);
+    pthread_create(&changing[3], NULL, replace, NULL);
     pthread_create(&counted[0], NULL, fork_often, NULL);
     pthread_create(&counted[1], NULL, cancel_often, NULL);
     struct timespec second = { 1, 0 };
@@ -135,7 +158,7 @@ static void run_threads(unsigned seconds) {
     pthread_join(counted[0], NULL);
     pthread_join(counted[1], NULL);
     atomic_store(&ended, 1);
-    for (int i = 0; i < 3; i++)
+    for (int i = 0; i < 4; i++)
         pthread_join(changing[i], NULL);
     for (int i = 0; i < ASKING; i++)
         pthread_join(asking[i], NULL);

@@ -221,6 +221,59 @@ def threads(folder: Path) -> list[Case]:
             for name in names for process in ("C", "fr_FR.UTF-8", "C.UTF-8") for more in ({}, {"LANGUAGE": "fr:de"})]
 
 
+def changes(folder: Path) -> list[Case]:
+    """A locale, a codeset or a domain is changed between questions that were asked before."""
+    bound = ["bind", "app", str(folder), "bind", "uni", str(folder), "domain", "app"]
+    ask = ["ask", "app", "a", "ask", "-", "a", "ask", "app", "b", "ask", "app", "none", "plural", "app", "2"]
+    other = ["bind", "app", str(folder / "other")]
+    cases = [
+        [*bound, *ask, "uselocale", "C", *ask, "uselocale", "C.UTF-8", *ask, "uselocale", "-", *ask],
+        [*bound, *ask, "messages", "C", *ask, "messages", "C.UTF-8", *ask, "locale", "C", *ask],
+        [*bound, *ask, "domain", "uni", *ask, "domain", "nobody", *ask, "domain", "app", *ask],
+        [*bound, *ask, *other, *ask, *bound, *ask, "bind", "app", "-", *ask],
+        [*bound, *ask, "of", "2", "app", "a", "of", "5", "app", "a", *ask],
+        [*bound, *ask, "codeset", "app", "ISO-8859-1", *ask, "codeset", "app", "UTF-8", *ask],
+        [*bound, *ask, "thread", *ask, "uselocale", "C.UTF-8", *ask, "uselocale", "C", *ask],
+    ]
+    for number in range(20):
+        install(folder, "fr", f"many{number}", mo({b"a": f"{number}".encode()}))
+    many = [word for number in [*range(20), *range(20)]
+            for word in ("bind", f"many{number}", str(folder), "ask", f"many{number}", "a")]
+    again = [word for number in range(20) for word in ("ask", f"many{number}", "a")]
+    return [Case(case, {"LANGUAGE": "fr:de"}) for case in [*cases, [*many, *again, *again]]]
+
+
+def replaced_files(folder: Path) -> list[Case]:
+    """A catalogue's file is replaced, spoiled, removed or made while the program runs: it is looked at when a folder
+    was bound to the domain once more. docs/internals/decisions.md has the row."""
+    one, two, bad, place = (folder / name for name in ("one.mo", "two.mo", "bad.mo", "fr/LC_MESSAGES/new.mo"))
+    one.write_bytes(mo({b"a": b"one"}))
+    two.write_bytes(mo({b"a": b"two", b"b": b"b of two"}))
+    bad.write_bytes(one.read_bytes()[:40])
+    install(folder, "fr", "accent", mo({b"a": "é".encode()}))
+    bind, ask, accent = ["bind", "new", str(folder)], ["ask", "new", "a"], ["ask", "accent", "a"]
+    begin = ["put", str(one), str(place), *bind, *ask]
+    bound = f"{folder} 77"
+    french = {"LANGUAGE": "fr"}
+    return [
+        Case([*begin, "put", str(two), str(place), *ask, "bind", "new", "-", *ask, "bind", "app", str(folder), *ask,
+              *bind, *ask, "ask", "new", "b", "first", "thread", *ask], french,
+             [bound, "one 77", "one 77", bound, "one 77", bound, "one 77", bound, "two 77", "b of two 77", "one 77",
+              "two 77"]),
+        Case([*begin, "put", str(bad), str(place), *ask, *bind, *ask, "put", str(two), str(place), *bind, *ask, "first"],
+             french, [bound, "one 77", "one 77", bound, "a 77", bound, "two 77", "one 77"]),
+        Case([*begin, "remove", str(place), *ask, *bind, *ask, "put", str(one), str(place), *ask, *bind, *ask, "first"],
+             french, [bound, "one 77", "one 77", bound, "a 77", "a 77", bound, "one 77", "one 77"]),
+        Case([*begin, "put", str(two), str(place), "descriptors", "3", *bind, *ask, *ask, "descriptors", "9", *ask],
+             french, [bound, "one 77", bound, "one 77", "one 77", "two 77"]),
+        Case([*begin, *["put", str(two), str(place), *bind, *ask, "put", str(one), str(place), *bind, *ask] * 20, "first"],
+             french, [bound, "one 77", *[bound, "two 77", bound, "one 77"] * 20, "one 77"]),
+        Case(["bind", "accent", str(folder), *accent, "env", "OUTPUT_CHARSET", "ISO-8859-1", *accent,
+              "env", "OUTPUT_CHARSET", "", *accent], french,
+             [bound, "\\xc3\\xa9 77", "\\xe9 77", "\\xc3\\xa9 77"]),
+    ]
+
+
 def other_files(folder: Path) -> list[Case]:
     """Files that aren't there, or are no catalogues, and those that the C library reads and libkobdzila doesn't."""
     latin = UTF8.replace(b"UTF-8", b"ISO-8859-1")
@@ -362,8 +415,8 @@ def main() -> None:
     comparing = Comparing(room, sys.argv[2], sys.argv[3], sys.argv[4] if len(sys.argv) > 4 else None)
     folder = room / "messages"
     folder.mkdir()
-    parts = (spelled_cases, odd_names, lists, domains, plurals, codesets, threads, other_files, system_strings,
-             known_differences, hostile_files)
+    parts = (spelled_cases, odd_names, lists, domains, plurals, codesets, threads, changes, replaced_files, other_files,
+             system_strings, known_differences, hostile_files)
     for part in parts:
         for case in part(folder):
             comparing.compare(case)

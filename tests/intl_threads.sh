@@ -1,7 +1,7 @@
 #!/usr/bin/env bash
-# Asks gettext by libkobdzila-intl.so from 8 threads while two others bind text domains, one changes the locale, one
-# forks and one is cancelled, 200 times each (tests/gettext_threads.c): as it is, with AddressSanitizer and with
-# ThreadSanitizer. bench/intl_threads does it for a minute.
+# Asks gettext by libkobdzila-intl.so from 8 threads while two others bind text domains, one replaces a catalogue, one
+# changes the locale, one forks and one is cancelled, 200 times each (tests/gettext_threads.c): as it is, with
+# AddressSanitizer and with ThreadSanitizer. bench/intl_threads does it for a minute.
 no_program=1
 . "$(dirname "$0")/common"
 . tests/c_common
@@ -34,6 +34,11 @@ fixed=(env)
 setarch -R true 2> /dev/null && fixed=(setarch -R)
 
 asks plain "$library"
+if readelf -dW "$library/libkobdzila-intl.so" | grep -q NODELETE; then
+  ok "$name, a thread that ends after dlclose"
+else
+  failed "$name, a thread that ends after dlclose" 'the library may be unloaded, and then its function is missing'
+fi
 for flags in address thread; do
   sanitized "$name, -fsanitize=$flags" $flags && asks $flags "$room/$flags/build/lib" -fsanitize=$flags
 done

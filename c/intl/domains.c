@@ -14,6 +14,7 @@ enum binding { BOUND_FOLDER, BOUND_CODESET };
 struct domain {
     struct named named;
     char *bound[2]; /* by enum binding; NULL if not bound */
+    unsigned long bindings;
 };
 
 static struct named *domains;
@@ -42,11 +43,18 @@ const char *folder_of(const char *domain) {
     return !*domain ? NULL : folder ? folder : default_folder();
 }
 
-static int is_utf8(const char *codeset) { return !strcasecmp(codeset, "UTF-8") || !strcasecmp(codeset, "UTF8"); }
+const char *codeset_of(const char *domain) { return bound_to(domain, BOUND_CODESET); }
+
+unsigned long bindings_of(const char *domain) {
+    const struct domain *d = (const struct domain *)find_named(domains, domain);
+    return d ? d->bindings : 0;
+}
+
+int is_utf8(const char *codeset) { return !strcasecmp(codeset, "UTF-8") || !strcasecmp(codeset, "UTF8"); }
 
 /* The codeset is the domain's own, else that of the variable OUTPUT_CHARSET, else that of the thread's locale. */
 int wants_utf8(const char *domain) {
-    const char *own = bound_to(domain, BOUND_CODESET), *codeset = own ? own : getenv("OUTPUT_CHARSET");
+    const char *own = codeset_of(domain), *codeset = own ? own : getenv("OUTPUT_CHARSET");
     return is_utf8(codeset && *codeset ? codeset : nl_langinfo(CODESET));
 }
 
@@ -66,6 +74,8 @@ SHOWN char *textdomain(const char *domain) {
         name = c_library()->textdomain(NULL);
     else if (copy)
         name = change(c_library()->textdomain(domain), &current, copy);
+    if (copy)
+        note_change();
     leave_lock();
     return name;
 }
@@ -77,7 +87,11 @@ static char *bind_string(char *(*bind)(const char *, const char *), const char *
         return bind(domain, string);
     struct domain *d = (struct domain *)find_or_add_named(&domains, domain, sizeof *d);
     char *copy = d ? strdup(string) : NULL;
-    return copy ? change(bind(domain, string), &d->bound[what], copy) : NULL;
+    if (!copy)
+        return NULL;
+    d->bindings += what == BOUND_FOLDER;
+    note_change();
+    return change(bind(domain, string), &d->bound[what], copy);
 }
 
 SHOWN char *bindtextdomain(const char *domain, const char *folder) {
@@ -97,6 +111,8 @@ SHOWN char *bind_textdomain_codeset(const char *domain, const char *codeset) {
 SHOWN char *setlocale(int category, const char *locale) {
     take_lock();
     char *name = c_library()->setlocale(category, locale);
+    if (locale)
+        note_change();
     leave_lock();
     return name;
 }

@@ -1,15 +1,24 @@
-/* Catalogues by file name. A file is opened once, and kept for as long as the program runs. */
+/* Catalogues by file name. A file is opened once, and again if it has changed when a folder was bound to its text
+ * domain. Catalogues are kept for as long as the program runs, since it may keep any string that it was given. */
+#define _GNU_SOURCE
 #include "intl.h"
 
 #include "file_bytes.h"
 
 #include <errno.h>
+#include <fcntl.h>
 #include <stdlib.h>
 #include <string.h>
 #include <strings.h>
+#include <sys/stat.h>
 
 #define MOST_MO 268435456
 #define LEAST_MO 48 /* the C library refuses shorter files */
+
+struct earlier {
+    struct earlier *next;
+    kob_catalogue *catalogue;
+};
 
 static struct named *files;
 
@@ -25,14 +34,29 @@ static int says_ascii(const kob_catalogue *catalogue) {
     return charset && strncasecmp(charset + strlen("charset="), "UTF", 3);
 }
 
+/* Make it the file's catalogue. False if memory ran out. */
+static int take(struct file *f, kob_catalogue *catalogue) {
+    if (f->catalogue) {
+        struct earlier *earlier = malloc(sizeof *earlier);
+        if (!earlier)
+            return 0;
+        *earlier = (struct earlier){ f->earlier, f->catalogue };
+        f->earlier = earlier;
+    }
+    f->catalogue = catalogue;
+    f->is_shown = 0;
+    return 1;
+}
+
 static enum standing standing_of_bytes(struct file *f, const unsigned char *bytes, size_t len) {
     if (len < LEAST_MO)
         return MISSING;
     kob_refusal why;
     kob_catalogue *catalogue = kob_open_mo(bytes, len, &why);
     if (catalogue && !says_ascii(catalogue)) {
-        f->catalogue = catalogue;
-        return TAKEN;
+        if (take(f, catalogue))
+            return TAKEN;
+        why.fault = KOB_MEMORY;
     }
     kob_release(catalogue);
     if (why.fault == KOB_MEMORY)
@@ -45,15 +69,47 @@ static enum standing standing_of_bytes(struct file *f, const unsigned char *byte
 /* Whether a call failed because it ran out of something that may be available the next time. */
 static int may_pass(int cause) { return cause == ENOMEM || cause == EMFILE || cause == ENFILE; }
 
-enum standing standing_of(struct file *f) {
-    if (f->standing != UNREAD)
-        return f->standing;
+static struct stamp stamp_of(const char *name) {
+    struct statx s;
+    if (statx(AT_FDCWD, name, 0, STATX_TYPE | STATX_INO | STATX_SIZE | STATX_MTIME, &s))
+        return (struct stamp){ 0 };
+    return (struct stamp){ (uint64_t)s.stx_dev_major << 32 | s.stx_dev_minor, s.stx_ino, s.stx_size,
+                           (uint64_t)s.stx_mtime.tv_sec, s.stx_mtime.tv_nsec };
+}
+
+static int is_same(struct stamp a, struct stamp b) {
+    return a.device == b.device && a.inode == b.inode && a.size == b.size && a.seconds == b.seconds &&
+           a.nanoseconds == b.nanoseconds;
+}
+
+/* Open the file. UNREAD if that can be done at another time. */
+static enum standing standing_now(struct file *f) {
     size_t len;
+    enum standing standing = MISSING;
     unsigned char *bytes = file_bytes(f->named.name, REGULAR_FILES, MOST_MO, &len);
     if (bytes)
-        f->standing = standing_of_bytes(f, bytes, len);
-    else if (!may_pass(errno))
-        f->standing = MISSING;
+        standing = standing_of_bytes(f, bytes, len);
+    else if (may_pass(errno))
+        standing = UNREAD;
     free(bytes);
+    return standing;
+}
+
+int is_known(const struct file *f, unsigned long bindings) {
+    return f->standing != UNREAD && f->bindings == bindings;
+}
+
+enum standing standing_of(struct file *f, unsigned long bindings) {
+    if (is_known(f, bindings))
+        return f->standing;
+    struct stamp stamp = stamp_of(f->named.name);
+    if (f->standing == UNREAD || !is_same(stamp, f->stamp)) {
+        enum standing now = standing_now(f);
+        if (now == UNREAD)
+            return f->standing; /* what it was stays until the file can be opened */
+        f->standing = now;
+        f->stamp = stamp;
+    }
+    f->bindings = bindings;
     return f->standing;
 }

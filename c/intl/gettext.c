@@ -9,12 +9,6 @@
 #include <string.h>
 #include <unistd.h>
 
-struct question {
-    const char *domain, *msgid, *plural; /* the program's arguments; `domain` may be NULL, and `plural` goes with `n` */
-    const unsigned long *n;
-    int category;
-};
-
 /* The result of a search: a string, or that the C library has to be asked. Otherwise the program's own string is
  * used. */
 struct found {
@@ -22,7 +16,7 @@ struct found {
     int is_theirs;
 };
 
-static const char *text_in(const struct file *file, const struct question *q) {
+static const char *text_of(const struct file *file, const struct question *q) {
     const kob_text none = { NULL, 0 }, msgid = { q->msgid, strlen(q->msgid) };
     unsigned long long n = q->n ? *q->n : 0;
     return kob_find(file->catalogue, none, msgid, q->n ? &n : NULL).at;
@@ -33,11 +27,12 @@ static const char *text_in(const struct file *file, const struct question *q) {
 static struct found found_in(const struct list *list, const struct question *q, int utf8) {
     struct found found = { NULL, 0 };
     int has_theirs = 0, has_refused = 0;
+    unsigned long bindings = bindings_of(list->domain);
     for (size_t i = 0; i < list->count && !(found.text && utf8 && !has_theirs); i++) {
         struct file *file = list->files[i];
-        enum standing standing = standing_of(file);
+        enum standing standing = standing_of(file, bindings);
         if (standing == TAKEN && !found.text)
-            found.text = text_in(file, q);
+            found.text = text_of(file, q);
         has_refused |= standing == REFUSED;
         has_theirs |= standing == THEIRS && !found.text;
     }
@@ -71,9 +66,12 @@ static struct found find(const struct question *q, const char *category) {
     if (folder && *folder != '/')
         folder = made = absolute(folder);
     const struct list *list = folder ? list_for(folder, category, domain, languages) : NULL;
-    free(made);
     if (list)
         found = found_in(list, q, wants_utf8(domain));
+    /* the working directory may change */
+    if (!made && (list || !languages))
+        remember(q, list);
+    free(made);
     return found;
 }
 
@@ -85,7 +83,7 @@ static const char *theirs(const struct question *q) {
 
 /* The C library is called under the lock too: with its own locks alone, a forked child could wait for a thread that
  * isn't there. An unknown category and a NULL msgid are left to the C library. */
-static char *answer(const struct question *q) {
+static const char *text_under_the_lock(const struct question *q) {
     const char *category = category_name(q->category);
     int cause = errno;
     take_lock();
@@ -93,10 +91,17 @@ static char *answer(const struct question *q) {
     if (q->msgid && category)
         found = find(q, category);
     const char *text = found.is_theirs ? theirs(q) : found.text;
-    if (!text)
-        text = !q->n || *q->n == 1 ? q->msgid : q->plural;
     leave_lock();
     errno = cause;
+    return text;
+}
+
+static char *answer(const struct question *q) {
+    const char *text;
+    if (!q->msgid || !recall(q, &text))
+        text = text_under_the_lock(q);
+    if (!text)
+        text = !q->n || *q->n == 1 ? q->msgid : q->plural;
     return (char *)text;
 }
 

@@ -3,6 +3,7 @@
 #include "intl.h"
 
 #include <pthread.h>
+#include <stdatomic.h>
 
 static pthread_mutex_t lock = PTHREAD_MUTEX_INITIALIZER;
 static _Thread_local int depth, cancel_state;
@@ -25,3 +26,9 @@ void leave_lock(void) {
 }
 
 __attribute__((constructor)) static void hold_at_fork(void) { pthread_atfork(take_lock, leave_lock, leave_lock); }
+
+static atomic_ullong noted;
+
+void note_change(void) { atomic_fetch_add(&noted, 1); }
+
+unsigned long long changes(void) { return atomic_load_explicit(&noted, memory_order_acquire); }
