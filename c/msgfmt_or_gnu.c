@@ -24,7 +24,7 @@ enum { TEXT_LIMIT = 67108864, EMPTY_MO = 28 }; /* bytes of the largest PO text, 
 /* The state of one run of the driver. */
 struct run {
     struct request *request;
-    char *ours;
+    char *ours;       /* the msgfmt of Kobdzila to start; NULL if the one in this program is called */
     char *gnu;        /* NULL if there is none, or it wasn't looked for yet */
     bool looked;
     char *input;      /* the path at which the PO file was found */
@@ -222,7 +222,7 @@ static struct answer run_ours(struct run *run, const char *output, int standard_
     struct streams streams = run->streams;
     if (asprintf(&named, "--output-file=%s", output) < 0)
         stop_for_memory();
-    char *words[8] = {run->ours, named};
+    char *words[8] = {run->ours ? run->ours : (char[]){"msgfmt"}, named};
     int count = 2;
     if (request->checks_format || request->checks_header)
         words[count++] = "--check";
@@ -238,7 +238,7 @@ static struct answer run_ours(struct run *run, const char *output, int standard_
     streams.errors = unnamed_file();
     if (streams.errors < 0)
         stop("cannot keep the error output: ", strerror(errno));
-    answer.ending = run_program(run->ours, words, streams);
+    answer.ending = run->ours ? run_program(run->ours, words, streams) : call_linked(words, streams);
     lseek(streams.errors, 0, SEEK_SET);
     answer.said = read_all(streams.errors, &answer.len);
     close(streams.errors);
@@ -285,8 +285,12 @@ static char *refusal_of(const struct run *run, const struct answer *answer) {
             continue;
         size_t digits = strspn(line + len + 1, "0123456789");
         char *reason = line + len + 1 + digits;
-        if (digits && !strncmp(reason, ": ", 2) && strncmp(reason, ": warning: ", 11))
-            return strndup(reason + 2, (size_t)(end - reason - 2));
+        if (digits && !strncmp(reason, ": ", 2) && strncmp(reason, ": warning: ", 11)) {
+            char *copy = strndup(reason + 2, (size_t)(end - reason - 2));
+            if (!copy)
+                stop_for_memory();
+            return copy;
+        }
     }
     return NULL;
 }
@@ -295,10 +299,9 @@ static char *refusal_of(const struct run *run, const struct answer *answer) {
 static bool pass_on(const struct run *run, const struct answer *answer) {
     const struct request *request = run->request;
     bool has_compiled = answer->ending.status == 0;
-    char *lines = NULL;
-    size_t len = 0;
-    FILE *to = open_memstream(&lines, &len);
-    if (!to)
+    const char *name = request->inputs[0];
+    char *lines = malloc(answer->len + strlen(name) + sizeof ": \n"), *to = lines;
+    if (!lines)
         stop_for_memory();
     for (char *line = answer->said, *end; *line; line = *end ? end + 1 : end) {
         end = strchrnul(line, '\n');
@@ -307,12 +310,10 @@ static bool pass_on(const struct run *run, const struct answer *answer) {
         if (is_warning ? !request->checks_header : has_compiled && is_last && !wants_statistics(request))
             continue;
         if (has_compiled && is_last && !is_warning && request->wants_statistics + request->verbosity >= 2)
-            fprintf(to, "%s: ", request->inputs[0]);
-        fprintf(to, "%.*s\n", (int)(end - line), line);
+            to = stpcpy(stpcpy(to, name), ": ");
+        to = stpcpy(mempcpy(to, line, (size_t)(end - line)), "\n");
     }
-    if (fclose(to))
-        stop_for_memory();
-    bool done = write_all(STDERR_FILENO, lines, len);
+    bool done = write_all(STDERR_FILENO, lines, (size_t)(to - lines));
     free(lines);
     return done;
 }
@@ -347,6 +348,8 @@ static void say_why_not_written(const struct run *run, const struct answer *answ
 
 /* End a run that Kobdzila's msgfmt has served, with its output and exit status. */
 _Noreturn static void end_by_ours(struct run *run, struct answer *answer, const char *why) {
+    if (answer->ending.failure && !run->ours)
+        stop("cannot keep the output: ", strerror(answer->ending.failure));
     if (answer->ending.failure)
         stop(run->ours, ": this is not Kobdzila's msgfmt, or can't be run");
     if (!pass_on(run, answer) && answer->ending.status == 0)
@@ -409,6 +412,8 @@ _Noreturn static void drive(struct run *run) {
         _exit(1);
     }
     struct needs needs = needs_of(request, run->text.bytes, run->text.len);
+    free(run->text.bytes); /* (msgfmt reads the file for itself) */
+    run->text.bytes = NULL;
     if (needs.line)
         end_with_flag_lines(run, needs.line);
     if (!why[0])
@@ -429,11 +434,13 @@ int main(int count, char **words) {
     }
     if (count == 3 && !strcmp(words[1], "--summary"))
         return summarise(words[2]);
-    run.ours = find_ours();
+    const char *named = getenv("KOBDZILA_MSGFMT");
+    bool is_called = is_linked() && !(named && *named);
+    run.ours = is_called ? NULL : find_ours();
     run.request = read_words(count, words);
-    if (!run.ours || !run.request || setenv(guard, "1", 1) < 0)
+    if ((!run.ours && !is_called) || !run.request || setenv(guard, "1", 1) < 0)
         stop_for_memory();
-    if (access(run.ours, X_OK) < 0)
+    if (run.ours && access(run.ours, X_OK) < 0)
         stop("there is no ", run.ours);
     drive(&run);
 }

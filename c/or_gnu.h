@@ -63,11 +63,13 @@ extern const char taken[];
 
 /* Return the path of the Kobdzila msgfmt that was built or installed with this program. NULL if memory runs out. */
 char *find_ours(void);
-/* Find GNU msgfmt and return its path, or NULL. `ours` is never taken for it. */
+/* Find GNU msgfmt and return its path, or NULL. `ours` is never taken for it; NULL means find_ours(). */
 char *find_gnu(const char *ours);
 /* Return the version of the GNU msgfmt at `path` as 1000 * major + minor, or 0 if it is unknown. */
 int gnu_version(const char *path);
 
+/* Give this process the program's streams. */
+void take_streams(struct streams streams);
 /* Run a program until it ends. A signal that ends the driver is passed on to the program first. */
 struct ending run_program(const char *path, char **words, struct streams streams);
 /* Replace this process by the program. Returns only on failure, with why. */
@@ -75,6 +77,12 @@ int become_program(const char *path, char **words, struct streams streams);
 /* End the driver the way the program ended. */
 _Noreturn void end_as(struct ending ending);
 
+/* Whether Kobdzila's msgfmt is a part of this program. */
+bool is_linked(void);
+/* Call it, as run_program runs a program. This process keeps the input; its output and errors are its own again. */
+struct ending call_linked(char **words, struct streams streams);
+
+enum { ABOVE_STREAMS = 10 }; /* the first number for the driver's own descriptors */
 /* Move a descriptor above those of the streams, with FD_CLOEXEC, and return its new number; -1 and errno on failure. */
 int raised(int descriptor);
 /* Open a file without a name, in memory or in TMPDIR; -1 and errno on failure. */

@@ -19,7 +19,6 @@ const char taken[] = "msgfmt-or-gnu: this program was taken for one of the two t
 /* --- files ---------------------------------------------------------------------------------------------------- */
 
 int raised(int descriptor) {
-    enum { ABOVE_STREAMS = 10 };
     if (descriptor < 0)
         return -1;
     int higher = fcntl(descriptor, F_DUPFD_CLOEXEC, ABOVE_STREAMS);
@@ -123,8 +122,7 @@ static struct ending wait_for(pid_t program) {
     return (struct ending){.status = WEXITSTATUS(how)};
 }
 
-/* Give this process the program's streams. */
-static void take_streams(struct streams streams) {
+void take_streams(struct streams streams) {
     if (streams.input >= 0)
         dup2(streams.input, STDIN_FILENO);
     if (streams.output >= 0)
@@ -247,6 +245,8 @@ char *find_gnu(const char *ours) {
     const char *named = getenv("GNU_MSGFMT"), *folders = getenv("PATH");
     if (named && *named)
         return strdup(named);
+    if (!ours && !(ours = find_ours()))
+        return NULL;
     while (folders) {
         const char *end = strchrnul(folders, ':');
         int len = (int)(end - folders);

@@ -115,6 +115,11 @@ static void take(struct request *request, int code, int place, char **words) {
     }
 }
 
+/* Whether a name is that of the error output, where messages and an MO file couldn't be told apart. */
+static bool is_error_output(const char *name) {
+    return !strcmp(name, "/dev/stderr") || !strcmp(name, "/dev/fd/2") || !strcmp(name, "/proc/self/fd/2");
+}
+
 /* Note what only GNU msgfmt answers before it reads a PO file, and what Kobdzila's msgfmt can't do. */
 static void look_at_names(struct request *request) {
     if (request->wants_version)
@@ -127,6 +132,8 @@ static void look_at_names(struct request *request) {
         needs_gnu(request, "", "more than one PO file");
     if (request->output && !is_utf8(request->output))
         needs_gnu(request, "", "a name that isn't UTF-8");
+    if (request->output && is_error_output(request->output))
+        needs_gnu(request, "", "FILE is the error output");
 }
 
 struct request *read_words(int count, char **words) {

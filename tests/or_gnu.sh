@@ -1,7 +1,7 @@
 #!/usr/bin/env bash
 # Runs bin/msgfmt-or-gnu over bin/msgfmt and GNU msgfmt: who compiles, with which answer, output and status; options in
-# each spelling; pipes; without one of the two programs; the log and its table; and faults. What is expected of GNU's side
-# is what GNU msgfmt answers to the same arguments when it is run by itself.
+# each spelling; pipes; without one of the two programs; the log and its table; and faults. What is expected of GNU's
+# side is what GNU msgfmt answers to the same arguments when it is run by itself.
 . "$(dirname "$0")/common"
 NAME=or_gnu
 . tests/driver/begin
@@ -19,7 +19,8 @@ export TMPDIR=$room/tmp
 { header UTF-8 fr && printf 'msgid "a\\n"\nmsgstr "b"\n'; } > newline.po
 { header UTF-8 fr && printf 'msgid "a"\nmsgstr "\\x41"\n'; } > escape.po
 { header UTF-8 fr && printf '#, python-format\nmsgid "%%(n)d"\nmsgstr "%%(m)d"\n'; } > python.po
-{ header UTF-8 fr && printf 'msgid "a"\nmsgstr "b"\n\n#, fuzzy\nmsgid "c"\nmsgstr "d"\n\nmsgid "e"\nmsgstr ""\n'; } > mixed.po
+{ header UTF-8 fr && printf 'msgid "a"\nmsgstr "b"\n\n#, fuzzy\nmsgid "c"\nmsgstr "d"\n'; } > mixed.po
+printf '\nmsgid "e"\nmsgstr ""\n' >> mixed.po
 { printf '\357\273\277' && cat ours.po; } > mark.po
 printf 'msgid "a"\nmsgstr ""\n' > nothing.po
 printf 'msgid "a"\nmsgstr "b"\n' > headless.po
@@ -32,52 +33,6 @@ cp ours.po po/fr.po
 cp charset.po -- '-dash.po'
 cp ours.po "$(printf 'caf\351.po')"
 cp ours.po "$(printf 'tab\tand\nline.po')"
-
-# drive ARGUMENT..: runs the driver on standard input; its $status, $room/out, $room/err and the log's lines
-drive() {
-  : > "$MSGFMT_OR_GNU_LOG"
-  "${under[@]}" "$driver" "$@" > out 2> err
-  status=$?
-}
-under=()
-
-# logged: the log without its milliseconds
-logged() { cut -f 1,2,3,5 "$MSGFMT_OR_GNU_LOG"; }
-
-# logs NAME LINE: the log is this line (\t for tabs), or empty, and no temporary file was left
-logs() {
-  if ! printf '%b' "${2:+$2\n}" | cmp -s - <(logged); then
-    failed "$1" "the log has '$(logged)'"
-  elif [ -n "$(ls -A "$TMPDIR")" ]; then
-    failed "$1" "it left $(ls -A "$TMPDIR")"
-  else
-    ok "$1"
-  fi
-}
-
-# is_of NAME LOG INPUT PROGRAM ARGUMENT..: the driver answers these arguments, on INPUT, just as PROGRAM: status, standard
-# output, error output, and FILE (x.mo) as well
-is_of() {
-  local name=$1 line=$2 input=$3 wanted
-  shift 3
-  rm -f x.mo messages.mo
-  "$@" < "$input" > wanted.out 2> wanted.err
-  wanted=$?
-  cat x.mo messages.mo > wanted.mo 2> /dev/null
-  rm -f x.mo messages.mo
-  shift
-  drive "$@" < "$input"
-  cat x.mo messages.mo > got.mo 2> /dev/null
-  if [ "$status" != "$wanted" ]; then
-    failed "$name" "status $status and not $wanted; it said '$(head -c 300 err)'"
-  elif ! cmp -s err wanted.err || ! cmp -s out wanted.out; then
-    failed "$name" "it said '$(head -c 300 err)' and not '$(head -c 300 wanted.err)', or wrote other bytes"
-  elif ! cmp -s got.mo wanted.mo; then
-    failed "$name" 'another MO file'
-  else
-    logs "$name" "$line"
-  fi
-}
 
 # who_compiles PREFIX: each case of the man page's table
 who_compiles() {
@@ -116,10 +71,12 @@ who_compiles() {
   is_of "${as}-C and messages left out" 'GNU\t1\t-C and a fuzzy message\tmixed.po' $none "$gnu" -C -o x.mo mixed.po
 }
 who_compiles driver
+if [ -n "$is_linked" ]; then KOBDZILA_MSGFMT=$program who_compiles 'driver that starts msgfmt'; fi
 
 # the program once more with the sanitizers, and a part of it under valgrind
 built=$driver
-if (cd "$top" && tools/build_driver "$room/checked" -g -fsanitize=address,undefined -fno-sanitize-recover=all) 2> gcc; then
+sanitizers=(-fsanitize=address,undefined -fno-sanitize-recover=all)
+if (cd "$top" && tools/build_driver "$room/checked" -g "${sanitizers[@]}") 2> gcc; then
   driver=$room/checked
   who_compiles 'driver with sanitizers'
 else
@@ -163,8 +120,8 @@ newlines 'in a context alone' 0 'msgctxt "x\\n"\nmsgid "a"\nmsgstr "b"\n'
 
 # --- options ----------------------------------------------------------------------------------------------------------
 
-# serves ARGUMENT..: Kobdzila's msgfmt compiles mixed.po to x.mo by these arguments, and GNU's has this status and prints
-# these statistics
+# serves ARGUMENT..: Kobdzila's msgfmt compiles mixed.po to x.mo by these arguments, and GNU's has this status and
+# prints these statistics
 "$program" -o wanted.mo mixed.po
 serves() {
   local wanted
@@ -209,6 +166,7 @@ only_gnu 'bad option --use' --use ours.po -o x.mo
 only_gnu 'bad option -o' ours.po -o
 only_gnu -j -j ours.po
 only_gnu --properties-input --prop ours.po
+only_gnu 'FILE is the error output' -o /dev/stderr ours.po
 
 
 # compiles NAME LOG FILE ARGUMENT..: the MO file x.mo is that of FILE by Kobdzila's msgfmt
@@ -277,7 +235,7 @@ for it in flags late_flags; do
 done
 compiles 'driver, #= in strings and without a flag' 'ours\t0\t-\tno_flags.po' no_flags.po -o x.mo no_flags.po
 
-# --- streams that are closed, pipes, and runs that are ended ------------------------------------------------------------
+# --- streams that are closed, pipes, and runs that are ended ----------------------------------------------------------
 
 printf 'more\n' > more
 { drive -o - ours.po; rest=$(cat); } < more
@@ -357,7 +315,7 @@ status=$?
 if [ $status = 7 ] && grep -qx caught err; then ok 'driver, a signal is handed on'
 else failed 'driver, a signal is handed on' "status $status, '$(cat err)'"; fi
 
-# --- the two programs: links, copies, none of GNU's, none of ours -------------------------------------------------------
+# --- the two programs: links, copies, none of GNU's, none of ours -----------------------------------------------------
 
 mkdir links copies wrapped
 ln -s "$driver" links/msgfmt
@@ -408,11 +366,13 @@ judge 'driver, itself for ours' 1 'msgfmt-or-gnu: this program was taken for one
 GNU_MSGFMT=$driver drive -o x.mo charset.po
 judge "driver, itself for GNU's" 1 'msgfmt-or-gnu: this program was taken for one of the two that it runs' &&
   ok "driver, itself for GNU's"
-mkdir beside && cp "$driver" beside/kob-msgfmt-or-gnu && ln -s "$program" beside/kob-msgfmt
-if (unset KOBDZILA_MSGFMT && beside/kob-msgfmt-or-gnu -o x.mo ours.po); then ok 'driver, ours beside it by its name'
+mkdir beside && ln -s "$program" beside/kob-msgfmt
+if ! (cd "$top" && LINKED='' tools/build_driver "$room/beside/kob-msgfmt-or-gnu" -g) 2> gcc; then
+  failed 'driver, ours beside it by its name' "it could not be built: $(tail -n 1 gcc)"
+elif (unset KOBDZILA_MSGFMT && beside/kob-msgfmt-or-gnu -o x.mo ours.po); then ok 'driver, ours beside it by its name'
 else failed 'driver, ours beside it by its name' 'it was not found'; fi
 
-# --- files that can't be written, many variables, runs at once ------------------------------------------------------------
+# --- files that can't be written, many variables, runs at once --------------------------------------------------------
 
 # unwritten WHY NAME: the driver says why
 unwritten() {
@@ -448,7 +408,7 @@ if [ "$lines" = 400 ] && [ "$(cat x-*.mo | wc -c)" = $((400 * $(wc -c < x-1.mo))
   ok 'driver, 400 runs at once in one log'
 else failed 'driver, 400 runs at once in one log' "$lines lines"; fi
 
-# --- the table of a log -------------------------------------------------------------------------------------------------
+# --- the table of a log -----------------------------------------------------------------------------------------------
 
 printf 'ours\t0\t-\t1.5\ta.po\nGNU\t0\tcharset=X\t10.0\tb.po\nGNU\t1\tcharset=X\t12.5\tc.po\n' > some
 printf 'GNU\t0\t--strict\t9.0\td.po\nours\t0\t-\t2.0\te.po\n' >> some
@@ -460,7 +420,8 @@ GNU         1       0           9.0  --strict
 all         5       1          35.0
 END
 drive --summary some
-if [ $status = 0 ] && cmp -s out table; then ok 'driver, --summary'; else failed 'driver, --summary' "$(diff out table)"; fi
+if [ $status = 0 ] && cmp -s out table; then ok 'driver, --summary'
+else failed 'driver, --summary' "$(diff out table)"; fi
 printf 'ours\t0\n' > some
 drive --summary some
 judge 'driver, --summary of another file' 1 'msgfmt-or-gnu: some:1: not a line of a log' &&

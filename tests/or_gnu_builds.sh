@@ -1,7 +1,7 @@
 #!/usr/bin/env bash
-# Builds small projects of CMake, Meson, the GNU build system, git's makefiles and Django through bin/msgfmt-or-gnu. Each
-# has a French catalogue, which Kobdzila's msgfmt compiles, and a German one in ISO-8859-1, which is GNU's. And `make
-# distcheck` with a link to the driver before GNU msgfmt on the PATH.
+# Builds small projects of CMake, Meson, the GNU build system, git's makefiles and Django through bin/msgfmt-or-gnu.
+# Each has a French catalogue, which Kobdzila's msgfmt compiles, and a German one in ISO-8859-1, which is GNU's. And
+# `make distcheck` with a link to the driver before GNU msgfmt on the PATH.
 . "$(dirname "$0")/common"
 NAME=or_gnu_builds
 . tests/driver/begin
@@ -10,7 +10,7 @@ NAME=or_gnu_builds
 unset GNU_MSGFMT
 notes_calls "$driver"
 
-# german: a German PO file beside the French one, in another charset
+# german: a German PO file next to the French one, in another charset
 german() {
   sed -e 's/^"Language: fr/"Language: de/' -e 's/UTF-8/ISO-8859-1/' -e 's/^msgstr "salut"/msgstr "gr\xfc\xdfe"/' \
     -e 's/^msgstr "Salut"/msgstr "Gr\xfc\xdfe"/' po/fr.po > po/de.po
