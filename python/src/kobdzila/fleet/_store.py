@@ -1,0 +1,114 @@
+"""What a follower feeds, and what its readers get."""
+from __future__ import annotations
+
+from collections.abc import Callable
+from contextlib import AbstractContextManager
+from types import TracebackType
+from typing import TYPE_CHECKING, Any, Protocol
+
+from .._session import Answer, Session
+
+if TYPE_CHECKING:
+    from typing_extensions import Self
+
+
+class Store(Protocol):
+    """What a Follower can feed: a store that shows its loads all at once, and counts them.
+
+    kobdzila.Session is one. A store that has a method `snapshot` as well gives it to the readers of the follower.
+    """
+
+    @property
+    def version(self) -> int:
+        """The number of loads that were published, and not refused."""
+
+    def load(self, domain: str, locale: str, data: bytes, /) -> object:
+        """Keep an MO file for the next publish. Raise an exception if it is refused."""
+
+    def publish(self) -> int:
+        """Show all loads since the last publish in one step, and return the version."""
+
+
+class Behind(Exception):
+    """The machine hasn't reached a version in the time given. `version` is the one that it has."""
+
+    version: int
+    at_least: int
+
+    def __init__(self, version: int, at_least: int) -> None:
+        super().__init__(version, at_least)
+        self.version, self.at_least = version, at_least
+
+    def __str__(self) -> str:
+        return f"version {self.version}, and {self.at_least} was asked for"
+
+
+class Snapshot:
+    """What a reader looks up in: the snapshot of the follower's store, whose methods this one has, too.
+
+    `version` is the log's. If the store is a Session, the methods are those of SessionTexts.
+    """
+
+    def __init__(self, made: AbstractContextManager[Any], log_version: Callable[[int], int]) -> None:
+        self._made, self._log_version = made, log_version
+        self._texts: Any = made
+
+    @property
+    def version(self) -> int:
+        """The log's version of the texts."""
+        return self._log_version(int(self._texts.version))
+
+    def __getattr__(self, name: str) -> Any:
+        if name.startswith("_"):
+            raise AttributeError(name)
+        return getattr(self._texts, name)
+
+    def __enter__(self) -> Self:
+        self._texts = self._made.__enter__()
+        return self
+
+    def __exit__(
+        self, kind: type[BaseException] | None, fault: BaseException | None, trace: TracebackType | None
+    ) -> None:
+        self._made.__exit__(kind, fault, trace)
+
+
+class SessionTexts:
+    """Look-ups in a Session that a follower feeds. The versions of the answers are the log's.
+
+    All answers to one `ask` are of one version. A later `ask` may be of a later one.
+    """
+
+    def __init__(self, session: Session, log_version: Callable[[int], int]) -> None:
+        self._session, self._log_version = session, log_version
+        self.version = session.version  # (the session's; Snapshot turns it into the log's)
+
+    def ask(self, domain: str, languages: str, *questions: tuple[str | int, ...]) -> list[Answer]:
+        """Return the answers to several questions, all of one version, such as ("ngettext", "file", "files", 2)."""
+        answers = self._session.ask(domain, languages, *questions)
+        self.version = max([self.version, *(answer.version for answer in answers)])
+        return [Answer(self._log_version(answer.version), answer.text) for answer in answers]
+
+    def gettext(self, domain: str, languages: str, text: str) -> Answer:
+        """Return the translation of `text`."""
+        return self.ask(domain, languages, ("gettext", text))[0]
+
+    def pgettext(self, domain: str, languages: str, context: str, text: str) -> Answer:
+        """Return the translation of `text` in `context`."""
+        return self.ask(domain, languages, ("pgettext", context, text))[0]
+
+    def ngettext(self, domain: str, languages: str, text: str, plural: str, n: int) -> Answer:
+        """Return the plural form for `n`."""
+        return self.ask(domain, languages, ("ngettext", text, plural, n))[0]
+
+    def npgettext(self, domain: str, languages: str, context: str, text: str, plural: str, n: int) -> Answer:
+        """Return the plural form for `n` of a message in `context`."""
+        return self.ask(domain, languages, ("npgettext", context, text, plural, n))[0]
+
+    def __enter__(self) -> Self:
+        return self
+
+    def __exit__(
+        self, kind: type[BaseException] | None, fault: BaseException | None, trace: TracebackType | None
+    ) -> None:
+        pass

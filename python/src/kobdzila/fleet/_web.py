@@ -1,0 +1,176 @@
+"""Middleware for WSGI and ASGI: each request gets a snapshot that is no older than what its visitor has seen."""
+from __future__ import annotations
+
+import asyncio
+import contextlib
+import inspect
+import threading
+from collections.abc import Awaitable, Callable, Iterable, Iterator, MutableMapping
+from http.cookies import CookieError, SimpleCookie
+from typing import Any
+
+from ._follow import Follower
+from ._store import Behind, Snapshot
+
+COOKIE = "kobdzila_version"
+HEADER = "Kobdzila-Version"
+KEY = "kobdzila.snapshot"
+COOKIE_SECONDS = 3600
+TRY_AGAIN_LATER = 1013  # a close code of WebSockets
+OLD = b"the texts of this machine are older than those that you have seen\n"
+MOST_WAITING = 32  # requests that wait at once; others are answered at once
+
+Environment = dict[str, Any]
+StartResponse = Callable[..., Any]
+Application = Callable[[Environment, StartResponse], Iterable[bytes]]
+Message = MutableMapping[str, Any]
+Receive = Callable[[], Awaitable[Message]]
+Send = Callable[[Message], Awaitable[None]]
+ASGIApplication = Callable[[Message, Receive, Send], Awaitable[None]]
+
+
+class Middleware:
+    """What both kinds share.
+
+    A request's version is that of its header `Kobdzila-Version` or its cookie, whichever is greater. The request waits
+    at most `within` seconds until this machine shows it. If it doesn't, the answer is 503, so that a load balancer
+    tries another machine; with `serve_older` the application is called all the same. The answer's version is in its
+    header and its cookie.
+
+    If the store's `snapshot` takes languages, they are those of the header Accept-Language, and `domain` is its domain.
+    """
+
+    def __init__(
+        self, follower: Follower, within: float, serve_older: bool, cookie: str, domain: str | None
+    ) -> None:
+        self.follower, self.within, self.serve_older, self.cookie = follower, within, serve_older, cookie
+        self.domain = domain
+        take = getattr(follower.store, "snapshot", None)
+        self._takes_languages = take is not None and "languages" in inspect.signature(take).parameters
+        self._waiting = threading.BoundedSemaphore(MOST_WAITING)
+
+    def wanted(self, header: str, cookies: str) -> int:
+        """Return the version that a request has seen, or 0."""
+        read: SimpleCookie[str] = SimpleCookie()
+        with contextlib.suppress(CookieError):
+            read.load(cookies)
+        morsel = read.get(self.cookie)
+        texts = (header.strip(), morsel.value if morsel else "")
+        return max(int(text) if text.isdecimal() and len(text) < 19 else 0 for text in texts)
+
+    def is_ready(self, at_least: int) -> bool:
+        """Whether a snapshot of this version can be had at once."""
+        try:
+            self.follower.wait_for(at_least, 0)
+        except Behind:
+            return False
+        return True
+
+    def snapshot(self, at_least: int, accepted: str) -> Snapshot | None:
+        """Return a snapshot, or None if the request has to be answered by 503. `accepted` is its Accept-Language."""
+        if not self._waiting.acquire(blocking=False):
+            return self._taken(at_least, 0, accepted)
+        try:
+            return self._taken(at_least, self.within, accepted)
+        finally:
+            self._waiting.release()
+
+    def _taken(self, at_least: int, within: float, accepted: str) -> Snapshot | None:
+        options = {"languages": accepted, "domain": self.domain} if self._takes_languages else {}
+        for version in [at_least, 0] if self.serve_older else [at_least]:
+            with contextlib.suppress(Behind):
+                return self.follower.snapshot(at_least=version, within=within, **options)
+        return None
+
+    def headers(self, snapshot: Snapshot) -> list[tuple[str, str]]:
+        version = str(snapshot.version)
+        kept = f"{self.cookie}={version}; Max-Age={COOKIE_SECONDS}; Path=/; SameSite=Lax; HttpOnly"
+        return [(HEADER, version), ("Set-Cookie", kept)]
+
+
+class WSGIMiddleware(Middleware):
+    """Puts a Snapshot into the environment of each request, as `kobdzila.snapshot`.
+
+        application = WSGIMiddleware(application, follower)
+    """
+
+    def __init__(
+        self, application: Application, follower: Follower, domain: str | None = None, *, within: float = 0.5,
+        serve_older: bool = False, cookie: str = COOKIE,
+    ) -> None:
+        super().__init__(follower, within, serve_older, cookie, domain)
+        self.application = application
+
+    def __call__(self, environ: Environment, start_response: StartResponse) -> Iterable[bytes]:
+        at_least = self.wanted(environ.get("HTTP_KOBDZILA_VERSION", ""), environ.get("HTTP_COOKIE", ""))
+        made = self.snapshot(at_least, environ.get("HTTP_ACCEPT_LANGUAGE", ""))
+        if made is None:
+            start_response("503 Service Unavailable", [("Content-Type", "text/plain"), ("Retry-After", "1")])
+            return [OLD]
+        return self._answered(made, environ, start_response)
+
+    def _answered(self, made: Snapshot, environ: Environment, start_response: StartResponse) -> Iterator[bytes]:
+        with made as snapshot:
+            def start(status: str, headers: list[tuple[str, str]], *more: Any) -> Any:
+                return start_response(status, [*headers, *self.headers(snapshot)], *more)
+
+            environ[KEY] = snapshot
+            body = self.application(environ, start)
+            try:
+                yield from body
+            finally:
+                close = getattr(body, "close", None)
+                if close is not None:
+                    close()
+
+
+class ASGIMiddleware(Middleware):
+    """Puts a Snapshot into the scope of each HTTP request and WebSocket, as `kobdzila.snapshot`.
+
+    A WebSocket whose version isn't there in time is closed with the code 1013, "try again later".
+
+        application = ASGIMiddleware(application, follower)
+    """
+
+    def __init__(
+        self, application: ASGIApplication, follower: Follower, domain: str | None = None, *, within: float = 0.5,
+        serve_older: bool = False, cookie: str = COOKIE,
+    ) -> None:
+        super().__init__(follower, within, serve_older, cookie, domain)
+        self.application = application
+
+    async def __call__(self, scope: Message, receive: Receive, send: Send) -> None:
+        if scope["type"] not in ("http", "websocket"):
+            await self.application(scope, receive, send)
+            return
+        made = await self._made(scope)
+        if made is None:
+            await self._refuse(scope, send)
+            return
+        with made as snapshot:
+            async def sends(message: Message) -> None:
+                if message["type"] == "http.response.start":
+                    own = [(name.lower().encode(), value.encode()) for name, value in self.headers(snapshot)]
+                    message = {**message, "headers": [*message.get("headers", []), *own]}
+                await send(message)
+
+            await self.application({**scope, KEY: snapshot}, receive, sends)
+
+    async def _made(self, scope: Message) -> Snapshot | None:
+        """Return a snapshot for a request. The event loop doesn't wait for it."""
+        def named(wanted: bytes, joint: str) -> str:
+            return joint.join(value.decode("latin-1") for name, value in scope["headers"] if name.lower() == wanted)
+
+        at_least = self.wanted(named(HEADER.lower().encode(), ","), named(b"cookie", "; "))
+        accepted = named(b"accept-language", ",")
+        made = self._taken(at_least, 0, accepted) if self.is_ready(at_least) else None
+        return made or await asyncio.to_thread(self.snapshot, at_least, accepted)
+
+    @staticmethod
+    async def _refuse(scope: Message, send: Send) -> None:
+        if scope["type"] == "websocket":
+            await send({"type": "websocket.close", "code": TRY_AGAIN_LATER})
+            return
+        headers = [(b"content-type", b"text/plain"), (b"retry-after", b"1")]
+        await send({"type": "http.response.start", "status": 503, "headers": headers})
+        await send({"type": "http.response.body", "body": OLD})

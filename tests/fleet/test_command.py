@@ -1,0 +1,171 @@
+"""The program kob-fleet, and the commands of docs/guide/fleet.md as they are written there."""
+from __future__ import annotations
+
+import contextlib
+import io
+import json
+import os
+import re
+import subprocess
+import sys
+import tempfile
+import unittest
+import uuid
+from pathlib import Path
+from typing import Any
+from unittest import mock
+
+import kobdzila
+import servers
+from kobdzila.fleet import Log, _command
+from stores import NO_SESSION, has_catsession
+
+TOP = Path(__file__).resolve().parents[2]
+GUIDE = TOP / "docs" / "guide" / "fleet.md"
+SERVER: Any = None
+
+
+def setUpModule() -> None:
+    global SERVER
+    made = servers.primary()
+    SERVER = made.__enter__()
+    unittest.addModuleCleanup(made.__exit__, None, None, None)
+
+
+class CommandTest(unittest.TestCase):
+    def setUp(self) -> None:
+        folder = tempfile.TemporaryDirectory()
+        self.addCleanup(folder.cleanup)
+        self.room = Path(folder.name)
+        self.environment = {**os.environ, "KOB_FLEET_DATABASE": SERVER.address, "TZ": "UTC", "LC_ALL": "C.UTF-8"}
+        program = self.room / "kob-fleet"
+        program.write_text(f'#!/bin/sh\nexec {sys.executable} -m kobdzila.fleet._command "$@"\n', encoding="utf-8")
+        program.chmod(0o755)
+        self.environment["PATH"] = f"{self.room}:{os.environ['PATH']}"
+        self.run_program("init")
+        with Log(SERVER.address) as log:
+            log._connected().execute("drop schema kobdzila cascade")
+
+    def run_program(self, *words: str) -> tuple[int, str, str]:
+        """Run kob-fleet in this process, which is quicker than to start one."""
+        out, error, before = io.StringIO(), io.StringIO(), os.getcwd()
+        os.chdir(self.room)
+        try:
+            with contextlib.redirect_stdout(out), contextlib.redirect_stderr(error):
+                with mock.patch.dict(os.environ, self.environment):
+                    status = _command.main(words)
+        finally:
+            os.chdir(before)
+        return status, out.getvalue(), error.getvalue()
+
+    def start_program(self, *words: str, text: str = "") -> tuple[int, str, str]:
+        done = subprocess.run(["kob-fleet", *words], cwd=self.room, env=self.environment, input=text,
+                              capture_output=True, text=True, timeout=60)
+        return done.returncode, done.stdout, done.stderr
+
+    def file(self, name: str, text: str) -> None:
+        (self.room / name).write_text(text, encoding="utf-8")
+
+    def test_a_life(self) -> None:
+        self.file("fr.po", 'msgid "a"\nmsgstr "un"\n')
+        self.file("zwei.po", 'msgid "a"\nmsgstr "zwei"\n')
+        (self.room / "de.mo").write_bytes(kobdzila.Catalogue.from_po(b'msgid "a"\nmsgstr "eins"\n').mo_file())
+        no_log = "kob-fleet: this database has no log: kob-fleet init creates one\n"
+        for words in (["publish", "app/fr=fr.po"], ["status"], ["history"], ["rollback", "1"], ["compact"]):
+            self.assertEqual(self.run_program(*words), (1, "", no_log), words)
+        self.assertEqual(self.run_program("init"), (0, "version 0\n", ""))
+        self.assertEqual(self.run_program("status"), (0, "version 0, 0 publishes, cut up to 0\n", ""))
+        self.assertEqual(self.run_program("publish", "app/fr=fr.po", "app/de=de.mo"), (0, "version 2\n", ""))
+        number = str(uuid.uuid4())
+        for _ in range(2):
+            self.assertEqual(self.run_program("publish", "--id", number, "--note", "a note", "app/de=zwei.po"),
+                             (0, "version 3\n", ""))
+        self.assertEqual(self.run_program("rollback", "2"), (0, "version 4\n", ""))
+        status, text, _ = self.run_program("history", "-n", "3")
+        time = r"  \d{4}-\d\d-\d\d \d\d:\d\d:\d\d  "
+        self.assertEqual(status, 0)
+        lines = (rf"4{time}app/de  \(rollback to 2\)\n", rf"3{time}app/de  \(a note\)\n", rf"2{time}app/fr app/de\n")
+        self.assertRegex(text, rf"\A{''.join(lines)}\Z")
+        self.assertEqual(self.run_program("compact"), (0, "cut up to version 4\n", ""))
+        self.assertIn("kob-fleet: the loads of version 2 were cut", self.run_program("rollback", "2")[2])
+        self.assertEqual(json.loads(self.run_program("status", "--json")[1]),
+                         {"version": 4, "publishes": 3, "cut": 4, "machines": []})
+
+    def test_what_is_refused(self) -> None:
+        self.run_program("init")
+        self.file("fr.po", 'msgid "a"\nmsgstr "x"\nmsgid "a"\nmsgstr "y"\n')
+        self.file("de.po", '#, c-format\nmsgid "%d"\nmsgstr "%s"\n')
+        self.file("bad.mo", "x" * 50)
+        self.file("good.po", 'msgid "a"\nmsgstr "x"\n')
+        words = ("app/it=good.po", "app/fr=fr.po", "app/de=de.po", "app/x=bad.mo")
+        status, text, said = self.run_program("publish", *words)
+        lines = said.splitlines()
+        self.assertEqual((status, text, len(lines), lines[0]), (1, "", 4, "fr.po:3: duplicate message"))
+        self.assertRegex(lines[1], r"\Ade\.po:2: ")
+        self.assertRegex(lines[2], r"\Abad\.mo: ")
+        self.assertEqual(lines[3], "kob-fleet: nothing was published")
+        self.assertEqual(self.run_program("publish", "app/fr=none.po")[0], 1)
+        self.assertEqual(self.run_program("publish", "--no-check", "app/de=de.po")[:2], (0, "version 1\n"))
+        for word in ("app=good.po", "app/fr", "a b/fr=good.po", "app/=good.po"):
+            self.assertEqual(self.run_program("publish", word)[::2],
+                             (1, f"kob-fleet: not of the form DOMAIN/LOCALE=FILE: {word}\n"))
+
+    def test_a_server_that_is_not_there(self) -> None:
+        self.file("fr.po", 'msgid "a"\nmsgstr "un"\n')
+        status, text, said = self.run_program("-d", f"host=127.0.0.1 port={servers.free_port()}", "publish", "--within",
+                                              "0.2", "app/fr=fr.po")
+        self.assertEqual((status, text), (2, ""))
+        self.assertRegex(said, r"publish [0-9a-f-]{36} may or may not be in the log: .*(?s:.)*--id [0-9a-f-]{36}\n\Z")
+
+    @unittest.skipUnless(has_catsession(), NO_SESSION)
+    def test_follow(self) -> None:
+        self.run_program("init")
+        self.file("fr.po", 'msgid "a\\n"\nmsgstr "un\\t\\n"\n')
+        self.run_program("publish", "app/fr=fr.po")
+        self.run_program("publish", "app/fr=fr.po", "app/de=fr.po")
+        rounds = ("# asked\n\nask\t0\tapp\tfr\tgettext\ta\\n\nask\t0\tapp\tsv\tngettext\tb\tc\t2\ngo\n"
+                  "ask\t0\tapp\tde\tgettext\tx\n")
+        status, text, said = self.start_program("follow", "-m", "one", "-v", text=rounds)
+        self.assertEqual((status, text, said),
+                         (0, "version\t3\n0\t3\tun\\t\\n\n0\t3\tc\nversion\t3\n0\t3\tx\n", "kob-fleet: version 3\n"))
+        self.assertRegex(self.run_program("status")[1], r"\none +3 +0 +- +\d+ s ago  follows\n\Z")
+        for wrong in ("load\tapp\tfr\t-\t0\ngo\n", "ask\t1\tapp\tfr\tgettext\ta\ngo\n", "x\n"):
+            status, text, said = self.start_program("follow", text=wrong)
+            self.assertEqual((status, text, said),
+                             (1, "", "kob-fleet: line 1: neither a question to worker 0 nor `go`\n"))
+
+    def runs(self, program: str) -> None:
+        """A program of the guide runs, in a folder with fr.mo."""
+        (self.room / "fr.mo").write_bytes(kobdzila.Catalogue.open(TOP / "examples" / "fr.po").mo_file())
+        done = subprocess.run([sys.executable, "-c", program], cwd=self.room, env=self.environment, text=True,
+                              capture_output=True, timeout=60, check=False)
+        self.assertEqual((done.returncode, done.stderr), (0, ""), program)
+        self.assertIn(done.stdout, ("", "Hiver\n"))
+
+    @unittest.skipUnless(has_catsession(), NO_SESSION)
+    def test_the_guide(self) -> None:
+        text = GUIDE.read_text(encoding="utf-8")
+        scripts = re.findall(r"^```sh\n(.*?)^```$", text, re.M | re.S)
+        printed = re.search(r"^```text\n(.*?)^```$", text, re.M | re.S)[1]
+        (self.room / "examples").symlink_to(TOP / "examples")
+        written = "host=127.0.0.1 port=5432 dbname=texts user=kob"
+        self.assertIn(written, scripts[0])
+        first, second = (it.replace(written, SERVER.address) for it in scripts)
+        done = subprocess.run(["sh", "-e", "-c", first], cwd=self.room, env=self.environment, capture_output=True,
+                              text=True, timeout=60)
+        self.assertEqual((done.returncode, done.stderr, done.stdout), (0, "", "version 0\nversion 2\n" + printed))
+        done = subprocess.run(["sh", "-e", "-c", second], cwd=self.room, env=self.environment, capture_output=True,
+                              text=True, timeout=60)
+        self.assertEqual((done.returncode, done.stderr), (0, ""))
+        lines = done.stdout.splitlines()
+        # (the texts are those of version 2, so the rollback has nothing to publish; web1 is at version 2)
+        self.assertEqual((lines[0], lines[3], lines[-1]), ("version 3", "version 3", "cut up to version 2"))
+        for program in re.findall(r"^```python\n(.*?)^```$", text, re.M | re.S)[:2]:
+            self.runs(program.replace("host=db1,db2 dbname=texts user=kob", SERVER.address))
+        refused = re.search(r"^    (fr\.po:3: .*)\n    (kob-fleet: .*)$", text, re.M)
+        self.file("fr.po", 'msgid "a"\nmsgstr "x"\nmsgid "a"\nmsgstr "y"\n')
+        self.assertEqual(self.run_program("publish", "garden/fr=fr.po")[2], f"{refused[1]}\n{refused[2]}\n")
+
+
+if __name__ == "__main__":
+    unittest.main()

@@ -1,0 +1,155 @@
+"""The middleware: each request gets texts that are no older than what its visitor has seen, or 503."""
+from __future__ import annotations
+
+import asyncio
+import threading
+import time
+import unittest
+from typing import Any
+from unittest import mock
+from wsgiref.util import setup_testing_defaults
+from wsgiref.validate import validator
+
+from kobdzila.fleet import ASGIMiddleware, Follower, Load, WSGIMiddleware
+from stores import PAIRS, Catalogues, mo
+
+
+def page(environ: dict[str, Any], start_response: Any) -> list[bytes]:
+    start_response("200 OK", [("Content-Type", "text/plain")])
+    return [environ["kobdzila.snapshot"].gettext("app", "fr", "k1").encode()]
+
+
+async def async_page(scope: Any, receive: Any, send: Any) -> None:
+    text = scope["kobdzila.snapshot"].gettext("app", "fr", "k1") if scope["type"] == "http" else "none"
+    await send({"type": "http.response.start", "status": 200, "headers": [(b"content-type", b"text/plain")]})
+    await send({"type": "http.response.body", "body": text.encode()})
+
+
+class Case(unittest.TestCase):
+    def setUp(self) -> None:
+        self.follower = Follower(Catalogues(), "host=none.invalid")  # (it isn't started)
+        self.addCleanup(self.follower.close)
+
+    def shows(self, number: int) -> None:
+        """The follower plays a publish."""
+        made = [Load(*pair, mo(number)) for pair in PAIRS]
+        self.follower._show(made, self.follower.version + 2, b"")
+
+    def check(self, answers: Any) -> None:
+        """What both kinds do; `answers` gives status, headers and text for the headers of a request."""
+        status, headers, _ = answers({})
+        self.assertEqual((status, headers.get("retry-after")), (503, "1"))  # (it hasn't joined)
+        self.shows(1)
+        status, headers, text = answers({})
+        self.assertEqual((status, headers["kobdzila-version"], text), (200, "2", "k1 at 1"))
+        cookie = headers["set-cookie"].partition(";")[0]
+        self.assertEqual(cookie, "kobdzila_version=2")
+        for seen in ({"cookie": f"a=b; {cookie}"}, {"kobdzila-version": "2"}, {"cookie": "kobdzila_version=x"},
+                     {"kobdzila-version": "-5"}, {"cookie": "kobdzila_version=" + "9" * 30}, {"cookie": "=;;\""}):
+            self.assertEqual(answers(seen)[::2], (200, "k1 at 1"), seen)
+        begun = time.monotonic()
+        self.assertEqual(answers({"cookie": "kobdzila_version=4"})[0], 503)
+        self.assertGreater(time.monotonic() - begun, 0.2)
+        timer = threading.Timer(0.1, self.shows, [2])
+        timer.start()
+        self.assertEqual(answers({"cookie": "kobdzila_version=4", "kobdzila-version": "3"})[::2], (200, "k1 at 2"))
+        timer.join()
+
+
+class WSGITest(Case):
+    def answers(self, headers: dict[str, str], **options: Any) -> tuple[int, dict[str, str], str]:
+        environ: dict[str, Any] = {f"HTTP_{name.upper().replace('-', '_')}": text for name, text in headers.items()}
+        environ["QUERY_STRING"] = ""
+        setup_testing_defaults(environ)
+        got: list[Any] = []
+
+        def start_response(status: str, headers: list[tuple[str, str]], *more: Any) -> Any:
+            got[:] = [int(status.split()[0]), {name.lower(): text for name, text in headers}]
+            return lambda data: None
+
+        body = validator(WSGIMiddleware(page, self.follower, within=0.3, **options))(environ, start_response)
+        text = b"".join(body).decode()
+        body.close()
+        return got[0], got[1], text
+
+    def test_versions(self) -> None:
+        self.check(self.answers)
+
+    def test_older_texts(self) -> None:
+        self.assertEqual(self.answers({}, serve_older=True)[0], 503)
+        self.shows(1)
+        status, headers, text = self.answers({"kobdzila-version": "9"}, serve_older=True, cookie="v")
+        self.assertEqual((status, headers["kobdzila-version"], text), (200, "2", "k1 at 1"))
+        self.assertTrue(headers["set-cookie"].startswith("v=2;"))
+
+    def test_languages_of_the_request(self) -> None:
+        asked: list[object] = []
+
+        class Speaking(Catalogues):
+            def snapshot(self, languages: str = "", domain: str | None = None) -> Any:
+                asked.append((languages, domain))
+                return super().snapshot()
+
+        self.follower.store = Speaking()
+        self.shows(1)
+        environ: dict[str, Any] = {"HTTP_ACCEPT_LANGUAGE": "fr, de;q=0.5"}
+        setup_testing_defaults(environ)
+        b"".join(WSGIMiddleware(page, self.follower, "shop")(environ, mock.Mock()))
+        scope = {"type": "http", "headers": [(b"accept-language", b"fr"), (b"accept-language", b"de")]}
+        asyncio.run(ASGIMiddleware(async_page, self.follower, "shop")(scope, mock.AsyncMock(), mock.AsyncMock()))
+        self.assertEqual(asked, [("fr, de;q=0.5", "shop"), ("fr,de", "shop")])
+
+    def test_few_wait(self) -> None:
+        self.shows(1)
+        made = WSGIMiddleware(page, self.follower, within=0.5)
+        with mock.patch.object(made, "_waiting", threading.BoundedSemaphore(1)):
+            first = threading.Thread(target=made.snapshot, args=[9, ""], daemon=True)
+            first.start()
+            time.sleep(0.1)
+            begun = time.monotonic()
+            self.assertIsNone(made.snapshot(9, ""))
+            self.assertEqual(made.snapshot(2, "").version, 2)
+            self.assertLess(time.monotonic() - begun, 0.3)
+            first.join()
+
+
+class ASGITest(Case):
+    def answers(self, headers: dict[str, str], kind: str = "http") -> tuple[int, dict[str, str], str]:
+        sent: list[Any] = []
+
+        async def send(message: Any) -> None:
+            sent.append(message)
+
+        async def receive() -> Any:
+            return {"type": "http.request"}
+
+        scope = {"type": kind, "headers": [(name.encode(), text.encode()) for name, text in headers.items()]}
+        asyncio.run(ASGIMiddleware(async_page, self.follower, within=0.3)(scope, receive, send))
+        named = {name.decode(): text.decode() for name, text in sent[0]["headers"]}
+        return sent[0]["status"], named, sent[1]["body"].decode()
+
+    def test_versions(self) -> None:
+        self.check(self.answers)
+
+    def test_what_is_not_http(self) -> None:
+        self.assertEqual(self.answers({}, "lifespan")[::2], (200, "none"))
+
+    def test_websockets(self) -> None:
+        for version, sent in (("2", "websocket.accept"), ("4", "websocket.close")):
+            if self.follower.version == 0:
+                self.shows(1)
+            seen: list[Any] = []
+
+            async def application(scope: Any, receive: Any, send: Any) -> None:
+                seen.append(scope["kobdzila.snapshot"].version)
+                await send({"type": "websocket.accept"})
+
+            send = mock.AsyncMock()
+            scope = {"type": "websocket", "headers": [(b"cookie", f"kobdzila_version={version}".encode())]}
+            asyncio.run(ASGIMiddleware(application, self.follower, within=0.1)(scope, mock.AsyncMock(), send))
+            self.assertEqual([call.args[0]["type"] for call in send.await_args_list], [sent])
+            self.assertEqual(seen, [2] if version == "2" else [])
+
+
+if __name__ == "__main__":
+    unittest.main()
