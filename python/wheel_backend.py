@@ -30,12 +30,15 @@ VERSION = (TOP / "VERSION").read_text(encoding="utf-8").strip()
 LEAST_GLIBC = 17  # no Linux that runs Python 3.10 has an older one than 2.17
 FLAGS = ("-std=c11", "-O2", "-fPIC", "-Wall", "-Wextra", "-Werror", "-fvisibility=hidden", "-fstack-protector-strong")
 LINKED = ("-shared", "-Wl,--exclude-libs,ALL", "-Wl,-z,text", "-Wl,-z,relro", "-Wl,-z,now", "-Wl,--build-id=none")
+ENTRY_POINTS = "[console_scripts]\nkob-fleet = kobdzila.fleet._command:main\n"
 METADATA = f"""\
 Metadata-Version: 2.1
 Name: kobdzila
 Version: {VERSION}
 Summary: Message catalogues of GNU gettext, with the interface of the standard module gettext
 Requires-Python: >=3.10
+Provides-Extra: fleet
+Requires-Dist: psycopg>=3.1; extra == 'fleet'
 Classifier: Programming Language :: Python :: 3
 Classifier: Programming Language :: C
 Classifier: Operating System :: POSIX :: Linux
@@ -76,6 +79,12 @@ def tag_of(extension: Path) -> str:
     return f"cp310-abi3-manylinux_2_{glibc}_{platform.machine()}"
 
 
+def manual_page() -> str:
+    """Return the manual page of kob-fleet, which names the version."""
+    text = (TOP / "docs" / "man" / "kob-fleet.1").read_text(encoding="utf-8")
+    return text.replace(" Kobdzila ", f' "Kobdzila {VERSION}" ', 1)
+
+
 def members(extension: bytes, tag: str) -> dict[str, bytes]:
     """Return the files of the wheel but for RECORD, by their names in it."""
     files = {"kobdzila/_kobdzila.abi3.so": extension}
@@ -89,6 +98,8 @@ def members(extension: bytes, tag: str) -> dict[str, bytes]:
             files["kobdzila/bin/catsession"] = Path(room, "catsession").read_bytes()
     info = f"kobdzila-{VERSION}.dist-info"
     files[f"{info}/METADATA"] = (METADATA + (HERE / "README.md").read_text(encoding="utf-8")).encode()
+    files[f"{info}/entry_points.txt"] = ENTRY_POINTS.encode()
+    files[f"kobdzila-{VERSION}.data/data/share/man/man1/kob-fleet.1"] = manual_page().encode()
     files[f"{info}/WHEEL"] = (
         f"Wheel-Version: 1.0\nGenerator: kobdzila ({VERSION})\nRoot-Is-Purelib: false\nTag: {tag}\n".encode()
     )

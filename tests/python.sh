@@ -41,6 +41,7 @@ if [ -z "$first" ]; then
   tests/needs "$room/debian" python3-dev python3-venv
   script frameworks '/usr/bin/python3 -c "import flask, jinja2"'
   tests/needs "$room/frameworks" python3-flask python3-jinja2
+  tests/needs chromium chromium # (for the page of examples/shop)
   is_usable "$first" && has_headers "$first" || first=$(command -v python3 || echo none)
 fi
 if ! is_usable "$first"; then
@@ -62,8 +63,9 @@ fi
 wheel=$(echo "$room"/wheel/*.whl)
 ok "the Python package, ${wheel##*/}: $(wc -c < "$wheel") bytes"
 
-mkdir -p "$room/copy/build/static" "$room/copy/build/lib"
+mkdir -p "$room/copy/build/static" "$room/copy/build/lib" "$room/copy/docs"
 cp -R python include tools VERSION "$room/copy"
+cp -R docs/man "$room/copy/docs"
 cp build/lib/libkobdzila.a "$room/copy/build/lib"
 [ ! -f build/static/catsession ] || cp build/static/catsession "$room/copy/build/static"
 epoch=$(git log -1 --format=%ct 2> /dev/null || echo 0)
@@ -112,10 +114,10 @@ fi
 
 # judged NAME STATUS FILE: reports a run of unittest, and what was skipped in it
 judged() {
-  local count
+  local count numbers='[0-9]+ (installed catalogues|mutated catalogues|pages of).*'
   count=$(sed -n 's/^Ran \([0-9]*\) tests.*/\1/p' "$3")
   if [ "$2" = 0 ] && [ "${count:-0}" -gt 40 ]; then
-    ok "$1: $count tests$(grep -oE '[0-9]+ (installed|mutated) catalogues.*' "$3" | sed 's/^/; /' | tr -d '\n')"
+    ok "$1: $count tests$(grep -oE "$numbers" "$3" | sed 's/^/; /' | tr -d '\n')"
     sed -n "s/.* skipped ['\"]\\(.*\\)['\"]\$/\\1/p" "$3" | sort | uniq -c | while read -r count why; do
       skipped "$1, $count tests" "$why"
     done

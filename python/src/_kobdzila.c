@@ -1,23 +1,15 @@
-/* The extension module kobdzila._kobdzila: the catalogues of libkobdzila as a Python type.
+/* The extension module kobdzila._kobdzila: the catalogues of libkobdzila as a Python type, and the module itself. Its
+ * stores are in store.c.
  *
  * It uses the limited API of Python 3.10, so one build serves each later version, too. The type has the look-ups of
  * the standard module gettext as methods in C; the classes of the package inherit them. */
-#include "answers.h"
+#include "module.h"
 
 #include <errno.h>
 #include <stdlib.h>
 #include <string.h>
 
 static struct PyModuleDef definition;
-
-/* The calls that are passed on to a fallback, and their names. */
-enum call { GETTEXT, PGETTEXT, NGETTEXT, NPGETTEXT, OTHER_NUMBER, CALLS };
-
-struct state {
-    PyObject *catalogue; /* the type */
-    PyObject *refused;   /* kobdzila.Refused */
-    PyObject *names[CALLS];
-};
 
 struct catalogue {
     PyObject_HEAD
@@ -27,100 +19,11 @@ struct catalogue {
     struct answers answers;
 };
 
-typedef PyObject *(*fast_function)(PyObject *, PyObject *const *, Py_ssize_t, PyObject *);
-
 static struct catalogue *catalogue_of(PyObject *object) { return (struct catalogue *)object; }
 
-/* ------------------------------------------------------------------------------------------------ arguments */
+kob_catalogue *held_in(PyObject *catalogue) { return catalogue_of(catalogue)->held; }
 
-/* The arguments of a function: its name for messages, their names, and how many must be given. */
-struct signature {
-    const char *function;
-    const char *const *names;
-    Py_ssize_t count, required;
-};
-
-/* Return the number of the argument that `keyword` names, or -1. */
-static Py_ssize_t place_of(const struct signature *wanted, PyObject *keyword) {
-    for (Py_ssize_t k = 0; k < wanted->count; k++)
-        if (PyUnicode_CompareWithASCIIString(keyword, wanted->names[k]) == 0)
-            return k;
-    return -1;
-}
-
-/* Store the keyword arguments in `out`. Return 0, or -1 with an exception. */
-static int take_keywords(const struct signature *wanted, PyObject *const *values, PyObject *keywords, PyObject **out) {
-    Py_ssize_t count = PyTuple_Size(keywords);
-    for (Py_ssize_t k = 0; k < count; k++) {
-        PyObject *keyword = PyTuple_GetItem(keywords, k);
-        Py_ssize_t place = place_of(wanted, keyword);
-        if (place < 0) {
-            PyErr_Format(PyExc_TypeError, "%s() got an unexpected keyword argument '%U'", wanted->function, keyword);
-            return -1;
-        }
-        if (out[place]) {
-            PyErr_Format(PyExc_TypeError, "%s() got multiple values for argument '%U'", wanted->function, keyword);
-            return -1;
-        }
-        out[place] = values[k];
-    }
-    return 0;
-}
-
-/* Store the arguments, borrowed, in `out`, with NULL for those that aren't given. Return 0, or -1 with an exception. */
-static int take(const struct signature *wanted, PyObject *const *args, Py_ssize_t given, PyObject *keywords,
-                PyObject **out) {
-    if (given > wanted->count) {
-        PyErr_Format(PyExc_TypeError, "%s() takes %zd arguments (%zd given)", wanted->function, wanted->count, given);
-        return -1;
-    }
-    for (Py_ssize_t k = 0; k < wanted->count; k++)
-        out[k] = k < given ? args[k] : NULL;
-    if (keywords && take_keywords(wanted, args + given, keywords, out) < 0)
-        return -1;
-    for (Py_ssize_t k = 0; k < wanted->required; k++)
-        if (!out[k]) {
-            PyErr_Format(PyExc_TypeError, "%s() missing argument: '%s'", wanted->function, wanted->names[k]);
-            return -1;
-        }
-    return 0;
-}
-
-/* Return the arguments of a call that takes all of them: `args` itself in the usual case, else `out`. NULL: an
- * exception. */
-static inline PyObject *const *all_of(const struct signature *wanted, PyObject *const *args, Py_ssize_t given,
-                                      PyObject *keywords, PyObject **out) {
-    if (given == wanted->count && !keywords)
-        return args;
-    return take(wanted, args, given, keywords, out) < 0 ? NULL : out;
-}
-
-/* Store the UTF-8 of a str in *text and return 1. Return 0 if the object isn't a str or has a surrogate, since no
- * catalogue has such a message, and -1 with an exception if memory runs out. */
-static int utf8_of(PyObject *object, kob_text *text) {
-    Py_ssize_t len;
-    text->at = PyUnicode_AsUTF8AndSize(object, &len);
-    if (text->at) {
-        text->len = (size_t)len;
-        return 1;
-    }
-    if (!PyErr_ExceptionMatches(PyExc_UnicodeEncodeError) && !PyErr_ExceptionMatches(PyExc_TypeError))
-        return -1;
-    PyErr_Clear();
-    return 0;
-}
-
-/* Store the value of an int from 0 to 2**64 - 1 in *n and return 1. Return 0 if the object is anything else, and -1
- * with an exception. */
-static int number_of(PyObject *object, unsigned long long *n) {
-    *n = PyLong_AsUnsignedLongLong(object);
-    if (*n != (unsigned long long)-1 || !PyErr_Occurred())
-        return 1;
-    if (!PyErr_ExceptionMatches(PyExc_OverflowError) && !PyErr_ExceptionMatches(PyExc_TypeError))
-        return -1;
-    PyErr_Clear();
-    return 0;
-}
+/* ------------------------------------------------------------------------------------------------ opening */
 
 /* Return a new reference to the bytes of an object that has the buffer protocol. */
 static PyObject *bytes_of(PyObject *object) {
@@ -140,17 +43,14 @@ static int truth_of(PyObject *object, int *truth) {
     return *truth < 0 ? -1 : 0;
 }
 
-/* ------------------------------------------------------------------------------------------------ opening */
-
-/* Return the state of the module whose type `type` is or inherits from. */
-static const struct state *state_of(PyTypeObject *type) {
+const struct state *state_of(PyTypeObject *type) {
     for (; type; type = PyType_GetSlot(type, Py_tp_base)) {
         PyObject *module = PyType_GetModule(type);
         if (module && PyModule_GetDef(module) == &definition)
             return PyModule_GetState(module);
         PyErr_Clear();
     }
-    PyErr_SetString(PyExc_TypeError, "not a type of catalogues");
+    PyErr_SetString(PyExc_TypeError, "not a type of this module");
     return NULL;
 }
 
@@ -170,8 +70,7 @@ static PyObject *catalogue_new(PyTypeObject *type, PyObject *args, PyObject *key
     return new_catalogue(type);
 }
 
-/* Raise what a refusal means, and return NULL. */
-static PyObject *refuse(const struct state *state, const kob_refusal *why) {
+PyObject *refuse(const struct state *state, const kob_refusal *why) {
     if (why->fault == KOB_MEMORY)
         return PyErr_NoMemory();
     PyObject *refusal =
@@ -543,9 +442,6 @@ static void catalogue_dealloc(PyObject *object) {
     Py_DECREF(type);
 }
 
-#define FAST(function) ((PyCFunction)(void (*)(void))(fast_function)(function))
-#define KEYWORDS (METH_FASTCALL | METH_KEYWORDS)
-
 static PyMethodDef catalogue_methods[] = {
     { "from_mo", from_mo, METH_O | METH_CLASS, from_mo_text },
     { "from_po", FAST(from_po), KEYWORDS | METH_CLASS, from_po_text },
@@ -611,12 +507,15 @@ static int fill(PyObject *module) {
     state->catalogue = PyType_FromModuleAndSpec(module, &catalogue_spec, NULL);
     if (!state->catalogue || PyModule_AddObjectRef(module, "Catalogue", state->catalogue) < 0)
         return -1;
+    if (add_store_types(module, state) < 0)
+        return -1;
     return PyModule_AddStringConstant(module, "version", kob_version());
 }
 
 static int module_traverse(PyObject *module, visitproc visit, void *arg) {
     struct state *state = PyModule_GetState(module);
     Py_VISIT(state->catalogue);
+    Py_VISIT(state->store);
     Py_VISIT(state->refused);
     for (int k = 0; k < CALLS; k++)
         Py_VISIT(state->names[k]);
@@ -626,6 +525,7 @@ static int module_traverse(PyObject *module, visitproc visit, void *arg) {
 static int module_clear(PyObject *module) {
     struct state *state = PyModule_GetState(module);
     Py_CLEAR(state->catalogue);
+    Py_CLEAR(state->store);
     Py_CLEAR(state->refused);
     for (int k = 0; k < CALLS; k++)
         Py_CLEAR(state->names[k]);
@@ -652,7 +552,7 @@ static PyModuleDef_Slot slots_since_12[] = {
 static struct PyModuleDef definition = {
     PyModuleDef_HEAD_INIT,
     .m_name = "kobdzila._kobdzila",
-    .m_doc = "The catalogues of libkobdzila.",
+    .m_doc = "The catalogues and stores of libkobdzila.",
     .m_size = sizeof(struct state),
     .m_slots = first_slots,
     .m_traverse = module_traverse,

@@ -10,7 +10,7 @@ import unittest
 from pathlib import Path
 
 import kobdzila
-from kobdzila import _catalogue, _gettext, _refused, _session
+from kobdzila import _catalogue, _gettext, _languages, _refused, _session, _store, _watch, _web
 from texts import HEADER
 
 PAGE = Path(__file__).parents[2] / "docs" / "guide" / "python.md"
@@ -36,18 +36,18 @@ def sections(text: str) -> str:
     with contextlib.suppress(FileNotFoundError):
         if _session._program():
             return "\n## ".join(part for part in parts if part.split("\n")[0] not in missing)
-    missing.append("Reloading without a restart")
+    missing.append("A store in a process of its own")
     return "\n## ".join(part for part in parts if part.split("\n")[0] not in missing)
 
 
 class DocumentsTest(unittest.TestCase):
     def test_docstrings(self) -> None:
         tried = 0
-        for module in (kobdzila, _catalogue, _gettext, _refused, _session):
+        for module in (kobdzila, _catalogue, _gettext, _languages, _refused, _session, _store, _watch, _web):
             result = doctest.testmod(module)
             self.assertEqual(result.failed, 0, module)
             tried += result.attempted
-        self.assertGreater(tried, 15)
+        self.assertGreater(tried, 35)
 
     def test_page(self) -> None:
         text = sections(PAGE.read_text(encoding="utf-8")).replace("\n```", "\n")

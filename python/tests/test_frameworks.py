@@ -37,6 +37,31 @@ class JinjaTest(unittest.TestCase):
                 self.assertEqual(environment.from_string(TEMPLATE).render(n=n), text)
         self.assertEqual(environment.from_string(OLD_STYLE).render(n=5), "5 fichiers supprimés commander")
 
+    def test_snapshots(self) -> None:
+        """Both styles of calls look up in the snapshot of the moment, and a template is compiled once."""
+        from jinja2 import Environment
+
+        store = kobdzila.Store("shop")
+        store.load("shop", "fr", SHOP.encode())
+        store.publish()
+        for newstyle in (True, False):
+            environment, snapshots = Environment(extensions=["jinja2.ext.i18n"]), [store.snapshot("fr")]
+            current = kobdzila.LazyTranslations(lambda: snapshots[-1])
+            environment.install_gettext_translations(current, newstyle=newstyle)
+            page, old = environment.from_string(TEMPLATE), environment.from_string("{{ pgettext('verb', 'order') }}")
+            self.assertEqual((page.render(n=2), old.render()), ("panier 2 fichiers", "commander"))
+            store.load("shop", "fr", SHOP.replace("panier", "corbeille").encode())
+            store.publish()
+            self.assertEqual(page.render(n=1), "panier 1 fichier")
+            snapshots.append(store.snapshot("fr"))
+            self.assertEqual(page.render(n=1), "corbeille 1 fichier")
+            snapshots.append(store.snapshot("sv"))
+            self.assertEqual((page.render(n=1), old.render()), ("basket 1 file", "order"))
+            store.load("shop", "fr", SHOP.encode())
+            store.publish()
+        environment.install_gettext_translations(store.snapshot("fr"))
+        self.assertEqual(environment.from_string(OLD_STYLE).render(n=5), "5 fichiers supprimés commander")
+
 
 @unittest.skipUnless(there("flask"), "no Flask")
 class FlaskTest(unittest.TestCase):
@@ -52,6 +77,33 @@ class FlaskTest(unittest.TestCase):
             for accepted, page in (("fr-CA, de", "panier: 3 fichiers"), ("fr", "panier: 3 fichiers"),
                                    ("de, fr;q=0.5", "panier: 3 fichiers"), ("sv", "basket: 3 files")):
                 self.assertEqual(client.get("/3", headers={"Accept-Language": accepted}).text, page, accepted)
+
+    def test_middleware(self) -> None:
+        from flask import Flask, render_template_string, request
+
+        store = kobdzila.Store("shop")
+        store.load("shop", "fr", SHOP.encode())
+        store.publish()
+        app, kept = Flask(__name__), []
+        app.wsgi_app = kobdzila.WSGIMiddleware(app.wsgi_app, store)
+        app.jinja_env.add_extension("jinja2.ext.i18n")
+        texts = kobdzila.LazyTranslations(lambda: request.environ["kobdzila.snapshot"])
+        app.jinja_env.install_gettext_translations(texts, newstyle=True)
+
+        @app.get("/<int:n>")
+        def page(n: int) -> str:
+            kept.append(request.environ["kobdzila.snapshot"])
+            return render_template_string(TEMPLATE, n=n)
+
+        client = app.test_client()
+        self.assertEqual(client.get("/2", headers={"Accept-Language": "fr-CA"}).text, "panier 2 fichiers")
+        self.assertEqual(client.get("/2", headers={"Accept-Language": "en, fr;q=0.5"}).text, "basket 2 files")
+        store.load("shop", "fr", SHOP.replace("panier", "corbeille").encode())
+        store.publish()
+        with client.get("/1", headers={"Accept-Language": "fr"}) as answer:
+            self.assertEqual(answer.text, "corbeille 1 fichier")
+        with self.assertRaises(ValueError):
+            kept[-1].gettext("basket")
 
 
 if __name__ == "__main__":

@@ -35,6 +35,17 @@ class SessionTest(unittest.TestCase):
             answers = session.ask("shop", "de", ("gettext", "x"), ("ngettext", "a", "b", 2))
             self.assertEqual(answers, [(2, "x"), (2, "b")])
 
+    def test_mo_files_and_the_version(self) -> None:
+        with Session() as session:
+            self.assertEqual(session.version, 0)
+            session.load("shop", "fr", french().mo_file())
+            self.assertEqual((session.version, session.publish(), session.version), (0, 1, 1))
+            self.assertEqual(session.gettext("shop", "fr", "basket"), (1, "panier"))
+            session.load("shop", "de", french().mo_file()[:40])
+            with self.assertRaises(LoadRefused):
+                session.publish()
+            self.assertEqual(session.version, 1)
+
     def test_refusals(self) -> None:
         with Session() as session:
             session.load("shop", "fr", b'msgid "a"\n\nmessage')

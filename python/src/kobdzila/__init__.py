@@ -34,23 +34,33 @@ from ._gettext import (
 from ._kobdzila import version as __version__
 from ._refused import Fault, Refused
 from ._session import Answer, LoadRefused, Refusal, Session, SessionEnded
+from ._store import Snapshot, Store
+from ._watch import FileRefused, Watch
+from ._web import ASGIMiddleware, LazyTranslations, WSGIMiddleware
 
 Translations = GNUTranslations
 
 __all__ = [
+    "ASGIMiddleware",
     "Answer",
     "Catalog",
     "Catalogue",
     "Entry",
     "Fault",
+    "FileRefused",
     "GNUTranslations",
+    "LazyTranslations",
     "LoadRefused",
     "NullTranslations",
     "Refusal",
     "Refused",
     "Session",
     "SessionEnded",
+    "Snapshot",
+    "Store",
     "Translations",
+    "WSGIMiddleware",
+    "Watch",
     "bindtextdomain",
     "dgettext",
     "dngettext",

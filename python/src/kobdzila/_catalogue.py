@@ -93,11 +93,7 @@ class Catalogue(_kobdzila.Catalogue):
         >>> Catalogue.from_po(b'msgid "hi"\\nmsgstr "salut"\\n').plural(2)
         1
         """
-        _, found, rule = first_line(self._info.get("plural-forms", "")).partition("plural=")
-        try:
-            return with_own_warning(PRIVATE.c2py(rule.partition(";")[0] if found else "n != 1"))
-        except ValueError:  # (a broken rule counts as none)
-            return with_own_warning(PRIVATE.c2py("n != 1"))
+        return rule_of(self._info)
 
     @cached_property
     def _info(self) -> dict[str, str]:
@@ -190,6 +186,15 @@ def fields_of(header: str) -> dict[str, str]:
         elif line and last is not None:
             fields[last] += "\n" + line
     return fields
+
+
+def rule_of(fields: dict[str, str]) -> Callable[[int], int]:
+    """Return the plural rule of a header's fields. A rule that is broken or missing is `n != 1`."""
+    _, found, rule = first_line(fields.get("plural-forms", "")).partition("plural=")
+    try:
+        return with_own_warning(PRIVATE.c2py(rule.partition(";")[0] if found else "n != 1"))
+    except ValueError:
+        return with_own_warning(PRIVATE.c2py("n != 1"))
 
 
 def first_line(text: str) -> str:

@@ -35,10 +35,12 @@ class Fault(enum.IntEnum):
     PO_PLURAL_RANGE = 115
     PO_FORMAT_MISMATCH = 116
     PO_NEWLINE_MISMATCH = 117
+    BAD_NAME = 202
+    VERSIONS_SPENT = 204
 
 
 class Refused(ValueError):
-    """An MO file or a PO text was refused.
+    """An MO file, a PO text or a load into a Store was refused.
 
     `kind` is the kind of refusal, `line` the line of a PO text (0 if the refusal has no line), and `text` a short
     description.

@@ -18,6 +18,7 @@ MOST_LINES = 67_108_864 - len(b"go\n")  # the bytes that a round may have before
 TEXTS = {"gettext": 1, "pgettext": 2, "ngettext": 3, "npgettext": 4}
 ESCAPES = str.maketrans({"\\": r"\\", "\n": r"\n", "\t": r"\t"})
 UNESCAPED = {"n": "\n", "t": "\t"}
+MO_MAGIC = (b"\xde\x12\x04\x95", b"\x95\x04\x12\xde")  # no text in UTF-8 begins so
 BUNDLED = Path(__file__).with_name("bin") / "catsession"
 
 
@@ -82,14 +83,23 @@ class Session:
         self._lock = threading.Lock()
         self._loads: list[tuple[str, str, bytes]] = []  # for the next publish: domain, locale, and the lines
         self._ended: str | None = None
+        self._version = 0
+
+    @property
+    def version(self) -> int:
+        """The number of loads that were published, and not refused."""
+        return self._version
 
     def load(self, domain: str, locale: str, po: bytes, options: str = "-") -> None:
-        """Keep a PO text for the next publish.
+        """Keep a PO text, or an MO file, for the next publish.
 
-        `options` is `-`, `c` (checked), `f` (fuzzy messages, too) or `cf`.
+        `options` is for a PO text: `-`, `c` (checked), `f` (fuzzy messages, too) or `cf`.
         """
         if options not in ("-", "c", "f", "cf"):
             raise ValueError(f"no such options: {options}")
+        if po.startswith(MO_MAGIC):
+            self.load_mo(domain, locale, po)
+            return
         text = po if po.endswith(b"\n") or not po else po + b"\n"
         text.decode()
         self._keep(domain, locale, _line("load", domain, locale, options, text.count(b"\n")) + text)
@@ -103,6 +113,7 @@ class Session:
         with self._lock:
             loads, self._loads = self._loads, []
             *reported, (_, version) = self._play([lines for _, _, lines in loads], len(loads) + 1)
+            self._version = int(version)
         refusals = [_refusal(load, line) for load, line in zip(loads, reported) if line[0].startswith("refused")]
         if refusals:
             raise LoadRefused(int(version), refusals)
@@ -112,8 +123,7 @@ class Session:
         """Return the answers to several questions, all of one version, such as ("ngettext", "file", "files", 2)."""
         lines = [_question(domain, languages, *question) for question in questions]
         _check_size(lines)
-        with self._lock:
-            _, *reported = self._play(lines, 1 + len(lines))
+        _, reported = self._answer(lines)
         return [Answer(int(version), _unescaped(text)) for _, version, text in reported]
 
     def gettext(self, domain: str, languages: str, text: str) -> Answer:
@@ -150,6 +160,12 @@ class Session:
         with self._lock:
             _check_size([*(kept for _, _, kept in self._loads), lines])
             self._loads.append((domain, locale, lines))
+
+    def _answer(self, lines: list[bytes]) -> tuple[int, list[list[str]]]:
+        """Send a round of questions, and return the version and the fields of each answer."""
+        with self._lock:
+            (_, version), *reported = self._play(lines, 1 + len(lines))
+        return int(version), reported
 
     def _play(self, lines: list[bytes], count: int) -> list[list[str]]:
         """Send a round, and return the fields of the `count` lines that it writes."""

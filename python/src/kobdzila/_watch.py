@@ -1,0 +1,228 @@
+"""A thread that loads the catalogues of a folder into a store, and again when they change."""
+from __future__ import annotations
+
+import atexit
+import contextlib
+import hashlib
+import logging
+import os
+import stat
+import threading
+import time
+from collections.abc import Callable, Iterable, Iterator
+from pathlib import Path
+from types import TracebackType
+from typing import TYPE_CHECKING, NamedTuple
+
+from ._catalogue import Catalogue
+from ._refused import Fault, Refused
+
+if TYPE_CHECKING:
+    from typing_extensions import Self
+
+    from ._store import Store
+
+LOG = logging.getLogger("kobdzila")
+PATIENCE = 5.0  # seconds that a file which keeps changing delays the others
+
+
+class FileRefused(NamedTuple):
+    """A file that isn't loaded. `line` is 0 if the reason has none, and `kind` None if the file can't be read."""
+
+    path: Path
+    line: int
+    kind: Fault | None
+    text: str
+
+    def __str__(self) -> str:
+        return f"{self.path}:{self.line}: {self.text}" if self.line else f"{self.path}: {self.text}"
+
+
+class Stamp(NamedTuple):
+    """What changes when a file does."""
+
+    modified: int
+    size: int
+    number: int
+    changed: int
+
+
+class File(NamedTuple):
+    """A file that was looked at."""
+
+    stamp: Stamp
+    digest: bytes
+
+
+class Watch:
+    """Loads the catalogues of a folder, FOLDER/LOCALE/LC_MESSAGES/DOMAIN.mo and .po, and again when they change.
+
+    What is there is loaded and published before the call returns. From then on a thread looks every `every` seconds,
+    and publishes all that has changed in one step. A file counts as complete once its size and times were the same at
+    two looks, `settle` seconds apart, so replace a file by renaming another one if it takes long to write. If there
+    are both an MO file and a PO file, the one that was modified later is shown. A file that is removed stays loaded.
+
+    `refused` is called with a FileRefused for each file that isn't loaded, in the watching thread; the texts that were
+    there before stay. Without it, the file, the line and the reason are a warning of the logger `kobdzila`. `domains`
+    limits the text domains. `checked` and `use_fuzzy` are those of Catalogue.from_po.
+
+    `stop` ends the thread; so do the end of a `with` and the end of the process. A forked child has no thread of its
+    parent's: start a watch in the child.
+
+        watch = store.watch("locale", refused=lambda file: print(file))
+    """
+
+    def __init__(
+        self,
+        store: Store,
+        folder: str | os.PathLike[str],
+        *,
+        refused: Callable[[FileRefused], object] | None = None,
+        every: float = 1.0,
+        settle: float = 0.1,
+        domains: Iterable[str] | None = None,
+        checked: bool = False,
+        use_fuzzy: bool = False,
+    ) -> None:
+        self.store, self.folder = store, Path(folder)
+        self._report: Callable[[FileRefused], object] = refused or (lambda file: LOG.warning("%s", file))
+        self._every, self._settle = every, settle
+        self._domains = None if domains is None else frozenset(domains)
+        self._options = checked, use_fuzzy
+        self._seen: dict[str, File] = {}  # what was loaded or refused, by path
+        self._looking, self._end = threading.Lock(), threading.Event()
+        os.listdir(self.folder)  # (raises an exception if there is no such folder)
+        self.look()
+        self._thread = threading.Thread(target=self._run, name=f"kobdzila watches {folder}", daemon=True)
+        self._thread.start()
+        atexit.register(self.stop)
+
+    def look(self) -> int | None:
+        """Look now. Return the version that was published, or None if nothing has changed.
+
+        Any thread may call it, and wait for what it returns.
+        """
+        with self._looking:
+            changed = self._steady()
+            return self._load(changed) if changed else None
+
+    def stop(self) -> None:
+        """End the thread, and wait until it has ended. The store goes on with what was loaded."""
+        self._end.set()
+        if threading.current_thread() is not self._thread:
+            self._thread.join()
+        atexit.unregister(self.stop)
+
+    def __enter__(self) -> Self:
+        return self
+
+    def __exit__(
+        self, kind: type[BaseException] | None, fault: BaseException | None, trace: TracebackType | None
+    ) -> None:
+        self.stop()
+
+    def _run(self) -> None:
+        while not self._end.wait(self._every):
+            try:
+                self.look()
+            except Exception:
+                LOG.exception("a look at %s failed, and is made again", self.folder)
+
+    def _steady(self) -> dict[str, Stamp]:
+        """Return the files that have changed and are complete. They are waited for, so that all are one publish."""
+        before = self._changed()
+        end = time.monotonic() + PATIENCE
+        while before and not self._end.wait(self._settle):
+            after = self._changed()
+            steady = {path: stamp for path, stamp in after.items() if before.get(path) == stamp}
+            if len(steady) == len(after) or time.monotonic() > end:
+                return steady
+            before = after
+        return {}
+
+    def _changed(self) -> dict[str, Stamp]:
+        found = {}
+        for path in self._paths():
+            stamp = stamp_of(path)
+            if stamp and (path not in self._seen or self._seen[path].stamp != stamp):
+                found[path] = stamp
+        return found
+
+    def _paths(self) -> Iterator[str]:
+        for locale in listed(self.folder):
+            folder = os.path.join(self.folder, locale, "LC_MESSAGES")
+            for name in listed(folder):
+                domain, end = os.path.splitext(name)
+                if end in (".mo", ".po") and not name.startswith("."):
+                    if self._domains is None or domain in self._domains:
+                        yield os.path.join(folder, name)
+
+    def _load(self, changed: dict[str, Stamp]) -> int | None:
+        """Load these files, the one that was modified last at the end, and publish them."""
+        loads: list[tuple[str, str, Catalogue]] = []
+        files: list[tuple[str, File]] = []
+        for path, stamp in sorted(changed.items(), key=lambda it: (it[1].modified, it[0].endswith(".mo"))):
+            catalogue, file = self._opened(path, stamp)
+            if file and catalogue:
+                loads.append((Path(path).stem, Path(path).parts[-3], catalogue))
+                files.append((path, file))
+            elif file:
+                self._seen[path] = file
+        if not loads:
+            return None
+        version, refusals = self.store._publish_all(loads)
+        for number, refusal in refusals.items():
+            self._refuse(files[number][0], refusal)
+        self._seen.update(files)
+        return version if len(refusals) < len(loads) else None
+
+    def _opened(self, path: str, stamp: Stamp) -> tuple[Catalogue | None, File | None]:
+        """Return the file's catalogue, unless it is refused or the one that was seen, and what was looked at.
+
+        A file that has changed once more is neither, and is looked at next time.
+        """
+        try:
+            data = Path(path).read_bytes()
+        except OSError as fault:
+            self._call(FileRefused(Path(path), 0, None, fault.strerror or str(fault)))
+            return None, File(stamp, b"")
+        if stamp_of(path) != stamp:
+            return None, None
+        file = File(stamp, hashlib.sha256(data).digest())
+        if self._is_shown(path, file):
+            return None, file
+        try:
+            return Catalogue.from_mo(data) if path.endswith(".mo") else Catalogue.from_po(data, *self._options), file
+        except Refused as refused:
+            self._refuse(path, refused)
+            return None, file
+
+    def _is_shown(self, path: str, file: File) -> bool:
+        """Return whether the file has the bytes that it had, and no file of the other format was loaded after it."""
+        other = path[:-3] + (".po" if path.endswith(".mo") else ".mo")
+        return path in self._seen and self._seen[path].digest == file.digest and other not in self._seen
+
+    def _refuse(self, path: str, refused: Refused) -> None:
+        self._call(FileRefused(Path(path), refused.line, refused.kind, refused.text))
+
+    def _call(self, file: FileRefused) -> None:
+        try:
+            self._report(file)
+        except Exception:
+            LOG.exception("the callback for %s failed", file)
+
+
+def listed(folder: str | os.PathLike[str]) -> list[str]:
+    """Return the names in a folder, or none if it can't be read."""
+    with contextlib.suppress(OSError):
+        return os.listdir(folder)
+    return []
+
+
+def stamp_of(path: str) -> Stamp | None:
+    """Return a regular file's stamp, or None if there is no such file."""
+    with contextlib.suppress(OSError):
+        status = os.stat(path)
+        if stat.S_ISREG(status.st_mode):
+            return Stamp(status.st_mtime_ns, status.st_size, status.st_ino, status.st_ctime_ns)
+    return None

@@ -1,0 +1,261 @@
+"""A folder of catalogues that changes while a store is watched over it."""
+from __future__ import annotations
+
+import contextlib
+import os
+import subprocess
+import sys
+import tempfile
+import threading
+import time
+import unittest
+from collections.abc import Callable
+from pathlib import Path
+
+import kobdzila
+from kobdzila import Catalogue, Fault, FileRefused, Store, Watch
+
+END_OF_PROCESS = """
+import sys, kobdzila
+store = kobdzila.Store("shop")
+watch = store.watch(sys.argv[1], every=0.01)
+print(store.version, flush=True)
+"""
+
+
+def po(text: str) -> bytes:
+    return f'msgid "a"\nmsgstr "{text}"\n'.encode()
+
+
+def mo(text: str) -> bytes:
+    return Catalogue.from_po(po(text)).mo_file()
+
+
+class WatchTest(unittest.TestCase):
+    def setUp(self) -> None:
+        room = tempfile.TemporaryDirectory()
+        self.addCleanup(room.cleanup)
+        self.folder, self.store = Path(room.name, "locale"), Store("shop")
+        self.folder.mkdir()
+        self.refused: list[FileRefused] = []
+
+    def watch(self, every: float = 0.02, settle: float = 0.03, **options: object) -> Watch:
+        watch = self.store.watch(self.folder, refused=self.refused.append, every=every, settle=settle, **options)
+        self.addCleanup(watch.stop)
+        return watch
+
+    def path(self, locale: str, name: str = "shop.po") -> Path:
+        folder = self.folder / locale / "LC_MESSAGES"
+        folder.mkdir(parents=True, exist_ok=True)
+        return folder / name
+
+    def put(self, path: Path, data: bytes) -> None:
+        """Write a file as programs do that take care: under another name, which is then renamed."""
+        path.with_suffix(".new").write_bytes(data)
+        os.replace(path.with_suffix(".new"), path)
+
+    def text(self, locale: str = "fr", domain: str = "shop") -> str:
+        with self.store.snapshot(locale, domain) as texts:
+            return texts.gettext("a")
+
+    def until(self, what: Callable[[], object]) -> None:
+        end = time.monotonic() + 30
+        while not what():
+            self.assertLess(time.monotonic(), end, "it didn't come to that in time")
+            time.sleep(0.005)
+
+    def test_what_is_there(self) -> None:
+        self.put(self.path("fr"), po("f1"))
+        self.put(self.path("de", "shop.mo"), mo("d1"))
+        self.put(self.path("de", "mail.mo"), mo("m1"))
+        self.put(self.path("sv", "mail.new"), mo("no"))
+        self.put(self.path("sv", ".hidden.po"), po("no"))
+        (self.folder / "shop.po").write_bytes(po("no"))
+        self.path("it").mkdir()
+        os.mkfifo(self.path("it", "mail.po"))
+        self.watch()
+        self.assertEqual((self.text("fr"), self.text("de"), self.text("de", "mail")), ("f1", "d1", "m1"))
+        self.assertEqual((self.store.version, self.refused), (3, []))
+
+    def test_renamed(self) -> None:
+        self.put(self.path("fr"), po("f1"))
+        self.watch()
+        for number in range(2, 6):
+            self.put(self.path("fr"), po(f"f{number}"))
+            self.until(lambda: self.text() == f"f{number}")
+        self.put(self.path("fr", "mail.mo"), mo("m"))
+        self.put(self.path("sv"), po("s"))
+        self.until(lambda: self.text("fr", "mail") == "m" and self.text("sv") == "s")
+        self.assertEqual(self.refused, [])
+
+    def test_written_in_place(self) -> None:
+        """A file that is written piece by piece is loaded once, when it is complete."""
+        self.put(self.path("fr"), po("f1"))
+        self.watch(settle=0.4)
+        with self.path("fr").open("wb") as file:
+            for number in range(130):
+                file.write(b'msgid "m%d"\nmsgstr "x"\n\n' % number)
+                file.flush()
+                time.sleep(0.01)
+                self.assertEqual(self.store.version, 1)
+            file.write(po("f2"))
+        self.until(lambda: self.text() == "f2")
+        self.assertEqual((self.store.version, self.refused), (2, []))
+
+    def test_one_publish(self) -> None:
+        """Files that change together are shown together."""
+        locales, end, wrong = ("fr", "de", "sv", "it"), threading.Event(), []
+        for locale in locales:
+            self.put(self.path(locale), po("1"))
+        self.watch(settle=0.2)
+
+        def read() -> None:
+            while not end.is_set():
+                with self.store.snapshot("fr") as texts:
+                    seen = {texts.find("shop", locale, "a") for locale in locales}
+                if len(seen) != 1:
+                    wrong.append(seen)
+
+        thread = threading.Thread(target=read)
+        thread.start()
+        for number in range(2, 8):
+            for locale in locales:
+                self.put(self.path(locale), po(f"{number}"))
+            self.until(lambda: self.text("it") == f"{number}")
+        end.set()
+        thread.join()
+        self.assertEqual((wrong[:3], self.store.version), ([], 7 * len(locales)))
+
+    def test_refused(self) -> None:
+        self.put(self.path("fr"), po("f1"))
+        self.put(self.path("de"), po("d1"))
+        self.watch()
+        self.put(self.path("fr"), b'msgid "a"\n\nmsgstr "f\\y"\n')
+        self.put(self.path("de"), po("d2"))
+        self.until(lambda: self.text("de") == "d2")
+        self.assertEqual(self.text("fr"), "f1")
+        self.assertEqual(self.refused, [(self.path("fr"), 3, Fault.PO_BAD_ESCAPE, "bad escape")])
+        self.assertEqual(str(self.refused[0]), f"{self.path('fr')}:3: bad escape")
+        self.put(self.path("fr", "shop.mo"), mo("f2")[:-3])
+        self.put(self.path("fr", "a b.po"), po("x"))
+        self.until(lambda: len(self.refused) == 3)
+        self.assertEqual({(it.path.name, it.line, it.kind) for it in self.refused[1:]},
+                         {("shop.mo", 0, Fault.MO_BOUNDS), ("a b.po", 0, Fault.BAD_NAME)})
+        self.put(self.path("fr"), po("f3"))
+        self.until(lambda: self.text("fr") == "f3")
+        self.assertEqual(len(self.refused), 3)  # (each one was reported once)
+
+    def test_options(self) -> None:
+        self.put(self.path("fr"), b'#, c-format\nmsgid "%d"\nmsgstr "%s"\n')
+        self.put(self.path("de"), b'#, fuzzy\nmsgid "a"\nmsgstr "d"\n')
+        self.put(self.path("de", "mail.po"), po("m"))
+        self.watch(checked=True, use_fuzzy=True, domains=["shop"])
+        self.assertEqual([it.kind for it in self.refused], [Fault.PO_FORMAT_MISMATCH])
+        self.assertEqual((self.text("de"), self.text("de", "mail"), self.store.version), ("d", "a", 1))
+
+    def test_both_formats(self) -> None:
+        """The file that was modified last is shown, in either order."""
+        self.put(self.path("fr", "shop.mo"), mo("old"))
+        self.put(self.path("fr"), po("new"))
+        self.put(self.path("de", "shop.mo"), mo("new"))
+        self.put(self.path("de"), po("old"))
+        os.utime(self.path("fr", "shop.mo"), (1, 1))
+        os.utime(self.path("de"), (1, 1))
+        self.watch()
+        self.assertEqual((self.text("fr"), self.text("de")), ("new", "new"))
+        self.put(self.path("fr", "shop.mo"), mo("newest"))
+        self.until(lambda: self.text("fr") == "newest")
+        os.utime(self.path("de"))
+        self.until(lambda: self.text("de") == "old")
+
+    def test_nothing_new(self) -> None:
+        """A file that has other times and the bytes it had isn't loaded; one that is gone stays loaded."""
+        self.put(self.path("fr"), po("f"))
+        self.put(self.path("de"), b"message")
+        watch = self.watch(every=30)
+        os.utime(self.path("fr"))
+        os.utime(self.path("de"))
+        self.assertIsNone(watch.look())
+        self.path("fr").unlink()
+        self.assertIsNone(watch.look())
+        self.assertEqual((self.store.version, len(self.refused), self.text()), (1, 1, "f"))
+        self.put(self.path("fr"), po("g"))
+        self.assertEqual((watch.look(), self.text()), (2, "g"))
+
+    def test_no_file(self) -> None:
+        """A folder that can't be read, or a link to nothing, changes nothing."""
+        watch = self.watch(every=30)
+        self.path("fr").symlink_to("none")
+        (self.folder / "de").write_bytes(b"no folder")
+        self.assertIsNone(watch.look())
+        self.folder.rename(self.folder.with_name("other"))
+        self.assertIsNone(watch.look())
+        self.folder.with_name("other").rename(self.folder)
+        (self.path("fr").parent / "none").write_bytes(po("f"))
+        self.assertEqual((watch.look(), self.text(), self.refused), (1, "f", []))
+        for folder in ("none", "de"):
+            with self.assertRaises(OSError):
+                self.store.watch(self.folder / folder)
+
+    def test_unreadable(self) -> None:
+        """A file whose bytes can't be read (by root neither, so it is the memory of this process) is reported."""
+        self.path("fr").symlink_to("/proc/self/mem")
+        watch = self.watch(every=30)
+        self.assertEqual([(it.path, it.kind, it.line) for it in self.refused], [(self.path("fr"), None, 0)])
+        self.put(self.path("fr"), po("f"))
+        self.assertEqual((watch.look(), self.text()), (1, "f"))
+
+    def test_trouble(self) -> None:
+        """Neither a callback nor a store that fails ends the thread."""
+        self.put(self.path("fr"), b"message")
+        with self.assertLogs("kobdzila") as logged:
+            watch = self.store.watch(self.folder, refused=lambda file: 1 / 0, every=0.02, settle=0.02)
+            self.addCleanup(watch.stop)
+        self.assertIn("ZeroDivisionError", logged.output[0])
+        publish, self.store._publish = self.store._publish, lambda: (_ for _ in ()).throw(MemoryError)
+        with self.assertLogs("kobdzila") as logged:
+            self.put(self.path("fr"), po("f1"))
+            self.until(lambda: logged.output)
+        self.assertIn("MemoryError", logged.output[0])
+        self.assertEqual(self.text(), "a")
+        with contextlib.suppress(AssertionError), self.assertLogs("kobdzila"):
+            self.store._publish = publish
+            self.until(lambda: self.text() == "f1")
+
+    def test_logged(self) -> None:
+        self.put(self.path("fr"), b"\n\nmessage")
+        with self.assertLogs("kobdzila", "WARNING") as logged, self.store.watch(self.folder):
+            pass
+        self.assertEqual(logged.output, [f"WARNING:kobdzila:{self.path('fr')}:3: unknown word"])
+
+    def test_stop(self) -> None:
+        with self.watch() as watch:
+            self.put(self.path("fr"), po("f1"))
+            self.until(lambda: self.text() == "f1")
+        self.put(self.path("fr"), po("f2"))
+        time.sleep(0.2)
+        self.assertEqual((self.text(), [it for it in threading.enumerate() if "kobdzila" in it.name]), ("f1", []))
+        watch.stop()
+
+    def test_stop_from_callback(self) -> None:
+        stopped = threading.Event()
+
+        def stop(file: FileRefused) -> None:
+            watch.stop()
+            stopped.set()
+
+        watch = self.store.watch(self.folder, refused=stop, every=0.01, settle=0.01)
+        self.put(self.path("fr"), b"message")
+        self.assertTrue(stopped.wait(30))
+
+    def test_end_of_process(self) -> None:
+        self.put(self.path("fr"), po("f"))
+        begun = time.monotonic()
+        done = subprocess.run([sys.executable, "-W", "error", "-c", END_OF_PROCESS, str(self.folder)], timeout=60,
+                              capture_output=True, text=True, check=False)
+        self.assertEqual((done.returncode, done.stdout, done.stderr), (0, "1\n", ""))
+        self.assertLess(time.monotonic() - begun, 20)
+
+
+if __name__ == "__main__":
+    unittest.main()
