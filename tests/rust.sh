@@ -1,7 +1,7 @@
 #!/usr/bin/env bash
 # Builds the crate rust/ over libkobdzila, offline and in a folder of its own, and tests it: with the shared library and
-# the static one, under valgrind and with AddressSanitizer, its declarations against changed copies of kobdzila.h, its
-# package, and the programs of docs/guide/rust.md as a new user makes them.
+# the static one, under valgrind and with AddressSanitizer, with each request for memory refused, its declarations
+# against changed copies of kobdzila.h, its package, and the programs of docs/guide/rust.md as a new user makes them.
 no_program=1
 . "$(dirname "$0")/common"
 header=include/kobdzila.h
@@ -110,6 +110,8 @@ kob_text context, msgid, plural;^kob_text msgid, context, plural;
 KOB_USE_FUZZY = 2^KOB_USE_FUZZY = 4
 KOB_PO_DUPLICATE = 109,^KOB_PO_DUPLICATE = 110,
 KOB_BAD_NAME = 202^KOB_BAD_NAME = 202, KOB_NEW = 203
+int kob_store_publish(kob_store \*store, unsigned long long^int kob_store_publish(kob_store *store, unsigned long
+const kob_set \*kob_reader_enter(^kob_set *kob_reader_enter(
 END
 
 # --- the sources --------------------------------------------------------------------------------------------------
@@ -151,6 +153,25 @@ seq 60000 | sed 's/.*/msgid "message &"\nmsgstr "the translation of &"/' > "$roo
 (cd "$crate" && cargo build -q --example check_po --features static) > "$room/log" 2>&1
 said=$(cd "$room" && ulimit -v 12000 && target/debug/examples/check_po large.po 2>&1)
 if [ "$said" = 'large.po: out of memory' ]; then ok "$name"; else failed "$name" "it said '$said'; $(why)"; fi
+
+# each request of rust/tests/memory.rs refused in turn: a call returns out of memory, or the program ends as a program
+# in Rust does then
+name='the Rust crate, each request for memory refused'
+if makes_refuser "$name"; then
+  program=$(cd "$crate" && cargo test --test memory --no-run 2>&1 | sed -n 's/.*Executable.*(\(.*\))/\1/p')
+  n=0 wrong=
+  while [ -z "$wrong" ] && refuses $((n + 1)) "$program" >> "$room/refusals" 2> "$room/log"; do
+    n=$((n + 1))
+    [ "$status" = 0 ] || grep -q '^memory allocation of [0-9]* bytes failed' "$room/log" || wrong="request $n: $(why)"
+  done
+  said=$(sort -u "$room/refusals" | grep -v '^publish: not published: out of memory, or the store is busy$')
+  if [ -z "$wrong" ] && [ "$said" = $'catalogue: out of memory\nload: out of memory
+notice: out of memory\nreader: out of memory' ]; then
+    ok "$name: $n"
+  else
+    failed "$name" "${wrong:-it said '$said'}"
+  fi
+fi
 
 # fenced WORD: the first block of the guide that is fenced as this
 fenced() { awk -v fence="\`\`\`$1" '$0 == "```" && on { exit } on; $0 == fence { on = 1 }' "$top/docs/guide/rust.md"; }

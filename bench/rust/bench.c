@@ -2,8 +2,8 @@
  *
  *   bench FILE.mo FILE.ids ROUNDS
  *
- * It prints the picoseconds of a look-up, the nanoseconds of the fastest opening, and the sum of the answers' first
- * bytes.
+ * It prints the picoseconds of a look-up, the nanoseconds of the fastest opening, the picoseconds of an entry of a
+ * reader with nothing new and one look-up in it, and the sum of the answers' first bytes.
  */
 #include "kobdzila.h"
 
@@ -67,20 +67,56 @@ static kob_catalogue *opened(const char *mo, size_t len, double *fastest) {
     return catalogue;
 }
 
+/* What is looked up, over and over. */
+struct work {
+    const char **msgids;
+    size_t count;
+    uint64_t rounds;
+};
+
+/* Return the picoseconds of each look-up since `start`. */
+static double each_since(double start, struct work work) {
+    return (now() - start) * 1000 / ((double)work.rounds * (double)work.count);
+}
+
+/* Return the time of a look-up in a catalogue. */
+static double look_ups(const kob_catalogue *catalogue, struct work work, uint64_t *sum) {
+    double start = now();
+    for (uint64_t round = 0; round < work.rounds; round++)
+        for (size_t i = 0; i < work.count; i++)
+            *sum += (unsigned char)*kob_gettext(catalogue, work.msgids[i]);
+    return each_since(start, work);
+}
+
+/* Return the time of an entry and a look-up, in a store that has published the catalogue. */
+static double entries(const kob_catalogue *catalogue, struct work work, uint64_t *sum) {
+    kob_store *store = kob_store_new();
+    if (!store || !kob_store_load(store, "bench", "fr", catalogue, NULL) || !kob_store_publish(store, NULL))
+        exit(1);
+    kob_reader *reader = kob_store_reader(store);
+    if (!reader)
+        exit(1);
+    double start = now();
+    for (uint64_t round = 0; round < work.rounds; round++)
+        for (size_t i = 0; i < work.count; i++)
+            *sum += (unsigned char)*kob_set_gettext(kob_reader_enter(reader), "bench", "fr", work.msgids[i]);
+    double each = each_since(start, work);
+    kob_reader_free(reader);
+    kob_store_free(store);
+    return each;
+}
+
 int main(int argc, char **argv) {
     if (argc != 4)
         return 2;
-    size_t mo_len, ids_len, count;
+    size_t mo_len, ids_len;
     char *mo = read_text(argv[1], &mo_len), *ids = read_text(argv[2], &ids_len);
-    const char **msgids = lines_of(ids, ids_len, &count);
-    uint64_t rounds = strtoull(argv[3], NULL, 10), sum = 0;
+    struct work work = { NULL, 0, strtoull(argv[3], NULL, 10) };
+    work.msgids = lines_of(ids, ids_len, &work.count);
     double fastest;
     kob_catalogue *catalogue = opened(mo, mo_len, &fastest);
-    double start = now();
-    for (uint64_t round = 0; round < rounds; round++)
-        for (size_t i = 0; i < count; i++)
-            sum += (unsigned char)*kob_gettext(catalogue, msgids[i]);
-    double each = (now() - start) * 1000 / ((double)rounds * (double)count);
-    printf("%.0f %.0f %llu\n", each, fastest, (unsigned long long)sum);
+    uint64_t sum = 0;
+    double look_up = look_ups(catalogue, work, &sum), entry = entries(catalogue, work, &sum);
+    printf("%.0f %.0f %.0f %llu\n", look_up, fastest, entry, (unsigned long long)sum);
     kob_release(catalogue);
 }

@@ -2,13 +2,13 @@
 //!
 //!     bench_rust FILE.mo FILE.ids ROUNDS
 //!
-//! It prints the picoseconds of a look-up, the nanoseconds of the fastest opening, and the sum of the answers' first
-//! bytes.
+//! It prints the picoseconds of a look-up, the nanoseconds of the fastest opening, the picoseconds of an entry of a
+//! reader with nothing new and one look-up in it, and the sum of the answers' first bytes.
 
 use std::error::Error;
 use std::time::{Duration, Instant};
 
-use kobdzila::{Catalogue, Refused};
+use kobdzila::{Catalogue, Refused, Store};
 
 const OPENINGS: usize = 40;
 
@@ -17,20 +17,55 @@ fn main() -> Result<(), Box<dyn Error>> {
     let [file, ids, rounds] =
         <[String; 3]>::try_from(words).map_err(|_| "usage: bench_rust FILE.mo FILE.ids ROUNDS")?;
     let (mo, ids) = (std::fs::read(file)?, std::fs::read_to_string(ids)?);
-    let msgids: Vec<&str> = ids.lines().collect();
-    let rounds: u64 = rounds.parse()?;
+    let work = Work {
+        msgids: ids.lines().collect(),
+        rounds: rounds.parse()?,
+    };
     let (catalogue, fastest) = opened(&mo)?;
+    let (look_up, sum) = look_ups(&catalogue, &work);
+    let (entry, sum_of_entries) = entries(&catalogue, &work)?;
+    let (fastest, sum) = (fastest.as_nanos(), sum + sum_of_entries);
+    println!("{look_up:.0} {fastest} {entry:.0} {sum}");
+    Ok(())
+}
 
-    let start = Instant::now();
-    let mut sum = 0;
-    for _ in 0..rounds {
-        for msgid in &msgids {
+/// What is looked up, over and over.
+struct Work<'a> {
+    msgids: Vec<&'a str>,
+    rounds: u64,
+}
+
+impl Work<'_> {
+    /// The picoseconds of each look-up since `start`.
+    fn each_since(&self, start: Instant) -> f64 {
+        start.elapsed().as_secs_f64() * 1e12 / (self.rounds as f64 * self.msgids.len() as f64)
+    }
+}
+
+/// The time of a look-up in a catalogue, and the sum of the answers' first bytes.
+fn look_ups(catalogue: &Catalogue, work: &Work<'_>) -> (f64, u64) {
+    let (start, mut sum) = (Instant::now(), 0);
+    for _ in 0..work.rounds {
+        for msgid in &work.msgids {
             sum += u64::from(catalogue.gettext(msgid).as_bytes()[0]);
         }
     }
-    let each = start.elapsed().as_secs_f64() * 1e12 / (rounds as f64 * msgids.len() as f64);
-    println!("{each:.0} {} {sum}", fastest.as_nanos());
-    Ok(())
+    (work.each_since(start), sum)
+}
+
+/// The time of an entry and a look-up, in a store that has published the catalogue, and the sum.
+fn entries(catalogue: &Catalogue, work: &Work<'_>) -> Result<(f64, u64), Box<dyn Error>> {
+    let store = Store::new();
+    store.load("bench", "fr", catalogue)?;
+    store.publish()?;
+    let mut reader = store.reader()?;
+    let (start, mut sum) = (Instant::now(), 0);
+    for _ in 0..work.rounds {
+        for msgid in &work.msgids {
+            sum += u64::from(reader.enter().gettext("bench", "fr", msgid).as_bytes()[0]);
+        }
+    }
+    Ok((work.each_since(start), sum))
 }
 
 /// Opens the bytes several times, and keeps the last catalogue.

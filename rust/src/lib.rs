@@ -23,6 +23,8 @@
 //!
 //! - [`Catalogue`]: the messages of one file. It is immutable, and cloning it counts a reference.
 //! - [`Set`]: catalogues for several text domains and languages, with look-ups by a list of languages.
+//! - [`Store`]: a set whose catalogues are replaced while threads look up in it. Each thread has a [`Reader`], whose
+//!   [`Snapshot`]s have the look-ups.
 //! - [`Refused`]: why a file, a text or a name was refused, with the line of a PO text.
 //!
 //! The library compiles and reads files, keeps them in memory and finds messages; this crate borrows its strings and
@@ -41,15 +43,19 @@
 
 mod catalogue;
 mod entries;
+mod reader;
 mod refused;
 mod set;
+mod store;
 #[allow(unsafe_code)]
 mod sys;
 
 pub use catalogue::{Catalogue, Format, Options};
 pub use entries::{Entries, Entry, Forms};
+pub use reader::{Notice, Reader, Snapshot, WrongStore};
 pub use refused::{Kind, Refused};
 pub use set::Set;
+pub use store::{PublishError, Store};
 
 /// Compiles the example of the README as a test.
 #[cfg(doctest)]

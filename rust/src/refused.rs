@@ -114,6 +114,8 @@ kinds! {
     Unreadable = 201,
     /// A text domain or a locale isn't 1 to 64 letters, digits and `_ - . @ +`.
     BadName = 202,
+    /// The store has taken 2^58 - 1 loads, and takes no more.
+    VersionsSpent = 204,
 }
 
 impl fmt::Display for Kind {
@@ -122,7 +124,8 @@ impl fmt::Display for Kind {
     }
 }
 
-/// Why there is no catalogue or set: the error of all calls that open one.
+/// Why there is no catalogue or set, or a [`Store`](crate::Store) took no load: the error of all calls that open, make
+/// or load something.
 ///
 /// It displays as the library describes the reason, without the name of the file, which the library may not know, and
 /// without the line. `{file}:{line}: {refused}` is a line that an editor can jump to.
@@ -201,7 +204,7 @@ mod tests {
             .map(Kind::of_number)
             .filter(|it| !matches!(it, Kind::Unknown(_)))
             .collect();
-        assert!(known.len() >= 31);
+        assert!(known.len() >= 32);
         for kind in known {
             assert_eq!(Kind::of_number(kind.number()), kind);
             assert_ne!(kind.to_string(), "unknown fault");

@@ -11,19 +11,15 @@ use crate::sys;
 /// Catalogues, each for a text domain and a locale.
 ///
 /// A set never changes: [`with`](Set::with) returns a new one, which shares all its other catalogues with the old one.
-/// Cloning a set counts a reference. To replace catalogues while threads use them, make a new set and exchange the two:
+/// Cloning a set counts a reference. To replace catalogues while threads look up in them, use a
+/// [`Store`](crate::Store).
 ///
 /// ```
-/// use std::sync::RwLock;
 /// use kobdzila::{Catalogue, Options, Set};
 ///
-/// let current = RwLock::new(Set::new());
-/// let now = || current.read().unwrap().clone(); // what a thread does before it answers a request
-///
 /// let fr = Catalogue::from_po(b"msgid \"Winter\"\nmsgstr \"Hiver\"\n", Options::new())?;
-/// let next = now().with("garden", "fr", &fr)?;
-/// *current.write().unwrap() = next;
-/// assert_eq!(now().gettext("garden", "fr_CA:de", "Winter"), "Hiver");
+/// let set = Set::new().with("garden", "fr", &fr)?;
+/// assert_eq!(set.gettext("garden", "fr_CA:de", "Winter"), "Hiver");
 /// # Ok::<(), kobdzila::Refused>(())
 /// ```
 ///

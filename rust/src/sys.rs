@@ -1,4 +1,4 @@
-//! The C library: its declarations, and a safe handle for each of its two types.
+//! The C library: its declarations, and a safe handle for each of its types.
 //!
 //! This is the only module with `unsafe` code. `tests/header.rs` compares the declarations with `kobdzila.h`. A safety
 //! comment that cites the header means its words, which kobdzila(3) repeats.
@@ -13,6 +13,7 @@ use std::ptr::{self, NonNull};
 use std::slice;
 
 pub const KOB_NO_FAULT: c_uint = 0;
+pub const KOB_MEMORY: c_uint = 12;
 pub const KOB_UNREADABLE: c_uint = 201;
 pub const KOB_BAD_NAME: c_uint = 202;
 pub const KOB_CHECKED: c_uint = 1;
@@ -30,6 +31,27 @@ struct kob_catalogue {
 /// An opaque C type, like [`kob_catalogue`].
 #[repr(C)]
 struct kob_set {
+    _opaque: [u8; 0],
+    _not_sent: PhantomData<*mut u8>,
+}
+
+/// An opaque C type, like [`kob_catalogue`].
+#[repr(C)]
+struct kob_store {
+    _opaque: [u8; 0],
+    _not_sent: PhantomData<*mut u8>,
+}
+
+/// An opaque C type, like [`kob_catalogue`].
+#[repr(C)]
+struct kob_reader {
+    _opaque: [u8; 0],
+    _not_sent: PhantomData<*mut u8>,
+}
+
+/// An opaque C type, like [`kob_catalogue`].
+#[repr(C)]
+struct kob_notice {
     _opaque: [u8; 0],
     _not_sent: PhantomData<*mut u8>,
 }
@@ -97,9 +119,29 @@ extern "C" {
         msgid: kob_text,
         n: *const c_ulonglong,
     ) -> kob_text;
+    fn kob_store_new() -> *mut kob_store;
+    fn kob_store_load(
+        store: *mut kob_store,
+        domain: *const c_char,
+        locale: *const c_char,
+        catalogue: *const kob_catalogue,
+        why: *mut kob_refusal,
+    ) -> c_int;
+    fn kob_store_publish(store: *mut kob_store, version: *mut c_ulonglong) -> c_int;
+    fn kob_store_version(store: *const kob_store) -> c_ulonglong;
+    fn kob_store_pending(store: *const kob_store) -> c_ulonglong;
+    fn kob_store_retained(store: *const kob_store) -> usize;
+    fn kob_store_notice(store: *const kob_store) -> *mut kob_notice;
+    fn kob_store_reader(store: *const kob_store) -> *mut kob_reader;
+    fn kob_reader_enter(reader: *mut kob_reader) -> *const kob_set;
+    fn kob_reader_enter_after(reader: *mut kob_reader, notice: *const kob_notice) -> *const kob_set;
+    fn kob_reader_version(reader: *const kob_reader) -> c_ulonglong;
+    fn kob_notice_free(notice: *mut kob_notice);
+    fn kob_reader_free(reader: *mut kob_reader);
+    fn kob_store_free(store: *mut kob_store);
 }
 
-/// Why the library returned no catalogue or set. `file` is what errno said, if a file couldn't be read.
+/// Why the library refused a call. `file` is what errno said, if a file couldn't be read.
 pub struct Refusal {
     pub fault: u32,
     pub line: u32,
@@ -107,12 +149,21 @@ pub struct Refusal {
 }
 
 impl Refusal {
-    pub fn bad_name() -> Refusal {
+    fn without_line(fault: u32) -> Refusal {
         Refusal {
-            fault: KOB_BAD_NAME,
+            fault,
             line: 0,
             file: None,
         }
+    }
+
+    pub fn bad_name() -> Refusal {
+        Refusal::without_line(KOB_BAD_NAME)
+    }
+
+    /// What a function means that returns NULL if memory runs out, and has no other reason.
+    pub fn memory() -> Refusal {
+        Refusal::without_line(KOB_MEMORY)
     }
 
     /// What the library says of a file whose name it can't be asked for, since it has a NUL.
@@ -125,19 +176,26 @@ impl Refusal {
     }
 }
 
-/// What `call` returns, or why it returned NULL. `call` has to be one of the functions that store the reason then.
-fn returned<T>(call: impl FnOnce(*mut kob_refusal) -> *mut T) -> Result<NonNull<T>, Refusal> {
-    let mut why = kob_refusal {
+impl kob_refusal {
+    const NONE: kob_refusal = kob_refusal {
         fault: KOB_NO_FAULT,
         line: 0,
     };
-    let made = NonNull::new(call(&mut why));
-    made.ok_or_else(|| Refusal {
-        fault: why.fault,
-        line: why.line,
-        // (nothing has run since the call that could change errno)
-        file: (why.fault == KOB_UNREADABLE).then(io::Error::last_os_error),
-    })
+
+    /// The reason with its cause. Nothing that could change errno may have run since the call that stored it.
+    fn with_cause(self) -> Refusal {
+        Refusal {
+            fault: self.fault,
+            line: self.line,
+            file: (self.fault == KOB_UNREADABLE).then(io::Error::last_os_error),
+        }
+    }
+}
+
+/// What `call` returns, or why it returned NULL. `call` has to be one of the functions that store the reason then.
+fn returned<T>(call: impl FnOnce(*mut kob_refusal) -> *mut T) -> Result<NonNull<T>, Refusal> {
+    let mut why = kob_refusal::NONE;
+    NonNull::new(call(&mut why)).ok_or_else(|| why.with_cause())
 }
 
 impl kob_text {
@@ -370,18 +428,183 @@ impl Set {
     }
 
     #[inline]
-    pub fn find(
-        &self,
-        [domain, languages]: [&str; 2],
-        context: Option<&str>,
-        msgid: &str,
-        n: Option<u64>,
-    ) -> Option<&str> {
-        let (domain, languages) = (kob_text::new(domain), kob_text::new(languages));
-        let (context, msgid) = (kob_text::optional(context), kob_text::new(msgid));
-        // SAFETY: `self` keeps the set alive; the texts and the number are readable until the call returns.
-        let found = unsafe { kob_set_find(self.0.as_ptr(), domain, languages, context, msgid, address(&n)) };
-        // SAFETY: the text belongs to a catalogue of the set, which the result borrows.
-        unsafe { found.text() }
+    pub fn find(&self, names: [&str; 2], context: Option<&str>, msgid: &str, n: Option<u64>) -> Option<&str> {
+        // SAFETY: `self` keeps the set alive, and the result borrows it.
+        unsafe { find_in(self.0.as_ptr(), names, context, msgid, n) }
+    }
+}
+
+/// Looks up in a set.
+///
+/// # Safety
+///
+/// The set is valid, and so are its answers for `'a`.
+#[inline]
+unsafe fn find_in<'a>(
+    set: *const kob_set,
+    names: [&str; 2],
+    context: Option<&str>,
+    msgid: &str,
+    n: Option<u64>,
+) -> Option<&'a str> {
+    let [domain, languages] = names.map(kob_text::new);
+    let (context, msgid) = (kob_text::optional(context), kob_text::new(msgid));
+    // SAFETY: the set is valid; the texts and the number are readable until the call returns.
+    let found = unsafe { kob_set_find(set, domain, languages, context, msgid, address(&n)) };
+    // SAFETY: the text belongs to a catalogue of the set, whose answers are valid for 'a.
+    unsafe { found.text() }
+}
+
+/// A live store.
+pub struct Store(NonNull<kob_store>);
+
+// SAFETY: the header: any number of threads may use one store at once. So any of them may free it, once no other does.
+unsafe impl Send for Store {}
+// SAFETY: as for Send. A lock of the store's own puts the calls of several threads in order.
+unsafe impl Sync for Store {}
+
+impl Drop for Store {
+    fn drop(&mut self) {
+        // SAFETY: this frees the store once, and no call is using it, as each borrows it. Its readers and notices may
+        // be freed before or after it.
+        unsafe { kob_store_free(self.0.as_ptr()) }
+    }
+}
+
+impl Store {
+    /// A store that has published the empty set; `None` if memory runs out.
+    pub fn new() -> Option<Store> {
+        // SAFETY: the function has no condition.
+        NonNull::new(unsafe { kob_store_new() }).map(Store)
+    }
+
+    pub fn load(&self, domain: &str, locale: &str, catalogue: &Catalogue) -> Result<(), Refusal> {
+        let (domain, locale) = names(domain, locale)?;
+        let (store, catalogue) = (self.0.as_ptr(), catalogue.0.as_ptr());
+        let mut why = kob_refusal::NONE;
+        // SAFETY: both handles are alive, and the store shares the catalogue; the names are terminated by NUL, and
+        // `why` may be written to.
+        let loaded = unsafe { kob_store_load(store, domain.as_ptr(), locale.as_ptr(), catalogue, &mut why) };
+        if loaded == 0 {
+            return Err(why.with_cause());
+        }
+        Ok(())
+    }
+
+    /// The version that is published then; `None` if memory ran out, or the store was busy.
+    pub fn publish(&self) -> Option<u64> {
+        let mut version = 0;
+        // SAFETY: `self` keeps the store alive, and `version` may be written to.
+        let published = unsafe { kob_store_publish(self.0.as_ptr(), &mut version) };
+        (published != 0).then_some(version)
+    }
+
+    pub fn version(&self) -> u64 {
+        // SAFETY: `self` keeps the store alive.
+        unsafe { kob_store_version(self.0.as_ptr()) }
+    }
+
+    pub fn pending(&self) -> u64 {
+        // SAFETY: `self` keeps the store alive.
+        unsafe { kob_store_pending(self.0.as_ptr()) }
+    }
+
+    pub fn retained(&self) -> usize {
+        // SAFETY: `self` keeps the store alive.
+        unsafe { kob_store_retained(self.0.as_ptr()) }
+    }
+
+    /// A notice of what is published; refused only if memory runs out.
+    pub fn notice(&self) -> Result<Notice, Refusal> {
+        // SAFETY: `self` keeps the store alive.
+        let notice = NonNull::new(unsafe { kob_store_notice(self.0.as_ptr()) });
+        notice.map(Notice).ok_or_else(Refusal::memory)
+    }
+
+    /// A reader that has entered what is published; refused only if memory runs out.
+    pub fn reader(&self) -> Result<Reader, Refusal> {
+        // SAFETY: `self` keeps the store alive.
+        let reader = NonNull::new(unsafe { kob_store_reader(self.0.as_ptr()) });
+        reader.map(Reader).ok_or_else(Refusal::memory)
+    }
+}
+
+/// Proof that a version was published.
+pub struct Notice(NonNull<kob_notice>);
+
+// SAFETY: the header: a notice may be passed to another thread. It is in one call at a time, so it isn't Sync.
+unsafe impl Send for Notice {}
+
+impl Drop for Notice {
+    fn drop(&mut self) {
+        // SAFETY: this frees the notice once, and no call is using it. Its store needn't live any more.
+        unsafe { kob_notice_free(self.0.as_ptr()) }
+    }
+}
+
+/// What one thread looks up with.
+pub struct Reader(NonNull<kob_reader>);
+
+// SAFETY: the header: a reader may move between threads. It is in one call at a time, so it isn't Sync.
+unsafe impl Send for Reader {}
+
+impl Drop for Reader {
+    fn drop(&mut self) {
+        // SAFETY: this frees the reader once. No snapshot outlives `self`, as each borrows it, so neither a call nor an
+        // answer is using it. Its store needn't live any more.
+        unsafe { kob_reader_free(self.0.as_ptr()) }
+    }
+}
+
+impl Reader {
+    #[inline]
+    pub fn enter(&mut self) -> Snapshot<'_> {
+        // SAFETY: `self` keeps the reader alive. No snapshot of an earlier entry is left, since it would borrow `self`,
+        // and so no answer of one.
+        let set = unsafe { kob_reader_enter(self.0.as_ptr()) };
+        Snapshot {
+            set,
+            reader: PhantomData,
+        }
+    }
+
+    /// An entry that isn't older than the notice; `None` if the notice is of another store.
+    #[inline]
+    pub fn enter_after(&mut self, notice: &Notice) -> Option<Snapshot<'_>> {
+        // SAFETY: as for `enter`; the notice is alive too, and in no other call, as it isn't Sync.
+        let set = unsafe { kob_reader_enter_after(self.0.as_ptr(), notice.0.as_ptr()) };
+        (!set.is_null()).then_some(Snapshot {
+            set,
+            reader: PhantomData,
+        })
+    }
+
+    pub fn version(&self) -> u64 {
+        // SAFETY: `self` keeps the reader alive.
+        unsafe { kob_reader_version(self.0.as_ptr()) }
+    }
+}
+
+/// The set that a reader has entered, for as long as it borrows the reader. The set isn't null.
+pub struct Snapshot<'a> {
+    set: *const kob_set,
+    reader: PhantomData<&'a mut Reader>,
+}
+
+// SAFETY: a snapshot is the only access to its reader, which may move between threads. A look-up is a call of the
+// reader, so a snapshot isn't Sync either.
+unsafe impl Send for Snapshot<'_> {}
+
+impl<'a> Snapshot<'a> {
+    pub fn version(&self) -> u64 {
+        // SAFETY: the header: the set is valid until its reader's next entry or end, and neither comes within 'a.
+        unsafe { kob_set_version(self.set) }
+    }
+
+    #[inline]
+    pub fn find(&self, names: [&str; 2], context: Option<&str>, msgid: &str, n: Option<u64>) -> Option<&'a str> {
+        // SAFETY: the header: the set and its answers are valid until its reader's next entry or end, and neither comes
+        // within 'a.
+        unsafe { find_in(self.set, names, context, msgid, n) }
     }
 }

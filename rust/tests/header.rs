@@ -104,10 +104,10 @@ fn squeezed(text: &str) -> String {
 fn functions_are_those_of_the_header() {
     let Some(header) = header() else { return };
     let wanted = functions_of_c(&header);
-    assert!(wanted.len() >= 27, "the header has only {:?}", wanted.keys());
+    assert!(wanted.len() >= 41, "the header has only {:?}", wanted.keys());
     let block = between(SYS, "extern \"C\" {", "\n}").next().unwrap();
     let declared: Vec<String> = block.split(';').map(squeezed).filter(|it| !it.is_empty()).collect();
-    assert!(declared.len() >= 19);
+    assert!(declared.len() >= 33);
     for function in declared {
         let name = function.trim_start_matches("fn").split('(').next().unwrap();
         assert_eq!(Some(&function), wanted.get(name), "{name}");
@@ -173,7 +173,7 @@ fn constants_are_those_of_the_header() {
         .map(|it| it.split_once(": c_uint = ").unwrap())
         .map(|(name, number)| (name, number.parse().unwrap()))
         .collect();
-    assert_eq!(ours.len(), 7);
+    assert_eq!(ours.len(), 8);
     for (name, number) in ours {
         assert_eq!(Some(&number), wanted.get(format!("KOB_{name}").as_str()), "KOB_{name}");
     }

@@ -4,8 +4,10 @@ mod entries;
 mod files;
 mod lookups;
 mod plural_rules;
+mod publishing;
 mod refusals;
 mod sets;
+mod stores;
 mod threads;
 
 use kobdzila::{Catalogue, Options};

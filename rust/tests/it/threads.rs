@@ -1,17 +1,29 @@
 use crate::{compiled, GARDEN};
-use kobdzila::{Catalogue, Entries, Entry, Forms, Set};
+use kobdzila::{Catalogue, Entries, Entry, Forms, Notice, PublishError, Reader, Set, Snapshot, Store, WrongStore};
 use std::sync::atomic::{AtomicBool, Ordering};
 use std::sync::RwLock;
 use std::thread;
 
 #[test]
-fn all_types_may_be_sent_and_shared() {
+fn types_that_may_be_sent_and_shared() {
     fn is_sent_and_shared<T: Send + Sync>() {}
     is_sent_and_shared::<Catalogue>();
     is_sent_and_shared::<Set>();
     is_sent_and_shared::<Entries<'_>>();
     is_sent_and_shared::<Entry<'_>>();
     is_sent_and_shared::<Forms<'_>>();
+    is_sent_and_shared::<Store>();
+    is_sent_and_shared::<PublishError>();
+    is_sent_and_shared::<WrongStore>();
+}
+
+// (that they aren't shared is an example of each that doesn't compile)
+#[test]
+fn types_that_may_be_sent() {
+    fn is_sent<T: Send>() {}
+    is_sent::<Reader>();
+    is_sent::<Snapshot<'_>>();
+    is_sent::<Notice>();
 }
 
 #[test]

@@ -1,0 +1,261 @@
+use crate::{compiled, GARDEN};
+use kobdzila::{Catalogue, Kind, Notice, Reader, Store, WrongStore};
+
+fn message(msgid: &str, msgstr: &str) -> Catalogue {
+    compiled(&format!("msgid \"{msgid}\"\nmsgstr \"{msgstr}\"\n"))
+}
+
+/// Publishes a catalogue that translates `Winter` into French as `text`.
+fn show(store: &Store, text: &str) -> u64 {
+    store.load("garden", "fr", &message("Winter", text)).unwrap();
+    store.publish().unwrap()
+}
+
+/// The text that an entry finds, and the entry's version.
+fn winter(reader: &mut Reader) -> (&str, u64) {
+    let now = reader.enter();
+    (now.gettext("garden", "fr", "Winter"), now.version())
+}
+
+#[test]
+fn loads_are_pending_until_a_publish_shows_all_of_them() {
+    let store = Store::default();
+    let mut reader = store.reader().unwrap();
+    assert_eq!((store.version(), store.pending(), store.retained()), (0, 0, 0));
+    assert_eq!(store.publish(), Ok(0));
+    store.load("garden", "fr", &message("Winter", "Hiver")).unwrap();
+    store.load("garden", "de", &message("Winter", "Winterzeit")).unwrap();
+    assert_eq!((store.version(), store.pending()), (0, 2));
+    assert_eq!(winter(&mut reader), ("Winter", 0));
+    assert_eq!(store.publish(), Ok(2));
+    assert_eq!((store.version(), store.pending()), (2, 0));
+    let now = reader.enter();
+    assert_eq!(now.gettext("garden", "fr", "Winter"), "Hiver");
+    assert_eq!(now.gettext("garden", "de", "Winter"), "Winterzeit");
+    assert_eq!(now.version(), 2);
+    assert_eq!((reader.version(), store.publish()), (2, Ok(2)));
+}
+
+#[test]
+fn a_load_replaces_one_catalogue() {
+    let store = Store::new();
+    store.load("garden", "de", &message("Winter", "Winterzeit")).unwrap();
+    show(&store, "Hiver");
+    assert_eq!(show(&store, "L'hiver"), 3);
+    let mut reader = store.reader().unwrap();
+    assert_eq!(reader.version(), 3);
+    let now = reader.enter();
+    assert_eq!(now.gettext("garden", "fr", "Winter"), "L'hiver");
+    assert_eq!(now.gettext("garden", "de", "Winter"), "Winterzeit");
+}
+
+#[test]
+fn the_last_of_two_pending_loads_counts() {
+    let store = Store::new();
+    let mut reader = store.reader().unwrap();
+    store.load("garden", "fr", &message("Winter", "Hiver")).unwrap();
+    assert_eq!(show(&store, "L'hiver"), 2);
+    assert_eq!(winter(&mut reader), ("L'hiver", 2));
+}
+
+#[test]
+fn names_that_are_not_valid_are_refused_and_change_nothing() {
+    let store = Store::new();
+    let fr = compiled(GARDEN);
+    store.load("garden", "fr", &fr).unwrap();
+    let long = "a".repeat(65);
+    for name in ["", "a b", "a/b", "é", "garden\0", "\0", &long] {
+        for refused in [store.load(name, "de", &fr), store.load("garden", name, &fr)] {
+            let refused = refused.unwrap_err();
+            assert_eq!((refused.kind(), refused.line()), (Kind::BadName, None));
+        }
+    }
+    assert_eq!((store.version(), store.pending()), (0, 1));
+    assert_eq!(store.publish(), Ok(1));
+    assert_eq!(winter(&mut store.reader().unwrap()), ("Hiver", 1));
+    assert_eq!(Kind::VersionsSpent.to_string(), "no more versions");
+}
+
+#[test]
+fn a_snapshot_has_each_look_up() {
+    let store = Store::new();
+    store.load("garden", "fr", &compiled(GARDEN)).unwrap();
+    store.load("garden", "de", &message("Winter", "Winterzeit")).unwrap();
+    store.publish().unwrap();
+    let mut reader = store.reader().unwrap();
+    let now = reader.enter();
+    assert_eq!(now.gettext("garden", "sv:de:fr", "Winter"), "Winterzeit");
+    assert_eq!(now.pgettext("garden", "de:fr", "menu", "Open"), "Ouvrir");
+    assert_eq!(now.ngettext("garden", "de:fr", "tomato", "tomatoes", 0), "tomate");
+    assert_eq!(now.npgettext("garden", "fr_CA", "bed", "row", "rows", 2), "rangées");
+    assert_eq!(now.find("garden", "fr", "Winter"), Some("Hiver"));
+    assert_eq!(now.find_in("garden", "fr", "", "Open"), Some("Ouvert"));
+    assert_eq!(now.find_plural("garden", "fr", "tomato", 2), Some("tomates"));
+    assert_eq!(now.find_plural_in("garden", "fr", "bed", "row", 1), Some("rangée"));
+}
+
+#[test]
+fn missing_messages_are_the_callers_texts() {
+    let store = Store::new();
+    store.load("garden", "fr", &compiled(GARDEN)).unwrap();
+    store.publish().unwrap();
+    let mut reader = store.reader().unwrap();
+    let msgid = String::from("Summer");
+    let now = reader.enter();
+    assert!(std::ptr::eq(now.gettext("garden", "fr", &msgid), msgid.as_str()));
+    assert_eq!(now.gettext("garden", "C:fr", "Winter"), "Winter");
+    assert_eq!(now.gettext("other", "fr", "Winter"), "Winter");
+    assert_eq!(now.pgettext("garden", "fr", "door", "Open"), "Open");
+    assert_eq!(now.ngettext("garden", "fr", "pea", "peas", 1), "pea");
+    assert_eq!(now.ngettext("garden", "fr", "pea", "peas", 0), "peas");
+    assert_eq!(now.npgettext("garden", "", "bed", "row", "rows", 1), "row");
+    assert_eq!(now.npgettext("garden", "", "bed", "row", "rows", 2), "rows");
+    assert_eq!(now.find("garden", "fr", "Open"), None);
+    assert_eq!(now.find("garden\0", "fr", "Winter"), None);
+    assert_eq!(now.find("garden", "fr\0", "Winter"), None);
+    assert_eq!(now.find("garden", "fr", "Winter\0"), None);
+    assert_eq!(now.find_in("garden", "fr", "menu", "Winter"), None);
+    assert_eq!(now.find_plural("garden", "fr", "pea", 2), None);
+    assert_eq!(now.find_plural_in("garden", "fr", "menu", "row", 2), None);
+}
+
+#[test]
+fn an_entry_stays_as_it_was() {
+    let store = Store::new();
+    show(&store, "one");
+    let mut reader = store.reader().unwrap();
+    let now = reader.enter();
+    let answer = now.gettext("garden", "fr", "Winter");
+    for _ in 0..20 {
+        show(&store, "two");
+    }
+    assert_eq!((now.version(), answer), (1, "one"));
+    assert_eq!(now.gettext("garden", "fr", "Winter"), "one");
+    assert_eq!(winter(&mut reader), ("two", 21));
+    assert_eq!(reader.version(), 21);
+}
+
+#[test]
+fn an_answer_lasts_as_long_as_the_entry() {
+    let store = Store::new();
+    show(&store, "one");
+    let mut reader = store.reader().unwrap();
+    let answer = {
+        let now = reader.enter();
+        now.gettext("garden", "fr", "Winter")
+    };
+    drop(store);
+    assert_eq!(answer, "one");
+}
+
+#[test]
+fn a_reader_keeps_one_set() {
+    let store = Store::new();
+    show(&store, "one");
+    let mut reader = store.reader().unwrap();
+    let (answer, _) = winter(&mut reader);
+    for _ in 0..100 {
+        show(&store, "two");
+    }
+    assert_eq!(answer, "one");
+    // (that of the reader, and those that no publish has freed yet)
+    assert!((1..=3).contains(&store.retained()), "{}", store.retained());
+    reader.enter();
+    show(&store, "three");
+    show(&store, "three");
+    assert!(store.retained() <= 2, "{}", store.retained());
+}
+
+#[test]
+fn an_entry_after_a_notice_is_not_older() {
+    let store = Store::new();
+    let mut reader = store.reader().unwrap();
+    show(&store, "one");
+    let first = store.notice().unwrap();
+    show(&store, "two");
+    let second = store.notice().unwrap();
+    assert_eq!(reader.enter_after(&second).unwrap().version(), 2);
+    assert_eq!(reader.enter_after(&first).unwrap().version(), 2);
+    show(&store, "three");
+    let now = reader.enter_after(&first).unwrap();
+    assert_eq!(now.gettext("garden", "fr", "Winter"), "three");
+    drop(store);
+    assert_eq!(reader.enter_after(&second).unwrap().version(), 3);
+}
+
+#[test]
+fn a_notice_of_another_store_is_refused() {
+    let (store, other) = (Store::new(), Store::new());
+    show(&store, "one");
+    let mut reader = store.reader().unwrap();
+    show(&store, "two");
+    show(&other, "other");
+    let notice = other.notice().unwrap();
+    let refused = reader.enter_after(&notice).unwrap_err();
+    assert_eq!(refused, WrongStore);
+    assert_eq!(refused.to_string(), "the notice is of another store than the reader");
+    assert_eq!(reader.version(), 1);
+    drop(other);
+    assert!(reader.enter_after(&notice).is_err());
+    // (a store that may lie where the other one did)
+    let later = Store::new();
+    assert!(later.reader().unwrap().enter_after(&notice).is_err());
+    assert_eq!(winter(&mut reader), ("two", 2));
+}
+
+enum Handle {
+    Store { _kept: Store },
+    Notice { _kept: Notice },
+    Reader(Reader),
+}
+
+/// A store, a notice and two readers: one in the version before the newest, one in the newest.
+fn handles() -> Vec<Handle> {
+    let store = Store::new();
+    show(&store, "one");
+    let mut readers = [store.reader().unwrap(), store.reader().unwrap()];
+    show(&store, "two");
+    readers[1].enter();
+    let notice = store.notice().unwrap();
+    let mut handles = vec![Handle::Store { _kept: store }, Handle::Notice { _kept: notice }];
+    handles.extend(readers.map(Handle::Reader));
+    handles
+}
+
+#[test]
+fn handles_are_dropped_in_each_of_the_24_orders() {
+    for order in 0..24 {
+        let (mut left, mut rest) = (handles(), order);
+        while !left.is_empty() {
+            let place = rest % left.len();
+            rest /= left.len();
+            drop(left.swap_remove(place));
+            for handle in &mut left {
+                if let Handle::Reader(reader) = handle {
+                    assert_eq!(winter(reader), ("two", 2));
+                }
+            }
+        }
+    }
+}
+
+#[test]
+fn a_thousand_readers() {
+    let store = Store::new();
+    show(&store, "one");
+    let mut readers: Vec<Reader> = (0..1000).map(|_| store.reader().unwrap()).collect();
+    show(&store, "two");
+    assert!(readers.iter_mut().all(|reader| winter(reader) == ("two", 2)));
+}
+
+#[test]
+fn debug_shows_the_versions() {
+    let store = Store::new();
+    show(&store, "one");
+    store.load("garden", "de", &message("Winter", "Winterzeit")).unwrap();
+    let mut reader = store.reader().unwrap();
+    assert_eq!(format!("{store:?}"), "Store { version: 1, pending: 1 }");
+    assert_eq!(format!("{reader:?}"), "Reader { version: 1 }");
+    assert_eq!(format!("{:?}", reader.enter()), "Snapshot { version: 1 }");
+    assert_eq!(format!("{:?}", store.notice().unwrap()), "Notice { .. }");
+}

@@ -1,0 +1,31 @@
+//! Loads, publishes and enters, and prints which of these calls found no memory. `tests/rust.sh` of the repository
+//! refuses this program one request for memory after another; without that it prints nothing.
+
+use kobdzila::{Catalogue, Kind, Options, Refused, Store};
+
+/// What the call returns. If memory runs out, it is called again, and then has to succeed.
+fn twice<T>(name: &str, call: impl Fn() -> Result<T, Refused>) -> T {
+    call().unwrap_or_else(|refused| {
+        assert_eq!(refused.kind(), Kind::Memory);
+        println!("{name}: {refused}");
+        call().unwrap()
+    })
+}
+
+fn main() {
+    let po = b"msgid \"Winter\"\nmsgstr \"Hiver\"\n";
+    let fr = twice("catalogue", || Catalogue::from_po(po, Options::new()));
+    let store = Store::new();
+    twice("load", || store.load("garden", "fr", &fr));
+    assert_eq!((store.version(), store.pending()), (0, 1));
+    if let Err(why) = store.publish() {
+        println!("publish: {why}");
+        assert_eq!((store.version(), store.pending()), (0, 1));
+        assert_eq!(store.publish(), Ok(1));
+    }
+    let mut reader = twice("reader", || store.reader());
+    let notice = twice("notice", || store.notice());
+    let now = reader.enter_after(&notice).unwrap();
+    assert_eq!(now.version(), 1);
+    assert_eq!(now.gettext("garden", "fr", "Winter"), "Hiver");
+}
