@@ -37,7 +37,7 @@ while refuses $((n + 1)) "$program" crates/test_answers/data/few > "$room/got" 2
     grep -qi 'memory' "$room/err" || break
     wrong=
   else
-    # so many cases as told are not as written, and no kind is missing
+    # as many cases as announced are not as written, and no kind is missing
     wrong=$(awk -v lacks="$lacks" '/as written$/ { kinds++; short += $4 - $2 }
       END { if (kinds != 4 || short != lacks) print kinds + 0 " kinds, " short " cases not as written, " lacks " told" }' "$room/got")
     [ -z "$wrong" ] || break

@@ -86,7 +86,7 @@ gnu_project() {
     else
       ok "$1, by 'msgfmt $calls'"
     fi
-    # the same where configure found GNU msgfmt, and make is told
+    # and if configure found GNU msgfmt, and make gets the setting
     rm -f po/fr.gmo "$room/called"
     sed -i '/^USE_MSGCTXT/d' po/Makevars
     if ! ./configure > log 2>&1 || ! make -C po fr.gmo GMSGFMT="$room/bin/msgfmt" > log 2>&1; then

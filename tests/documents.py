@@ -147,6 +147,19 @@ def faults_of_the_header():
         "c/kobdzila.c", [text for text in texts if text not in ("no fault", "out of memory")], told)
 
 
+def functions_of_the_library():
+    """the functions of the C library: header, man page with its synopsis, version script"""
+    code = re.sub(r"/\*.*?\*/", " ", read(HEADER), flags=re.S)
+    wanted = set(re.findall(r"\b(kob_\w+)\(", code))
+    synopsis, text = read(LIBRARY_PAGE).split(".SH DESCRIPTION")
+    described = {it for it in re.findall(r"\bkob_\w+", text) if it in wanted}
+    # (the look-ups in a set are described as those in a catalogue)
+    described |= {it for it in wanted if it.startswith("kob_set_") and it.replace("_set_", "_") in described}
+    listed = set(re.findall(r"^    (kob_\w+);", read("c/kobdzila.map"), re.M))
+    return (differences(f"{LIBRARY_PAGE}, its synopsis", set(re.findall(r"(kob_\w+)\(", synopsis)), wanted)
+            + differences(LIBRARY_PAGE, described, wanted) + differences("c/kobdzila.map", listed, wanted))
+
+
 def options_of_the_driver():
     """the options of GNU msgfmt that msgfmt-or-gnu knows: code, man page, completions"""
     code = read(DRIVER_OPTIONS)
@@ -576,6 +589,7 @@ RULES = (
     kinds_of_scripts,
     texts_of_kinds,
     faults_of_the_header,
+    functions_of_the_library,
     options_of_the_driver,
     warnings_of_the_driver,
     lines_of_the_command,

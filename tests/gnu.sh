@@ -92,7 +92,7 @@ name_of() {
   echo "${folder##*/}/${domain%.mo}"
 }
 
-# The scripts that are told apart, each with the bytes with which its letters begin in UTF-8.
+# The scripts that are distinguished, each with the first bytes of its letters in UTF-8.
 letters='Greek [\316\317]  Cyrillic [\320-\323]  Armenian \324|\325|\326[\200-\217]  Hebrew \327|\326[\220-\277]
   Arabic [\330-\333]  Devanagari \340[\244\245]  Bengali \340[\246\247]  Gurmukhi \340[\250\251]
   Gujarati \340[\252\253]  Oriya \340[\254\255]  Tamil \340[\256\257]  Telugu \340[\260\261]  Kannada \340[\262\263]
@@ -100,8 +100,8 @@ letters='Greek [\316\317]  Cyrillic [\320-\323]  Armenian \324|\325|\326[\200-\2
   Japanese \343[\201-\203]  Hangul [\353\354]  Han [\344-\351]'
 
 # traits PO: prints three words: the script of the translations, the number of contexts, and the number of entries with
-# three plural forms. The script is the one of which most lines have a letter, or Latin, where these are no more than a
-# quarter of the entries. (A line with kana is Japanese, and then not Han.)
+# three plural forms. The script is the one whose letters most lines have, or Latin if these lines are at most a quarter of the
+# entries. (A line with kana is Japanese, and then not Han.)
 traits() {
   awk -v letters="${letters//$'\n'/ }" '
     BEGIN { count = split(letters, words) }

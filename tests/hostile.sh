@@ -37,7 +37,7 @@ load_file() {
     END { printf "%s, %.2f\n", answer, spent[1] + spent[2] }' "$room/out"
 }
 
-# is_read SHAPE BYTES MOST READER: READER answers a file of this shape and size in at most so many seconds
+# is_read SHAPE BYTES MOST READER: READER answers a file of this shape and size in at most MOST seconds
 is_read() {
   local wanted got status seconds name="the hostile file $1 of $(($2 / 1000000)) MB"
   wanted=$(python3 -B tests/make_hostile.py "$1" "$2" "$room/file") || exit 1
@@ -57,7 +57,7 @@ is_read() {
   fi
 }
 
-# are_read BYTES TINY READER: files of each shape, and tiny entries for which so many bytes are given
+# are_read BYTES TINY READER: files of each shape with BYTES bytes, and with TINY bytes for the one of tiny entries
 are_read() {
   local shape
   for shape in $(python3 -B tests/make_hostile.py); do

@@ -111,9 +111,9 @@ installed() {
   if [ -z "$driver" ]; then
     skipped "$as: msgfmt-or-gnu" 'it was not built'
   elif "$bin/$1msgfmt-or-gnu" -o - - < crates/msgfmt/stdin 2> "$room/err" | cmp -s - crates/msgfmt/stdout; then
-    ok "$as: msgfmt-or-gnu finds the program next to it"
+    ok "$as: msgfmt-or-gnu runs"
   else
-    failed "$as: msgfmt-or-gnu finds the program next to it" "$(cat "$room/err")"
+    failed "$as: msgfmt-or-gnu runs" "$(cat "$room/err")"
   fi
   unstripped=build/static/msgfmt
   [ -x $unstripped ] || unstripped=$program

@@ -107,7 +107,7 @@ sv:C_X:de | $hi | in C
 C.UTF-8:de | $hi | hallo
 END
 
-# a locale before its language, and one with a codeset as it stands
+# a locale before its language, and one with a codeset as it is
 load fr_CA "$(message hi allo)$(message yes oui)"
 load fr "$(message hi salut)$(message no non)"
 load fr_CA.UTF-8 "$(message hi 'allo, UTF-8')"

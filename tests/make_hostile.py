@@ -153,7 +153,7 @@ def shuffled_translations(size):
     return mo(originals, translations, [keys, "é".encode() * (length // 2), b"\0"]), SWOLLEN
 
 
-# keys of one letter in two texts, taken from either by turns: each claim's keys stand at a distance of its own
+# keys of one letter in two texts, taken from either by turns: each claim's keys have a distance of their own
 def two_texts_by_turns(size):
     count = 10000
     start = strings_start(count)

@@ -1,7 +1,7 @@
 #!/usr/bin/env bash
 # Compiles the PO files of real packages by bin/msgfmt and by GNU msgfmt, with -c and without, and sorts each difference
 # by its reason; a difference without a known reason (tests/packages/reasons) is a failure. Then the catalogues of seven
-# packages are built through bin/msgfmt-or-gnu, to the end, as each of them is told to (docs/guide/build-systems.md).
+# packages are built through bin/msgfmt-or-gnu, to the end, with each one's setting (docs/guide/build-systems.md).
 #
 #   tests/packages.sh           the packages of tests/packages/list, which apt-get fetches once into build/packages
 #   tests/packages.sh FOLDER    the PO files below FOLDER, and no builds
@@ -82,7 +82,7 @@ opens() {
 # made: how many MO files there are
 made() { find . \( -name '*.mo' -o -name '*.gmo' \) | wc -l; }
 
-# whole NAME MADE LANGUAGES: so many catalogues were made, one for each language, and each run ended with 0
+# whole NAME MADE LANGUAGES: MADE catalogues were made, one for each language, and each run ended with 0
 whole() {
   local ours gnu
   ours=$(grep '^ours.0' "$MSGFMT_OR_GNU_LOG" | cut -f 5 | sort -u | grep -c '\.g\?po$')

@@ -24,8 +24,8 @@ WORD = re.compile(rb"[A-Za-z0-9_]+")
 NUMBER = re.compile(rb"[0-9]{1,9}")
 OCTAL = re.compile(rb"[0-7]{1,3}")
 
-# kind: a keyword, "[", "]", "number" or "string"; value: of a number or a string; comments: those that stand between
-# the token before it and this one
+# kind: a keyword, "[", "]", "number" or "string"; value: of a number or a string; comments: those between the token
+# before it and this one
 Token = namedtuple("Token", "line kind value comments")
 Entry = namedtuple("Entry", "line is_fuzzy context id plural forms")
 

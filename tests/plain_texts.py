@@ -246,7 +246,7 @@ REFUSED = [
     (b'msgid ""\nmsgid_plural "p"\nmsgstr[0] "charset=koi8"', 1, "unsupported charset"),
 ]
 
-# Two small texts that are cut behind each of their bytes.
+# Two small texts that are cut after each of their bytes.
 WHOLE = {
     "a text of many forms": r"""msgctxt "k\n"
 #, fuzzy

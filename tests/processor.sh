@@ -36,18 +36,22 @@ fi
 # answers PROCESSOR FILE: runs the program on that processor, and compares what it writes with what is wanted
 answers() {
   case $2 in
-    */msgfmt) qemu-x86_64 -cpu "$1" "$2" -o - - < crates/msgfmt/stdin | cmp - crates/msgfmt/stdout ;;
+    */msgfmt*) qemu-x86_64 -cpu "$1" "$2" -o - - < crates/msgfmt/stdin | cmp - crates/msgfmt/stdout ;;
     *) qemu-x86_64 -cpu "$1" "$2" < examples/shop.script | cmp - examples/shop.answers ;;
   esac
 }
-for it in "${programs[@]/#/bin/}" "${programs[@]/#/build/static/}"; do
+# (msgfmt-or-gnu as far as it calls msgfmt; a program that it started would not be emulated)
+unset KOBDZILA_MSGFMT
+driver=bin/msgfmt-or-gnu
+[ -f build/static/msgfmt.o ] || driver=
+for it in "${programs[@]/#/bin/}" "${programs[@]/#/build/static/}" $driver; do
   [ -x "$it" ] || continue
   if said=$(answers Nehalem "$it" 2>&1); then
     ok "the processor, $it runs on a Nehalem"
   else
     failed "the processor, $it runs on a Nehalem" "$said"
   fi
-  said=$(qemu-x86_64 -cpu Penryn "$it" 2>&1 < /dev/null)
+  said=$(qemu-x86_64 -cpu Penryn "$it" -o - - 2>&1 < crates/msgfmt/stdin)
   status=$?
   if [ $status = 127 ] && grep -q 'lacks a feature of x86-64-v2' <<< "$said"; then
     ok "the processor, $it says that a Penryn lacks a feature"

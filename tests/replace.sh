@@ -25,7 +25,7 @@ in_folder() {
   cd "$room/folder" || exit 1
 }
 
-# to_file WORD..: runs the program, behind the words of $under
+# to_file WORD..: runs the program, after the words of $under
 under=()
 to_file() {
   "${under[@]}" "$program" "$@" < /dev/null > "$room/out" 2> "$room/err"
@@ -126,7 +126,7 @@ if [ -n "$can_trouble" ]; then
     judge "$name" 1 'msgfmt: cannot write out.mo' && there "$name" out.mo && is "$name" "$(cat out.mo)" old && ok "$name"
   done
 
-  # (what only a close tells on a network's disk is told by fsync before: close(2))
+  # (fsync reports what on a network file system otherwise only close reports: close(2))
   in_folder
   echo old > out.mo
   under=(env TROUBLE=fsync NETWORK=1 FILE_HAS=.msgfmt- "LD_PRELOAD=$room/trouble.so")

@@ -96,7 +96,7 @@ is_run_without_threads() {
   [ -e "$room/refused" ]
 }
 
-# are_run_without_threads THREADS SCRIPT OUTPUT: the same from each thread on, of which the program asks for so many
+# are_run_without_threads THREADS SCRIPT OUTPUT: is_run_without_threads from each of the program's THREADS on
 are_run_without_threads() {
   local n=0
   while is_run_without_threads $((n + 1)) "$2" "$3"; do n=$((n + 1)); done

@@ -14,7 +14,7 @@ fi
 cat > "$room/follows" <<'END'
 import sys
 
-# behind the last LF: a line that could not be printed whole
+# after the last LF: a line that could not be printed whole
 lines = sys.stdin.read().split('\n')[:-1]
 may_refuse = int(sys.argv[1])
 FAULTS = ['serve: Memory', 'serve: Closed', 'serve: Join']

@@ -48,7 +48,7 @@ stored_row 'the example of a script' examples/shop.script examples/shop.answers
 row 'three hundred loads' "$(printf 'load\\tapp\\tfr\\t-\\t0\\n%.0s' $(seq 300))" \
   "$(printf 'accepted\\t0\\t0\\t0\\n%.0s' $(seq 300))version\\t300\\n" ''
 
-# --- bad lines behind a round, and the texts of faults
+# --- bad lines after a round, and the texts of faults
 
 load='load\tapp\tfr\t-\t2\nmsgid "hi"\nmsgstr "salut"\n'
 ask='ask\t0\tapp\tfr\tgettext\thi\n'
@@ -84,7 +84,7 @@ tests/session.py "$session" rows "$room/rows"
 
 # --- large rounds: the bytes of a round are limited, and not those of a session
 
-# says NAME STATUS OUTPUT ERR: compares the last run, whose output stands in $room/out; ERR is a pattern
+# says NAME STATUS OUTPUT ERR: compares the last run, whose output is in $room/out; ERR is a pattern
 says() {
   local pattern="^($4)\$"
   if [ "$status" = "$2" ] && printf "$3" | cmp -s - "$room/out" && [[ $(cat "$room/err") =~ $pattern ]]; then
@@ -100,7 +100,7 @@ runs() {
   status=$?
 }
 
-# comment BYTES: a comment of so many bytes, its LF among them
+# comment BYTES: a comment of BYTES bytes, its LF among them
 comment() { head -c "$(($1 - 1))" /dev/zero | tr '\0' '#' && echo; }
 
 runs < <(printf 'go\n' && comment 67108865)

@@ -74,7 +74,7 @@ STEPS = [
     ("load", ("app", "fr", TEXTS, "f"), None),
     ("publish", (), 3),
     ("gettext", ("app", "fr", "f"), (3, "g")),
-    # an MO file, with the newest text of the same locale behind it
+    # an MO file, followed by the newest text of the same locale
     ("load_mo", ("app", "sv", MO), None),
     ("load", ("app", "sv", b'msgid "hi"\nmsgstr "hej"'), None),
     ("publish", (), 5),
@@ -82,7 +82,7 @@ STEPS = [
     ("load_mo", ("app", "sv", MO), None),
     ("publish", (), 6),
     ("gettext", ("app", "sv", "hi"), (6, "salut")),
-    # refusals, which leave what was accepted beside them
+    # refusals, which leave what else was accepted in the round
     ("load", ("app", "fr", b'msgid "a"\nmsgstr "x"\nmsgid "a"\nmsgstr "y"\n'), None),
     ("load", ("app", "de", b'msgid "hi"\nmsgstr "hallo"\n'), None),
     ("load", ("a b", "fr", b""), None),

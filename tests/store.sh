@@ -11,11 +11,11 @@ if [ ! -x "$program" ]; then
 fi
 
 # says whether the lines of a run follow from one another, given how many of its requests were refused: each answer is
-# the row's own, or says that memory was refused, and what stands after it is what such answers leave
+# the row's own, or says that memory was refused, and what comes after it is what such answers leave
 cat > "$room/follows" <<'END'
 import sys
 
-# behind the last LF: a line that could not be printed whole
+# after the last LF: a line that could not be printed whole
 lines = sys.stdin.read().split('\n')[:-1]
 may_refuse = int(sys.argv[1])
 steps = [('load', 'fr', 'salut'), ('load', 'de', 'hallo'), ('publish',), ('enter',), ('publish',), ('enter',),
