@@ -1,5 +1,5 @@
 -- Beginnings of a list of batches.
-use Rattle.std.proofs.Common.{◌≡◌, ℕ, ◌<◌, ◌≤◌, List, [], ◌∷◌, ◌++◌, length, refl, ap, ◌∙◌, arith}
+use Rattle.std.proofs.Common.{◌≡◌, ◌≢◌, ℕ, ◌<◌, ◌≤◌, List, [], ◌∷◌, ◌++◌, length, refl, ap, ◌∙◌, arith}
 use Rattle.std.proofs.Common.{Bool, true, false, MatchBool, length-append}
 use Rattle.std.proofs.lemmas.List.{append-nil}
 use lib.Dec.{leb}
@@ -7,12 +7,24 @@ use Rattle.std.proofs.lemmas.Bool.Decides.{nat_tests}
 use mathlib.Core.List.{IsPrefix}
 use Rattle.live_set.specs.Loads.{LoadValue}
 use Rattle.live_versions.specs.Batches.{StartsWith}
+use Rattle.live_versions.specs.Seen.{SeenValue}
 
 -- a beginning that is as long is the whole list
 pub whole : (log v : List (List LoadValue)) → StartsWith log v → length log ≡ length v → log ≡ v
 whole log v ([], is) same = is ∙ append-nil v
 whole log v (x ∷ xs, is) same =
     absurd (omega (arith, ap (length {A = List LoadValue}) is, length-append v (x ∷ xs), same))
+
+-- in one book a beginning that is as long as another one is that one
+pub as_long : (a b : SeenValue) → b.book ≡ a.book → StartsWith b.batches a.batches
+    → length b.batches ≡ length a.batches → b ≡ a
+as_long a b book begins same =
+    let batches : b.batches ≡ a.batches = whole b.batches a.batches begins same in
+    λ i. record { book = book i; batches = batches i }
+
+-- beginnings of other lengths differ
+pub other_length : (a b : SeenValue) → length b.batches ≢ length a.batches → b ≢ a
+other_length a b differ is = differ (ap (λ (s : SeenValue). length s.batches) is)
 
 -- of two beginnings of one list the shorter begins the other
 pub ordered : (a b z : List (List LoadValue)) → IsPrefix a z → IsPrefix b z → length a ≤ length b → StartsWith b a

@@ -2,7 +2,7 @@
 //!
 //! A book is a history that exists in proofs alone (`logbook`). Its words are two numbers at run time: how many batches
 //! were made, and how many are shown. A `Seen` is a beginning of the history.
-ghost use Rattle.std.specs.Prelude.{◌≡◌, ◌+◌, ◌*◌, ◌/◌, ◌<◌, ◌≤◌, ◌^◌, ◌++◌, ◌∷◌, [], length, MatchBool, IfSome};
+ghost use Rattle.std.specs.Prelude.{◌≡◌, ◌≢◌, ◌+◌, ◌*◌, ◌/◌, ◌<◌, ◌≤◌, ◌^◌, ◌++◌, ◌∷◌, [], length, MatchBool, IfSome};
 ghost use Rattle.live_versions.specs.Batches.{StartsWith};
 ghost use Rattle.snapshot_store.specs.SlotBook.{head_of, shown_word};
 
@@ -199,6 +199,15 @@ impl Seen {
         let mut both = self.beginning.again();
         both.learn(&other.beginning);
         self.number <= other.number
+    }
+
+    /// Whether both are one beginning.
+    #[tactic(auto, using(crate::proofs::Ordering::as_long, crate::proofs::Ordering::other_length))]
+    pub(crate) fn is_same(&self, other: &Seen) -> bool
+        requires { other.now.book ≡ self.now.book }
+        ensures { MatchBool result (other.now ≡ self.now) (other.now ≢ self.now) }
+    {
+        self.begins(other) && self.number == other.number
     }
 }
 

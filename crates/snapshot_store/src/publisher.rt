@@ -153,6 +153,14 @@ impl Publisher {
         Ok(Reader::new(shared, version, self.known.again()))
     }
 
+    /// Whether a reader of this store is in the version that is published now.
+    pub fn is_entered_by(&self, reader: &Reader) -> bool
+        requires { reader.now.book ≡ self.now.seen.book }
+        ensures { MatchBool result (reader.now ≡ self.now.seen) (reader.now ≢ self.now.seen) }
+    {
+        self.version.seen().is_same(reader.seen())
+    }
+
     /// Checks that both are names and that the store takes one more load, and only then allocates the two names.
     pub(crate) fn admit(
         &self,

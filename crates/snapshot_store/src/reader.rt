@@ -4,7 +4,7 @@ ghost use Rattle.std.specs.Arc.{arc_value};
 ghost use Rattle.live_versions.specs.Batches.{StartsWith, version_of};
 ghost use Rattle.snapshot_store.specs.Holding.{IsSetOf};
 
-use crate::book::{Known, shown_after, tie};
+use crate::book::{Known, Seen, shown_after, tie};
 use crate::notice::Notice;
 use crate::shared::{SLOTS, Shared};
 use crate::version::Version;
@@ -45,6 +45,19 @@ impl Reader {
             version,
             known,
         }
+    }
+
+    /// The batches of the version that was entered last.
+    pub(crate) fn seen(&self) -> &Seen
+        ensures { result.now ≡ self.now }
+    {
+        self.version.seen()
+    }
+
+    /// Whether an entry would find nothing new. It costs one load, as such an entry does, and moves nothing. What it
+    /// returns depends on other threads, so no clause says it.
+    pub fn is_current(&self) -> bool {
+        shown_after(&self.shared.shown, &self.known) / SLOTS == self.version.number()
     }
 
     /// Enters the newest version. It is never older than the one that was entered before. If nothing new is published,
