@@ -6,23 +6,25 @@ use Rattle.mo_image.specs.Entry.{Entry, key_bytes}
 use Rattle.mo_image.specs.Map.{entry_at}
 use Rattle.catalogue.specs.Value.{IsTranslatedClosed}
 use Rattle.kobdzila_c.specs.declared.opened.Opened.{Opened}
+use Rattle.kobdzila_c.specs.Numbers.{pgettext, ngettext, npgettext}
 
 -- the map of what was opened, which is empty if it was refused
 abbrev pub map_of : Opened → List Entry
 map_of c = option_map_or (λ shared. arc_value shared) c.catalogue []
 
--- the calls: 0 is gettext, 1 pgettext, 2 ngettext, 3 npgettext
-abbrev pub has_context : ℕ → Bool
-has_context call = call == 1 || call == 3
+-- which of the four calls take a context
+abbrev pub takes_context : ℕ → Bool
+takes_context call = call == pgettext || call == npgettext
 
-abbrev pub has_number : ℕ → Bool
-has_number call = call == 2 || call == 3
+-- which take a number
+abbrev pub takes_number : ℕ → Bool
+takes_number call = call == ngettext || call == npgettext
 
 abbrev pub context_of : ℕ → List ℕ → Option (List ℕ)
-context_of call context = if has_context call then Some context else None
+context_of call context = if takes_context call then Some context else None
 
 abbrev pub number_of : ℕ → ℕ → Option ℕ
-number_of call n = if has_number call then Some n else None
+number_of call n = if takes_number call then Some n else None
 
 -- a call with its strings and its number; it ignores those that it has no use for
 pub record Question : Type 0 where

@@ -1,3 +1,4 @@
+pub mod Numbers
 pub mod Opening
 pub mod Answering
 pub mod Listing

@@ -12,11 +12,12 @@ use Rattle.live_set.specs.declared.name.NameFault.TheVariants.{BadName, Memory}
 use Rattle.kobdzila_c.specs.declared.opened.Opened.{Opened}
 use Rattle.kobdzila_c.specs.declared.sets.MadeSet.{MadeSet}
 use Rattle.kobdzila_c.specs.Answering.{IsClosedAnswer, Question, key_of}
+use Rattle.kobdzila_c.specs.Numbers.{no_fault, memory_fault, name_fault, the_fault, the_version}
 
 -- the number of what is wrong with a name
 abbrev pub name_number : NameFault → ℕ
-name_number BadName = 202
-name_number Memory = 12
+name_number BadName = name_fault
+name_number Memory = memory_fault
 
 -- no set, for this reason
 pub record IsWithout (fault : ℕ) (s : MadeSet) : Type 0 where
@@ -25,12 +26,12 @@ pub record IsWithout (fault : ℕ) (s : MadeSet) : Type 0 where
 
 -- the empty set
 abbrev pub IsEmpty : MadeSet → Type 0
-IsEmpty s = IsWithout 0 s
+IsEmpty s = IsWithout no_fault s
 
 -- a set with this property, and no fault
 pub record IsMade (Is : SetValue → Type 0) (s : MadeSet) : Type 0 where
   pub set_is : Is s.set
-  pub fault_is : s.fault ≡ 0
+  pub fault_is : s.fault ≡ no_fault
 
 -- a map for a text domain and a locale
 abbrev pub load_of : List ℕ → List ℕ → List Entry → LoadValue
@@ -56,9 +57,10 @@ IsWithSet old domain locale opened new = MatchOption opened.catalogue (IsWithout
 abbrev pub IsWith : MadeSet → List ℕ → List ℕ → Opened → MadeSet → Type 0
 IsWith old = IsWithSet old.set
 
--- 0 is the fault, 1 the number of maps that were added to the set
+-- a number of a set; its version is the number of maps that were added to it
 abbrev pub set_number : MadeSet → ℕ → ℕ
-set_number s which = if which == 0 then s.fault else (if which == 1 then s.set.version else 0)
+set_number s which =
+    if which == the_fault then s.fault else (if which == the_version then s.set.version else 0)
 
 -- the map that answers a question in a text domain and a list of languages
 abbrev pub answering : SetValue → List ℕ → List ℕ → Question → List Entry

@@ -12,11 +12,12 @@ use Rattle.po_checks.specs.declared.fault.LoadKind.{LoadKind}
 use Rattle.po_checks.specs.declared.fault.LoadKind.TheVariants.{Memory}
 use Rattle.po_checks.specs.declared.options.Options.{Options}
 use Rattle.kobdzila_c.specs.declared.opened.Opened.{Opened}
+use Rattle.kobdzila_c.specs.Numbers.{no_fault, memory_fault, po_faults}
 
 -- the number of a fault of a PO text; out of memory has one number in both formats
 abbrev pub po_number : LoadKind → ℕ
-po_number Memory = 12
-po_number kind = 100 + rank kind
+po_number Memory = memory_fault
+po_number kind = po_faults + rank kind
 
 -- the options given by two numbers: each is on if its number isn't 0
 abbrev pub options_of : ℕ → ℕ → Options
@@ -31,12 +32,12 @@ pub record IsRefused (c : Opened) (fault line : ℕ) : Type 0 where
 -- a catalogue whose map has this property, and no fault
 pub record IsOpenedAs (Is : List Entry → Type 0) (c : Opened) : Type 0 where
   pub map : MatchOption c.catalogue ⊥ (λ shared. Is (arc_value shared))
-  pub fault_is : c.fault ≡ 0
+  pub fault_is : c.fault ≡ no_fault
   pub line_is : c.line ≡ 0
 
 -- the catalogue of this map, or out of memory
 abbrev pub IsOpenedMap : List Entry → Opened → Type 0
-IsOpenedMap m c = IsOpenedAs (λ map. map ≡ m) c ⊎ IsRefused c 12 0
+IsOpenedMap m c = IsOpenedAs (λ map. map ≡ m) c ⊎ IsRefused c memory_fault 0
 
 -- the map of an MO file, or its first fault, or out of memory
 abbrev pub IsOpenedMo : List ℕ → Opened → Type 0

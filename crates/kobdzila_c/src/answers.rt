@@ -3,8 +3,13 @@ ghost use Rattle.std.specs.Prelude.{◌≡◌, [], length, option_map, slice_get
 ghost use Rattle.std.specs.Arc.{arc_value};
 ghost use Rattle.kobdzila_c.specs.Answering.{IsClosedAnswer, context_of, map_of, number_of, question};
 ghost use Rattle.kobdzila_c.specs.Listing.{entry_number, entry_text, form_at, number, text};
+ghost use Rattle.kobdzila_c.specs.Numbers.{gettext};
 
 use crate::Opened;
+use crate::numbers::{
+    CONTEXT, COUNT, FAULT, FILE_BYTES, FORM, FORMS, GETTEXT, HAS_CONTEXT, HAS_PLURAL, LINE, MSGID,
+    NGETTEXT, NPGETTEXT, PGETTEXT, PLURAL,
+};
 use catalogue::{Catalogue, EntryRef};
 
 /// The catalogue, unless opening the bytes failed.
@@ -24,7 +29,7 @@ pub(crate) fn context_in(call: u32, context: &[u8]) -> Option<&[u8]>
     ensures { option_map (λ s. s.now) result ≡ context_of call context.now }
 {
     match call {
-        1 | 3 => Some(context),
+        PGETTEXT | NPGETTEXT => Some(context),
         _ => None,
     }
 }
@@ -35,7 +40,7 @@ pub(crate) fn number_in(call: u32, n: u64) -> Option<u64>
     ensures { result ≡ number_of call n }
 {
     match call {
-        2 | 3 => Some(n),
+        NGETTEXT | NPGETTEXT => Some(n),
         _ => None,
     }
 }
@@ -62,9 +67,9 @@ pub(crate) fn answer<'k>(
 
 /// The string that answers `gettext` of a msgid, with its terminating NUL, or no bytes if there is none.
 pub(crate) fn gettext<'k>(opened: &'k Opened, id: &[u8]) -> &'k [u8]
-    ensures { IsClosedAnswer (map_of opened.now) (question 0 [] id.now 0) result.now }
+    ensures { IsClosedAnswer (map_of opened.now) (question gettext [] id.now 0) result.now }
 {
-    answer(opened, &[], id, 0, 0)
+    answer(opened, &[], id, GETTEXT, 0)
 }
 
 /// Entry `i` of the catalogue, if there is one.
@@ -89,27 +94,27 @@ fn count(opened: &Opened) -> u64
     }
 }
 
-/// A number of an entry: 3 is its number of forms, 4 whether it has a context, 5 whether it has a plural.
+/// A number of an entry: how many `FORMS` it has, and whether it has a context or a plural.
 fn entry_number(entry: &EntryRef<'_>, which: u32) -> u64
     ensures { result ≡ entry_number entry.now which }
 {
     match which {
-        3 => entry.form_count() as u64,
-        4 => u64::from(entry.context().is_some()),
-        5 => u64::from(entry.plural().is_some()),
+        FORMS => entry.form_count() as u64,
+        HAS_CONTEXT => u64::from(entry.context().is_some()),
+        HAS_PLURAL => u64::from(entry.plural().is_some()),
         _ => 0,
     }
 }
 
-/// A number of what was opened: 0 is its fault, 1 the fault's line, 2 its number of entries. Other numbers are those of
-/// entry `i` (`entry_number`).
+/// A number of what was opened: its `FAULT`, the fault's `LINE`, or the `COUNT` of its entries. Other numbers are those
+/// of entry `i` (`entry_number`).
 pub(crate) fn number(opened: &Opened, which: u32, i: u64) -> u64
     ensures { result ≡ number opened.now which i }
 {
     match which {
-        0 => u64::from(opened.fault),
-        1 => u64::from(opened.line),
-        2 => count(opened),
+        FAULT => u64::from(opened.fault),
+        LINE => u64::from(opened.line),
+        COUNT => count(opened),
         _ => match entry_at(opened, i) {
             Some(entry) => entry_number(&entry, which),
             None => 0,
@@ -128,24 +133,24 @@ fn form_of<'k>(entry: &EntryRef<'k>, k: u64) -> &'k str
     }
 }
 
-/// A string of an entry: 1 is its context, 2 its msgid, 3 its plural, 4 its form `k`.
+/// A string of an entry: its context, msgid or plural, or its form `k`.
 fn entry_text<'k>(entry: &EntryRef<'k>, part: u32, k: u64) -> &'k str
     ensures { result.now ≡ entry_text entry.now part k }
 {
     match part {
-        1 => entry.context().unwrap_or(""),
-        2 => entry.id(),
-        3 => entry.plural().unwrap_or(""),
-        4 => form_of(entry, k),
+        CONTEXT => entry.context().unwrap_or(""),
+        MSGID => entry.id(),
+        PLURAL => entry.plural().unwrap_or(""),
+        FORM => form_of(entry, k),
         _ => "",
     }
 }
 
-/// A string of what was opened: 0 is its MO file. Other numbers are strings of entry `i` (`entry_text`).
+/// A string of what was opened: its MO file (`FILE_BYTES`), or a string of entry `i` (`entry_text`).
 pub(crate) fn text<'k>(opened: &'k Opened, part: u32, i: u64, k: u64) -> &'k [u8]
     ensures { result.now ≡ text opened.now part i k }
 {
-    if part == 0 {
+    if part == FILE_BYTES {
         return match catalogue_of(opened) {
             Some(catalogue) => catalogue.file(),
             None => &[],

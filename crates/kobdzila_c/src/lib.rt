@@ -33,6 +33,7 @@ ghost use Rattle.kobdzila_c.specs.Shared.{holds_notice, holds_reader, holds_stor
 ghost use Rattle.kobdzila_c.specs.Shared.{reader_at, reads_notice, reads_reader, reads_store, store_at};
 
 mod answers;
+mod numbers;
 mod opened;
 mod sets;
 mod stores;
@@ -91,9 +92,9 @@ pub unsafe extern "C" fn kobdzila_close(held: *mut Opaque)
     opened::close((held as *mut Opened).read());
 }
 
-/// A number of what is at `held`: 0 is its fault, 1 the fault's line, 2 the number of entries. For entry `i`, 3 is the
-/// number of forms, 4 whether it has a context, 5 whether it has a plural. Any other number is 0, and so is one of an
-/// entry that isn't there.
+/// A number (`numbers`) of what is at `held`: its `FAULT`, the fault's `LINE`, or the `COUNT` of its entries. For entry
+/// `i` it is the number of `FORMS`, or 1 if it `HAS_CONTEXT` or `HAS_PLURAL`. Any other number is 0, and so is one of
+/// an entry that isn't there.
 #[unsafe(no_mangle)]
 pub unsafe extern "C" fn kobdzila_number(held: *const Opaque, which: u32, i: u64) -> u64
     ghost g: { Lft × Share × Held }
@@ -103,8 +104,9 @@ pub unsafe extern "C" fn kobdzila_number(held: *const Opaque, which: u32, i: u64
     answers::number(&*(held as *const Opened), which, i)
 }
 
-/// Writes a string of what is at `held` to `out`: 0 is its MO file. For entry `i`, 1 is the context, 2 the msgid, 3 the
-/// plural, 4 form `k`. If there is no such string, it is empty. None of them includes a terminating NUL.
+/// Writes a string (`numbers`) of what is at `held` to `out`: its MO file is `FILE_BYTES`. For entry `i` it is the
+/// `CONTEXT`, the `MSGID`, the `PLURAL`, or `FORM` `k`. If there is no such string, it is empty. None of them includes
+/// a terminating NUL.
 #[unsafe(no_mangle)]
 pub unsafe extern "C" fn kobdzila_text(
     held: *const Opaque,
@@ -216,7 +218,8 @@ pub unsafe extern "C" fn kobdzila_set_close(held: *mut OpaqueSet)
     sets::close_set((held as *mut MadeSet).read());
 }
 
-/// A number of the set at `held`: 0 is its fault, 1 how many catalogues were added to it, replaced ones included.
+/// A number (`numbers`) of the set at `held`: its `FAULT`, or its `VERSION`, which is how many catalogues were added to
+/// it, replaced ones included.
 #[unsafe(no_mangle)]
 pub unsafe extern "C" fn kobdzila_set_number(held: *const OpaqueSet, which: u32) -> u64
     ghost g: { Lft × Share × HeldSet }
@@ -339,8 +342,8 @@ pub unsafe extern "C" fn kobdzila_store_publish(alloc: Global, held: *mut Opaque
     (held as *mut HeldStore).write(stores::publish(alloc, (held as *mut HeldStore).read()));
 }
 
-/// A number of the store at `held`: 0 is the fault of the last call, 1 how many loads are published, 2 how many are
-/// pending, 3 how many replaced versions a reader may still have.
+/// A number (`numbers`) of the store at `held`: the `FAULT` of the last call, its `VERSION`, which is how many loads
+/// are published, how many are `PENDING`, or how many replaced versions a reader may still have (`RETAINED`).
 #[unsafe(no_mangle)]
 pub unsafe extern "C" fn kobdzila_store_number(held: *const OpaqueStore, which: u32) -> u64
     ghost g: { Lft × Share × AStore }
@@ -417,8 +420,8 @@ pub unsafe extern "C" fn kobdzila_reader_enter_after(
     ));
 }
 
-/// A number of the reader at `held`: 0 is the fault of the last call, 1 how many loads are published in the version
-/// that it entered last.
+/// A number (`numbers`) of the reader at `held`: the `FAULT` of the last call, or the `VERSION` that it entered last,
+/// which is how many loads are published in it.
 #[unsafe(no_mangle)]
 pub unsafe extern "C" fn kobdzila_reader_number(held: *const OpaqueReader, which: u32) -> u64
     ghost g: { Lft × Share × AReader }

@@ -4,6 +4,13 @@ ghost use Rattle.std.specs.Arc.{arc_value};
 ghost use Rattle.mo_file.specs.MoReading.{rank};
 ghost use Rattle.kobdzila_c.specs.Opening.{IsOpenedMo, IsOpenedPo, IsOpenedMap, IsRefused, options_of, po_number};
 
+use crate::numbers::{
+    MEMORY, MO_BAD_TEXT, MO_BOUNDS, MO_CHARSET, MO_FORMS, MO_MAGIC, MO_NO_NUL, MO_ORDER,
+    MO_REVISION, MO_SHORT, MO_SWOLLEN, MO_TOO_LARGE, NO_FAULT, PO_BAD_ESCAPE, PO_BAD_INDEX,
+    PO_BAD_ORDER, PO_BAD_RULE, PO_BAD_TEXT, PO_BAD_WORD, PO_CHARSET, PO_DUPLICATE, PO_FORM_COUNT,
+    PO_FORMAT_MISMATCH, PO_NEWLINE_MISMATCH, PO_NO_RULE, PO_NOT_UTF8, PO_OPEN_STRING,
+    PO_PLURAL_RANGE, PO_SYSTEM_DEPENDENT, PO_TOO_LARGE,
+};
 use catalogue::{Catalogue, LoadFault, LoadKind, Options, compile};
 use mo_file::{MoFault, read_mo};
 use std::alloc::{AllocError, Global};
@@ -13,7 +20,7 @@ use std::sync::Arc;
 #[derive(Drop)]
 pub struct Opened {
     pub catalogue: Option<Arc<Catalogue>>,
-    /// The number of the fault in `kobdzila.h`; 0 if there is a catalogue.
+    /// The number of the fault (`numbers`); `NO_FAULT` if there is a catalogue.
     pub fault: u32,
     /// The fault's line in a PO text; 0 if it has none.
     pub line: u32,
@@ -24,18 +31,18 @@ fn mo_number(fault: MoFault) -> u32
     ensures { result ≡ rank fault }
 {
     match fault {
-        MoFault::TooLarge => 1,
-        MoFault::Short => 2,
-        MoFault::Magic => 3,
-        MoFault::Revision => 4,
-        MoFault::Bounds => 5,
-        MoFault::NoNul => 6,
-        MoFault::BadText => 7,
-        MoFault::Forms => 8,
-        MoFault::Order => 9,
-        MoFault::Charset => 10,
-        MoFault::Swollen => 11,
-        MoFault::Memory => 12,
+        MoFault::TooLarge => MO_TOO_LARGE,
+        MoFault::Short => MO_SHORT,
+        MoFault::Magic => MO_MAGIC,
+        MoFault::Revision => MO_REVISION,
+        MoFault::Bounds => MO_BOUNDS,
+        MoFault::NoNul => MO_NO_NUL,
+        MoFault::BadText => MO_BAD_TEXT,
+        MoFault::Forms => MO_FORMS,
+        MoFault::Order => MO_ORDER,
+        MoFault::Charset => MO_CHARSET,
+        MoFault::Swollen => MO_SWOLLEN,
+        MoFault::Memory => MEMORY,
     }
 }
 
@@ -44,24 +51,24 @@ fn po_number(kind: LoadKind) -> u32
     ensures { result ≡ po_number kind }
 {
     match kind {
-        LoadKind::TooLarge => 101,
-        LoadKind::NotUtf8 => 102,
-        LoadKind::BadEscape => 103,
-        LoadKind::OpenString => 104,
-        LoadKind::BadWord => 105,
-        LoadKind::BadText => 106,
-        LoadKind::BadOrder => 107,
-        LoadKind::BadIndex => 108,
-        LoadKind::Duplicate => 109,
-        LoadKind::Charset => 110,
-        LoadKind::SystemDependent => 111,
-        LoadKind::NoRule => 112,
-        LoadKind::BadRule => 113,
-        LoadKind::FormCount => 114,
-        LoadKind::PluralRange(_) => 115,
-        LoadKind::FormatMismatch => 116,
-        LoadKind::NewlineMismatch => 117,
-        LoadKind::Memory => 12,
+        LoadKind::TooLarge => PO_TOO_LARGE,
+        LoadKind::NotUtf8 => PO_NOT_UTF8,
+        LoadKind::BadEscape => PO_BAD_ESCAPE,
+        LoadKind::OpenString => PO_OPEN_STRING,
+        LoadKind::BadWord => PO_BAD_WORD,
+        LoadKind::BadText => PO_BAD_TEXT,
+        LoadKind::BadOrder => PO_BAD_ORDER,
+        LoadKind::BadIndex => PO_BAD_INDEX,
+        LoadKind::Duplicate => PO_DUPLICATE,
+        LoadKind::Charset => PO_CHARSET,
+        LoadKind::SystemDependent => PO_SYSTEM_DEPENDENT,
+        LoadKind::NoRule => PO_NO_RULE,
+        LoadKind::BadRule => PO_BAD_RULE,
+        LoadKind::FormCount => PO_FORM_COUNT,
+        LoadKind::PluralRange(_) => PO_PLURAL_RANGE,
+        LoadKind::FormatMismatch => PO_FORMAT_MISMATCH,
+        LoadKind::NewlineMismatch => PO_NEWLINE_MISMATCH,
+        LoadKind::Memory => MEMORY,
     }
 }
 
@@ -91,10 +98,10 @@ fn kept(alloc: Global, catalogue: Catalogue) -> Opened
     match shared(alloc, catalogue) {
         Ok(catalogue) => Opened {
             catalogue: Some(catalogue),
-            fault: 0,
+            fault: NO_FAULT,
             line: 0,
         },
-        Err(_) => refused(mo_number(MoFault::Memory), 0),
+        Err(_) => refused(MEMORY, 0),
     }
 }
 

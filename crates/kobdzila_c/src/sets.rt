@@ -9,6 +9,7 @@ ghost use Rattle.kobdzila_c.specs.Making.{IsSetAnswer, name_number, set_number};
 
 use crate::Opened;
 use crate::answers::{context_in, number_in};
+use crate::numbers::{BAD_NAME, FAULT, MEMORY, NO_FAULT, VERSION};
 use catalogue::Catalogue;
 use live_set::{CatalogueSet, Load, Name, NameFault, is_name};
 use std::alloc::Global;
@@ -19,7 +20,7 @@ use std::sync::Arc;
 #[derive(Drop)]
 pub struct MadeSet {
     pub set: CatalogueSet,
-    /// The number of the fault in `kobdzila.h`; 0 if there is a set.
+    /// The number of the fault (`numbers`); `NO_FAULT` if there is a set.
     pub fault: u32,
 }
 
@@ -28,8 +29,8 @@ fn name_number(fault: NameFault) -> u32
     ensures { result ≡ name_number fault }
 {
     match fault {
-        NameFault::BadName => 202,
-        NameFault::Memory => 12,
+        NameFault::BadName => BAD_NAME,
+        NameFault::Memory => MEMORY,
     }
 }
 
@@ -47,7 +48,7 @@ pub(crate) fn without(alloc: Global, fault: u32) -> MadeSet
 pub(crate) fn new_set(alloc: Global) -> MadeSet
     ensures { IsEmpty result }
 {
-    without(alloc, 0)
+    without(alloc, NO_FAULT)
 }
 
 /// Whether these bytes are a name.
@@ -127,7 +128,10 @@ pub(crate) fn with_one_in(
         return without(alloc, name_number(NameFault::BadName));
     }
     match more(alloc, set, domain, locale, catalogue) {
-        Ok(set) => MadeSet { set, fault: 0 },
+        Ok(set) => MadeSet {
+            set,
+            fault: NO_FAULT,
+        },
         Err(_) => without(alloc, name_number(NameFault::Memory)),
     }
 }
@@ -150,13 +154,13 @@ pub(crate) fn close_set(made: MadeSet) {
     drop(made);
 }
 
-/// A number of a set: 0 is its fault, 1 how many catalogues were added to it, replaced ones included.
+/// A number of a set: its `FAULT`, or its `VERSION`, how many catalogues were added to it, replaced ones included.
 pub(crate) fn set_number(made: &MadeSet, which: u32) -> u64
     ensures { result ≡ set_number made.now which }
 {
     match which {
-        0 => u64::from(made.fault),
-        1 => made.set.version(),
+        FAULT => u64::from(made.fault),
+        VERSION => made.set.version(),
         _ => 0,
     }
 }

@@ -5,12 +5,16 @@ ghost use Rattle.live_versions.specs.Store.{AddsLoad};
 ghost use Rattle.snapshot_store.specs.Holding.{IsRefusedShared};
 ghost use Rattle.kobdzila_c.specs.Answering.{question};
 ghost use Rattle.kobdzila_c.specs.Making.{IsWithSet, IsWithout};
+ghost use Rattle.kobdzila_c.specs.Numbers.{memory_fault, no_fault};
 ghost use Rattle.kobdzila_c.specs.Storing.{AreOfOne, IsAfter, IsEntered, IsEnteredAfter, IsLater, IsLoadIn, IsLoaded};
 ghost use Rattle.kobdzila_c.specs.Storing.{IsNewStore, IsNoticeOf, IsPublished, IsPublishedIn, IsReaderAnswer};
 ghost use Rattle.kobdzila_c.specs.Storing.{IsReaderOf, IsReaderWith, IsStoreNumber, load_number, reader_number};
 ghost use Rattle.kobdzila_c.specs.Storing.{store_pending, store_version};
 
 use crate::Opened;
+use crate::numbers::{
+    BAD_NAME, BUSY, FAULT, MEMORY, NO_FAULT, PENDING, RETAINED, VERSION, VERSIONS_SPENT,
+};
 use crate::sets::{MadeSet, answer_in, with_one_in, without};
 use catalogue::Catalogue;
 use live_versions::StoreFault;
@@ -19,20 +23,11 @@ use std::alloc::Global;
 use std::str::from_utf8;
 use std::sync::Arc;
 
-/// The numbers in `kobdzila.h` of why a call of a store is refused.
-const MEMORY: u32 = 12;
-
-const BAD_NAME: u32 = 202;
-
-const BUSY: u32 = 203;
-
-const SPENT: u32 = 204;
-
 /// A store, or none if it couldn't be opened.
 #[derive(Drop)]
 pub struct HeldStore {
     pub publisher: Option<Publisher>,
-    /// The number of why the last call was refused; 0 if it wasn't.
+    /// The number of why the last call was refused (`numbers`); `NO_FAULT` if it wasn't.
     pub fault: u32,
 }
 
@@ -40,7 +35,7 @@ pub struct HeldStore {
 #[derive(Drop)]
 pub struct HeldReader {
     pub reader: Option<Reader>,
-    /// The number of why the last call failed; 0 if it didn't.
+    /// The number of why the last call failed (`numbers`); `NO_FAULT` if it didn't.
     pub fault: u32,
 }
 
@@ -60,7 +55,7 @@ fn store_of(publisher: Publisher, fault: u32) -> HeldStore
 }
 
 fn no_store() -> HeldStore
-    ensures { (result.publisher ≡ None) × (result.fault ≡ 12) }
+    ensures { (result.publisher ≡ None) × (result.fault ≡ memory_fault) }
 {
     HeldStore {
         publisher: None,
@@ -78,7 +73,7 @@ fn reader_of(reader: Reader, fault: u32) -> HeldReader
 }
 
 fn no_reader() -> HeldReader
-    ensures { (result.reader ≡ None) × (result.fault ≡ 12) }
+    ensures { (result.reader ≡ None) × (result.fault ≡ memory_fault) }
 {
     HeldReader {
         reader: None,
@@ -91,7 +86,7 @@ pub(crate) fn open(alloc: Global) -> HeldStore
     ensures { IsNewStore result }
 {
     match open_store(alloc) {
-        Ok(publisher) => store_of(publisher, 0),
+        Ok(publisher) => store_of(publisher, NO_FAULT),
         Err(_) => no_store(),
     }
 }
@@ -102,7 +97,7 @@ fn load_number(fault: StoreFault) -> u32
 {
     match fault {
         StoreFault::BadName => BAD_NAME,
-        StoreFault::VersionsSpent => SPENT,
+        StoreFault::VersionsSpent => VERSIONS_SPENT,
         StoreFault::Refused(_) => MEMORY,
         StoreFault::RefusedMo(_) => MEMORY,
         StoreFault::Memory => MEMORY,
@@ -144,7 +139,7 @@ fn load_in(
     let fault = match &opened.catalogue {
         None => opened.fault,
         Some(catalogue) => match loaded(alloc, &mut publisher, domain, locale, catalogue) {
-            Ok(()) => 0,
+            Ok(()) => NO_FAULT,
             Err(fault) => load_number(fault),
         },
     };
@@ -171,10 +166,10 @@ fn published(alloc: Global, mut publisher: Publisher) -> HeldStore
     ensures { IsPublishedIn publisher result }
 {
     let fault = match publisher.publish(alloc) {
-        Ok(_) => 0,
+        Ok(_) => NO_FAULT,
         Err(PublishFault::Memory) => MEMORY,
         Err(PublishFault::Busy) => BUSY,
-        Err(PublishFault::Spent) => SPENT,
+        Err(PublishFault::Spent) => VERSIONS_SPENT,
     };
     store_of(publisher, fault)
 }
@@ -217,16 +212,16 @@ fn retained(store: &HeldStore) -> u64 {
     }
 }
 
-/// A number of a store: 0 is the fault of the last call, 1 how many loads are published, 2 how many are pending, 3 how
-/// many replaced versions a reader may still have.
+/// A number of a store: the `FAULT` of the last call, its `VERSION`, which is how many loads are published, how many
+/// are `PENDING`, or how many replaced versions a reader may still have (`RETAINED`).
 pub(crate) fn store_number(store: &HeldStore, which: u32) -> u64
     ensures { IsStoreNumber store.now which result }
 {
     match which {
-        0 => u64::from(store.fault),
-        1 => version(store),
-        2 => pending(store),
-        3 => retained(store),
+        FAULT => u64::from(store.fault),
+        VERSION => version(store),
+        PENDING => pending(store),
+        RETAINED => retained(store),
         _ => 0,
     }
 }
@@ -262,17 +257,17 @@ pub(crate) fn reader(store: &HeldStore) -> HeldReader
         None => None,
     };
     match reader {
-        Some(reader) => reader_of(reader, 0),
+        Some(reader) => reader_of(reader, NO_FAULT),
         None => no_reader(),
     }
 }
 
 fn entered(mut reader: Reader) -> HeldReader
     ensures later { IsLater reader result }
-    ensures fault { result.fault ≡ 0 }
+    ensures fault { result.fault ≡ no_fault }
 {
     reader.enter();
-    reader_of(reader, 0)
+    reader_of(reader, NO_FAULT)
 }
 
 /// Enters the newest version.
@@ -290,7 +285,11 @@ fn entered_after(mut reader: Reader, notice: &Notice) -> HeldReader
     ensures later { IsLater reader result }
     ensures after { IsAfter notice.now result }
 {
-    let fault = if reader.enter_after(notice) { 0 } else { BUSY };
+    let fault = if reader.enter_after(notice) {
+        NO_FAULT
+    } else {
+        BUSY
+    };
     reader_of(reader, fault)
 }
 
@@ -308,13 +307,13 @@ pub(crate) fn enter_after(held: HeldReader, notice: &HeldNotice) -> HeldReader
     }
 }
 
-/// A number of a reader: 0 is the fault of the last call, 1 how many loads are published in its version.
+/// A number of a reader: the `FAULT` of the last call, or its `VERSION`, which is how many loads are published in it.
 pub(crate) fn reader_number(held: &HeldReader, which: u32) -> u64
     ensures { result ≡ reader_number held.now which }
 {
     match which {
-        0 => u64::from(held.fault),
-        1 => match &held.reader {
+        FAULT => u64::from(held.fault),
+        VERSION => match &held.reader {
             Some(reader) => reader.version(),
             None => 0,
         },

@@ -1,0 +1,79 @@
+-- The numbers that C and this library share. C has them in kobdzila.h (enum kob_fault) and in its files.
+use Rattle.std.specs.Prelude.{ℕ}
+
+-- ---- why an operation failed; the faults of an MO file are its ranks, from 1 on
+
+abbrev pub no_fault : ℕ
+no_fault = 0
+
+abbrev pub memory_fault : ℕ
+memory_fault = 12
+
+-- the ranks of a PO text's faults are counted from here
+abbrev pub po_faults : ℕ
+po_faults = 100
+
+abbrev pub name_fault : ℕ
+name_fault = 202
+
+abbrev pub spent_fault : ℕ
+spent_fault = 204
+
+-- ---- which number of a value is wanted: of a catalogue
+
+abbrev pub the_fault : ℕ
+the_fault = 0
+
+abbrev pub the_line : ℕ
+the_line = 1
+
+abbrev pub the_count : ℕ
+the_count = 2
+
+abbrev pub the_forms : ℕ
+the_forms = 3
+
+abbrev pub has_context : ℕ
+has_context = 4
+
+abbrev pub has_plural : ℕ
+has_plural = 5
+
+-- ---- and of a set, a store or a reader, which also have the_fault
+
+abbrev pub the_version : ℕ
+the_version = 1
+
+abbrev pub the_pending : ℕ
+the_pending = 2
+
+-- ---- which string of a catalogue is wanted
+
+abbrev pub file_bytes : ℕ
+file_bytes = 0
+
+abbrev pub context_part : ℕ
+context_part = 1
+
+abbrev pub msgid_part : ℕ
+msgid_part = 2
+
+abbrev pub plural_part : ℕ
+plural_part = 3
+
+abbrev pub form_part : ℕ
+form_part = 4
+
+-- ---- the calls
+
+abbrev pub gettext : ℕ
+gettext = 0
+
+abbrev pub pgettext : ℕ
+pgettext = 1
+
+abbrev pub ngettext : ℕ
+ngettext = 2
+
+abbrev pub npgettext : ℕ
+npgettext = 3
