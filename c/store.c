@@ -16,6 +16,7 @@ void kobdzila_store_notice(const struct held *store, struct held *out);
 void kobdzila_notice_close(struct held *notice);
 size_t kobdzila_reader_size(void);
 void kobdzila_store_reader(const struct held *store, struct held *out);
+uint32_t kobdzila_reader_is_current(const struct held *reader);
 void kobdzila_reader_enter(struct held *reader);
 void kobdzila_reader_enter_after(struct held *reader, const struct held *notice);
 void kobdzila_reader_close(struct held *reader);
@@ -119,8 +120,10 @@ kob_reader *kob_store_reader(const kob_store *store) {
 /* The set is the reader itself: set.c looks up by the reader where nobody counts references. */
 static const kob_set *set_of(const kob_reader *reader) { return (const kob_set *)(const void *)reader; }
 
+/* The proved library moves a reader out of this memory and back for an entry. If there is nothing new, it need not. */
 const kob_set *kob_reader_enter(kob_reader *reader) {
-    kobdzila_reader_enter(held_by(reader));
+    if (!kobdzila_reader_is_current(read_by(reader)))
+        kobdzila_reader_enter(held_by(reader));
     return set_of(reader);
 }
 

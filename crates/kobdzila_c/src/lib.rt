@@ -393,6 +393,17 @@ pub unsafe extern "C" fn kobdzila_store_reader(held: *const OpaqueStore, out: *m
     (out as *mut HeldReader).write(stores::reader(&*(held as *const HeldStore)));
 }
 
+/// Whether an entry of the reader at `held` would find nothing new, as 1 or 0. It moves nothing, so it costs less than
+/// an entry.
+#[unsafe(no_mangle)]
+pub unsafe extern "C" fn kobdzila_reader_is_current(held: *const OpaqueReader) -> u32
+    ghost g: { Lft × Share × AReader }
+    requires* { sem 𝓛 (reads_reader g.0 g.1 held g.2) }
+    ensures* { sem 𝓛 (flft g.0 g.1) ∗ ⌜ result ≤ 1 ⌝ }
+{
+    stores::is_current(&*(held as *const HeldReader))
+}
+
 /// The reader at `held` enters the newest version of its store.
 #[unsafe(no_mangle)]
 pub unsafe extern "C" fn kobdzila_reader_enter(held: *mut OpaqueReader)

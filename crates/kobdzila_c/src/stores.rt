@@ -1,5 +1,5 @@
 //! Live stores, readers and notices as C holds them.
-ghost use Rattle.std.specs.Prelude.{◌≡◌, Some, None, IfErr, OnErr, OnOk};
+ghost use Rattle.std.specs.Prelude.{◌≡◌, ◌≤◌, Some, None, IfErr, OnErr, OnOk};
 ghost use Rattle.std.specs.Arc.{arc_value};
 ghost use Rattle.live_versions.specs.Store.{AddsLoad};
 ghost use Rattle.snapshot_store.specs.Holding.{IsRefusedShared};
@@ -259,6 +259,16 @@ pub(crate) fn reader(store: &HeldStore) -> HeldReader
     match reader {
         Some(reader) => reader_of(reader, NO_FAULT),
         None => no_reader(),
+    }
+}
+
+/// Whether an entry of the reader would find nothing new, as 1 or 0.
+pub(crate) fn is_current(held: &HeldReader) -> u32
+    ensures { result ≤ 1 }
+{
+    match &held.reader {
+        Some(reader) => u32::from(reader.is_current()),
+        None => 0,
     }
 }
 
