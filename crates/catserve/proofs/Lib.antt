@@ -15,5 +15,4 @@ pub mod SessionTalk
 pub mod SessionEnds
 pub mod Stopping
 pub mod SessionWaits
-pub mod OneDevice
 pub mod SessionInTime

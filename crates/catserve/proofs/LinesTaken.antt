@@ -19,7 +19,8 @@ use Rattle.script_text.specs.Texts.{most_script}
 use Rattle.script_text.specs.declared.fault.ScriptKind.{ScriptKind}
 use Rattle.script_text.specs.declared.fault.ScriptKind.TheVariants as kind
 use Rattle.catserve.specs.declared.session_fault.SessionFault.{SessionFault}
-use Rattle.catserve.specs.Run.{InputSeen, FailsToRead}
+use Rattle.devices.specs.Devices.{InputSeen}
+use Rattle.catserve.specs.Run.{FailsToRead}
 use Rattle.catserve.specs.Hearing.{HearingValue, CountsOn, HasTaken, HasGot, Stays, HearsNothing, HearsNoLine, FailsFor}
 use Rattle.catserve.specs.Hearing.{EndsNext, HearsText, HearsUndecodable}
 use Rattle.catserve.specs.Session.{most_lines}

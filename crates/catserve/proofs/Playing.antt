@@ -11,14 +11,15 @@ use Rattle.live_set.specs.Loads.{LoadValue}
 use Rattle.live_versions.specs.Batches.{joined, version_of, published}
 use Rattle.live_versions.specs.Store.{StoreValue, HasRoom}
 use Rattle.live_versions.specs.Seen.{SeenValue}
-use Rattle.desks.specs.Jobs.{JobValue, IsAccepted}
+use Rattle.desks.specs.Jobs.{IsAccepted}
 use Rattle.desks.specs.declared.job.Accepted as job
+use Rattle.script_text.specs.ScriptLoads.{JobValue}
 use Rattle.script_text.specs.Script.{RoundValue}
 use Rattle.catserve.specs.Output.{version_line}
 use Rattle.catserve.specs.Rounds.{Outcome, Accepted, Refused, RefusedMo, Unnamed, IsOutcome, outcome_line}
 use Rattle.catserve.specs.Rounds.{accepted_load, AnswersInTurn, PlaysAll}
 use Rattle.script_text.specs.Script.{load_count}
-use Rattle.catserve.specs.Running.{LoadsOne, LoadsAll, HasLoaded, HasRoomFor, PlaysOne, HasPlayed}
+use Rattle.catserve.specs.Running.{LoadsOne, LoadsAll, HasLoaded, HasRoomFor, PlaysOne, HasPlayed, job_of}
 use Rattle.catserve.proofs.Batching.{AllZip-snoc, flat_map-snoc, joined-append}
 
 pub map_ok : {T E A B : Type 0} (r : Result T E) → OnOk r A → (A → B) → IfOk r (λ _. B)
@@ -31,7 +32,7 @@ map_if_ok (Err x) a f = tt
 
 -- the load is accepted, with the map that its source brings
 pub accepts_one : (load : JobValue) (answer : job.Accepted) (s s' : StoreValue) (before after : List ℕ)
-    → (is : IsAccepted s load answer s') → after ≡ before
+    → (is : IsAccepted s (job_of load) answer s') → after ≡ before
     ++ outcome_line (Accepted (record { domain = load.domain; locale = load.locale; map = is.0 }) answer)
     → LoadsOne load s.pending s'.pending before after
 accepts_one load answer s s' before after (map, brings, adds) written = record {

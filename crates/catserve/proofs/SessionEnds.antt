@@ -8,20 +8,19 @@ use Rattle.std.proofs.KnownBytes.{Appends-nil, Appends-trans}
 use Rattle.std.proofs.lemmas.List.{append-nil}
 use Rattle.std.proofs.lemmas.List.Folds.{concat-append}
 use Rattle.std.proofs.lemmas.Str.{IsUtf8-append, IsUtf8-nil}
-use Rattle.devices.specs.Devices.{RisesBy}
+use Rattle.devices.specs.Devices.{InputSeen, OutputSeen, RisesBy}
 use Rattle.line_input.specs.Lines.{lines}
 use Rattle.line_input.specs.Incoming.{MayCome}
 use Rattle.line_input.proofs.Arriving.{both, consumes_both, consumes_none}
 use Rattle.live_set.specs.Loads.{LoadValue}
 use Rattle.live_versions.specs.Batches.{joined}
-use Rattle.desks.specs.Jobs.{JobValue}
+use Rattle.script_text.specs.ScriptLoads.{JobValue}
 use Rattle.script_text.specs.Script.{QuestionValue, RoundValue, commands_from, script_of}
 use Rattle.script_text.specs.Texts.{most_script}
 use Rattle.script_text.specs.Gathering.{Gathered, both as bound, empty_round, nothing, going_on, onto_open}
 use Rattle.script_text.specs.declared.fault.ScriptKind.{ScriptKind}
 use Rattle.script_text.specs.declared.fault.ScriptKind.TheVariants as kind
 use Rattle.catserve.specs.Rounds.{PlaysAll}
-use Rattle.catserve.specs.Run.{InputSeen, OutputSeen}
 use Rattle.catserve.specs.Session.{said, round_end, HaveEnded, StopsBehind, AnswersAll, StopsEarly, EndsFor}
 use Rattle.catserve.specs.Session.{most_lines, BreaksOff}
 use Rattle.catserve.specs.Hearing.{HearingValue, HasTaken, Stays, HearsEnd, HearsNone, HearsNoFront, Begins, unheard}

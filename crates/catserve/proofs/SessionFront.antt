@@ -14,7 +14,7 @@ use Rattle.script_text.specs.LineFields.{fields}
 use Rattle.script_text.specs.Script.{commands_from, script_from, script_of}
 use Rattle.script_text.specs.declared.fault.ScriptKind.{ScriptKind}
 use Rattle.script_text.specs.declared.fault.ScriptKind.TheVariants as kind
-use Rattle.catserve.specs.Run.{InputSeen}
+use Rattle.devices.specs.Devices.{InputSeen}
 use Rattle.catserve.specs.Hearing.{HearingValue, HasTaken, Stays, HasPassed, Begins, Follows, BeginAlike}
 use Rattle.catserve.specs.Hearing.{unheard, silence, HearsNothing, FailsInFront}
 use Rattle.catserve.proofs.LinesTaken.{no_line, taken_none, taken_then, got_taken, line_cut, line_whole}

@@ -4,35 +4,35 @@ use Rattle.std.proofs.Common.{◌++◌, length, take, drop, arith, inl, inr, app
 use Rattle.std.proofs.Common.{Option, Some, None, Result, Ok, Err, IsErrOf}
 use Rattle.std.specs.List.{concat}
 use Rattle.std.specs.Str.{IsUtf8}
-use Rattle.std.proofs.lemmas.List.{append-nil, length-take-le}
+use Rattle.std.proofs.lemmas.List.{append-nil}
+use Rattle.devices.specs.Devices.{InputSeen, most_reads}
 use Rattle.line_input.specs.Lines.{lines, without_end}
 use Rattle.line_input.specs.Incoming.{MayCome, EndsLine}
 use Rattle.line_input.proofs.Arriving.{consumes_both, rises_both, rises_later}
-use Rattle.catalogue.specs.declared.Options.{Options}
-use Rattle.script_text.specs.Commands.{Line, Loads, line_of}
-use Rattle.desks.specs.Jobs.{Po}
-use Rattle.script_text.specs.Script.{Command, Load, Says, saying, commands_from}
+use Rattle.script_text.specs.Commands.{Line, line_of}
+use Rattle.script_text.specs.CommandValues.{command_with, listed, text_lines}
+use Rattle.script_text.specs.Script.{commands_from}
+use Rattle.script_text.specs.declared.command.Line as code
 use Rattle.script_text.specs.declared.fault.ScriptKind.{ScriptKind}
 use Rattle.script_text.specs.declared.fault.ScriptKind.TheVariants as kind
 use Rattle.catserve.specs.declared.hearing.Heard.{Heard}
 use Rattle.catserve.specs.declared.session_fault.SessionFault.{SessionFault}
-use Rattle.catserve.specs.declared.said.Said.{Said}
 use Rattle.catserve.specs.declared.said.SaidFault.{SaidFault}
 use Rattle.catserve.specs.declared.said.SaidFault.TheVariants as said_fault
-use Rattle.catserve.specs.Run.{InputSeen, FailsToRead}
+use Rattle.catserve.specs.Run.{FailsToRead}
 use Rattle.catserve.specs.Session.{most_lines}
 use Rattle.catserve.specs.Hearing.{HearingValue, CountsOn, HasTaken, HasSaid, Hears, Stays}
 use Rattle.catserve.specs.Hearing.{HearsNone, HearsNoText}
 use Rattle.catserve.specs.Hearing.{HearsText, HearsOne, FailsToSay, size_behind, commands_of}
 use Rattle.catserve.proofs.LinesTaken.{counts_both, taken_then, got_taken, first_same, line_cut, line_later, line_whole}
 use Rattle.catserve.proofs.LinesTaken.{stays_put}
-use Rattle.catserve.proofs.SessionLines.{says_line, says_text, bad_line, bad_text}
+use Rattle.catserve.proofs.SessionLines.{says_text, bad_line, bad_text}
 
 -- ---- one step after another
 
 pub fails_later : (i j k : InputSeen) → CountsOn i j → FailsToRead j k → FailsToRead i k
 fails_later i j k counts (inl failed) = inl (rises_later 1 i.failures j.failures k.failures counts.later failed)
-fails_later i j k counts (inr reads) = inr (rises_both 0 134217728 i.reads j.reads k.reads counts.reads reads)
+fails_later i j k counts (inr reads) = inr (rises_both 0 most_reads i.reads j.reads k.reads counts.reads reads)
 
 pub stays_then : (i j k : InputSeen) (x y z : HearingValue) (lost : List ℕ) → Stays i j x y [] → Stays j k y z lost
     → Stays i k x z lost
@@ -110,29 +110,7 @@ hears_then i j k workers x y z (Err fault) a h = none_then i j k workers x y z f
 
 -- ---- a line
 
--- it is taken off
-abbrev pub hears_line : (i : InputSeen) (workers : ℕ) (x : HearingValue) (end size : ℕ) (line : Line)
-    (commands : List Command) → x.number < most_lines → EndsLine x.input 0 end → IsUtf8 (take end x.input.left)
-    → line_of workers (without_end (take end x.input.left)) ≡ Some line
-    → ((behind : List (List ℕ)) → saying (Some line) behind ≡ Says commands 0)
-    → size ≡ size_behind commands (x.size + end)
-    → Hears i i workers x (record {
-      input = record { left = drop end x.input.left; ended = x.input.ended };
-      number = x.number + 1;
-      size = size;
-    }) commands
-hears_line i workers x end size line commands few ends utf8 is says size_is = record {
-  raw = take end x.input.left ∷ [];
-  taken = got_taken i i x.input x.input (record { left = drop end x.input.left; ended = x.input.ended })
-      (take end x.input.left ∷ []) (stays_put i x).got refl (line_whole x.input end) (line_cut x.input end ends);
-  said = says_line workers x.number (take end x.input.left) line commands is says utf8;
-  few = few;
-  number = refl;
-  size = size_is ∙ ap (λ n. size_behind commands (x.size + n)) (sym (ap length (append-nil (take end x.input.left))
-      ∙ length-take-le end x.input.left ends.within));
-}
-
-abbrev pub Unsaid : SaidFault → Result Said SaidFault
+abbrev pub Unsaid : SaidFault → Result code.Line SaidFault
 Unsaid fault = Err fault
 
 -- it isn't known what it says
@@ -158,51 +136,47 @@ hears_none i workers x end said_fault.Bad f ends undecodable bad is = rw is (rec
 })
 hears_none i workers x end said_fault.Memory f ends undecodable bad is = rw is (([], stays_put i x), refl)
 
--- ---- a load with its text
+-- ---- a line with its text
 
-abbrev pub hears_load : (i j : InputSeen) (workers : ℕ) (x y : HearingValue) (end count : ℕ)
-    (domain locale bytes : List ℕ)
-    (options : Options) → x.number < most_lines
-    → line_of workers (without_end (take end x.input.left)) ≡ Some (Loads domain locale options count)
-    → HearsText i j x y end count bytes
-    → Hears i j workers x y (Load (record { domain = domain; locale = locale; source = Po bytes options }) ∷ [])
-hears_load i j workers x y end count domain locale bytes options few is h =
+abbrev pub hears_said : (i j : InputSeen) (workers : ℕ) (x y : HearingValue) (end : ℕ) (line : Line) (bytes : List ℕ)
+    → x.number < most_lines → line_of workers (without_end (take end x.input.left)) ≡ Some line
+    → HearsText i j x y end (text_lines line) bytes
+    → Hears i j workers x (record y { size = size_behind (listed (command_with line bytes)) y.size })
+    (listed (command_with line bytes))
+hears_said i j workers x y end line bytes few is h =
     let raw : List (List ℕ) = take end x.input.left ∷ h.texts in
-    let Said : List ℕ → Type 0 = λ text. HasSaid workers x.number raw
-    (Load (record { domain = domain; locale = locale; source = Po text options }) ∷ []) in
+    let Said : List ℕ → Type 0 = λ text. HasSaid workers x.number raw (listed (command_with line text)) in
     record {
       raw = raw;
       taken = h.taken;
       said = subst Said (sym h.bytes_are)
-          (says_text workers x.number count (take end x.input.left) domain locale options h.texts is h.counted h.utf8);
+          (says_text workers x.number (take end x.input.left) line h.texts is h.counted h.utf8);
       few = few;
       number = omega (arith, h.number, h.counted);
-      size = h.size;
+      size = ap (λ n. size_behind (listed (command_with line bytes)) n) h.size;
     }
 
-pub none_text : (i j : InputSeen) (workers : ℕ) (x y : HearingValue) (end count : ℕ) (domain locale : List ℕ)
-    (options : Options) (kind : ScriptKind) (line : ℕ) → EndsLine x.input 0 end
-    → line_of workers (without_end (take end x.input.left)) ≡ Some (Loads domain locale options count)
-    → HearsNoText i j x y end count kind line → HearsNone i j workers x y kind line
-none_text i j workers x y end count domain locale options kind.TooLarge line ends is h = h
-none_text i j workers x y end count domain locale options kind.NotUtf8 line ends is h = h
-none_text i j workers x y end count domain locale options kind.BadLine line ends is (lacks, line_is) = record {
+pub none_text : (i j : InputSeen) (workers : ℕ) (x y : HearingValue) (end : ℕ) (said : Line) (kind : ScriptKind)
+    (line : ℕ) → EndsLine x.input 0 end → line_of workers (without_end (take end x.input.left)) ≡ Some said
+    → HearsNoText i j x y end (text_lines said) kind line → HearsNone i j workers x y kind line
+none_text i j workers x y end said kind.TooLarge line ends is h = h
+none_text i j workers x y end said kind.NotUtf8 line ends is h = h
+none_text i j workers x y end said kind.BadLine line ends is (lacks, line_is) = record {
   stays = lacks.stays;
   line_is = line_is;
   bad = λ text may.
       let none : text ≡ [] = may lacks.fewer.ended in
-      let Few : List ℕ → Type 0 = λ t. length (lines t) < count in
+      let Few : List ℕ → Type 0 = λ t. length (lines t) < text_lines said in
       let few : Few (drop end y.input.left ++ text) = subst Few
       (sym (append-nil (drop end y.input.left)) ∙ ap (λ t. drop end y.input.left ++ t) (sym none)) lacks.fewer.fewer in
       let later : EndsLine y.input 0 end = line_later i j x.input y.input end lacks.stays.got ends in
       ap (λ ls. commands_from workers x.number 0 ls) (line_cut y.input end later text may
       ∙ ap (λ l. l ∷ lines (drop end y.input.left ++ text)) (first_same i j x.input y.input end lacks.stays.got ends))
-      ∙ bad_text workers x.number count (take end x.input.left) domain locale options (drop end y.input.left ++ text) is
-      few;
+      ∙ bad_text workers x.number (take end x.input.left) said (drop end y.input.left ++ text) is few;
 }
-none_text i j workers x y end count domain locale options kind.ReadFault line ends is h = h
-none_text i j workers x y end count domain locale options kind.WriteFault line ends is h = absurd h
-none_text i j workers x y end count domain locale options kind.NoPlace line ends is h = absurd h
-none_text i j workers x y end count domain locale options kind.Closed line ends is h = absurd h
-none_text i j workers x y end count domain locale options kind.Join line ends is h = absurd h
-none_text i j workers x y end count domain locale options kind.Memory line ends is h = h
+none_text i j workers x y end said kind.ReadFault line ends is h = h
+none_text i j workers x y end said kind.WriteFault line ends is h = absurd h
+none_text i j workers x y end said kind.NoPlace line ends is h = absurd h
+none_text i j workers x y end said kind.Closed line ends is h = absurd h
+none_text i j workers x y end said kind.Join line ends is h = absurd h
+none_text i j workers x y end said kind.Memory line ends is h = h

@@ -1,5 +1,5 @@
 -- What a session has answered when it waits.
-use Rattle.std.proofs.Common.{◌≡◌, ◌∙◌, refl, sym, ap, subst, ℕ, ◌+◌, ◌-◌, ◌<◌, true, List, [], ◌∷◌}
+use Rattle.std.proofs.Common.{◌≡◌, ◌∙◌, refl, sym, ap, subst, ℕ, ◌-◌, ◌<◌, true, List, [], ◌∷◌}
 use Rattle.std.proofs.Common.{◌++◌, length, take, drop}
 use Rattle.std.proofs.Common.{arith, inl, inr, append_assoc, Option, Some, None, Result, Ok, Err}
 use Rattle.std.specs.List.{concat}
@@ -12,19 +12,15 @@ use Rattle.line_input.specs.Incoming.{EndsLine, EndsLines, Incoming}
 use Rattle.line_input.specs.Lines.{lines, without_end}
 use Rattle.line_input.specs.Waiting.{ReadsWhile, StillCounts, StillWaits, Waits}
 use Rattle.line_input.proofs.Arriving.{both}
-use Rattle.std.specs.Str.{IsUtf8}
-use Rattle.catalogue.specs.declared.Options.{Options}
-use Rattle.desks.specs.Jobs.{Po}
-use Rattle.script_text.specs.Commands.{Line, Loads, line_of}
-use Rattle.script_text.specs.Script.{Command, Load, Says, saying}
+use Rattle.script_text.specs.Commands.{Line, line_of}
+use Rattle.script_text.specs.CommandValues.{command_with, listed, text_lines}
+use Rattle.script_text.specs.Script.{Command, Load, Ask, Go}
 use Rattle.catserve.specs.declared.hearing.Heard.{Heard}
-use Rattle.catserve.specs.declared.hearing.Heard.TheVariants as heard
 use Rattle.catserve.specs.declared.session_fault.SessionFault.{SessionFault}
-use Rattle.catserve.specs.Run.{InputSeen, OutputSeen}
+use Rattle.devices.specs.Devices.{InputSeen, OutputSeen}
 use Rattle.catserve.specs.Rounds.{PlaysAll}
 use Rattle.catserve.specs.Session.{AnswersInTime, IsAnswered, most_lines}
 use Rattle.catserve.specs.Hearing.{Begins, HasGot, HasPassed, Hears, HearsEnd, HearingValue, HearsText, Stays}
-use Rattle.catserve.specs.Hearing.{commands_of}
 use Rattle.catserve.specs.Hearing.{size_behind, unheard}
 use Rattle.catserve.specs.Talking.{Conversing, IsFresh, TalkValue}
 use Rattle.catserve.specs.Timing.{ContinuesInTime, GivesSome, HearsInTime, InTime, ReadsOpen, ReadsText}
@@ -32,7 +28,7 @@ use Rattle.catserve.specs.Timing.{RespondsInTime}
 use Rattle.catserve.specs.Timing.{StillOpen, TalksInTime}
 use Rattle.catserve.proofs.SessionEnds.{Answered, answered, front_answered}
 use Rattle.catserve.proofs.SessionFront.{passed_none}
-use Rattle.catserve.proofs.SessionHears.{hears_line, hears_load, hears_then}
+use Rattle.catserve.proofs.SessionHears.{hears_said, hears_then}
 use Rattle.catserve.proofs.SessionTalk.{converses_more, converses_none}
 use Rattle.catserve.proofs.SessionWaits.{open_each, open_line, open_text, open_then}
 
@@ -41,15 +37,6 @@ use Rattle.catserve.proofs.SessionWaits.{open_each, open_line, open_text, open_t
 append_cancel : (xs ys zs : List ℕ) → xs ++ ys ≡ xs ++ zs → ys ≡ zs
 append_cancel [] ys zs same = same
 append_cancel (x ∷ xs) ys zs same = append_cancel xs ys zs (cc)
-
-abbrev pub open_none : (log : Log) (workers : ℕ) (x : Incoming) → ReadsOpen log log workers x []
-open_none log workers x = record {
-  events = [];
-  logged = grows_none log;
-  came_is = refl;
-  silent = refl;
-  each = answers_none (StillOpen workers x);
-}
 
 -- what came is known
 pub open_known : (a b : Log) (workers : ℕ) (x : Incoming) (more : List ℕ) (reads : ReadsWhile a b (StillOpen workers x))
@@ -163,30 +150,17 @@ abbrev pub HearsSo : InputSeen → InputSeen → Log → Log → ℕ → Hearing
 HearsSo i j a b workers x y commands = (h : Hears i j workers x y commands)
     × ReadsOpen a b workers x.input h.taken.more
 
-pub line_heard : (log : Log) (i : InputSeen) (workers : ℕ) (x : HearingValue) (end size : ℕ) (line : Line)
-    (commands : List Command) → x.number < most_lines → EndsLine x.input 0 end → IsUtf8 (take end x.input.left)
+pub said_heard : (i j : InputSeen) (a b : Log) (workers : ℕ) (x y : HearingValue) (end : ℕ) (line : Line)
+    (bytes : List ℕ) → x.number < most_lines → EndsLine x.input 0 end
     → line_of workers (without_end (take end x.input.left)) ≡ Some line
-    → ((behind : List (List ℕ)) → saying (Some line) behind ≡ Says commands 0)
-    → size ≡ size_behind commands (x.size + end)
-    → HearsSo i i log log workers x (record {
-      input = record { left = drop end x.input.left; ended = x.input.ended };
-      number = x.number + 1;
-      size = size;
-    }) commands
-line_heard log i workers x end size line commands few ends utf8 is says size_is = (
-  hears_line i workers x end size line commands few ends utf8 is says size_is,
-  open_none log workers x.input,
-)
-
-pub load_heard : (i j : InputSeen) (a b : Log) (workers : ℕ) (x y : HearingValue) (end count : ℕ)
-    (domain locale bytes : List ℕ) (options : Options) → x.number < most_lines → EndsLine x.input 0 end
-    → line_of workers (without_end (take end x.input.left)) ≡ Some (Loads domain locale options count)
-    → HearsText i j x y end count bytes → ReadsText a b x.input y.input end count bytes
-    → HearsSo i j a b workers x y (Load (record { domain = domain; locale = locale; source = Po bytes options }) ∷ [])
-load_heard i j a b workers x y end count domain locale bytes options few line is h reads = (
-  hears_load i j workers x y end count domain locale bytes options few is h,
-  open_known a b workers x.input h.taken.more (open_text workers a b x.input end count domain locale options line is
-      (text_whole a b x.input y.input end count bytes reads)) (text_came i j a b x y end count bytes h reads),
+    → HearsText i j x y end (text_lines line) bytes
+    → ReadsText a b x.input y.input end (text_lines line) bytes → HearsSo i j a b workers x
+    (record y { size = size_behind (listed (command_with line bytes)) y.size }) (listed (command_with line bytes))
+said_heard i j a b workers x y end line bytes few ends is h reads = (
+  hears_said i j workers x y end line bytes few is h,
+  open_known a b workers x.input h.taken.more (open_text workers a b x.input end line ends is
+      (text_whole a b x.input y.input end (text_lines line) bytes reads))
+      (text_came i j a b x y end (text_lines line) bytes h reads),
 )
 
 -- ---- steps
@@ -316,12 +290,12 @@ moved given a b c front mid back output had same = subst (λ log. InTime given a
     (sym same) (subst (λ xs. InTime given a b xs output) (append_assoc front mid back) had)
 
 pub talks_more : (workers : ℕ) (i j k : InputSeen) (o o' o'' : OutputSeen) (x y z : HearingValue)
-    (start old new : TalkValue) (a b c d : Log) (thing : Heard) → IsFresh workers start
+    (start old new : TalkValue) (a b c d : Log) (command : Option Command) → IsFresh workers start
     → TalksInTime workers i j o o' x y start old a b
-    → (h : Hears j k workers y z (commands_of thing)) × ReadsOpen b c workers y.input h.taken.more
-    → RespondsInTime thing old new o' o'' c d → TalksInTime workers i k o o'' x z start new a d
-talks_more workers i j k o o' o'' x y z start old new a b c d thing fresh talks heard_it responds =
-    by_thing thing heard_it responds
+    → (h : Hears j k workers y z (listed command)) × ReadsOpen b c workers y.input h.taken.more
+    → RespondsInTime command old new o' o'' c d → TalksInTime workers i k o o'' x z start new a d
+talks_more workers i j k o o' o'' x y z start old new a b c d command fresh talks heard_it responds =
+    by_command command heard_it responds
   where
     read : (more : List ℕ) → ReadsOpen b c workers y.input more → (given : Option ℕ) (first : InputSeen)
         (begun : Begins given first i x workers) (before : Log) → InTime given before a begun.taken.more []
@@ -331,26 +305,26 @@ talks_more workers i j k o o' o'' x y z start old new a b c d thing fresh talks 
         (talks.1 given first begun before timely)
         (talks_here given first i j o o' x y workers start old begun talks.0 fresh) reads
 
-    by_thing : (thing : Heard)
-        → (h : Hears j k workers y z (commands_of thing)) × ReadsOpen b c workers y.input h.taken.more
-        → RespondsInTime thing old new o' o'' c d → TalksInTime workers i k o o'' x z start new a d
-    by_thing heard.Nothing (h, reads) (done, same) = (
-      converses_more workers i j k o o' o'' x y z start old new heard.Nothing talks.0 h done,
+    by_command : (command : Option Command)
+        → (h : Hears j k workers y z (listed command)) × ReadsOpen b c workers y.input h.taken.more
+        → RespondsInTime command old new o' o'' c d → TalksInTime workers i k o o'' x z start new a d
+    by_command None (h, reads) (done, same) = (
+      converses_more workers i j k o o' o'' x y z start old new None talks.0 h done,
       λ given first begun before timely. moved given before c d begun.taken.more talks.0.taken.more h.taken.more
           talks.0.written (read h.taken.more reads given first begun before timely) same,
     )
-    by_thing (heard.Load job) (h, reads) (done, same) = (
-      converses_more workers i j k o o' o'' x y z start old new (heard.Load job) talks.0 h done,
+    by_command (Some (Load load)) (h, reads) (done, same) = (
+      converses_more workers i j k o o' o'' x y z start old new (Some (Load load)) talks.0 h done,
       λ given first begun before timely. moved given before c d begun.taken.more talks.0.taken.more h.taken.more
           talks.0.written (read h.taken.more reads given first begun before timely) same,
     )
-    by_thing (heard.Ask worker query) (h, reads) (done, same) = (
-      converses_more workers i j k o o' o'' x y z start old new (heard.Ask worker query) talks.0 h done,
+    by_command (Some (Ask worker query)) (h, reads) (done, same) = (
+      converses_more workers i j k o o' o'' x y z start old new (Some (Ask worker query)) talks.0 h done,
       λ given first begun before timely. moved given before c d begun.taken.more talks.0.taken.more h.taken.more
           talks.0.written (read h.taken.more reads given first begun before timely) same,
     )
-    by_thing heard.Go (h, reads) (answers, logged) = (
-      converses_more workers i j k o o' o'' x y z start old new heard.Go talks.0 h answers,
+    by_command (Some Go) (h, reads) (answers, logged) = (
+      converses_more workers i j k o o' o'' x y z start old new (Some Go) talks.0 h answers,
       λ given first begun before timely. gives_timely given before c d
           (begun.taken.more ++ (talks.0.taken.more ++ h.taken.more)) talks.0.written answers.lines
           (moved given before c c begun.taken.more talks.0.taken.more h.taken.more talks.0.written

@@ -4,64 +4,46 @@ use Rattle.std.proofs.Common.{List, [], ◌∷◌, ◌++◌, length, take, drop,
 use Rattle.std.proofs.Common.{Option, Some, None, Err}
 use Rattle.std.specs.List.{concat}
 use Rattle.std.specs.Str.{IsUtf8}
-use Rattle.std.proofs.lemmas.Bool.{le-leb}
-use Rattle.std.proofs.lemmas.List.{append-nil}
 use Rattle.std.proofs.lemmas.List.Folds.{concat-append}
 use Rattle.std.proofs.lemmas.Str.{IsUtf8-append}
 use Rattle.std.proofs.Math.Seq.{take-append_seam, drop-append_seam}
-use Rattle.catalogue.specs.declared.Options.{Options}
-use Rattle.desks.specs.Jobs.{JobValue, Po}
 use Rattle.line_input.specs.Lines.{lines, without_end}
 use Rattle.line_input.specs.Incoming.{Incoming, MayCome}
-use Rattle.script_text.specs.Commands.{Line, Loads, line_of}
-use Rattle.script_text.specs.Script.{Command, Load, Says, saying, and_then, commands_from}
+use Rattle.script_text.specs.Commands.{Line, line_of}
+use Rattle.script_text.specs.CommandValues.{command_with, listed, text_lines}
+use Rattle.script_text.specs.Script.{Command, Says, and_then, commands_from}
 use Rattle.script_text.specs.Script.{script_of}
 use Rattle.script_text.specs.Gathering.{Gathered, empty_round, nothing, both, gathered, going_on}
 use Rattle.script_text.specs.Gathering.{loads_so_far}
-use Rattle.script_text.proofs.Parsing.{skips, too_long, gathers, begins_with}
-use Rattle.catserve.specs.Run.{InputSeen}
+use Rattle.script_text.proofs.Parsing.{skips, says_with, too_long, gathers, begins_with}
+use Rattle.devices.specs.Devices.{InputSeen}
 use Rattle.catserve.specs.Session.{round_end, said, HaveEnded}
 use Rattle.catserve.specs.Hearing.{HearingValue, HasTaken, HasSaid, BeginAlike, Follows, Begins}
 use Rattle.catserve.specs.Talking.{HasHeard}
 
 -- ---- one line
 
--- a line without a text
-pub says_line : (workers number : ℕ) (raw : List ℕ) (line : Line) (commands : List Command)
-    → line_of workers (without_end raw) ≡ Some line
-    → ((behind : List (List ℕ)) → saying (Some line) behind ≡ Says commands 0) → IsUtf8 raw
-    → HasSaid workers number (raw ∷ []) commands
-says_line workers number raw line commands is says utf8 = record {
-  some = omega arith;
-  says = λ behind. rw (is, says behind) refl;
-  utf8 = rw (append-nil raw) utf8;
-}
-
--- a load with its text
-pub says_text : (workers number count : ℕ) (raw domain locale : List ℕ) (options : Options) (texts : List (List ℕ))
-    → line_of workers (without_end raw) ≡ Some (Loads domain locale options count) → length texts ≡ count
-    → IsUtf8 (concat (raw ∷ texts))
-    → HasSaid workers number (raw ∷ texts)
-    (Load (record { domain = domain; locale = locale; source = Po (concat texts) options }) ∷ [])
-says_text workers number count raw domain locale options texts is counted utf8 = record {
+-- a line with its text
+pub says_text : (workers number : ℕ) (raw : List ℕ) (line : Line) (texts : List (List ℕ))
+    → line_of workers (without_end raw) ≡ Some line → length texts ≡ text_lines line → IsUtf8 (concat (raw ∷ texts))
+    → HasSaid workers number (raw ∷ texts) (listed (command_with line (concat texts)))
+says_text workers number raw line texts is counted utf8 = record {
   some = omega arith;
   says = says;
   utf8 = utf8;
 } where
-  load : List ℕ → JobValue
-  load text = record { domain = domain; locale = locale; source = Po text options }
-
   says : (behind : List (List ℕ)) → commands_from workers number 0 ((raw ∷ texts) ++ behind)
-      ≡ and_then (Says (Load (load (concat texts)) ∷ []) 0) number (λ text. commands_from workers
+      ≡ and_then (Says (listed (command_with line (concat texts))) 0) number (λ text. commands_from workers
       (number + length (raw ∷ texts)) text behind)
   says behind =
+      let count = text_lines line in
       let enough : count ≤ length (texts ++ behind) = omega (arith, counted, length-append texts behind) in
       let its : take count (texts ++ behind) ≡ texts = ap (λ n. take n (texts ++ behind)) (sym counted)
       ∙ take-append_seam texts behind in
       let rest : drop count (texts ++ behind) ≡ behind = ap (λ n. drop n (texts ++ behind)) (sym counted)
       ∙ drop-append_seam texts behind in
-      rw (is, le-leb count (length (texts ++ behind)) enough, its)
-      (ap (λ found. and_then (Says (Load (load (concat texts)) ∷ []) 0) number (λ text. found))
+      rw (is, says_with line (texts ++ behind) enough, its)
+      (ap (λ found. and_then (Says (listed (command_with line (concat texts))) 0) number (λ text. found))
       (skips workers count (number + 1) (texts ++ behind) enough
       ∙ ap (λ ls. commands_from workers (number + 1 + count) 0 ls) rest
       ∙ ap (λ n. commands_from workers n 0 behind) (omega (arith, counted))))
@@ -72,11 +54,10 @@ pub bad_line : (workers number : ℕ) (raw : List ℕ) (behind : List (List ℕ)
 bad_line workers number raw behind is = rw is refl
 
 -- a load that counts more lines than there are
-pub bad_text : (workers number count : ℕ) (raw domain locale : List ℕ) (options : Options) (behind : List ℕ)
-    → line_of workers (without_end raw) ≡ Some (Loads domain locale options count) → length (lines behind) < count
+pub bad_text : (workers number : ℕ) (raw : List ℕ) (line : Line) (behind : List ℕ)
+    → line_of workers (without_end raw) ≡ Some line → length (lines behind) < text_lines line
     → commands_from workers number 0 (raw ∷ lines behind) ≡ Err number
-bad_text workers number count raw domain locale options behind is fewer =
-    rw (is, too_long domain locale options count behind fewer) refl
+bad_text workers number raw line behind is fewer = rw (is, too_long line (lines behind) fewer) refl
 
 -- ---- one after another
 

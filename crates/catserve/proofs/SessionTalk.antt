@@ -11,19 +11,18 @@ use Rattle.live_set.specs.Asks.{QueryValue}
 use Rattle.live_versions.specs.Seen.{SeenValue}
 use Rattle.live_versions.specs.Batches.{version_of}
 use Rattle.live_versions.specs.Store.{StoreValue, HasRoom}
-use Rattle.desks.specs.Jobs.{JobValue}
+use Rattle.script_text.specs.ScriptLoads.{JobValue}
 use Rattle.desks.specs.declared.desk.Desk.{Desk}
+use Rattle.script_text.specs.CommandValues.{listed}
 use Rattle.script_text.specs.Script.{Command, Load, Ask, Go, RoundValue, QuestionValue}
 use Rattle.script_text.specs.Gathering.{Gathered, empty_round, nothing, gathered, loads_so_far}
-use Rattle.script_text.proofs.Parsing.{few_go, few_ask, few_load}
-use Rattle.catserve.specs.declared.hearing.Heard.{Heard}
-use Rattle.catserve.specs.declared.hearing.Heard.TheVariants as heard
+use Rattle.script_text.proofs.Parsing.{few_more}
 use Rattle.catserve.specs.Asking.{readers_of, AreAsked}
 use Rattle.catserve.specs.Rounds.{accepted_load}
 use Rattle.catserve.specs.Running.{Finishes, HaveBook, HasLoaded, HasPlayed, PlaysOne}
-use Rattle.catserve.specs.Run.{InputSeen, OutputSeen}
+use Rattle.devices.specs.Devices.{InputSeen, OutputSeen}
 use Rattle.catserve.specs.Session.{HaveEnded}
-use Rattle.catserve.specs.Hearing.{HearingValue, Hears, commands_of, size_behind}
+use Rattle.catserve.specs.Hearing.{HearingValue, Hears, size_behind}
 use Rattle.catserve.specs.Talking.{TalkValue, AnswersRound, MakesLoad, GivesQuestion, Responds, IsFresh, HasTalked}
 use Rattle.catserve.specs.Talking.{HasOpen, Conversing}
 use Rattle.catserve.proofs.Asked.{asked_more, count_of, readers-given}
@@ -238,28 +237,27 @@ goes_on workers i j k o o' o'' x y z start old new commands c h few size same ta
           (h.size ∙ size) (c.is_open given first b));
     }
 
--- what was heard was done
+-- what a line says was done
 abbrev pub converses_more : (workers : ℕ) (i j k : InputSeen) (o o' o'' : OutputSeen) (x y z : HearingValue)
-    (start old new : TalkValue) (thing : Heard) → Conversing workers i j o o' x y start old
-    → Hears j k workers y z (commands_of thing) → Responds thing old new o' o''
+    (start old new : TalkValue) (command : Option Command) → Conversing workers i j o o' x y start old
+    → Hears j k workers y z (listed command) → Responds command old new o' o''
     → Conversing workers i k o o'' x z start new
-converses_more workers i j k o o' o'' x y z start old new heard.Nothing c h (same, kept) =
+converses_more workers i j k o o' o'' x y z start old new None c h (same, kept) =
     let Talk : TalkValue → Type 0 = λ t. HasTalked workers c.g start.store t c.written in
-    goes_on workers i j k o o' o'' x y z start old new [] c h (omega arith) refl refl (subst Talk (sym same) c.talked)
-    kept
-converses_more workers i j k o o' o'' x y z start old new (heard.Load job) c h (makes, kept) =
-    goes_on workers i j k o o' o'' x y z start old new (Load job ∷ []) c h
-    (few_load c.g (gathered c.g (Load job)) job refl) refl refl
-    (talked_load workers c.g start.store old new c.written job c.talked makes) kept
-converses_more workers i j k o o' o'' x y z start old new (heard.Ask worker query) c h (gives, kept) =
+    goes_on workers i j k o o' o'' x y z start old new [] c h (few_more c.g None) refl refl
+    (subst Talk (sym same) c.talked) kept
+converses_more workers i j k o o' o'' x y z start old new (Some (Load load)) c h (makes, kept) =
+    goes_on workers i j k o o' o'' x y z start old new (Load load ∷ []) c h (few_more c.g (Some (Load load))) refl refl
+    (talked_load workers c.g start.store old new c.written load c.talked makes) kept
+converses_more workers i j k o o' o'' x y z start old new (Some (Ask worker query)) c h (gives, kept) =
     goes_on workers i j k o o' o'' x y z start old new (Ask worker query ∷ []) c h
-    (few_ask c.g (gathered c.g (Ask worker query)) worker query refl) refl refl
+    (few_more c.g (Some (Ask worker query))) refl refl
     (talked_ask workers c.g start.store old new c.written worker query c.talked gives) kept
-converses_more workers i j k o o' o'' x y z start old new heard.Go c h answers =
+converses_more workers i j k o o' o'' x y z start old new (Some Go) c h answers =
     let g = gathered c.g Go in
     let taken = taken_then i j k x.input y.input z.input c.lines h.raw c.taken h.taken in
     let heard_so = heard_more workers x.number c.lines h.raw c.g y.number z.number (Go ∷ []) c.heard h.said h.number
-    (few_go c.g g refl) in
+    (few_more c.g (Some Go)) in
     record {
       lines = c.lines ++ h.raw;
       g = g;

@@ -4,7 +4,6 @@ use Rattle.std.proofs.Common.{length, arith}
 use Rattle.std.proofs.Common.{take, inl, inr, append_assoc, length-append, Some}
 use Rattle.std.proofs.lemmas.Bool.{cases_Bool}
 use Rattle.std.proofs.lemmas.List.{append-nil, take-append-le}
-use Rattle.catalogue.specs.declared.Options.{Options}
 use Rattle.devices.specs.Logs.{AnswersFirst, Log, came, given}
 use Rattle.devices.proofs.Logging.{answers_none, answers_so, answers_then, given_then, grows_none, grows_then}
 use Rattle.line_input.specs.Lines.{without_end}
@@ -12,7 +11,8 @@ use Rattle.line_input.specs.Incoming.{EndsLine, Incoming, MayCome}
 use Rattle.line_input.specs.Waiting.{ReadsWhile, StillCounts, StillWaits, Waits}
 use Rattle.line_input.proofs.Arriving.{both}
 use Rattle.line_input.proofs.LineCounting.{ends_grown, ends_more, ends_none}
-use Rattle.script_text.specs.Commands.{Loads, line_of}
+use Rattle.script_text.specs.Commands.{Line, Blank, Loads, LoadsMo, Asks, Goes, line_of}
+use Rattle.script_text.specs.CommandValues.{text_lines}
 use Rattle.catserve.specs.Session.{IsOpen, coming}
 use Rattle.catserve.specs.Timing.{StillOpen}
 
@@ -44,20 +44,20 @@ open_line workers a b x y lost waits = reads_so a b (StillWaits x 0) (StillOpen 
     (reads_of a b x y lost (StillWaits x 0) waits)
 
 -- a load without its whole text
-pub text_open : (workers : ℕ) (x : Incoming) (end count : ℕ) (domain locale : List ℕ) (options : Options)
-    → EndsLine x 0 end → line_of workers (without_end (take end x.left)) ≡ Some (Loads domain locale options count)
-    → (c g : List ℕ) → StillCounts count x end c g → StillOpen workers x c g
-text_open workers x end count domain locale options line says c g still = record {
+pub text_open : (workers : ℕ) (x : Incoming) (end : ℕ) (line : Line) → EndsLine x 0 end
+    → line_of workers (without_end (take end x.left)) ≡ Some line
+    → (c g : List ℕ) → StillCounts (text_lines line) x end c g → StillOpen workers x c g
+text_open workers x end (Loads domain locale options count) ends says c g still = record {
   going = still.going;
   is_open = inr (record {
     end = end;
     first = ends_grown 1 x (coming (x.left ++ c)) 0 end c still.going refl
-        (ends_more 0 x 0 0 end (ends_none x 0 (omega arith)) line);
+        (ends_more 0 x 0 0 end (ends_none x 0 (omega arith)) ends);
     domain = domain;
     locale = locale;
     options = options;
     count = count;
-    says = ap (λ raw. line_of workers (without_end raw)) (take-append-le end x.left c line.within) ∙ says;
+    says = ap (λ raw. line_of workers (without_end raw)) (take-append-le end x.left c ends.within) ∙ says;
     lines = still.ended;
     fewer = still.fewer;
     text_end = still.end;
@@ -66,13 +66,16 @@ text_open workers x end count domain locale options line says c g still = record
   });
   silent = still.silent;
 }
+text_open workers x end Blank ends says c g still = absurd (omega (arith, still.fewer))
+text_open workers x end (LoadsMo domain locale bytes) ends says c g still = absurd (omega (arith, still.fewer))
+text_open workers x end (Asks worker query) ends says c g still = absurd (omega (arith, still.fewer))
+text_open workers x end Goes ends says c g still = absurd (omega (arith, still.fewer))
 
-abbrev pub open_text : (workers : ℕ) (a b : Log) (x : Incoming) (end count : ℕ) (domain locale : List ℕ)
-    (options : Options)
-    → EndsLine x 0 end → line_of workers (without_end (take end x.left)) ≡ Some (Loads domain locale options count)
-    → ReadsWhile a b (StillCounts count x end) → ReadsWhile a b (StillOpen workers x)
-open_text workers a b x end count domain locale options line says reads = reads_so a b (StillCounts count x end)
-    (StillOpen workers x) (text_open workers x end count domain locale options line says) reads
+abbrev pub open_text : (workers : ℕ) (a b : Log) (x : Incoming) (end : ℕ) (line : Line) → EndsLine x 0 end
+    → line_of workers (without_end (take end x.left)) ≡ Some line
+    → ReadsWhile a b (StillCounts (text_lines line) x end) → ReadsWhile a b (StillOpen workers x)
+open_text workers a b x end line ends says reads = reads_so a b (StillCounts (text_lines line) x end)
+    (StillOpen workers x) (text_open workers x end line ends says) reads
 
 -- ---- one after another
 

@@ -18,10 +18,10 @@ use Rattle.live_set.specs.Asks.{AskValue, Plain, Context, Number, ContextNumber,
 use Rattle.live_set.specs.Asks.{answering, first_with, has_key, key_of}
 use Rattle.live_set.specs.Languages.{named}
 use Rattle.std.specs.Option.{option_map_or}
-use Rattle.desks.specs.Jobs.{JobValue}
+use Rattle.script_text.specs.ScriptLoads.{JobValue}
 use Rattle.script_text.specs.Script.{QuestionValue, RoundValue, ScriptValue, queries_for, script}
 use Rattle.catserve.specs.Output.{answer_line, version_line}
-use Rattle.script_text.specs.Texts.{IsReadable}
+use Rattle.script_text.specs.Texts.{IsReadable, most_script}
 use Rattle.catserve.specs.Rounds.{Outcome, Accepted, Refused, RefusedMo, Unnamed, IsOutcome, outcome_line}
 use Rattle.catserve.specs.Rounds.{accepted_load, Answers, AnswersInTurn, Plays, PlaysAll}
 use Rattle.catserve.specs.Laws.{HasSomeOutput}
@@ -175,7 +175,7 @@ rounds_some workers before (round ∷ rounds) formed none =
 -- ---- scripts
 
 pub output_some : HasSomeOutput
-output_some text no_output no_fault = elim (cases_lt 67108864 (length text)) [
+output_some text no_output no_fault = elim (cases_lt most_script (length text)) [
   | inl large ↦ no_fault (inl large)
   | inr small ↦ no_fault (inr (inl (record {
     size = small;

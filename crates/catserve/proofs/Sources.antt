@@ -15,9 +15,10 @@ use Rattle.mo_file.proofs.SomeMap.{some_map}
 use Rattle.live_versions.specs.declared.fault.StoreFault.{StoreFault}
 use Rattle.live_versions.specs.declared.fault.StoreFault.TheVariants as store_fault
 use Rattle.live_versions.proofs.BytesFaults.{text_fault_one, no_text_fault, file_fault_one, no_file_fault}
-use Rattle.desks.specs.Jobs.{SourceValue, Po, Mo, Brings, IsSourceFault}
+use Rattle.script_text.specs.ScriptLoads.{SourceValue, Po, Mo}
 use Rattle.desks.specs.declared.job.Accepted as job
 use Rattle.desks.specs.declared.job.Accepted.TheVariants as accepted
+use Rattle.catserve.specs.Rounds.{Brings, IsSourceFault}
 
 -- ---- one map or one fault
 

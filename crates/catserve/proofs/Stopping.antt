@@ -2,7 +2,8 @@
 use Rattle.std.proofs.Common.{◌≡◌, ℕ, List}
 use Rattle.script_text.specs.declared.fault.ScriptKind.{ScriptKind}
 use Rattle.script_text.specs.declared.fault.ScriptKind.TheVariants as kind
-use Rattle.catserve.specs.Run.{InputSeen, OutputSeen, ReadsText, Fails}
+use Rattle.devices.specs.Devices.{InputSeen, OutputSeen}
+use Rattle.catserve.specs.Run.{ReadsText, Fails}
 use Rattle.catserve.specs.Running.{EndsPlaying}
 
 -- a text that was read whole gave no output

@@ -1,17 +1,19 @@
 -- Private: how a session hears its input, line by line.
 use Rattle.std.specs.Prelude.{◌≡◌, ◌⊎◌, ⊤, ℕ, ◌+◌, ◌<◌, ◌≤◌, true, false, List, [], ◌∷◌, ◌++◌, length}
-use Rattle.std.specs.Prelude.{take, Option, Some, None, IfSome, IfNone, Result, Ok, Err, string_bytes}
+use Rattle.std.specs.Prelude.{take, Option, Some, None, IfSome, IfNone, Result, Ok, Err}
 use Rattle.std.specs.List.{concat}
 use Rattle.std.specs.Str.{IsUtf8}
 use Rattle.std.specs.Io.KnownBytes.{Consumes, IsAtEnd}
-use Rattle.devices.specs.Devices.{RisesBy}
+use Rattle.devices.specs.Devices.{InputSeen, RisesBy}
 use Rattle.line_input.specs.Lines.{lines, without_end}
 use Rattle.line_input.specs.Incoming.{Incoming, MayCome, EndsLine, LacksLines}
 use Rattle.line_input.specs.declared.fault.LineInputFault.{LineInputFault}
 use Rattle.line_input.specs.declared.fault.LineInputFault.TheVariants as line_fault
-use Rattle.script_text.specs.Commands.{Line, Blank, Loads, LoadsMo, Asks, Goes, is_blank, workers_line}
+use Rattle.script_text.specs.Commands.{is_blank, workers_line}
+use Rattle.script_text.specs.CommandValues.{command_with, listed}
+use Rattle.script_text.specs.LineValues.{line_value}
 use Rattle.script_text.specs.LineFields.{fields}
-use Rattle.script_text.specs.Script.{Command, Load, Ask, Go, Says, and_then, commands_from, script_from}
+use Rattle.script_text.specs.Script.{Command, Go, Says, and_then, commands_from, script_from}
 use Rattle.script_text.specs.Script.{script_of}
 use Rattle.script_text.specs.Texts.{most_script}
 use Rattle.script_text.specs.declared.fault.ScriptKind.{ScriptKind}
@@ -21,27 +23,17 @@ use Rattle.catserve.specs.declared.said.FrontLine.{FrontLine}
 use Rattle.catserve.specs.declared.said.FrontLine.TheVariants as front_line
 use Rattle.catserve.specs.declared.said.SaidFault.{SaidFault}
 use Rattle.catserve.specs.declared.said.SaidFault.TheVariants as said_fault
-use Rattle.catserve.specs.declared.said.Said.{Said}
-use Rattle.catserve.specs.declared.said.Said.TheVariants as said
 use Rattle.catserve.specs.declared.hearing.Heard.{Heard}
-use Rattle.catserve.specs.declared.hearing.Heard.TheVariants as heard
-use Rattle.catserve.specs.Run.{InputSeen, FailsToRead}
+use Rattle.catserve.specs.Run.{FailsToRead}
 use Rattle.catserve.specs.Session.{most_lines, round_end, said as meant}
 
--- what such a line says
-abbrev pub said_value : Said → Line
-said_value said.Nothing = Blank
-said_value (said.Loads domain locale options count) = Loads (string_bytes domain) (string_bytes locale) options count
-said_value (said.LoadsMo domain locale bytes) = LoadsMo (string_bytes domain) (string_bytes locale) bytes.items
-said_value (said.Asks worker query) = Asks worker query
-said_value said.Goes = Goes
+-- the command of what was heard
+abbrev pub command_of : Heard → Option Command
+command_of heard = command_with (line_value heard.line) heard.text.items
 
--- the commands of what was heard
+-- as a list
 abbrev pub commands_of : Heard → List Command
-commands_of heard.Nothing = []
-commands_of (heard.Load job) = Load job ∷ []
-commands_of (heard.Ask worker query) = Ask worker query ∷ []
-commands_of heard.Go = Go ∷ []
+commands_of heard = listed (command_of heard)
 
 -- what has come of the input and isn't taken, the number of the next line, and how many bytes the open round has so far
 pub record HearingValue : Type 0 where
@@ -159,12 +151,12 @@ abbrev pub HearsNoFront : InputSeen → InputSeen → HearingValue → HearingVa
 HearsNoFront = HearsNoLine (λ line. ⊥)
 
 -- what a line before the first command is
-abbrev pub IsFront : List ℕ → FrontLine → Type 0
-IsFront line front_line.NotUtf8 = ¬ IsUtf8 line
-IsFront line front_line.Blank = IsUtf8 line × (is_blank (without_end line) ≡ true)
-IsFront line (front_line.Workers count) = IsUtf8 line × (is_blank (without_end line) ≡ false)
+abbrev pub IsFrontLine : List ℕ → FrontLine → Type 0
+IsFrontLine line front_line.NotUtf8 = ¬ IsUtf8 line
+IsFrontLine line front_line.Blank = IsUtf8 line × (is_blank (without_end line) ≡ true)
+IsFrontLine line (front_line.Workers count) = IsUtf8 line × (is_blank (without_end line) ≡ false)
     × (workers_line (fields (without_end line)) ≡ Some count)
-IsFront line front_line.Other = IsUtf8 line × (is_blank (without_end line) ≡ false)
+IsFrontLine line front_line.Other = IsUtf8 line × (is_blank (without_end line) ≡ false)
     × (workers_line (fields (without_end line)) ≡ None)
 
 -- where the next line ends, if one begins; else the input has ended

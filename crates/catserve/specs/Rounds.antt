@@ -1,15 +1,18 @@
 -- The whole output of a script: what its rounds mean, one after another.
 use Rattle.std.specs.Prelude.{◌≡◌, ℕ, zero, suc, ◌+◌, List, [], ◌∷◌, ◌++◌, length, Option, Some, None}
 use Rattle.std.specs.List.{AllZip, filter_map, flat_map}
+use Rattle.catalogue.specs.Entry.{Entry}
 use Rattle.catalogue.specs.declared.LoadFault.{LoadFault}
 use Rattle.mo_file.specs.declared.fault.MoFault.{MoFault}
 use Rattle.live_set.specs.Loads.{LoadValue}
 use Rattle.live_set.specs.Asks.{QueryValue, IsAnswer}
 use Rattle.live_versions.specs.Store.{AreNames}
+use Rattle.live_versions.specs.declared.fault.StoreFault.{StoreFault}
 use Rattle.live_versions.specs.declared.fault.StoreFault.TheVariants as store_fault
-use Rattle.desks.specs.Jobs.{JobValue, Brings, IsSourceFault}
+use Rattle.desks.specs.Jobs as jobs
 use Rattle.desks.specs.declared.job.Accepted as job
 use Rattle.desks.specs.declared.job.Accepted.TheVariants as accepted
+use Rattle.script_text.specs.ScriptLoads.{JobValue, SourceValue, Po, Mo}
 use Rattle.script_text.specs.Script.{QuestionValue, RoundValue, ScriptValue, queries_for}
 use Rattle.script_text.specs.Texts.{IsScript}
 use Rattle.catserve.specs.Output.{accepted_line, accepted_mo_line, refused_line, refused_mo_line, unnamed_line}
@@ -21,6 +24,19 @@ pub data Outcome : Type 0 where
   Refused : (fault : LoadFault) → Outcome
   RefusedMo : (fault : MoFault) → Outcome
   Unnamed : Outcome
+
+-- the source of a load as that of a job
+abbrev pub job_source : SourceValue → jobs.SourceValue
+job_source (Po text options) = jobs.Po text options
+job_source (Mo bytes) = jobs.Mo bytes
+
+-- the source gives this map, and its load returns this
+abbrev pub Brings : SourceValue → job.Accepted → List Entry → Type 0
+Brings source = jobs.Brings (job_source source)
+
+-- the source has this fault
+abbrev pub IsSourceFault : SourceValue → StoreFault → Type 0
+IsSourceFault source = jobs.IsSourceFault (job_source source)
 
 -- it has the map that its source brings; its PO text or its MO file is refused; its domain or its locale is no name
 abbrev pub IsOutcome : JobValue → Outcome → Type 0

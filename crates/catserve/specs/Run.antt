@@ -1,25 +1,14 @@
 -- What a run of a script does to the reader and the writer that it is given.
-use Rattle.std.specs.Prelude.{◌≡◌, ◌⊎◌, ℕ, List, Option, IfSome, take, Result, Ok, Err}
+use Rattle.std.specs.Prelude.{◌≡◌, ◌⊎◌, ℕ, ◌+◌, List, Option, Result, Ok, Err}
 use Rattle.std.specs.Io.KnownBytes.{Appends, Consumes}
-use Rattle.devices.specs.Devices.{AppendsFront, RisesBy}
+use Rattle.devices.specs.Devices.{AppendsFront, InputSeen, IsFront, OutputSeen, RisesBy, most_reads}
 use Rattle.script_text.specs.declared.fault.ScriptFault.{ScriptFault}
 use Rattle.script_text.specs.declared.fault.ScriptKind.{ScriptKind}
 use Rattle.script_text.specs.declared.fault.ScriptKind.TheVariants.{TooLarge, NotUtf8, BadLine, ReadFault, WriteFault}
 use Rattle.script_text.specs.declared.fault.ScriptKind.TheVariants.{Memory}
 use Rattle.script_text.specs.Script.{ScriptValue}
-use Rattle.script_text.specs.Texts.{IsRefused, IsScript}
+use Rattle.script_text.specs.Texts.{IsRefused, IsScript, most_script}
 use Rattle.catserve.specs.Rounds.{HasOutput}
-
--- what is known of a reader: the bytes still to be read, if it reports them, and the counts of reads and failures
-pub record InputSeen : Type 0 where
-  pub left : Option (List ℕ)
-  pub reads : ℕ
-  pub failures : ℕ
-
--- what is known of a writer: the bytes that were written, if it reports them, and the count of failures
-pub record OutputSeen : Type 0 where
-  pub bytes : Option (List ℕ)
-  pub failures : ℕ
 
 -- what is known of a reader by the ghost functions of its type
 abbrev pub input_seen : {R : Type 0} → (R → Option (List ℕ)) → (R → ℕ) → (R → ℕ) → R → InputSeen
@@ -30,14 +19,14 @@ input_seen remaining reads failures reader = record
 abbrev pub output_seen : {W : Type 0} → (W → Option (List ℕ)) → (W → ℕ) → W → OutputSeen
 output_seen contents failures writer = record { bytes = contents writer; failures = failures writer }
 
--- the text was read: all that was left, or the first 67,108,865 bytes if there are more
+-- the text was read: all that was left, or one byte more than a script may have if there are more
 pub record ReadsText (i i' : InputSeen) (text : List ℕ) : Type 0 where
-  pub front : IfSome i.left (λ bytes. text ≡ take 67108865 bytes)
+  pub front : IsFront (most_script + 1) i.left text
   pub consumed : Consumes i.left i'.left text
 
 -- a read failed, or the bound on the reads was reached
 abbrev pub FailsToRead : InputSeen → InputSeen → Type 0
-FailsToRead i i' = RisesBy 1 i.failures i'.failures ⊎ RisesBy 134217728 i.reads i'.reads
+FailsToRead i i' = RisesBy 1 i.failures i'.failures ⊎ RisesBy most_reads i.reads i'.reads
 
 -- the text that was read has an output, and just that was written
 pub record WritesOutput (i i' : InputSeen) (o o' : OutputSeen) : Type 0 where

@@ -11,11 +11,15 @@ use Rattle.live_versions.specs.Store.{StoreValue, accepted}
 use Rattle.desks.specs.declared.desk.Desk.{Desk}
 use Rattle.catserve.specs.Asking.{readers_of, AreAsked}
 use Rattle.script_text.specs.Script.{load_count}
-use Rattle.desks.specs.Jobs.{JobValue}
+use Rattle.desks.specs.Jobs as jobs
+use Rattle.desks.specs.declared.desk.ServeFault.{ServeFault}
+use Rattle.desks.specs.declared.desk.ServeFault.TheVariants as fault
+use Rattle.script_text.specs.ScriptLoads.{JobValue}
 use Rattle.script_text.specs.Script.{RoundValue, ScriptValue}
-use Rattle.catserve.specs.Rounds.{Outcome, IsOutcome, outcome_line, accepted_load, Plays, PlaysAll}
+use Rattle.catserve.specs.Rounds.{Outcome, IsOutcome, outcome_line, accepted_load, job_source, Plays, PlaysAll}
 use Rattle.script_text.specs.Texts.{IsRefused, IsScript}
-use Rattle.catserve.specs.Run.{InputSeen, FailsToRead}
+use Rattle.devices.specs.Devices.{InputSeen}
+use Rattle.catserve.specs.Run.{FailsToRead}
 
 -- the desks' readers are those of a store
 abbrev pub HaveBook : SeenValue → List Desk → Type 0
@@ -29,6 +33,10 @@ pub record AreReady (seen : SeenValue) (desks : List Desk) : Type 0 where
 -- a store has room for `count` loads more
 abbrev pub HasRoomFor : ℕ → StoreValue → Type 0
 HasRoomFor count store = accepted store + count ≤ store.most
+
+-- a load as a job
+abbrev pub job_of : JobValue → jobs.JobValue
+job_of load = record { domain = load.domain; locale = load.locale; source = job_source load.source }
 
 -- a load was made: its outcome, the pending loads, and its line
 pub record LoadsOne (load : JobValue) (pending pending' : List LoadValue) (before after : List ℕ) : Type 0 where
@@ -72,6 +80,13 @@ pub record HasPlayed (workers : ℕ) (rounds : List RoundValue) (was now : Store
   pub none_pending : now.pending ≡ []
   pub few : version_of now.seen.batches ≤ version_of was.seen.batches + load_count rounds
   pub most : now.most ≡ was.most
+
+-- the fault of a service as an error of a script
+abbrev pub kind_of : ServeFault → ScriptKind
+kind_of fault.Memory = Memory
+kind_of fault.Ahead = Closed
+kind_of fault.Join = Join
+kind_of fault.Closed = Closed
 
 -- the rounds of a script fail for these alone
 abbrev pub IsPlayFault : {T : Type 0} → Result T ScriptKind → Type 0

@@ -4,7 +4,7 @@ use Rattle.std.specs.Prelude.{Option, Some, None, Result, Ok, Err}
 use Rattle.std.specs.List.{concat}
 use Rattle.std.specs.Str.{IsUtf8}
 use Rattle.std.specs.Io.KnownBytes.{Appends, Consumes, IsAtEnd}
-use Rattle.devices.specs.Devices.{AppendsFront, RisesBy}
+use Rattle.devices.specs.Devices.{AppendsFront, InputSeen, OutputSeen, RisesBy}
 use Rattle.devices.specs.Logs.{AnswersFirst, Event, Grows, Log}
 use Rattle.catalogue.specs.declared.Options.{Options}
 use Rattle.line_input.specs.Lines.{lines, without_end}
@@ -16,7 +16,7 @@ use Rattle.script_text.specs.declared.fault.ScriptKind.{ScriptKind}
 use Rattle.script_text.specs.declared.fault.ScriptKind.TheVariants.{TooLarge, NotUtf8, BadLine, ReadFault, WriteFault}
 use Rattle.catserve.specs.declared.session_fault.SessionFault.{SessionFault}
 use Rattle.catserve.specs.Rounds.{PlaysAll}
-use Rattle.catserve.specs.Run.{InputSeen, OutputSeen, FailsToRead}
+use Rattle.catserve.specs.Run.{FailsToRead}
 
 -- ---- what the lines mean
 

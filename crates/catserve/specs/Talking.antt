@@ -1,23 +1,22 @@
 -- Private: how a session is answered, round by round.
-use Rattle.std.specs.Prelude.{◌≡◌, ℕ, ◌+◌, ◌<◌, ◌≤◌, Bool, true, false, List, [], ◌++◌, length, Option, Result}
+use Rattle.std.specs.Prelude.{◌≡◌, ℕ, ◌+◌, ◌<◌, ◌≤◌, Bool, true, false, List, [], ◌++◌, length}
+use Rattle.std.specs.Prelude.{Option, Some, None, Result}
 use Rattle.std.specs.List.{concat}
 use Rattle.std.specs.Str.{IsUtf8}
 use Rattle.std.specs.Io.KnownBytes.{Appends}
-use Rattle.devices.specs.Devices.{AppendsFront, RisesBy}
+use Rattle.devices.specs.Devices.{AppendsFront, InputSeen, OutputSeen, RisesBy}
 use Rattle.live_set.specs.Asks.{QueryValue}
 use Rattle.live_versions.specs.Store.{StoreValue}
-use Rattle.desks.specs.Jobs.{JobValue}
+use Rattle.script_text.specs.ScriptLoads.{JobValue}
 use Rattle.desks.specs.declared.desk.Desk.{Desk}
-use Rattle.script_text.specs.Script.{commands_from, script_of}
+use Rattle.script_text.specs.Script.{Command, Load, Ask, Go, commands_from, script_of}
+use Rattle.script_text.specs.ScriptFields.{most_workers}
 use Rattle.script_text.specs.Gathering.{Gathered, going_on, loads_so_far}
 use Rattle.script_text.specs.declared.fault.ScriptKind.{ScriptKind}
 use Rattle.script_text.specs.declared.fault.ScriptKind.TheVariants.{WriteFault, NoPlace, Closed, Join, Memory}
-use Rattle.catserve.specs.declared.hearing.Heard.{Heard}
-use Rattle.catserve.specs.declared.hearing.Heard.TheVariants as heard
 use Rattle.catserve.specs.declared.session_fault.SessionFault.{SessionFault}
 use Rattle.catserve.specs.Asking.{AreAsked, GivesOne}
 use Rattle.catserve.specs.Running.{AreReady, Finishes, HasLoaded, HasPlayed, HaveBook, LoadsOne}
-use Rattle.catserve.specs.Run.{InputSeen, OutputSeen}
 use Rattle.catserve.specs.Session.{HaveEnded, Converses}
 use Rattle.catserve.specs.Hearing.{HearingValue, HasTaken, Begins}
 
@@ -54,12 +53,12 @@ pub record GivesQuestion (worker : ℕ) (query : QueryValue) (old new : TalkValu
   pub held : new.held ≡ old.held
   pub begun : new.begun ≡ true
 
--- what was heard was done
-abbrev pub Responds : Heard → TalkValue → TalkValue → OutputSeen → OutputSeen → Type 0
-Responds heard.Nothing old new o o' = (new ≡ old) × (o' ≡ o)
-Responds (heard.Load job) old new o o' = MakesLoad job old new × (o' ≡ o)
-Responds (heard.Ask worker query) old new o o' = GivesQuestion worker query old new × (o' ≡ o)
-Responds heard.Go old new o o' = AnswersRound old new o o'
+-- what a line says was done
+abbrev pub Responds : Option Command → TalkValue → TalkValue → OutputSeen → OutputSeen → Type 0
+Responds None old new o o' = (new ≡ old) × (o' ≡ o)
+Responds (Some (Load load)) old new o o' = MakesLoad load old new × (o' ≡ o)
+Responds (Some (Ask worker query)) old new o o' = GivesQuestion worker query old new × (o' ≡ o)
+Responds (Some Go) old new o o' = AnswersRound old new o o'
 
 -- the round was finished, and a prefix of its lines was written before the writer failed
 pub record BreaksRound (old : TalkValue) (o o' : OutputSeen) : Type 0 where
@@ -83,7 +82,7 @@ pub record IsFresh (workers : ℕ) (talk : TalkValue) : Type 0 where
   pub ready : AreReady talk.store.seen talk.desks
   pub count : length talk.desks ≡ workers
   pub some : 1 ≤ workers
-  pub few : workers ≤ 16
+  pub few : workers ≤ most_workers
   pub none_published : talk.store.seen.batches ≡ []
   pub none_pending : talk.store.pending ≡ []
   pub most : talk.store.most ≡ 18446744073709551615

@@ -4,9 +4,9 @@ use Rattle.devices.specs.Logs.{AnswersFirst, Event, Gave, Grows, Log, came, give
 use Rattle.line_input.specs.Incoming.{Incoming}
 use Rattle.line_input.specs.Waiting.{ReadsWhile, StillCounts}
 use Rattle.catserve.specs.declared.hearing.Heard.{Heard}
-use Rattle.catserve.specs.declared.hearing.Heard.TheVariants as heard
 use Rattle.catserve.specs.declared.session_fault.SessionFault.{SessionFault}
-use Rattle.catserve.specs.Run.{InputSeen, OutputSeen}
+use Rattle.script_text.specs.Script.{Command, Load, Ask, Go}
+use Rattle.devices.specs.Devices.{InputSeen, OutputSeen}
 use Rattle.catserve.specs.Session.{AnswersInTime, IsAnswered, IsOpen}
 use Rattle.catserve.specs.Hearing.{Begins, Hears, HearsEnd, HearsNone, HearingValue, commands_of}
 use Rattle.catserve.specs.Talking.{AnswersRound, Conversing, Responds, TalkValue}
@@ -51,13 +51,13 @@ GivesSome log log' = Grows log log' [] ⊎ ((bytes : List ℕ) × Grows log log'
 abbrev pub GivesRound : TalkValue → TalkValue → OutputSeen → OutputSeen → Log → Log → Type 0
 GivesRound old new o o' log log' = (a : AnswersRound old new o o') × Grows log log' (Gave a.lines ∷ [])
 
--- what was heard was done, and only the end of a round gives something
-abbrev pub RespondsInTime : Heard → TalkValue → TalkValue → OutputSeen → OutputSeen → Log → Log → Type 0
-RespondsInTime heard.Nothing old new o o' log log' = Responds heard.Nothing old new o o' × (log' ≡ log)
-RespondsInTime (heard.Load job) old new o o' log log' = Responds (heard.Load job) old new o o' × (log' ≡ log)
-RespondsInTime (heard.Ask worker query) old new o o' log log' = Responds (heard.Ask worker query) old new o o'
+-- what a line says was done, and only the end of a round gives something
+abbrev pub RespondsInTime : Option Command → TalkValue → TalkValue → OutputSeen → OutputSeen → Log → Log → Type 0
+RespondsInTime None old new o o' log log' = Responds None old new o o' × (log' ≡ log)
+RespondsInTime (Some (Load load)) old new o o' log log' = Responds (Some (Load load)) old new o o' × (log' ≡ log)
+RespondsInTime (Some (Ask worker query)) old new o o' log log' = Responds (Some (Ask worker query)) old new o o'
     × (log' ≡ log)
-RespondsInTime heard.Go old new o o' log log' = GivesRound old new o o' log log'
+RespondsInTime (Some Go) old new o o' log log' = GivesRound old new o o' log log'
 
 -- this text came and this output was given; before each read all rounds that had ended were answered
 pub record InTime (given : Option ℕ) (log log' : Log) (text output : List ℕ) : Type 0 where

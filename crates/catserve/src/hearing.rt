@@ -1,8 +1,8 @@
 //! The lines of a session as they arrive, and what they say.
 ghost use Rattle.std.specs.Prelude.{◌≡◌, ◌+◌, ◌<◌, ◌≤◌, ◌^◌, ℕ, IfOk, IfErr, Some, None, drop, take};
-ghost use Rattle.std.specs.Str.{IsUtf8};
 ghost use Rattle.line_input.specs.Lines.{without_end};
 ghost use Rattle.script_text.specs.Commands.{line_of};
+ghost use Rattle.script_text.specs.LineValues.{line_value};
 ghost use Rattle.script_text.specs.Texts.{most_script};
 ghost use Rattle.line_input.specs.Incoming.{EndsLine};
 ghost use Rattle.line_input.specs.Waiting.{ReadsWhile, StillCounts, StillWaits, WaitsUntil};
@@ -10,15 +10,13 @@ ghost use Rattle.catserve.specs.Timing.{BeginsInTime, HearsInTime, ReadsText};
 ghost use Rattle.catserve.specs.Run.{input_seen};
 ghost use Rattle.catserve.specs.Session.{most_lines, AnswersInTime};
 ghost use Rattle.catserve.specs.Hearing.{unheard, EndsNext, FailsFor, FailsInFront, HearsNothing, HearsNoText};
-ghost use Rattle.catserve.specs.Hearing.{said_value, FailsToSay, HearsText};
+ghost use Rattle.catserve.specs.Hearing.{commands_of, size_behind, FailsToSay, HearsText};
 
-use crate::said::{FrontLine, Said, SaidFault, read_front_line, read_said};
+use crate::said::{FrontLine, SaidFault, read_front_line, read_said};
 use crate::session_fault::SessionFault;
-use desks::{Job, Source as LoadSource};
 use devices::Source;
 use line_input::{LineInput, LineInputFault};
-use live_set::Query;
-use script_text::{DEFAULT_WORKERS, MOST_SCRIPT, ScriptKind};
+use script_text::{DEFAULT_WORKERS, Line, MOST_SCRIPT, ScriptKind};
 use simdutf8::is_utf8;
 use std::alloc::{AllocError, Global};
 use std::marker::Model;
@@ -26,17 +24,11 @@ use std::marker::Model;
 /// The most lines that a session may have.
 const MOST_LINES: u64 = 1 << 63;
 
-/// What was heard.
+/// A line that was heard, and the text of its load.
 #[derive(Drop)]
-pub(crate) enum Heard {
-    /// A line that says nothing.
-    Nothing,
-    /// A load, with its text.
-    Load(Job),
-    /// A question to a worker.
-    Ask { worker: u32, query: Query },
-    /// The end of a round.
-    Go,
+pub(crate) struct Heard {
+    pub(crate) line: Line,
+    pub(crate) text: Vec<u8>,
 }
 
 /// The input of a session, the number of its next line, and the size of its open round in bytes.
@@ -192,64 +184,40 @@ impl Hearing {
         }
     }
 
+    /// Counts the bytes of the next round from here, if this was the end of a round.
+    fn end_round(&mut self, heard: &Heard)
+        ensures { self.new ≡ record self.old { size = size_behind (commands_of heard.now) self.old.size } }
+    {
+        match &heard.line {
+            Line::Goes => self.size = 0,
+            Line::Blank | Line::Loads { .. } | Line::LoadsMo { .. } | Line::Asks { .. } => {}
+        }
+    }
+
     /// Takes off the line that ends at `end` and says this, with the lines of its text.
     fn hear_said<R: Source>(
         &mut self,
         alloc: Global,
         reader: &mut R,
         end: usize,
-        said: Said,
+        line: Line,
     ) -> Result<Option<Heard>, SessionFault>
         requires line { EndsLine self.old.input 0 end }
         requires size { self.old.size + end ≤ most_script }
         requires few { self.old.number < most_lines }
-        requires utf8 { IsUtf8 (take end self.old.input.left) }
         ensures heard { let input = input_seen R.remaining R.reads R.failures in (workers : ℕ)
-            → line_of workers (without_end (take end self.old.input.left)) ≡ Some (said_value said)
+            → line_of workers (without_end (take end self.old.input.left)) ≡ Some (line_value line)
             → HearsInTime (input reader.old) (input reader.new) (R.log reader.old) (R.log reader.new) workers self.old
             self.new result }
         ensures keeps { R.output reader.new ≡ R.output reader.old }
     {
-        match said {
-            Said::Nothing => {
-                self.take(end, 1);
-                Ok(Some(Heard::Nothing))
-            }
-            Said::Asks { worker, query } => {
-                self.take(end, 1);
-                Ok(Some(Heard::Ask { worker, query }))
-            }
-            Said::LoadsMo {
-                domain,
-                locale,
-                bytes,
-            } => {
-                self.take(end, 1);
-                Ok(Some(Heard::Load(Job {
-                    domain,
-                    locale,
-                    source: LoadSource::Mo { bytes },
-                })))
-            }
-            Said::Loads {
-                domain,
-                locale,
-                options,
-                count,
-            } => match self.hear_text(alloc, reader, end, count) {
-                Ok(bytes) => Ok(Some(Heard::Load(Job {
-                    domain,
-                    locale,
-                    source: LoadSource::Po { bytes, options },
-                }))),
-                Err(fault) => Err(fault),
-            },
-            Said::Goes => {
-                self.take(end, 1);
-                self.size = 0;
-                Ok(Some(Heard::Go))
-            }
-        }
+        let text = match self.hear_text(alloc, reader, end, line.text_lines()) {
+            Ok(text) => text,
+            Err(fault) => return Err(fault),
+        };
+        let heard = Heard { line, text };
+        self.end_round(&heard);
+        Ok(Some(heard))
     }
 
     /// The next line of a session with this number of workers, with its text. None: the input has ended. It reads only

@@ -2,15 +2,16 @@
 ghost use Rattle.std.specs.Prelude.{◌≡◌, ◌+◌, ◌≤◌, [], IfOk, IfErr, OnOk, OnErr, length, vec_len};
 ghost use Rattle.live_versions.specs.Store.{HasRoom};
 ghost use Rattle.desks.specs.Jobs.{IsAccepted, IsRefused};
+ghost use Rattle.script_text.specs.ScriptFields.{most_workers};
 ghost use Rattle.catserve.specs.Running.{AreReady, HaveBook, HasRoomFor, IsPlayFault, LoadsOne, LoadsAll};
-ghost use Rattle.catserve.specs.Running.{Finishes, PlaysOne};
+ghost use Rattle.catserve.specs.Running.{Finishes, PlaysOne, job_of, kind_of};
 
 use crate::asking::{give_all, write_all};
 use crate::output::{
     write_accepted, write_accepted_mo, write_refused, write_refused_mo, write_unnamed,
     write_version,
 };
-use desks::{Accepted, Desk, Gate, Place, serve};
+use desks::{Accepted, Desk, Gate, Place, ServeFault, serve};
 use live_versions::{Publisher, StoreFault};
 use script_text::{LoadSource, Round, ScriptKind, ScriptLoad};
 use std::alloc::{AllocError, Global};
@@ -30,12 +31,12 @@ fn add_load(
     publisher: &mut Publisher,
     load: &ScriptLoad<'_>,
 ) -> Result<Accepted, StoreFault>
-    ensures ok { IfOk result (λ answer. IsAccepted publisher.old load.now answer publisher.new) }
-    ensures err { IfErr result (IsRefused publisher.old load.now) }
+    ensures ok { IfOk result (λ answer. IsAccepted publisher.old (job_of load.now) answer publisher.new) }
+    ensures err { IfErr result (IsRefused publisher.old (job_of load.now)) }
     ensures unchanged { OnErr result (publisher.new ≡ publisher.old) }
     ensures seen { publisher.new.seen ≡ publisher.old.seen }
 {
-    let (domain, locale) = (load.domain, load.locale);
+    let (domain, locale) = (load.domain.as_str(), load.locale.as_str());
     match &load.source {
         LoadSource::Po { text, options } => {
             let stats = publisher.load(alloc, domain, locale, text, *options)?;
@@ -91,6 +92,17 @@ fn make_loads(
     Ok(())
 }
 
+/// The fault of a service as an error of a script.
+fn kind_of(fault: ServeFault) -> ScriptKind
+    ensures { result ≡ kind_of fault }
+{
+    match fault {
+        ServeFault::Memory => ScriptKind::Memory,
+        ServeFault::Ahead | ServeFault::Closed => ScriptKind::Closed,
+        ServeFault::Join => ScriptKind::Join,
+    }
+}
+
 /// Publishes the loads that a round has made, and answers what its workers are asked; writes the lines of both.
 pub(crate) fn finish<R: Threads + Wait + Sync>(
     rt: &R,
@@ -100,7 +112,7 @@ pub(crate) fn finish<R: Threads + Wait + Sync>(
     output: &mut Vec<u8>,
 ) -> Result<(), ScriptKind>
     requires book { HaveBook publisher.old.seen desks.old.items }
-    requires count { (1 ≤ vec_len desks.old) × (vec_len desks.old ≤ 16) }
+    requires count { (1 ≤ vec_len desks.old) × (vec_len desks.old ≤ most_workers) }
     ensures ok { IfOk result (λ _. Finishes (length desks.old.items) publisher.old desks.old.items output.old.items
         publisher.new output.new.items) }
     ensures ready { OnOk result (AreReady publisher.new.seen desks.new.items) }
@@ -111,7 +123,10 @@ pub(crate) fn finish<R: Threads + Wait + Sync>(
         return Err(ScriptKind::Memory);
     };
     write_version(alloc, output, version)?;
-    serve(rt, alloc, publisher, desks, Vec::new(alloc), &OpenGate)?;
+    let _served = match serve(rt, alloc, publisher, desks, Vec::new(alloc), &OpenGate) {
+        Ok(served) => served,
+        Err(fault) => return Err(kind_of(fault)),
+    };
     write_all(alloc, 0, desks.as_mut_slice(), output)?;
     Ok(())
 }
@@ -127,7 +142,7 @@ pub(crate) fn play<R: Threads + Wait + Sync>(
 ) -> Result<(), ScriptKind>
     requires pending { publisher.old.pending ≡ [] }
     requires ready { AreReady publisher.old.seen desks.old.items }
-    requires count { (1 ≤ vec_len desks.old) × (vec_len desks.old ≤ 16) }
+    requires count { (1 ≤ vec_len desks.old) × (vec_len desks.old ≤ most_workers) }
     requires room { HasRoomFor (length round.loads) publisher.old }
     ensures ok { IfOk result (λ _. PlaysOne (vec_len desks.old) round.entry publisher.old publisher.new
         output.old.items output.new.items) }

@@ -4,6 +4,7 @@ ghost use Rattle.live_versions.specs.Batches.{joined};
 ghost use Rattle.catserve.specs.Rounds.{HasOutput, PlaysAll};
 ghost use Rattle.catserve.specs.Run.{ReadsText, Runs, input_seen, output_seen};
 ghost use Rattle.script_text.specs.Script.{load_count};
+ghost use Rattle.script_text.specs.ScriptFields.{most_workers};
 ghost use Rattle.catserve.specs.Running.{AreReady, EndsPlaying, EndsReading, HasRoomFor, IsPlayFault};
 
 use crate::asking::open_desks;
@@ -26,7 +27,7 @@ fn play_rounds<T: Threads + Wait + Sync>(
 ) -> Result<Vec<u8>, ScriptKind>
     requires pending { publisher.old.pending ≡ [] }
     requires ready { AreReady publisher.old.seen desks.old.items }
-    requires count { (1 ≤ vec_len desks.old) × (vec_len desks.old ≤ 16) }
+    requires count { (1 ≤ vec_len desks.old) × (vec_len desks.old ≤ most_workers) }
     requires room { HasRoomFor (load_count rounds.items) publisher.old }
     ensures ok { IfOk result (λ output.
         PlaysAll (vec_len desks.old) (joined publisher.old.seen.batches) rounds.entry.items output.items) }
@@ -49,7 +50,7 @@ fn play_by<T: Threads + Wait + Sync>(
 ) -> Result<Vec<u8>, ScriptKind>
     requires pending { publisher.old.pending ≡ [] }
     requires readers { All (λ l. l ≡ publisher.old.seen) readers.items }
-    requires count { (1 ≤ vec_len readers) × (vec_len readers ≤ 16) }
+    requires count { (1 ≤ vec_len readers) × (vec_len readers ≤ most_workers) }
     requires room { HasRoomFor (load_count rounds.items) publisher.old }
     ensures ok { IfOk result (λ output.
         PlaysAll (vec_len readers) (joined publisher.old.seen.batches) rounds.entry.items output.items) }

@@ -1,50 +1,24 @@
 //! The player of a session: the open round's lines are held back until it ends.
 ghost use Rattle.std.specs.Prelude.{◌≡◌, ◌≤◌, [], false, IfOk, IfErr, OnOk, length};
 ghost use Rattle.live_versions.specs.Store.{HasRoom};
-ghost use Rattle.script_text.specs.LineValues.{source_value};
+ghost use Rattle.script_text.specs.ScriptFields.{most_workers};
 ghost use Rattle.catserve.specs.Run.{output_seen};
-ghost use Rattle.catserve.specs.Running.{HaveBook, LoadsOne};
+ghost use Rattle.catserve.specs.Hearing.{command_of};
+ghost use Rattle.catserve.specs.Running.{HaveBook};
 ghost use Rattle.catserve.specs.Talking.{FailsToAnswer, GivesQuestion, MakesLoad};
 ghost use Rattle.catserve.specs.Timing.{GivesRound, GivesSome, RespondsInTime};
 
 use crate::asking::give;
 use crate::hearing::Heard;
 use crate::round::{finish, make_load};
-use desks::{Desk, Job, Source};
+use desks::Desk;
 use devices::Sink;
-use live_set::Query;
 use live_versions::Publisher;
-use script_text::{LoadSource, ScriptKind, ScriptLoad};
+use script_text::{Command, Question, ScriptKind, ScriptLoad};
 use std::alloc::{AllocError, Global};
 use std::marker::Model;
 use std::sync::Wait;
 use std::thread::Threads;
-
-/// Makes a load of this source, and appends its line to `held`.
-fn make(
-    alloc: Global,
-    publisher: &mut Publisher,
-    domain: &str,
-    locale: &str,
-    source: LoadSource<'_>,
-    held: &mut Vec<u8>,
-) -> Result<(), AllocError>
-    requires { HasRoom publisher.old }
-    ensures ok { IfOk result (λ _. LoadsOne (record {
-      domain = domain.now;
-      locale = locale.now;
-      source = source_value source.entry;
-    }) publisher.old.pending publisher.new.pending held.old.items held.new.items) }
-    ensures seen { publisher.new.seen ≡ publisher.old.seen }
-    ensures most { publisher.new.most ≡ publisher.old.most }
-{
-    let load = ScriptLoad {
-        domain,
-        locale,
-        source,
-    };
-    make_load(alloc, publisher, &load, held)
-}
 
 /// A store with a desk for each worker, and the open round: the lines that are held back, and whether the round has a
 /// load or a question.
@@ -95,49 +69,20 @@ impl Talk {
     }
 
     /// Makes a load, and holds its line back.
-    fn load(&mut self, alloc: Global, job: Job) -> Result<(), AllocError>
+    fn load(&mut self, alloc: Global, load: &ScriptLoad<'_>) -> Result<(), AllocError>
         requires { HasRoom self.old.store }
-        ensures { OnOk result (MakesLoad job self.old self.new) }
+        ensures { OnOk result (MakesLoad load.now self.old self.new) }
     {
-        let Job {
-            domain,
-            locale,
-            source,
-        } = job;
-        let (domain, locale) = (domain.as_str(), locale.as_str());
-        match source {
-            Source::Po { bytes, options } => {
-                let text = bytes.as_slice();
-                let source = LoadSource::Po { text, options };
-                make(
-                    alloc,
-                    &mut self.publisher,
-                    domain,
-                    locale,
-                    source,
-                    &mut self.held,
-                )?;
-            }
-            Source::Mo { bytes } => {
-                let source = LoadSource::Mo { bytes };
-                make(
-                    alloc,
-                    &mut self.publisher,
-                    domain,
-                    locale,
-                    source,
-                    &mut self.held,
-                )?;
-            }
-        }
+        make_load(alloc, &mut self.publisher, load, &mut self.held)?;
         self.begun = true;
         Ok(())
     }
 
     /// Gives a question to the desk of its worker.
-    fn ask(&mut self, worker: u32, query: Query) -> Result<(), AllocError>
-        ensures { OnOk result (GivesQuestion worker query self.old self.new) }
+    fn ask(&mut self, question: Question) -> Result<(), AllocError>
+        ensures { OnOk result (GivesQuestion question.worker question.query self.old self.new) }
     {
+        let Question { worker, query } = question;
         give(self.desks.as_mut_slice(), worker, query)?;
         self.begun = true;
         Ok(())
@@ -159,7 +104,7 @@ impl Talk {
         writer: &mut W,
     ) -> Result<(), ScriptKind>
         requires book { HaveBook self.old.store.seen self.old.desks }
-        requires count { (1 ≤ length self.old.desks) × (length self.old.desks ≤ 16) }
+        requires count { (1 ≤ length self.old.desks) × (length self.old.desks ≤ most_workers) }
         ensures ok { let output = output_seen W.contents W.failures in
             IfOk result (λ _. GivesRound self.old self.new (output writer.old) (output writer.new) (W.log writer.old)
             (W.log writer.new)) }
@@ -189,25 +134,26 @@ impl Talk {
         &mut self,
         rt: &T,
         alloc: Global,
-        thing: Heard,
+        heard: Heard,
         writer: &mut W,
     ) -> Result<(), ScriptKind>
         requires room { HasRoom self.old.store }
         requires book { HaveBook self.old.store.seen self.old.desks }
-        requires count { (1 ≤ length self.old.desks) × (length self.old.desks ≤ 16) }
+        requires count { (1 ≤ length self.old.desks) × (length self.old.desks ≤ most_workers) }
         ensures ok { let output = output_seen W.contents W.failures in
-            IfOk result (λ _. RespondsInTime thing self.old self.new (output writer.old) (output writer.new)
-            (W.log writer.old) (W.log writer.new)) }
+            IfOk result (λ _. RespondsInTime (command_of heard) self.old self.new (output writer.old)
+            (output writer.new) (W.log writer.old) (W.log writer.new)) }
         ensures fault { let output = output_seen W.contents W.failures in
             IfErr result (λ kind. FailsToAnswer self.old (output writer.old) (output writer.new) kind) }
         ensures broken { IfErr result (λ _. GivesSome (W.log writer.old) (W.log writer.new)) }
         ensures keeps { W.input writer.new ≡ W.input writer.old }
     {
-        match thing {
-            Heard::Nothing => Ok(()),
-            Heard::Load(job) => Ok(self.load(alloc, job)?),
-            Heard::Ask { worker, query } => Ok(self.ask(worker, query)?),
-            Heard::Go => self.answer(rt, alloc, writer),
+        let Heard { line, text } = heard;
+        match line.into_command(text.as_slice()) {
+            None => Ok(()),
+            Some(Command::Load(load)) => Ok(self.load(alloc, &load)?),
+            Some(Command::Ask(question)) => Ok(self.ask(question)?),
+            Some(Command::Go) => self.answer(rt, alloc, writer),
         }
     }
 }

@@ -1,24 +1,24 @@
 -- A script read line by line.
 use Rattle.std.proofs.Common.{◌≡◌, ◌∙◌, refl, sym, ap, subst, ℕ, zero, suc, ◌+◌, ◌<◌, ◌≤◌, Bool, true, false, cond}
 use Rattle.std.proofs.Common.{List, [], ◌∷◌}
-use Rattle.std.proofs.Common.{◌++◌, length, map, drop, fold, Option, Some, None, Result, Ok, Err, arith, append_assoc}
+use Rattle.std.proofs.Common.{◌++◌, length, map, take, drop, fold, Option}
+use Rattle.std.proofs.Common.{Some, None, Result, Ok, Err, arith, append_assoc}
 use Rattle.std.proofs.Common.{length-append}
-use Rattle.std.specs.List.{onto_first}
+use Rattle.std.specs.List.{concat, onto_first}
 use Rattle.std.specs.Str.{IsUtf8}
 use Rattle.std.proofs.lemmas.List.{append-nil}
 use Rattle.std.proofs.lemmas.List.Sums.{sum_by-append}
 use Rattle.std.proofs.lemmas.Bool.{le-leb, lt-leb}
-use Rattle.catalogue.specs.declared.Options.{Options}
-use Rattle.live_set.specs.Asks.{QueryValue}
 use Rattle.line_input.specs.Lines.{lines, pieces, without_end}
 use Rattle.script_text.specs.LineFields.{fields}
-use Rattle.script_text.specs.Commands.{Line, Loads, is_blank, line_of, workers_line}
-use Rattle.desks.specs.Jobs.{JobValue, Po}
+use Rattle.script_text.specs.Commands.{Line, Blank, Loads, LoadsMo, Asks, Goes, is_blank, line_of, workers_line}
+use Rattle.script_text.specs.CommandValues.{command_with, listed, text_lines}
 use Rattle.script_text.specs.Script.{Command, Load, Ask, Go, RoundValue, round_of, rounds_of, is_go, Says}
 use Rattle.script_text.specs.Script.{IsBad, saying, and_then, commands_from, load_count, script_of, script_from, script}
 use Rattle.script_text.specs.Gathering.{Gathered, empty_round, nothing, both, gathered, onto_open, all_rounds, going_on}
 use Rattle.script_text.specs.Gathering.{loads_so_far, TakesIn, HasSkipped, HasBegun, HasParsed}
 use Rattle.script_text.specs.Scanning.{IsFirstLine, TakesLines}
+use Rattle.script_text.specs.Texts.{most_script}
 
 -- ---- lines that are a load's text
 
@@ -78,50 +78,46 @@ more (c ∷ commands) g cs = one_more g c (commands ++ cs) ∙ more commands (ga
 
 -- ---- one line taken in
 
--- a line without a text
-pub takes_none : (old new : Gathered) (line : Line) (behind : List ℕ) (number : ℕ) (commands : List Command)
-    → saying (Some line) (lines behind) ≡ Says commands 0 → new ≡ fold gathered old commands
-    → loads_so_far new ≤ loads_so_far old + 1 → IsUtf8 behind → TakesIn old new line behind number behind (number + 1)
-takes_none old new line behind number commands says is few utf8 = record {
-  commands = commands;
-  text = 0;
-  says = says;
-  gathered_are = is;
-  few = few;
-  behind_text = refl;
-  enough = omega arith;
-  next_is = omega arith;
-  shorter = omega arith;
-  utf8 = utf8;
-}
+-- a line, if all lines of its text are there
+pub says_with : (line : Line) (behind : List (List ℕ)) → text_lines line ≤ length behind → saying (Some line) behind
+    ≡ Says (listed (command_with line (concat (take (text_lines line) behind)))) (text_lines line)
+says_with Blank behind enough = refl
+says_with (Loads domain locale options count) behind enough = rw (le-leb count (length behind) enough) refl
+says_with (LoadsMo domain locale bytes) behind enough = refl
+says_with (Asks worker query) behind enough = refl
+says_with Goes behind enough = refl
+
+-- a load that counts more lines than are left
+pub too_long : (line : Line) (behind : List (List ℕ)) → length behind < text_lines line
+    → saying (Some line) behind ≡ IsBad
+too_long Blank behind few = absurd (omega (arith, few))
+too_long (Loads domain locale options count) behind few = rw (lt-leb count (length behind) few) refl
+too_long (LoadsMo domain locale bytes) behind few = absurd (omega (arith, few))
+too_long (Asks worker query) behind few = absurd (omega (arith, few))
+too_long Goes behind few = absurd (omega (arith, few))
 
 -- one command more is at most one load more
-pub few_go : (old new : Gathered) → new ≡ gathered old Go → loads_so_far new ≤ loads_so_far old + 1
-few_go old new is = omega (
+pub few_more : (g : Gathered) (command : Option Command)
+    → loads_so_far (fold gathered g (listed command)) ≤ loads_so_far g + 1
+few_more g None = omega arith
+few_more g (Some (Load load)) = omega (arith, length-append g.current.loads (load ∷ []))
+few_more g (Some (Ask worker query)) = omega (arith, ap length (append-nil g.current.loads))
+few_more g (Some Go) = omega (
   arith,
-  ap loads_so_far is,
-  sum_by-append (λ (round : RoundValue). length round.loads) old.ended (old.current ∷ []),
+  sum_by-append (λ (round : RoundValue). length round.loads) g.ended (g.current ∷ []),
 )
 
-pub few_ask : (old new : Gathered) (worker : ℕ) (query : QueryValue) → new ≡ gathered old (Ask worker query)
-    → loads_so_far new ≤ loads_so_far old + 1
-few_ask old new worker query is = omega (arith, ap loads_so_far is, ap length (append-nil old.current.loads))
-
-pub few_load : (old new : Gathered) (load : JobValue) → new ≡ gathered old (Load load)
-    → loads_so_far new ≤ loads_so_far old + 1
-few_load old new load is = omega (arith, ap loads_so_far is, length-append old.current.loads (load ∷ []))
-
--- a load with its PO text
-pub takes_text : (old new : Gathered) (domain locale : List ℕ) (options : Options) (count : ℕ) (behind : List ℕ)
-    (number : ℕ) (text rest : List ℕ) → TakesLines count behind text rest → new
-    ≡ gathered old (Load (record { domain = domain; locale = locale; source = Po text options }))
-    → TakesIn old new (Loads domain locale options count) behind number rest (number + 1 + count)
-takes_text old new domain locale options count behind number text rest taken is = record {
-  commands = Load (record { domain = domain; locale = locale; source = Po text options }) ∷ [];
-  text = count;
-  says = rw (le-leb count (length (lines behind)) taken.enough, taken.taken_is) refl;
+-- a line with its text
+pub takes_in : (old new : Gathered) (line : Line) (behind : List ℕ) (number : ℕ) (text rest : List ℕ)
+    → TakesLines (text_lines line) behind text rest → new ≡ fold gathered old (listed (command_with line text))
+    → TakesIn old new line behind number rest (number + 1 + text_lines line)
+takes_in old new line behind number text rest taken is = record {
+  commands = listed (command_with line text);
+  text = text_lines line;
+  says = says_with line (lines behind) taken.enough
+      ∙ ap (λ bytes. Says (listed (command_with line bytes)) (text_lines line)) (sym taken.taken_is);
   gathered_are = is;
-  few = few_load old new (record { domain = domain; locale = locale; source = Po text options }) is;
+  few = subst (λ g. loads_so_far g ≤ loads_so_far old + 1) (sym is) (few_more old (command_with line text));
   behind_text = taken.rest_is;
   enough = taken.enough;
   next_is = refl;
@@ -129,14 +125,9 @@ takes_text old new domain locale options count behind number text rest taken is 
   utf8 = taken.utf8;
 }
 
--- a load that counts more lines than are left
-pub too_long : (domain locale : List ℕ) (options : Options) (count : ℕ) (behind : List ℕ)
-    → length (lines behind) < count → saying (Some (Loads domain locale options count)) (lines behind) ≡ IsBad
-too_long domain locale options count behind few = rw (lt-leb count (length (lines behind)) few) refl
-
 -- ---- the front of a script
 
-pub starts : (text : List ℕ) → length text ≤ 67108864 → IsUtf8 text → HasSkipped text text 1
+pub starts : (text : List ℕ) → length text ≤ most_script → IsUtf8 text → HasSkipped text text 1
 starts text small utf8 = record { going = refl; some = omega arith; bounded = omega arith; utf8 = utf8 }
 
 -- a line that says nothing
@@ -285,7 +276,7 @@ ends text workers rest rounds number parsed none = parsed.going
 
 -- there are fewer loads than lines
 pub ends_few : (text : List ℕ) (workers : ℕ) (rest : List ℕ) (rounds : Gathered) (number : ℕ)
-    → HasParsed text workers rounds rest number → load_count (all_rounds rounds) ≤ 67108864
+    → HasParsed text workers rounds rest number → load_count (all_rounds rounds) ≤ most_script
 ends_few text workers rest rounds number parsed = omega (arith, parsed.few, parsed.bounded, fewer rounds) where
   fewer : (g : Gathered) → load_count (all_rounds g) ≤ loads_so_far g
   fewer g = omega (

@@ -8,6 +8,7 @@ use Rattle.script_text.specs.Commands.{Line}
 use Rattle.script_text.specs.Script.{Command, Load, Ask, Go, RoundValue, round_of, rounds_of, Says, saying}
 use Rattle.script_text.specs.Script.{commands_from}
 use Rattle.script_text.specs.Script.{load_count, ScriptValue, script_from, script_of, script}
+use Rattle.script_text.specs.Texts.{most_script}
 
 -- the rounds that have ended, the open one, and whether it has a load or a question
 pub record Gathered : Type 0 where
@@ -71,19 +72,19 @@ pub record TakesIn (old new : Gathered) (line : Line) (behind : List ℕ) (numbe
 pub record HasSkipped (text rest : List ℕ) (number : ℕ) : Type 0 where
   pub going : script text ≡ script_from number (lines rest)
   pub some : 0 < number
-  pub bounded : number + length rest ≤ 67108865
+  pub bounded : number + length rest ≤ most_script + 1
   pub utf8 : IsUtf8 rest
 
 -- the script has this number of workers, and its commands begin on the line with this number
 pub record HasBegun (text : List ℕ) (workers : ℕ) (rest : List ℕ) (number : ℕ) : Type 0 where
   pub going : script text ≡ script_of workers (commands_from workers number 0 (lines rest))
   pub some : 0 < number
-  pub bounded : number + length rest ≤ 67108865
+  pub bounded : number + length rest ≤ most_script + 1
   pub utf8 : IsUtf8 rest
 
 -- the lines before this number were read, and `rest` is the text from that line on
 pub record HasParsed (text : List ℕ) (workers : ℕ) (rounds : Gathered) (rest : List ℕ) (number : ℕ) : Type 0 where
   pub going : script text ≡ going_on workers rounds (commands_from workers number 0 (lines rest))
   pub few : loads_so_far rounds < number
-  pub bounded : number + length rest ≤ 67108865
+  pub bounded : number + length rest ≤ most_script + 1
   pub utf8 : IsUtf8 rest

@@ -1,9 +1,10 @@
 pub mod LineFields
 pub mod ScriptFields
 pub mod Commands
+pub mod ScriptLoads
 pub mod LineValues
 pub mod Script
+pub mod CommandValues
 pub mod Texts
-pub mod Kinds
 pub mod Scanning
 pub mod Gathering

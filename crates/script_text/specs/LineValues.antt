@@ -1,19 +1,20 @@
 -- What a line of the code says, where the catalogue of a load comes from, and what reading a part of a line returns.
-use Rattle.std.specs.Prelude.{◌≡◌, ⊤, Option, Some, None, Result, Ok, Err}
+use Rattle.std.specs.Prelude.{◌≡◌, ⊤, Option, Some, None, Result, Ok, Err, string_bytes}
 use Rattle.script_text.specs.declared.fault.LineFault.{LineFault}
 use Rattle.script_text.specs.declared.fault.LineFault.TheVariants.{Bad, Memory}
 use Rattle.script_text.specs.declared.command.Line as code
 use Rattle.script_text.specs.declared.command.Line.TheVariants as code_line
 use Rattle.script_text.specs.declared.rounds.LoadSource.{LoadSource}
 use Rattle.script_text.specs.declared.rounds.LoadSource.TheVariants as code_source
-use Rattle.desks.specs.Jobs.{SourceValue, Po, Mo}
+use Rattle.script_text.specs.ScriptLoads.{SourceValue, Po, Mo}
 use Rattle.script_text.specs.Commands.{Line, Blank, Loads, LoadsMo, Asks, Goes}
 
 -- what such a line says
 abbrev pub line_value : code.Line → Line
 line_value code_line.Blank = Blank
-line_value (code_line.Loads domain locale options count) = Loads domain.now locale.now options count
-line_value (code_line.LoadsMo domain locale bytes) = LoadsMo domain.now locale.now bytes.items
+line_value (code_line.Loads domain locale options count) =
+    Loads (string_bytes domain) (string_bytes locale) options count
+line_value (code_line.LoadsMo domain locale bytes) = LoadsMo (string_bytes domain) (string_bytes locale) bytes.items
 line_value (code_line.Asks worker query) = Asks worker query
 line_value code_line.Goes = Goes
 

@@ -65,8 +65,12 @@ worker_of workers text = if has_leading_zero text then None else (do
   n ← number text
   if nat_lt n workers then Some n else None)
 
+-- the most workers that a script may have
+abbrev pub most_workers : ℕ
+most_workers = 16
+
 -- how many workers there are: 1 to 16
 abbrev pub worker_count : List ℕ → Option ℕ
 worker_count text = do
   n ← number text
-  if nat_le 1 n && nat_le n 16 then Some n else None
+  if nat_le 1 n && nat_le n most_workers then Some n else None

@@ -5,6 +5,7 @@ ghost use Rattle.script_text.specs.Commands.{load_line, load_mo_line, ask_line, 
 ghost use Rattle.script_text.specs.Commands.{is_blank, line_of, workers_line};
 ghost use Rattle.script_text.specs.LineFields.{fields};
 ghost use Rattle.script_text.specs.LineValues.{Reads, line_value};
+ghost use Rattle.script_text.specs.CommandValues.{command_with, some_command, text_lines};
 ghost use Rattle.live_set.specs.Asks.{ask_value};
 
 use crate::fault::LineFault;
@@ -12,26 +13,27 @@ use crate::field::{
     read_hex, read_number, read_options, read_text, read_worker, read_worker_count,
 };
 use crate::fields::Fields;
+use crate::rounds::{Command, LoadSource, Question, ScriptLoad};
 use catalogue::Options;
 use live_set::{Ask, Query};
 use std::alloc::Global;
 
 /// What a line says.
 #[derive(Drop)]
-pub enum Line<'a> {
+pub enum Line {
     /// Nothing.
     Blank,
     /// The next `count` lines are a PO text.
     Loads {
-        domain: &'a str,
-        locale: &'a str,
+        domain: String,
+        locale: String,
         options: Options,
         count: u64,
     },
     /// An MO file.
     LoadsMo {
-        domain: &'a str,
-        locale: &'a str,
+        domain: String,
+        locale: String,
         bytes: Vec<u8>,
     },
     /// A worker is asked.
@@ -41,6 +43,48 @@ pub enum Line<'a> {
     },
     /// The round ends.
     Goes,
+}
+
+impl Line {
+    /// How many of the lines that follow are the text of this line's load.
+    pub fn text_lines(&self) -> u64
+        ensures { result ≡ text_lines (line_value self.now) }
+    {
+        match self {
+            Line::Loads { count, .. } => *count,
+            Line::Blank | Line::LoadsMo { .. } | Line::Asks { .. } | Line::Goes => 0,
+        }
+    }
+
+    /// The command of a line, with the text of its load. None: it says nothing.
+    pub fn into_command<'a>(self, text: &'a [u8]) -> Option<Command<'a>>
+        ensures { some_command result ≡ command_with (line_value self) text.now }
+    {
+        match self {
+            Line::Blank => None,
+            Line::Loads {
+                domain,
+                locale,
+                options,
+                count: _,
+            } => Some(Command::Load(ScriptLoad {
+                domain,
+                locale,
+                source: LoadSource::Po { text, options },
+            })),
+            Line::LoadsMo {
+                domain,
+                locale,
+                bytes,
+            } => Some(Command::Load(ScriptLoad {
+                domain,
+                locale,
+                source: LoadSource::Mo { bytes },
+            })),
+            Line::Asks { worker, query } => Some(Command::Ask(Question { worker, query })),
+            Line::Goes => Some(Command::Go),
+        }
+    }
 }
 
 /// The texts of a call of gettext.
@@ -104,7 +148,7 @@ fn read_call(alloc: Global, name: &str, texts: Fields<'_>) -> Result<Ask, LineFa
 }
 
 /// The fields after `load`.
-fn read_load(mut fields: Fields<'_>) -> Result<Line<'_>, LineFault>
+fn read_load(alloc: Global, mut fields: Fields<'_>) -> Result<Line, LineFault>
     ensures { Reads line_value result (load_line fields.entry) }
 {
     let domain = fields.next()?;
@@ -113,15 +157,15 @@ fn read_load(mut fields: Fields<'_>) -> Result<Line<'_>, LineFault>
     let count = read_number(fields.next()?)?;
     fields.end()?;
     Ok(Line::Loads {
-        domain,
-        locale,
+        domain: String::from_str(alloc, domain)?,
+        locale: String::from_str(alloc, locale)?,
         options,
         count,
     })
 }
 
 /// The fields after `loadmo`.
-fn read_load_mo(alloc: Global, mut fields: Fields<'_>) -> Result<Line<'_>, LineFault>
+fn read_load_mo(alloc: Global, mut fields: Fields<'_>) -> Result<Line, LineFault>
     ensures { Reads line_value result (load_mo_line fields.entry) }
 {
     let domain = fields.next()?;
@@ -130,14 +174,14 @@ fn read_load_mo(alloc: Global, mut fields: Fields<'_>) -> Result<Line<'_>, LineF
     fields.end()?;
     let bytes = read_hex(alloc, digits)?;
     Ok(Line::LoadsMo {
-        domain,
-        locale,
+        domain: String::from_str(alloc, domain)?,
+        locale: String::from_str(alloc, locale)?,
         bytes,
     })
 }
 
 /// The fields after `ask`, in a script with this number of workers.
-fn read_ask<'a>(alloc: Global, workers: u32, mut fields: Fields<'a>) -> Result<Line<'a>, LineFault>
+fn read_ask(alloc: Global, workers: u32, mut fields: Fields<'_>) -> Result<Line, LineFault>
     ensures { Reads line_value result (ask_line workers fields.entry) }
 {
     let worker = read_worker(workers, fields.next()?)?;
@@ -154,7 +198,7 @@ fn read_ask<'a>(alloc: Global, workers: u32, mut fields: Fields<'a>) -> Result<L
 }
 
 /// The fields after `go`: none.
-fn read_go<'a>(fields: Fields<'a>) -> Result<Line<'a>, LineFault>
+fn read_go(fields: Fields<'_>) -> Result<Line, LineFault>
     ensures { Reads line_value result (go_line fields.entry) }
 {
     fields.end()?;
@@ -162,15 +206,11 @@ fn read_go<'a>(fields: Fields<'a>) -> Result<Line<'a>, LineFault>
 }
 
 /// What a line says, by its first field.
-fn read_command<'a>(
-    alloc: Global,
-    workers: u32,
-    mut fields: Fields<'a>,
-) -> Result<Line<'a>, LineFault>
+fn read_command(alloc: Global, workers: u32, mut fields: Fields<'_>) -> Result<Line, LineFault>
     ensures { Reads line_value result (command_line workers fields.entry) }
 {
     match fields.next()? {
-        "load" => read_load(fields),
+        "load" => read_load(alloc, fields),
         "loadmo" => read_load_mo(alloc, fields),
         "ask" => read_ask(alloc, workers, fields),
         "go" => read_go(fields),
@@ -201,7 +241,7 @@ pub fn read_workers(text: &str) -> Result<u32, LineFault>
 }
 
 /// What a line, without its LF, says in a script with this number of workers. `Bad` if such a script can't have it.
-pub fn read_line(alloc: Global, workers: u32, text: &str) -> Result<Line<'_>, LineFault>
+pub fn read_line(alloc: Global, workers: u32, text: &str) -> Result<Line, LineFault>
     ensures { Reads line_value result (line_of workers text.now) }
 {
     if says_nothing(text) {

@@ -2,7 +2,6 @@
 ghost use Rattle.std.specs.Prelude.{◌≡◌};
 ghost use Rattle.script_text.specs.declared.fault.LineFault.TheVariants.{Memory};
 
-use desks::ServeFault;
 use std::alloc::AllocError;
 use thiserror::Error;
 
@@ -89,19 +88,5 @@ impl From<AllocError> for ScriptKind {
 
     fn from(_: AllocError) -> ScriptKind {
         ScriptKind::Memory
-    }
-}
-
-impl From<ServeFault> for ScriptKind {
-    ghost use Rattle.script_text.specs.Kinds.{kind_of};
-
-    ghost from_gives = { λ fault kind. kind ≡ kind_of fault };
-
-    fn from(fault: ServeFault) -> ScriptKind {
-        match fault {
-            ServeFault::Memory => ScriptKind::Memory,
-            ServeFault::Ahead | ServeFault::Closed => ScriptKind::Closed,
-            ServeFault::Join => ScriptKind::Join,
-        }
     }
 }

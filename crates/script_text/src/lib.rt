@@ -16,4 +16,4 @@ pub use command::{Line, read_line, read_workers, says_nothing};
 pub use fault::{LineFault, ScriptFault, ScriptKind};
 pub use field::MOST_WORKERS;
 pub use parse::{DEFAULT_WORKERS, MOST_SCRIPT, read_script};
-pub use rounds::{LoadSource, Question, Round, Script, ScriptLoad};
+pub use rounds::{Command, LoadSource, Question, Round, Script, ScriptLoad};

@@ -10,7 +10,7 @@ ghost use Rattle.script_text.specs.Scanning.{IsLineFault, ParseFails};
 use crate::command::{Line, read_line, read_workers, says_nothing};
 use crate::fault::{LineFault, ScriptFault, ScriptKind};
 use crate::line::{split_line, take_lines};
-use crate::rounds::{LoadSource, Rounds, Script, ScriptLoad};
+use crate::rounds::{Rounds, Script};
 use catalogue::MAX_TEXT;
 use simdutf8::compat::from_utf8;
 use std::alloc::Global;
@@ -39,57 +39,22 @@ fn fault_at(fault: LineFault, line: u32) -> ScriptFault
 fn take_in<'a>(
     alloc: Global,
     rounds: &mut Rounds<'a>,
-    line: Line<'a>,
+    line: Line,
     behind: &'a str,
     number: u32,
 ) -> Result<(&'a str, u32), LineFault>
     requires { number + length behind.now + 1 < 2 ^ 32 }
     ensures ok { IfOk result (λ next.
-        TakesIn rounds.old rounds.new (line_value line.entry) behind.now number next.0.now next.1) }
+        TakesIn rounds.old rounds.new (line_value line) behind.now number next.0.now next.1) }
     ensures bad { IfErr result (λ fault.
-        fault ≡ LineFault.Bad → saying (Some (line_value line.entry)) (lines behind.now) ≡ IsBad) }
+        fault ≡ LineFault.Bad → saying (Some (line_value line)) (lines behind.now) ≡ IsBad) }
 {
-    match line {
-        Line::Blank => Ok((behind, number + 1)),
-        Line::Goes => {
-            rounds.go(alloc)?;
-            Ok((behind, number + 1))
-        }
-        Line::Asks { worker, query } => {
-            rounds.ask(worker, query)?;
-            Ok((behind, number + 1))
-        }
-        Line::Loads {
-            domain,
-            locale,
-            options,
-            count,
-        } => {
-            let Some((text, rest)) = take_lines(behind, count) else {
-                return Err(LineFault::Bad);
-            };
-            let source = LoadSource::Po { text, options };
-            rounds.load(ScriptLoad {
-                domain,
-                locale,
-                source,
-            })?;
-            Ok((rest, number + 1 + count as u32))
-        }
-        Line::LoadsMo {
-            domain,
-            locale,
-            bytes,
-        } => {
-            let source = LoadSource::Mo { bytes };
-            rounds.load(ScriptLoad {
-                domain,
-                locale,
-                source,
-            })?;
-            Ok((behind, number + 1))
-        }
-    }
+    let count = line.text_lines();
+    let Some((text, rest)) = take_lines(behind, count) else {
+        return Err(LineFault::Bad);
+    };
+    rounds.add(alloc, line.into_command(text))?;
+    Ok((rest, number + 1 + count as u32))
 }
 
 /// The front of a script: its number of workers. `rest` is the text of its commands, which begin on line `number`.

@@ -1,6 +1,7 @@
 //! The rounds of a script.
-ghost use Rattle.std.specs.Prelude.{◌≡◌, [], ◌∷◌, ◌++◌, false, true, OnOk, IfOk};
+ghost use Rattle.std.specs.Prelude.{◌≡◌, [], ◌∷◌, ◌++◌, false, true, OnOk, IfOk, fold};
 ghost use Rattle.script_text.specs.Script.{Load, Ask, Go};
+ghost use Rattle.script_text.specs.CommandValues.{listed, some_command};
 ghost use Rattle.script_text.specs.Gathering.{empty_round, nothing, gathered, all_rounds};
 
 use catalogue::Options;
@@ -21,18 +22,24 @@ pub enum LoadSource<'a> {
 /// A load of a source for a domain and a locale.
 #[derive(Drop)]
 pub struct ScriptLoad<'a> {
-    pub domain: &'a str,
-    pub locale: &'a str,
+    pub domain: String,
+    pub locale: String,
     pub source: LoadSource<'a>,
 }
 
 impl<'a> Model for ScriptLoad<'a> {
-    ghost use Rattle.desks.specs.Jobs.{JobValue};
+    ghost use Rattle.std.specs.Prelude.{string_bytes};
+    ghost use Rattle.script_text.specs.ScriptLoads.{JobValue};
     ghost use Rattle.script_text.specs.LineValues.{source_value};
 
     ghost Value = { JobValue };
 
-    ghost view = { λ l. record { domain = l.domain.now; locale = l.locale.now; source = source_value l.source } };
+    ghost view = { λ l.
+        record {
+          domain = string_bytes l.domain;
+          locale = string_bytes l.locale;
+          source = source_value l.source;
+        } };
 }
 
 /// A question to a worker, which has this number.
@@ -48,6 +55,17 @@ impl Model for Question {
     ghost Value = { QuestionValue };
 
     ghost view = { λ q. record { worker = q.worker; query = q.query } };
+}
+
+/// What a line says with the text of its load.
+#[derive(Drop)]
+pub enum Command<'a> {
+    /// One more load.
+    Load(ScriptLoad<'a>),
+    /// One more question.
+    Ask(Question),
+    /// The end of a round.
+    Go,
 }
 
 /// A round: its loads, and its questions.
@@ -121,7 +139,7 @@ impl<'a> Rounds<'a> {
     }
 
     /// Appends a load to the open round.
-    pub(crate) fn load(&mut self, load: ScriptLoad<'a>) -> Result<(), AllocError>
+    fn load(&mut self, load: ScriptLoad<'a>) -> Result<(), AllocError>
         ensures { OnOk result (self.new ≡ gathered self.old (Load load.entry)) }
     {
         self.begun = true;
@@ -130,22 +148,38 @@ impl<'a> Rounds<'a> {
     }
 
     /// Appends a question to the open round.
-    pub(crate) fn ask(&mut self, worker: u32, query: Query) -> Result<(), AllocError>
-        ensures { OnOk result (self.new ≡ gathered self.old (Ask worker query)) }
+    fn ask(&mut self, question: Question) -> Result<(), AllocError>
+        ensures { OnOk result (self.new ≡ gathered self.old (Ask question.worker question.query)) }
     {
         self.begun = true;
-        self.current.questions.push(Question { worker, query })?;
+        self.current.questions.push(question)?;
         Ok(())
     }
 
     /// Ends the open round, and opens the next one.
-    pub(crate) fn go(&mut self, alloc: Global) -> Result<(), AllocError>
+    fn go(&mut self, alloc: Global) -> Result<(), AllocError>
         ensures { OnOk result (self.new ≡ gathered self.old Go) }
     {
         let round = mem::replace(&mut self.current, Round::new(alloc));
         self.ended.push(round)?;
         self.begun = false;
         Ok(())
+    }
+
+    /// Takes in what a line says.
+    pub(crate) fn add(
+        &mut self,
+        alloc: Global,
+        command: Option<Command<'a>>,
+    ) -> Result<(), AllocError>
+        ensures { OnOk result (self.new ≡ fold gathered self.old (listed (some_command command.entry))) }
+    {
+        match command {
+            None => Ok(()),
+            Some(Command::Load(load)) => self.load(load),
+            Some(Command::Ask(question)) => self.ask(question),
+            Some(Command::Go) => self.go(alloc),
+        }
     }
 
     /// All rounds, with the open one if it has a load or a question.

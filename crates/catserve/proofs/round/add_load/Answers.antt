@@ -1,30 +1,33 @@
-use Rattle.std.proofs.Common.{List, ℕ, sym, refl, ap, subst, rules}
-use Rattle.live_versions.specs.Store.{IsRefusedMo}
-use Rattle.desks.specs.Jobs.{JobValue, SourceValue, IsAccepted, IsRefused}
-use Rattle.desks.specs.declared.job.Accepted.TheVariants as accepted
+use Rattle.std.proofs.Common.{◌≡◌, ◌∙◌, sym, ap, rules}
+use Rattle.desks.specs.Jobs as jobs
+use Rattle.desks.proofs.Jobs.{accepted_po, refused_mo}
+use Rattle.script_text.specs.ScriptLoads.{JobValue}
 use Rattle.script_text.specs.LineValues.{source_value}
+use Rattle.catserve.specs.Rounds.{job_source}
+use Rattle.catserve.specs.Running.{job_of}
 use Rattle.catserve.proofs.round.add_load.Goals as goal
 
 pub returns-in_ok-stats-in-Po-clause-ok : goal.returns-in_ok-stats-in-Po-clause-ok
 returns-in_ok-stats-in-Po-clause-ok c =
-    let is = c.in_ok-stats-in-Po.ensures.ok in
-    let P : JobValue → Type 0 = λ l. IsAccepted c.args.publisher.now l (accepted.Po c.in_ok-stats-in-Po.stats)
-    c.load-in-Po.new.self in
-    let Q : SourceValue → Type 0 = λ source. P (record
-    { domain = c.load.inside.domain.now; locale = c.load.inside.locale.now; source = source }) in
-    subst P c.load.view_is (subst Q (sym (ap source_value c.in-Po.is))
-    (is.compiled.catalogue, (is.compiled, is.means, is.stats_are, refl), is.adds))
+    let job = job_of c.args.load.now in
+    let domain : job.domain ≡ c.as_str-domain.result.now = sym (ap (λ (l : JobValue). l.domain) c.load.view_is)
+    ∙ sym c.as_str-domain.ensures.value in
+    let locale : job.locale ≡ c.as_str-locale.result.now = sym (ap (λ (l : JobValue). l.locale) c.load.view_is)
+    ∙ sym c.as_str-locale.ensures.value in
+    let source : job.source ≡ jobs.Po c.in-Po.text.now c.in-Po.options =
+    sym (ap (λ (l : JobValue). job_source l.source) c.load.view_is) ∙ ap job_source (ap source_value c.in-Po.is) in
+    accepted_po _ _ job _ _ _ _ _ domain locale source c.in_ok-stats-in-Po.ensures.ok
 
 pub returns-in_err-entries-in-Mo-clause-err : goal.returns-in_err-entries-in-Mo-clause-err
 returns-in_err-entries-in-Mo-clause-err c =
-    let s = c.args.publisher.now in
-    let fault = c.in_err-entries-in-Mo.field-0.0 in
-    let domain = c.load.inside.domain.now in
-    let locale = c.load.inside.locale.now in
-    let OfBytes : List ℕ → Type 0 = λ bytes. IsRefusedMo s domain locale bytes fault in
-    let of_bytes = subst OfBytes c.as_slice.ensures.value c.in_err-entries-in-Mo.ensures.err in
-    let P : JobValue → Type 0 = λ l. IsRefused s l fault in
-    let Q : SourceValue → Type 0 = λ source. P (record { domain = domain; locale = locale; source = source }) in
-    let why : IsRefused s c.args.load.now fault = subst P c.load.view_is
-    (subst Q (sym (ap source_value c.in-Mo.is)) of_bytes) in
-    search rules
+    let job = job_of c.args.load.now in
+    let bytes = c.as_slice.result.now in
+    let domain : job.domain ≡ c.as_str-domain.result.now = sym (ap (λ (l : JobValue). l.domain) c.load.view_is)
+    ∙ sym c.as_str-domain.ensures.value in
+    let locale : job.locale ≡ c.as_str-locale.result.now = sym (ap (λ (l : JobValue). l.locale) c.load.view_is)
+    ∙ sym c.as_str-locale.ensures.value in
+    let source : job.source ≡ jobs.Mo bytes = sym (ap (λ (l : JobValue). job_source l.source) c.load.view_is)
+    ∙ (ap job_source (ap source_value c.in-Mo.is) ∙ ap jobs.Mo (sym c.as_slice.ensures.value)) in
+    let refused : jobs.IsRefused c.args.publisher.now job c.in_err-entries-in-Mo.field-0.0 =
+    refused_mo c.args.publisher.now job _ _ bytes _ domain locale source c.in_err-entries-in-Mo.ensures.err in
+    search (rules, refused)

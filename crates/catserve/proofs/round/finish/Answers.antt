@@ -21,17 +21,17 @@ returns-clause-ok g c round was before none loaded asked =
     let now = c.serve.new.publisher in
     let desks = c.args.desks.now.items in
     let served = c.serve.new.desks.items in
-    let same : now ≡ published = done_none published now c.new.result.items c.in_ok-serve.field-0.outcomes.items
-    c.new.ensures.items c.in-Ok.ensures.empty c.in_ok-serve.ensures.done in
+    let same : now ≡ published = done_none published now c.new.result.items c.in-Ok-serve.served.outcomes.items
+    c.new.ensures.items c.in-Ok.ensures.empty c.in-Ok-serve.ensures.done in
     let batches : now.seen.batches ≡ published.seen.batches = ap (λ (s : StoreValue). s.seen.batches) same in
     plays_one (length desks) round was c.args.publisher.now now c.in-Ok.version before
     c.args.output.now.items c.write_version.new.output.items c.write_all.new.output.items (desk_lines 0 served) none
     loaded.loaded loaded.seen (batches ∙ ap (λ (f : SeenValue). f.batches) c.in-Ok.ensures.ok)
     (ap (λ (s : StoreValue). s.pending) same ∙ c.in-Ok.ensures.empty)
-    (c.in_ok-serve.ensures.most ∙ c.in-Ok.ensures.most ∙ loaded.most)
+    (c.in-Ok-serve.ensures.most ∙ c.in-Ok.ensures.most ∙ loaded.most)
     (c.in-Ok.ensures.version ∙ ap version_of (sym batches)) c.in_ok-write_version.ensures
     (answers_in_turn published.seen now.seen round.questions 0 desks served batches asked
-    c.in_ok-serve.ensures.desks)
+    c.in-Ok-serve.ensures.desks)
     (c.in_ok-write_all.ensures.written ∙ ap (λ ds. c.write_version.new.output.items ++ desk_lines 0 ds)
     c.as_mut_slice.ensures.value)
 
@@ -45,4 +45,4 @@ returns-clause-ready g c =
     let Ready : List Desk → Type 0 = λ ds. AreReady end ds in
     subst Ready (sym (whole_of freed served c.serve.new.desks.len
     (omega (arith, c.write_all.auto.desks, c.as_mut_slice.ensures.len))))
-    (ready_again c.publish.new.self.seen end c.args.desks.now.items served freed c.in_ok-serve.ensures.desks gone)
+    (ready_again c.publish.new.self.seen end c.args.desks.now.items served freed c.in-Ok-serve.ensures.desks gone)

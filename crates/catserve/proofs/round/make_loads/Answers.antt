@@ -1,6 +1,6 @@
 use Rattle.std.proofs.Common.{◌≡◌, ◌∙◌, ◌+◌, ◌∷◌, [], ◌++◌, List, length, sym, ap, subst, take, length-take, arith}
 use Rattle.std.proofs.lemmas.List.{take_more}
-use Rattle.desks.specs.Jobs.{JobValue}
+use Rattle.script_text.specs.ScriptLoads.{JobValue}
 use Rattle.catserve.specs.Running.{LoadsAll}
 use Rattle.catserve.proofs.Playing.{loads_more, has_room}
 use Rattle.catserve.proofs.round.make_loads.Goals as goal

@@ -1,5 +1,5 @@
 use Rattle.std.proofs.Common.{◌≡◌, ◌∙◌, ℕ, List, [], sym, ap, subst, length, arith}
-use Rattle.desks.specs.Jobs.{JobValue}
+use Rattle.script_text.specs.ScriptLoads.{JobValue}
 use Rattle.desks.specs.declared.desk.Desk.{Desk}
 use Rattle.script_text.specs.Script.{RoundValue, QuestionValue}
 use Rattle.catserve.specs.Asking.{readers_of, AreAsked}

@@ -1,7 +1,8 @@
 use Rattle.std.proofs.Common.{◌≡◌, subst, sym, refl, rules, ℕ, List, Result, Err}
 use Rattle.std.specs.Io.KnownBytes.{Appends}
 use Rattle.catserve.specs.Rounds.{HasOutput}
-use Rattle.catserve.specs.Run.{InputSeen, OutputSeen, Runs, input_seen, output_seen}
+use Rattle.devices.specs.Devices.{InputSeen, OutputSeen}
+use Rattle.catserve.specs.Run.{Runs, input_seen, output_seen}
 use Rattle.catserve.specs.Running.{EndsPlaying}
 use Rattle.catserve.proofs.Stopping.{run_fails}
 use Rattle.script_text.specs.declared.fault.ScriptFault.{ScriptFault}

@@ -1,9 +1,10 @@
-use Rattle.std.proofs.Common.{◌≡◌, ◌∙◌, inr, sym, ap, subst, arith}
+use Rattle.std.proofs.Common.{◌≡◌, ◌∙◌, inr, sym, subst, arith}
 use Rattle.std.proofs.lemmas.Result.{err_from_is_err_and}
 use Rattle.devices.specs.Logs.{Log}
-use Rattle.catserve.specs.Run.{InputSeen, OutputSeen, input_seen, output_seen}
-use Rattle.catserve.proofs.OneDevice.{as_input, as_output}
+use Rattle.devices.specs.Devices.{InputSeen, OutputSeen}
+use Rattle.catserve.specs.Run.{input_seen, output_seen}
 use Rattle.catserve.specs.Session.{AnswersAll, Converses}
+use Rattle.catserve.specs.Hearing.{command_of}
 use Rattle.catserve.specs.Talking.{AnswersRound, FailsToAnswer}
 use Rattle.catserve.specs.Timing.{RespondsInTime, TalksInTime}
 use Rattle.catserve.proofs.SessionEnds.{all_answered, fails_so, last_answered, none_ends, taken_stays}
@@ -28,20 +29,21 @@ lines-preserved g c =
     let k : InputSeen = input_seen g.D.Source.remaining g.D.Source.reads g.D.Source.failures c.hear.new.reader in
     let q : OutputSeen = output_seen g.D.Sink.contents g.D.Sink.failures c.respond.new.writer in
     let p' : OutputSeen = output_seen g.D.Sink.contents g.D.Sink.failures c.hear.new.reader in
-    let out : p' ≡ p = ap as_output (sym (g.met.D.Sink.shows c.hear.new.reader) ∙ c.in_ok-thing.ensures.keeps
-    ∙ g.met.D.Sink.shows c.lines.device) in
+    let out : p' ≡ p = sym (g.met.D.Sink.shows c.hear.new.reader) ∙ c.in_ok-thing.ensures.keeps
+    ∙ g.met.D.Sink.shows c.lines.device in
     let k' : InputSeen = input_seen g.D.Source.remaining g.D.Source.reads g.D.Source.failures c.respond.new.writer in
-    let inn : k' ≡ k = ap as_input (sym (g.met.D.Source.sees c.respond.new.writer) ∙ c.in_ok-respond.ensures.keeps
-    ∙ g.met.D.Source.sees c.hear.new.reader) in
+    let inn : k' ≡ k = sym (g.met.D.Source.sees c.respond.new.writer) ∙ c.in_ok-respond.ensures.keeps
+    ∙ g.met.D.Source.sees c.hear.new.reader in
     let a : Log = g.D.Device.log c.args.device.now in
     let b : Log = g.D.Device.log c.lines.device in
     let m : Log = g.D.Device.log c.hear.new.reader in
     let d : Log = g.D.Device.log c.respond.new.writer in
-    let R : OutputSeen → Type 0 = λ v. RespondsInTime c.in-Some.thing c.lines.talk c.respond.new.self v q m d in
+    let R : OutputSeen → Type 0 = λ v.
+    RespondsInTime (command_of c.in-Some.thing) c.lines.talk c.respond.new.self v q m d in
     let C : InputSeen → Type 0 = λ v.
     TalksInTime c.args.workers i v o q x c.hear.new.self start c.respond.new.self a d in
     subst C (sym inn) (talks_more c.args.workers i j k o p q x c.lines.hearing c.hear.new.self start c.lines.talk
-    c.respond.new.self a b m d c.in-Some.thing c.requires.fresh c.lines.invariant
+    c.respond.new.self a b m d (command_of c.in-Some.thing) c.requires.fresh c.lines.invariant
     (rw c.in-Some.is at c.in_ok-thing.ensures.heard) (subst R out c.in_ok-respond.ensures.ok))
 
 pub lines-smaller : goal.lines-smaller
@@ -72,8 +74,8 @@ returns-in_err-thing-clause-all g c given first b =
     let k : InputSeen = input_seen g.D.Source.remaining g.D.Source.reads g.D.Source.failures c.hear.new.reader in
     let e = err_from_is_err_and c.from_residual.result c.from_residual.ensures.1 in
     let p' : OutputSeen = output_seen g.D.Sink.contents g.D.Sink.failures c.hear.new.reader in
-    let out : p' ≡ p = ap as_output (sym (g.met.D.Sink.shows c.hear.new.reader) ∙ c.in_err-thing.ensures.keeps
-    ∙ g.met.D.Sink.shows c.lines.device) in
+    let out : p' ≡ p = sym (g.met.D.Sink.shows c.hear.new.reader) ∙ c.in_err-thing.ensures.keeps
+    ∙ g.met.D.Sink.shows c.lines.device in
     let Q : OutputSeen → Type 0 = λ v. Converses given first k o v c.from_residual.result in
     subst Q (sym out) (rw (e.1, e.2) (none_ends given first i j k o p x c.lines.hearing c.hear.new.self
     c.args.workers start c.lines.talk
@@ -94,11 +96,11 @@ returns-in_err-respond-clause-all g c given first b =
     let h = (rw c.in-Some.is at c.in_ok-thing.ensures.heard).0 in
     let e = err_from_is_err_and c.from_residual-in_err-respond.result c.from_residual-in_err-respond.ensures.1 in
     let p' : OutputSeen = output_seen g.D.Sink.contents g.D.Sink.failures c.hear.new.reader in
-    let out : p' ≡ p = ap as_output (sym (g.met.D.Sink.shows c.hear.new.reader) ∙ c.in_ok-thing.ensures.keeps
-    ∙ g.met.D.Sink.shows c.lines.device) in
+    let out : p' ≡ p = sym (g.met.D.Sink.shows c.hear.new.reader) ∙ c.in_ok-thing.ensures.keeps
+    ∙ g.met.D.Sink.shows c.lines.device in
     let k' : InputSeen = input_seen g.D.Source.remaining g.D.Source.reads g.D.Source.failures c.respond.new.writer in
-    let inn : k' ≡ k = ap as_input (sym (g.met.D.Source.sees c.respond.new.writer) ∙ c.in_err-respond.ensures.keeps
-    ∙ g.met.D.Source.sees c.hear.new.reader) in
+    let inn : k' ≡ k = sym (g.met.D.Source.sees c.respond.new.writer) ∙ c.in_err-respond.ensures.keeps
+    ∙ g.met.D.Source.sees c.hear.new.reader in
     let Q : InputSeen → Type 0 = λ v. Converses given first v o q c.from_residual-in_err-respond.result in
     let F : OutputSeen → Type 0 = λ v. FailsToAnswer c.lines.talk v q c.in_err-respond.field-0.0 in
     subst Q (sym inn) (rw (e.1, e.2) (fails_so given first i j k o p q x c.lines.hearing _ c.args.workers start
@@ -119,11 +121,11 @@ returns-in_err-answer-clause-all g c given first b =
     let h = (rw c.in_default.is at c.in_ok-thing.ensures.heard).0 in
     let e = err_from_is_err_and c.from_residual-in_err-answer.result c.from_residual-in_err-answer.ensures.1 in
     let p' : OutputSeen = output_seen g.D.Sink.contents g.D.Sink.failures c.hear.new.reader in
-    let out : p' ≡ p = ap as_output (sym (g.met.D.Sink.shows c.hear.new.reader) ∙ c.in_ok-thing.ensures.keeps
-    ∙ g.met.D.Sink.shows c.lines.device) in
+    let out : p' ≡ p = sym (g.met.D.Sink.shows c.hear.new.reader) ∙ c.in_ok-thing.ensures.keeps
+    ∙ g.met.D.Sink.shows c.lines.device in
     let k' : InputSeen = input_seen g.D.Source.remaining g.D.Source.reads g.D.Source.failures c.answer.new.writer in
-    let inn : k' ≡ k = ap as_input (sym (g.met.D.Source.sees c.answer.new.writer) ∙ c.in_err-answer.ensures.keeps
-    ∙ g.met.D.Source.sees c.hear.new.reader) in
+    let inn : k' ≡ k = sym (g.met.D.Source.sees c.answer.new.writer) ∙ c.in_err-answer.ensures.keeps
+    ∙ g.met.D.Source.sees c.hear.new.reader in
     let Q : InputSeen → Type 0 = λ v. Converses given first v o q c.from_residual-in_err-answer.result in
     let F : OutputSeen → Type 0 = λ v. FailsToAnswer c.lines.talk v q c.in_err-answer.field-0.0 in
     subst Q (sym inn) (rw (e.1, e.2) (fails_so given first i j k o p q x c.lines.hearing c.hear.new.self
@@ -142,11 +144,11 @@ returns-in_ok-answer-clause-all g c given first b =
     let k : InputSeen = input_seen g.D.Source.remaining g.D.Source.reads g.D.Source.failures c.hear.new.reader in
     let q : OutputSeen = output_seen g.D.Sink.contents g.D.Sink.failures c.answer.new.writer in
     let p' : OutputSeen = output_seen g.D.Sink.contents g.D.Sink.failures c.hear.new.reader in
-    let out : p' ≡ p = ap as_output (sym (g.met.D.Sink.shows c.hear.new.reader) ∙ c.in_ok-thing.ensures.keeps
-    ∙ g.met.D.Sink.shows c.lines.device) in
+    let out : p' ≡ p = sym (g.met.D.Sink.shows c.hear.new.reader) ∙ c.in_ok-thing.ensures.keeps
+    ∙ g.met.D.Sink.shows c.lines.device in
     let k' : InputSeen = input_seen g.D.Source.remaining g.D.Source.reads g.D.Source.failures c.answer.new.writer in
-    let inn : k' ≡ k = ap as_input (sym (g.met.D.Source.sees c.answer.new.writer) ∙ c.in_ok-answer.ensures.keeps
-    ∙ g.met.D.Source.sees c.hear.new.reader) in
+    let inn : k' ≡ k = sym (g.met.D.Source.sees c.answer.new.writer) ∙ c.in_ok-answer.ensures.keeps
+    ∙ g.met.D.Source.sees c.hear.new.reader in
     let A : OutputSeen → Type 0 = λ v. AnswersRound c.lines.talk c.answer.new.self v q in
     let Q : InputSeen → Type 0 = λ v. AnswersAll given first v o q in
     subst Q (sym inn) (last_answered given first i j k o p q x c.lines.hearing c.hear.new.self c.args.workers start
@@ -164,8 +166,8 @@ returns-else-has_begun-clause-all g c given first b =
     let x = c.args.hearing.now in
     let k : InputSeen = input_seen g.D.Source.remaining g.D.Source.reads g.D.Source.failures c.hear.new.reader in
     let p' : OutputSeen = output_seen g.D.Sink.contents g.D.Sink.failures c.hear.new.reader in
-    let out : p' ≡ p = ap as_output (sym (g.met.D.Sink.shows c.hear.new.reader) ∙ c.in_ok-thing.ensures.keeps
-    ∙ g.met.D.Sink.shows c.lines.device) in
+    let out : p' ≡ p = sym (g.met.D.Sink.shows c.hear.new.reader) ∙ c.in_ok-thing.ensures.keeps
+    ∙ g.met.D.Sink.shows c.lines.device in
     let Q : OutputSeen → Type 0 = λ v. AnswersAll given first k o v in
     subst Q (sym out) (all_answered given first i j k o p x c.lines.hearing c.hear.new.self c.args.workers start
     c.lines.talk

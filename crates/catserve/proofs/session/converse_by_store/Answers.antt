@@ -1,5 +1,6 @@
 use Rattle.std.proofs.Common.{◌∙◌, [], refl, sym, subst, arith}
-use Rattle.catserve.specs.Run.{InputSeen, OutputSeen, input_seen, output_seen}
+use Rattle.devices.specs.Devices.{InputSeen, OutputSeen}
+use Rattle.catserve.specs.Run.{input_seen, output_seen}
 use Rattle.catserve.specs.declared.session_fault.SessionFault.{SessionFault}
 use Rattle.catserve.specs.Session.{EndsFor}
 use Rattle.catserve.specs.Talking.{IsFresh}

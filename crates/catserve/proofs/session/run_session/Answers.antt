@@ -1,11 +1,11 @@
-use Rattle.std.proofs.Common.{◌≡◌, ◌∙◌, [], ℕ, Option, Some, None, refl, sym, ap, subst}
+use Rattle.std.proofs.Common.{◌≡◌, ◌∙◌, [], ℕ, Option, Some, None, refl, sym, subst}
 use Rattle.std.proofs.lemmas.Result.{err_from_is_err_and}
 use Rattle.devices.specs.Logs.{Log}
-use Rattle.catserve.specs.Run.{InputSeen, OutputSeen, input_seen, output_seen}
+use Rattle.devices.specs.Devices.{InputSeen, OutputSeen}
+use Rattle.catserve.specs.Run.{input_seen, output_seen}
 use Rattle.catserve.specs.Session.{AnswersInTime, Converses}
 use Rattle.catserve.specs.Timing.{BeginsInTime}
 use Rattle.catserve.specs.Hearing.{HearingValue, Begins}
-use Rattle.catserve.proofs.OneDevice.{as_output}
 use Rattle.catserve.proofs.SessionEnds.{begins_so, ends_at_once, front_ends}
 use Rattle.catserve.proofs.SessionInTime.{begins_timely, ends_at}
 use Rattle.catserve.proofs.session.run_session.Goals as goal
@@ -35,8 +35,8 @@ returns-in_err-count-in-None-clause-all g c =
     let k : InputSeen = input_seen g.D.Source.remaining g.D.Source.reads g.D.Source.failures c.hear_front.new.reader in
     let o : OutputSeen = output_seen g.D.Sink.contents g.D.Sink.failures c.args.device.now in
     let p : OutputSeen = output_seen g.D.Sink.contents g.D.Sink.failures c.hear_front.new.reader in
-    let out : p ≡ o = ap as_output (sym (g.met.D.Sink.shows c.hear_front.new.reader)
-    ∙ c.in_err-count-in-None.ensures.keeps ∙ g.met.D.Sink.shows c.args.device.now) in
+    let out : p ≡ o = sym (g.met.D.Sink.shows c.hear_front.new.reader)
+    ∙ c.in_err-count-in-None.ensures.keeps ∙ g.met.D.Sink.shows c.args.device.now in
     let P : Option ℕ → Type 0 = λ given. Converses given i k o p c.from_residual-in_err-count-in-None.result in
     let Q : OutputSeen → Type 0 = λ v. Converses None i k o v c.from_residual-in_err-count-in-None.result in
     let e = err_from_is_err_and c.from_residual-in_err-count-in-None.result
@@ -52,8 +52,8 @@ returns-clause-all g c =
     let o : OutputSeen = output_seen g.D.Sink.contents g.D.Sink.failures c.args.device.now in
     let p : OutputSeen = output_seen g.D.Sink.contents g.D.Sink.failures c.hear_front.new.reader in
     let q : OutputSeen = output_seen g.D.Sink.contents g.D.Sink.failures c.converse_by_store-in-None.new.device in
-    let out : p ≡ o = ap as_output (sym (g.met.D.Sink.shows c.hear_front.new.reader)
-    ∙ c.in_ok-count-in-None.ensures.keeps ∙ g.met.D.Sink.shows c.args.device.now) in
+    let out : p ≡ o = sym (g.met.D.Sink.shows c.hear_front.new.reader)
+    ∙ c.in_ok-count-in-None.ensures.keeps ∙ g.met.D.Sink.shows c.args.device.now in
     let P : Option ℕ → Type 0 = λ given. Converses given i k o q c.converse_by_store-in-None.result in
     let Q : OutputSeen → Type 0 = λ v. Converses None i k v q c.converse_by_store-in-None.result in
     subst P (sym c.in-None.is) (subst Q out

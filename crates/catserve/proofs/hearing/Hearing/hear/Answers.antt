@@ -2,10 +2,12 @@ use Rattle.std.proofs.Common.{◌≡◌, ◌∙◌, ℕ, List, [], Some, None, I
 use Rattle.std.specs.Str.{IsUtf8}
 use Rattle.devices.specs.Logs.{Log}
 use Rattle.line_input.specs.Lines.{without_end}
-use Rattle.catserve.specs.Run.{InputSeen, input_seen}
+use Rattle.devices.specs.Devices.{InputSeen}
+use Rattle.catserve.specs.Run.{input_seen}
 use Rattle.script_text.specs.Commands.{line_of}
+use Rattle.script_text.specs.LineValues.{line_value}
 use Rattle.catserve.specs.declared.said.SaidFault.TheVariants as said_fault
-use Rattle.catserve.specs.Hearing.{HearingValue, said_value}
+use Rattle.catserve.specs.Hearing.{HearingValue}
 use Rattle.catserve.proofs.LinesTaken.{no_line}
 use Rattle.catserve.proofs.SessionHears.{Unsaid, hears_none, none_then}
 use Rattle.catserve.proofs.SessionInTime.{end_heard, in_time_then}
@@ -40,7 +42,7 @@ returns-in-Ok-read_said-clause-heard g c =
     let k : InputSeen = input_seen g.R.Source.remaining g.R.Source.reads g.R.Source.failures c.hear_said.new.reader in
     let left = c.left.ensures ∙ ap (λ (x : HearingValue). x.input.left) c.self.view_is in
     let Says : List ℕ → Type 0 = λ left. line_of c.args.workers (without_end (take c.in-Some.end left))
-    ≡ Some (said_value c.in-Ok-read_said.said) in
+    ≡ Some (line_value c.in-Ok-read_said.said) in
     in_time_then i j k (g.R.Device.log c.args.reader.now) (g.R.Device.log c.next_end.new.reader)
     (g.R.Device.log c.hear_said.new.reader) c.args.workers c.args.self.now c.next_end.new.self c.hear_said.new.self
     c.hear_said.result c.in-Ok.ensures.found.stays c.in-Ok.ensures.waits

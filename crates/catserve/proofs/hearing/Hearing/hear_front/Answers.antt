@@ -2,9 +2,10 @@ use Rattle.std.proofs.Common.{◌∙◌, ◌++◌, ◌∷◌, [], ℕ, List, Non
 use Rattle.std.proofs.lemmas.List.{nil_from_length}
 use Rattle.std.proofs.lemmas.Result.{err_from_is_err_and}
 use Rattle.devices.specs.Logs.{Log}
-use Rattle.catserve.specs.Run.{InputSeen, input_seen}
+use Rattle.devices.specs.Devices.{InputSeen}
+use Rattle.catserve.specs.Run.{input_seen}
 use Rattle.catserve.specs.declared.session_fault.SessionFault.{SessionFault}
-use Rattle.catserve.specs.Hearing.{HearingValue, FailsInFront, IsFront, unheard}
+use Rattle.catserve.specs.Hearing.{HearingValue, FailsInFront, IsFrontLine, unheard}
 use Rattle.catserve.specs.Timing.{BeginsInTime}
 use Rattle.catserve.proofs.SessionInTime.{PassesInTime, ends_at, passed_last, passed_timely, passes_none}
 use Rattle.catserve.proofs.SessionFront.{begins_ended, begins_given, begins_other, front_fails, front_undecodable}
@@ -28,8 +29,8 @@ returns-in-NotUtf8-clause-fault g c =
     let passed = c.front.invariant.1.0 in
     let found = rw c.in-Some.is at c.in_ok-end.ensures.found.line in
     let left = c.left.ensures ∙ ap (λ (x : HearingValue). x.input.left) c.self.view_is in
-    let Is : List ℕ → Type 0 = λ left. IsFront (take c.in-Some.end left) c.read_front_line.result in
-    let is = subst (λ line. IsFront (take c.in-Some.end c.next_end.new.self.input.left) line) c.in-NotUtf8.is
+    let Is : List ℕ → Type 0 = λ left. IsFrontLine (take c.in-Some.end left) c.read_front_line.result in
+    let is = subst (λ line. IsFrontLine (take c.in-Some.end c.next_end.new.self.input.left) line) c.in-NotUtf8.is
     (subst Is left c.read_front_line.ensures) in
     let P : SessionFault → Type 0 = λ f. FailsInFront i k f.kind f.line in
     subst P (sym c.fault_here.ensures) (front_undecodable i j k c.front.self c.next_end.new.self c.front.invariant.0
@@ -43,8 +44,8 @@ front-preserved g c =
     let passed = c.front.invariant.1.0 in
     let found = rw c.in-Some.is at c.in_ok-end.ensures.found.line in
     let left = c.left.ensures ∙ ap (λ (x : HearingValue). x.input.left) c.self.view_is in
-    let Is : List ℕ → Type 0 = λ left. IsFront (take c.in-Some.end left) c.read_front_line.result in
-    let is = subst (λ line. IsFront (take c.in-Some.end c.next_end.new.self.input.left) line) c.in-Blank.is
+    let Is : List ℕ → Type 0 = λ left. IsFrontLine (take c.in-Some.end left) c.read_front_line.result in
+    let is = subst (λ line. IsFrontLine (take c.in-Some.end c.next_end.new.self.input.left) line) c.in-Blank.is
     (subst Is left c.read_front_line.ensures) in
     let front = c.front.invariant.0 in
     let line = take c.in-Some.end c.next_end.new.self.input.left in
@@ -71,8 +72,8 @@ returns-in-Workers-clause-begins g c =
     let passed = c.front.invariant.1.0 in
     let found = rw c.in-Some.is at c.in_ok-end.ensures.found.line in
     let left = c.left.ensures ∙ ap (λ (x : HearingValue). x.input.left) c.self.view_is in
-    let Is : List ℕ → Type 0 = λ left. IsFront (take c.in-Some.end left) c.read_front_line.result in
-    let is = subst (λ line. IsFront (take c.in-Some.end c.next_end.new.self.input.left) line) c.in-Workers.is
+    let Is : List ℕ → Type 0 = λ left. IsFrontLine (take c.in-Some.end left) c.read_front_line.result in
+    let is = subst (λ line. IsFrontLine (take c.in-Some.end c.next_end.new.self.input.left) line) c.in-Workers.is
     (subst Is left c.read_front_line.ensures) in
     let a : Log = g.R.Device.log c.args.reader.now in
     let b : Log = g.R.Device.log c.next_end.new.reader in
@@ -94,8 +95,8 @@ returns-in-Other-clause-begins g c =
     let passed = c.front.invariant.1.0 in
     let found = rw c.in-Some.is at c.in_ok-end.ensures.found.line in
     let left = c.left.ensures ∙ ap (λ (x : HearingValue). x.input.left) c.self.view_is in
-    let Is : List ℕ → Type 0 = λ left. IsFront (take c.in-Some.end left) c.read_front_line.result in
-    let is = subst (λ line. IsFront (take c.in-Some.end c.next_end.new.self.input.left) line) c.in-Other.is
+    let Is : List ℕ → Type 0 = λ left. IsFrontLine (take c.in-Some.end left) c.read_front_line.result in
+    let is = subst (λ line. IsFrontLine (take c.in-Some.end c.next_end.new.self.input.left) line) c.in-Other.is
     (subst Is left c.read_front_line.ensures) in
     let a : Log = g.R.Device.log c.args.reader.now in
     let b : Log = g.R.Device.log c.next_end.new.reader in

@@ -4,7 +4,8 @@ use Rattle.devices.specs.Logs.{Log}
 use Rattle.line_input.specs.Incoming.{EndsLine}
 use Rattle.line_input.specs.Waiting.{ReadsWhile, StillCounts}
 use Rattle.line_input.proofs.Arriving.{both}
-use Rattle.catserve.specs.Run.{InputSeen, input_seen}
+use Rattle.devices.specs.Devices.{InputSeen}
+use Rattle.catserve.specs.Run.{input_seen}
 use Rattle.catserve.specs.declared.session_fault.SessionFault.{SessionFault}
 use Rattle.script_text.specs.Texts.{most_script}
 use Rattle.catserve.specs.Hearing.{HearingValue, HearsNoText, HearsText}

@@ -1,8 +1,8 @@
 use Rattle.std.proofs.Common.{◌∷◌, [], List, ℕ, arith, false, refl, sym, subst}
 use Rattle.std.specs.Io.KnownBytes.{Appends}
-use Rattle.devices.specs.Devices.{AppendsFront}
+use Rattle.devices.specs.Devices.{AppendsFront, OutputSeen}
 use Rattle.devices.specs.Logs.{Gave, Grows, Log}
-use Rattle.catserve.specs.Run.{OutputSeen, output_seen}
+use Rattle.catserve.specs.Run.{output_seen}
 use Rattle.catserve.specs.Talking.{BreaksRound, TalkValue}
 use Rattle.catserve.specs.Timing.{GivesRound}
 use Rattle.catserve.proofs.talk.Talk.answer.Goals as goal

@@ -1,0 +1,41 @@
+-- The command of a line with the text of its load.
+use Rattle.std.specs.Prelude.{ℕ, List, [], ◌∷◌, Option, Some, None}
+use Rattle.script_text.specs.declared.rounds.Command as code
+use Rattle.script_text.specs.declared.rounds.Command.TheVariants as code_command
+use Rattle.script_text.specs.ScriptLoads.{Po, Mo}
+use Rattle.script_text.specs.Commands.{Line, Blank, Loads, LoadsMo, Asks, Goes}
+use Rattle.script_text.specs.Script.{Command, Load, Ask, Go}
+
+-- what such a command is
+abbrev pub command_value : code.Command → Command
+command_value (code_command.Load load) = Load load
+command_value (code_command.Ask question) = Ask question.worker question.query
+command_value code_command.Go = Go
+
+-- what such a command is, if there is one
+abbrev pub some_command : Option code.Command → Option Command
+some_command (Some command) = Some (command_value command)
+some_command None = None
+
+-- how many of the lines that follow this one are the text of its load
+abbrev pub text_lines : Line → ℕ
+text_lines (Loads domain locale options count) = count
+text_lines Blank = 0
+text_lines (LoadsMo domain locale bytes) = 0
+text_lines (Asks worker query) = 0
+text_lines Goes = 0
+
+-- the command of a line, if it has one and this is the text of its load
+abbrev pub command_with : Line → List ℕ → Option Command
+command_with Blank text = None
+command_with (Loads domain locale options count) text =
+    Some (Load (record { domain = domain; locale = locale; source = Po text options }))
+command_with (LoadsMo domain locale bytes) text =
+    Some (Load (record { domain = domain; locale = locale; source = Mo bytes }))
+command_with (Asks worker query) text = Some (Ask worker query)
+command_with Goes text = Some Go
+
+-- as a list
+abbrev pub listed : Option Command → List Command
+listed (Some command) = command ∷ []
+listed None = []
