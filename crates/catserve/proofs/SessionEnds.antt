@@ -21,11 +21,12 @@ use Rattle.script_text.specs.Gathering.{Gathered, both as bound, empty_round, no
 use Rattle.script_text.specs.declared.fault.ScriptKind.{ScriptKind}
 use Rattle.script_text.specs.declared.fault.ScriptKind.TheVariants as kind
 use Rattle.catserve.specs.Rounds.{PlaysAll}
+use Rattle.catserve.specs.Running.{IsPlayKind}
 use Rattle.catserve.specs.Session.{said, round_end, HaveEnded, StopsBehind, AnswersAll, StopsEarly, EndsFor}
 use Rattle.catserve.specs.Session.{most_lines, BreaksOff}
 use Rattle.catserve.specs.Hearing.{HearingValue, HasTaken, Stays, HearsEnd, HearsNone, HearsNoFront, Begins, unheard}
 use Rattle.catserve.specs.Hearing.{silence, HasPassed, FailsInFront, HearsTooMuch, HearsUndecodable}
-use Rattle.catserve.specs.Talking.{TalkValue, AnswersRound, BreaksRound, FailsToAnswer, IsFresh}
+use Rattle.catserve.specs.Talking.{PlayerValue, AnswersRound, BreaksRound, FailsToAnswer, IsFresh}
 use Rattle.catserve.specs.Talking.{Conversing}
 use Rattle.catserve.proofs.Playing.{plays_all}
 use Rattle.catserve.proofs.LinesTaken.{stays_put, taken_none, taken_then}
@@ -211,7 +212,7 @@ ends_at_once given i o =
 
 -- the rounds that have ended after a front
 abbrev pub answered : (given : Option ℕ) (first i j : InputSeen) (o o' : OutputSeen) (x y : HearingValue) (workers : ℕ)
-    (start talk : TalkValue) (b : Begins given first i x workers) (c : Conversing workers i j o o' x y start talk)
+    (start talk : PlayerValue) (b : Begins given first i x workers) (c : Conversing workers i j o o' x y start talk)
     → IsFresh workers start → Answered given first j o o' y (b.front ++ c.lines)
 answered given first i j o o' x y workers start talk b c fresh =
     let open_round = c.is_open given first b in
@@ -236,7 +237,7 @@ answered given first i j o o' x y workers start talk b c fresh =
 
 -- what all lines say, whatever still comes
 said_all : (given : Option ℕ) (first i j : InputSeen) (o o' : OutputSeen) (x y : HearingValue) (workers : ℕ)
-    (start talk : TalkValue) (b : Begins given first i x workers) (c : Conversing workers i j o o' x y start talk)
+    (start talk : PlayerValue) (b : Begins given first i x workers) (c : Conversing workers i j o o' x y start talk)
     (text : List ℕ) → MayCome y.input text → said given (lines ((b.taken.more ++ c.taken.more) ++ text))
     ≡ going_on workers c.g (commands_from workers y.number 0 (lines (y.input.left ++ text)))
 said_all given first i j o o' x y workers start talk b c text may =
@@ -252,7 +253,7 @@ said_all given first i j o o' x y workers start talk b c text may =
 
 -- nothing more was heard
 pub none_ends : (given : Option ℕ) (first i j k : InputSeen) (o o' : OutputSeen) (x y z : HearingValue) (workers : ℕ)
-    (start talk : TalkValue) (kind : ScriptKind) (line : ℕ) → IsFresh workers start
+    (start talk : PlayerValue) (kind : ScriptKind) (line : ℕ) → IsFresh workers start
     → Conversing workers i j o o' x y start talk → HearsNone j k workers y z kind line
     → Begins given first i x workers → EndsFor given first k o o' kind line
 none_ends given first i j k o o' x y z workers start talk kind.TooLarge line fresh c h b =
@@ -324,7 +325,7 @@ open_last round =
 
 -- some first bytes of the open round were written
 breaks_off : (given : Option ℕ) (first i j k : InputSeen) (o o' o'' : OutputSeen) (x y z : HearingValue)
-    (workers : ℕ) (start talk : TalkValue) → IsFresh workers start
+    (workers : ℕ) (start talk : PlayerValue) → IsFresh workers start
     → (c : Conversing workers i j o o' x y start talk) → Stays j k y z [] → BreaksRound talk o' o''
     → Begins given first i x workers → BreaksOff given first k o o''
 breaks_off given first i j k o o' o'' x y z workers start talk fresh c s h b =
@@ -348,7 +349,7 @@ breaks_off given first i j k o o' o'' x y z workers start talk fresh c s h b =
 
 -- a round isn't answered
 pub fails_so : (given : Option ℕ) (first i j k : InputSeen) (o o' o'' : OutputSeen) (x y z : HearingValue)
-    (workers : ℕ) (start talk : TalkValue) (why : ScriptKind) → IsFresh workers start
+    (workers : ℕ) (start talk : PlayerValue) (why : ScriptKind) → IsFresh workers start
     → Conversing workers i j o o' x y start talk → Stays j k y z [] → FailsToAnswer talk o' o'' why
     → Begins given first i x workers → EndsFor given first k o o'' why 0
 fails_so given first i j k o o' o'' x y z workers start talk why fresh c s h b =
@@ -375,7 +376,7 @@ fails_so given first i j k o o' o'' x y z workers start talk why fresh c s h b =
 
 -- the input has ended, and these are the rounds
 all_said : (given : Option ℕ) (first i j k : InputSeen) (o o' o'' : OutputSeen) (x y z : HearingValue) (workers : ℕ)
-    (start talk : TalkValue) (written : List ℕ) → IsFresh workers start
+    (start talk : PlayerValue) (written : List ℕ) → IsFresh workers start
     → (c : Conversing workers i j o o' x y start talk) → HearsEnd j k y z → Begins given first i x workers
     → PlaysAll workers [] (c.g.ended ++ onto_open c.g []) written → Appends o.bytes o''.bytes written
     → AnswersAll given first k o o''
@@ -412,7 +413,7 @@ one_open g begun same busy = rw (sym same ∙ busy) refl
 
 -- nothing stood in the open round
 pub all_answered : (given : Option ℕ) (first i j k : InputSeen) (o o' : OutputSeen) (x y z : HearingValue)
-    (workers : ℕ) (start talk : TalkValue) → IsFresh workers start → Conversing workers i j o o' x y start talk
+    (workers : ℕ) (start talk : PlayerValue) → IsFresh workers start → Conversing workers i j o o' x y start talk
     → HearsEnd j k y z → talk.begun ≡ false → Begins given first i x workers → AnswersAll given first k o o'
 all_answered given first i j k o o' x y z workers start talk fresh c h idle b =
     let a = answered given first i j o o' x y workers start talk b c fresh in
@@ -422,7 +423,7 @@ all_answered given first i j k o o' x y z workers start talk fresh c h idle b =
 
 -- the open round was answered last
 pub last_answered : (given : Option ℕ) (first i j k : InputSeen) (o o' o'' : OutputSeen) (x y z : HearingValue)
-    (workers : ℕ) (start talk after : TalkValue) → IsFresh workers start
+    (workers : ℕ) (start talk after : PlayerValue) → IsFresh workers start
     → Conversing workers i j o o' x y start talk → HearsEnd j k y z → talk.begun ≡ true
     → AnswersRound talk after o' o'' → Begins given first i x workers → AnswersAll given first k o o''
 last_answered given first i j k o o' o'' x y z workers start talk after fresh c h busy answers b =
@@ -465,6 +466,20 @@ pub stops_begun : (given : Option ℕ) (first i : InputSeen) (o : OutputSeen) (x
     → Begins given first i x workers → StopsEarly given first i o o
 stops_begun given first i o x workers b =
     stops_early given first i i o o x x b.front [] (begun given first i o x workers b) (stays_put i x)
+
+-- no player was opened, for this reason
+pub stops_unopened : (given : Option ℕ) (first i : InputSeen) (o : OutputSeen) (x : HearingValue)
+    (workers : ℕ) → Begins given first i x workers → (why : ScriptKind) → IsPlayKind why
+    → EndsFor given first i o o why 0
+stops_unopened given first i o x workers b kind.NoPlace h = (stops_begun given first i o x workers b, refl)
+stops_unopened given first i o x workers b kind.Closed h = (stops_begun given first i o x workers b, refl)
+stops_unopened given first i o x workers b kind.Join h = (stops_begun given first i o x workers b, refl)
+stops_unopened given first i o x workers b kind.Memory h = (stops_begun given first i o x workers b, refl)
+stops_unopened given first i o x workers b kind.TooLarge h = absurd h
+stops_unopened given first i o x workers b kind.NotUtf8 h = absurd h
+stops_unopened given first i o x workers b kind.BadLine h = absurd h
+stops_unopened given first i o x workers b kind.ReadFault h = absurd h
+stops_unopened given first i o x workers b kind.WriteFault h = absurd h
 
 -- the number of workers is given
 abbrev pub begins_so : (i : InputSeen) (workers : ℕ) → Begins (Some workers) i i unheard workers

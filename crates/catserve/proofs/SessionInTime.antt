@@ -22,7 +22,7 @@ use Rattle.catserve.specs.Rounds.{PlaysAll}
 use Rattle.catserve.specs.Session.{AnswersInTime, IsAnswered, most_lines}
 use Rattle.catserve.specs.Hearing.{Begins, HasGot, HasPassed, Hears, HearsEnd, HearingValue, HearsText, Stays}
 use Rattle.catserve.specs.Hearing.{size_behind, unheard}
-use Rattle.catserve.specs.Talking.{Conversing, IsFresh, TalkValue}
+use Rattle.catserve.specs.Talking.{Conversing, IsFresh, PlayerValue}
 use Rattle.catserve.specs.Timing.{ContinuesInTime, GivesSome, HearsInTime, InTime, ReadsOpen, ReadsText}
 use Rattle.catserve.specs.Timing.{RespondsInTime}
 use Rattle.catserve.specs.Timing.{StillOpen, TalksInTime}
@@ -268,7 +268,7 @@ ends_timely given a b c d text output workers y had here reads gives =
 
 -- ---- the talk
 
-pub talks_none : (workers : ℕ) (i : InputSeen) (o : OutputSeen) (x : HearingValue) (start : TalkValue) (log : Log)
+pub talks_none : (workers : ℕ) (i : InputSeen) (o : OutputSeen) (x : HearingValue) (start : PlayerValue) (log : Log)
     → 0 < x.number → IsFresh workers start → TalksInTime workers i i o o x x start start log log
 talks_none workers i o x start log some fresh = (
   converses_none workers i o x start some fresh,
@@ -277,7 +277,7 @@ talks_none workers i o x start log some fresh = (
 
 -- what is read for the next line is read in time
 pub talks_here : (given : Option ℕ) (first i j : InputSeen) (o o' : OutputSeen) (x y : HearingValue) (workers : ℕ)
-    (start talk : TalkValue) (begun : Begins given first i x workers) (c : Conversing workers i j o o' x y start talk)
+    (start talk : PlayerValue) (begun : Begins given first i x workers) (c : Conversing workers i j o o' x y start talk)
     → IsFresh workers start → (t g : List ℕ) → StillOpen workers y.input t g
     → IsAnswered given ((begun.taken.more ++ c.taken.more) ++ t) (c.written ++ g)
 talks_here given first i j o o' x y workers start talk begun c fresh = is_answered given first j o o' y
@@ -290,7 +290,7 @@ moved given a b c front mid back output had same = subst (λ log. InTime given a
     (sym same) (subst (λ xs. InTime given a b xs output) (append_assoc front mid back) had)
 
 pub talks_more : (workers : ℕ) (i j k : InputSeen) (o o' o'' : OutputSeen) (x y z : HearingValue)
-    (start old new : TalkValue) (a b c d : Log) (command : Option Command) → IsFresh workers start
+    (start old new : PlayerValue) (a b c d : Log) (command : Option Command) → IsFresh workers start
     → TalksInTime workers i j o o' x y start old a b
     → (h : Hears j k workers y z (listed command)) × ReadsOpen b c workers y.input h.taken.more
     → RespondsInTime command old new o' o'' c d → TalksInTime workers i k o o'' x z start new a d
@@ -332,7 +332,7 @@ talks_more workers i j k o o' o'' x y z start old new a b c d command fresh talk
     )
 
 -- nothing more is heard, or what was heard isn't answered
-pub talks_last : (workers : ℕ) (i j : InputSeen) (o o' : OutputSeen) (x y : HearingValue) (start talk : TalkValue)
+pub talks_last : (workers : ℕ) (i j : InputSeen) (o o' : OutputSeen) (x y : HearingValue) (start talk : PlayerValue)
     (a b c d : Log) → IsFresh workers start → TalksInTime workers i j o o' x y start talk a b
     → ReadsWhile b c (StillOpen workers y.input) → GivesSome c d → ContinuesInTime workers i x a d
 talks_last workers i j o o' x y start talk a b c d fresh talks reads gives given first begun before timely =

@@ -23,8 +23,8 @@ use Rattle.catserve.specs.Running.{Finishes, HaveBook, HasLoaded, HasPlayed, Pla
 use Rattle.devices.specs.Devices.{InputSeen, OutputSeen}
 use Rattle.catserve.specs.Session.{HaveEnded}
 use Rattle.catserve.specs.Hearing.{HearingValue, Hears, size_behind}
-use Rattle.catserve.specs.Talking.{TalkValue, AnswersRound, MakesLoad, GivesQuestion, Responds, IsFresh, HasTalked}
-use Rattle.catserve.specs.Talking.{HasOpen, Conversing}
+use Rattle.catserve.specs.Talking.{PlayerValue, AnswersRound, MakesLoad, GivesQuestion, Responds, IsFresh, HasTalked}
+use Rattle.catserve.specs.Talking.{GivesAll, HasOpen, Conversing}
 use Rattle.catserve.proofs.Asked.{asked_more, count_of, readers-given}
 use Rattle.catserve.proofs.Playing.{loads_more, plays_more, plays_none, few_outcomes}
 use Rattle.catserve.proofs.LinesTaken.{taken_none, taken_then}
@@ -41,14 +41,26 @@ loaded_none store held none = record {
 }
 
 -- one load more
-loaded_more : (loads : List JobValue) (load : JobValue) (before : StoreValue) (old new : TalkValue)
-    → HasLoaded loads before old.store [] old.held → MakesLoad load old new
-    → HasLoaded (loads ++ load ∷ []) before new.store [] new.held
-loaded_more loads load before old new loaded makes = record {
-  loaded = loads_more loads load before.pending old.store.pending new.store.pending [] old.held new.held loaded.loaded
-      makes.loads;
+pub loaded_more : (loads : List JobValue) (load : JobValue) (before : StoreValue) (lines : List ℕ)
+    (old new : PlayerValue) → HasLoaded loads before old.store lines old.held → MakesLoad load old new
+    → HasLoaded (loads ++ load ∷ []) before new.store lines new.held
+loaded_more loads load before lines old new loaded makes = record {
+  loaded = loads_more loads load before.pending old.store.pending new.store.pending lines old.held new.held
+      loaded.loaded makes.loads;
   seen = makes.seen ∙ loaded.seen;
   most = makes.most ∙ loaded.most;
+}
+
+-- one question more
+pub given_more : (questions : List QuestionValue) (question : QuestionValue) (old mid new : PlayerValue)
+    → GivesAll questions old mid → GivesQuestion question.worker question.query mid new
+    → GivesAll (questions ++ question ∷ []) old new
+given_more questions question old mid new all gives = record {
+  asked = asked_more 0 question.worker question.worker questions question.query mid.desks new.desks (omega arith)
+      all.asked gives.gives;
+  readers = readers-given mid.desks new.desks question.worker question.query gives.gives ∙ all.readers;
+  store = gives.store ∙ all.store;
+  held = gives.held ∙ all.held;
 }
 
 -- a round whose lines begin with nothing, after what was written
@@ -63,7 +75,7 @@ played_behind workers round was now written lines one = record {
 }
 
 -- the open round has these lines
-pub plays_open : (workers : ℕ) (g : Gathered) (start : StoreValue) (old : TalkValue) (now : StoreValue)
+pub plays_open : (workers : ℕ) (g : Gathered) (start : StoreValue) (old : PlayerValue) (now : StoreValue)
     (written lines : List ℕ) → HasTalked workers g start old written
     → Finishes (length old.desks) old.store old.desks old.held now lines
     → HasPlayed workers (g.ended ++ g.current ∷ []) start now (written ++ lines)
@@ -75,7 +87,7 @@ plays_open workers g start old now written lines talked finishes =
     (played_behind workers g.current talked.before now written lines (subst P talked.count one))
 
 -- it was answered
-pub answers_one : (workers : ℕ) (g : Gathered) (start : StoreValue) (old new : TalkValue) (o o' : OutputSeen)
+pub answers_one : (workers : ℕ) (g : Gathered) (start : StoreValue) (old new : PlayerValue) (o o' : OutputSeen)
     (written : List ℕ) (talked : HasTalked workers g start old written) (a : AnswersRound old new o o')
     → HasPlayed workers (g.ended ++ g.current ∷ []) start new.store (written ++ a.lines)
 answers_one workers g start old new o o' written talked a = plays_open workers g start old new.store written a.lines
@@ -84,7 +96,7 @@ answers_one workers g start old new o o' written talked a = plays_open workers g
 -- ---- the talk
 
 -- with the first line
-pub talked_none : (workers : ℕ) (start : TalkValue) → IsFresh workers start
+pub talked_none : (workers : ℕ) (start : PlayerValue) → IsFresh workers start
     → HasTalked workers nothing start.store start []
 talked_none workers start fresh = record {
   before = start.store;
@@ -96,7 +108,7 @@ talked_none workers start fresh = record {
   begun = fresh.begun;
 }
 
-pub talked_load : (workers : ℕ) (g : Gathered) (start : StoreValue) (old new : TalkValue) (written : List ℕ)
+pub talked_load : (workers : ℕ) (g : Gathered) (start : StoreValue) (old new : PlayerValue) (written : List ℕ)
     (load : JobValue) → HasTalked workers g start old written → MakesLoad load old new
     → HasTalked workers (gathered g (Load load)) start new written
 talked_load workers g start old new written load talked makes =
@@ -107,14 +119,14 @@ talked_load workers g start old new written load talked makes =
     record {
       before = talked.before;
       played = talked.played;
-      loaded = loaded_more g.current.loads load talked.before old new talked.loaded makes;
+      loaded = loaded_more g.current.loads load talked.before [] old new talked.loaded makes;
       asked = subst Asked (sym makes.desks) (subst Given (sym (append-nil g.current.questions)) talked.asked);
       book = subst Desks (sym makes.desks) (subst Seen (sym makes.seen) talked.book);
       count = ap length makes.desks ∙ talked.count;
       begun = makes.begun;
     }
 
-pub talked_ask : (workers : ℕ) (g : Gathered) (start : StoreValue) (old new : TalkValue) (written : List ℕ)
+pub talked_ask : (workers : ℕ) (g : Gathered) (start : StoreValue) (old new : PlayerValue) (written : List ℕ)
     (worker : ℕ) (query : QueryValue) → HasTalked workers g start old written → GivesQuestion worker query old new
     → HasTalked workers (gathered g (Ask worker query)) start new written
 talked_ask workers g start old new written worker query talked gives =
@@ -137,7 +149,7 @@ talked_ask workers g start old new written worker query talked gives =
       begun = gives.begun;
     }
 
-pub talked_go : (workers : ℕ) (g : Gathered) (start : StoreValue) (old new : TalkValue) (o o' : OutputSeen)
+pub talked_go : (workers : ℕ) (g : Gathered) (start : StoreValue) (old new : PlayerValue) (o o' : OutputSeen)
     (written : List ℕ) (talked : HasTalked workers g start old written) (a : AnswersRound old new o o')
     → HasTalked workers (gathered g Go) start new (written ++ a.lines)
 talked_go workers g start old new o o' written talked a = record {
@@ -157,7 +169,7 @@ abbrev pub ended_first : (given : Option ℕ) → (workers : ℕ) × HaveEnded g
 ended_first None = (2, record { last = empty_round; says = refl })
 ended_first (Some workers) = (workers, record { last = empty_round; says = refl })
 
-abbrev pub converses_none : (workers : ℕ) (i : InputSeen) (o : OutputSeen) (x : HearingValue) (start : TalkValue)
+abbrev pub converses_none : (workers : ℕ) (i : InputSeen) (o : OutputSeen) (x : HearingValue) (start : PlayerValue)
     → 0 < x.number → IsFresh workers start → Conversing workers i i o o x x start start
 converses_none workers i o x start some fresh = record {
   lines = [];
@@ -212,7 +224,7 @@ open_none given front g size workers none ended = record {
 
 -- something that doesn't end the round
 abbrev pub goes_on : (workers : ℕ) (i j k : InputSeen) (o o' o'' : OutputSeen) (x y z : HearingValue)
-    (start old new : TalkValue)
+    (start old new : PlayerValue)
     (commands : List Command) (c : Conversing workers i j o o' x y start old)
     (h : Hears j k workers y z commands) (few : loads_so_far (fold gathered c.g commands) ≤ loads_so_far c.g + 1)
     → size_behind commands (y.size + length (concat h.raw)) ≡ y.size + length (concat h.raw)
@@ -239,13 +251,13 @@ goes_on workers i j k o o' o'' x y z start old new commands c h few size same ta
 
 -- what a line says was done
 abbrev pub converses_more : (workers : ℕ) (i j k : InputSeen) (o o' o'' : OutputSeen) (x y z : HearingValue)
-    (start old new : TalkValue) (command : Option Command) → Conversing workers i j o o' x y start old
+    (start old new : PlayerValue) (command : Option Command) → Conversing workers i j o o' x y start old
     → Hears j k workers y z (listed command) → Responds command old new o' o''
     → Conversing workers i k o o'' x z start new
 converses_more workers i j k o o' o'' x y z start old new None c h (same, kept) =
-    let Talk : TalkValue → Type 0 = λ t. HasTalked workers c.g start.store t c.written in
+    let Player : PlayerValue → Type 0 = λ t. HasTalked workers c.g start.store t c.written in
     goes_on workers i j k o o' o'' x y z start old new [] c h (few_more c.g None) refl refl
-    (subst Talk (sym same) c.talked) kept
+    (subst Player (sym same) c.talked) kept
 converses_more workers i j k o o' o'' x y z start old new (Some (Load load)) c h (makes, kept) =
     goes_on workers i j k o o' o'' x y z start old new (Load load ∷ []) c h (few_more c.g (Some (Load load))) refl refl
     (talked_load workers c.g start.store old new c.written load c.talked makes) kept
@@ -272,7 +284,7 @@ converses_more workers i j k o o' o'' x y z start old new (Some Go) c h answers 
     }
 
 -- there is room for one load more
-pub has_room : (workers : ℕ) (i j : InputSeen) (o o' : OutputSeen) (x y : HearingValue) (start talk : TalkValue)
+pub has_room : (workers : ℕ) (i j : InputSeen) (o o' : OutputSeen) (x y : HearingValue) (start talk : PlayerValue)
     → Conversing workers i j o o' x y start talk → IsFresh workers start → y.number < 18446744073709551616
     → HasRoom talk.store
 has_room workers i j o o' x y start talk c fresh small =
@@ -285,7 +297,7 @@ has_room workers i j o o' x y start talk c fresh small =
       t.played.few,
       t.played.most,
       t.loaded.most,
-      fresh.most,
+      fresh.room,
       ap (λ (s : SeenValue). version_of s.batches) t.loaded.seen,
       ap version_of fresh.none_published,
       ap length t.played.none_pending,

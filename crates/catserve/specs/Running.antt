@@ -89,13 +89,17 @@ kind_of fault.Join = Join
 kind_of fault.Closed = Closed
 
 -- the rounds of a script fail for these alone
+abbrev pub IsPlayKind : ScriptKind → Type 0
+IsPlayKind NoPlace = ⊤
+IsPlayKind Closed = ⊤
+IsPlayKind Join = ⊤
+IsPlayKind Memory = ⊤
+IsPlayKind _ = ⊥
+
+-- if they fail, it is for one of these
 abbrev pub IsPlayFault : {T : Type 0} → Result T ScriptKind → Type 0
 IsPlayFault (Ok x) = ⊤
-IsPlayFault (Err NoPlace) = ⊤
-IsPlayFault (Err Closed) = ⊤
-IsPlayFault (Err Join) = ⊤
-IsPlayFault (Err Memory) = ⊤
-IsPlayFault (Err _) = ⊥
+IsPlayFault (Err kind) = IsPlayKind kind
 
 -- why a script wasn't read
 abbrev pub EndsReading : InputSeen → InputSeen → ScriptKind → ℕ → Type 0

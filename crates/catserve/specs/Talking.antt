@@ -4,31 +4,31 @@ use Rattle.std.specs.Prelude.{Option, Some, None, Result}
 use Rattle.std.specs.List.{concat}
 use Rattle.std.specs.Str.{IsUtf8}
 use Rattle.std.specs.Io.KnownBytes.{Appends}
-use Rattle.devices.specs.Devices.{AppendsFront, InputSeen, OutputSeen, RisesBy}
+use Rattle.devices.specs.Devices.{AppendsFront, InputSeen, OutputSeen, RisesBy, most_counted}
 use Rattle.live_set.specs.Asks.{QueryValue}
 use Rattle.live_versions.specs.Store.{StoreValue}
 use Rattle.script_text.specs.ScriptLoads.{JobValue}
 use Rattle.desks.specs.declared.desk.Desk.{Desk}
-use Rattle.script_text.specs.Script.{Command, Load, Ask, Go, commands_from, script_of}
+use Rattle.script_text.specs.Script.{Command, Load, Ask, Go, QuestionValue, commands_from, script_of}
 use Rattle.script_text.specs.ScriptFields.{most_workers}
 use Rattle.script_text.specs.Gathering.{Gathered, going_on, loads_so_far}
 use Rattle.script_text.specs.declared.fault.ScriptKind.{ScriptKind}
 use Rattle.script_text.specs.declared.fault.ScriptKind.TheVariants.{WriteFault, NoPlace, Closed, Join, Memory}
 use Rattle.catserve.specs.declared.session_fault.SessionFault.{SessionFault}
-use Rattle.catserve.specs.Asking.{AreAsked, GivesOne}
+use Rattle.catserve.specs.Asking.{AreAsked, GivesOne, readers_of}
 use Rattle.catserve.specs.Running.{AreReady, Finishes, HasLoaded, HasPlayed, HaveBook, LoadsOne}
 use Rattle.catserve.specs.Session.{HaveEnded, Converses}
 use Rattle.catserve.specs.Hearing.{HearingValue, HasTaken, Begins}
 
 -- a store, its desks, the lines that are held back, and whether the open round has a load or a question
-pub record TalkValue : Type 0 where
+pub record PlayerValue : Type 0 where
   pub store : StoreValue
   pub desks : List Desk
   pub held : List ℕ
   pub begun : Bool
 
 -- the round was finished, and its lines were written
-pub record AnswersRound (old new : TalkValue) (o o' : OutputSeen) : Type 0 where
+pub record AnswersRound (old new : PlayerValue) (o o' : OutputSeen) : Type 0 where
   pub lines : List ℕ
   pub finishes : Finishes (length old.desks) old.store old.desks old.held new.store lines
   pub ready : AreReady new.store.seen new.desks
@@ -39,7 +39,7 @@ pub record AnswersRound (old new : TalkValue) (o o' : OutputSeen) : Type 0 where
   pub steady : o'.failures ≡ o.failures
 
 -- a load was made
-pub record MakesLoad (load : JobValue) (old new : TalkValue) : Type 0 where
+pub record MakesLoad (load : JobValue) (old new : PlayerValue) : Type 0 where
   pub loads : LoadsOne load old.store.pending new.store.pending old.held new.held
   pub seen : new.store.seen ≡ old.store.seen
   pub most : new.store.most ≡ old.store.most
@@ -47,21 +47,21 @@ pub record MakesLoad (load : JobValue) (old new : TalkValue) : Type 0 where
   pub begun : new.begun ≡ true
 
 -- a question was given
-pub record GivesQuestion (worker : ℕ) (query : QueryValue) (old new : TalkValue) : Type 0 where
+pub record GivesQuestion (worker : ℕ) (query : QueryValue) (old new : PlayerValue) : Type 0 where
   pub gives : GivesOne old.desks worker query new.desks
   pub store : new.store ≡ old.store
   pub held : new.held ≡ old.held
   pub begun : new.begun ≡ true
 
 -- what a line says was done
-abbrev pub Responds : Option Command → TalkValue → TalkValue → OutputSeen → OutputSeen → Type 0
+abbrev pub Responds : Option Command → PlayerValue → PlayerValue → OutputSeen → OutputSeen → Type 0
 Responds None old new o o' = (new ≡ old) × (o' ≡ o)
 Responds (Some (Load load)) old new o o' = MakesLoad load old new × (o' ≡ o)
 Responds (Some (Ask worker query)) old new o o' = GivesQuestion worker query old new × (o' ≡ o)
 Responds (Some Go) old new o o' = AnswersRound old new o o'
 
 -- the round was finished, and a prefix of its lines was written before the writer failed
-pub record BreaksRound (old : TalkValue) (o o' : OutputSeen) : Type 0 where
+pub record BreaksRound (old : PlayerValue) (o o' : OutputSeen) : Type 0 where
   pub lines : List ℕ
   pub store : StoreValue
   pub finishes : Finishes (length old.desks) old.store old.desks old.held store lines
@@ -69,7 +69,7 @@ pub record BreaksRound (old : TalkValue) (o o' : OutputSeen) : Type 0 where
   pub failed : RisesBy 1 o.failures o'.failures
 
 -- why a round isn't answered
-abbrev pub FailsToAnswer : TalkValue → OutputSeen → OutputSeen → ScriptKind → Type 0
+abbrev pub FailsToAnswer : PlayerValue → OutputSeen → OutputSeen → ScriptKind → Type 0
 FailsToAnswer old o o' WriteFault = BreaksRound old o o'
 FailsToAnswer old o o' NoPlace = o' ≡ o
 FailsToAnswer old o o' Closed = o' ≡ o
@@ -77,21 +77,32 @@ FailsToAnswer old o o' Join = o' ≡ o
 FailsToAnswer old o o' Memory = o' ≡ o
 FailsToAnswer old o o' _ = ⊥
 
--- a player before its first round
-pub record IsFresh (workers : ℕ) (talk : TalkValue) : Type 0 where
+-- questions were given, one after another, to desks that were asked nothing
+pub record GivesAll (questions : List QuestionValue) (old new : PlayerValue) : Type 0 where
+  pub asked : AreAsked 0 questions new.desks
+  pub readers : readers_of new.desks ≡ readers_of old.desks
+  pub store : new.store ≡ old.store
+  pub held : new.held ≡ old.held
+
+-- a player before its first round, with this number of workers and room for `most` loads
+pub record IsNew (workers most : ℕ) (talk : PlayerValue) : Type 0 where
   pub ready : AreReady talk.store.seen talk.desks
   pub count : length talk.desks ≡ workers
   pub some : 1 ≤ workers
   pub few : workers ≤ most_workers
   pub none_published : talk.store.seen.batches ≡ []
   pub none_pending : talk.store.pending ≡ []
-  pub most : talk.store.most ≡ 18446744073709551615
+  pub room : talk.store.most ≡ most
   pub held : talk.held ≡ []
   pub begun : talk.begun ≡ false
 
+-- the player of a session before its first round
+abbrev pub IsFresh : ℕ → PlayerValue → Type 0
+IsFresh workers talk = IsNew workers most_counted talk
+
 -- the rounds that have ended were played, and their output is written; the loads of the open one were made, and its
 -- questions are given to the desks
-pub record HasTalked (workers : ℕ) (g : Gathered) (start : StoreValue) (talk : TalkValue) (written : List ℕ) : Type 0
+pub record HasTalked (workers : ℕ) (g : Gathered) (start : StoreValue) (talk : PlayerValue) (written : List ℕ) : Type 0
   where
     pub before : StoreValue
     pub played : HasPlayed workers g.ended start before written
@@ -119,8 +130,8 @@ pub record HasOpen (given : Option ℕ) (front : List (List ℕ)) (g : Gathered)
   pub ended_before : HaveEnded given before workers g.ended
 
 -- a session has gone on, line by line, up to here
-pub record Conversing (workers : ℕ) (i i' : InputSeen) (o o' : OutputSeen) (x y : HearingValue) (start talk : TalkValue)
-    : Type 0 where
+pub record Conversing (workers : ℕ) (i i' : InputSeen) (o o' : OutputSeen) (x y : HearingValue)
+    (start talk : PlayerValue) : Type 0 where
   pub lines : List (List ℕ)
   pub g : Gathered
   pub written : List ℕ

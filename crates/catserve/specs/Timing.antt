@@ -9,7 +9,7 @@ use Rattle.script_text.specs.Script.{Command, Load, Ask, Go}
 use Rattle.devices.specs.Devices.{InputSeen, OutputSeen}
 use Rattle.catserve.specs.Session.{AnswersInTime, IsAnswered, IsOpen}
 use Rattle.catserve.specs.Hearing.{Begins, Hears, HearsEnd, HearsNone, HearingValue, commands_of}
-use Rattle.catserve.specs.Talking.{AnswersRound, Conversing, Responds, TalkValue}
+use Rattle.catserve.specs.Talking.{AnswersRound, Conversing, Responds, PlayerValue}
 
 -- no round ends in what is there and what came, and nothing was given since
 pub record StillOpen (workers : ℕ) (old : Incoming) (more given : List ℕ) : Type 0 where
@@ -48,11 +48,11 @@ abbrev pub GivesSome : Log → Log → Type 0
 GivesSome log log' = Grows log log' [] ⊎ ((bytes : List ℕ) × Grows log log' (Gave bytes ∷ []))
 
 -- the round was answered, and its lines were given
-abbrev pub GivesRound : TalkValue → TalkValue → OutputSeen → OutputSeen → Log → Log → Type 0
+abbrev pub GivesRound : PlayerValue → PlayerValue → OutputSeen → OutputSeen → Log → Log → Type 0
 GivesRound old new o o' log log' = (a : AnswersRound old new o o') × Grows log log' (Gave a.lines ∷ [])
 
 -- what a line says was done, and only the end of a round gives something
-abbrev pub RespondsInTime : Option Command → TalkValue → TalkValue → OutputSeen → OutputSeen → Log → Log → Type 0
+abbrev pub RespondsInTime : Option Command → PlayerValue → PlayerValue → OutputSeen → OutputSeen → Log → Log → Type 0
 RespondsInTime None old new o o' log log' = Responds None old new o o' × (log' ≡ log)
 RespondsInTime (Some (Load load)) old new o o' log log' = Responds (Some (Load load)) old new o o' × (log' ≡ log)
 RespondsInTime (Some (Ask worker query)) old new o o' log log' = Responds (Some (Ask worker query)) old new o o'
@@ -72,8 +72,8 @@ abbrev pub BeginsInTime : Option ℕ → InputSeen → InputSeen → HearingValu
 BeginsInTime given i i' y workers log log' = (b : Begins given i i' y workers) × InTime given log log' b.taken.more []
 
 -- a session that has begun in time has gone on so
-abbrev pub TalksInTime : ℕ → InputSeen → InputSeen → OutputSeen → OutputSeen → HearingValue → HearingValue → TalkValue
-    → TalkValue → Log → Log → Type 0
+abbrev pub TalksInTime : ℕ → InputSeen → InputSeen → OutputSeen → OutputSeen → HearingValue → HearingValue → PlayerValue
+    → PlayerValue → Log → Log → Type 0
 TalksInTime workers i i' o o' x y start talk log log' = (c : Conversing workers i i' o o' x y start talk)
     × ((given : Option ℕ) (first : InputSeen) (b : Begins given first i x workers) (before : Log)
     → InTime given before log b.taken.more [] → InTime given before log' (b.taken.more ++ c.taken.more) c.written)

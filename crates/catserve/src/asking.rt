@@ -7,7 +7,6 @@ use crate::output::write_answer;
 use desks::{Answer, Desk};
 use live_set::Query;
 use live_versions::Lookups;
-use script_text::Question;
 use std::alloc::{AllocError, Global};
 use std::mem;
 
@@ -34,19 +33,6 @@ pub(crate) fn give(desks: &mut [Desk], worker: u32, query: Query) -> Result<(), 
     let index = worker as usize;
     if index < desks.len() {
         desks[index].queries.push(query)?;
-    }
-    Ok(())
-}
-
-/// Gives the questions of a round to the desks of their workers, in order.
-pub(crate) fn give_all(desks: &mut [Desk], questions: Vec<Question>) -> Result<(), AllocError>
-    requires { AreAsked 0 [] desks.old }
-    ensures asked { OnOk result (AreAsked 0 questions.items desks.new) }
-    ensures readers { OnOk result (readers_of desks.new ≡ readers_of desks.old) }
-{
-    'questions: for question in questions {
-        let Question { worker, query } = question;
-        give(desks, worker, query)?;
     }
     Ok(())
 }

@@ -10,12 +10,12 @@ mod asking;
 mod hearing;
 mod law;
 mod output;
+mod player;
 mod round;
 mod run;
 mod said;
 mod session;
 mod session_fault;
-mod talk;
 
 pub use desks::{
     Accepted, Answer, Desk, Gate, Job, Place, ServeFault, Served, Source, one_end, one_history,

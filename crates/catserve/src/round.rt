@@ -6,14 +6,14 @@ ghost use Rattle.script_text.specs.ScriptFields.{most_workers};
 ghost use Rattle.catserve.specs.Running.{AreReady, HaveBook, HasRoomFor, IsPlayFault, LoadsOne, LoadsAll};
 ghost use Rattle.catserve.specs.Running.{Finishes, PlaysOne, job_of, kind_of};
 
-use crate::asking::{give_all, write_all};
+use crate::asking::write_all;
 use crate::output::{
     write_accepted, write_accepted_mo, write_refused, write_refused_mo, write_unnamed,
     write_version,
 };
 use desks::{Accepted, Desk, Gate, Place, ServeFault, serve};
 use live_versions::{Publisher, StoreFault};
-use script_text::{LoadSource, Round, ScriptKind, ScriptLoad};
+use script_text::{LoadSource, ScriptKind, ScriptLoad};
 use std::alloc::{AllocError, Global};
 use std::sync::Wait;
 use std::thread::Threads;
@@ -73,25 +73,6 @@ pub(crate) fn make_load(
     }
 }
 
-/// Makes the loads of a round, in order, and writes their lines.
-fn make_loads(
-    alloc: Global,
-    publisher: &mut Publisher,
-    loads: &[ScriptLoad<'_>],
-    output: &mut Vec<u8>,
-) -> Result<(), AllocError>
-    requires { HasRoomFor (length loads.now) publisher.old }
-    ensures ok { IfOk result (λ _.
-        LoadsAll loads.now publisher.old.pending publisher.new.pending output.old.items output.new.items) }
-    ensures seen { publisher.new.seen ≡ publisher.old.seen }
-    ensures most { publisher.new.most ≡ publisher.old.most }
-{
-    'loads: for load in loads {
-        make_load(alloc, publisher, load, output)?;
-    }
-    Ok(())
-}
-
 /// The fault of a service as an error of a script.
 fn kind_of(fault: ServeFault) -> ScriptKind
     ensures { result ≡ kind_of fault }
@@ -129,29 +110,4 @@ pub(crate) fn finish<R: Threads + Wait + Sync>(
     };
     write_all(alloc, 0, desks.as_mut_slice(), output)?;
     Ok(())
-}
-
-/// Plays a round, and appends its lines to the output.
-pub(crate) fn play<R: Threads + Wait + Sync>(
-    rt: &R,
-    alloc: Global,
-    publisher: &mut Publisher,
-    desks: &mut Vec<Desk>,
-    round: Round<'_>,
-    output: &mut Vec<u8>,
-) -> Result<(), ScriptKind>
-    requires pending { publisher.old.pending ≡ [] }
-    requires ready { AreReady publisher.old.seen desks.old.items }
-    requires count { (1 ≤ vec_len desks.old) × (vec_len desks.old ≤ most_workers) }
-    requires room { HasRoomFor (length round.loads) publisher.old }
-    ensures ok { IfOk result (λ _. PlaysOne (vec_len desks.old) round.entry publisher.old publisher.new
-        output.old.items output.new.items) }
-    ensures ready { OnOk result (AreReady publisher.new.seen desks.new.items) }
-    ensures count { OnOk result (vec_len desks.new ≡ vec_len desks.old) }
-    ensures fault { IsPlayFault result }
-{
-    let Round { loads, questions } = round;
-    make_loads(alloc, publisher, loads.as_slice(), output)?;
-    give_all(desks.as_mut_slice(), questions)?;
-    finish(rt, alloc, publisher, desks, output)
 }

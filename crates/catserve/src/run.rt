@@ -1,63 +1,34 @@
 //! A run of a script over a reader and a writer.
-ghost use Rattle.std.specs.Prelude.{◌≡◌, ◌≤◌, [], All, IfOk, IfErr, vec_len};
-ghost use Rattle.live_versions.specs.Batches.{joined};
+ghost use Rattle.std.specs.Prelude.{◌≤◌, [], IfOk, IfErr, length};
 ghost use Rattle.catserve.specs.Rounds.{HasOutput, PlaysAll};
 ghost use Rattle.catserve.specs.Run.{ReadsText, Runs, input_seen, output_seen};
 ghost use Rattle.script_text.specs.Script.{load_count};
-ghost use Rattle.script_text.specs.ScriptFields.{most_workers};
-ghost use Rattle.catserve.specs.Running.{AreReady, EndsPlaying, EndsReading, HasRoomFor, IsPlayFault};
+ghost use Rattle.catserve.specs.Running.{EndsPlaying, EndsReading, IsPlayFault};
+ghost use Rattle.catserve.specs.Talking.{IsNew};
 
-use crate::asking::open_desks;
-use crate::round::play;
-use desks::Desk;
+use crate::player::Player;
 use devices::{InputFault, Sink, Source, read_all};
-use live_versions::{Lookups, OpenFault, Publisher, open_store};
 use script_text::{MOST_SCRIPT, Round, Script, ScriptFault, ScriptKind, read_script};
 use std::alloc::Global;
 use std::sync::Wait;
 use std::thread::Threads;
 
-/// The output of a script's rounds, by a publisher and the desks of its readers.
+/// Plays the rounds of a script, one after another, and holds their lines back.
 fn play_rounds<T: Threads + Wait + Sync>(
     rt: &T,
     alloc: Global,
-    publisher: &mut Publisher,
-    desks: &mut Vec<Desk>,
+    player: &mut Player,
     rounds: Vec<Round<'_>>,
-) -> Result<Vec<u8>, ScriptKind>
-    requires pending { publisher.old.pending ≡ [] }
-    requires ready { AreReady publisher.old.seen desks.old.items }
-    requires count { (1 ≤ vec_len desks.old) × (vec_len desks.old ≤ most_workers) }
-    requires room { HasRoomFor (load_count rounds.items) publisher.old }
-    ensures ok { IfOk result (λ output.
-        PlaysAll (vec_len desks.old) (joined publisher.old.seen.batches) rounds.entry.items output.items) }
+) -> Result<(), ScriptKind>
+    requires fresh { IsNew (length player.old.desks) MOST_SCRIPT player.old }
+    requires room { load_count rounds.items ≤ MOST_SCRIPT }
+    ensures ok { IfOk result (λ _. PlaysAll (length player.old.desks) [] rounds.entry.items player.new.held) }
     ensures fault { IsPlayFault result }
 {
-    let mut output = Vec::new(alloc);
     'rounds: for round in rounds {
-        play(rt, alloc, publisher, desks, round, &mut output)?;
+        player.play(rt, alloc, round)?;
     }
-    Ok(output)
-}
-
-/// The output of a script's rounds, by a publisher and its readers.
-fn play_by<T: Threads + Wait + Sync>(
-    rt: &T,
-    alloc: Global,
-    publisher: &mut Publisher,
-    readers: Vec<Lookups>,
-    rounds: Vec<Round<'_>>,
-) -> Result<Vec<u8>, ScriptKind>
-    requires pending { publisher.old.pending ≡ [] }
-    requires readers { All (λ l. l ≡ publisher.old.seen) readers.items }
-    requires count { (1 ≤ vec_len readers) × (vec_len readers ≤ most_workers) }
-    requires room { HasRoomFor (load_count rounds.items) publisher.old }
-    ensures ok { IfOk result (λ output.
-        PlaysAll (vec_len readers) (joined publisher.old.seen.batches) rounds.entry.items output.items) }
-    ensures fault { IsPlayFault result }
-{
-    let mut desks = open_desks(alloc, readers)?;
-    play_rounds(rt, alloc, publisher, &mut desks, rounds)
+    Ok(())
 }
 
 /// The output of a script. Its store has a reader for each worker, and room for all its loads.
@@ -71,14 +42,12 @@ fn play_script<T: Threads + Wait + Sync>(
     ensures fault { IsPlayFault result }
 {
     let Script { workers, rounds } = script;
-    match open_store(rt, alloc, workers, MOST_SCRIPT as u64) {
-        Ok((mut publisher, readers)) => {
-            let output = play_by(rt, alloc, &mut publisher, readers, rounds);
-            publisher.end(rt);
-            output
-        }
-        Err(OpenFault::Memory) => Err(ScriptKind::Memory),
-        Err(_) => Err(ScriptKind::NoPlace),
+    let mut player = Player::open(rt, alloc, workers, MOST_SCRIPT as u64)?;
+    let played = play_rounds(rt, alloc, &mut player, rounds);
+    let output = player.end(rt);
+    match played {
+        Ok(()) => Ok(output),
+        Err(kind) => Err(kind),
     }
 }
 

@@ -5,13 +5,10 @@ ghost use Rattle.catserve.specs.Session.{AnswersInTime, Converses};
 ghost use Rattle.catserve.specs.Talking.{Continues, IsFresh};
 ghost use Rattle.catserve.specs.Timing.{ContinuesInTime};
 
-use crate::asking::open_desks;
 use crate::hearing::Hearing;
+use crate::player::Player;
 use crate::session_fault::SessionFault;
-use crate::talk::Talk;
 use devices::{Sink, Source};
-use live_versions::{OpenFault, open_store};
-use script_text::ScriptKind;
 use std::alloc::Global;
 use std::sync::Wait;
 use std::thread::Threads;
@@ -22,11 +19,11 @@ fn converse<T: Threads + Wait + Sync, D: Source + Sink>(
     alloc: Global,
     workers: u32,
     hearing: &mut Hearing,
-    talk: &mut Talk,
+    player: &mut Player,
     device: &mut D,
 ) -> Result<(), SessionFault>
     requires number { 0 < hearing.old.number }
-    requires fresh { IsFresh workers talk.old }
+    requires fresh { IsFresh workers player.old }
     ensures all { let input = input_seen D.remaining D.reads D.Source.failures in
         let output = output_seen D.contents D.Sink.failures in
         Continues workers (input device.old) (input device.new) (output device.old) (output device.new) hearing.old
@@ -35,10 +32,10 @@ fn converse<T: Threads + Wait + Sync, D: Source + Sink>(
         ContinuesInTime workers (input device.old) hearing.old (D.log device.old) (D.log device.new) }
 {
     'lines: while let Some(thing) = hearing.hear(alloc, workers, device)? {
-        talk.respond(rt, alloc, thing, device)?;
+        player.respond(rt, alloc, thing, device)?;
     }
-    if talk.has_begun() {
-        talk.answer(rt, alloc, device)?;
+    if player.has_begun() {
+        player.answer(rt, alloc, device)?;
     }
     Ok(())
 }
@@ -59,23 +56,10 @@ fn converse_by_store<T: Threads + Wait + Sync, D: Source + Sink>(
     ensures in_time { let input = input_seen D.remaining D.reads D.Source.failures in
         ContinuesInTime workers (input device.old) hearing.old (D.log device.old) (D.log device.new) }
 {
-    let (publisher, readers) = match open_store(rt, alloc, workers, u64::MAX) {
-        Ok(opened) => opened,
-        Err(OpenFault::Memory) => return Err(SessionFault::from(ScriptKind::Memory)),
-        Err(_) => return Err(SessionFault::from(ScriptKind::NoPlace)),
-    };
-    match open_desks(alloc, readers) {
-        Ok(desks) => {
-            let mut talk = Talk::new(alloc, publisher, desks);
-            let done = converse(rt, alloc, workers, hearing, &mut talk, device);
-            talk.end(rt);
-            done
-        }
-        Err(_) => {
-            publisher.end(rt);
-            Err(SessionFault::from(ScriptKind::Memory))
-        }
-    }
+    let mut player = Player::open(rt, alloc, workers, u64::MAX)?;
+    let done = converse(rt, alloc, workers, hearing, &mut player, device);
+    let _open_round = player.end(rt);
+    done
 }
 
 /// Reads a script as it arrives, and answers each round when its `go` has arrived. The session has a store of its own

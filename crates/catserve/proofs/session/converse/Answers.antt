@@ -15,7 +15,7 @@ use Rattle.catserve.proofs.session.converse.Goals as goal
 pub lines-init : goal.lines-init
 lines-init g c = talks_none c.args.workers
     (input_seen g.D.Source.remaining g.D.Source.reads g.D.Source.failures c.args.device.now)
-    (output_seen g.D.Sink.contents g.D.Sink.failures c.args.device.now) c.args.hearing.now c.args.talk.now
+    (output_seen g.D.Sink.contents g.D.Sink.failures c.args.device.now) c.args.hearing.now c.args.player.now
     (g.D.Device.log c.args.device.now) c.requires.number c.requires.fresh
 
 pub lines-preserved : goal.lines-preserved
@@ -24,7 +24,7 @@ lines-preserved g c =
     let j : InputSeen = input_seen g.D.Source.remaining g.D.Source.reads g.D.Source.failures c.lines.device in
     let o : OutputSeen = output_seen g.D.Sink.contents g.D.Sink.failures c.args.device.now in
     let p : OutputSeen = output_seen g.D.Sink.contents g.D.Sink.failures c.lines.device in
-    let start = c.args.talk.now in
+    let start = c.args.player.now in
     let x = c.args.hearing.now in
     let k : InputSeen = input_seen g.D.Source.remaining g.D.Source.reads g.D.Source.failures c.hear.new.reader in
     let q : OutputSeen = output_seen g.D.Sink.contents g.D.Sink.failures c.respond.new.writer in
@@ -39,10 +39,10 @@ lines-preserved g c =
     let m : Log = g.D.Device.log c.hear.new.reader in
     let d : Log = g.D.Device.log c.respond.new.writer in
     let R : OutputSeen → Type 0 = λ v.
-    RespondsInTime (command_of c.in-Some.thing) c.lines.talk c.respond.new.self v q m d in
+    RespondsInTime (command_of c.in-Some.thing) c.lines.player c.respond.new.self v q m d in
     let C : InputSeen → Type 0 = λ v.
     TalksInTime c.args.workers i v o q x c.hear.new.self start c.respond.new.self a d in
-    subst C (sym inn) (talks_more c.args.workers i j k o p q x c.lines.hearing c.hear.new.self start c.lines.talk
+    subst C (sym inn) (talks_more c.args.workers i j k o p q x c.lines.hearing c.hear.new.self start c.lines.player
     c.respond.new.self a b m d (command_of c.in-Some.thing) c.requires.fresh c.lines.invariant
     (rw c.in-Some.is at c.in_ok-thing.ensures.heard) (subst R out c.in_ok-respond.ensures.ok))
 
@@ -57,10 +57,10 @@ respond-requires-clause-room g c κs within =
     let j : InputSeen = input_seen g.D.Source.remaining g.D.Source.reads g.D.Source.failures c.lines.device in
     let o : OutputSeen = output_seen g.D.Sink.contents g.D.Sink.failures c.args.device.now in
     let p : OutputSeen = output_seen g.D.Sink.contents g.D.Sink.failures c.lines.device in
-    let start = c.args.talk.now in
+    let start = c.args.player.now in
     let x = c.args.hearing.now in
     let h = (rw c.in-Some.is at c.in_ok-thing.ensures.heard).0 in
-    has_room c.args.workers i j o p x c.lines.hearing start c.lines.talk c.lines.invariant.0 c.requires.fresh
+    has_room c.args.workers i j o p x c.lines.hearing start c.lines.player c.lines.invariant.0 c.requires.fresh
     (omega (arith, h.few))
 
 pub returns-in_err-thing-clause-all : goal.returns-in_err-thing-clause-all
@@ -69,7 +69,7 @@ returns-in_err-thing-clause-all g c given first b =
     let j : InputSeen = input_seen g.D.Source.remaining g.D.Source.reads g.D.Source.failures c.lines.device in
     let o : OutputSeen = output_seen g.D.Sink.contents g.D.Sink.failures c.args.device.now in
     let p : OutputSeen = output_seen g.D.Sink.contents g.D.Sink.failures c.lines.device in
-    let start = c.args.talk.now in
+    let start = c.args.player.now in
     let x = c.args.hearing.now in
     let k : InputSeen = input_seen g.D.Source.remaining g.D.Source.reads g.D.Source.failures c.hear.new.reader in
     let e = err_from_is_err_and c.from_residual.result c.from_residual.ensures.1 in
@@ -78,7 +78,7 @@ returns-in_err-thing-clause-all g c given first b =
     ∙ g.met.D.Sink.shows c.lines.device in
     let Q : OutputSeen → Type 0 = λ v. Converses given first k o v c.from_residual.result in
     subst Q (sym out) (rw (e.1, e.2) (none_ends given first i j k o p x c.lines.hearing c.hear.new.self
-    c.args.workers start c.lines.talk
+    c.args.workers start c.lines.player
     c.in_err-thing.field-0.0.kind c.in_err-thing.field-0.0.line c.requires.fresh c.lines.invariant.0
     c.in_err-thing.ensures.heard.0
     b))
@@ -89,7 +89,7 @@ returns-in_err-respond-clause-all g c given first b =
     let j : InputSeen = input_seen g.D.Source.remaining g.D.Source.reads g.D.Source.failures c.lines.device in
     let o : OutputSeen = output_seen g.D.Sink.contents g.D.Sink.failures c.args.device.now in
     let p : OutputSeen = output_seen g.D.Sink.contents g.D.Sink.failures c.lines.device in
-    let start = c.args.talk.now in
+    let start = c.args.player.now in
     let x = c.args.hearing.now in
     let k : InputSeen = input_seen g.D.Source.remaining g.D.Source.reads g.D.Source.failures c.hear.new.reader in
     let q : OutputSeen = output_seen g.D.Sink.contents g.D.Sink.failures c.respond.new.writer in
@@ -102,9 +102,9 @@ returns-in_err-respond-clause-all g c given first b =
     let inn : k' ≡ k = sym (g.met.D.Source.sees c.respond.new.writer) ∙ c.in_err-respond.ensures.keeps
     ∙ g.met.D.Source.sees c.hear.new.reader in
     let Q : InputSeen → Type 0 = λ v. Converses given first v o q c.from_residual-in_err-respond.result in
-    let F : OutputSeen → Type 0 = λ v. FailsToAnswer c.lines.talk v q c.in_err-respond.field-0.0 in
+    let F : OutputSeen → Type 0 = λ v. FailsToAnswer c.lines.player v q c.in_err-respond.field-0.0 in
     subst Q (sym inn) (rw (e.1, e.2) (fails_so given first i j k o p q x c.lines.hearing _ c.args.workers start
-    c.lines.talk
+    c.lines.player
     c.in_err-respond.field-0.0 c.requires.fresh c.lines.invariant.0
     (taken_stays j k c.lines.hearing c.hear.new.self h.raw h.taken) (subst F out c.in_err-respond.ensures.fault) b))
 
@@ -114,7 +114,7 @@ returns-in_err-answer-clause-all g c given first b =
     let j : InputSeen = input_seen g.D.Source.remaining g.D.Source.reads g.D.Source.failures c.lines.device in
     let o : OutputSeen = output_seen g.D.Sink.contents g.D.Sink.failures c.args.device.now in
     let p : OutputSeen = output_seen g.D.Sink.contents g.D.Sink.failures c.lines.device in
-    let start = c.args.talk.now in
+    let start = c.args.player.now in
     let x = c.args.hearing.now in
     let k : InputSeen = input_seen g.D.Source.remaining g.D.Source.reads g.D.Source.failures c.hear.new.reader in
     let q : OutputSeen = output_seen g.D.Sink.contents g.D.Sink.failures c.answer.new.writer in
@@ -127,9 +127,9 @@ returns-in_err-answer-clause-all g c given first b =
     let inn : k' ≡ k = sym (g.met.D.Source.sees c.answer.new.writer) ∙ c.in_err-answer.ensures.keeps
     ∙ g.met.D.Source.sees c.hear.new.reader in
     let Q : InputSeen → Type 0 = λ v. Converses given first v o q c.from_residual-in_err-answer.result in
-    let F : OutputSeen → Type 0 = λ v. FailsToAnswer c.lines.talk v q c.in_err-answer.field-0.0 in
+    let F : OutputSeen → Type 0 = λ v. FailsToAnswer c.lines.player v q c.in_err-answer.field-0.0 in
     subst Q (sym inn) (rw (e.1, e.2) (fails_so given first i j k o p q x c.lines.hearing c.hear.new.self
-    c.args.workers start c.lines.talk
+    c.args.workers start c.lines.player
     c.in_err-answer.field-0.0 c.requires.fresh c.lines.invariant.0
     (record { got = h.got; number = h.number; size = h.size }) (subst F out c.in_err-answer.ensures.fault) b))
 
@@ -139,7 +139,7 @@ returns-in_ok-answer-clause-all g c given first b =
     let j : InputSeen = input_seen g.D.Source.remaining g.D.Source.reads g.D.Source.failures c.lines.device in
     let o : OutputSeen = output_seen g.D.Sink.contents g.D.Sink.failures c.args.device.now in
     let p : OutputSeen = output_seen g.D.Sink.contents g.D.Sink.failures c.lines.device in
-    let start = c.args.talk.now in
+    let start = c.args.player.now in
     let x = c.args.hearing.now in
     let k : InputSeen = input_seen g.D.Source.remaining g.D.Source.reads g.D.Source.failures c.hear.new.reader in
     let q : OutputSeen = output_seen g.D.Sink.contents g.D.Sink.failures c.answer.new.writer in
@@ -149,10 +149,10 @@ returns-in_ok-answer-clause-all g c given first b =
     let k' : InputSeen = input_seen g.D.Source.remaining g.D.Source.reads g.D.Source.failures c.answer.new.writer in
     let inn : k' ≡ k = sym (g.met.D.Source.sees c.answer.new.writer) ∙ c.in_ok-answer.ensures.keeps
     ∙ g.met.D.Source.sees c.hear.new.reader in
-    let A : OutputSeen → Type 0 = λ v. AnswersRound c.lines.talk c.answer.new.self v q in
+    let A : OutputSeen → Type 0 = λ v. AnswersRound c.lines.player c.answer.new.self v q in
     let Q : InputSeen → Type 0 = λ v. AnswersAll given first v o q in
     subst Q (sym inn) (last_answered given first i j k o p q x c.lines.hearing c.hear.new.self c.args.workers start
-    c.lines.talk
+    c.lines.player
     c.answer.new.self c.requires.fresh c.lines.invariant.0 (rw c.in_default.is at c.in_ok-thing.ensures.heard).0
     (sym c.has_begun.ensures ∙ c.if-has_begun.true) (subst A out c.in_ok-answer.ensures.ok.0) b)
 
@@ -162,7 +162,7 @@ returns-else-has_begun-clause-all g c given first b =
     let j : InputSeen = input_seen g.D.Source.remaining g.D.Source.reads g.D.Source.failures c.lines.device in
     let o : OutputSeen = output_seen g.D.Sink.contents g.D.Sink.failures c.args.device.now in
     let p : OutputSeen = output_seen g.D.Sink.contents g.D.Sink.failures c.lines.device in
-    let start = c.args.talk.now in
+    let start = c.args.player.now in
     let x = c.args.hearing.now in
     let k : InputSeen = input_seen g.D.Source.remaining g.D.Source.reads g.D.Source.failures c.hear.new.reader in
     let p' : OutputSeen = output_seen g.D.Sink.contents g.D.Sink.failures c.hear.new.reader in
@@ -170,7 +170,7 @@ returns-else-has_begun-clause-all g c given first b =
     ∙ g.met.D.Sink.shows c.lines.device in
     let Q : OutputSeen → Type 0 = λ v. AnswersAll given first k o v in
     subst Q (sym out) (all_answered given first i j k o p x c.lines.hearing c.hear.new.self c.args.workers start
-    c.lines.talk
+    c.lines.player
     c.requires.fresh c.lines.invariant.0 (rw c.in_default.is at c.in_ok-thing.ensures.heard).0
     (sym c.has_begun.ensures ∙ c.if-has_begun.false) b)
 
@@ -181,7 +181,7 @@ returns-in_err-thing-clause-in_time g c =
     let o : OutputSeen = output_seen g.D.Sink.contents g.D.Sink.failures c.args.device.now in
     let p : OutputSeen = output_seen g.D.Sink.contents g.D.Sink.failures c.lines.device in
     let m : Log = g.D.Device.log c.hear.new.reader in
-    talks_last c.args.workers i j o p c.args.hearing.now c.lines.hearing c.args.talk.now c.lines.talk
+    talks_last c.args.workers i j o p c.args.hearing.now c.lines.hearing c.args.player.now c.lines.player
     (g.D.Device.log c.args.device.now) (g.D.Device.log c.lines.device) m m c.requires.fresh c.lines.invariant
     c.in_err-thing.ensures.heard.1 (gives_none m)
 
@@ -192,7 +192,7 @@ returns-in_err-respond-clause-in_time g c =
     let o : OutputSeen = output_seen g.D.Sink.contents g.D.Sink.failures c.args.device.now in
     let p : OutputSeen = output_seen g.D.Sink.contents g.D.Sink.failures c.lines.device in
     let m : Log = g.D.Device.log c.hear.new.reader in
-    talks_last c.args.workers i j o p c.args.hearing.now c.lines.hearing c.args.talk.now c.lines.talk
+    talks_last c.args.workers i j o p c.args.hearing.now c.lines.hearing c.args.player.now c.lines.player
     (g.D.Device.log c.args.device.now) (g.D.Device.log c.lines.device) m (g.D.Device.log c.respond.new.writer)
     c.requires.fresh c.lines.invariant
     (reads_open (g.D.Device.log c.lines.device) m c.args.workers c.lines.hearing.input _
@@ -205,7 +205,7 @@ returns-in_err-answer-clause-in_time g c =
     let o : OutputSeen = output_seen g.D.Sink.contents g.D.Sink.failures c.args.device.now in
     let p : OutputSeen = output_seen g.D.Sink.contents g.D.Sink.failures c.lines.device in
     let m : Log = g.D.Device.log c.hear.new.reader in
-    talks_last c.args.workers i j o p c.args.hearing.now c.lines.hearing c.args.talk.now c.lines.talk
+    talks_last c.args.workers i j o p c.args.hearing.now c.lines.hearing c.args.player.now c.lines.player
     (g.D.Device.log c.args.device.now) (g.D.Device.log c.lines.device) m (g.D.Device.log c.answer.new.writer)
     c.requires.fresh c.lines.invariant
     (rw c.in_default.is at c.in_ok-thing.ensures.heard).1 c.in_err-answer.ensures.broken
@@ -217,7 +217,7 @@ returns-in_ok-answer-clause-in_time g c =
     let o : OutputSeen = output_seen g.D.Sink.contents g.D.Sink.failures c.args.device.now in
     let p : OutputSeen = output_seen g.D.Sink.contents g.D.Sink.failures c.lines.device in
     let m : Log = g.D.Device.log c.hear.new.reader in
-    talks_last c.args.workers i j o p c.args.hearing.now c.lines.hearing c.args.talk.now c.lines.talk
+    talks_last c.args.workers i j o p c.args.hearing.now c.lines.hearing c.args.player.now c.lines.player
     (g.D.Device.log c.args.device.now) (g.D.Device.log c.lines.device) m (g.D.Device.log c.answer.new.writer)
     c.requires.fresh c.lines.invariant
     (rw c.in_default.is at c.in_ok-thing.ensures.heard).1 (inr (
@@ -232,6 +232,6 @@ returns-else-has_begun-clause-in_time g c =
     let o : OutputSeen = output_seen g.D.Sink.contents g.D.Sink.failures c.args.device.now in
     let p : OutputSeen = output_seen g.D.Sink.contents g.D.Sink.failures c.lines.device in
     let m : Log = g.D.Device.log c.hear.new.reader in
-    talks_last c.args.workers i j o p c.args.hearing.now c.lines.hearing c.args.talk.now c.lines.talk
+    talks_last c.args.workers i j o p c.args.hearing.now c.lines.hearing c.args.player.now c.lines.player
     (g.D.Device.log c.args.device.now) (g.D.Device.log c.lines.device) m m c.requires.fresh c.lines.invariant
     (rw c.in_default.is at c.in_ok-thing.ensures.heard).1 (gives_none m)

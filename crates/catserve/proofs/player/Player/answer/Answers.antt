@@ -3,16 +3,16 @@ use Rattle.std.specs.Io.KnownBytes.{Appends}
 use Rattle.devices.specs.Devices.{AppendsFront, OutputSeen}
 use Rattle.devices.specs.Logs.{Gave, Grows, Log}
 use Rattle.catserve.specs.Run.{output_seen}
-use Rattle.catserve.specs.Talking.{BreaksRound, TalkValue}
+use Rattle.catserve.specs.Talking.{BreaksRound, PlayerValue}
 use Rattle.catserve.specs.Timing.{GivesRound}
-use Rattle.catserve.proofs.talk.Talk.answer.Goals as goal
+use Rattle.catserve.proofs.player.Player.answer.Goals as goal
 
 pub returns-in-Err-clause-fault : goal.returns-in-Err-clause-fault
 returns-in-Err-clause-fault g c =
     let o : OutputSeen = output_seen g.W.Sink.contents g.W.Sink.failures c.args.writer.now in
     let p : OutputSeen = output_seen g.W.Sink.contents g.W.Sink.failures c.write_all.new.self in
     let Front : List ℕ → Type 0 = λ bytes. AppendsFront o.bytes p.bytes bytes in
-    let P : TalkValue → Type 0 = λ x. BreaksRound x o p in
+    let P : PlayerValue → Type 0 = λ x. BreaksRound x o p in
     subst P c.self.view_is (record {
       lines = c.finish.new.output.items;
       store = c.finish.new.publisher;
@@ -29,14 +29,14 @@ returns-in-Ok-clause-ok g c =
     let b : Log = g.W.Device.log c.write_all.new.self in
     let Written : List ℕ → Type 0 = λ bytes. Appends o.bytes p.bytes bytes in
     let Logged : List ℕ → Type 0 = λ bytes. Grows a b (Gave bytes ∷ []) in
-    let new : TalkValue = record {
+    let new : PlayerValue = record {
       store = c.finish.new.publisher;
       desks = c.finish.new.desks.items;
       held = [];
       begun = false;
     } in
-    let P : TalkValue → Type 0 = λ x. GivesRound x new o p a b in
-    let Q : TalkValue → Type 0 = λ y. GivesRound c.args.self.now y o p a b in
+    let P : PlayerValue → Type 0 = λ x. GivesRound x new o p a b in
+    let Q : PlayerValue → Type 0 = λ y. GivesRound c.args.self.now y o p a b in
     subst Q (sym c.next_round.ensures) (subst P c.self.view_is (
       record {
         lines = c.finish.new.output.items;
