@@ -3,8 +3,9 @@
 A Log adds publishes to the log; a Follower on each machine plays them into its store. Both need psycopg 3, which is
 the extra `fleet` of this package (python3-psycopg in Debian). The program kob-fleet does both from a shell.
 """
-from ._follow import Damaged, Difference, Follower, StoreFailed
+from ._follow import Difference, Follower, StoreFailed
 from ._log import Load, Log, Machine, NoLog, Row, Status, Unanswered
+from ._queries import Damaged
 from ._store import Behind, SessionTexts, Snapshot, Store
 from ._web import ASGIMiddleware, WSGIMiddleware
 

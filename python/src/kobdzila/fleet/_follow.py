@@ -2,22 +2,22 @@
 from __future__ import annotations
 
 import contextlib
-import hashlib
+import itertools
 import os
 import selectors
 import socket
 import threading
 import time
-import uuid
 from bisect import bisect_right
-from collections.abc import Callable, Sequence
+from collections.abc import Callable, Iterator, Sequence
 from types import TracebackType
-from typing import TYPE_CHECKING, Any, NamedTuple
+from typing import TYPE_CHECKING, Any
 
 import psycopg
 
 from .._session import Session
-from ._log import CHANNEL, CONNECT_TIMEOUT, Connection, Load, history_of, one, seal_of, with_defaults
+from ._log import CHANNEL, CONNECT_TIMEOUT, Connection, Load, one, with_defaults
+from ._queries import LAST, NEXT, Cut, Damaged, Head, Publish, check_count, checked, loads_of, streamed
 from ._store import Behind, SessionTexts, Snapshot, Store
 
 if TYPE_CHECKING:
@@ -46,38 +46,8 @@ class StoreFailed(Exception):
     """The store refused a publish of the log. The follower has stopped; the store answers on."""
 
 
-class Damaged(Exception):
-    """A row of the log isn't as it was written. Nothing of it is played; the follower looks again."""
-
-
 class Lagging(Exception):
     """A standby has not yet got what this machine shows."""
-
-
-class Cut(Exception):
-    """The loads of a publish were cut."""
-
-
-class Publish(NamedTuple):
-    version: int
-    id: uuid.UUID
-    loads: int
-    history: bytes
-    newest: int  # version of the log
-    cut: int
-    rows: Sequence[Sequence[Any]]  # of its loads, each with its file
-
-
-# the publish that a machine shows, without its loads, and the next one, in one round trip
-NEXT = """
-select p.version, p.id, p.loads, p.history, (select max(version) from kobdzila.publish), (select cut from kobdzila.log),
-  l.version, l.domain, l.locale, l.sum, l.seal, f.mo
-from (select * from kobdzila.publish where version >= %(mine)s order by version limit 2) p
-left join kobdzila.load l on p.version > %(mine)s and l.version > p.version - p.loads and l.version <= p.version
-  and p.loads <= %(most)s
-left join kobdzila.file f on f.sum = l.sum
-order by p.version, l.version
-"""
 
 
 class Follower:
@@ -219,7 +189,6 @@ class Follower:
 
     def _follow(self, connection: Connection) -> None:
         """Play what comes, until the connection is lost or the follower ends."""
-        connection.isolation_level, connection.read_only = psycopg.IsolationLevel.REPEATABLE_READ, True
         connection.execute("select set_config('synchronous_commit', 'off', false)")  # (it writes nothing but reports)
         connection.add_notify_handler(lambda notice: setattr(self, "_heard", True))
         self._standby = True
@@ -297,84 +266,53 @@ class Follower:
         """Play the next publish, or more than one if this machine is far behind, and say whether there are more."""
         if self._version == 0:
             return self._jump(connection)
-        found = connection.execute(NEXT, {"mine": self._version, "most": MOST_LOADS}, binary=True).fetchall()
-        publishes = [Publish(version, id, loads, history, newest, cut,
-                             [row[6:] for row in found if row[0] == version and row[6] is not None])
-                     for version, id, loads, history, newest, cut in dict.fromkeys(row[:6] for row in found)]
-        self._check_own(connection, publishes[:1])
-        if len(publishes) < 2:
-            return False
-        publish = publishes[1]
-        try:
-            if publish.newest - self._version > MOST_LOADS:
-                return self._jump(connection)
-            self._play(publish)
-        except Cut:
+        with streamed(connection, NEXT, mine=self._version, most=MOST_LOADS) as rows:
+            self._check_own(Publish(*next(rows)[:6]))
+            first = next(rows, None)
+            if first is None:
+                return False
+            publish = Publish(*first[:6])
+            loads = self._taken(publish, itertools.chain([first], rows))
+        if loads is None:
             return self._jump(connection)
+        self._show(loads, publish.version, publish.history)
+        return publish.version < publish.newest
+
+    def _check_own(self, own: Publish) -> None:
+        """The log has the publish that this machine shows, after the same history."""
+        if own.version != self._version:
+            if self._standby and own.newest < self._version:
+                raise Lagging(f"the standby has version {own.newest}, and this machine shows {self._version}")
+            raise Difference(self._version, own.newest, "the log has lost publishes that this machine shows")
+        if own.history != self._history:
+            raise Difference(self._version, own.version, "the log has another history up to this version")
+
+    def _taken(self, publish: Publish, rows: Iterator[Sequence[Any]]) -> list[Load] | None:
+        """Return the loads of the next publish, or None if this machine has to take the last loads instead."""
+        if publish.newest - self._version > MOST_LOADS:
+            return None
+        try:
+            return loads_of(publish, rows, self._version, self._history)
+        except Cut:
+            return None
         except Damaged:
             if publish.version == publish.newest:
                 raise
-            return self._jump(connection)  # (where later loads for the same names are whole)
-        return publish.version < publish.newest
-
-    def _check_own(self, connection: Connection, found: Sequence[Publish]) -> None:
-        """The log has the publish that this machine shows, after the same history."""
-        if not found or found[0].version != self._version:
-            (newest,) = one(connection.execute("select coalesce(max(version), 0) from kobdzila.publish"))
-            if self._standby and newest < self._version:
-                raise Lagging(f"the standby has version {newest}, and this machine shows {self._version}")
-            raise Difference(self._version, newest, "the log has lost publishes that this machine shows")
-        if found[0].history != self._history:
-            raise Difference(self._version, found[0].version, "the log has another history up to this version")
-
-    def _play(self, publish: Publish) -> None:
-        """Play a whole publish, whose rows are checked first."""
-        first = publish.version - publish.loads
-        if first != self._version:
-            raise Damaged(f"publish {publish.version} of the log doesn't follow {self._version}")
-        if len(publish.rows) != publish.loads:
-            if first < publish.cut:
-                raise Cut
-            raise Damaged(f"publish {publish.version} of the log has {len(publish.rows)} of its {publish.loads} loads")
-        loads = [checked(row[:5], row[5]) for row in publish.rows]
-        if history_of(self._history, publish.id, [row[4] for row in publish.rows]) != publish.history:
-            raise Damaged(f"publish {publish.version} of the log has another history than its loads")
-        self._show(loads, publish.version, publish.history)
+            return None  # (later loads for these names may be whole)
 
     def _jump(self, connection: Connection) -> bool:
         """Take the last load of each domain and locale, and go on from the log's newest version."""
-        with connection.transaction():
-            self._take_last(connection)
+        with streamed(connection, LAST, mine=self._version) as rows:
+            first = next(rows, None)
+            if first is not None:
+                head = Head(*first[:6])
+                check_count(head, self._version)
+                loads = [checked(row[6:11], row[11]) for row in itertools.chain([first], rows)]
+        if first is None:
+            self._show((), 0, b"")
+        else:
+            self._show(loads, head.version, head.history, jumps=True)
         return False
-
-    def _take_last(self, connection: Connection) -> None:
-        newest = connection.execute(
-            "select version, history from kobdzila.publish order by version desc limit 1", binary=True).fetchone()
-        if newest is None:
-            return self._show((), 0, b"")
-        version, history = newest
-        self._check_count(connection, version)
-        rows = connection.execute(
-            "select distinct on (domain, locale) version, domain, locale, sum, seal from kobdzila.load"
-            " where version > %s and version <= %s order by domain, locale, version desc",
-            (self._version, version), binary=True).fetchall()
-        loads = []
-        for row in rows:
-            found = connection.execute("select mo from kobdzila.file where sum = %b", (row[3],), binary=True).fetchone()
-            loads.append(checked(row, found[0] if found else None))
-        self._show(loads, version, history, jumps=True)
-
-    def _check_count(self, connection: Connection, version: int) -> None:
-        """No load of the log is missing but those that were cut."""
-        cut, kept = one(connection.execute("select cut, kept from kobdzila.log"))
-        parts = [(max(cut, self._version), version, version - max(cut, self._version))]
-        if self._version < cut:
-            parts.append((0, cut, kept))
-        for first, last, count in parts:
-            (found,) = one(connection.execute(
-                "select count(*) from kobdzila.load where version > %s and version <= %s", (first, last)))
-            if found != max(0, count):
-                raise Damaged(f"the log has {found} loads after {first} up to {last}, and not {count}")
 
     def _show(self, loads: Sequence[Load], version: int, history: bytes, jumps: bool = False) -> None:
         """Load and publish; the version that the store answers has to be the log's."""
@@ -413,13 +351,3 @@ class Follower:
                 parts.append([])
             parts[-1].append(load)
         return [part for part in parts if part]
-
-
-def checked(row: Sequence[Any], mo: bytes | None) -> Load:
-    """Return a load of the log, whose row and file have to be as they were written."""
-    version, domain, locale, total, seal = row
-    if seal_of(version, domain, locale, total) != seal:
-        raise Damaged(f"load {version} of the log, {domain}/{locale}: its row was changed")
-    if mo is None or hashlib.sha256(mo).digest() != total:
-        raise Damaged(f"load {version} of the log, {domain}/{locale}: its file has another sum")
-    return Load(domain, locale, mo)

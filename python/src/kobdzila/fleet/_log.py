@@ -169,8 +169,9 @@ class Log:
         for load in kept:
             check_load(load)
         number = id or uuid.uuid4()
-        files = {hashlib.sha256(load.mo).digest(): load.mo for load in kept}
-        pairs = [(load.domain, load.locale, hashlib.sha256(load.mo).digest()) for load in kept]
+        sums = [hashlib.sha256(load.mo).digest() for load in kept]
+        files = {total: load.mo for total, load in zip(sums, kept)}
+        pairs = [(load.domain, load.locale, total) for total, load in zip(sums, kept)]
 
         def work(connection: Connection) -> int:
             with connection.transaction():
