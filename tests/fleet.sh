@@ -63,7 +63,7 @@ for it in init publish follow status history rollback compact; do
   done
 done
 
-for name in log web command failures; do
+for name in log store web command failures; do
   (cd tests/fleet && timeout 300 python -W error -m unittest -v "test_$name") > "$room/said" 2>&1
   status=$?
   count=$(sed -n 's/^Ran \([0-9]*\) tests\{0,1\} in .*/\1/p' "$room/said")

@@ -227,6 +227,15 @@ def primary(*settings: str, fsync: bool = False) -> Iterator[Server]:
             server.stop()
 
 
+@functools.lru_cache(maxsize=1)
+def shared() -> Server:
+    """A primary that all tests of this process share. It ends with the process."""
+    stack = contextlib.ExitStack()
+    server = stack.enter_context(primary())
+    atexit.register(stack.close)  # (which comes before the finalizers of folders)
+    return server
+
+
 @contextlib.contextmanager
 def pair(*settings: str, fsync: bool = False) -> Iterator[tuple[Server, Server]]:
     """A primary that waits until its standby shows each commit, and the standby."""

@@ -12,7 +12,6 @@ import tempfile
 import unittest
 import uuid
 from pathlib import Path
-from typing import Any
 from unittest import mock
 
 import kobdzila
@@ -22,28 +21,21 @@ from stores import NO_SESSION, has_catsession
 
 TOP = Path(__file__).resolve().parents[2]
 GUIDE = TOP / "docs" / "guide" / "fleet.md"
-SERVER: Any = None
-
-
-def setUpModule() -> None:
-    global SERVER
-    made = servers.primary()
-    SERVER = made.__enter__()
-    unittest.addModuleCleanup(made.__exit__, None, None, None)
 
 
 class CommandTest(unittest.TestCase):
     def setUp(self) -> None:
+        self.address = servers.shared().address
         folder = tempfile.TemporaryDirectory()
         self.addCleanup(folder.cleanup)
         self.room = Path(folder.name)
-        self.environment = {**os.environ, "KOB_FLEET_DATABASE": SERVER.address, "TZ": "UTC", "LC_ALL": "C.UTF-8"}
+        self.environment = {**os.environ, "KOB_FLEET_DATABASE": self.address, "TZ": "UTC", "LC_ALL": "C.UTF-8"}
         program = self.room / "kob-fleet"
         program.write_text(f'#!/bin/sh\nexec {sys.executable} -m kobdzila.fleet._command "$@"\n', encoding="utf-8")
         program.chmod(0o755)
         self.environment["PATH"] = f"{self.room}:{os.environ['PATH']}"
         self.run_program("init")
-        with Log(SERVER.address) as log:
+        with Log(self.address) as log:
             log._connected().execute("drop schema kobdzila cascade")
 
     def run_program(self, *words: str) -> tuple[int, str, str]:
@@ -150,7 +142,7 @@ class CommandTest(unittest.TestCase):
         (self.room / "examples").symlink_to(TOP / "examples")
         written = "host=127.0.0.1 port=5432 dbname=texts user=kob"
         self.assertIn(written, scripts[0])
-        first, second = (it.replace(written, SERVER.address) for it in scripts)
+        first, second = (it.replace(written, self.address) for it in scripts)
         done = subprocess.run(["sh", "-e", "-c", first], cwd=self.room, env=self.environment, capture_output=True,
                               text=True, timeout=60)
         self.assertEqual((done.returncode, done.stderr, done.stdout), (0, "", "version 0\nversion 2\n" + printed))
@@ -161,7 +153,7 @@ class CommandTest(unittest.TestCase):
         # (the texts are those of version 2, so the rollback has nothing to publish; web1 is at version 2)
         self.assertEqual((lines[0], lines[3], lines[-1]), ("version 3", "version 3", "cut up to version 2"))
         for program in re.findall(r"^```python\n(.*?)^```$", text, re.M | re.S)[:2]:
-            self.runs(program.replace("host=db1,db2 dbname=texts user=kob", SERVER.address))
+            self.runs(program.replace("host=db1,db2 dbname=texts user=kob", self.address))
         refused = re.search(r"^    (fr\.po:3: .*)\n    (kob-fleet: .*)$", text, re.M)
         self.file("fr.po", 'msgid "a"\nmsgstr "x"\nmsgid "a"\nmsgstr "y"\n')
         self.assertEqual(self.run_program("publish", "garden/fr=fr.po")[2], f"{refused[1]}\n{refused[2]}\n")

@@ -10,53 +10,18 @@ from typing import Any
 import psycopg
 
 import kobdzila
-import servers
+from cases import LogCase
 from kobdzila.fleet import Behind, Difference, Follower, Log, NoLog, StoreFailed, _log
 from stores import NO_SESSION, PAIRS, Catalogues, Readers, has_catsession, loads, mo, until
 
-SERVER: Any = None
 
-
-def setUpModule() -> None:
-    global SERVER
-    made = servers.primary()
-    SERVER = made.__enter__()
-    unittest.addModuleCleanup(made.__exit__, None, None, None)
-
-
-class FleetTest(unittest.TestCase):
-    """Each test begins with an empty log."""
-
-    def setUp(self) -> None:
-        self.address = SERVER.address
-        self.sql("drop schema if exists kobdzila cascade")
-        self.log = Log(self.address)
-        self.log.init()
-        self.followers: list[Follower] = []
-        self.addCleanup(self.log.close)
-
-    def sql(self, text: str, *values: object) -> list[Any]:
-        with psycopg.connect(self.address, autocommit=True) as connection:
-            cursor = connection.execute(text, values)
-            return cursor.fetchall() if cursor.description else []
-
+class LogTest(LogCase):
     @staticmethod
     def append(connection: Any, number: int) -> None:
         """Add both pairs with this number in the connection's transaction."""
         total = hashlib.sha256(mo(number)).digest()
         _log.keep_files(connection, {total: mo(number)})
         _log.append(connection, uuid.uuid4(), [(*pair, total) for pair in PAIRS], "")
-
-    def follower(self, store: Any = None, machine: str = "m", **options: Any) -> Follower:
-        made = Follower(Catalogues() if store is None else store, self.address, machine, **options)
-        made.start()
-        self.followers.append(made)
-        self.addCleanup(made.close)
-        return made
-
-    def text(self, follower: Follower, domain: str = "app", at_least: int = 0) -> str:
-        with follower.snapshot(at_least=at_least, within=10) as texts:
-            return str(texts.gettext(domain, "fr", "k1"))
 
     # --- publishing
 
@@ -103,7 +68,7 @@ class FleetTest(unittest.TestCase):
                     self.assertTrue(taken, name)
 
     def test_no_log(self) -> None:
-        with Log(SERVER.address.replace("dbname=postgres", "dbname=template1")) as log, self.assertRaises(NoLog):
+        with Log(self.address.replace("dbname=postgres", "dbname=template1")) as log, self.assertRaises(NoLog):
             log.publish(loads(1))
 
     def test_two_publishers_at_once(self) -> None:
@@ -163,14 +128,6 @@ class FleetTest(unittest.TestCase):
                     self.assertEqual(texts.version, version)
             self.assertLess(session.version, follower.version)
             follower.close()
-
-    @unittest.skipUnless(hasattr(kobdzila, "Store"), "this package has no Store")
-    def test_a_store_for_programs_in_python_is_fed(self) -> None:
-        follower = self.follower(getattr(kobdzila, "Store")("app"))
-        for number in range(1, 4):
-            version = self.log.publish(loads(number))
-            with follower.snapshot(at_least=version, within=10, languages="fr_CA") as texts:
-                self.assertEqual((texts.version, texts.gettext("k1")), (version, f"k1 at {number}"))
 
     def test_joining_late_takes_the_last_loads_and_counts_on(self) -> None:
         early = self.follower()
@@ -430,11 +387,15 @@ class FleetTest(unittest.TestCase):
         self.log.publish(loads(1))
         follower.wait_for(2, 10)
         until(lambda: [it.version for it in self.log.status().machines] == [2])
-        before = self.sql("select xact_commit from pg_stat_database where datname = current_database()")
-        # (a session's counts are sent when it is idle; each of these two queries is a transaction itself)
+        until(lambda: {state for _, state, _ in self.connections()} == {"idle"})
+        before = self.connections()
         threading.Event().wait(2)
-        after = self.sql("select xact_commit from pg_stat_database where datname = current_database()")
-        self.assertLess(after[0][0] - before[0][0], 8)
+        self.assertEqual(self.connections(), before)
+
+    def connections(self) -> list[Any]:
+        """What the followers and publishers did last, and when."""
+        return self.sql("select pid, state, state_change from pg_stat_activity where application_name = 'kob-fleet'"
+                        " order by pid")
 
 
 if __name__ == "__main__":

@@ -57,7 +57,31 @@ class SessionEnded(Exception):
     """The process has ended. The text is what it wrote to its error output."""
 
 
-class Session:
+class Calls:
+    """The four calls of gettext, each a question to `ask`."""
+
+    def ask(self, domain: str, languages: str, *questions: tuple[str | int, ...]) -> list[Answer]:
+        """Return the answers to several questions."""
+        raise NotImplementedError
+
+    def gettext(self, domain: str, languages: str, text: str) -> Answer:
+        """Return the translation of `text`."""
+        return self.ask(domain, languages, ("gettext", text))[0]
+
+    def pgettext(self, domain: str, languages: str, context: str, text: str) -> Answer:
+        """Return the translation of `text` in `context`."""
+        return self.ask(domain, languages, ("pgettext", context, text))[0]
+
+    def ngettext(self, domain: str, languages: str, text: str, plural: str, n: int) -> Answer:
+        """Return the plural form for `n`."""
+        return self.ask(domain, languages, ("ngettext", text, plural, n))[0]
+
+    def npgettext(self, domain: str, languages: str, context: str, text: str, plural: str, n: int) -> Answer:
+        """Return the plural form for `n` of a message in `context`."""
+        return self.ask(domain, languages, ("npgettext", context, text, plural, n))[0]
+
+
+class Session(Calls):
     """A process catsession. Its look-ups may come from any number of threads.
 
     `program` is the path of catsession: by default the one in this package, or else the one on the PATH.
@@ -125,22 +149,6 @@ class Session:
         _check_size(lines)
         _, reported = self._answer(lines)
         return [Answer(int(version), _unescaped(text)) for _, version, text in reported]
-
-    def gettext(self, domain: str, languages: str, text: str) -> Answer:
-        """Return the translation of `text`."""
-        return self.ask(domain, languages, ("gettext", text))[0]
-
-    def pgettext(self, domain: str, languages: str, context: str, text: str) -> Answer:
-        """Return the translation of `text` in `context`."""
-        return self.ask(domain, languages, ("pgettext", context, text))[0]
-
-    def ngettext(self, domain: str, languages: str, text: str, plural: str, n: int) -> Answer:
-        """Return the plural form for `n`."""
-        return self.ask(domain, languages, ("ngettext", text, plural, n))[0]
-
-    def npgettext(self, domain: str, languages: str, context: str, text: str, plural: str, n: int) -> Answer:
-        """Return the plural form for `n` of a message in `context`."""
-        return self.ask(domain, languages, ("npgettext", context, text, plural, n))[0]
 
     def close(self) -> None:
         """End the process."""

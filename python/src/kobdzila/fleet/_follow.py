@@ -9,8 +9,7 @@ import socket
 import threading
 import time
 from bisect import bisect_right
-from collections.abc import Callable, Iterator, Sequence
-from types import TracebackType
+from collections.abc import Callable, Iterable, Sequence
 from typing import TYPE_CHECKING, Any
 
 import psycopg
@@ -18,7 +17,7 @@ import psycopg
 from .._session import Session
 from ._log import CHANNEL, CONNECT_TIMEOUT, Connection, Load, one, with_defaults
 from ._queries import LAST, NEXT, Cut, Damaged, Head, Publish, check_count, checked, loads_of, streamed
-from ._store import Behind, SessionTexts, Snapshot, Store
+from ._store import Behind, Closing, SessionTexts, Snapshot, Store
 
 if TYPE_CHECKING:
     from typing_extensions import Self
@@ -50,7 +49,7 @@ class Lagging(Exception):
     """A standby has not yet got what this machine shows."""
 
 
-class Follower:
+class Follower(Closing):
     """Plays the log's publishes into a store, in a thread of its own.
 
     `store` is a kobdzila.Session or another Store. Nobody else may load into it after the start. Loads that it has
@@ -130,11 +129,6 @@ class Follower:
     def __enter__(self) -> Self:
         self.start()
         return self
-
-    def __exit__(
-        self, kind: type[BaseException] | None, fault: BaseException | None, trace: TracebackType | None
-    ) -> None:
-        self.close()
 
     def wait_for(self, at_least: int = 0, within: float = 0.5) -> int:
         """Wait until the machine has joined and shows `at_least` this version, and return the one that it shows.
@@ -266,7 +260,7 @@ class Follower:
         """Play the next publish, or more than one if this machine is far behind, and say whether there are more."""
         if self._version == 0:
             return self._jump(connection)
-        with streamed(connection, NEXT, mine=self._version, most=MOST_LOADS) as rows:
+        with contextlib.closing(streamed(connection, NEXT, mine=self._version, most=MOST_LOADS)) as rows:
             self._check_own(Publish(*next(rows)[:6]))
             first = next(rows, None)
             if first is None:
@@ -287,7 +281,7 @@ class Follower:
         if own.history != self._history:
             raise Difference(self._version, own.version, "the log has another history up to this version")
 
-    def _taken(self, publish: Publish, rows: Iterator[Sequence[Any]]) -> list[Load] | None:
+    def _taken(self, publish: Publish, rows: Iterable[Sequence[Any]]) -> list[Load] | None:
         """Return the loads of the next publish, or None if this machine has to take the last loads instead."""
         if publish.newest - self._version > MOST_LOADS:
             return None
@@ -302,7 +296,7 @@ class Follower:
 
     def _jump(self, connection: Connection) -> bool:
         """Take the last load of each domain and locale, and go on from the log's newest version."""
-        with streamed(connection, LAST, mine=self._version) as rows:
+        with contextlib.closing(streamed(connection, LAST, mine=self._version)) as rows:
             first = next(rows, None)
             if first is not None:
                 head = Head(*first[:6])

@@ -7,16 +7,13 @@ import re
 import time
 import uuid
 from collections.abc import Callable, Iterable, Sequence
-from types import TracebackType
-from typing import TYPE_CHECKING, Any, NamedTuple, TypeAlias
+from typing import Any, NamedTuple, TypeAlias
 
 import psycopg
 from psycopg import conninfo, errors
 
 from .._catalogue import Catalogue
-
-if TYPE_CHECKING:
-    from typing_extensions import Self
+from ._store import Closing
 
 Connection: TypeAlias = "psycopg.Connection[Any]"
 
@@ -126,7 +123,7 @@ class Status(NamedTuple):
     machines: Sequence[Machine]
 
 
-class Log:
+class Log(Closing):
     """The log of loads in a database: publish to it, and see what is in it.
 
     `database` is a connection string of libpq, such as "host=db1,db2 dbname=texts user=kob". What it leaves out comes
@@ -258,14 +255,6 @@ class Log:
         if self._connection is not None:
             self._connection.close()
             self._connection = None
-
-    def __enter__(self) -> Self:
-        return self
-
-    def __exit__(
-        self, kind: type[BaseException] | None, fault: BaseException | None, trace: TracebackType | None
-    ) -> None:
-        self.close()
 
     def _connected(self) -> Connection:
         if self._connection is None or self._connection.closed:

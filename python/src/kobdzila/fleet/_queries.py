@@ -1,10 +1,9 @@
 """What a follower asks of the log. Each question is one query, whose rows are checked while the next ones come."""
 from __future__ import annotations
 
-import contextlib
 import hashlib
 import uuid
-from collections.abc import Iterator, Sequence
+from collections.abc import Generator, Iterable, Sequence
 from typing import Any, NamedTuple
 
 from ._log import Connection, Load, history_of, seal_of
@@ -22,8 +21,8 @@ order by p.version, l.version
 """
 
 # The last load of each domain and locale after version `mine`, and how many loads the log has. The pairs are found one
-# by one in the index, in a fifth of the time of `distinct on` if there are 200 of them in 100,000 loads. `offset 0` keeps
-# the server from counting once more for each row.
+# by one in the index, in a fifth of the time of `distinct on` if there are 200 of them in 100,000 loads. Without
+# `offset 0` the server would count anew for each row.
 LAST = """
 with recursive head as (
   select p.version, p.history, log.cut, log.kept,
@@ -77,11 +76,9 @@ class Head(NamedTuple):
     found: int
 
 
-@contextlib.contextmanager
-def streamed(connection: Connection, query: str, **values: int) -> Iterator[Iterator[Sequence[Any]]]:
-    """Ask for rows, which come while the first ones are in use."""
-    with contextlib.closing(connection.cursor().stream(query, values, binary=True)) as rows:
-        yield rows
+def streamed(connection: Connection, query: str, **values: int) -> Generator[Sequence[Any], None, None]:
+    """Yield the rows, of which the server sends some while others are in use. Close it: that ends the query."""
+    yield from connection.cursor().stream(query, values, binary=True)
 
 
 def check_count(head: Head, mine: int) -> None:
@@ -95,7 +92,7 @@ def check_count(head: Head, mine: int) -> None:
             raise Damaged(f"the log has {found} loads after {after} up to {last}, and not {count}")
 
 
-def loads_of(publish: Publish, rows: Iterator[Sequence[Any]], mine: int, history: bytes) -> list[Load]:
+def loads_of(publish: Publish, rows: Iterable[Sequence[Any]], mine: int, history: bytes) -> list[Load]:
     """Return the loads of the publish that follows version `mine` and its history."""
     first = publish.version - publish.loads
     if first != mine:

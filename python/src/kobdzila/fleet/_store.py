@@ -6,7 +6,7 @@ from contextlib import AbstractContextManager
 from types import TracebackType
 from typing import TYPE_CHECKING, Any, Protocol
 
-from .._session import Answer, Session
+from .._session import Answer, Calls, Session
 
 if TYPE_CHECKING:
     from typing_extensions import Self
@@ -27,6 +27,21 @@ class Store(Protocol):
 
     def publish(self) -> int:
         """Show all loads since the last publish in one step, and return the version."""
+
+
+class Closing:
+    """What a `with` closes at its end."""
+
+    def close(self) -> None:
+        """Free what this has open."""
+
+    def __enter__(self) -> Self:
+        return self
+
+    def __exit__(
+        self, kind: type[BaseException] | None, fault: BaseException | None, trace: TracebackType | None
+    ) -> None:
+        self.close()
 
 
 class Behind(Exception):
@@ -73,7 +88,7 @@ class Snapshot:
         self._made.__exit__(kind, fault, trace)
 
 
-class SessionTexts:
+class SessionTexts(Closing, Calls):
     """Look-ups in a Session that a follower feeds. The versions of the answers are the log's.
 
     All answers to one `ask` are of one version. A later `ask` may be of a later one.
@@ -88,27 +103,3 @@ class SessionTexts:
         answers = self._session.ask(domain, languages, *questions)
         self.version = max([self.version, *(answer.version for answer in answers)])
         return [Answer(self._log_version(answer.version), answer.text) for answer in answers]
-
-    def gettext(self, domain: str, languages: str, text: str) -> Answer:
-        """Return the translation of `text`."""
-        return self.ask(domain, languages, ("gettext", text))[0]
-
-    def pgettext(self, domain: str, languages: str, context: str, text: str) -> Answer:
-        """Return the translation of `text` in `context`."""
-        return self.ask(domain, languages, ("pgettext", context, text))[0]
-
-    def ngettext(self, domain: str, languages: str, text: str, plural: str, n: int) -> Answer:
-        """Return the plural form for `n`."""
-        return self.ask(domain, languages, ("ngettext", text, plural, n))[0]
-
-    def npgettext(self, domain: str, languages: str, context: str, text: str, plural: str, n: int) -> Answer:
-        """Return the plural form for `n` of a message in `context`."""
-        return self.ask(domain, languages, ("npgettext", context, text, plural, n))[0]
-
-    def __enter__(self) -> Self:
-        return self
-
-    def __exit__(
-        self, kind: type[BaseException] | None, fault: BaseException | None, trace: TracebackType | None
-    ) -> None:
-        pass
