@@ -1,20 +1,21 @@
 #!/usr/bin/env python3
 """Times a fleet: one primary, one synchronous standby, and followers that are a process each. Run by bench/fleet/run.
 
-    commit to last follower    two catalogues of 0.5 MB are published, in the middle of 200; from the return of publish
-                               until the last follower shows them
-    publishes a second         publishes of two small catalogues, 100 a second if the machine can; and how long after
-                               the last one the last follower shows it
-    joining                    the log has 100,000 loads of 200 catalogues of 0.5 MB; from the start of a follower until
-                               it shows them
+    latency    two catalogues of 0.5 MB are published, in the middle of 200: from the return of publish until the last
+               follower shows them
+    rate       publishes of two small catalogues, 100 a second, and how long after each one the last follower shows it
+    joining    the log has 100,000 loads of 200 catalogues of 0.5 MB: from the start of a follower until it shows them
 
-The store of a follower is catsession, then kobdzila.Store, each if it is there, and then a dict of
-kobdzila.Catalogue, as in the tests.
+The store of a follower is catsession, then kobdzila.Store, then a dict of kobdzila.Catalogue; --kind picks one. Each
+line says whether the goal is met, and the status is 1 if one isn't.
 """
 import argparse
+import bisect
 import hashlib
 import multiprocessing
+import os
 import statistics
+import sys
 import time
 import uuid
 
@@ -23,10 +24,15 @@ import psycopg
 import kobdzila
 import servers
 from kobdzila.fleet import Follower, Log, _log
-from stores import Catalogues, has_catsession, mo
+from stores import kinds, mo, opened
 
 LARGE, COUNT = 500_000, 200
 LOADS = 100_000
+JOINS = 3
+# goals
+MEDIAN, WORST = 0.050, 0.200  # of the latency, in seconds
+SHARE, LATE = 0.99, 1.0  # of the rate, and how late a follower may be at any time
+JOINED = 2.0
 
 
 def large(number):
@@ -35,52 +41,64 @@ def large(number):
     return kobdzila.Catalogue.from_po(text.encode()).mo_file()
 
 
-def opened(kind):
-    """A store of a kind."""
-    return {"catsession": kobdzila.Session, "Store": getattr(kobdzila, "Store", None), "catalogues": Catalogues}[kind]()
+def follow(kind, address, at, versions, pipe):
+    """A follower's process. It notes when it shows each version, and sends that at its end."""
+    shown = []
 
+    def note(version):
+        shown.append((version, time.monotonic()))
+        versions[at] = version
 
-def follow(kind, address, name, pipe):
-    """A follower's process: sends each version with the time when it is shown, until the pipe closes."""
-    made = Follower(opened(kind), address, name, on_version=lambda version: pipe.send((version, time.monotonic())))
-    with made:
-        pipe.poll(None)
-        if made.stopped:
-            print(f"{name} stopped: {made.stopped}", flush=True)
+    with Follower(opened(kind), address, f"m{at}", on_version=note) as follower:
+        pipe.recv()
+        if follower.stopped:
+            print(f"m{at} stopped: {follower.stopped}", flush=True)
+    pipe.send(shown)
 
 
 class Fleet:
     """Followers in processes of their own."""
 
     def __init__(self, kind, address, count):
-        self.ends, self.processes = [], []
+        self.versions = multiprocessing.RawArray("q", [-1] * count)
+        self.pipes, self.processes = [], []
         for at in range(count):
             mine, other = multiprocessing.Pipe()
-            process = multiprocessing.Process(target=follow, args=[kind, address, f"m{at}", other], daemon=True)
+            process = multiprocessing.Process(target=follow, args=[kind, address, at, self.versions, other],
+                                              daemon=True)
             process.start()
-            self.ends.append(mine)
+            self.pipes.append(mine)
             self.processes.append(process)
 
-    def shown(self, version):
-        """The time when the last follower shows a version."""
-        last = 0.0
-        for end in self.ends:
-            seen = -1
-            while seen < version:
-                assert end.poll(60), f"a follower is at {seen}, and not at {version}"
-                seen, when = end.recv()
-            last = max(last, when)
-        return last
+    def wait(self, version):
+        """Wait until the last follower shows a version."""
+        end = time.monotonic() + 60
+        while min(self.versions) < version:
+            assert time.monotonic() < end, f"the followers are at {list(self.versions)}, and not at {version}"
+            time.sleep(0.001)
 
-    def close(self):
-        for end in self.ends:
-            end.send("end")
-        for process in self.processes:
+    def close(self, publishes):
+        """End the followers, and return how long after each of these publishes the last one showed it."""
+        lags = [0.0] * len(publishes)
+        for pipe in self.pipes:
+            pipe.send(None)
+        for pipe, process in zip(self.pipes, self.processes):
+            shown = pipe.recv()
+            versions = [version for version, _ in shown]
+            for at, (version, done) in enumerate(publishes):
+                lags[at] = max(lags[at], shown[bisect.bisect_left(versions, version)][1] - done)
             process.join(10)
+        return lags
 
 
 def milliseconds(times):
     return f"median {statistics.median(times) * 1e3:.1f} ms, worst {max(times) * 1e3:.1f} ms of {len(times)}"
+
+
+def verdict(text, is_met):
+    """Print a line, and return whether the goal is met."""
+    print(f"{text}: {'met' if is_met else 'MISSED'} (load {os.getloadavg()[0]:.1f})", flush=True)
+    return is_met
 
 
 def latency(kind, address, options):
@@ -91,37 +109,41 @@ def latency(kind, address, options):
         for first in range(0, COUNT, 20):
             version = log.publish([(f"app{at}", "fr", files[0]) for at in range(first, first + 20)])
         fleet = Fleet(kind, address, options.followers)
-        fleet.shown(version)
-        publishing, showing = [], []
+        fleet.wait(version)
+        publishing, publishes = [], []
         for number in range(options.publishes):
             pair = [("app99", "fr", files[number % 4]), ("app100", "fr", files[(number + 1) % 4])]
             begun = time.monotonic()
             version = log.publish(pair)
-            done = time.monotonic()
-            publishing.append(done - begun)
-            showing.append(max(0.0, fleet.shown(version) - done))
+            publishes.append((version, time.monotonic()))
+            publishing.append(publishes[-1][1] - begun)
+            fleet.wait(version)
             time.sleep(0.05)
-        print(f"{kind}: {options.followers} followers, commit to last follower: {milliseconds(showing)}")
-        print(f"{kind}: publish itself, two files of {len(files[0])} bytes: {milliseconds(publishing)}", flush=True)
-        fleet.close()
+    lags = fleet.close(publishes)
+    print(f"{kind}: publish itself, two files of {len(files[0])} bytes: {milliseconds(publishing)}")
+    return verdict(f"{kind}: {options.followers} followers, from commit to the last one: {milliseconds(lags)}",
+                   statistics.median(lags) <= MEDIAN and max(lags) <= WORST)
 
 
 def rate(kind, address, options):
+    files = [mo(number, 20) for number in range(50)]
+    publishes = []
     with Log(address) as log:
         log.init()
         fleet = Fleet(kind, address, options.followers)
-        fleet.shown(0)
-        files = [mo(number, 20) for number in range(50)]
-        begun, count, version = time.monotonic(), 0, 0
+        fleet.wait(0)
+        begun = time.monotonic()
         while time.monotonic() < begun + options.seconds:
+            count = len(publishes)
             version = log.publish([("app", "fr", files[count % 50]), ("mail", "fr", files[count % 50])])
-            count += 1
-            time.sleep(max(0.0, begun + count / options.rate - time.monotonic()))
-        done = time.monotonic()
-        late = fleet.shown(version) - done
-        print(f"{kind}: {count / (done - begun):.1f} publishes a second for {done - begun:.0f} s; the last follower "
-              f"shows the last one {max(0.0, late) * 1e3:.1f} ms later", flush=True)
-        fleet.close()
+            publishes.append((version, time.monotonic()))
+            time.sleep(max(0.0, begun + (count + 1) / options.rate - time.monotonic()))
+        fleet.wait(version)
+    reached = len(publishes) / (publishes[-1][1] - begun)
+    lags = fleet.close(publishes)
+    return verdict(f"{kind}: {options.followers} followers, {reached:.1f} publishes a second, "
+                   f"from each commit to the last one: {milliseconds(lags)}",
+                   reached >= SHARE * options.rate and max(lags) <= LATE)
 
 
 def joining(kind, address, options):
@@ -137,32 +159,37 @@ def joining(kind, address, options):
             _log.append(connection, uuid.uuid4(), pairs, "")
     with psycopg.connect(address, autocommit=True) as connection:
         connection.execute("vacuum analyze")
-    for at in range(3):
+    times = []
+    for _ in range(JOINS):
         store = opened(kind)
         begun = time.monotonic()
         with Follower(store, address, "late") as follower:
             version = follower.wait_for(LOADS, 60)
-            print(f"{kind}: a machine joins at version {version} with {COUNT} catalogues of {size} bytes: "
-                  f"{time.monotonic() - begun:.2f} s", flush=True)
+            times.append(time.monotonic() - begun)
         getattr(store, "close", lambda: None)()
+    return verdict(f"{kind}: a machine joins at version {version} with {COUNT} catalogues of {size} bytes in "
+                   + ", ".join(f"{it:.2f} s" for it in times), max(times) <= JOINED)
+
+
+WORKS = {"latency": latency, "rate": rate, "joining": joining}
 
 
 def main():
     parser = argparse.ArgumentParser(description="Time a fleet.")
     parser.add_argument("--followers", type=int, default=16)
-    parser.add_argument("--publishes", type=int, default=60)
-    parser.add_argument("--seconds", type=float, default=20)
-    parser.add_argument("--rate", type=float, default=100)
-    parser.add_argument("only", nargs="*", help="latency, rate, joining")
+    parser.add_argument("--publishes", type=int, default=60, help="of latency")
+    parser.add_argument("--seconds", type=float, default=20, help="of rate")
+    parser.add_argument("--rate", type=float, default=100, help="publishes a second")
+    parser.add_argument("--kind", action="append", choices=kinds(), help="of store; all that are there")
+    parser.add_argument("only", nargs="*", metavar="WORK", help=", ".join(WORKS))
     options = parser.parse_args()
-    kinds = ["catsession"] * has_catsession() + ["Store"] * hasattr(kobdzila, "Store") + ["catalogues"]
-    for work in (latency, rate, joining):
-        if options.only and work.__name__ not in options.only:
-            continue
-        for kind in kinds:
+    are_met = []
+    for name in options.only or WORKS:
+        for kind in options.kind or kinds():
             with servers.pair("max_wal_size = 4GB", "shared_buffers = 256MB") as (first, second):
-                work(kind, servers.both(first, second), options)
+                are_met.append(WORKS[name](kind, servers.both(first, second), options))
+    return 0 if all(are_met) else 1
 
 
 if __name__ == "__main__":
-    main()
+    sys.exit(main())

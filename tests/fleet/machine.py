@@ -1,16 +1,19 @@
 """A machine of the soak: a process that follows the log, with readers who check all that they see.
 
-    machine.py NAME DATABASE    for each line of its input, prints version, look-ups, and what was wrong, as JSON
+    machine.py NAME KIND DATABASE
+
+KIND is that of its store. For each line of its input it prints version, numbers, look-ups, what was wrong, and why it
+has stopped, as JSON.
 """
 import json
 import sys
 
 from kobdzila.fleet import Follower
-from stores import Catalogues, Readers
+from stores import Readers, opened
 
 
-def main(name: str, database: str) -> None:
-    with Follower(Catalogues(), database, name, look_each=1) as follower:
+def main(name: str, kind: str, database: str) -> None:
+    with Follower(opened(kind), database, name, look_each=1) as follower:
         readers = Readers(follower)
         for _ in sys.stdin:
             number = sorted(follower.store.snapshot().numbers())

@@ -4,10 +4,11 @@
     tests/fleet/soak.py [SECONDS [SEED]]    600 seconds by default; the seed is printed
 
 Two servers take turns as primary and standby. Four machines follow, each with a reader who looks up all the time in
-texts that carry their number. In the end every publish that was answered has to be in the log once. All
-machines have to be at its version with one set of texts, and no reader may have gone back, or seen half of a publish.
+texts that carry their number; their stores are of all kinds. In the end every publish that was answered has to be in
+the log once. All machines have to be at its version with one set of texts, and no reader may have gone back, or seen
+half of a publish. Ten minutes have to check 10,000,000 look-ups, and a shorter run its share.
 
-Run it in an environment with the wheel and psycopg, as tests/fleet.sh makes one.
+bench/fleet/run soak runs it in an environment with the wheel and psycopg.
 """
 from __future__ import annotations
 
@@ -21,26 +22,29 @@ import threading
 import time
 import uuid
 from collections import Counter
+from itertools import cycle
 from pathlib import Path
 
 import psycopg
 
 import servers
 from kobdzila.fleet import Log
-from stores import loads, until
+from stores import kinds, loads, until
 
-NAMES = ("m0", "m1", "m2", "m3")
+MACHINES = 4
+LOOKS = 10_000_000 / 600  # look-ups that a second has to check
 
 
 class Machine:
-    def __init__(self, name: str, address: str) -> None:
-        self.name, self.address = name, address
+    def __init__(self, name: str, kind: str, address: str) -> None:
+        self.name, self.kind, self.address = name, kind, address
         self.looks = 0
         self.wrong: list[str] = []
         self.start()
 
     def start(self) -> None:
-        command = [sys.executable, str(Path(__file__).with_name("machine.py")), self.name, self.address]
+        command = [sys.executable, str(Path(__file__).with_name("machine.py")), self.name, self.kind,
+                   self.address]
         self.process = subprocess.Popen(command, stdin=subprocess.PIPE, stdout=subprocess.PIPE, text=True)
 
     def ask(self) -> tuple[int, list[str]]:
@@ -74,7 +78,7 @@ class Soak:
         self.attach()
         with Log(self.address) as log:
             log.init()
-        self.machines = [Machine(name, self.address) for name in NAMES]
+        self.machines = [Machine(f"m{at}", kind, self.address) for at, kind in zip(range(MACHINES), cycle(kinds()))]
 
     def attach(self) -> None:
         """Make the standby anew, and let the primary wait for it from now on."""
@@ -178,7 +182,10 @@ def main(seconds: float, seed: int) -> int:
         finally:
             soak.close()
     looks = sum(machine.looks for machine in soak.machines)
-    print(f"{soak.number} publishes, {looks} look-ups; {dict(soak.events)}")
+    print(f"{soak.number} publishes, {looks} look-ups in {', '.join(it.kind for it in soak.machines)}; "
+          f"{dict(soak.events)}")
+    if looks < seconds * LOOKS:
+        wrong.append(f"{looks} look-ups were checked, and not {seconds * LOOKS:.0f}")
     print("\n".join(wrong[:20]) or "all as it has to be")
     return bool(wrong)
 

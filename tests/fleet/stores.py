@@ -11,8 +11,7 @@ import kobdzila
 from kobdzila.fleet import Behind, Follower
 
 PAIRS = (("app", "fr"), ("mail", "fr"))
-
-
+KEYS = ("k0", "k1", "k2")
 NO_SESSION = "no catsession in the package nor on the PATH"
 
 
@@ -46,7 +45,7 @@ class View:
 
     def numbers(self) -> set[str]:
         """The numbers that the texts of all pairs carry."""
-        return {self.gettext(*pair, key).rpartition(" ")[2] for key in ("k0", "k1", "k2") for pair in PAIRS}
+        return {self.gettext(*pair, key).rpartition(" ")[2] for key in KEYS for pair in PAIRS}
 
     def __enter__(self) -> View:
         return self
@@ -78,6 +77,64 @@ class Catalogues:
         return self._view
 
 
+class NumberedSnapshot(kobdzila.Snapshot):
+    """A snapshot of a kobdzila.Store, which tells its numbers."""
+
+    __slots__ = ()
+
+    def numbers(self) -> set[str]:
+        """The numbers that the texts of all pairs carry."""
+        return {self.dgettext(domain, key).rpartition(" ")[2] for key in KEYS for domain, _ in PAIRS}
+
+
+class NumberedStore(kobdzila.Store):
+    """A kobdzila.Store whose snapshots tell their numbers."""
+
+    def snapshot(self, *_: Any, **__: Any) -> NumberedSnapshot:
+        return NumberedSnapshot(self, *PAIRS[0])
+
+
+class Asked:
+    """What a session answers to the questions of one round, which are for one domain."""
+
+    def __init__(self, session: kobdzila.Session, domain: str) -> None:
+        self._session, self._domain, self.version = session, domain, session.version
+
+    def numbers(self) -> set[str]:
+        """The numbers that the texts of one pair carry."""
+        answers = self._session.ask(self._domain, "fr", *(("gettext", key) for key in KEYS))
+        return {answer.text.rpartition(" ")[2] for answer in answers}
+
+    def __enter__(self) -> Asked:
+        return self
+
+    def __exit__(self, *exception: object) -> None:
+        pass
+
+
+class NumberedSession(kobdzila.Session):
+    """A session whose snapshots tell their numbers, of one domain after the other."""
+
+    asked = 0
+
+    def snapshot(self) -> Asked:
+        self.asked += 1
+        return Asked(self, PAIRS[self.asked % len(PAIRS)][0])
+
+
+STORES = {"catsession": NumberedSession, "Store": NumberedStore, "catalogues": Catalogues}
+
+
+def kinds() -> list[str]:
+    """The kinds of stores that this package has."""
+    return [kind for kind in STORES if kind != "catsession" or has_catsession()]
+
+
+def opened(kind: str) -> Any:
+    """A store of a kind."""
+    return STORES[kind]()
+
+
 class Readers:
     """Threads that look up in a follower's store while it follows, and note what must not be."""
 
@@ -99,7 +156,7 @@ class Readers:
                 continue
             if version == 0:
                 continue
-            self.looks += 3 * len(PAIRS)
+            self.looks += len(KEYS) * (1 if isinstance(follower.store, kobdzila.Session) else len(PAIRS))
             if len(numbers) != 1:
                 self.wrong.append(f"{follower.machine}: half of a publish at {version}: {numbers}")
                 continue

@@ -16,7 +16,7 @@ import psycopg
 
 from .._session import Session
 from ._log import CHANNEL, CONNECT_TIMEOUT, Connection, Load, one, with_defaults
-from ._queries import LAST, NEXT, Cut, Damaged, Head, Publish, check_count, checked, loads_of, streamed
+from ._queries import Cut, Damaged, Head, Publish, asked, check_count, checked, loads_of, prepare
 from ._store import Behind, Closing, SessionTexts, Snapshot, Store
 
 if TYPE_CHECKING:
@@ -184,6 +184,7 @@ class Follower(Closing):
     def _follow(self, connection: Connection) -> None:
         """Play what comes, until the connection is lost or the follower ends."""
         connection.execute("select set_config('synchronous_commit', 'off', false)")  # (it writes nothing but reports)
+        prepare(connection)
         connection.add_notify_handler(lambda notice: setattr(self, "_heard", True))
         self._standby = True
         while not self._ending and self._stopped is None:
@@ -260,7 +261,7 @@ class Follower(Closing):
         """Play the next publish, or more than one if this machine is far behind, and say whether there are more."""
         if self._version == 0:
             return self._jump(connection)
-        with contextlib.closing(streamed(connection, NEXT, mine=self._version, most=MOST_LOADS)) as rows:
+        with contextlib.closing(asked(connection, "next", self._version, MOST_LOADS)) as rows:
             self._check_own(Publish(*next(rows)[:6]))
             first = next(rows, None)
             if first is None:
@@ -296,7 +297,7 @@ class Follower(Closing):
 
     def _jump(self, connection: Connection) -> bool:
         """Take the last load of each domain and locale, and go on from the log's newest version."""
-        with contextlib.closing(streamed(connection, LAST, mine=self._version)) as rows:
+        with contextlib.closing(asked(connection, "last", self._version)) as rows:
             first = next(rows, None)
             if first is not None:
                 head = Head(*first[:6])

@@ -342,13 +342,12 @@ def append(connection: Connection, number: uuid.UUID, pairs: Sequence[tuple[str,
     rows = [(at, *pair, seal_of(at, *pair)) for at, pair in enumerate(pairs, first + 1)]
     version = first + len(rows)
     connection.execute(
-        "insert into kobdzila.load"
-        " select * from unnest(%s::bigint[], %s::text[], %s::text[], %b::bytea[], %b::bytea[])",
-        tuple(map(list, zip(*rows))))
-    connection.execute(
-        "with added as (insert into kobdzila.publish (version, id, loads, history, note) values (%s, %s, %s, %b, %s))"
-        " select pg_notify(%s, %s)", (version, number, len(rows), history_of(before, number, [row[4] for row in rows]),
-                                      note, CHANNEL, str(version)))
+        "with loads as (insert into kobdzila.load"
+        " select * from unnest(%s::bigint[], %s::text[], %s::text[], %b::bytea[], %b::bytea[])),"
+        " added as (insert into kobdzila.publish (version, id, loads, history, note) values (%s, %s, %s, %b, %s))"
+        " select pg_notify(%s, %s)",
+        (*map(list, zip(*rows)), version, number, len(rows), history_of(before, number, [row[4] for row in rows]), note,
+         CHANNEL, str(version)))
     return int(version)
 
 

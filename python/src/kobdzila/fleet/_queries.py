@@ -8,26 +8,28 @@ from typing import Any, NamedTuple
 
 from ._log import Connection, Load, history_of, seal_of
 
-# The log's version, the publish that a machine shows, and the next one with its loads. A machine that lacks more than
-# `most` loads gets none, since it takes the last ones. The first row is there even if neither publish is.
+# The log's version, the publish that a machine shows ($1), and the next one with its loads. A machine that lacks more
+# than $2 loads gets none, since it takes the last ones. The first row is there even if neither publish is.
 NEXT = """
+prepare kobdzila_next(bigint, bigint) as
 select head.newest, head.cut, p.version, p.id, p.loads, p.history, l.version, l.domain, l.locale, l.sum, l.seal, f.mo
 from (select coalesce(max(version), 0) as newest, (select cut from kobdzila.log) as cut from kobdzila.publish) head
-left join (select * from kobdzila.publish where version >= %(mine)s order by version limit 2) p on true
-left join kobdzila.load l on p.version > %(mine)s and l.version > p.version - p.loads and l.version <= p.version
-  and p.loads <= %(most)s and head.newest - %(mine)s <= %(most)s
+left join (select * from kobdzila.publish where version >= $1 order by version limit 2) p on true
+left join kobdzila.load l on p.version > $1 and l.version > p.version - p.loads and l.version <= p.version
+  and p.loads <= $2 and head.newest - $1 <= $2
 left join kobdzila.file f on f.sum = l.sum
 order by p.version, l.version
 """
 
-# The last load of each domain and locale after version `mine`, and how many loads the log has. The pairs are found one
+# The last load of each domain and locale after version $1, and how many loads the log has. The pairs are found one
 # by one in the index, in a fifth of the time of `distinct on` if there are 200 of them in 100,000 loads. Without
 # `offset 0` the server would count anew for each row.
 LAST = """
+prepare kobdzila_last(bigint) as
 with recursive head as (
   select p.version, p.history, log.cut, log.kept,
     (select count(*) from kobdzila.load where version <= log.cut) as found_kept,
-    (select count(*) from kobdzila.load where version > greatest(log.cut, %(mine)s) and version <= p.version) as found
+    (select count(*) from kobdzila.load where version > greatest(log.cut, $1) and version <= p.version) as found
   from (select coalesce(max(cut), 0) as cut, coalesce(max(kept), 0) as kept from kobdzila.log) log,
     (select version, history from kobdzila.publish order by version desc limit 1) p
   offset 0
@@ -41,7 +43,7 @@ with recursive head as (
 select head.*, last.* from head left join lateral (
   select l.version, l.domain, l.locale, l.sum, l.seal, f.mo from pair cross join lateral (
     select * from kobdzila.load where domain = pair.domain and locale = pair.locale
-    and version > %(mine)s and version <= head.version order by version desc limit 1) l
+    and version > $1 and version <= head.version order by version desc limit 1) l
   left join kobdzila.file f on f.sum = l.sum) last on true
 """
 
@@ -76,9 +78,19 @@ class Head(NamedTuple):
     found: int
 
 
-def streamed(connection: Connection, query: str, **values: int) -> Generator[Sequence[Any], None, None]:
-    """Yield the rows, of which the server sends some while others are in use. Close it: that ends the query."""
-    yield from connection.cursor().stream(query, values, binary=True)
+def prepare(connection: Connection) -> None:
+    """Let the server read and plan the queries, once for each connection."""
+    for query in (NEXT, LAST):
+        connection.execute(query.encode())
+
+
+def asked(connection: Connection, query: str, *values: int) -> Generator[Sequence[Any], None, None]:
+    """Yield the rows of a prepared query, of which the server sends some while others are in use.
+
+    Close it, which ends the query.
+    """
+    text = f"execute kobdzila_{query}({', '.join(map(str, values))})"
+    yield from connection.cursor().stream(text.encode(), binary=True)
 
 
 def check_count(head: Head, mine: int) -> None:
