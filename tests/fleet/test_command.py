@@ -14,9 +14,11 @@ import uuid
 from pathlib import Path
 from unittest import mock
 
+import psycopg
+
 import kobdzila
 import servers
-from kobdzila.fleet import Log, _command
+from kobdzila.fleet import Log, _command, _log
 from stores import NO_SESSION, has_catsession
 
 TOP = Path(__file__).resolve().parents[2]
@@ -73,6 +75,7 @@ class CommandTest(unittest.TestCase):
             self.assertEqual(self.run_program("publish", "--id", number, "--note", "a note", "app/de=zwei.po"),
                              (0, "version 3\n", ""))
         self.assertEqual(self.run_program("rollback", "2"), (0, "version 4\n", ""))
+        self.assertEqual(self.run_program("rollback", "2"), (0, "version 4 has the texts of version 2 already\n", ""))
         status, text, _ = self.run_program("history", "-n", "3")
         time = r"  \d{4}-\d\d-\d\d \d\d:\d\d:\d\d  "
         self.assertEqual(status, 0)
@@ -104,10 +107,22 @@ class CommandTest(unittest.TestCase):
 
     def test_a_server_that_is_not_there(self) -> None:
         self.file("fr.po", 'msgid "a"\nmsgstr "un"\n')
-        status, text, said = self.run_program("-d", f"host=127.0.0.1 port={servers.free_port()}", "publish", "--within",
-                                              "0.2", "app/fr=fr.po")
+        nowhere = f"host=127.0.0.1 port={servers.free_port()}"
+        status, text, said = self.run_program("-d", nowhere, "publish", "--within", "0.5", "app/fr=fr.po")
+        self.assertEqual((status, text), (1, ""))  # (nothing was sent, so nothing is published)
+        first, *_, last = said.splitlines()
+        self.assertRegex(first, r"\Akob-fleet: connection failed: ")
+        self.assertEqual((said.count("trying for 0.5 s"), said.count("kob-fleet: ")), (1, 2), said)
+        self.assertNotIn("--id", last)
+
+    def test_an_answer_that_is_lost(self) -> None:
+        self.run_program("init")
+        self.file("fr.po", 'msgid "a"\nmsgstr "un"\n')
+        cut = mock.Mock(side_effect=psycopg.OperationalError("the connection is lost"))
+        with mock.patch.object(_log, "append", cut):
+            status, text, said = self.run_program("publish", "--within", "0.2", "app/fr=fr.po")
         self.assertEqual((status, text), (2, ""))
-        self.assertRegex(said, r"publish [0-9a-f-]{36} may or may not be in the log: .*(?s:.)*--id [0-9a-f-]{36}\n\Z")
+        self.assertRegex(said, r"publish ([0-9a-f-]{36}) may or may not be in the log: .*(?s:.)*--id \1\n\Z")
 
     @unittest.skipUnless(has_catsession(), NO_SESSION)
     def test_follow(self) -> None:
@@ -151,7 +166,8 @@ class CommandTest(unittest.TestCase):
         self.assertEqual((done.returncode, done.stderr), (0, ""))
         lines = done.stdout.splitlines()
         # (the texts are those of version 2, so the rollback has nothing to publish; web1 is at version 2)
-        self.assertEqual((lines[0], lines[3], lines[-1]), ("version 3", "version 3", "cut up to version 2"))
+        self.assertEqual((lines[0], lines[3], lines[-1]),
+                         ("version 3", "version 3 has the texts of version 2 already", "cut up to version 2"))
         for program in re.findall(r"^```python\n(.*?)^```$", text, re.M | re.S)[:2]:
             self.runs(program.replace("host=db1,db2 dbname=texts user=kob", self.address))
         refused = re.search(r"^    (fr\.po:3: .*)\n    (kob-fleet: .*)$", text, re.M)

@@ -68,8 +68,13 @@ class LogTest(LogCase):
                     self.assertTrue(taken, name)
 
     def test_no_log(self) -> None:
-        with Log(self.address.replace("dbname=postgres", "dbname=template1")) as log, self.assertRaises(NoLog):
-            log.publish(loads(1))
+        self.sql("drop schema kobdzila cascade")
+        follower = self.follower()
+        with self.assertRaises(NoLog) as caught:
+            self.log.publish(loads(1))
+        self.assertEqual(until(lambda: follower.trouble), str(caught.exception))
+        self.log.init()
+        self.assertEqual(follower.wait_for(self.log.publish(loads(1)), 10), 2)
 
     def test_two_publishers_at_once(self) -> None:
         versions: list[list[int]] = [[], []]

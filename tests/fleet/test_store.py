@@ -53,6 +53,12 @@ class StoreTest(LogCase):
     def follower_of_store(self, machine: str = "m", store: kobdzila.Store | None = None) -> Follower:
         return self.follower(store or kobdzila.Store("app"), machine)
 
+    def publishing(self, environ: dict[str, Any], start_response: Any) -> list[bytes]:
+        """A page that publishes."""
+        version = self.log.publish(loads(2))
+        start_response("200 OK", [("Content-Type", "text/plain"), ("Kobdzila-Version", str(version))])
+        return [b"published"]
+
     def test_a_store_is_fed(self) -> None:
         follower = self.follower_of_store()
         for number in range(1, 4):
@@ -118,11 +124,12 @@ class StoreTest(LogCase):
         held.released.set()
         self.log.publish(loads(1))
         visitor, other = Visitor(), Visitor()
-        second.wait_for(2, 10)
+        for follower in (first, second):
+            follower.wait_for(2, 10)
         self.assertEqual(visitor.visits(near), (200, "k1 at 1, k1 at 1"))
         self.assertEqual(visitor.visits(far), (200, "k1 at 1, k1 at 1"))
         held.released.clear()
-        visitor.cookie = f"kobdzila_version={self.log.publish(loads(2))}"  # (a page that publishes sets it so)
+        self.assertEqual(visitor.visits(WSGIMiddleware(self.publishing, second)), (200, "published"))
         self.assertEqual(visitor.visits(near), (200, "k1 at 2, k1 at 2"))
         begun = time.monotonic()
         self.assertEqual(visitor.visits(far)[0], 503)

@@ -131,6 +131,21 @@ class ASGITest(Case):
     def test_versions(self) -> None:
         self.check(self.answers)
 
+    def test_a_page_that_publishes(self) -> None:
+        self.shows(1)
+
+        async def publishing(scope: Any, receive: Any, send: Any) -> None:
+            written = [(b"content-type", b"text/plain"), (b"kobdzila-version", scope["path"].encode())]
+            await send({"type": "http.response.start", "status": 200, "headers": written})
+
+        for written, version in (("7", "7"), ("1", "2"), ("x", "2")):
+            send = mock.AsyncMock()
+            scope = {"type": "http", "headers": [], "path": written}
+            asyncio.run(ASGIMiddleware(publishing, self.follower)(scope, mock.AsyncMock(), send))
+            headers = send.await_args.args[0]["headers"]
+            self.assertEqual([value for name, value in headers if name == b"kobdzila-version"][-1], version.encode())
+            self.assertTrue(dict(headers)[b"set-cookie"].startswith(f"kobdzila_version={version};".encode()))
+
     def test_what_is_not_http(self) -> None:
         self.assertEqual(self.answers({}, "lifespan")[::2], (200, "none"))
 

@@ -21,7 +21,7 @@ except ImportError:
 
 from .._session import Session, SessionEnded
 from ._follow import Follower
-from ._log import NAME, Load, Log, NoLog, Unanswered
+from ._log import NAME, NO_LOG, Load, Log, NoLog, Unanswered
 from ._store import Behind
 
 DATABASE = "KOB_FLEET_DATABASE"
@@ -40,16 +40,20 @@ def main(arguments: Sequence[str] | None = None) -> int:
     try:
         return run(options)
     except Unanswered as unanswered:
-        print(f"kob-fleet: {unanswered}", file=sys.stderr)
-        print(f"kob-fleet: run it again with --id {unanswered.id}", file=sys.stderr)
+        say(str(unanswered))
+        say(f"run it again with --id {unanswered.id}")
         return 2
     except psycopg.errors.UndefinedTable:
-        print("kob-fleet: this database has no log: kob-fleet init creates one", file=sys.stderr)
+        say(NO_LOG)
     except (Trouble, NoLog, ValueError, psycopg.Error, OSError) as trouble:
-        print(f"kob-fleet: {str(trouble).strip() or type(trouble).__name__}", file=sys.stderr)
+        say(str(trouble).strip() or type(trouble).__name__)
     except KeyboardInterrupt:
         return 130
     return 1
+
+
+def say(text: str) -> None:
+    print(f"kob-fleet: {text}", file=sys.stderr, flush=True)
 
 
 def parser() -> argparse.ArgumentParser:
@@ -121,17 +125,31 @@ def publish(options: argparse.Namespace) -> int:
             refused += 1
     if refused:
         raise Trouble("nothing was published")
-    with Log(options.database) as log:
+    with writable(options) as log:
         version = log.publish(loads, id=options.id, note=options.note or "", within=options.within)
     print(f"version {version}")
     return 0
 
 
 def rollback(options: argparse.Namespace) -> int:
-    with Log(options.database) as log:
-        version = log.rollback(options.to, id=options.id, note=options.note, within=options.within)
-    print(f"version {version}")
+    number = options.id or uuid.uuid4()
+    with writable(options) as log:
+        version = log.rollback(options.to, id=number, note=options.note, within=options.within)
+        is_new = log.version_of(number) is not None
+    print(f"version {version}" if is_new else f"version {version} has the texts of version {options.to} already")
     return 0
+
+
+def writable(options: argparse.Namespace) -> Log:
+    """Return the log for something to publish. Why it has to be tried again is said once."""
+    said: set[str] = set()
+
+    def once(text: str) -> None:
+        if text not in said:
+            say(f"{text}; trying for {options.within:g} s")
+        said.add(text)
+
+    return Log(options.database, on_trouble=once)
 
 
 def compact(options: argparse.Namespace) -> int:
@@ -167,9 +185,6 @@ def status(options: argparse.Namespace) -> int:
 
 def follow(options: argparse.Namespace) -> int:
     """Be a catsession whose loads come from the log: rounds of questions come in, and answers go out."""
-    def say(text: str) -> None:
-        print(f"kob-fleet: {text}", file=sys.stderr, flush=True)
-
     with Session(options.catsession) as session:
         follower = Follower(session, options.database, options.machine, on_trouble=say,
                             on_version=lambda version: say(f"version {version}") if options.verbose else None)

@@ -15,7 +15,7 @@ from typing import TYPE_CHECKING, Any
 import psycopg
 
 from .._session import Session
-from ._log import CHANNEL, CONNECT_TIMEOUT, Connection, Load, one, with_defaults
+from ._log import CHANNEL, CONNECT_TIMEOUT, NO_LOG, Connection, Load, one, with_defaults
 from ._queries import Cut, Damaged, Head, Publish, asked, check_count, checked, loads_of, prepare
 from ._store import Behind, Closing, SessionTexts, Snapshot, Store
 
@@ -174,7 +174,8 @@ class Follower(Closing):
                     pause = PAUSES[0]
                     self._follow(connection)
             except (psycopg.Error, OSError) as trouble:
-                self._say(str(trouble).strip() or type(trouble).__name__)
+                has_no_log = isinstance(trouble, psycopg.errors.UndefinedTable)
+                self._say(NO_LOG if has_no_log else str(trouble).strip() or type(trouble).__name__)
                 self._sleep(pause)
                 pause = min(PAUSES[1], 2 * pause)
             except Exception as why:  # noqa: BLE001 (a thread that ends without a word would be the worst)

@@ -24,6 +24,7 @@ NAME = re.compile(r"[A-Za-z0-9_.@+-]{1,64}", re.ASCII)
 # SQLSTATE: connection lost, deadlock, server going down, server read-only, a file that compact removed meanwhile
 RETRIED = re.compile("08|40|57|25006|23503")
 DAY = 86_400.0
+NO_LOG = "this database has no log: kob-fleet init creates one"
 TABLES = f"""
 create schema if not exists kobdzila;
 create table if not exists kobdzila.log (
@@ -128,14 +129,15 @@ class Log(Closing):
 
     `database` is a connection string of libpq, such as "host=db1,db2 dbname=texts user=kob". What it leaves out comes
     from the environment (PGHOST and so on). Of several hosts the one that takes writes is used. One thread at a time
-    may use a Log.
+    may use a Log. `on_trouble` is called with a text when a publish has to try again.
 
         with Log("host=db1,db2 dbname=texts") as log:
             version = log.publish([("shop", "fr", Path("fr.mo").read_bytes())])
     """
 
-    def __init__(self, database: str = "") -> None:
+    def __init__(self, database: str = "", *, on_trouble: Callable[[str], object] = lambda text: None) -> None:
         self._database = with_defaults(database, target_session_attrs="read-write")
+        self._on_trouble = on_trouble
         self._connection: Connection | None = None
 
     def init(self) -> None:
@@ -155,8 +157,9 @@ class Log(Closing):
         """Add the loads (domain, locale, MO file) as one publish, and return the version that shows them.
 
         The publish is in the log exactly once if a version is returned. If the server can't be reached, or is
-        replaced by its standby, publish tries again for `within` seconds. After that it raises Unanswered. To publish
-        with an `id` that is in the log adds nothing, and returns its version.
+        replaced by its standby, publish tries again for `within` seconds. After that it raises Unanswered, or
+        psycopg.OperationalError if it never had a connection: then nothing is published. To publish with an `id` that
+        is in the log adds nothing, and returns its version.
 
         ValueError if there is no load or a name isn't one; Refused (a ValueError) if a file is no catalogue.
         """
@@ -193,13 +196,17 @@ class Log(Closing):
         def work(connection: Connection) -> int:
             with connection.transaction():
                 lock(connection)
-                done = connection.execute("select version from kobdzila.publish where id = %s", (number,)).fetchone()
+                done = version_of(connection, number)
                 if done is not None:
-                    return int(done[0])
+                    return done
                 last, pairs = changes_back_to(connection, version)
                 return append(connection, number, pairs, words) if pairs else last
 
         return self._retry(work, number, within)
+
+    def version_of(self, id: uuid.UUID) -> int | None:
+        """Return the version of the publish with this id, or None if the log doesn't have it."""
+        return version_of(self._connected(), id)
 
     def history(self, last: int = 20) -> list[Row]:
         """Return the last publishes, the newest first."""
@@ -265,19 +272,24 @@ class Log(Closing):
 
     def _retry(self, work: Callable[[Connection], int], number: uuid.UUID, within: float) -> int:
         """Do the work until the server answers."""
-        end, pause = time.monotonic() + within, 0.05
+        end, pause, has_begun = time.monotonic() + within, 0.05, False
         while True:
             try:
-                return work(self._connected())
+                connection = self._connected()
+                has_begun = True
+                return work(connection)
             except errors.UndefinedTable as trouble:
-                raise NoLog("this database has no log: kob-fleet init creates one") from trouble
+                raise NoLog(NO_LOG) from trouble
             except psycopg.Error as trouble:
                 lost = self._connection is None or self._connection.closed or trouble.sqlstate is None
                 if not lost and not RETRIED.match(trouble.sqlstate or ""):
                     raise
                 self.close()
                 if time.monotonic() + pause > end:
+                    if not has_begun:
+                        raise
                     raise Unanswered(number, str(trouble).strip()) from trouble
+                self._on_trouble(str(trouble).strip())
             time.sleep(pause)
             pause = min(1.0, 2 * pause)
 
@@ -318,6 +330,11 @@ def lock(connection: Connection) -> None:
     row = connection.execute("select layout from kobdzila.log for update").fetchone()
     if row is None or row[0] != LAYOUT:
         raise NoLog(f"the log has layout {row and row[0]}, and this program knows {LAYOUT}")
+
+
+def version_of(connection: Connection, number: uuid.UUID) -> int | None:
+    row = connection.execute("select version from kobdzila.publish where id = %s", (number,)).fetchone()
+    return None if row is None else int(row[0])
 
 
 def keep_files(connection: Connection, files: dict[bytes, bytes]) -> None:

@@ -35,7 +35,8 @@ class Middleware:
     A request's version is that of its header `Kobdzila-Version` or its cookie, whichever is greater. The request waits
     at most `within` seconds until this machine shows it. If it doesn't, the answer is 503, so that a load balancer
     tries another machine; with `serve_older` the application is called all the same. The answer's version is in its
-    header and its cookie.
+    header and its cookie. An application that publishes gives the new version in a header `Kobdzila-Version` of its
+    own: its visitor then sees that version everywhere.
 
     If the store's `snapshot` takes languages, they are those of the header Accept-Language, and `domain` is its domain.
     """
@@ -82,10 +83,17 @@ class Middleware:
                 return self.follower.snapshot(at_least=version, within=within, **options)
         return None
 
-    def headers(self, snapshot: Snapshot) -> list[tuple[str, str]]:
-        version = str(snapshot.version)
+    def headers(self, snapshot: Snapshot, written: Iterable[tuple[str, str]]) -> list[tuple[str, str]]:
+        """Return the headers of an answer, for which the application has written these."""
+        versions, others = [snapshot.version], []
+        for name, value in written:
+            if name.lower() == HEADER.lower() and value.isdecimal():
+                versions.append(int(value))
+            else:
+                others.append((name, value))
+        version = max(versions)
         kept = f"{self.cookie}={version}; Max-Age={COOKIE_SECONDS}; Path=/; SameSite=Lax; HttpOnly"
-        return [(HEADER, version), ("Set-Cookie", kept)]
+        return [*others, (HEADER, str(version)), ("Set-Cookie", kept)]
 
 
 class WSGIMiddleware(Middleware):
@@ -112,7 +120,7 @@ class WSGIMiddleware(Middleware):
     def _answered(self, made: Snapshot, environ: Environment, start_response: StartResponse) -> Iterator[bytes]:
         with made as snapshot:
             def start(status: str, headers: list[tuple[str, str]], *more: Any) -> Any:
-                return start_response(status, [*headers, *self.headers(snapshot)], *more)
+                return start_response(status, self.headers(snapshot, headers), *more)
 
             environ[KEY] = snapshot
             body = self.application(environ, start)
@@ -150,8 +158,10 @@ class ASGIMiddleware(Middleware):
         with made as snapshot:
             async def sends(message: Message) -> None:
                 if message["type"] == "http.response.start":
-                    own = [(name.lower().encode(), value.encode()) for name, value in self.headers(snapshot)]
-                    message = {**message, "headers": [*message.get("headers", []), *own]}
+                    written = ((name.decode("latin-1"), value.decode("latin-1"))
+                               for name, value in message.get("headers", []))
+                    message = {**message, "headers": [(name.lower().encode("latin-1"), value.encode("latin-1"))
+                                                      for name, value in self.headers(snapshot, written)]}
                 await send(message)
 
             await self.application({**scope, KEY: snapshot}, receive, sends)
