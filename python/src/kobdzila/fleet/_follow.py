@@ -10,6 +10,7 @@ import threading
 import time
 from bisect import bisect_right
 from collections.abc import Callable, Iterable, Sequence
+from concurrent.futures import ThreadPoolExecutor
 from typing import TYPE_CHECKING, Any
 
 import psycopg
@@ -27,6 +28,7 @@ STANDBY_LOOK_EACH = 0.1  # a standby can't notify, so it is asked
 REPORT_EACH = 1.0  # the least time between two reports of a machine
 PAUSES = (0.05, 2.0)  # before the first and at most before each other attempt to connect
 MOST_LOADS = 256  # a machine that lacks more of the log takes the last loads, in one step
+CHECKERS = 4  # threads that take the sums of files while a machine joins
 PART = 16 << 20  # bytes of MO files that a Session takes in one round while a machine joins
 
 
@@ -303,7 +305,8 @@ class Follower(Closing):
             if first is not None:
                 head = Head(*first[:6])
                 check_count(head, self._version)
-                loads = [checked(row[6:11], row[11]) for row in itertools.chain([first], rows)]
+                with ThreadPoolExecutor(CHECKERS) as pool:
+                    loads = list(pool.map(lambda row: checked(row[6:11], row[11]), itertools.chain([first], rows)))
         if first is None:
             self._show((), 0, b"")
         else:
