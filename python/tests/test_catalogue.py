@@ -10,22 +10,15 @@ import pickle
 import resource
 import sys
 import tempfile
-import threading
 import unittest
 import warnings
 import weakref
 from pathlib import Path
 
 import kobdzila
+from common import OPENS, SANITIZED, assert_no_leak, failures_of, in_threads, needs_freed_memory, needs_testcapi
 from kobdzila import Catalogue, Fault, GNUTranslations, Refused
 from texts import ARABIC, FRENCH, HEADER, french, mo
-
-try:
-    import _testcapi
-except ImportError:
-    _testcapi = None
-
-SANITIZED = "KOBDZILA_SANITIZED" in os.environ
 
 # PO texts and the refusal of each: its kind and line
 REFUSED_TEXTS = [
@@ -162,8 +155,7 @@ class OpeningTest(unittest.TestCase):
             del data
         self.assertEqual(os.waitstatus_to_exitcode(os.waitpid(child, 0)[1]), 0)
 
-
-    @unittest.skipIf(_testcapi is None, "this Python has no _testcapi")
+    @needs_testcapi
     def test_each_allocation(self) -> None:
         """Each allocation of Python's in a call fails in turn: MemoryError, or the right answer, and all goes on.
 
@@ -188,19 +180,7 @@ class OpeningTest(unittest.TestCase):
                 return refusal.kind is Fault.MO_SHORT
             return False
 
-        failed = 0
-        for call in (is_well, refused):
-            self.assertTrue(call())
-            for number in range(400):
-                _testcapi.set_nomemory(number, number + 1)
-                try:
-                    well = call()
-                except MemoryError:
-                    well, failed = True, failed + 1
-                finally:
-                    _testcapi.remove_mem_hooks()
-                self.assertTrue(well, (call, number))
-        self.assertGreater(failed, 20)
+        self.assertGreater(failures_of(self, is_well, 400) + failures_of(self, refused, 400), 20)
 
 
 class LookUpTest(unittest.TestCase):
@@ -315,11 +295,7 @@ class LookUpTest(unittest.TestCase):
                 if text != ("%d fichiers supprimés" if n % 300 > 1 else "%d fichier supprimé"):
                     wrong.append(n)
 
-        threads = [threading.Thread(target=ask) for _ in range(4)]
-        for thread in threads:
-            thread.start()
-        for thread in threads:
-            thread.join()
+        in_threads(*[ask] * 4)
         self.assertEqual(wrong, [])
 
 
@@ -452,12 +428,10 @@ class ObjectTest(unittest.TestCase):
     def test_version(self) -> None:
         self.assertRegex(kobdzila.__version__, r"^\d+\.\d+\.\d+$")
 
-    @unittest.skipIf(SANITIZED, "AddressSanitizer keeps freed memory for a while")
+    @needs_freed_memory
     def test_leaks(self) -> None:
         """Opening, refusing, copying and looking up leave no memory."""
         file, bad = french().mo_file(), [data for data, _ in REFUSED_FILES]
-        count = int(os.environ.get("KOBDZILA_OPENS", "100000"))
-
         lasting = french()
 
         def round_of(number: int) -> None:
@@ -473,16 +447,7 @@ class ObjectTest(unittest.TestCase):
                 except Refused:
                     pass
 
-        def resident() -> int:
-            gc.collect()
-            return int(Path("/proc/self/statm").read_text().split()[1]) * resource.getpagesize()
-
-        for number in range(2_000):
-            round_of(number)
-        before = resident()
-        for number in range(count):
-            round_of(number)
-        self.assertLess(resident() - before, 1_000_000)
+        assert_no_leak(self, round_of, OPENS)
 
 
 if __name__ == "__main__":

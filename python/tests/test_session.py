@@ -3,12 +3,12 @@ from __future__ import annotations
 
 import os
 import tempfile
-import threading
 import unittest
 from pathlib import Path
 from unittest import mock
 
 import kobdzila
+from common import in_threads
 from kobdzila import LoadRefused, Session, SessionEnded, _session
 from texts import FRENCH, french
 
@@ -94,11 +94,7 @@ class SessionTest(unittest.TestCase):
                     if answer.text != ("%d fichiers supprimés" if n > 1 else "%d fichier supprimé"):
                         wrong.append(answer)
 
-            threads = [threading.Thread(target=ask) for _ in range(4)]
-            for thread in threads:
-                thread.start()
-            for thread in threads:
-                thread.join()
+            in_threads(*[ask] * 4)
         self.assertEqual(wrong, [])
 
     def test_program(self) -> None:

@@ -8,26 +8,18 @@ import gettext
 import io
 import os
 import pickle
-import resource
 import sys
 import threading
 import time
 import unittest
 import warnings
-from pathlib import Path
 
 import kobdzila
+from common import OPENS, SANITIZED, assert_no_leak, failures_of, in_threads, needs_freed_memory, needs_testcapi
 from kobdzila import Catalogue, Fault, Refused, Store
 from kobdzila._languages import accepted, locales_of, names_of
 from test_catalogue import CHECKED_TEXTS, REFUSED_FILES, REFUSED_TEXTS
 from texts import ARABIC, FRENCH, french
-
-try:
-    import _testcapi
-except ImportError:
-    _testcapi = None
-
-SANITIZED = "KOBDZILA_SANITIZED" in os.environ
 
 
 def text_of(**messages: str) -> bytes:
@@ -41,14 +33,6 @@ def store_with(*loads: tuple[str, str, bytes]) -> Store:
         store.load(*load)
     store.publish()
     return store
-
-
-def in_threads(*works: object) -> None:
-    threads = [threading.Thread(target=work) for work in works]
-    for thread in threads:
-        thread.start()
-    for thread in threads:
-        thread.join()
 
 
 class LoadTest(unittest.TestCase):
@@ -316,7 +300,7 @@ class SnapshotTest(unittest.TestCase):
         for one, count in zip(counted, before):
             self.assertLess(abs(sys.getrefcount(one) - count), 100, one)
 
-    @unittest.skipIf(_testcapi is None, "this Python has no _testcapi")
+    @needs_testcapi
     def test_each_allocation(self) -> None:
         """Each allocation of Python's in a call fails in turn: MemoryError, or the right answer, and all goes on."""
         store, catalogue = store_with(("shop", "fr", FRENCH.encode())), french()
@@ -329,20 +313,9 @@ class SnapshotTest(unittest.TestCase):
             texts.close()
             return said == ("panier", "%d fichiers supprimés", None) and (other._publish(), other.pending) == (1, 0)
 
-        failed = 0
-        self.assertTrue(is_well())
-        for number in range(100):
-            _testcapi.set_nomemory(number, number + 1)
-            try:
-                well = is_well()
-            except MemoryError:
-                well, failed = True, failed + 1
-            finally:
-                _testcapi.remove_mem_hooks()
-            self.assertTrue(well, number)
-        self.assertGreater(failed, 5)
+        self.assertGreater(failures_of(self, is_well, 100), 5)
 
-    @unittest.skipIf(SANITIZED, "AddressSanitizer keeps freed memory for a while")
+    @needs_freed_memory
     def test_leaks(self) -> None:
         store, mo = Store("shop"), french().mo_file()
 
@@ -358,16 +331,7 @@ class SnapshotTest(unittest.TestCase):
                 with contextlib.suppress(Refused):
                     other.load("shop", "", mo)
 
-        def resident() -> int:
-            gc.collect()
-            return int(Path("/proc/self/statm").read_text().split()[1]) * resource.getpagesize()
-
-        for number in range(2_000):
-            round_of(number)
-        before = resident()
-        for number in range(int(os.environ.get("KOBDZILA_OPENS", "100000")) // 4):
-            round_of(number)
-        self.assertLess(resident() - before, 1_000_000)
+        assert_no_leak(self, round_of, OPENS // 4)
 
 
 def is_open(texts: kobdzila.Snapshot) -> bool:

@@ -8,11 +8,9 @@ import subprocess
 import threading
 from collections.abc import Callable, Sequence
 from pathlib import Path
-from types import TracebackType
-from typing import TYPE_CHECKING, NamedTuple
+from typing import NamedTuple
 
-if TYPE_CHECKING:
-    from typing_extensions import Self
+from ._closing import Closing
 
 MOST_LINES = 67_108_864 - len(b"go\n")  # the bytes that a round may have before its `go`
 TEXTS = {"gettext": 1, "pgettext": 2, "ngettext": 3, "npgettext": 4}
@@ -81,7 +79,7 @@ class Calls:
         return self.ask(domain, languages, ("npgettext", context, text, plural, n))[0]
 
 
-class Session(Calls):
+class Session(Closing, Calls):
     """A process catsession. Its look-ups may come from any number of threads.
 
     `program` is the path of catsession: by default the one in this package, or else the one on the PATH.
@@ -155,14 +153,6 @@ class Session(Calls):
         with self._lock:
             if self._ended is None:
                 self._end("closed")
-
-    def __enter__(self) -> Self:
-        return self
-
-    def __exit__(
-        self, kind: type[BaseException] | None, fault: BaseException | None, trace: TracebackType | None
-    ) -> None:
-        self.close()
 
     def _keep(self, domain: str, locale: str, lines: bytes) -> None:
         with self._lock:

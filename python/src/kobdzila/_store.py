@@ -5,24 +5,22 @@ import os
 import threading
 from collections.abc import Callable, Iterable
 from functools import lru_cache
-from types import TracebackType
 from typing import TYPE_CHECKING, Any, NoReturn
 
 from . import _kobdzila
 from ._catalogue import Catalogue, fields_of, rule_of
+from ._closing import Closing
 from ._languages import locales_of
 from ._refused import Refused
 
 if TYPE_CHECKING:
-    from typing_extensions import Self
-
     from ._watch import Watch
 
 MO_MAGICS = (b"\xde\x12\x04\x95", b"\x95\x04\x12\xde")
 MANY = 1000  # a plural rule has shown all its forms before this number
 
 
-class Snapshot(_kobdzila.Snapshot):
+class Snapshot(_kobdzila.Snapshot, Closing):
     """Look-ups in one version of a store, made by Store.snapshot.
 
     gettext, pgettext, ngettext and npgettext look up in `domain`, and dgettext, dpgettext, dngettext and dnpgettext in
@@ -34,14 +32,6 @@ class Snapshot(_kobdzila.Snapshot):
     """
 
     __slots__ = ()
-
-    def __enter__(self) -> Self:
-        return self
-
-    def __exit__(
-        self, kind: type[BaseException] | None, fault: BaseException | None, trace: TracebackType | None
-    ) -> None:
-        self.close()
 
     def info(self, domain: str | None = None) -> dict[str, str]:
         """Return the header's fields of the first catalogue that these languages have, by their names in lower case."""

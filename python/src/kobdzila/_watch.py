@@ -11,15 +11,13 @@ import threading
 import time
 from collections.abc import Callable, Iterable, Iterator
 from pathlib import Path
-from types import TracebackType
 from typing import TYPE_CHECKING, NamedTuple
 
 from ._catalogue import Catalogue
+from ._closing import Closing
 from ._refused import Fault, Refused
 
 if TYPE_CHECKING:
-    from typing_extensions import Self
-
     from ._store import Store
 
 LOG = logging.getLogger("kobdzila")
@@ -54,7 +52,7 @@ class File(NamedTuple):
     digest: bytes
 
 
-class Watch:
+class Watch(Closing):
     """Loads the catalogues of a folder, FOLDER/LOCALE/LC_MESSAGES/DOMAIN.mo and .po, and again when they change.
 
     What is there is loaded and published before the call returns. From then on a thread looks every `every` seconds,
@@ -113,13 +111,7 @@ class Watch:
             self._thread.join()
         atexit.unregister(self.stop)
 
-    def __enter__(self) -> Self:
-        return self
-
-    def __exit__(
-        self, kind: type[BaseException] | None, fault: BaseException | None, trace: TracebackType | None
-    ) -> None:
-        self.stop()
+    close = stop
 
     def _run(self) -> None:
         while not self._end.wait(self._every):

@@ -15,10 +15,11 @@ from typing import TYPE_CHECKING, Any
 
 import psycopg
 
+from .._closing import Closing
 from .._session import Session
 from ._log import CHANNEL, CONNECT_TIMEOUT, NO_LOG, Connection, Load, one, with_defaults
 from ._queries import Cut, Damaged, Head, Publish, asked, check_count, checked, loads_of, prepare
-from ._store import Behind, Closing, SessionTexts, Snapshot, Store
+from ._store import Behind, SessionTexts, Snapshot, Store
 
 if TYPE_CHECKING:
     from typing_extensions import Self

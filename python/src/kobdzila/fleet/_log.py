@@ -13,7 +13,7 @@ import psycopg
 from psycopg import conninfo, errors
 
 from .._catalogue import Catalogue
-from ._store import Closing
+from .._closing import Closing
 
 Connection: TypeAlias = "psycopg.Connection[Any]"
 

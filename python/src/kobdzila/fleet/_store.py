@@ -6,6 +6,7 @@ from contextlib import AbstractContextManager
 from types import TracebackType
 from typing import TYPE_CHECKING, Any, Protocol
 
+from .._closing import Closing
 from .._session import Answer, Calls, Session
 
 if TYPE_CHECKING:
@@ -27,21 +28,6 @@ class Store(Protocol):
 
     def publish(self) -> int:
         """Show all loads since the last publish in one step, and return the version."""
-
-
-class Closing:
-    """What a `with` closes at its end."""
-
-    def close(self) -> None:
-        """Free what this has open."""
-
-    def __enter__(self) -> Self:
-        return self
-
-    def __exit__(
-        self, kind: type[BaseException] | None, fault: BaseException | None, trace: TracebackType | None
-    ) -> None:
-        self.close()
 
 
 class Behind(Exception):
