@@ -14,6 +14,7 @@ static struct PyModuleDef definition;
 struct catalogue {
     PyObject_HEAD
     kob_catalogue *held;        /* NULL: an empty catalogue */
+    const char *file;           /* its MO file, in which all its texts lie */
     const struct state *state;  /* of the module, which the type keeps alive */
     PyObject *fallback;         /* asked for what isn't found; NULL or None: nobody */
     struct answers answers;
@@ -24,6 +25,15 @@ static struct catalogue *catalogue_of(PyObject *object) { return (struct catalog
 kob_catalogue *held_in(PyObject *catalogue) { return catalogue_of(catalogue)->held; }
 
 /* ------------------------------------------------------------------------------------------------ opening */
+
+/* Let `self` have this catalogue, and its reference, in place of the one that it has. NULL: none. */
+static void hold(struct catalogue *self, kob_catalogue *opened) {
+    forget(&self->answers);
+    kob_release(self->held);
+    self->held = opened;
+    self->file = opened ? kob_mo_file(opened).at : NULL;
+    self->answers.entries = opened ? kob_count(opened) : 0;
+}
 
 /* Return a new reference to the bytes of an object that has the buffer protocol. */
 static PyObject *bytes_of(PyObject *object) {
@@ -103,9 +113,7 @@ static int open_bytes(struct catalogue *self, PyObject *object, int options) {
         refuse(self->state, &why);
         return -1;
     }
-    kob_release(self->held);
-    self->held = opened;
-    forget(&self->answers);
+    hold(self, opened);
     return 0;
 }
 
@@ -156,7 +164,7 @@ static int open_file(struct catalogue *self, PyObject *name, int options) {
     cause = errno;
     Py_END_ALLOW_THREADS
     if (opened) {
-        self->held = opened;
+        hold(self, opened);
         return 0;
     }
     if (why.fault == KOB_UNREADABLE) {
@@ -218,7 +226,7 @@ static PyObject *share(PyObject *object, PyObject *unused) {
     PyObject *other = new_catalogue(Py_TYPE(object));
     if (!other)
         return NULL;
-    catalogue_of(other)->held = self->held ? kob_retain(self->held) : NULL;
+    hold(catalogue_of(other), self->held ? kob_retain(self->held) : NULL);
     catalogue_of(other)->fallback = Py_XNewRef(self->fallback);
     return other;
 }
@@ -235,16 +243,15 @@ static PyObject *looked_up(struct catalogue *self, PyObject *context, PyObject *
     if (!text.at)
         return NULL;
     /* (if the form is unknown, the text itself is the key, which is no other entry's first form) */
-    const char *first = text.at;
-    size_t number = form == UNKNOWN ? 0 : form;
-    PyObject *answer = known_answer(&self->answers, first, number);
-    if (!answer) {
+    size_t first = (size_t)(text.at - self->file), number = form == UNKNOWN ? 0 : form;
+    PyObject *known = known_answer(&self->answers, first, number), *answer = known;
+    if (!known) {
         if (number)
             text = kob_find(self->held, in, key, &n);
         answer = new_answer(&self->answers, first, number, text);
     }
     if (answer && form != UNKNOWN)
-        keep_recent(&self->answers, context, msgid, form, answer);
+        keep_recent(&self->answers, &(struct recent){ msgid, context, form, answer }, known != NULL);
     return answer;
 }
 
@@ -435,8 +442,7 @@ static void catalogue_dealloc(PyObject *object) {
     PyTypeObject *type = Py_TYPE(object);
     PyObject_GC_UnTrack(object);
     catalogue_clear(object);
-    forget(&catalogue_of(object)->answers);
-    kob_release(catalogue_of(object)->held);
+    hold(catalogue_of(object), NULL);
     freefunc release = (freefunc)PyType_GetSlot(type, Py_tp_free);
     release(object);
     Py_DECREF(type);

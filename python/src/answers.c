@@ -5,13 +5,12 @@
 #include <string.h>
 
 /* Return the slot of this answer: its own, or the free one where it belongs. */
-static struct answer *slot_of(const struct answers *answers, const char *first, size_t form) {
-    size_t mask = ((size_t)1 << answers->bits) - 1;
-    uint64_t key = (uint64_t)(uintptr_t)first + ((uint64_t)form << 56);
-    size_t place = (size_t)(mixed(key) >> (64 - answers->bits));
-    while (answers->slots[place].first && (answers->slots[place].first != first || answers->slots[place].form != form))
+static struct answer *slot_of(struct answer *slots, unsigned bits, uint32_t first, uint32_t form) {
+    size_t mask = ((size_t)1 << bits) - 1;
+    size_t place = (size_t)(mixed((uint64_t)form << 32 | first) >> (64 - bits));
+    while (slots[place].text && (slots[place].first != first || slots[place].form != form))
         place = (place + 1) & mask;
-    return &answers->slots[place];
+    return &slots[place];
 }
 
 /* Forget the texts, whose references may be the last ones. */
@@ -26,39 +25,46 @@ static void forget_texts(struct answers *answers) {
 
 /* Make room for one more answer. Return 0, or -1 if it can't be kept. */
 static int grow(struct answers *answers) {
-    if (answers->slots && answers->used < (size_t)1 << answers->bits >> 1)
-        return 0;
-    if (answers->bits == MOST_BITS) {
-        if (answers->missed++ < answers->used)
+    if (answers->used == MOST_ANSWERS) {
+        if (answers->missed++ < 2 * answers->entries)
             return -1;
         forget_texts(answers);
     }
-    struct answers more = { .bits = answers->slots ? answers->bits + 1 : LEAST_BITS };
-    more.slots = PyMem_Calloc((size_t)1 << more.bits, sizeof *more.slots);
-    if (!more.slots)
+    size_t count = answers->slots ? (size_t)1 << answers->bits : 0;
+    if (answers->used < count - count / 4)
+        return 0;
+    unsigned bits = count ? answers->bits + 1 : LEAST_BITS;
+    struct answer *more = PyMem_Calloc((size_t)1 << bits, sizeof *more);
+    if (!more)
         return -1;
-    for (size_t k = 0; answers->slots && k < (size_t)1 << answers->bits; k++)
-        if (answers->slots[k].first)
-            *slot_of(&more, answers->slots[k].first, answers->slots[k].form) = answers->slots[k];
+    for (size_t k = 0; k < count; k++)
+        if (answers->slots[k].text)
+            *slot_of(more, bits, answers->slots[k].first, answers->slots[k].form) = answers->slots[k];
     PyMem_Free(answers->slots);
-    answers->slots = more.slots;
-    answers->bits = more.bits;
+    answers->slots = more;
+    answers->bits = bits;
     return 0;
 }
 
-PyObject *known_answer(const struct answers *answers, const char *first, size_t form) {
-    PyObject *text = answers->slots ? slot_of(answers, first, form)->text : NULL;
-    return Py_XNewRef(text);
+PyObject *known_answer(const struct answers *answers, size_t first, size_t form) {
+    if (!answers->slots)
+        return NULL;
+    return Py_XNewRef(slot_of(answers->slots, answers->bits, (uint32_t)first, (uint32_t)form)->text);
 }
 
-PyObject *new_answer(struct answers *answers, const char *first, size_t form, kob_text text) {
+PyObject *new_answer(struct answers *answers, size_t first, size_t form, kob_text text) {
     PyObject *string = PyUnicode_FromStringAndSize(text.at, (Py_ssize_t)text.len);
     if (!string || grow(answers) < 0)
         return string;
-    *slot_of(answers, first, form) = (struct answer){ first, form, Py_NewRef(string) };
+    struct answer answer = { (uint32_t)first, (uint32_t)form, Py_NewRef(string) };
+    *slot_of(answers->slots, answers->bits, answer.first, answer.form) = answer;
     answers->used++;
     return string;
 }
+
+/* Return how many slots a table of recent answers has: those where an answer may begin to be looked for, and more, so
+ * that NEAR slots follow each. */
+static size_t room_of(unsigned bits) { return ((size_t)1 << bits) + NEAR - 1; }
 
 static void drop(const struct recent *recent) {
     Py_XDECREF(recent->msgid);
@@ -66,25 +72,59 @@ static void drop(const struct recent *recent) {
     Py_XDECREF(recent->text);
 }
 
-void keep_recent(struct answers *answers, PyObject *context, PyObject *msgid, size_t form, PyObject *text) {
-    if (!PyUnicode_CheckExact(msgid) || (context && !PyUnicode_CheckExact(context)))
+/* Put an answer, with its references, into a free slot, or in place of the one whose turn it is. */
+static void put_recent(struct recent *recents, unsigned bits, struct recent answer, unsigned turn) {
+    struct recent *slots = recent_slots(recents, bits, answer.context, answer.msgid, answer.form);
+    int place = 0;
+    while (place < NEAR && slots[place].msgid)
+        place++;
+    struct recent *slot = &slots[place < NEAR ? (unsigned)place : turn % NEAR], displaced = *slot;
+    *slot = answer;
+    drop(&displaced);
+}
+
+/* Give the recent answers a table with 1 << bits places, if there is memory for it. */
+static void resize_recents(struct answers *answers, unsigned bits) {
+    struct recent *more = PyMem_Calloc(room_of(bits), sizeof *more);
+    answers->lacked = 0;
+    if (!more)
         return;
+    for (size_t k = 0; answers->recents && k < room_of(answers->recent_bits); k++)
+        if (answers->recents[k].msgid)
+            put_recent(more, bits, answers->recents[k], answers->turn++);
+    PyMem_Free(answers->recents);
+    answers->recents = more;
+    answers->recent_bits = bits;
+}
+
+/* Return whether there is a table of recent answers. It grows first if it has lacked many. */
+static int has_recents(struct answers *answers, int was_known) {
+    size_t places = (size_t)1 << answers->recent_bits;
     if (!answers->recents)
-        answers->recents = PyMem_Calloc((size_t)1 << RECENT_BITS, sizeof *answers->recents);
-    if (!answers->recents)
+        resize_recents(answers, LEAST_RECENT_BITS);
+    else if (was_known && ++answers->lacked >= places / 4 && places < answers->entries)
+        resize_recents(answers, answers->recent_bits + 1);
+    return answers->recents != NULL;
+}
+
+void keep_recent(struct answers *answers, const struct recent *answer, int was_known) {
+    if (!PyUnicode_CheckExact(answer->msgid) || (answer->context && !PyUnicode_CheckExact(answer->context)))
         return;
-    struct recent *slots = recent_slots(answers, context, msgid, form), oldest = slots[1];
-    slots[1] = slots[0];
-    slots[0] = (struct recent){ Py_NewRef(msgid), Py_XNewRef(context), form, Py_NewRef(text) };
-    drop(&oldest);
+    if (!has_recents(answers, was_known))
+        return;
+    Py_INCREF(answer->msgid);
+    Py_XINCREF(answer->context);
+    Py_INCREF(answer->text);
+    put_recent(answers->recents, answers->recent_bits, *answer, answers->turn++);
 }
 
 void forget(struct answers *answers) {
     forget_texts(answers);
-    for (size_t k = 0; answers->recents && k < (size_t)1 << RECENT_BITS; k++)
+    for (size_t k = 0; answers->recents && k < room_of(answers->recent_bits); k++)
         drop(&answers->recents[k]);
     PyMem_Free(answers->recents);
     answers->recents = NULL;
+    answers->lacked = 0;
     answers->rule.state = NOT_LOOKED_AT;
 }
 

@@ -264,6 +264,17 @@ class LookUpTest(unittest.TestCase):
         for k in [*range(10_000), *range(0, 10_000, 7), *range(500), *range(500)]:
             self.assertEqual(it.gettext(f"m{k}"), f"é{k}")
 
+    def test_lasting_answers(self) -> None:
+        """A program that goes through more messages than a catalogue keeps answers of is returned the same objects."""
+        count = 9_000
+        text = HEADER + "".join(f'msgid "m{k}"\nmsgstr "é{k}"\n' for k in range(count))
+        it, messages = Catalogue.from_po(text.encode()), [f"m{k}" for k in range(count)]
+        for _ in range(6):
+            answers = [it.gettext(message) for message in messages]
+        self.assertEqual(answers, [f"é{k}" for k in range(count)])
+        same = sum(it.gettext(message) is answer for message, answer in zip(messages, answers))
+        self.assertGreater(same, count * 0.9)
+
     def test_recent_answers(self) -> None:
         """Calls with the same objects, many of whose answers share a place among those that a catalogue keeps."""
         text = "".join(f'msgctxt "c{k}"\nmsgid "a"\nmsgstr "a{k}"\n' for k in range(300))
