@@ -33,14 +33,14 @@ if [ ! -f build/lib/libkobdzila.a ]; then
   exit 0
 fi
 
-# Debian's Python first, since Flask, Jinja2 and mypy can be installed for it
+# Debian's Python first, since Flask, Jinja2, Babel and mypy can be installed for it
 first=${PYTHON:-}
 if [ -z "$first" ]; then
   first=/usr/bin/python3
   script debian '/usr/bin/python3 -c "import ensurepip" && /usr/bin/python3-config --includes'
   tests/needs "$room/debian" python3-dev python3-venv
-  script frameworks '/usr/bin/python3 -c "import flask, jinja2"'
-  tests/needs "$room/frameworks" python3-flask python3-jinja2
+  script frameworks '/usr/bin/python3 -c "import flask, jinja2, babel"'
+  tests/needs "$room/frameworks" python3-flask python3-jinja2 python3-babel
   tests/needs chromium chromium # (for the page of examples/shop)
   is_usable "$first" && has_headers "$first" || first=$(command -v python3 || echo none)
 fi

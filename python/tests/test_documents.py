@@ -1,7 +1,6 @@
 """The examples of the docstrings and of docs/guide/python.md."""
 from __future__ import annotations
 
-import contextlib
 import doctest
 import importlib.util
 import os
@@ -11,32 +10,20 @@ from pathlib import Path
 
 import kobdzila
 from kobdzila import _catalogue, _gettext, _languages, _refused, _session, _store, _watch, _web
-from texts import HEADER
+from texts import FRENCH
 
 PAGE = Path(__file__).parents[2] / "docs" / "guide" / "python.md"
-SHOP = HEADER + r"""
-msgid "basket"
-msgstr "panier"
-
-msgctxt "verb"
-msgid "order"
-msgstr "commander"
-
-msgid "%d file"
-msgid_plural "%d files"
-msgstr[0] "%d fichier"
-msgstr[1] "%d fichiers"
-"""
+SHOP = FRENCH.partition('msgctxt "menu"')[0].replace(" supprimés", "").replace(" supprimé", "")
 
 
 def sections(text: str) -> str:
     """The page without the sections whose program or package isn't there."""
     parts = text.split("\n## ")
-    missing = [] if importlib.util.find_spec("jinja2") else ["Jinja2"]
-    with contextlib.suppress(FileNotFoundError):
-        if _session._program():
-            return "\n## ".join(part for part in parts if part.split("\n")[0] not in missing)
-    missing.append("A store in a process of its own")
+    missing = [title for title in ("Jinja2", "Babel") if not importlib.util.find_spec(title.lower())]
+    try:
+        _session._program()
+    except FileNotFoundError:
+        missing.append("A store in a process of its own")
     return "\n## ".join(part for part in parts if part.split("\n")[0] not in missing)
 
 

@@ -1,15 +1,22 @@
-"""Jinja2 and Flask, if they are installed."""
+"""Jinja2, Flask and Babel, if they are installed."""
 from __future__ import annotations
 
 import importlib.util
+import io
+import os
 import tempfile
 import unittest
+import warnings
+from datetime import date
 from pathlib import Path
+from unittest import mock
 
 import kobdzila
 from texts import FRENCH
 
-EXAMPLE = Path(__file__).parents[2] / "examples" / "flask" / "shop.py"
+TOP = Path(__file__).parents[2]
+EXAMPLE = TOP / "examples" / "flask" / "shop.py"
+PAGE = TOP / "docs" / "guide" / "python.md"
 SHOP = FRENCH + r"""
 msgid "%(num)s file"
 msgid_plural "%(num)s files"
@@ -18,6 +25,45 @@ msgstr[1] "%(num)s fichiers"
 """
 TEMPLATE = "{% trans %}basket{% endtrans %} {% trans num=n %}{{ num }} file{% pluralize %}{{ num }} files{% endtrans %}"
 OLD_STYLE = "{{ ngettext('%d file', '%d files', n) % n }} {{ pgettext('verb', 'order') }}"
+
+# an application before the changes that the page lists
+APPLICATION = """\
+import gettext
+
+from flask import Flask, g, render_template_string, request
+
+LANGUAGES = ["de", "en", "fr"]
+app = Flask(__name__)
+translations = {name: gettext.translation("shop", "locale", [name], fallback=True) for name in LANGUAGES}
+app.jinja_env.add_extension("jinja2.ext.i18n")
+app.jinja_env.install_gettext_callables(
+    lambda message: g.texts.gettext(message), lambda one, many, n: g.texts.ngettext(one, many, n), newstyle=True)
+
+
+@app.before_request
+def choose():
+    g.texts = translations[request.accept_languages.best_match(LANGUAGES, "en")]
+
+
+@app.get("/<int:n>")
+def page(n):
+    return g.texts.gettext("basket") + " " + render_template_string(TEMPLATE, n=n)
+"""
+
+
+def changed(text: str, difference: str) -> str:
+    """The text with the changes of a diff without line numbers, whose lines it has in their order."""
+    lines, place = text.splitlines(), 0
+    for line in filter(None, difference.splitlines()):
+        if line[0] == "+":
+            lines.insert(place, line[1:])
+        else:
+            place = lines.index(line[1:], place)
+        if line[0] == "-":
+            del lines[place]
+        else:
+            place += 1
+    return "\n".join(lines)
 
 
 def there(name: str) -> bool:
@@ -78,6 +124,34 @@ class FlaskTest(unittest.TestCase):
                                    ("de, fr;q=0.5", "panier: 3 fichiers"), ("sv", "basket: 3 files")):
                 self.assertEqual(client.get("/3", headers={"Accept-Language": accepted}).text, page, accepted)
 
+    def test_going_over(self) -> None:
+        """The application of someone who makes the five changes of the page."""
+        difference = PAGE.read_text(encoding="utf-8").partition("```diff\n")[2].partition("```")[0]
+        self.assertEqual(difference.count("\n+"), 5)
+        own, before, watches = {"TEMPLATE": TEMPLATE, "__name__": "shop"}, os.getcwd(), []
+        watch = kobdzila.Store.watch
+        with tempfile.TemporaryDirectory() as room, \
+                mock.patch.object(kobdzila.Store, "watch", lambda *words: watches.append(watch(*words))):
+            file = Path(room, "locale", "fr", "LC_MESSAGES", "shop.mo")
+            file.parent.mkdir(parents=True)
+            file.write_bytes(kobdzila.Catalogue.from_po(SHOP.encode()).mo_file())
+            os.chdir(room)
+            try:
+                for text in (APPLICATION, changed(APPLICATION, difference)):
+                    exec(text, own)
+                    client = own["app"].test_client()
+                    for accepted, page in (("fr", "panier panier 2 fichiers"), ("sv", "basket basket 2 files"),
+                                           ("en, fr;q=0.5", "basket basket 2 files")):
+                        self.assertEqual(client.get("/2", headers={"Accept-Language": accepted}).text, page, accepted)
+                own["store"].load("shop", "fr", SHOP.replace("panier", "corbeille").encode())
+                own["store"].publish()
+                self.assertEqual(client.get("/1", headers={"Accept-Language": "fr"}).text,
+                                 "corbeille corbeille 1 fichier")
+            finally:
+                os.chdir(before)
+                for it in watches:
+                    it.stop()
+
     def test_middleware(self) -> None:
         from flask import Flask, render_template_string, request
 
@@ -104,6 +178,83 @@ class FlaskTest(unittest.TestCase):
             self.assertEqual(answer.text, "corbeille 1 fichier")
         with self.assertRaises(ValueError):
             kept[-1].gettext("basket")
+
+
+@unittest.skipUnless(there("babel"), "no Babel")
+class BabelTest(unittest.TestCase):
+    def test_negotiated(self) -> None:
+        """A snapshot of the locale that Babel chooses, in which it also formats."""
+        from babel import Locale
+        from babel.dates import format_date
+        from babel.numbers import format_decimal
+
+        store = kobdzila.Store("shop")
+        store.load("shop", "fr", SHOP.encode())
+        store.load("shop", "pt_BR", SHOP.replace("Language: fr", "Language: pt_BR").replace("panier", "cesta").encode())
+        store.publish()
+        for preferred, text, number in ((["fr_CA", "pt_BR"], "panier", "1,5"), (["pt_BR", "fr"], "cesta", "1,5"),
+                                        (["sv", "da"], "basket", "1.5")):
+            chosen = Locale.negotiate(preferred, ["de", "fr", "pt_BR"]) or "en"
+            with store.snapshot(str(chosen)) as texts:
+                self.assertEqual(texts.gettext("basket"), text, preferred)
+                self.assertEqual(format_decimal(1.5, locale=texts.language or "en"), number, preferred)
+        self.assertIsNone(Locale.negotiate(["sv"], ["fr"]))
+        self.assertEqual(format_date(date(2026, 3, 1), locale=store.snapshot("fr-CA").language), "1 mars 2026")
+
+    def test_in_place_of_its_translations(self) -> None:
+        """What Babel's Translations.load returns, and what kobdzila.translation does."""
+        from babel import Locale
+        from babel.support import Translations
+
+        with tempfile.TemporaryDirectory() as room:
+            folder = Path(room, "fr", "LC_MESSAGES")
+            folder.mkdir(parents=True)
+            (folder / "shop.mo").write_bytes(kobdzila.Catalogue.from_po(SHOP.encode()).mo_file())
+            for locale in ("fr", "sv"):
+                chosen = Locale.parse(locale)
+                theirs = Translations.load(room, [chosen], "shop")
+                ours = kobdzila.translation("shop", room, [str(chosen)], fallback=True)
+                for it in ("basket", "order"):
+                    self.assertEqual(ours.gettext(it), theirs.gettext(it))
+                    self.assertEqual(ours.pgettext("verb", it), theirs.pgettext("verb", it))
+                for n in (0, 1, 2, 200):
+                    self.assertEqual(ours.ngettext("%d file", "%d files", n), theirs.ngettext("%d file", "%d files", n))
+                    words = "menu", "%d item", "%d items", n
+                    self.assertEqual(ours.npgettext(*words), theirs.npgettext(*words))
+
+    def test_among_its_translations(self) -> None:
+        from babel.support import Translations
+
+        own = kobdzila.Catalogue.from_po(b'msgid "cart"\nmsgstr "chariot"\n').mo_file()
+        theirs, ours = Translations(io.BytesIO(own), "shop"), kobdzila.GNUTranslations.from_po(SHOP.encode())
+        theirs.merge(ours)  # (takes no message, since it reads a private attribute)
+        self.assertEqual((theirs.gettext("cart"), theirs.gettext("basket")), ("chariot", "basket"))
+        theirs.add_fallback(ours)
+        self.assertEqual((theirs.gettext("cart"), theirs.gettext("basket")), ("chariot", "panier"))
+        self.assertEqual(theirs.npgettext("menu", "%d item", "", 2), "%d articles")
+
+        ours, theirs = kobdzila.GNUTranslations.from_po(SHOP.encode()), Translations(io.BytesIO(own), "cart")
+        ours.add_fallback(theirs)
+        self.assertEqual((ours.gettext("cart"), ours.gettext("basket")), ("chariot", "panier"))
+        ours, theirs = kobdzila.GNUTranslations.from_po(SHOP.encode()), Translations(io.BytesIO(own), "cart")
+        ours.domain = "shop"
+        theirs.add(ours)
+        self.assertEqual((theirs.dgettext("shop", "basket"), theirs.gettext("basket")), ("panier", "basket"))
+        self.assertEqual(theirs.dgettext("shop", "cart"), "chariot")
+
+    def test_its_files(self) -> None:
+        """A file that `pybabel compile` writes."""
+        with warnings.catch_warnings():
+            warnings.simplefilter("ignore")  # (of the module cgi, which Babel 2.10 imports)
+            from babel.messages.mofile import write_mo
+            from babel.messages.pofile import read_po
+
+        file = io.BytesIO()
+        write_mo(file, read_po(io.BytesIO(SHOP.encode()), locale="fr"))
+        ours = kobdzila.Catalogue.from_mo(file.getvalue())
+        self.assertEqual(ours.count, kobdzila.Catalogue.from_po(SHOP.encode()).count)
+        self.assertEqual((ours.gettext("basket"), ours.pgettext("verb", "order")), ("panier", "commander"))
+        self.assertEqual(ours.npgettext("menu", "%d item", "", 2), "%d articles")
 
 
 if __name__ == "__main__":
