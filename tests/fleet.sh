@@ -2,8 +2,8 @@
 # kobdzila.fleet: a log of loads in PostgreSQL, and machines that follow it (tests/fleet). The tests start servers of
 # their own on the loopback address, in folders of their own, and end them. tests/needs installs PostgreSQL and psycopg.
 #
-#   tests/fleet.sh          a minute
-#   tests/fleet/soak.py     ten minutes of kills, which isn't a part of `make check`
+#   tests/fleet.sh            a minute or two
+#   bench/fleet/run soak      ten minutes of kills, which aren't a part of `make check`
 #
 # PYTHON names a Python 3.10 or later with psycopg 3 and Python.h, if it isn't /usr/bin/python3.
 no_program=1

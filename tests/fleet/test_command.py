@@ -6,9 +6,12 @@ import io
 import json
 import os
 import re
+import shlex
 import subprocess
 import sys
 import tempfile
+import textwrap
+import threading
 import unittest
 import uuid
 from pathlib import Path
@@ -19,7 +22,7 @@ import psycopg
 import kobdzila
 import servers
 from kobdzila.fleet import Log, _command, _log
-from stores import NO_SESSION, has_catsession
+from stores import NO_SESSION, has_catsession, loads, until
 
 TOP = Path(__file__).resolve().parents[2]
 GUIDE = TOP / "docs" / "guide" / "fleet.md"
@@ -173,6 +176,44 @@ class CommandTest(unittest.TestCase):
         refused = re.search(r"^    (fr\.po:3: .*)\n    (kob-fleet: .*)$", text, re.M)
         self.file("fr.po", 'msgid "a"\nmsgstr "x"\nmsgid "a"\nmsgstr "y"\n')
         self.assertEqual(self.run_program("publish", "garden/fr=fr.po")[2], f"{refused[1]}\n{refused[2]}\n")
+
+    def test_two_servers_by_the_guide(self) -> None:
+        """The guide's steps in their order: none of them waits for a standby that isn't there yet."""
+        section = re.search(r"^## Two servers\n(.*?)^## ", GUIDE.read_text(encoding="utf-8"), re.M | re.S)[1]
+        settings, allowed, role, copy, waits = map(textwrap.dedent, re.findall(r"(?:^    .*\n)+", section, re.M))
+        with servers.folder() as room, contextlib.ExitStack() as stack:
+            first, second = servers.Server(room / "db1"), servers.Server(room / "db2")
+            stack.callback(first.stop)
+            stack.callback(second.stop)
+            first.create()
+            first.set(settings.replace("'*'", "'127.0.0.1'"))
+            with (first.folder / "pg_hba.conf").open("a", encoding="utf-8") as file:
+                file.write(allowed)
+            first.start()
+            connection = stack.enter_context(psycopg.connect(first.address, autocommit=True))
+            timer = threading.Timer(10, connection.cancel)  # (statement_timeout doesn't count while a commit waits)
+            stack.callback(timer.cancel)
+            timer.start()
+            connection.execute(role)
+            self.assertTrue(timer.is_alive(), "create role waited for a standby")
+            written = copy.replace("host=db1", f"host=127.0.0.1 port={first.port}").replace("DATA", str(second.folder))
+            second.run(*shlex.split(written))
+            second.set(f"port = {second.port}")  # (both are on one machine)
+            second.start()
+            states = "select application_name, sync_state from pg_stat_replication"
+            until(lambda: connection.execute(states).fetchall() == [("db2", "async")])
+            first.set(waits)
+            connection.execute("select pg_reload_conf()")
+            until(lambda: connection.execute(states).fetchall() == [("db2", "sync")])
+            with Log(servers.both(first, second)) as log:
+                log.init()
+                log.publish(loads(1))
+                with psycopg.connect(second.address) as standby:
+                    self.assertEqual(standby.execute("select max(version) from kobdzila.publish").fetchone(), (2,))
+                    self.assertEqual(standby.execute("show synchronous_standby_names").fetchone(), ("",))
+                first.kill()
+                second.promote()
+                self.assertEqual(log.publish(loads(2)), 4)
 
 
 if __name__ == "__main__":
