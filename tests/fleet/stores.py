@@ -12,6 +12,7 @@ from kobdzila.fleet import Behind, Follower
 
 PAIRS = (("app", "fr"), ("mail", "fr"))
 KEYS = ("k0", "k1", "k2")
+ROUNDS = 4  # how often a reader looks up all keys in a snapshot
 NO_SESSION = "no catsession in the package nor on the PATH"
 
 
@@ -147,24 +148,27 @@ class Readers:
             thread.start()
 
     def _read(self, follower: Follower) -> None:
+        is_session = isinstance(follower.store, kobdzila.Session)
         last_version, last_number = 0, 0
         while not self._end.wait(0.0005):
             try:
                 with follower.snapshot(within=0.2) as texts:
-                    version, numbers = texts.version, texts.numbers()
+                    version, seen = texts.version, [texts.numbers() for _ in range(ROUNDS)]
             except Behind:
                 continue
             if version == 0:
                 continue
-            self.looks += len(KEYS) * (1 if isinstance(follower.store, kobdzila.Session) else len(PAIRS))
-            if len(numbers) != 1:
-                self.wrong.append(f"{follower.machine}: half of a publish at {version}: {numbers}")
+            self.looks += ROUNDS * len(KEYS) * (1 if is_session else len(PAIRS))
+            if any(len(numbers) != 1 for numbers in seen):
+                self.wrong.append(f"{follower.machine}: half of a publish at {version}: {seen}")
                 continue
-            number = int(numbers.pop())
-            if version < last_version or number < last_number:
+            found = [int(numbers.pop()) for numbers in seen]
+            if not is_session and len(set(found)) != 1:  # (a session has no snapshots: each round is of its version)
+                self.wrong.append(f"{follower.machine}: a snapshot changed at {version}: {found}")
+            if version < last_version or sorted([last_number, *found]) != [last_number, *found]:
                 before = f"{last_version} ({last_number})"
-                self.wrong.append(f"{follower.machine}: back from {before} to {version} ({number})")
-            last_version, last_number = version, number
+                self.wrong.append(f"{follower.machine}: back from {before} to {version} ({found})")
+            last_version, last_number = version, found[-1]
 
     def close(self) -> None:
         self._end.set()
