@@ -89,6 +89,16 @@ class CommandTest(unittest.TestCase):
         self.assertEqual(json.loads(self.run_program("status", "--json")[1]),
                          {"version": 4, "publishes": 3, "cut": 4, "machines": []})
 
+    def test_machines(self) -> None:
+        self.run_program("init")
+        with Log(self.address) as log:
+            log._connected().execute(
+                "insert into kobdzila.machine (name, version, trouble, seen) values"
+                " ('a', 0, null, clock_timestamp()), ('b', 0, null, clock_timestamp() - interval '40 s'),"
+                " ('c', 0, 'no texts', clock_timestamp() - interval '40 s')")
+        _, _, *lines = self.run_program("status")[1].splitlines()
+        self.assertEqual([line.split("ago")[1].strip() for line in lines], ["follows", "silent", "no texts"])
+
     def test_what_is_refused(self) -> None:
         self.run_program("init")
         self.file("fr.po", 'msgid "a"\nmsgstr "x"\nmsgid "a"\nmsgstr "y"\n')

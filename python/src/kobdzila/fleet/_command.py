@@ -21,11 +21,12 @@ except ImportError:
 
 from .._session import Session, SessionEnded
 from ._follow import Follower
-from ._log import NAME, NO_LOG, Load, Log, NoLog, Unanswered
+from ._log import NAME, NO_LOG, Load, Log, Machine, NoLog, Unanswered
 from ._store import Behind
 
 DATABASE = "KOB_FLEET_DATABASE"
 MOST_LINES = 67_108_864
+SILENT = 30.0  # seconds without a report, which comes every ten
 HEADS = ("machine", "version", "behind", "for", "seen", "state")
 
 
@@ -176,11 +177,15 @@ def status(options: argparse.Namespace) -> int:
         return 0
     print(f"version {found.version}, {found.publishes} publishes, cut up to {found.cut}")
     rows = [HEADS, *((it.name, str(it.version), str(it.behind), f"{it.late:.1f} s" if it.behind else "-",
-                      f"{it.seen:.0f} s ago", it.trouble or "follows") for it in found.machines)]
+                      f"{it.seen:.0f} s ago", state_of(it)) for it in found.machines)]
     widths = [max(len(row[at]) for row in rows) for at in range(len(HEADS))]
     for row in rows if found.machines else ():
         print("  ".join(cell.ljust(width) for cell, width in zip(row, widths)).rstrip())
     return 0
+
+
+def state_of(machine: Machine) -> str:
+    return machine.trouble or ("follows" if machine.seen <= SILENT else "silent")
 
 
 def follow(options: argparse.Namespace) -> int:
