@@ -243,18 +243,22 @@ class BabelTest(unittest.TestCase):
         self.assertEqual(theirs.dgettext("shop", "cart"), "chariot")
 
     def test_its_files(self) -> None:
-        """A file that `pybabel compile` writes."""
+        """Files that `pybabel compile` writes. With contexts their keys are out of order: only the standard class reads."""
         with warnings.catch_warnings():
             warnings.simplefilter("ignore")  # (of the module cgi, which Babel 2.10 imports)
             from babel.messages.mofile import write_mo
             from babel.messages.pofile import read_po
 
-        file = io.BytesIO()
-        write_mo(file, read_po(io.BytesIO(SHOP.encode()), locale="fr"))
-        ours = kobdzila.Catalogue.from_mo(file.getvalue())
-        self.assertEqual(ours.count, kobdzila.Catalogue.from_po(SHOP.encode()).count)
-        self.assertEqual((ours.gettext("basket"), ours.pgettext("verb", "order")), ("panier", "commander"))
+        for text, read_by_python in ((SHOP.replace("msgctxt", "#"), False), (SHOP, True)):
+            file = io.BytesIO()
+            write_mo(file, read_po(io.BytesIO(text.encode()), locale="fr"))
+            ours = kobdzila.GNUTranslations(file.getvalue())
+            self.assertEqual((ours.gettext("basket"), ours.count == 0), ("panier", read_by_python))
+            self.assertEqual(ours.ngettext("%d file", "%d files", 2), "%d fichiers supprimés")
         self.assertEqual(ours.npgettext("menu", "%d item", "", 2), "%d articles")
+        with self.assertRaises(kobdzila.Refused) as caught:
+            kobdzila.Store().load("shop", "fr", file.getvalue())
+        self.assertEqual(caught.exception.kind, kobdzila.Fault.MO_ORDER)
 
 
 if __name__ == "__main__":
