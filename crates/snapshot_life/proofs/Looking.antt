@@ -1,0 +1,19 @@
+-- A query that is looked up in the set of a version is answered from the loads that are published in it.
+use Rattle.std.proofs.Common.{◌≡◌, ℕ, List, subst}
+use Rattle.mo_image.specs.Entry.{Entry}
+use Rattle.live_set.specs.Asks.{QueryValue, HasValue, HasAnswer, IsAnswer, answering, key_of}
+use Rattle.live_set.specs.Languages.{named}
+use Rattle.live_set.specs.Loads.{LoadValue, map_of}
+use Rattle.live_set.specs.Sets.{SetValue, fold, map_in}
+use Rattle.live_versions.specs.Batches.{joined}
+use Rattle.live_versions.proofs.Looking.{searched}
+use Rattle.snapshot_store.specs.Holding.{IsSetOf}
+
+same_map : (loads : List LoadValue) (set : SetValue) (query : QueryValue) → set ≡ fold loads
+    → answering (map_in set.held) query ≡ answering (map_of loads) query
+same_map loads set query is = rw is (searched loads query.domain (key_of query.ask) (named query.languages))
+
+pub asked : (batches : List (List LoadValue)) (set : SetValue) (query : QueryValue) (text : List ℕ)
+    → IsSetOf batches set → HasAnswer (map_in set.held) query text → IsAnswer (joined batches) query text
+asked batches set query text of has =
+    subst (λ (m : List Entry). HasValue m query.ask text) (same_map (joined batches) set query of.is) has
