@@ -18,7 +18,7 @@ import psycopg
 from .._closing import Closing
 from .._session import Session
 from ._log import CHANNEL, CONNECT_TIMEOUT, NO_LOG, Connection, Load, one, with_defaults
-from ._queries import Cut, Damaged, Head, Publish, asked, check_count, checked, loads_of, prepare
+from ._queries import Cut, Damaged, Found, Head, Publish, asked, check_count, checked, loads_of, prepare
 from ._store import Behind, SessionTexts, Snapshot, Store
 
 if TYPE_CHECKING:
@@ -266,11 +266,11 @@ class Follower(Closing):
         if self._version == 0:
             return self._jump(connection)
         with contextlib.closing(asked(connection, "next", self._version, MOST_LOADS)) as rows:
-            self._check_own(Publish(*next(rows)[:6]))
+            self._check_own(Publish(*next(rows).head))
             first = next(rows, None)
             if first is None:
                 return False
-            publish = Publish(*first[:6])
+            publish = Publish(*first.head)
             loads = self._taken(publish, itertools.chain([first], rows))
         if loads is None:
             return self._jump(connection)
@@ -286,7 +286,7 @@ class Follower(Closing):
         if own.history != self._history:
             raise Difference(self._version, own.version, "the log has another history up to this version")
 
-    def _taken(self, publish: Publish, rows: Iterable[Sequence[Any]]) -> list[Load] | None:
+    def _taken(self, publish: Publish, rows: Iterable[Found]) -> list[Load] | None:
         """Return the loads of the next publish, or None if this machine has to take the last loads instead."""
         if publish.newest - self._version > MOST_LOADS:
             return None
@@ -304,10 +304,10 @@ class Follower(Closing):
         with contextlib.closing(asked(connection, "last", self._version)) as rows:
             first = next(rows, None)
             if first is not None:
-                head = Head(*first[:6])
+                head = Head(*first.head)
                 check_count(head, self._version)
                 with ThreadPoolExecutor(CHECKERS) as pool:
-                    loads = list(pool.map(lambda row: checked(row[6:11], row[11]), itertools.chain([first], rows)))
+                    loads = list(pool.map(checked, itertools.chain([first], rows)))
         if first is None:
             self._show((), 0, b"")
         else:

@@ -56,6 +56,17 @@ class Cut(Exception):
     """The loads of a publish were cut."""
 
 
+class Found(NamedTuple):
+    """A row of a query: the columns of a Publish or a Head, those of a load, and the load's file.
+
+    They are None if there is no load, or no file.
+    """
+
+    head: Sequence[Any]
+    load: Sequence[Any]
+    mo: bytes | None
+
+
 class Publish(NamedTuple):
     """A publish, as a row of NEXT has it. Its version is None if the log doesn't have it."""
 
@@ -78,19 +89,23 @@ class Head(NamedTuple):
     found: int
 
 
+COLUMNS = len(Publish._fields)  # of a Publish, and of a Head
+
+
 def prepare(connection: Connection) -> None:
     """Let the server read and plan the queries, once for each connection."""
     for query in (NEXT, LAST):
         connection.execute(query.encode())
 
 
-def asked(connection: Connection, query: str, *values: int) -> Generator[Sequence[Any], None, None]:
+def asked(connection: Connection, query: str, *values: int) -> Generator[Found, None, None]:
     """Yield the rows of a prepared query, of which the server sends some while others are in use.
 
     Close it, which ends the query.
     """
     text = f"execute kobdzila_{query}({', '.join(map(str, values))})"
-    yield from connection.cursor().stream(text.encode(), binary=True)
+    for row in connection.cursor().stream(text.encode(), binary=True):
+        yield Found(row[:COLUMNS], row[COLUMNS:-1], row[-1])
 
 
 def check_count(head: Head, mine: int) -> None:
@@ -104,16 +119,17 @@ def check_count(head: Head, mine: int) -> None:
             raise Damaged(f"the log has {found} loads after {after} up to {last}, and not {count}")
 
 
-def loads_of(publish: Publish, rows: Iterable[Sequence[Any]], mine: int, history: bytes) -> list[Load]:
+def loads_of(publish: Publish, rows: Iterable[Found], mine: int, history: bytes) -> list[Load]:
     """Return the loads of the publish that follows version `mine` and its history."""
     first = publish.version - publish.loads
     if first != mine:
         raise Damaged(f"publish {publish.version} of the log doesn't follow {mine}")
     loads, seals = [], []
     for row in rows:
-        if row[6] is not None:
-            loads.append(checked(row[6:11], row[11]))
-            seals.append(row[10])
+        version, *_, seal = row.load
+        if version is not None:
+            loads.append(checked(row))
+            seals.append(seal)
     if len(loads) != publish.loads:
         if first < publish.cut:
             raise Cut
@@ -123,11 +139,11 @@ def loads_of(publish: Publish, rows: Iterable[Sequence[Any]], mine: int, history
     return loads
 
 
-def checked(row: Sequence[Any], mo: bytes | None) -> Load:
+def checked(row: Found) -> Load:
     """Return a load of the log, whose row and file have to be as they were written."""
-    version, domain, locale, total, seal = row
+    version, domain, locale, total, seal = row.load
     if seal_of(version, domain, locale, total) != seal:
         raise Damaged(f"load {version} of the log, {domain}/{locale}: its row was changed")
-    if mo is None or hashlib.sha256(mo).digest() != total:
+    if row.mo is None or hashlib.sha256(row.mo).digest() != total:
         raise Damaged(f"load {version} of the log, {domain}/{locale}: its file has another sum")
-    return Load(domain, locale, mo)
+    return Load(domain, locale, row.mo)
