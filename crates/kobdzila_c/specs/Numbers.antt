@@ -1,4 +1,4 @@
--- The numbers that C and this library share. C has them in kobdzila.h (enum kob_fault) and in its files.
+-- The numbers that C and this library share, as kobdzila.h (enum kob_fault) and the files of c/ have them.
 use Rattle.std.specs.Prelude.{ℕ}
 
 -- ---- why an operation failed; the faults of an MO file are its ranks, from 1 on

@@ -43,5 +43,5 @@ returns-in-Ok-run_clients-clause-promise g c =
     subst (λ (l : List Client). IsRun most_loads commands outcomes l) (sym items)
     (fresh_run most_loads s t commands outcomes before done c.in-Ok.ensures.1
     (ap (λ (x : StoreValue). x.pending) c.in-Ok.ensures.0) (ap (λ (x : StoreValue). x.most) c.in-Ok.ensures.0)
-    c.in_ok-seat_all.ensures.seated (run_lives s t commands outcomes before done c.in-Ok-run_clients.ensures.does served)
-    served)
+    c.in_ok-seat_all.ensures.seated
+    (run_lives s t commands outcomes before done c.in-Ok-run_clients.ensures.does served) served)
