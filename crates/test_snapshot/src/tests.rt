@@ -52,9 +52,15 @@ fn an_entry_is_of_the_newest_version(rt: HostRuntime) -> Result<(), Fail> {
     let mut reader = publisher.reader()?;
     reader.enter();
     assert_eq!(rt; text_of(&reader), "hi");
+    assert!(rt;
+        reader.is_current(),
+        "an entry that found nothing new isn't current"
+    );
     assert_eq!(rt; publish(alloc, &mut publisher, SALUT), 1);
     assert_eq!(rt; text_of(&reader), "hi");
+    assert!(rt; !reader.is_current(), "what was replaced is current");
     reader.enter();
+    assert!(rt; reader.is_current(), "an entry isn't current");
     assert_eq!(rt; text_of(&reader), "salut");
     assert_eq!(rt; publish(alloc, &mut publisher, BONJOUR), 2);
     assert_eq!(rt; text_of(&reader), "salut");
