@@ -84,6 +84,9 @@ class SessionTexts(Closing, Calls):
         self._session, self._log_version = session, log_version
         self.version = session.version  # (the session's; Snapshot turns it into the log's)
 
+    def close(self) -> None:
+        """Do nothing: the session is the follower's."""
+
     def ask(self, domain: str, languages: str, *questions: tuple[str | int, ...]) -> list[Answer]:
         """Return the answers to several questions, all of one version, such as ("ngettext", "file", "files", 2)."""
         answers = self._session.ask(domain, languages, *questions)
