@@ -10,12 +10,6 @@ no_program=1
 . "$(dirname "$0")/common"
 top=$PWD
 
-# script NAME LINE: a program $room/NAME, for tests/needs
-script() {
-  printf '#!/bin/sh\n%s\n' "$2" > "$room/$1"
-  chmod +x "$room/$1"
-}
-
 python=${PYTHON:-/usr/bin/python3}
 script headers "'$python' -c 'import ensurepip, os, sysconfig as it; os.stat(it.get_path(\"include\") + \"/Python.h\")'"
 script psycopg "'$python' -c 'import psycopg'"
@@ -31,15 +25,7 @@ else
 fi
 [ -n "${ready:-}" ] || exit 0
 
-if [ ! -f build/lib/libkobdzila.a ]; then
-  made=()
-  [ ! -f crates/kobdzila_c/out/libkobdzila_c.a ] || made=(--made)
-  tools/build_library "${made[@]}" > "$room/log" 2>&1 || failed 'many machines' "$(tail -n 2 "$room/log")"
-fi
-if [ ! -f build/lib/libkobdzila.a ]; then
-  skipped 'many machines' 'no build/lib/libkobdzila.a: make library builds it'
-  exit 0
-fi
+has_archive 'many machines' || exit 0
 
 # the wheel, installed next to the system's psycopg
 if ! said=$(PYTHON=$python tools/wheel "$room/wheel" 2>&1) ||

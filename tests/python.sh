@@ -13,25 +13,11 @@ is_usable() { "$1" -c 'import sys, ensurepip, venv; sys.exit(sys.version_info < 
 # has_headers PYTHON
 has_headers() { [ -f "$("$1" -c 'import sysconfig; print(sysconfig.get_path("include"))' 2> /dev/null)/Python.h" ]; }
 
-# script NAME LINE: a program $room/NAME, for tests/needs
-script() {
-  printf '#!/bin/sh\n%s\n' "$2" > "$room/$1"
-  chmod +x "$room/$1"
-}
-
 if ! tests/needs cc gcc libc6-dev; then
   skipped 'the Python package' 'no C compiler, and it could not be installed'
   exit 0
 fi
-if [ ! -f build/lib/libkobdzila.a ]; then
-  made=()
-  [ ! -f crates/kobdzila_c/out/libkobdzila_c.a ] || made=(--made)
-  tools/build_library "${made[@]}" > "$room/log" 2>&1 || failed 'the Python package' "$(tail -n 2 "$room/log")"
-fi
-if [ ! -f build/lib/libkobdzila.a ]; then
-  skipped 'the Python package' 'no build/lib/libkobdzila.a: make library builds it'
-  exit 0
-fi
+has_archive 'the Python package' || exit 0
 
 # Debian's Python first, since Flask, Jinja2, Babel and mypy can be installed for it
 first=${PYTHON:-}
