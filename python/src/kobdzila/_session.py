@@ -6,6 +6,7 @@ import re
 import shutil
 import subprocess
 import threading
+from binascii import hexlify
 from collections.abc import Callable, Sequence
 from pathlib import Path
 from typing import NamedTuple
@@ -128,7 +129,7 @@ class Session(Closing, Calls):
 
     def load_mo(self, domain: str, locale: str, mo: bytes) -> None:
         """Keep an MO file for the next publish."""
-        self._keep(domain, locale, _line("loadmo", domain, locale, mo.hex()))
+        self._keep(domain, locale, b"%s\t%s\n" % (_fields("loadmo", domain, locale), hexlify(mo)))
 
     def publish(self) -> int:
         """Publish the loads that were kept, in one step, and return their version. LoadRefused lists those refused."""
@@ -202,11 +203,15 @@ def _check_size(lines: Sequence[bytes]) -> None:
         raise ValueError(f"more than {MOST_LINES} bytes for one round")
 
 
-def _line(*fields: str | int) -> bytes:
+def _fields(*fields: str | int) -> bytes:
     texts = [str(field) for field in fields]
     if any("\t" in text or "\n" in text for text in texts):
         raise ValueError(f"a tab or an LF in a name: {texts}")
-    return "\t".join(texts).encode() + b"\n"
+    return "\t".join(texts).encode()
+
+
+def _line(*fields: str | int) -> bytes:
+    return _fields(*fields) + b"\n"
 
 
 def _question(domain: str, languages: str, call: str | int, *texts: str | int) -> bytes:
