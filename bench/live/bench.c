@@ -25,10 +25,11 @@
 
 #define MESSAGES 100
 #define MOST_THREADS 16
+#define CATALOGUES 10
 #define ROUNDS 5
 
 static double seconds;
-static kob_catalogue *catalogue;
+static kob_catalogue *catalogues[CATALOGUES]; /* of one file: no two rows of the smallest set share one */
 static kob_text domain = { "bench", 5 }, languages = { "xx", 2 }, none, ids[MESSAGES];
 static char id_bytes[MESSAGES][20];
 static atomic_int ended;
@@ -98,13 +99,13 @@ static size_t look_dcgettext(struct thread *me, unsigned i) {
 }
 
 static void publish_store(void) {
-    need("load", kob_store_load(store, "bench", "xx", catalogue, NULL));
+    need("load", kob_store_load(store, "bench", "xx", catalogues[0], NULL));
     while (!kob_store_publish(store, NULL)) {
     }
 }
 
 static kob_set *next_set(void) {
-    kob_set *next = kob_set_with(atomic_load(&shown), "bench", "xx", catalogue, NULL);
+    kob_set *next = kob_set_with(atomic_load(&shown), "bench", "xx", catalogues[0], NULL);
     need("set", next != NULL);
     return next;
 }
@@ -308,14 +309,14 @@ static void late_entries(void) {
 }
 
 /* A store and a set with so many catalogues. */
-static void fill(int catalogues) {
+static void fill(int rows) {
     char locale[20];
     store = kob_store_new();
     kob_set *set = kob_set_new();
-    for (int i = 0; i < catalogues; i++) {
+    for (int i = 0; i < rows; i++) {
         snprintf(locale, sizeof locale, i ? "l%d" : "xx", i);
-        need("load", kob_store_load(store, "bench", locale, catalogue, NULL));
-        kob_set *more = kob_set_with(set, "bench", locale, catalogue, NULL);
+        need("load", kob_store_load(store, "bench", locale, catalogues[i % CATALOGUES], NULL));
+        kob_set *more = kob_set_with(set, "bench", locale, catalogues[i % CATALOGUES], NULL);
         kob_set_release(set);
         set = more;
     }
@@ -376,8 +377,10 @@ int main(int argc, char **argv) {
     char name[4096];
     seconds = atof(argv[2]);
     snprintf(name, sizeof name, "%s/xx/LC_MESSAGES/bench.mo", argv[1]);
-    catalogue = kob_open_file(name, KOB_MO, 0, NULL);
-    need(name, catalogue != NULL);
+    for (int i = 0; i < CATALOGUES; i++) {
+        catalogues[i] = kob_open_file(name, KOB_MO, 0, NULL);
+        need(name, catalogues[i] != NULL);
+    }
     bindtextdomain("bench", argv[1]);
     for (int i = 0; i < MESSAGES; i++) {
         ids[i] = (kob_text){ id_bytes[i], (size_t)snprintf(id_bytes[i], sizeof id_bytes[i], "message %d", i) };
@@ -397,6 +400,7 @@ int main(int argc, char **argv) {
     empty();
     if (argc == 3)
         publishes();
-    kob_release(catalogue);
+    for (int i = 0; i < CATALOGUES; i++)
+        kob_release(catalogues[i]);
     return 0;
 }
