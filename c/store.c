@@ -102,8 +102,12 @@ kob_notice *kob_store_notice(const kob_store *store) {
     return (kob_notice *)(void *)notice;
 }
 
+/* A reader is followed by as many bytes as a cache line has, which nobody uses: so what one thread writes at an entry
+ * lies in no line that another thread's reader is in. */
+enum { CACHE_LINE = 64 };
+
 kob_reader *kob_store_reader(const kob_store *store) {
-    struct counted *reader = room_for(kobdzila_reader_size());
+    struct counted *reader = room_for(kobdzila_reader_size() + CACHE_LINE);
     if (!reader)
         return NULL;
     atomic_init(&reader->holders, NO_HOLDERS);
