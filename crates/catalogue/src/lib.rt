@@ -16,7 +16,7 @@ mod sorted;
 mod spans;
 
 pub use compiler::{Compiled, Stats, compile, compile_owned};
-pub use entry_search::Steps;
+pub use entry_search::{AskedKey, Steps};
 pub use law::one_meaning;
 pub use lookup::untranslated;
 pub use map::Catalogue;

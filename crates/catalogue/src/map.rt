@@ -7,7 +7,7 @@ ghost use Rattle.mo_image.specs.MoFile.{spelling};
 ghost use Rattle.entry_search.specs.Search.{AtMostDigits};
 ghost use Rattle.catalogue.specs.Value.{HasMapRule};
 
-use entry_search::{Entries, Steps};
+use entry_search::{AskedKey, Entries, Steps};
 use mo_image::{EntryList, EntryRef, EntryStrings, Image};
 use po_header::{RuleRead, read_rule};
 use std::alloc::{AllocError, Global};
@@ -151,7 +151,16 @@ impl Catalogue {
     pub fn find_bytes(&self, context: Option<&[u8]>, id: &[u8]) -> Option<EntryRef<'_>>
         ensures { result ≡ entry_at self.now (key_bytes (option_map (λ s. s.now) context.entry) id.now) }
     {
-        self.entries.find(context, id)
+        self.find_asked(&AskedKey::new(context, id))
+    }
+
+    /// Finds the entry of a key that was made before, as `find_bytes` does. To look one key up in several catalogues,
+    /// make it once: it is then hashed once.
+    #[inline(always)]
+    pub fn find_asked(&self, asked: &AskedKey<'_>) -> Option<EntryRef<'_>>
+        ensures { result ≡ entry_at self.now asked.now }
+    {
+        self.entries.find_asked(asked)
     }
 
     /// Finds the entry of a msgid as `find` does, and adds its steps to a count. A step is one comparison of the key

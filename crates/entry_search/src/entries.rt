@@ -4,10 +4,10 @@ ghost use Rattle.mo_image.specs.Entry.{key_bytes};
 ghost use Rattle.mo_image.specs.Map.{entry_at};
 ghost use Rattle.entry_search.specs.Search.{AtMostDigits};
 
-use crate::Steps;
 use crate::find::{find_counted_in, find_in};
 use crate::index::Index;
 use crate::index_slots::index_of;
+use crate::{AskedKey, Steps};
 use mo_image::{EntryRef, Image};
 use std::alloc::{AllocError, Global};
 use std::marker::Model;
@@ -67,7 +67,16 @@ impl Entries {
     pub fn find(&self, context: Option<&[u8]>, id: &[u8]) -> Option<EntryRef<'_>>
         ensures { result ≡ entry_at self.now (key_bytes (option_map (λ s. s.now) context.entry) id.now) }
     {
-        find_in(&self.image, self.index.as_ref(), context, id)
+        self.find_asked(&AskedKey::new(context, id))
+    }
+
+    /// Finds the entry of a key that was made before, as `find` does. To look one key up in several catalogues, make it
+    /// once.
+    #[inline(always)]
+    pub fn find_asked(&self, asked: &AskedKey<'_>) -> Option<EntryRef<'_>>
+        ensures { result ≡ entry_at self.now asked.now }
+    {
+        find_in(&self.image, self.index.as_ref(), asked)
     }
 
     /// Finds the entry of a msgid as `find` does, and counts the steps: at most as many as the number of entries has
@@ -81,6 +90,7 @@ impl Entries {
         ensures found { result ≡ entry_at self.now (key_bytes (option_map (λ s. s.now) context.entry) id.now) }
         ensures cost { AtMostDigits (length self.now) steps.old steps.new }
     {
-        find_counted_in(&self.image, self.index.as_ref(), context, id, steps)
+        let asked = AskedKey::new(context, id);
+        find_counted_in(&self.image, self.index.as_ref(), &asked, steps)
     }
 }

@@ -8,33 +8,16 @@ ghost use Rattle.mo_image.specs.Map.{entry_at};
 ghost use Rattle.mo_image.specs.Pairs.{key_part, HasNulAt};
 ghost use Rattle.entry_search.specs.Search.{AtMostDigits};
 ghost use Rattle.entry_search.specs.Place.{IsPlaceOf};
-ghost use Rattle.entry_search.specs.Index.{FindsBy, IsIndex};
+ghost use Rattle.entry_search.specs.Index.{IsIndex};
 
-use crate::Steps;
 use crate::index::Index;
 use crate::keys::cmp_in_context;
-use crate::slot_table::{hash_alone, hash_within};
+use crate::{AskedKey, Steps};
 use byte_text::lacks_byte;
 use mo_image::{EntryRef, Image, key_of};
 use std::cmp::Ordering;
 use std::marker::{Brand, Model};
 use std::sync::ledger::{Blank, Ledger};
-
-/// The key to look up. Contracts see it as its bytes.
-#[derive(Drop)]
-struct Asked<'a> {
-    context: Option<&'a [u8]>,
-    id: &'a [u8],
-}
-
-impl<'a> Model for Asked<'a> {
-    ghost use Rattle.std.specs.Prelude.{ℕ, List, option_map};
-    ghost use Rattle.mo_image.specs.Entry.{key_bytes};
-
-    ghost Value = { List ℕ };
-
-    ghost view = { λ a. key_bytes (option_map (λ s. s.now) a.context) a.id.now };
-}
 
 /// The key to look up by binary search. Contracts see it as its bytes.
 #[derive(Drop)]
@@ -74,38 +57,6 @@ fn cmp_id(original: &str, id: &[u8]) -> Ordering
         return key_of(original).as_bytes().cmp(id);
     }
     order
-}
-
-impl<'a> Asked<'a> {
-    #[inline(always)]
-    fn new(context: Option<&'a [u8]>, id: &'a [u8]) -> Asked<'a>
-        ensures { result ≡ key_bytes (option_map (λ s. s.now) context.entry) id.now }
-    {
-        Asked { context, id }
-    }
-
-    /// Returns the hash under which an index has the entry with this key, if there is one. It has 32 bits.
-    #[inline(always)]
-    fn hash(&self) -> u32
-        ensures { FindsBy self.now result }
-    {
-        match self.context {
-            Some(context) => hash_within(context, self.id),
-            None => hash_alone(self.id),
-        }
-    }
-
-    /// Whether this is the key of an entry.
-    #[inline(always)]
-    fn is_key_of(&self, entry: &EntryRef<'_>) -> bool
-        ensures { result ≡ bytes_eq (key entry.now) self.now }
-    {
-        let key = entry.key().as_bytes();
-        match self.context {
-            Some(context) => cmp_in_context(key, context, self.id).is_eq(),
-            None => key == self.id,
-        }
-    }
 }
 
 impl<'a> Sought<'a> {
@@ -150,7 +101,7 @@ fn compare<L: Ledger>(original: &str, sought: &Sought<'_>, steps: &mut Steps<L>)
 
 /// Whether the key of an entry is the one to look up, which counts as a step.
 #[inline(always)]
-fn is_same<L: Ledger>(entry: &EntryRef<'_>, asked: &Asked<'_>, count: &mut Steps<L>) -> bool
+fn is_same<L: Ledger>(entry: &EntryRef<'_>, asked: &AskedKey<'_>, count: &mut Steps<L>) -> bool
     ensures same { result ≡ bytes_eq (key entry.now) asked.now }
     ensures step { count.new ≡ count.old + 1 }
 {
@@ -209,13 +160,14 @@ fn place_by_halves<L: Ledger>(
 #[inline(always)]
 fn search_by_halves<'a, L: Ledger>(
     image: &'a Image,
-    asked: &Asked<'_>,
+    asked: &AskedKey<'_>,
     steps: &mut Steps<L>,
 ) -> Option<EntryRef<'a>>
     ensures found { result ≡ entry_at image.now asked.now }
     ensures cost { AtMostDigits (length image.now) steps.old steps.new }
 {
-    match place_by_halves(image, asked.context, asked.id, steps) {
+    let (context, id) = asked.texts();
+    match place_by_halves(image, context, id, steps) {
         Some(i) => Some(image.entry(i)),
         None => None,
     }
@@ -226,7 +178,7 @@ fn search_by_halves<'a, L: Ledger>(
 fn search_indexed<'a, L: Ledger>(
     image: &'a Image,
     index: &Index,
-    asked: &Asked<'_>,
+    asked: &AskedKey<'_>,
     steps: &mut Steps<L>,
 ) -> Option<EntryRef<'a>>
     requires { IsIndex image.now index.now }
@@ -250,7 +202,7 @@ fn search_indexed<'a, L: Ledger>(
 fn search_by<'a, L: Ledger>(
     image: &'a Image,
     index: Option<&Index>,
-    asked: &Asked<'_>,
+    asked: &AskedKey<'_>,
     steps: &mut Steps<L>,
 ) -> Option<EntryRef<'a>>
     requires { IfSome index (λ index. IsIndex image.now index.now) }
@@ -268,7 +220,7 @@ fn search_by<'a, L: Ledger>(
 fn search_uncounted<'a, L: Ledger>(
     image: &'a Image,
     index: Option<&Index>,
-    asked: &Asked<'_>,
+    asked: &AskedKey<'_>,
     blank: Blank,
 ) -> Option<EntryRef<'a>>
     requires index { IfSome index (λ index. IsIndex image.now index.now) }
@@ -281,31 +233,29 @@ fn search_uncounted<'a, L: Ledger>(
     search_by(image, index, asked, &mut steps)
 }
 
-/// Finds the entry of a msgid, in a context or in none, by the index if there is one.
+/// Finds the entry with this key, by the index if there is one.
 #[inline(always)]
 pub(crate) fn find_in<'a>(
     image: &'a Image,
     index: Option<&Index>,
-    context: Option<&[u8]>,
-    id: &[u8],
+    asked: &AskedKey<'_>,
 ) -> Option<EntryRef<'a>>
     requires { IfSome index (λ index. IsIndex image.now index.now) }
-    ensures { result ≡ entry_at image.now (key_bytes (option_map (λ s. s.now) context.entry) id.now) }
+    ensures { result ≡ entry_at image.now asked.now }
 {
-    search_uncounted::<Brand>(image, index, &Asked::new(context, id), Blank::new(1))
+    search_uncounted::<Brand>(image, index, asked, Blank::new(1))
 }
 
-/// Finds the entry of a msgid as `find_in` does, and counts the steps.
+/// Finds the entry with this key as `find_in` does, and counts the steps.
 pub(crate) fn find_counted_in<'a, L: Ledger>(
     image: &'a Image,
     index: Option<&Index>,
-    context: Option<&[u8]>,
-    id: &[u8],
+    asked: &AskedKey<'_>,
     steps: &mut Steps<L>,
 ) -> Option<EntryRef<'a>>
     requires { IfSome index (λ index. IsIndex image.now index.now) }
-    ensures found { result ≡ entry_at image.now (key_bytes (option_map (λ s. s.now) context.entry) id.now) }
+    ensures found { result ≡ entry_at image.now asked.now }
     ensures cost { AtMostDigits (length image.now) steps.old steps.new }
 {
-    search_by(image, index, &Asked::new(context, id), steps)
+    search_by(image, index, asked, steps)
 }

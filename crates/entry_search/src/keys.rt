@@ -1,7 +1,8 @@
 //! Compares keys piece by piece, without allocating.
-ghost use Rattle.std.specs.Prelude.{◌≡◌, ◌≤◌, length, Some, option_map};
+ghost use Rattle.std.specs.Prelude.{◌≡◌, ◌≤◌, ◌∷◌, length, Some, option_map};
 ghost use Rattle.std.specs.Ordering.{nat_cmp};
 ghost use Rattle.std.specs.Cmp.Lexicographic.{slice_cmp};
+ghost use Rattle.std.specs.Str.{bytes_eq};
 ghost use Rattle.mo_image.specs.Entry.{key_bytes};
 
 use std::cmp::Ordering;
@@ -18,6 +19,28 @@ pub(crate) fn cmp_in_context(text: &[u8], context: &[u8], id: &[u8]) -> Ordering
         .cmp(context)
         .then(text[n].cmp(&4))
         .then(text[n + 1..].cmp(id))
+}
+
+/// Whether a text is the separator of a context and a msgid, and then this msgid.
+#[inline(always)]
+fn is_behind_separator(text: &[u8], id: &[u8]) -> bool
+    ensures { result ≡ bytes_eq text.now (4 ∷ id.now) }
+{
+    match text.split_first() {
+        Some((byte, rest)) => *byte == 4 && rest == id,
+        None => false,
+    }
+}
+
+/// Whether a text is the key of a msgid in a context.
+#[inline(always)]
+pub(crate) fn is_in_context(text: &[u8], context: &[u8], id: &[u8]) -> bool
+    ensures { result ≡ bytes_eq text.now (key_bytes (Some context.now) id.now) }
+{
+    match text.split_at_checked(context.len()) {
+        Some((front, rest)) => front == context && is_behind_separator(rest, id),
+        None => false,
+    }
 }
 
 /// Compares two keys with contexts, where the second context is at least as long as the first.

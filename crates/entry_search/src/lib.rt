@@ -1,6 +1,7 @@
 //! The search for an entry by its key: by an index of the keys' hashes or by binary search, with its steps counted.
 #![tactic(auto)]
 
+mod asked;
 mod entries;
 mod find;
 mod index;
@@ -9,6 +10,7 @@ mod keys;
 mod slot_table;
 mod step_count;
 
+pub use asked::AskedKey;
 pub use entries::Entries;
 pub use keys::cmp_keys;
 pub use step_count::Steps;
