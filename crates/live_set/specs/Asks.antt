@@ -50,6 +50,14 @@ has_key key m = is_some (entry_at m key)
 abbrev pub first_with : List ℕ → List (List Entry) → List Entry
 first_with key maps = option_map_or (λ m. m) (find (has_key key) maps) []
 
+-- the maps that a list of languages names in a domain, in order, given the map of each domain and locale
+abbrev pub maps_named : (List ℕ → List ℕ → List Entry) → List ℕ → List ℕ → List (List Entry)
+maps_named maps domain languages = map (maps domain) (named languages)
+
+-- the answer of some maps to a call: that of the first map that has its key, or without one of the empty map
+abbrev pub HasFirstValue : List (List Entry) → AskValue → List ℕ → Type 0
+HasFirstValue maps ask text = HasValue (first_with (key_of ask) maps) ask text
+
 -- the map that answers a key in a domain and a list of languages, given the map of each domain and locale: that of the
 -- first listed locale whose map has the key, or the empty map
 abbrev pub map_with : (List ℕ → List ℕ → List Entry) → List ℕ → List ℕ → List ℕ → List Entry

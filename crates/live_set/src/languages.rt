@@ -5,18 +5,26 @@ ghost use Rattle.std.specs.List.{before_first, list_any};
 ghost use Rattle.catalogue.specs.Entry.{key_bytes};
 ghost use Rattle.catalogue.specs.Value.{IsFirstForm, IsMapFormFor, text_by};
 ghost use Rattle.live_set.specs.Languages.{is_colon, is_underscore, has_only_territory, translates, language_behind};
-ghost use Rattle.live_set.specs.Languages.{locales_of, named};
-ghost use Rattle.live_set.specs.Asks.{has_key};
+ghost use Rattle.live_set.specs.Languages.{locales_of};
+ghost use Rattle.live_set.specs.Asks.{has_key, maps_named};
 ghost use Rattle.live_set.specs.Names.{IsName};
 ghost use Rattle.live_set.specs.Sets.{map_in};
 ghost use Rattle.live_set.specs.FirstFound.{IsFoundIn, IsCutAt};
 
 use crate::CatalogueSet;
 use byte_text::TextKey;
-use catalogue::{Catalogue, EntryRef, untranslated};
+use catalogue::{AskedKey, Catalogue, EntryRef, untranslated};
 
 /// An entry that was found, and the catalogue it is in.
 pub(crate) type Found<'a> = (&'a Catalogue, EntryRef<'a>);
+
+/// The key of a msgid, in a context or in none.
+#[inline(always)]
+pub(crate) fn key_of<'a>(context: Option<&'a str>, id: &'a str) -> AskedKey<'a>
+    ensures { result ≡ key_bytes (option_map (λ s. s.now) context.entry) id.now }
+{
+    AskedKey::new(context.map(str::as_bytes), id.as_bytes())
+}
 
 /// The first form of the entry found, or the msgid if there is none.
 #[inline(always)]
@@ -43,7 +51,7 @@ pub(crate) fn counted<'a>(found: Option<Found<'a>>, id: &'a str, plural: &'a str
 }
 
 /// The language of a locale name with a territory, no codeset and no variant: `fr` for `fr_CA`.
-fn language_of(member: &str) -> Option<&str>
+pub(crate) fn language_of(member: &str) -> Option<&str>
     ensures { MatchOption result (has_only_territory member.now ≡ false) (λ language.
         (has_only_territory member.now ≡ true) × (language.now ≡ before_first is_underscore member.now)) }
 {
@@ -70,7 +78,7 @@ fn has_colon(languages: &str) -> bool
 }
 
 /// Splits the first member off a list, skipping empty ones. `None` if the list is empty or ends here at `C` or `POSIX`.
-fn first_member(languages: &str) -> Option<(&str, &str)>
+pub(crate) fn first_member(languages: &str) -> Option<(&str, &str)>
     ensures cut { IsCutAt languages.now result }
     ensures shorter { IfSome result (λ cut. length cut.1.now < length languages.now) }
 {
@@ -92,19 +100,12 @@ fn first_member(languages: &str) -> Option<(&str, &str)>
 impl CatalogueSet {
     /// The entry with this context and msgid in the catalogue for a domain and a locale.
     #[inline(always)]
-    fn find_in(
-        &self,
-        domain: &TextKey<'_>,
-        locale: &str,
-        context: Option<&[u8]>,
-        id: &[u8],
-    ) -> Option<Found<'_>>
-        ensures found { IsFoundIn (key_bytes (option_map (λ s. s.now) context.entry) id.now)
-            (map_in self.now.held domain.now locale.now ∷ []) result }
+    fn find_in(&self, domain: &TextKey<'_>, locale: &str, key: &AskedKey<'_>) -> Option<Found<'_>>
+        ensures found { IsFoundIn key.now (map_in self.now.held domain.now locale.now ∷ []) result }
         ensures name { IfSome result (λ _. IsName locale.now) }
     {
         let catalogue = self.catalogue(domain, locale)?;
-        let entry = catalogue.find_bytes(context, id)?;
+        let entry = catalogue.find_asked(key)?;
         Some((catalogue, entry))
     }
 
@@ -113,13 +114,11 @@ impl CatalogueSet {
         &self,
         domain: &TextKey<'_>,
         member: &str,
-        context: Option<&[u8]>,
-        id: &[u8],
+        key: &AskedKey<'_>,
     ) -> Option<Found<'_>>
-        ensures { IsFoundIn (key_bytes (option_map (λ s. s.now) context.entry) id.now)
-            (map (map_in self.now.held domain.now) (language_behind member.now)) result }
+        ensures { IsFoundIn key.now (map (map_in self.now.held domain.now) (language_behind member.now)) result }
     {
-        self.find_in(domain, language_of(member)?, context, id)
+        self.find_in(domain, language_of(member)?, key)
     }
 
     /// Like `find_in`, for a member of a list: first as a locale, then its language.
@@ -127,16 +126,14 @@ impl CatalogueSet {
         &self,
         domain: &TextKey<'_>,
         member: &str,
-        context: Option<&[u8]>,
-        id: &[u8],
+        key: &AskedKey<'_>,
     ) -> Option<Found<'_>>
-        ensures { IsFoundIn (key_bytes (option_map (λ s. s.now) context.entry) id.now)
-            (map (map_in self.now.held domain.now) (locales_of member.now)) result }
+        ensures { IsFoundIn key.now (map (map_in self.now.held domain.now) (locales_of member.now)) result }
     {
-        if let Some(found) = self.find_in(domain, member, context, id) {
+        if let Some(found) = self.find_in(domain, member, key) {
             return Some(found);
         }
-        self.find_by_language(domain, member, context, id)
+        self.find_by_language(domain, member, key)
     }
 
     /// Like `find_in`, for the first of the listed locales that has the message, if the whole list isn't the name of
@@ -146,22 +143,19 @@ impl CatalogueSet {
         &self,
         domain: &TextKey<'_>,
         languages: &str,
-        context: Option<&[u8]>,
-        id: &[u8],
+        key: &AskedKey<'_>,
     ) -> Option<Found<'_>>
         requires { translates languages.now ≡ true
-            → find (has_key (key_bytes (option_map (λ s. s.now) context) id.now))
-            (map_in self.now.held domain.now languages.now ∷ []) ≡ None }
-        ensures { IsFoundIn (key_bytes (option_map (λ s. s.now) context.entry) id.now)
-            (map (map_in self.now.held domain.now) (named languages.now)) result }
+            → find (has_key key.now) (map_in self.now.held domain.now languages.now ∷ []) ≡ None }
+        ensures { IsFoundIn key.now (maps_named (map_in self.now.held) domain.now languages.now) result }
     {
         if !has_colon(languages) {
             let (member, _) = first_member(languages)?;
-            return self.find_by_language(domain, member, context, id);
+            return self.find_by_language(domain, member, key);
         }
         let mut rest = languages;
         'members: while let Some((member, others)) = first_member(rest) {
-            if let Some(found) = self.find_by_member(domain, member, context, id) {
+            if let Some(found) = self.find_by_member(domain, member, key) {
                 return Some(found);
             }
             rest = others;
@@ -172,26 +166,23 @@ impl CatalogueSet {
     /// Like `find_in`, for the first of the listed locales that has the message. Most lists are a single locale that
     /// has it, so the whole list is tried as one first; this is safe because no locale's name has a colon.
     #[inline(always)]
-    pub(crate) fn find_bytes_by_list(
+    pub(crate) fn find_by_key(
         &self,
         domain: &str,
         languages: &str,
-        context: Option<&[u8]>,
-        id: &[u8],
+        key: &AskedKey<'_>,
     ) -> Option<Found<'_>>
-        ensures { IsFoundIn (key_bytes (option_map (λ s. s.now) context.entry) id.now)
-            (map (map_in self.now.held domain.now) (named languages.now)) result }
+        ensures { IsFoundIn key.now (maps_named (map_in self.now.held) domain.now languages.now) result }
     {
         let domain = TextKey::new(domain);
         if is_translated(languages) {
-            if let Some(found) = self.find_in(&domain, languages, context, id) {
+            if let Some(found) = self.find_in(&domain, languages, key) {
                 return Some(found);
             }
         }
-        self.find_by_members(&domain, languages, context, id)
+        self.find_by_members(&domain, languages, key)
     }
-
-    /// Like `find_bytes_by_list`, for strings.
+    /// Like `find_by_key`, for the key of these strings.
     #[inline(always)]
     pub(crate) fn find_by_list(
         &self,
@@ -201,9 +192,8 @@ impl CatalogueSet {
         id: &str,
     ) -> Option<Found<'_>>
         ensures { IsFoundIn (key_bytes (option_map (λ s. s.now) context.entry) id.now)
-            (map (map_in self.now.held domain.now) (named languages.now)) result }
+            (maps_named (map_in self.now.held) domain.now languages.now) result }
     {
-        let context = context.map(str::as_bytes);
-        self.find_bytes_by_list(domain, languages, context, id.as_bytes())
+        self.find_by_key(domain, languages, &key_of(context, id))
     }
 }

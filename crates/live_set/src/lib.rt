@@ -1,8 +1,10 @@
 //! Sets of catalogues: for each text domain and locale the catalogue that was loaded last.
 #![tactic(auto)]
 
+mod kept;
 mod languages;
 mod law;
+mod listed;
 mod load;
 mod name;
 mod query;
@@ -10,6 +12,7 @@ mod runs;
 mod set;
 
 pub use law::latest_suffice;
+pub use listed::Languages;
 pub use load::Load;
 pub use name::{Name, NameFault, is_name};
 pub use query::{Ask, Query};

@@ -12,7 +12,7 @@ use crate::languages::{counted, first_form};
 use crate::runs::LoadRuns;
 use crate::{Ask, Load, Query};
 use byte_text::TextKey;
-use catalogue::Catalogue;
+use catalogue::{AskedKey, Catalogue};
 use std::alloc::{AllocError, Global};
 use std::marker::Model;
 
@@ -197,7 +197,8 @@ impl CatalogueSet {
             let m = map_with (map_in self.now.held) domain.now languages.now key in
             IsTranslatedClosed m (entry_at m key) n (option_map (λ s. s.now) result) }
     {
-        let (catalogue, entry) = self.find_bytes_by_list(domain, languages, context, id)?;
+        let key = AskedKey::new(context, id);
+        let (catalogue, entry) = self.find_by_key(domain, languages, &key)?;
         Some(catalogue.closed_form_for(&entry, n))
     }
 }

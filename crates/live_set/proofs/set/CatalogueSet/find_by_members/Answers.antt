@@ -1,7 +1,7 @@
-use Rattle.std.proofs.Common.{◌≡◌, List, [], ◌++◌, Option, None, Some, MatchOption, option_map, map, find, rules}
+use Rattle.std.proofs.Common.{◌≡◌, List, [], ◌++◌, Option, None, Some, MatchOption, map, find, rules}
 use Rattle.std.proofs.Common.{flat_map, sym, ap, subst, ◌∙◌}
 use Rattle.std.proofs.lemmas.List.{append-nil}
-use Rattle.catalogue.specs.Entry.{Entry, key_bytes}
+use Rattle.catalogue.specs.Entry.{Entry}
 use Rattle.catalogue.specs.Map.{entry_at}
 use Rattle.live_set.specs.Asks.{has_key}
 use Rattle.live_set.specs.Languages.{members, language_behind, locales_of, named}
@@ -15,7 +15,7 @@ returns-then-not-has_colon c =
     let list = c.args.languages.now in
     let member = c.in_ok-member.member.now in
     let maps = map_in c.args.self.now.held c.args.domain.now in
-    let key = key_bytes (option_map (λ s. s.now) c.args.context) c.args.id.now in
+    let key = c.args.key.now in
     let has = has_key key in
     let only = only_member list member (members c.in_ok-member.field-0-1.now) (sym c.if-not-has_colon.ensures)
     c.in_ok-member.ensures.cut in

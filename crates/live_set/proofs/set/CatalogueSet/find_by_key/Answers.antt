@@ -1,10 +1,9 @@
-use Rattle.std.proofs.Common.{◌≡◌, ℕ, List, [], ◌∷◌, ◌++◌, Some, option_map, map, find, flat_map, sym, ap, subst, ◌∙◌}
-use Rattle.catalogue.specs.Entry.{key_bytes}
+use Rattle.std.proofs.Common.{◌≡◌, ℕ, List, [], ◌∷◌, ◌++◌, Some, map, find, flat_map, sym, ap, subst, ◌∙◌}
 use Rattle.live_set.specs.Asks.{has_key}
 use Rattle.live_set.specs.Languages.{language_behind, locales_of, named}
 use Rattle.live_set.specs.Sets.{map_in}
 use Rattle.live_set.proofs.Listing.{members_of_name, find_first}
-use Rattle.live_set.proofs.set.CatalogueSet.find_bytes_by_list.Goals as goal
+use Rattle.live_set.proofs.set.CatalogueSet.find_by_key.Goals as goal
 
 -- the whole list is a locale's name, and so its one member
 pub returns-in-Some : goal.returns-in-Some
@@ -12,7 +11,7 @@ returns-in-Some c =
     let held = c.args.self.now.held in
     let list = c.args.languages.now in
     let maps = map_in held c.args.domain.now in
-    let has = has_key (key_bytes (option_map (λ s. s.now) c.args.context) c.args.id.now) in
+    let has = has_key c.args.key.now in
     let found = subst (λ (d : List ℕ). find has (map_in held d list ∷ []) ≡ Some c.in-Some.found.0.now)
     c.new-domain.ensures c.in-Some.ensures.found.0 in
     let one : named list ≡ locales_of list ++ [] = ap (flat_map locales_of)

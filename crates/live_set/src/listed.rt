@@ -1,0 +1,168 @@
+//! The catalogues that a list of languages names, looked at once for many look-ups.
+ghost use Rattle.std.specs.Prelude.{◌≡◌, ◌∷◌, [], true, map, option_map, IfSome};
+ghost use Rattle.catalogue.specs.Entry.{key_bytes};
+ghost use Rattle.catalogue.specs.Map.{entry_at};
+ghost use Rattle.catalogue.specs.Value.{IsTranslatedClosed};
+ghost use Rattle.live_set.specs.Asks.{HasFirstValue, Plain, Context, Number, ContextNumber, first_with, maps_named};
+ghost use Rattle.live_set.specs.FirstFound.{IsFoundIn};
+ghost use Rattle.live_set.specs.Kept.{AddsMaps, FindSame};
+ghost use Rattle.live_set.specs.Languages.{locales_of};
+ghost use Rattle.live_set.specs.Sets.{map_in};
+
+use crate::CatalogueSet;
+use crate::kept::KeptCatalogues;
+use crate::languages::{Found, counted, first_form, first_member, key_of, language_of};
+use byte_text::TextKey;
+use catalogue::AskedKey;
+use std::marker::Model;
+
+/// The catalogues of a set that a list of languages names in a domain, in order. The list is looked at once, when this
+/// is made (`CatalogueSet::languages`), and not by each look-up. Contracts see it as the catalogues' maps.
+///
+/// Up to 16 catalogues are kept here, without allocating; a list that names more is looked at by each look-up.
+#[derive(Drop)]
+pub struct Languages<'a> {
+    set: &'a CatalogueSet,
+    domain: &'a str,
+    languages: &'a str,
+    /// The catalogues, without those that the set doesn't have. `None` if there are too many.
+    kept: Option<KeptCatalogues<'a>>,
+}
+
+impl<'a> Model for Languages<'a> {
+    ghost use Rattle.std.specs.Prelude.{List, IfSome};
+    ghost use Rattle.catalogue.specs.Entry.{Entry};
+    ghost use Rattle.live_set.specs.Asks.{maps_named};
+    ghost use Rattle.live_set.specs.Kept.{FindSame};
+    ghost use Rattle.live_set.specs.Sets.{map_in};
+
+    ghost Value = { List (List Entry) };
+
+    ghost view = { λ l. maps_named (map_in l.set.now.held) l.domain.now l.languages.now };
+
+    ghost invariant = { λ l. IfSome l.kept (λ kept. FindSame kept
+        (maps_named (map_in l.set.now.held) l.domain.now l.languages.now)) };
+}
+
+impl CatalogueSet {
+    /// The catalogues that a list of languages names in a domain, in order, for more than one look-up in the same
+    /// languages: the list is looked at once. It doesn't allocate. Its calls answer as those of this set do, so one
+    /// look-up alone is made by `gettext` and its like.
+    pub fn languages<'a>(&'a self, domain: &'a str, languages: &'a str) -> Languages<'a>
+        ensures { result ≡ maps_named (map_in self.now.held) domain.now languages.now }
+    {
+        Languages {
+            set: self,
+            domain,
+            languages,
+            kept: self.kept(&TextKey::new(domain), languages),
+        }
+    }
+
+    /// Keeps the catalogues that a list names. `None` if there are too many.
+    fn kept<'a>(&'a self, domain: &TextKey<'_>, languages: &str) -> Option<KeptCatalogues<'a>>
+        ensures { IfSome result (λ kept. FindSame kept (maps_named (map_in self.now.held) domain.now languages.now)) }
+    {
+        let mut kept = KeptCatalogues::new();
+        let mut rest = languages;
+        'members: while let Some((member, others)) = first_member(rest) {
+            if !self.keep_member(&mut kept, domain, member) {
+                return None;
+            }
+            rest = others;
+        }
+        Some(kept)
+    }
+
+    /// Keeps the catalogues of a member of a list: those of the locale and of its language. Returns whether there was
+    /// room.
+    fn keep_member<'a>(
+        &'a self,
+        kept: &mut KeptCatalogues<'a>,
+        domain: &TextKey<'_>,
+        member: &str,
+    ) -> bool
+        ensures { result ≡ true → AddsMaps kept.old (map (map_in self.now.held domain.now) (locales_of member.now))
+            kept.new }
+    {
+        if !self.keep_locale(kept, domain, member) {
+            return false;
+        }
+        match language_of(member) {
+            Some(language) => self.keep_locale(kept, domain, language),
+            None => true,
+        }
+    }
+
+    /// Keeps the catalogue for a domain and a locale, if there is one. Returns whether there was room.
+    fn keep_locale<'a>(
+        &'a self,
+        kept: &mut KeptCatalogues<'a>,
+        domain: &TextKey<'_>,
+        locale: &str,
+    ) -> bool
+        ensures { result ≡ true → AddsMaps kept.old (map_in self.now.held domain.now locale.now ∷ []) kept.new }
+    {
+        match self.catalogue(domain, locale) {
+            Some(catalogue) => kept.push(catalogue),
+            None => true,
+        }
+    }
+}
+
+impl<'a> Languages<'a> {
+    /// The entry with this key, and its catalogue: the first that has the key.
+    #[inline(always)]
+    fn find(&self, key: &AskedKey<'_>) -> Option<Found<'a>>
+        ensures { IsFoundIn key.now self.now result }
+    {
+        match &self.kept {
+            Some(kept) => kept.find(key),
+            None => self.set.find_by_key(self.domain, self.languages, key),
+        }
+    }
+
+    /// The translation of a msgid, as `CatalogueSet::gettext` gives it.
+    pub fn gettext<'b>(&'b self, id: &'b str) -> &'b str
+        ensures { HasFirstValue self.now (Plain id.now) result.now }
+    {
+        first_form(self.find(&key_of(None, id)), id)
+    }
+
+    /// The translation of a msgid in a context, as `CatalogueSet::pgettext` gives it.
+    pub fn pgettext<'b>(&'b self, context: &str, id: &'b str) -> &'b str
+        ensures { HasFirstValue self.now (Context context.now id.now) result.now }
+    {
+        first_form(self.find(&key_of(Some(context), id)), id)
+    }
+
+    /// The plural form for a number, as `CatalogueSet::ngettext` gives it.
+    pub fn ngettext<'b>(&'b self, id: &'b str, plural: &'b str, n: u64) -> &'b str
+        ensures { HasFirstValue self.now (Number id.now plural.now n) result.now }
+    {
+        counted(self.find(&key_of(None, id)), id, plural, n)
+    }
+
+    /// The plural form for a number in a context, as `CatalogueSet::npgettext` gives it.
+    pub fn npgettext<'b>(&'b self, context: &str, id: &'b str, plural: &'b str, n: u64) -> &'b str
+        ensures { HasFirstValue self.now (ContextNumber context.now id.now plural.now n) result.now }
+    {
+        counted(self.find(&key_of(Some(context), id)), id, plural, n)
+    }
+
+    /// The translation of a message as a C string, as `CatalogueSet::translated_closed` gives it. The bytes are
+    /// borrowed from the set alone.
+    pub fn translated_closed(
+        &self,
+        context: Option<&[u8]>,
+        id: &[u8],
+        n: Option<u64>,
+    ) -> Option<&'a [u8]>
+        ensures { let key = key_bytes (option_map (λ s. s.now) context.entry) id.now in
+            let m = first_with key self.now in
+            IsTranslatedClosed m (entry_at m key) n (option_map (λ s. s.now) result) }
+    {
+        let (catalogue, entry) = self.find(&AskedKey::new(context, id))?;
+        Some(catalogue.closed_form_for(&entry, n))
+    }
+}
