@@ -6,7 +6,7 @@ use Rattle.live_set.specs.Sets.{fold, map_in}
 use Rattle.live_set.proofs.Folding.{map_in-fold}
 
 -- a set built from loads has the same maps as the loads
-same_maps : (loads : List LoadValue) (domain : List ℕ) (locales : List (List ℕ))
+pub same_maps : (loads : List LoadValue) (domain : List ℕ) (locales : List (List ℕ))
     → map (map_in (fold loads).held domain) locales ≡ map (map_of loads domain) locales
 same_maps loads domain [] = refl
 same_maps loads domain (l ∷ ls) = λ i. map_in-fold loads domain l i ∷ same_maps loads domain ls i

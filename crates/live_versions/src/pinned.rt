@@ -1,7 +1,8 @@
 //! Entries of readers, and the look-ups in one.
 ghost use Rattle.std.specs.Prelude.{◌≡◌, [], ◌∷◌};
 ghost use Rattle.left_right.specs.Sides.{view};
-ghost use Rattle.live_set.specs.Asks.{IsAnswer, query_of, Plain, Context, Number, ContextNumber};
+ghost use Rattle.live_set.specs.Asks.{IsAnswer, maps_named, query_of, Plain, Context, Number, ContextNumber};
+ghost use Rattle.live_set.specs.Loads.{map_of};
 ghost use Rattle.live_set.specs.Sets.{fold};
 ghost use Rattle.live_versions.specs.Batches.{joined, version_of};
 ghost use Rattle.live_versions.specs.Entering.{entry_of};
@@ -11,7 +12,7 @@ use crate::reader::{Lookups, StoreReader};
 use crate::rule::{Shown, Versions, View};
 use crate::seen::Seen;
 use left_right::reader::Reading;
-use live_set::{CatalogueSet, Query};
+use live_set::{CatalogueSet, Languages, Query};
 use std::marker::Model;
 
 pub(crate) type StoreReading = Reading<Shown, View, Versions>;
@@ -137,6 +138,14 @@ impl Pinned<'_> {
     {
         self.set()
             .npgettext(domain, languages, context, id, plural, n)
+    }
+
+    /// The catalogues that a list of languages names in a domain, in order (`live_set::Languages`), for more than one
+    /// look-up in the same languages. All of them are answered in the entry's version.
+    pub fn languages<'a>(&'a self, domain: &'a str, languages: &'a str) -> Languages<'a>
+        ensures { result ≡ maps_named (map_of (joined (entry_of self.now).batches)) domain.now languages.now }
+    {
+        self.set().languages(domain, languages)
     }
 
     /// The set that the entry looks up in.

@@ -1,0 +1,15 @@
+use Rattle.std.proofs.Common.{ap, ◌∙◌}
+use Rattle.live_set.specs.Asks.{maps_named}
+use Rattle.live_set.specs.Languages.{named}
+use Rattle.live_set.specs.Sets.{map_in}
+use Rattle.live_versions.specs.Batches.{joined}
+use Rattle.live_versions.specs.Entering.{entry_of}
+use Rattle.live_versions.proofs.Looking.{same_maps}
+use Rattle.live_versions.proofs.pinned.Pinned.languages.Goals as goal
+
+pub returns : goal.returns
+returns c =
+    let domain = c.args.domain.now in
+    let languages = c.args.languages.now in
+    c.languages.ensures ∙ ap (λ set. maps_named (map_in set.held) domain languages) c.set.ensures
+    ∙ same_maps (joined (entry_of c.args.self.now).batches) domain (named languages)
