@@ -1,10 +1,10 @@
 -- The catalogues that are kept of those that a list of languages names.
-use Rattle.std.proofs.Common.{◌≡◌, ℕ, ◌+◌, ◌<◌, Bool, true, false, cond, List, [], ◌∷◌, ◌++◌, length, set, take, Option, Some, None, Bor}
-use Rattle.std.proofs.Common.{find, map, flat_map, option_map, refl, sym, ap, ◌∙◌}
+use Rattle.std.proofs.Common.{◌≡◌, ℕ, ◌+◌, ◌<◌, Bool, true, false, cond, List, [], ◌∷◌, ◌++◌, length, set, take}
+use Rattle.std.proofs.Common.{Option, Some, None, Bor, find, map, flat_map, option_map, refl, sym, ap, ◌∙◌}
 use Rattle.std.proofs.lemmas.List.{append-nil, append_assoc, map-append, take_more_set}
 use Rattle.catalogue.specs.Entry.{Entry}
 use Rattle.live_set.specs.Asks.{has_key}
-use Rattle.live_set.specs.Kept.{AddsMaps, FindSame, maps_in}
+use Rattle.live_set.specs.KeptMaps.{AddsMaps, FindSame, maps_in}
 use Rattle.live_set.specs.Loads.{LoadValue, map_or_empty}
 use Rattle.live_set.specs.Languages.{has_only_territory, is_underscore, language_behind, locales_of, members, named}
 use Rattle.std.specs.List.{before_first}

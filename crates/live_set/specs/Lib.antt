@@ -4,7 +4,7 @@ pub mod Laws
 pub mod Languages
 pub mod Asks
 pub mod FirstFound
-pub mod Kept
+pub mod KeptMaps
 pub mod Slots
 pub mod LoadRuns
 pub mod Sets

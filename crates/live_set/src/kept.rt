@@ -1,7 +1,7 @@
 //! The catalogues that a list of languages names, in an array.
 ghost use Rattle.std.specs.Prelude.{◌≡◌, ◌++◌, ◌∷◌, [], true, false};
 ghost use Rattle.live_set.specs.FirstFound.{IsFoundIn};
-ghost use Rattle.live_set.specs.Kept.{maps_in};
+ghost use Rattle.live_set.specs.KeptMaps.{maps_in};
 
 use crate::languages::Found;
 use catalogue::{AskedKey, Catalogue};
@@ -24,7 +24,7 @@ impl<'a> Model for KeptCatalogues<'a> {
 
     ghost Value = { List (List Entry) };
 
-    ghost use Rattle.live_set.specs.Kept.{maps_in};
+    ghost use Rattle.live_set.specs.KeptMaps.{maps_in};
 
     ghost view = { λ kept. maps_in (take kept.len kept.places) };
 

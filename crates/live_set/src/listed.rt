@@ -5,7 +5,7 @@ ghost use Rattle.catalogue.specs.Map.{entry_at};
 ghost use Rattle.catalogue.specs.Value.{IsTranslatedClosed};
 ghost use Rattle.live_set.specs.Asks.{HasFirstValue, Plain, Context, Number, ContextNumber, first_with, maps_named};
 ghost use Rattle.live_set.specs.FirstFound.{IsFoundIn};
-ghost use Rattle.live_set.specs.Kept.{AddsMaps, FindSame};
+ghost use Rattle.live_set.specs.KeptMaps.{AddsMaps, FindSame};
 ghost use Rattle.live_set.specs.Languages.{locales_of};
 ghost use Rattle.live_set.specs.Sets.{map_in};
 
@@ -33,7 +33,7 @@ impl<'a> Model for Languages<'a> {
     ghost use Rattle.std.specs.Prelude.{List, IfSome};
     ghost use Rattle.catalogue.specs.Entry.{Entry};
     ghost use Rattle.live_set.specs.Asks.{maps_named};
-    ghost use Rattle.live_set.specs.Kept.{FindSame};
+    ghost use Rattle.live_set.specs.KeptMaps.{FindSame};
     ghost use Rattle.live_set.specs.Sets.{map_in};
 
     ghost Value = { List (List Entry) };

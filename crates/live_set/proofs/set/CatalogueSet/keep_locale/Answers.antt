@@ -1,6 +1,6 @@
 use Rattle.std.proofs.Common.{◌∷◌, [], List, find, subst, sym}
 use Rattle.catalogue.specs.Entry.{Entry}
-use Rattle.live_set.specs.Kept.{AddsMaps}
+use Rattle.live_set.specs.KeptMaps.{AddsMaps}
 use Rattle.live_set.specs.Loads.{is_for}
 use Rattle.live_set.proofs.Keeping.{adds_empty, no_map}
 use Rattle.live_set.proofs.set.CatalogueSet.keep_locale.Goals as goal

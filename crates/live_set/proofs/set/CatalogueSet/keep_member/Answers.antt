@@ -1,5 +1,5 @@
 use Rattle.std.proofs.Common.{ℕ, ◌∷◌, [], List, map, refl, subst, sym}
-use Rattle.live_set.specs.Kept.{AddsMaps}
+use Rattle.live_set.specs.KeptMaps.{AddsMaps}
 use Rattle.live_set.specs.Sets.{map_in}
 use Rattle.live_set.proofs.Keeping.{adds_both, with_language, without_language}
 use Rattle.live_set.proofs.set.CatalogueSet.keep_member.Goals as goal

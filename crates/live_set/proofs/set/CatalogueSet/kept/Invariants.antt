@@ -1,7 +1,7 @@
 use Rattle.std.proofs.Common.{◌++◌, length}
 use Rattle.std.specs.Str.{IsUtf8}
 use Rattle.live_set.specs.Asks.{maps_named}
-use Rattle.live_set.specs.Kept.{FindSame}
+use Rattle.live_set.specs.KeptMaps.{FindSame}
 use Rattle.live_set.specs.Sets.{map_in}
 use Rattle.live_set.proofs.set.CatalogueSet.kept.Given as goal
 
