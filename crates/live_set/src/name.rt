@@ -6,6 +6,7 @@ ghost use Rattle.live_set.specs.declared.name.NameFault.TheVariants.{BadName, Me
 use byte_text::{TextKey, front_of};
 use std::alloc::{AllocError, Global};
 use std::marker::Model;
+use std::sync::ArcStr;
 use thiserror::Error;
 
 /// The most bytes that a name may have.
@@ -34,22 +35,24 @@ impl From<AllocError> for NameFault {
 /// `_ - . @ +`. Contracts see it as its bytes.
 #[derive(Debug, Drop)]
 pub struct Name {
-    text: String,
+    /// All copies of a name share its text, so that a set is copied without an allocation for each name.
+    text: ArcStr,
     /// The first bytes of the text as a number, for fast comparison.
     front: u64,
 }
 
 impl Model for Name {
-    ghost use Rattle.std.specs.Prelude.{ℕ, List, string_bytes};
+    ghost use Rattle.std.specs.Prelude.{ℕ, List};
 
     ghost Value = { List ℕ };
 
+    ghost use Rattle.std.specs.Arc.{arc_str_bytes};
     ghost use Rattle.live_set.specs.Names.{IsName};
     ghost use Rattle.byte_text.specs.Front.{IsFrontOf};
 
-    ghost view = { λ name. string_bytes name.text };
+    ghost view = { λ name. arc_str_bytes name.text };
 
-    ghost invariant = { λ name. IsName (string_bytes name.text) × IsFrontOf (string_bytes name.text) name.front };
+    ghost invariant = { λ name. IsName (arc_str_bytes name.text) × IsFrontOf (arc_str_bytes name.text) name.front };
 }
 
 /// Whether names may have this byte.
@@ -77,7 +80,7 @@ impl Name {
             return Err(NameFault::BadName);
         }
         Ok(Name {
-            text: String::from_str(alloc, text)?,
+            text: ArcStr::from_str(alloc, text)?,
             front: front_of(text),
         })
     }
