@@ -10,7 +10,7 @@ use crate::book::{Known, Seen, open_book, show};
 use crate::fault::{OpenFault, PublishFault};
 use crate::notice::Notice;
 use crate::reader::Reader;
-use crate::shared::{Held, LAST, SLOTS, Shared};
+use crate::shared::{Held, LAST, SLOTS, Shared, bit_of};
 use crate::version::Version;
 use catalogue::Catalogue;
 use counted_slot::{FREE, PRESENT};
@@ -34,6 +34,8 @@ pub struct Publisher {
     beginning: Seen,
     /// The slot of the version that is shown.
     at: u64,
+    /// The bits of other slots that have a version, since someone was copying it when it was replaced.
+    full: u64,
     /// The word of what is shown.
     word: u64,
     known: Known,
@@ -75,6 +77,7 @@ pub fn open_store(alloc: Global) -> Result<Publisher, OpenFault>
         version,
         beginning,
         at: 0,
+        full: 0,
         word: 0,
         known,
         pending: Vec::new(alloc),
@@ -296,22 +299,17 @@ impl Publisher {
         let Some(known) = show(&self.shared.shown, mine.seen(), self.word, at) else {
             return Err(PublishFault::Spent);
         };
-        self.shared.empty_others(at);
+        let replaced = (self.full | bit_of(self.at)) & !bit_of(at);
+        self.full = self.shared.empty_each(replaced);
         self.at = at;
-        let was = self.turn(alloc, mine, number * SLOTS + at, known);
+        let was = self.turn(mine, number * SLOTS + at, known);
         self.retire(was);
         Ok(self.version.version())
     }
 
     /// From now on this version is the one that is shown, and nothing is pending.
     #[tactic(auto, using(crate::proofs::Growing::version_published))]
-    fn turn(
-        &mut self,
-        alloc: Global,
-        version: Arc<Version>,
-        word: u64,
-        known: Known,
-    ) -> Arc<Version>
+    fn turn(&mut self, version: Arc<Version>, word: u64, known: Known) -> Arc<Version>
         requires version { arc_value version ≡ record {
           book = self.old.seen.book;
           batches = published self.old.seen.batches self.old.pending;
@@ -321,7 +319,7 @@ impl Publisher {
     {
         self.word = word;
         self.known = known;
-        self.pending = Vec::new(alloc);
+        self.pending.clear();
         replace(&mut self.version, version)
     }
 

@@ -42,6 +42,11 @@ pub(crate) struct Shared {
     pub ghost one_book: { All (λ tag. tag.book ≡ head.word.book) slots.items },
 }
 
+/// The bit of a slot, in a word that has one for each.
+pub(crate) fn bit_of(at: u64) -> u64 {
+    1 << (at % SLOTS)
+}
+
 fn readers_of(word: u64) -> u64
     ensures { result ≡ readers word }
 {
@@ -156,22 +161,26 @@ impl Shared {
         None
     }
 
-    /// Empties each slot but this one, where no one is copying what is in it. One in which someone was when its version
-    /// was replaced is emptied by a later publish.
-    pub(crate) fn empty_others(&self, but: u64) {
+    /// Empties the slots of these bits, and returns the bits of those in which someone is copying. Such a slot keeps its
+    /// version until a later publish.
+    pub(crate) fn empty_each(&self, slots: u64) -> u64 {
+        let mut left = slots;
         for at in 0..SLOTS {
-            if at != but {
-                self.empty(at);
+            if slots & bit_of(at) != 0 && self.empty(at) {
+                left ^= bit_of(at);
             }
         }
+        left
     }
 
-    fn empty(&self, at: u64) {
-        let Some(slot) = self.slot(at) else { return };
-        if slot.load() % 4 == PRESENT {
-            if let Some(claim) = self.room(at) {
+    /// Empties a slot, unless someone is copying what is in it.
+    fn empty(&self, at: u64) -> bool {
+        match self.room(at) {
+            Some(claim) => {
                 drop(claim.put(None, FREE));
+                true
             }
+            None => false,
         }
     }
 }
