@@ -1,7 +1,7 @@
 -- Lists of desks, member by member.
 use Rattle.std.specs.Prelude.{IfSome}
 use Rattle.std.specs.List.{AllZip, AllByRecursion}
-use Rattle.std.proofs.Common.{◌≡◌, ◌≢◌, ◌≤◌, max, List, [], ◌∷◌, None, Some, sym, refl, ap, ◌∙◌, subst}
+use Rattle.std.proofs.Common.{◌≡◌, ◌≤◌, max, List, [], ◌∷◌, None, Some, sym, refl, ap, ◌∙◌, subst}
 use Rattle.std.proofs.Common.{arith}
 use Rattle.live_versions.specs.Seen.{SeenValue}
 use Rattle.live_versions.specs.Batches.{version_of}

@@ -4,12 +4,11 @@ use Rattle.std.proofs.Common.{Some, None, IsSome, unwrap_or}
 use Rattle.clap.specs.Kinds.{Kinds}
 use Rattle.clap.specs.declared.error.kind.ErrorKind.{ErrorKind}
 use Rattle.catalogue.specs.Meaning.{Means, Refuses}
-use Rattle.catalogue.specs.declared.Compiled.{Compiled}
 use Rattle.catalogue.specs.declared.LoadFault.{LoadFault}
 use Rattle.catalogue.proofs.OneMeaning.{meaning_one, means_or_refuses, refusal_one}
 use Rattle.msgfmt_tool.specs.Words.{AreFaulty, AreTaken, AskForHelp, Asked, asked}
 use Rattle.devices.specs.Devices.{IsFront}
-use Rattle.msgfmt_tool.specs.Runs.{Change, FilesSeen, InputSeen, IsRefused, MakesFile, Reads, Run, Runs}
+use Rattle.msgfmt_tool.specs.Runs.{FilesSeen, InputSeen, IsRefused, MakesFile, Reads, Run, Runs}
 use Rattle.msgfmt_tool.specs.Runs.{is_standard, most_read}
 use Rattle.msgfmt_tool.specs.Laws.{BeginAlike, IsSettled}
 use Rattle.msgfmt_tool.specs.declared.outcome.Cause.TheVariants.{Words, NoInput, CannotRead, Refused, CannotWrite}

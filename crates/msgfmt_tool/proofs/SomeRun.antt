@@ -3,15 +3,14 @@ use Rattle.std.proofs.Common.{◌≡◌, ◌∙◌, ap, refl, inl, inr, ℕ, Boo
 use Rattle.std.proofs.Common.{Some, None, sym, take, drop}
 use Rattle.std.proofs.lemmas.List.{take-append-drop}
 use Rattle.std.specs.Io.KnownBytes.{Appends, Consumes, append_known}
-use Rattle.devices.specs.Files.{KeepsLog, Log, Logs}
+use Rattle.devices.specs.Files.{Log, Logs}
 use Rattle.clap.specs.Kinds.{Kinds}
 use Rattle.clap.specs.declared.error.kind.ErrorKind.{ErrorKind}
 use Rattle.catalogue.specs.MoFile.{spelling}
-use Rattle.catalogue.specs.declared.Compiled.{Compiled}
 use Rattle.catalogue.proofs.SomeMeaning.{some_meaning}
 use Rattle.msgfmt_tool.specs.Words.{AreTaken, AskForHelp, asked, word_faults}
 use Rattle.devices.specs.Devices.{IsFront}
-use Rattle.msgfmt_tool.specs.Runs.{Change, FilesSeen, InputSeen, OutputSeen, Reads, Run, Writes, is_standard}
+use Rattle.msgfmt_tool.specs.Runs.{FilesSeen, InputSeen, OutputSeen, Reads, Run, Writes, is_standard}
 use Rattle.msgfmt_tool.specs.Runs.{most_read}
 use Rattle.msgfmt_tool.specs.Laws.{SettledRun}
 use Rattle.msgfmt_tool.specs.declared.outcome.Cause.TheVariants.{Words, NoInput, Refused}

@@ -1,17 +1,12 @@
 -- Texts with escapes.
-use Rattle.std.proofs.Common.{◌≡◌, ◌≢◌, ◌∙◌, refl, sym, ap, ℕ, suc, ◌+◌, ◌<◌, ◌||◌, if◌then◌else◌, Bool, true, false}
-use Rattle.std.proofs.Common.{eqb, List, [], ◌∷◌, ◌++◌, length, get_or, take, drop, ◌-◌, add-one, drop-cons}
-use Rattle.std.proofs.Common.{length-take, Option, Some, None, Result, Ok, Err, OnOk, arith, append_assoc}
+use Rattle.std.proofs.Common.{◌≡◌, ◌≢◌, ◌∙◌, refl, sym, ap, ℕ, suc, ◌+◌, ◌<◌, false}
+use Rattle.std.proofs.Common.{eqb, List, [], ◌∷◌, ◌++◌, length, get_or, ◌-◌}
+use Rattle.std.proofs.Common.{Option, Some, None, arith, append_assoc}
 use Rattle.std.specs.Option.{option_map, option_and_then}
-use Rattle.std.specs.Result.{is_ok}
 use Rattle.std.proofs.lemmas.Bool.{ne_eqb}
-use Rattle.std.proofs.lemmas.List.{append-nil, take_rest, take-append-drop}
-use Rattle.std.proofs.lemmas.List.Concat.{flat_map-append}
-use Rattle.bstr.specs.Bytes.{is_in}
-use Rattle.bstr.specs.Find.{IsFirstByte}
+use Rattle.std.proofs.lemmas.List.{append-nil}
 use Rattle.script_text.specs.ScriptFields.{unescaped, escaped_byte}
 use Rattle.script_text.specs.Scanning.{SplitsEscape}
-use Rattle.script_text.proofs.Cutting.{cut_get}
 
 -- a text that begins with none of the letters
 pub no_escape : (text : List ℕ) → ((rest : List ℕ) → text ≢ 110 ∷ rest) → ((rest : List ℕ) → text ≢ 116 ∷ rest)

@@ -1,5 +1,5 @@
 -- The set and the version after one more batch.
-use Rattle.std.proofs.Common.{◌≡◌, ◌≢◌, ℕ, ◌+◌, ◌∷◌, ◌++◌, [], List, length, fold, sym, refl, ap, ◌∙◌}
+use Rattle.std.proofs.Common.{◌≡◌, ◌≢◌, ◌+◌, ◌∷◌, ◌++◌, [], List, length, fold, sym, refl, ap, ◌∙◌}
 use Rattle.std.proofs.lemmas.List.{append-nil}
 use Rattle.live_set.specs.Loads.{LoadValue}
 use Rattle.live_set.specs.Sets.{SetValue, absorbed}

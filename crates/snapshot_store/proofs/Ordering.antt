@@ -1,5 +1,5 @@
 -- Beginnings of a list of batches.
-use Rattle.std.proofs.Common.{◌≡◌, ◌≢◌, ℕ, ◌<◌, ◌≤◌, List, [], ◌∷◌, ◌++◌, length, refl, ap, ◌∙◌, arith}
+use Rattle.std.proofs.Common.{◌≡◌, ◌≢◌, ℕ, ◌<◌, ◌≤◌, List, [], ◌∷◌, length, refl, ap, ◌∙◌, arith}
 use Rattle.std.proofs.Common.{Bool, true, false, MatchBool, length-append}
 use Rattle.std.proofs.lemmas.List.{append-nil}
 use lib.Dec.{leb}
