@@ -9,6 +9,9 @@ use crate::slot_table::{Slot, SlotTable, hash_alone, hash_within, home};
 use mo_image::Image;
 use std::alloc::{AllocError, Global};
 
+/// The slots of the greatest hashes go behind the last home. There are only a few, unless somebody chose the keys.
+const ROOM_BEHIND: usize = 64;
+
 /// Appends the slots by which the index finds the i-th entry: one for its key and, if it has a context, one for its
 /// context and msgid.
 fn push_slots(slots: &mut Vec<Slot>, image: &Image, i: usize) -> Result<(), AllocError>
@@ -72,7 +75,7 @@ fn spread_out(alloc: Global, slots: &[Slot], spread: usize) -> Result<Vec<Slot>,
     ensures same { IfOk result (λ spread. (x : Slot) → (Contains slots.now x → Contains spread.items x)
         × (Contains spread.items x → Contains slots.now x)) }
 {
-    let mut placed = Vec::with_capacity(alloc, spread)?;
+    let mut placed = Vec::with_capacity(alloc, spread.saturating_add(ROOM_BEHIND))?;
     'slots: for slot in slots {
         let end = home(slot.hash, spread).max(placed.len()) + 1;
         placed.resize(end, *slot)?;
