@@ -19,7 +19,7 @@ fn push_slots(slots: &mut Vec<Slot>, image: &Image, i: usize) -> Result<(), Allo
     ensures { OnOk result (AddsSlotsOf image.now i slots.old.items slots.new.items) }
 {
     let extents = image.extents(i);
-    let entry = image.entry(i);
+    let entry = image.entry_in(&extents);
     let hash = hash_alone(entry.key().as_bytes());
     slots.push(Slot { hash, extents })?;
     if let Some(context) = entry.context() {

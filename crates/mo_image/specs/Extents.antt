@@ -7,6 +7,7 @@ use Rattle.mo_image.specs.MoFile.{header_len}
 use Rattle.mo_image.specs.Tables.{string_at, word_at}
 use Rattle.mo_image.specs.declared.extent.EntryExtents.{EntryExtents}
 use Rattle.mo_image.specs.declared.extent.Extent.{Extent}
+use Rattle.mo_image.specs.declared.extent.TextExtents.{TextExtents}
 
 -- the bytes of an extent
 abbrev pub piece : List ℕ → Extent → List ℕ
@@ -27,13 +28,34 @@ pub record IsNamedAt (bytes : List ℕ) (place : ℕ) (extent : Extent) : Type 0
   pub len : extent.len ≡ word_at little_number bytes place
   pub start : extent.start ≡ word_at little_number bytes (place + 4)
 
--- the extents of the strings of the i-th of n entries in a file
+-- the extents of the texts of the i-th of n entries in a file
+pub record AreTextsOf (bytes : List ℕ) (n i : ℕ) (texts : TextExtents) : Type 0 where
+  pub within : i < n
+  pub original : IsNamedAt bytes (header_len + 8 * i) texts.original
+  pub translation : IsNamedAt bytes (header_len + 8 * n + 8 * i) texts.translation
+  pub key_len : texts.key_len ≡ place_of 0 (string_at little_number bytes (header_len + 8 * i))
+
+-- in place of a key's length, if the lengths don't fit
+abbrev pub no_len : ℕ
+no_len = 255
+
+abbrev pub unpacked : EntryExtents → TextExtents
+unpacked extents = record {
+  original = record { start = extents.original; len = extents.key_len + extents.rest_len };
+  translation = record { start = extents.translation; len = extents.translation_len };
+  key_len = extents.key_len;
+}
+
+-- the extents of the i-th of n entries: its number if its lengths don't fit, and otherwise those of its texts
 pub record AreExtentsOf (bytes : List ℕ) (n i : ℕ) (extents : EntryExtents) : Type 0 where
   pub within : i < n
-  pub original : IsNamedAt bytes (header_len + 8 * i) extents.original
-  pub translation : IsNamedAt bytes (header_len + 8 * n + 8 * i) extents.translation
-  pub key_len : extents.key_len ≡ place_of 0 (string_at little_number bytes (header_len + 8 * i))
+  pub long : extents.key_len ≡ no_len → extents.original ≡ i
+  pub short : (extents.key_len ≡ no_len → ⊥) → AreTextsOf bytes n i (unpacked extents)
 
--- the extents of the strings of one of the n entries
+-- the extents of one of the n entries
 abbrev pub AreExtents : List ℕ → ℕ → EntryExtents → Type 0
 AreExtents bytes n extents = (i : ℕ) × AreExtentsOf bytes n i extents
+
+-- the same for the texts
+abbrev pub AreTexts : List ℕ → ℕ → TextExtents → Type 0
+AreTexts bytes n texts = (i : ℕ) × AreTextsOf bytes n i texts

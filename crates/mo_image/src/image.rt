@@ -9,10 +9,10 @@ ghost use Rattle.byte_text.specs.Cut.{place_of};
 ghost use Rattle.mo_image.specs.Tables.{word_at, string_at};
 ghost use Rattle.mo_image.specs.Pairs.{key_part};
 ghost use Rattle.mo_image.specs.Image.{listing, IsImage, NamesText};
-ghost use Rattle.mo_image.specs.Extents.{AreExtents, AreExtentsOf};
+ghost use Rattle.mo_image.specs.Extents.{AreExtents, AreExtentsOf, AreTexts, AreTextsOf};
 
 use crate::EntryRef;
-use crate::extent::{EntryExtents, closed_in, extent_at, text_in};
+use crate::extent::{EntryExtents, TextExtents, closed_in, extent_at, text_in};
 use crate::layout::{COUNT_AT, HEADER_LEN, ROW_LEN};
 use crate::writer::{EntryList, spell};
 use byte_text::place_of;
@@ -84,9 +84,43 @@ fn original_of(bytes: &[u8], i: usize) -> &str
 #[inline(always)]
 fn key_len(original: &str) -> u32
     requires { length original.now < 4294967296 }
-    ensures { result ≡ place_of 0 original.now }
+    ensures place { result ≡ place_of 0 original.now }
+    ensures within { result ≤ length original.now }
 {
     place_of(original.as_bytes(), 0) as u32
+}
+
+/// Returns where the texts of the i-th entry lie.
+#[inline(always)]
+fn texts_of(bytes: &[u8], i: usize) -> TextExtents
+    requires image { IsImage bytes.now }
+    requires within { i < length (listing bytes.now) }
+    ensures texts { AreTextsOf bytes.now (length (listing bytes.now)) i result }
+    ensures key { result.key_len ≤ result.original.len }
+{
+    let originals = HEADER_LEN + ROW_LEN * i;
+    let translations = originals + ROW_LEN * count_of(bytes);
+    TextExtents {
+        original: extent_at(bytes, originals),
+        translation: extent_at(bytes, translations),
+        key_len: key_len(text(bytes, originals)),
+    }
+}
+
+/// Returns the entry whose texts lie at these extents.
+#[inline(always)]
+fn entry_of<'a>(bytes: &'a [u8], texts: &TextExtents) -> EntryRef<'a>
+    requires image { IsImage bytes.now }
+    requires extents { AreTexts bytes.now (length (listing bytes.now)) texts.now }
+    ensures { (i : ℕ) → AreTextsOf bytes.now (length (listing bytes.now)) i texts.now
+        → slice_get (listing bytes.now) i ≡ Some result }
+{
+    EntryRef::new(
+        text_in(bytes, texts.original),
+        texts.key_len as usize,
+        text_in(bytes, texts.translation),
+        closed_in(bytes, texts.translation),
+    )
 }
 
 /// Returns where the strings of the i-th entry lie.
@@ -96,12 +130,20 @@ fn extents_of(bytes: &[u8], i: usize) -> EntryExtents
     requires within { i < length (listing bytes.now) }
     ensures { AreExtentsOf bytes.now (length (listing bytes.now)) i result }
 {
-    let originals = HEADER_LEN + ROW_LEN * i;
-    let translations = originals + ROW_LEN * count_of(bytes);
-    EntryExtents {
-        original: extent_at(bytes, originals),
-        translation: extent_at(bytes, translations),
-        key_len: key_len(text(bytes, originals)),
+    EntryExtents::new(&texts_of(bytes, i), i as u32)
+}
+
+/// Returns where the texts of an entry lie, without reading the tables if the entry is short.
+#[inline(always)]
+fn texts_in(bytes: &[u8], extents: &EntryExtents) -> TextExtents
+    requires image { IsImage bytes.now }
+    requires extents { AreExtents bytes.now (length (listing bytes.now)) extents.now }
+    ensures { (i : ℕ) → AreExtentsOf bytes.now (length (listing bytes.now)) i extents.now
+        → AreTextsOf bytes.now (length (listing bytes.now)) i result }
+{
+    match extents.number() {
+        Some(i) => texts_of(bytes, i as usize),
+        None => extents.unpacked(),
     }
 }
 
@@ -113,12 +155,7 @@ fn entry_in<'a>(bytes: &'a [u8], extents: &EntryExtents) -> EntryRef<'a>
     ensures { (i : ℕ) → AreExtentsOf bytes.now (length (listing bytes.now)) i extents.now
         → slice_get (listing bytes.now) i ≡ Some result }
 {
-    EntryRef::new(
-        text_in(bytes, extents.original),
-        extents.key_len as usize,
-        text_in(bytes, extents.translation),
-        closed_in(bytes, extents.translation),
-    )
+    entry_of(bytes, &texts_in(bytes, extents))
 }
 
 impl Image {
@@ -171,7 +208,7 @@ impl Image {
         requires { i < length self.now }
         ensures { slice_get self.now i ≡ Some result }
     {
-        entry_in(&self.bytes, &extents_of(&self.bytes, i))
+        entry_of(&self.bytes, &texts_of(&self.bytes, i))
     }
 
     /// Returns the original of the i-th entry: its key, followed by a NUL and the plural if there is one.
@@ -190,7 +227,7 @@ impl Image {
         extents_of(&self.bytes, i)
     }
 
-    /// Returns the entry whose strings lie at these extents, without reading the tables.
+    /// Returns the entry whose strings lie at these extents. The tables are only read for a long entry.
     #[inline(always)]
     pub fn entry_in(&self, extents: &EntryExtents) -> EntryRef<'_>
         requires { AreExtents (spelling self.now) (length self.now) extents.now }

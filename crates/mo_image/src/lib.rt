@@ -11,7 +11,7 @@ mod messages;
 mod writer;
 
 pub use entry::{EntryRef, Forms, key_of, split_context, split_form};
-pub use extent::{EntryExtents, Extent};
+pub use extent::EntryExtents;
 pub use image::Image;
 pub use joins::{joined_key, push_form, push_key};
 pub use layout::{

@@ -1,59 +1,10 @@
-use Rattle.std.proofs.Common.{ap, sym, ◌∙◌}
-use Rattle.byte_text.specs.Cut.{place_of}
-use Rattle.mo_image.specs.MoFile.{closed}
-use Rattle.mo_image.proofs.ImageFacts.{entry_facts}
-use Rattle.mo_image.proofs.Extents.{piece_named, piece_held}
-use Rattle.mo_image.proofs.Closing.{closed_held}
 use Rattle.mo_image.proofs.image.entry_in.Goals as goal
 
-pub text_in-requires : goal.text_in-requires
-text_in-requires c =
-    let bytes = c.args.bytes.now in
-    let at = c.requires.extents.1 in
-    piece_held bytes _ c.args.extents.now.original at.original
-    (entry_facts bytes c.requires.extents.0 c.requires.image at.within).original
-
-pub text_in-requires-2 : goal.text_in-requires-2
-text_in-requires-2 c =
-    let bytes = c.args.bytes.now in
-    let at = c.requires.extents.1 in
-    piece_held bytes _ c.args.extents.now.translation at.translation
-    (entry_facts bytes c.requires.extents.0 c.requires.image at.within).translation
-
-pub closed_in-requires : goal.closed_in-requires
-closed_in-requires c =
-    let bytes = c.args.bytes.now in
-    let at = c.requires.extents.1 in
-    let facts = entry_facts bytes c.requires.extents.0 c.requires.image at.within in
-    closed_held bytes _ c.args.extents.now.translation at.translation facts.translation facts.closed
-
-pub new-requires : goal.new-requires
-new-requires c =
-    let bytes = c.args.bytes.now in
-    let at = c.requires.extents.1 in
-    record {
-      lawful = rw (
-        c.text_in.ensures,
-        c.text_in-2.ensures,
-        piece_named bytes _ c.args.extents.now.original at.original,
-        piece_named
-            bytes _ c.args.extents.now.translation at.translation,
-      )
-          (entry_facts bytes c.requires.extents.0 c.requires.image at.within).lawful;
-      key_len = at.key_len ∙ ap (place_of 0)
-          (sym (c.text_in.ensures ∙ piece_named bytes _ c.args.extents.now.original at.original));
-      closed = c.closed_in.ensures ∙ ap closed (sym c.text_in-2.ensures);
-    }
+pub entry_of-requires : goal.entry_of-requires
+entry_of-requires c = record {
+  image = c.requires.image;
+  extents = (c.requires.extents.0, c.texts_in.ensures c.requires.extents.0 c.requires.extents.1);
+}
 
 pub returns : goal.returns
-returns c i at =
-    let bytes = c.args.bytes.now in
-    rw (
-      c.new.ensures,
-      c.text_in.ensures,
-      c.text_in-2.ensures,
-      piece_named bytes _ c.args.extents.now.original
-          at.original,
-      piece_named bytes _ c.args.extents.now.translation at.translation,
-    )
-    (entry_facts bytes i c.requires.image at.within).found
+returns c i at = c.entry_of.ensures i (c.texts_in.ensures i at)
