@@ -7,3 +7,5 @@ pub mod Latest
 pub mod Keeping
 pub mod Listing
 pub mod Running
+pub mod Placing
+pub mod Indexing

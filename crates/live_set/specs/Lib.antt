@@ -8,3 +8,5 @@ pub mod KeptMaps
 pub mod Slots
 pub mod LoadRuns
 pub mod Sets
+pub mod SetPlaces
+pub mod Placing

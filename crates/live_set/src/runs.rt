@@ -1,10 +1,11 @@
 //! Loads in ascending order, kept in runs of bounded length so that inserting one moves few others.
 ghost use Rattle.std.specs.Prelude.{◌≡◌, ◌<◌, true, false, [], ◌++◌, length, find, flat_map, option_map};
-ghost use Rattle.std.specs.Prelude.{MatchResult, IfOk, IfErr, IfSome};
+ghost use Rattle.std.specs.Prelude.{MatchResult, MatchOption, None, IfOk, IfErr, IfSome, min, slice_get};
 ghost use Rattle.std.specs.List.Sorted.{IsPartitionedBy, IsPartitionPoint};
 ghost use Rattle.live_set.specs.Loads.{is_for};
 ghost use Rattle.live_set.specs.Slots.{slotted, Rises, IsAt, IsGapFor};
 ghost use Rattle.live_set.specs.LoadRuns.{begins_by, begun};
+ghost use Rattle.live_set.specs.Placing.{IsPlaceFor};
 
 use crate::Load;
 use byte_text::TextKey;
@@ -80,6 +81,43 @@ fn load_in<'a>(run: &'a [Load], domain: &TextKey<'_>, locale: &TextKey<'_>) -> O
     }
 }
 
+/// The index of the load for this domain and locale in a run, if there is one.
+fn index_in(run: &[Load], domain: &TextKey<'_>, locale: &TextKey<'_>) -> Option<usize>
+    requires { Rises run.now }
+    ensures { MatchOption result (find (is_for domain.now locale.now) run.now ≡ None)
+        (IsAt run.now domain.now locale.now) }
+{
+    match slot(run, domain, locale) {
+        Ok(at) => Some(at),
+        Err(_) => None,
+    }
+}
+
+/// How many loads there are in these runs, or 2^64 - 1 if there are more.
+fn count_in(runs: &[Vec<Load>]) -> usize
+    ensures { result ≡ min (length (flat_map (λ run. run.items) runs.now)) 18446744073709551615 }
+{
+    let mut count = 0usize;
+    'runs: for run in runs {
+        count = count.saturating_add(run.len());
+    }
+    count
+}
+
+/// The load with this index in runs.
+fn load_at(runs: &[Vec<Load>], place: usize) -> Option<&Load>
+    ensures { option_map (λ load. load.now) result ≡ slice_get (flat_map (λ run. run.items) runs.now) place }
+{
+    let mut left = place;
+    'runs: for run in runs {
+        if left < run.len() {
+            return Some(&run[left]);
+        }
+        left -= run.len();
+    }
+    None
+}
+
 /// Inserts a load into a run, replacing the one for its domain and locale if there is one.
 fn put_in(run: &mut Vec<Load>, load: Load) -> Result<(), AllocError>
     requires { Rises run.old.items }
@@ -124,6 +162,32 @@ impl LoadRuns {
         match run_for(&self.later, domain, locale) {
             None => load_in(&self.first, domain, locale),
             Some(at) => load_in(&self.later[at], domain, locale),
+        }
+    }
+
+    /// The place of the load for this domain and locale, if there is one: its index, or 2^64 - 1 if that is larger.
+    pub(crate) fn place(&self, domain: &TextKey<'_>, locale: &TextKey<'_>) -> Option<usize>
+        ensures { MatchOption result (find (is_for domain.now locale.now) self.now ≡ None)
+            (IsPlaceFor self.now domain.now locale.now) }
+    {
+        match run_for(&self.later, domain, locale) {
+            None => index_in(&self.first, domain, locale),
+            Some(at) => {
+                let inside = index_in(&self.later[at], domain, locale)?;
+                let before = self.first.len().saturating_add(count_in(&self.later[..at]));
+                Some(before.saturating_add(inside))
+            }
+        }
+    }
+
+    /// The load at a place, if there is one.
+    #[inline(always)]
+    pub(crate) fn at(&self, place: usize) -> Option<&Load>
+        ensures { option_map (λ load. load.now) result ≡ slice_get self.now place }
+    {
+        match place.checked_sub(self.first.len()) {
+            None => Some(&self.first[place]),
+            Some(left) => load_at(&self.later, left),
         }
     }
 

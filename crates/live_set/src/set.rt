@@ -1,7 +1,8 @@
 //! Sets of catalogues.
-ghost use Rattle.std.specs.Prelude.{◌≡◌, IfOk, IfSome, OnOk, OnErr, find, option_map};
+ghost use Rattle.std.specs.Prelude.{◌≡◌, IfOk, IfSome, OnOk, OnErr, find, option_map, None, MatchOption, slice_get};
 ghost use Rattle.live_set.specs.Loads.{is_for};
 ghost use Rattle.live_set.specs.Names.{IsName};
+ghost use Rattle.live_set.specs.Placing.{IsPlaceFor};
 ghost use Rattle.live_set.specs.Sets.{no_loads, map_in, HasAbsorbed, absorbed};
 ghost use Rattle.catalogue.specs.Entry.{key_bytes};
 ghost use Rattle.catalogue.specs.Map.{entry_at};
@@ -58,6 +59,23 @@ impl CatalogueSet {
         ensures name { IfSome result (λ _. IsName locale.now) }
     {
         let load = self.held.get(domain, &TextKey::new(locale))?;
+        Some(load.catalogue())
+    }
+
+    /// The place of the catalogue for this domain and locale, if there is one.
+    pub(crate) fn place(&self, domain: &TextKey<'_>, locale: &str) -> Option<usize>
+        ensures { MatchOption result (find (is_for domain.now locale.now) self.now.held ≡ None)
+            (IsPlaceFor self.now.held domain.now locale.now) }
+    {
+        self.held.place(domain, &TextKey::new(locale))
+    }
+
+    /// The catalogue at a place, if there is one.
+    #[inline(always)]
+    pub(crate) fn catalogue_at(&self, place: usize) -> Option<&Catalogue>
+        ensures { option_map (λ c. c.now) result ≡ option_map (λ l. l.map) (slice_get self.now.held place) }
+    {
+        let load = self.held.at(place)?;
         Some(load.catalogue())
     }
 
