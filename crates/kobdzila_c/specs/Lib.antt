@@ -4,4 +4,5 @@ pub mod Answering
 pub mod Listing
 pub mod Making
 pub mod Storing
+pub mod NamedPlaces
 pub mod Shared

@@ -20,10 +20,13 @@ use Rattle.kobdzila_c.specs.declared.stores.HeldReader.{HeldReader}
 use Rattle.kobdzila_c.specs.contracts.stores.HeldReader.{the_row as reader_row}
 use Rattle.kobdzila_c.specs.declared.stores.HeldNotice.{HeldNotice}
 use Rattle.kobdzila_c.specs.contracts.stores.HeldNotice.{the_row as notice_row}
+use Rattle.live_set.specs.declared.places.Places.{Places}
+use Rattle.live_set.specs.contracts.places.Places.{the_row as places_row}
 use Rattle.kobdzila_c.specs.Answering.{IsClosedAnswer, Question, map_of}
 use Rattle.kobdzila_c.specs.Listing.{text}
 use Rattle.kobdzila_c.specs.Making.{IsSetAnswer}
 use Rattle.kobdzila_c.specs.Opening.{IsOpenedMo, IsOpenedPo}
+use Rattle.kobdzila_c.specs.NamedPlaces.{IsReaderAnswerAt, IsSetAnswerAt}
 use Rattle.kobdzila_c.specs.Storing.{IsReaderAnswer}
 
 -- what was opened is at p, and its holder alone may use it
@@ -116,4 +119,20 @@ reads_notice κ q p n = fsep (lent_at notice_row p n κ) (flft κ q)
 -- at out is the answer to a question in the version that the reader entered last, shared for as long as κ
 abbrev pub reader_answered : Lft → Ptr → HeldReader → List ℕ → List ℕ → Question → Fml
 reader_answered κ out r domain languages q = fex (Bor (List ℕ)) (λ t. fex (IsReaderAnswer r domain languages q t.now)
+    (λ _. lies_at (Text κ) full_share out t))
+
+-- ---- lists of languages that are looked at once
+
+-- at out are places with this property
+abbrev pub places_at : Ptr → (Places → Type 0) → Fml
+places_at out Are = fex Places (λ p. fex (Are p) (λ _. lies_at places_row full_share out p))
+
+-- at out is the answer to a question at these places of a set, shared for as long as κ
+abbrev pub set_answered_at : Lft → Ptr → MadeSet → List ℕ → Question → Fml
+set_answered_at κ out s places q = fex (Bor (List ℕ)) (λ r. fex (IsSetAnswerAt s places q r.now)
+    (λ _. lies_at (Text κ) full_share out r))
+
+-- and at these places in the version that the reader entered last
+abbrev pub reader_answered_at : Lft → Ptr → HeldReader → List ℕ → Question → Fml
+reader_answered_at κ out r places q = fex (Bor (List ℕ)) (λ t. fex (IsReaderAnswerAt r places q t.now)
     (λ _. lies_at (Text κ) full_share out t))

@@ -29,15 +29,20 @@ ghost use Rattle.kobdzila_c.specs.contracts.stores.HeldNotice.{the_row as notice
 ghost use Rattle.kobdzila_c.specs.declared.stores.HeldNotice.{HeldNotice as ANotice};
 ghost use Rattle.kobdzila_c.specs.Storing.{AreOfOne, IsEntered, IsEnteredAfter, IsLoaded, IsNewStore, IsNoticeOf};
 ghost use Rattle.kobdzila_c.specs.Storing.{IsPublished, IsReaderOf, IsReaderWith, IsStoreNumber, reader_number};
+ghost use Rattle.live_set.specs.contracts.places.Places.{the_row as places_row};
+ghost use Rattle.kobdzila_c.specs.NamedPlaces.{AreReaderPlaces, AreSetPlaces};
+ghost use Rattle.kobdzila_c.specs.Shared.{places_at, reader_answered_at, set_answered_at};
 ghost use Rattle.kobdzila_c.specs.Shared.{holds_notice, holds_reader, holds_store, notice_at, reader_answered};
 ghost use Rattle.kobdzila_c.specs.Shared.{reader_at, reads_notice, reads_reader, reads_store, store_at};
 
 mod answers;
 mod numbers;
 mod opened;
+mod places;
 mod sets;
 mod stores;
 
+use live_set::Places;
 pub use opened::Opened;
 pub use sets::MadeSet;
 use std::alloc::Global;
@@ -258,6 +263,42 @@ pub unsafe extern "C" fn kobdzila_set_answer(
     );
 }
 
+/// Writes to `out` the places of the catalogues that a list of languages names in a text domain of the set at `held`.
+/// If there are more than 16, the count is larger than that.
+#[unsafe(no_mangle)]
+pub unsafe extern "C" fn kobdzila_set_languages(
+    held: *const OpaqueSet,
+    domain: &[u8],
+    languages: &[u8],
+    out: *mut Places,
+)
+    ghost g: { Lft × Share × HeldSet }
+    requires* { sem 𝓛 (reads_set g.0 g.1 held g.2) ∗ sem 𝓛 (room_at places_row out) }
+    ensures* { sem 𝓛 (flft g.0 g.1) ∗ sem 𝓛 (places_at out (AreSetPlaces g.2 domain.now languages.now)) }
+{
+    out.write(places::set_places(&*(held as *const MadeSet), domain, languages));
+}
+
+/// Like `kobdzila_set_answer`, from the first of these places that has such an entry. A place where there is no
+/// catalogue is passed over.
+#[unsafe(no_mangle)]
+pub unsafe extern "C" fn kobdzila_set_answer_at(
+    held: *const OpaqueSet,
+    places: &[u32],
+    context: &[u8],
+    id: &[u8],
+    call: u32,
+    n: u64,
+    out: *mut &[u8],
+)
+    ghost g: { Lft × Share × HeldSet }
+    requires* { sem 𝓛 (reads_set g.0 g.1 held g.2) ∗ sem 𝓛 (room_at (Text g.0) out) }
+    ensures* { sem 𝓛 (flft g.0 g.1) ∗ sem 𝓛 (set_answered_at g.0 out g.2 places.now
+        (question call context.now id.now n)) }
+{
+    *out = places::set_answer_at(&*(held as *const MadeSet), places, context, id, call, n);
+}
+
 /// The type that C's pointers to a live store have. C must not read or write its bytes.
 pub struct OpaqueStore {
     byte: u8,
@@ -468,6 +509,41 @@ pub unsafe extern "C" fn kobdzila_reader_answer(
         call,
         n,
     );
+}
+
+/// Like `kobdzila_set_languages`, in the version that the reader at `held` entered last. The places are good until it
+/// enters another one.
+#[unsafe(no_mangle)]
+pub unsafe extern "C" fn kobdzila_reader_languages(
+    held: *const OpaqueReader,
+    domain: &[u8],
+    languages: &[u8],
+    out: *mut Places,
+)
+    ghost g: { Lft × Share × AReader }
+    requires* { sem 𝓛 (reads_reader g.0 g.1 held g.2) ∗ sem 𝓛 (room_at places_row out) }
+    ensures* { sem 𝓛 (flft g.0 g.1) ∗ sem 𝓛 (places_at out (AreReaderPlaces g.2 domain.now languages.now)) }
+{
+    out.write(places::reader_places(&*(held as *const HeldReader), domain, languages));
+}
+
+/// Like `kobdzila_set_answer_at`, in the version that the reader at `held` entered last.
+#[unsafe(no_mangle)]
+pub unsafe extern "C" fn kobdzila_reader_answer_at(
+    held: *const OpaqueReader,
+    places: &[u32],
+    context: &[u8],
+    id: &[u8],
+    call: u32,
+    n: u64,
+    out: *mut &[u8],
+)
+    ghost g: { Lft × Share × AReader }
+    requires* { sem 𝓛 (reads_reader g.0 g.1 held g.2) ∗ sem 𝓛 (room_at (Text g.0) out) }
+    ensures* { sem 𝓛 (flft g.0 g.1) ∗ sem 𝓛 (reader_answered_at g.0 out g.2 places.now
+        (question call context.now id.now n)) }
+{
+    *out = places::reader_answer_at(&*(held as *const HeldReader), places, context, id, call, n);
 }
 
 /// Like `kobdzila_set_with`, for the set of the version that the reader at `held` entered last. The set that is made is

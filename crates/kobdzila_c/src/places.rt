@@ -1,0 +1,86 @@
+//! Lists of languages that C looks at once, and look-ups at the places that they name.
+ghost use Rattle.kobdzila_c.specs.Answering.{question};
+ghost use Rattle.kobdzila_c.specs.NamedPlaces.{AreNamed, AreReaderPlaces, AreSetPlaces, IsAnswerAt, IsReaderAnswerAt};
+ghost use Rattle.kobdzila_c.specs.NamedPlaces.{IsSetAnswerAt};
+
+use crate::answers::{context_in, number_in};
+use crate::sets::MadeSet;
+use crate::stores::HeldReader;
+use live_set::{CatalogueSet, Places};
+use std::str::from_utf8;
+
+/// The places that a list of languages names in a set.
+fn places_in(set: &CatalogueSet, domain: &[u8], languages: &[u8]) -> Places
+    ensures { AreNamed set.now domain.now languages.now result }
+{
+    let (Ok(domain), Ok(languages)) = (from_utf8(domain), from_utf8(languages)) else {
+        return Places::new();
+    };
+    set.places(domain, languages)
+}
+
+/// Like `places_in`, for a set that C holds.
+pub(crate) fn set_places(made: &MadeSet, domain: &[u8], languages: &[u8]) -> Places
+    ensures { AreSetPlaces made.now domain.now languages.now result }
+{
+    places_in(&made.set, domain, languages)
+}
+
+/// Like `places_in`, in a reader's version.
+pub(crate) fn reader_places(held: &HeldReader, domain: &[u8], languages: &[u8]) -> Places
+    ensures { AreReaderPlaces held.now domain.now languages.now result }
+{
+    match &held.reader {
+        Some(reader) => places_in(reader.set(), domain, languages),
+        None => Places::new(),
+    }
+}
+
+/// The string that answers a question at places of a set, with its terminating NUL, or no bytes if there is none.
+#[inline(always)]
+fn answer_at<'k>(
+    set: &'k CatalogueSet,
+    places: &[u32],
+    context: &[u8],
+    id: &[u8],
+    call: u32,
+    n: u64,
+) -> &'k [u8]
+    ensures { IsAnswerAt set.now places.now (question call context.now id.now n) result.now }
+{
+    match set.translated_closed_at(places, context_in(call, context), id, number_in(call, n)) {
+        Some(text) => text,
+        None => &[],
+    }
+}
+
+/// Like `answer_at`, for a set that C holds.
+pub(crate) fn set_answer_at<'k>(
+    made: &'k MadeSet,
+    places: &[u32],
+    context: &[u8],
+    id: &[u8],
+    call: u32,
+    n: u64,
+) -> &'k [u8]
+    ensures { IsSetAnswerAt made.now places.now (question call context.now id.now n) result.now }
+{
+    answer_at(&made.set, places, context, id, call, n)
+}
+
+/// Like `answer_at`, in a reader's version.
+pub(crate) fn reader_answer_at<'k>(
+    held: &'k HeldReader,
+    places: &[u32],
+    context: &[u8],
+    id: &[u8],
+    call: u32,
+    n: u64,
+) -> &'k [u8]
+    ensures { IsReaderAnswerAt held.now places.now (question call context.now id.now n) result.now }
+{
+    match &held.reader {
+        Some(reader) => answer_at(reader.set(), places, context, id, call, n),
+        None => &[],
+    }
+}
