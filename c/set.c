@@ -5,6 +5,12 @@
 #include <stdbool.h>
 #include <stdio.h>
 
+/* The places in a set that a list of languages names; a larger count than MOST_PLACES says that there are more. */
+enum { MOST_PLACES = 16 };
+struct places {
+    unsigned count, at[MOST_PLACES];
+};
+
 size_t kobdzila_set_size(void);
 void kobdzila_set_new(struct held *out);
 void kobdzila_set_with(const struct held *set, const unsigned char *domain, size_t domain_len,
@@ -16,6 +22,11 @@ void kobdzila_set_answer(const struct held *set, const unsigned char *domain, si
                          size_t context_len, const unsigned char *msgid, size_t msgid_len, uint32_t call, uint64_t n,
                          struct lent *out);
 bool kobdzila_is_name(const unsigned char *bytes, size_t len);
+void kobdzila_set_languages(const struct held *set, const unsigned char *domain, size_t domain_len,
+                            const unsigned char *languages, size_t languages_len, struct places *out);
+void kobdzila_set_answer_at(const struct held *set, const unsigned *places, size_t count, const unsigned char *context,
+                            size_t context_len, const unsigned char *msgid, size_t msgid_len, uint32_t call, uint64_t n,
+                            struct lent *out);
 void kobdzila_reader_with(const struct held *reader, const unsigned char *domain, size_t domain_len,
                           const unsigned char *locale, size_t locale_len, const struct held *catalogue,
                           struct held *out);
@@ -23,6 +34,11 @@ void kobdzila_reader_answer(const struct held *reader, const unsigned char *doma
                             const unsigned char *languages, size_t languages_len, const unsigned char *context,
                             size_t context_len, const unsigned char *msgid, size_t msgid_len, uint32_t call, uint64_t n,
                             struct lent *out);
+void kobdzila_reader_languages(const struct held *reader, const unsigned char *domain, size_t domain_len,
+                               const unsigned char *languages, size_t languages_len, struct places *out);
+void kobdzila_reader_answer_at(const struct held *reader, const unsigned *places, size_t count,
+                               const unsigned char *context, size_t context_len, const unsigned char *msgid,
+                               size_t msgid_len, uint32_t call, uint64_t n, struct lent *out);
 
 enum { FAULT, VERSION }; /* `which` of kobdzila_set_number, and of kobdzila_reader_number */
 
@@ -133,4 +149,57 @@ kob_text kob_set_find(const kob_set *set, kob_text domain, kob_text languages, k
                       const unsigned long long *n) {
     return found_text(ask(set, present(domain), present(languages), present(context), present(msgid),
                           call_of(context, n), n ? *n : 0));
+}
+
+/* ---- lists of languages that are looked at once */
+
+kob_languages kob_set_languages(const kob_set *set, kob_text domain, kob_text languages) {
+    struct places named;
+    domain = present(domain);
+    languages = present(languages);
+    (is_lent(set) ? kobdzila_reader_languages : kobdzila_set_languages)(
+        read_by(set), bytes_of(domain), domain.len, bytes_of(languages), languages.len, &named);
+    kob_languages list = { set, domain, languages, named.count, { 0 } };
+    memcpy(list.places, named.at, sizeof list.places);
+    return list;
+}
+
+/* The answer in a list; one with more catalogues than it has places for is looked at anew. */
+static struct lent ask_in(const kob_languages *list, kob_text context, kob_text msgid, uint32_t call, uint64_t n) {
+    if (list->count > MOST_PLACES)
+        return ask(list->set, list->domain, list->languages, context, msgid, call, n);
+    struct lent out;
+    (is_lent(list->set) ? kobdzila_reader_answer_at : kobdzila_set_answer_at)(
+        read_by(list->set), list->places, list->count, bytes_of(context), context.len, bytes_of(msgid), msgid.len, call,
+        n, &out);
+    return out;
+}
+
+const char *kob_languages_gettext(const kob_languages *list, const char *msgid) {
+    return msgid ? found_or(ask_in(list, text_of(""), text_of(msgid), GETTEXT, 0), msgid) : NULL;
+}
+
+const char *kob_languages_pgettext(const kob_languages *list, const char *context, const char *msgid) {
+    if (!msgid)
+        return NULL;
+    return found_or(ask_in(list, text_of(context), text_of(msgid), in_context(context), 0), msgid);
+}
+
+const char *kob_languages_ngettext(const kob_languages *list, const char *msgid, const char *plural,
+                                   unsigned long long n) {
+    if (!msgid)
+        return NULL;
+    return found_or(ask_in(list, text_of(""), text_of(msgid), WITH_NUMBER, n), n == 1 ? msgid : plural);
+}
+
+const char *kob_languages_npgettext(const kob_languages *list, const char *context, const char *msgid,
+                                    const char *plural, unsigned long long n) {
+    if (!msgid)
+        return NULL;
+    return found_or(ask_in(list, text_of(context), text_of(msgid), in_context(context) | WITH_NUMBER, n),
+                    n == 1 ? msgid : plural);
+}
+
+kob_text kob_languages_find(const kob_languages *list, kob_text context, kob_text msgid, const unsigned long long *n) {
+    return found_text(ask_in(list, present(context), present(msgid), call_of(context, n), n ? *n : 0));
 }

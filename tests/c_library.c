@@ -169,6 +169,82 @@ static void set_files(const kob_set *set, kob_catalogue *c) {
     rmdir("locale");
 }
 
+/* ---- lists of languages that are looked at once */
+
+static int same_found(kob_text a, kob_text b) { return a.at == b.at && a.len == b.len; }
+
+/* Each call in a list answers as it does in the set. */
+static void list_answers(const kob_set *set, const char *domain, const char *languages, const char *msgid) {
+    static const char *const contexts[] = { NULL, "menu", "disk" };
+    const kob_text none = { NULL, 0 };
+    kob_languages list = kob_set_languages(set, text(domain), text(languages));
+    is("gettext in a list", kob_languages_gettext(&list, msgid) == kob_set_gettext(set, domain, languages, msgid));
+    for (int i = 0; i < 3; i++) {
+        const char *context = contexts[i];
+        is("pgettext in a list", kob_languages_pgettext(&list, context, msgid) ==
+                                     kob_set_pgettext(set, domain, languages, context, msgid));
+        kob_text in = context ? text(context) : none;
+        for (unsigned long long n = 0; n < 3; n++) {
+            is("npgettext in a list", kob_languages_npgettext(&list, context, msgid, "plural", n) ==
+                                          kob_set_npgettext(set, domain, languages, context, msgid, "plural", n));
+            is("find in a list, with a number",
+               same_found(kob_languages_find(&list, in, text(msgid), &n),
+                          kob_set_find(set, text(domain), text(languages), in, text(msgid), &n)));
+        }
+        is("find in a list", same_found(kob_languages_find(&list, in, text(msgid), NULL),
+                                        kob_set_find(set, text(domain), text(languages), in, text(msgid), NULL)));
+    }
+    for (unsigned long long n = 0; n < 3; n++)
+        is("ngettext in a list", kob_languages_ngettext(&list, msgid, "plural", n) ==
+                                     kob_set_ngettext(set, domain, languages, msgid, "plural", n));
+}
+
+static void lists_answer(const kob_set *set) {
+    static const char *const domains[] = { "app", "lib", "", "\xff" };
+    static const char *const languages[] = { "fr", "de", "sv:de:fr", "sv:nb:da:fi:fr_CA:de", "fr:C:de", "C:fr", "sv:C:fr",
+        "POSIX", "fr_CA", "de_AT@euro:fr", "::de::fr:", "fr:fr:fr", "", ":", "\xff", "fr:\xff" };
+    static const char *const msgids[] = { "file", "hi", "day", "Open", "", "no such message", "\xff" };
+    for (size_t d = 0; d < sizeof domains / sizeof *domains; d++)
+        for (size_t l = 0; l < sizeof languages / sizeof *languages; l++)
+            for (size_t m = 0; m < sizeof msgids / sizeof *msgids; m++)
+                list_answers(set, domains[d], languages[l], msgids[m]);
+    kob_languages list = kob_set_languages(set, text("app"), text("sv:fr_CA:de")), copy = list;
+    is("a copy of a list", !strcmp(kob_languages_gettext(&copy, "file"), "fichier"));
+    is("a later language of a list", !strcmp(kob_languages_ngettext(&list, "day", "days", 0), "Tage"));
+    kob_languages nowhere = kob_set_languages(set, (kob_text){ NULL, 0 }, (kob_text){ NULL, 0 });
+    is("a list of NULL", !strcmp(kob_languages_gettext(&nowhere, "file"), "file"));
+}
+
+/* A list of so many of these catalogues, of which each has one message of its own. */
+static void list_of(const kob_set *set, int count) {
+    char languages[200] = "", msgid[20];
+    for (int i = 0; i < count; i++)
+        snprintf(languages + strlen(languages), sizeof languages - strlen(languages), "%sx%02d", i ? ":" : "", i);
+    kob_languages list = kob_set_languages(set, text("app"), text(languages));
+    for (int i = 0; i < 20; i++) {
+        snprintf(msgid, sizeof msgid, "in x%02d", i);
+        is("a long list", !strcmp(kob_languages_gettext(&list, msgid), i < count ? "here" : msgid));
+        list_answers(set, "app", languages, msgid);
+    }
+}
+
+static void long_lists(void) {
+    kob_set *set = kob_set_new();
+    for (int i = 0; i < 20; i++) {
+        char locale[20], bytes[100];
+        snprintf(locale, sizeof locale, "x%02d", i);
+        snprintf(bytes, sizeof bytes, "msgid \"in %s\"\nmsgstr \"here\"\n", locale);
+        kob_set *more = set_with(set, "app", locale, bytes);
+        kob_set_release(set);
+        set = more;
+    }
+    for (int count = 15; count <= 20; count++)
+        list_of(set, count);
+    kob_set_release(set);
+}
+
+/* ---- sets that grow */
+
 static void sets(void) {
     kob_set *none = kob_set_new();
     is("the set of no catalogues", none && kob_set_version(none) == 0 && !strcmp(kob_set_gettext(none, "app", "fr", "a"), "a"));
@@ -185,6 +261,7 @@ static void sets(void) {
     kob_release(fr);
     set_look_ups(two);
     set_texts(two);
+    lists_answer(two);
     kob_set *three = set_with(two, "app", "fr", "msgid \"file\"\nmsgstr \"dossier\"\n");
     is("a catalogue is replaced", !strcmp(kob_set_gettext(three, "app", "fr", "file"), "dossier"));
     is("and no other", !strcmp(kob_set_gettext(three, "app", "de", "hi"), "hallo"));
@@ -211,6 +288,8 @@ static void many(void) {
     for (int i = 0; i < 700; i++) {
         snprintf(wanted, sizeof wanted, "l%03d", i);
         is("each of 700 catalogues", !strcmp(kob_set_gettext(set, "app", wanted, "a"), wanted));
+        kob_languages list = kob_set_languages(set, text("app"), text(wanted));
+        is("each of them in a list", !strcmp(kob_languages_gettext(&list, "a"), wanted));
     }
     kob_set_release(set);
 }
@@ -382,6 +461,7 @@ static void calls(void) {
     kob_release(c);
     sets();
     many();
+    long_lists();
     po_refusals();
     mo_refusals();
     fault_texts();

@@ -32,6 +32,8 @@ static void ask_all(const kob_catalogue *c) {
         kob_find(c, e.context, e.msgid, &n);
         kob_form_at(c, i, 0);
         kob_set_find(set, app, fr, e.context, e.msgid, &n);
+        const kob_languages list = kob_set_languages(set, app, fr);
+        kob_languages_find(&list, e.context, e.msgid, &n);
     }
     kob_gettext(c, "no such message");
     kob_ngettext(c, "no such message", "x", 5);

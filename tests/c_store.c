@@ -103,6 +103,8 @@ static void versions(void) {
     is("an entry that finds nothing new", kob_reader_enter(reader) == set && says(set, "fr", "fichier"));
     show(store, "fr", "dossier");
     is("one catalogue is replaced", says(kob_reader_enter(reader), "fr", "dossier") && says(set, "de", "Datei"));
+    kob_languages list = kob_set_languages(set, (kob_text){ "app", 3 }, (kob_text){ "fr:de", 5 });
+    is("it is in a list", !strcmp(kob_languages_gettext(&list, "file"), "dossier"));
     is("nobody asks for the version", kob_store_publish(store, NULL) && kob_store_version(store) == 3);
     kob_reader *late = kob_store_reader(store);
     is("a late reader", kob_reader_version(late) == 3 && says(kob_reader_enter(late), "fr", "dossier"));
@@ -126,6 +128,14 @@ static void look_ups(void) {
     is("find", kob_set_find(set, app, fr, none, id, NULL).len == 7);
     is("find in a context, with a number", kob_set_find(set, app, fr, menu, id, &two).len == 5);
     is("find of none", !kob_set_find(set, app, none, none, id, NULL).at);
+    kob_languages list = kob_set_languages(set, app, fr), no_list = kob_set_languages(set, app, none);
+    is("gettext in a list", !strcmp(kob_languages_gettext(&list, "file"), "fichier"));
+    is("pgettext in a list", !strcmp(kob_languages_pgettext(&list, "menu", "file"), "menu"));
+    is("ngettext in a list", !strcmp(kob_languages_ngettext(&list, "file", "files", 2), "more"));
+    is("npgettext in a list", !strcmp(kob_languages_npgettext(&list, "menu", "file", "files", 2), "menus"));
+    is("find in a list", kob_languages_find(&list, none, id, NULL).len == 7);
+    is("find in a context, with a number, in a list", kob_languages_find(&list, menu, id, &two).len == 5);
+    is("find in no list", !kob_languages_find(&no_list, none, id, NULL).at);
     is("gettext of NULL", !kob_set_gettext(set, "app", "fr", NULL));
     kob_catalogue *c = catalogue_of("filo", "fili");
     kob_refusal why = { KOB_MEMORY, 7 };

@@ -116,6 +116,9 @@ static int set_has_texts(const kob_set *set) {
               !strcmp(kob_set_ngettext(set, "app", "fr", "file", "files", 2), "fichiers") &&
               !strcmp(kob_set_npgettext(set, "app", "fr", "menu", "file", "files", 2), "files") &&
               kob_set_find(set, app, fr, none, id, NULL).len == 7 && kob_set_version(set) >= 1;
+    kob_languages list = kob_set_languages(set, app, fr);
+    has = has && kob_languages_find(&list, none, id, NULL).len == 7 &&
+          !strcmp(kob_languages_ngettext(&list, "file", "files", 2), "fichiers");
     is("look-ups in a set take no memory", requests == before);
     return has;
 }
@@ -369,6 +372,14 @@ static void null(void) {
                                                    !strcmp(kob_set_gettext(set, "app", NULL, "file"), "file"));
     is("a set's context of NULL", !strcmp(kob_set_pgettext(set, "app", "fr", NULL, "file"), "fichier"));
     is("a set's find of no text", !kob_set_find(set, no_text, no_text, no_text, no_text, NULL).at);
+    kob_languages list = kob_set_languages(set, (kob_text){ "app", 3 }, (kob_text){ "fr", 2 });
+    is("a list's gettext of NULL", !kob_languages_gettext(&list, NULL) && !kob_languages_pgettext(&list, "menu", NULL));
+    is("a list's ngettext of NULL",
+       !kob_languages_ngettext(&list, NULL, "b", 2) && !kob_languages_npgettext(&list, "m", NULL, "b", 2));
+    is("a list's context of NULL", !strcmp(kob_languages_pgettext(&list, NULL, "file"), "fichier"));
+    is("a list's find of no text is the header", kob_languages_find(&list, no_text, no_text, NULL).at != NULL);
+    list = kob_set_languages(set, no_text, no_text);
+    is("a list of no text", !kob_languages_find(&list, no_text, (kob_text){ "file", 4 }, NULL).at);
     kob_release(none);
     kob_release(NULL);
     kob_release(c);
