@@ -3,6 +3,7 @@
 use std::error::Error;
 use std::fmt;
 
+use crate::languages::Languages;
 use crate::sys;
 
 /// What one thread looks up with in a [`Store`](crate::Store).
@@ -221,6 +222,24 @@ impl<'a> Snapshot<'a> {
     /// ```
     pub fn version(&self) -> u64 {
         self.0.version()
+    }
+
+    /// Looks at a list of languages once, for many look-ups, such as those of one request. The list and its answers
+    /// borrow the snapshot.
+    ///
+    /// ```
+    /// # let fr = kobdzila::Catalogue::from_po(b"msgid \"Winter\"\nmsgstr \"Hiver\"\n", kobdzila::Options::new())?;
+    /// # let store = kobdzila::Store::new();
+    /// # store.load("garden", "fr", &fr)?;
+    /// # store.publish()?;
+    /// # let mut reader = store.reader()?;
+    /// let now = reader.enter();
+    /// let list = now.languages("garden", "sv:fr");
+    /// assert_eq!(list.gettext("Winter"), "Hiver");
+    /// # Ok::<(), Box<dyn std::error::Error>>(())
+    /// ```
+    pub fn languages<'b>(&'b self, domain: &'b str, languages: &'b str) -> Languages<'b> {
+        Languages(self.0.languages([domain, languages]))
     }
 
     /// Returns the translation of `msgid`, or `msgid` itself if there is none.

@@ -5,6 +5,7 @@ use std::fmt;
 use std::path::Path;
 
 use crate::catalogue::{name_of, Catalogue};
+use crate::languages::Languages;
 use crate::refused::Refused;
 use crate::sys;
 
@@ -106,6 +107,21 @@ impl Set {
     /// ```
     pub fn version(&self) -> u64 {
         self.0.version()
+    }
+
+    /// Looks at a list of languages once, for many look-ups.
+    ///
+    /// ```
+    /// use kobdzila::{Catalogue, Options, Set};
+    ///
+    /// let fr = Catalogue::from_po(b"msgid \"Winter\"\nmsgstr \"Hiver\"\n", Options::new())?;
+    /// let set = Set::new().with("garden", "fr", &fr)?;
+    /// let list = set.languages("garden", "sv:fr");
+    /// assert_eq!(list.gettext("Winter"), "Hiver");
+    /// # Ok::<(), kobdzila::Refused>(())
+    /// ```
+    pub fn languages<'a>(&'a self, domain: &'a str, languages: &'a str) -> Languages<'a> {
+        Languages(self.0.languages([domain, languages]))
     }
 
     /// Returns the translation of `msgid`, or `msgid` itself if there is none.

@@ -79,6 +79,16 @@ struct kob_entry {
     forms: usize,
 }
 
+#[repr(C)]
+#[derive(Clone, Copy)]
+struct kob_languages {
+    set: *const kob_set,
+    domain: kob_text,
+    languages: kob_text,
+    count: c_uint,
+    places: [c_uint; 16],
+}
+
 extern "C" {
     fn kob_version() -> *const c_char;
     fn kob_fault_text(fault: c_uint) -> *const c_char;
@@ -115,6 +125,13 @@ extern "C" {
         set: *const kob_set,
         domain: kob_text,
         languages: kob_text,
+        context: kob_text,
+        msgid: kob_text,
+        n: *const c_ulonglong,
+    ) -> kob_text;
+    fn kob_set_languages(set: *const kob_set, domain: kob_text, languages: kob_text) -> kob_languages;
+    fn kob_languages_find(
+        list: *const kob_languages,
         context: kob_text,
         msgid: kob_text,
         n: *const c_ulonglong,
@@ -432,6 +449,11 @@ impl Set {
         // SAFETY: `self` keeps the set alive, and the result borrows it.
         unsafe { find_in(self.0.as_ptr(), names, context, msgid, n) }
     }
+
+    pub fn languages<'a>(&'a self, names: [&'a str; 2]) -> Languages<'a> {
+        // SAFETY: `self` keeps the set alive, and the result borrows it.
+        unsafe { Languages::new(self.0.as_ptr(), names) }
+    }
 }
 
 /// Looks up in a set.
@@ -453,6 +475,40 @@ unsafe fn find_in<'a>(
     let found = unsafe { kob_set_find(set, domain, languages, context, msgid, address(&n)) };
     // SAFETY: the text belongs to a catalogue of the set, whose answers are valid for 'a.
     unsafe { found.text() }
+}
+
+/// A list of languages that was looked at once in a set. It borrows the set and its two texts for 'a. It has a pointer,
+/// so it is neither Send nor Sync: a look-up in a set that a reader lends is a call of the reader.
+#[derive(Clone, Copy)]
+pub struct Languages<'a> {
+    list: kob_languages,
+    set: PhantomData<&'a str>,
+}
+
+impl<'a> Languages<'a> {
+    /// Looks at a list.
+    ///
+    /// # Safety
+    ///
+    /// The set is valid for `'a`, and so are its answers.
+    unsafe fn new(set: *const kob_set, names: [&'a str; 2]) -> Languages<'a> {
+        let [domain, languages] = names.map(kob_text::new);
+        Languages {
+            // SAFETY: the set is valid, and the texts are readable for 'a.
+            list: unsafe { kob_set_languages(set, domain, languages) },
+            set: PhantomData,
+        }
+    }
+
+    #[inline]
+    pub fn find(&self, context: Option<&str>, msgid: &str, n: Option<u64>) -> Option<&'a str> {
+        let (context, msgid) = (kob_text::optional(context), kob_text::new(msgid));
+        // SAFETY: the set and the list's texts are valid for 'a; the other texts and the number are readable until the
+        // call returns.
+        let found = unsafe { kob_languages_find(&self.list, context, msgid, address(&n)) };
+        // SAFETY: the text belongs to a catalogue of the set, whose answers are valid for 'a.
+        unsafe { found.text() }
+    }
 }
 
 /// A live store.
@@ -606,5 +662,11 @@ impl<'a> Snapshot<'a> {
         // SAFETY: the header: the set and its answers are valid until its reader's next entry or end, and neither comes
         // within 'a.
         unsafe { find_in(self.set, names, context, msgid, n) }
+    }
+
+    /// A list, which borrows the snapshot: so neither is used in another thread at the same time.
+    pub fn languages<'b>(&'b self, names: [&'b str; 2]) -> Languages<'b> {
+        // SAFETY: as for `find`.
+        unsafe { Languages::new(self.set, names) }
     }
 }

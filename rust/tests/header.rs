@@ -104,13 +104,21 @@ fn squeezed(text: &str) -> String {
 fn functions_are_those_of_the_header() {
     let Some(header) = header() else { return };
     let wanted = functions_of_c(&header);
-    assert!(wanted.len() >= 41, "the header has only {:?}", wanted.keys());
+    assert!(wanted.len() >= 47, "the header has only {:?}", wanted.keys());
     let block = between(SYS, "extern \"C\" {", "\n}").next().unwrap();
     let declared: Vec<String> = block.split(';').map(squeezed).filter(|it| !it.is_empty()).collect();
-    assert!(declared.len() >= 33);
+    assert!(declared.len() >= 35);
     for function in declared {
         let name = function.trim_start_matches("fn").split('(').next().unwrap();
         assert_eq!(Some(&function), wanted.get(name), "{name}");
+    }
+}
+
+/// A field by its declarator of C, which is a name or `name[LENGTH]`, and the type before it.
+fn field(declarator: &str, kind: &str) -> String {
+    match declarator.split_once('[') {
+        Some((name, length)) => format!("{name}: [{kind}; {}]", length.trim_end_matches(']')),
+        None => format!("{declarator}: {kind}"),
     }
 }
 
@@ -120,8 +128,8 @@ fn fields_of_c(body: &str) -> String {
     for line in body.split(';').filter(|it| !it.trim().is_empty()) {
         let mut names = line.split(',');
         let (first, kind) = declared(&names.next().unwrap().replace('\n', " "));
-        fields.push(format!("{first}: {kind}"));
-        fields.extend(names.map(|name| format!("{}: {kind}", name.trim())));
+        fields.push(field(&first, &kind));
+        fields.extend(names.map(|name| field(name.trim(), &kind)));
     }
     squeezed(&fields.join(","))
 }
@@ -129,7 +137,7 @@ fn fields_of_c(body: &str) -> String {
 #[test]
 fn structs_are_those_of_the_header() {
     let Some(header) = header() else { return };
-    for name in ["kob_refusal", "kob_text", "kob_entry"] {
+    for name in ["kob_refusal", "kob_text", "kob_entry", "kob_languages"] {
         let end = format!("}} {name};");
         let before = header.split(&end).next().unwrap();
         assert_ne!(before.len(), header.len(), "the header has no struct {name}");

@@ -23,6 +23,35 @@ fn the_first_language_that_has_the_message_answers() {
 }
 
 #[test]
+fn a_list_that_is_looked_at_once_answers_as_the_set_does() {
+    let set = garden();
+    for languages in ["fr", "de", "de:fr", "sv::fr_CA:de", "C:fr", "", "fr\0"] {
+        let list = set.languages("garden", languages);
+        for msgid in ["Winter", "Open", "tomato", "row", "Summer", ""] {
+            assert_eq!(list.gettext(msgid), set.gettext("garden", languages, msgid));
+            assert_eq!(
+                list.pgettext("menu", msgid),
+                set.pgettext("garden", languages, "menu", msgid)
+            );
+            assert_eq!(
+                list.ngettext(msgid, "all", 2),
+                set.ngettext("garden", languages, msgid, "all", 2)
+            );
+            assert_eq!(
+                list.npgettext("bed", msgid, "all", 0),
+                set.npgettext("garden", languages, "bed", msgid, "all", 0)
+            );
+            assert_eq!(list.find_in("", msgid), set.find_in("garden", languages, "", msgid));
+            assert_eq!(
+                list.find_plural_in("bed", msgid, 1),
+                set.find_plural_in("garden", languages, "bed", msgid, 1)
+            );
+        }
+    }
+    assert_eq!(set.languages("garden\0", "fr").find("Winter"), None);
+}
+
+#[test]
 fn missing_messages_are_the_callers_texts() {
     let set = garden();
     assert_eq!(set.gettext("garden", "C:fr", "Winter"), "Winter");
