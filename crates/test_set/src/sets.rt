@@ -11,15 +11,16 @@ const PLAIN: Options = Options {
     use_fuzzy: false,
 };
 
-const SALUT: &[u8] = b"msgid \"hi\"\nmsgstr \"salut\"\n";
+pub(crate) const SALUT: &[u8] = b"msgid \"hi\"\nmsgstr \"salut\"\n";
 
 const BONJOUR: &[u8] = b"msgid \"hi\"\nmsgstr \"bonjour\"\n";
 
-const HALLO: &[u8] = b"msgid \"hi\"\nmsgstr \"hallo\"\n";
+pub(crate) const HALLO: &[u8] = b"msgid \"hi\"\nmsgstr \"hallo\"\n";
 
-const MENU: &[u8] = b"msgctxt \"menu\"\nmsgid \"open\"\nmsgstr \"otworz\"\n";
+pub(crate) const MENU: &[u8] = b"msgctxt \"menu\"\nmsgid \"open\"\nmsgstr \"otworz\"\n";
 
-const POLISH: &[u8] = b"msgid \"\"\nmsgstr \"nplurals=3; plural=n==1 ? 0 : n%10>=2 && n%10<=4 && \
+pub(crate) const POLISH: &[u8] =
+    b"msgid \"\"\nmsgstr \"nplurals=3; plural=n==1 ? 0 : n%10>=2 && n%10<=4 && \
     (n%100<10 || n%100>=20) ? 1 : 2;\"\nmsgid \"file\"\nmsgid_plural \"files\"\nmsgstr[0] \"plik\"\n\
     msgstr[1] \"pliki\"\nmsgstr[2] \"plikow\"\nmsgctxt \"menu\"\nmsgid \"open\"\nmsgstr \"otworz\"\n\
     msgctxt \"disk\"\nmsgid \"file\"\nmsgid_plural \"files\"\nmsgstr[0] \"jeden\"\nmsgstr[1] \"dwa\"\n\
@@ -85,7 +86,7 @@ fn load(alloc: Global, domain: &str, locale: &str, text: &[u8]) -> Result<Load, 
 }
 
 /// Compiles a text, and absorbs it into a set.
-fn put(
+pub(crate) fn put(
     alloc: Global,
     set: &mut CatalogueSet,
     domain: &str,
@@ -98,14 +99,19 @@ fn put(
 }
 
 /// The set of one load.
-fn set_of(alloc: Global, domain: &str, locale: &str, text: &[u8]) -> Result<CatalogueSet, Fail> {
+pub(crate) fn set_of(
+    alloc: Global,
+    domain: &str,
+    locale: &str,
+    text: &[u8],
+) -> Result<CatalogueSet, Fail> {
     let mut set = CatalogueSet::new(alloc);
     put(alloc, &mut set, domain, locale, text)?;
     Ok(set)
 }
 
 /// The set of `LOADS`.
-fn loaded(alloc: Global) -> Result<CatalogueSet, Fail> {
+pub(crate) fn loaded(alloc: Global) -> Result<CatalogueSet, Fail> {
     let mut set = CatalogueSet::new(alloc);
     for (domain, locale, text) in LOADS {
         put(alloc, &mut set, domain, locale, text)?;
