@@ -32,6 +32,7 @@ struct snapshot {
     kob_reader *reader; /* NULL: the snapshot was closed */
     const kob_set *set; /* which the reader lends */
     PyObject *domain, *languages; /* str */
+    kob_languages list; /* these two in the set, looked at once; its set is NULL if one of them isn't UTF-8 */
 };
 
 static struct store *store_of(PyObject *object) { return (struct store *)object; }
@@ -268,7 +269,11 @@ static int open_snapshot(struct snapshot *self, struct shared *shared) {
         return -1;
     }
     self->set = enter(shared, self->reader);
-    return 0;
+    kob_text domain, languages;
+    int is_domain = utf8_of(self->domain, &domain), is_languages = utf8_of(self->languages, &languages);
+    if (is_domain > 0 && is_languages > 0)
+        self->list = kob_set_languages(self->set, domain, languages);
+    return is_domain < 0 || is_languages < 0 ? -1 : 0;
 }
 
 static PyObject *snapshot_new(PyTypeObject *type, PyObject *args, PyObject *keywords) {
@@ -299,6 +304,7 @@ static void close_snapshot(struct snapshot *self) {
     kob_reader *reader = self->reader;
     self->reader = NULL;
     self->set = NULL;
+    self->list = (kob_languages){ 0 };
     if (reader)
         give_back(self->shared, reader);
 }
@@ -342,11 +348,15 @@ struct question {
 /* Return the translation, in its plural form for *n unless `n` is NULL. Return NULL if there is none, or with an
  * exception. */
 static PyObject *found(const struct snapshot *self, struct question asked, const unsigned long long *n) {
-    kob_text domain, languages, context = { NULL, 0 }, msgid;
-    if (!is_open(self) || utf8_of(asked.domain, &domain) <= 0 || utf8_of(asked.languages, &languages) <= 0 ||
-        (asked.context && utf8_of(asked.context, &context) <= 0) || utf8_of(asked.msgid, &msgid) <= 0)
+    kob_text domain, languages, context = { NULL, 0 }, msgid, text;
+    if (!is_open(self) || (asked.context && utf8_of(asked.context, &context) <= 0) || utf8_of(asked.msgid, &msgid) <= 0)
         return NULL;
-    kob_text text = kob_set_find(self->set, domain, languages, context, msgid, n);
+    if (self->list.set && asked.domain == self->domain && asked.languages == self->languages)
+        text = kob_languages_find(&self->list, context, msgid, n);
+    else if (utf8_of(asked.domain, &domain) > 0 && utf8_of(asked.languages, &languages) > 0)
+        text = kob_set_find(self->set, domain, languages, context, msgid, n);
+    else
+        return NULL;
     return text.at ? PyUnicode_FromStringAndSize(text.at, (Py_ssize_t)text.len) : NULL;
 }
 
