@@ -52,6 +52,22 @@ fn a_list_that_is_looked_at_once_answers_as_the_set_does() {
 }
 
 #[test]
+fn a_list_of_more_than_sixteen_catalogues_answers_as_the_set_does() {
+    let mut set = garden();
+    let mut names = String::new();
+    for number in 0..17 {
+        let locale = format!("l{number}");
+        let catalogue = message(&format!("Bed {number}"), &locale);
+        set = set.with("garden", &locale, &catalogue).unwrap();
+        names += &format!("{locale}:");
+    }
+    names += "fr";
+    let list = set.languages("garden", &names);
+    assert_eq!((list.gettext("Bed 0"), list.gettext("Bed 16")), ("l0", "l16"));
+    assert_eq!((list.gettext("Winter"), list.gettext("Bed 17")), ("Hiver", "Bed 17"));
+}
+
+#[test]
 fn missing_messages_are_the_callers_texts() {
     let set = garden();
     assert_eq!(set.gettext("garden", "C:fr", "Winter"), "Winter");
