@@ -4,7 +4,7 @@
 # grows with what the strings are together.
 #
 #   tests/hostile.sh              loads files of 30 MB by scripts of bin/catserve (CATSERVE=PATH: of another program), and
-#                                 opens the worst of them in 60 MB by build/lib/libkobdzila.a, within 8 seconds
+#                                 opens the worst of them in 60 MB by build/lib/libkobdzila.a
 #   tests/hostile.sh LIBRARY      opens files of 60 MB, and ten million tiny entries in 240 MB within 12 seconds, by
 #                                 this library
 no_program=1
@@ -64,7 +64,6 @@ are_read() {
     case $shape in
       # (its file is four times as large)
       tiny_entries) is_read "$shape" "$2" 12 "$3" ;;
-      irregular_copies) is_read "$shape" "$1" 8 "$3" ;;
       *) is_read "$shape" "$1" 3 "$3" ;;
     esac
   done
@@ -88,5 +87,5 @@ if [ ! -f build/lib/libkobdzila.a ] || ! tests/needs cc gcc libc6-dev; then
 elif ! makes_opener build/lib/libkobdzila.a 2> "$room/cc"; then
   failed 'the hostile file irregular_copies of 60 MB' "tests/hostile.c does not compile: $(head -n 1 "$room/cc")"
 else
-  is_read irregular_copies 60000000 8 open_file
+  is_read irregular_copies 60000000 3 open_file
 fi

@@ -187,7 +187,7 @@ more_alike bytes a limit more is inside within alike = record {
 }
 
 -- past the end of a text there is nothing
-at_end : (bytes : List ℕ) (start i : ℕ) → get_or (part bytes start (length bytes)) i 0 ≡ get_or bytes (start + i) 0
+pub at_end : (bytes : List ℕ) (start i : ℕ) → get_or (part bytes start (length bytes)) i 0 ≡ get_or bytes (start + i) 0
 at_end bytes start i = ap (λ l. get_or l i 0) (take_rest bytes start) ∙ get_or-drop start bytes i 0
 
 -- where a part ends that grew to the end of the file

@@ -13,5 +13,6 @@ pub mod PartLemmas
 pub mod GapLemmas
 pub mod RowSweeps
 pub mod KeyOrder
+pub mod BlockLemmas
 pub mod TableRows
 pub mod SoundRows

@@ -5,3 +5,4 @@ pub mod Behind
 pub mod Rows
 pub mod FileParts
 pub mod Claims
+pub mod Blocks

@@ -1,10 +1,13 @@
 //! The order test for files whose strings overlap. Bytes shared by keys at one distance from each other are compared
-//! only once.
+//! only once, and once a file has taken much comparing, keys are compared by blocks.
 ghost use Rattle.std.specs.Prelude.{◌≡◌, ◌↔◌, ℕ, List, ◌+◌, ◌-◌, ◌<◌, ◌≤◌, length, slice_index, IsTrue, IfOk};
 ghost use Rattle.std.specs.Prelude.{IfSome, All};
 ghost use Rattle.std.specs.List.Sorted.{IsPermutation};
+ghost use Rattle.catalogue.specs.MoFile.{most_file};
 ghost use Rattle.mo_file.specs.Claims.{claims_to, AreAlike, IsAlike, ClaimLies, EndsThere, ClaimHolds};
+ghost use Rattle.mo_file.specs.Blocks.{AreBlocks};
 
+use crate::blocks::Blocks;
 use crate::rows::{Row, Span};
 use bstr::ByteSlice;
 use std::alloc::{AllocError, Global};
@@ -55,6 +58,15 @@ pub(crate) fn in_order(mut claims: Vec<Claim>) -> Vec<Claim>
 
 /// The number of bytes that are compared at once.
 const BLOCK: usize = 256;
+
+/// How many times the file's size is compared before the file is cut into blocks.
+const COMPARED: usize = 4;
+
+/// The number of bytes that are compared before blocks are looked for.
+const LEAD: usize = 1024;
+
+/// How many runs of blocks are looked for in one comparison.
+const LEAPS: usize = 16;
 
 /// Returns the length of the longest run of whole blocks that both slices begin with and that holds no NUL.
 fn alike_blocks(a: &[u8], b: &[u8]) -> usize
@@ -108,10 +120,10 @@ fn greatest_common_divisor(a: usize, b: usize) -> usize
 
 /// A part of the file, from `from` up to `to`, that holds no NUL and is repeated `distance` bytes further on.
 #[derive(Clone, Copy)]
-struct Alike {
-    distance: usize,
-    from: usize,
-    to: usize,
+pub(crate) struct Alike {
+    pub(crate) distance: usize,
+    pub(crate) from: usize,
+    pub(crate) to: usize,
 }
 
 impl Alike {
@@ -144,7 +156,8 @@ impl Alike {
     }
 
     /// Extends the part by comparing more bytes, up to `limit` or to where the two copies differ or a NUL ends them.
-    fn grown(self, bytes: &[u8], limit: usize) -> Alike
+    /// Adds their number to `spent`.
+    fn grown(self, bytes: &[u8], limit: usize, spent: &mut usize) -> Alike
         requires alike { IsAlike bytes.now self }
         requires limit { (self.to ≤ limit) × (limit ≤ length bytes.now) }
         ensures alike { IsAlike bytes.now result }
@@ -152,6 +165,7 @@ impl Alike {
         ensures ends { limit ≡ length bytes.now → EndsThere bytes.now result }
     {
         let more = alike_len(&bytes[self.to..limit], &bytes[self.to + self.distance..]);
+        *spent = spent.saturating_add(more);
         Alike {
             to: self.to + more,
             ..self
@@ -212,7 +226,7 @@ impl Alike {
 
     /// Joins the part with another one at its distance. If there is a gap between them, bytes are compared to close it;
     /// if they differ, the other part is dropped.
-    fn joined(self, bytes: &[u8], other: Alike) -> Alike
+    fn joined(self, bytes: &[u8], other: Alike, spent: &mut usize) -> Alike
         requires alike { IsAlike bytes.now self }
         requires other { IsAlike bytes.now other }
         requires distance { other.distance ≡ self.distance }
@@ -226,7 +240,7 @@ impl Alike {
             return other;
         }
         let near = if self.to < other.from {
-            self.grown(bytes, other.from)
+            self.grown(bytes, other.from, spent)
         } else {
             self
         };
@@ -239,10 +253,41 @@ impl Alike {
         }
     }
 
-    /// Returns the part that shows where the key at `place` and the key `distance` bytes further on differ or both end.
-    /// Bytes that the period answers for are not compared again.
-    fn compared(self, bytes: &[u8], period: Alike, place: usize, distance: usize) -> Alike
+    /// Extends the part by whole blocks, as far as these tell, and by the bytes before each run of blocks.
+    fn grown_by_blocks(self, bytes: &[u8], blocks: &Blocks, spent: &mut usize) -> Alike
         requires alike { IsAlike bytes.now self }
+        requires blocks { AreBlocks bytes.now blocks.now }
+        ensures alike { IsAlike bytes.now result }
+        ensures same { (result.distance ≡ self.distance) × (result.from ≤ self.from) × (self.to ≤ result.to) }
+    {
+        let mut known = self;
+        for _leap in 0..LEAPS {
+            let limit = known.to.saturating_add(LEAD).min(bytes.len());
+            known = known.grown(bytes, limit, spent);
+            if known.to < limit {
+                return known;
+            }
+            let Some(other) = blocks.alike(known.to, known.distance) else {
+                return known;
+            };
+            known = known.joined(bytes, other, spent);
+        }
+        known
+    }
+
+    /// Returns the part that shows where the key at `place` and the key `distance` bytes further on differ or both end.
+    /// Bytes that the period or blocks answer for are not compared again.
+    fn compared(
+        self,
+        bytes: &[u8],
+        blocks: &Blocks,
+        period: Alike,
+        place: usize,
+        distance: usize,
+        spent: &mut usize,
+    ) -> Alike
+        requires alike { IsAlike bytes.now self }
+        requires blocks { AreBlocks bytes.now blocks.now }
         requires period { IsAlike bytes.now period }
         requires within { place + distance ≤ length bytes.now }
         ensures alike { IsAlike bytes.now result }
@@ -252,17 +297,28 @@ impl Alike {
     {
         let mut known = self.around(place, distance);
         if let Some(other) = period.at_multiple(distance) {
-            known = known.joined(bytes, other);
+            known = known.joined(bytes, other, spent);
         }
         if let Some(other) = self.shifted(period, distance) {
-            known = known.joined(bytes, other);
+            known = known.joined(bytes, other, spent);
         }
-        known.grown(bytes, bytes.len())
+        if !blocks.is_empty() {
+            known = known.grown_by_blocks(bytes, blocks, spent);
+        }
+        known.grown(bytes, bytes.len(), spent)
     }
 
     /// Returns the period to go on with, after the keys at `place` have been compared.
-    fn after(self, bytes: &[u8], compared: Alike, place: usize) -> Alike
+    fn after(
+        self,
+        bytes: &[u8],
+        blocks: &Blocks,
+        compared: Alike,
+        place: usize,
+        spent: &mut usize,
+    ) -> Alike
         requires alike { IsAlike bytes.now self }
+        requires blocks { AreBlocks bytes.now blocks.now }
         requires compared { IsAlike bytes.now compared }
         requires place { place ≤ compared.to }
         ensures { IsAlike bytes.now result }
@@ -278,7 +334,7 @@ impl Alike {
         if period == self.distance && self.from <= place {
             return self;
         }
-        let whole = Alike::new().compared(bytes, self, place, period);
+        let whole = Alike::new().compared(bytes, blocks, self, place, period, spent);
         if whole.to + period < compared.to + distance {
             return compared;
         }
@@ -286,16 +342,25 @@ impl Alike {
     }
 
     /// Like `after`, but also uses the comparison before this one, of keys that are closer together.
-    fn learnt(self, bytes: &[u8], compared: Alike, nearer: Alike, place: usize) -> Alike
+    fn learnt(
+        self,
+        bytes: &[u8],
+        blocks: &Blocks,
+        compared: Alike,
+        nearer: Alike,
+        place: usize,
+        spent: &mut usize,
+    ) -> Alike
         requires alike { IsAlike bytes.now self }
+        requires blocks { AreBlocks bytes.now blocks.now }
         requires compared { IsAlike bytes.now compared }
         requires nearer { IsAlike bytes.now nearer }
         requires place { place ≤ compared.to }
         ensures { IsAlike bytes.now result }
     {
-        let period = self.after(bytes, compared, place);
+        let period = self.after(bytes, blocks, compared, place, spent);
         match compared.repeated(nearer) {
-            Some(repeated) => period.after(bytes, repeated, repeated.from),
+            Some(repeated) => period.after(bytes, blocks, repeated, repeated.from, spent),
             None => period,
         }
     }
@@ -312,24 +377,29 @@ fn byte_at(bytes: &[u8], place: usize) -> u8
 }
 
 /// Whether all claims hold. They may come in any order; after `in_order`, shared bytes are compared once for each
-/// distance.
-pub(crate) fn all_hold(bytes: &[u8], claims: &[Claim]) -> bool
-    requires { All (ClaimLies bytes.now) claims.now }
-    ensures { IsTrue result ↔ All (ClaimHolds bytes.now) claims.now }
+/// distance. Once `COMPARED` times the file's size has been compared, the file is cut into blocks.
+pub(crate) fn all_hold(alloc: Global, bytes: &[u8], claims: &[Claim]) -> Result<bool, AllocError>
+    requires short { length bytes.now ≤ most_file }
+    requires lie { All (ClaimLies bytes.now) claims.now }
+    ensures { IfOk result (λ yes. IsTrue yes ↔ All (ClaimHolds bytes.now) claims.now) }
 {
+    let mut blocks = Blocks::none(alloc);
+    let mut spent = 0;
     let mut alike = Alike::new();
     let mut period = Alike::new();
     'claims: for claim in claims {
+        blocks = blocks.cut_if(alloc, bytes, COMPARED * bytes.len() < spent)?;
         let lesser = claim.lesser.start();
         let greater = claim.greater.start();
         let place = lesser.min(greater);
+        let distance = lesser.abs_diff(greater);
         let nearer = alike;
-        alike = alike.compared(bytes, period, place, lesser.abs_diff(greater));
+        alike = alike.compared(bytes, &blocks, period, place, distance, &mut spent);
         let shared = alike.to - place;
         if byte_at(bytes, greater + shared) <= byte_at(bytes, lesser + shared) {
-            return false;
+            return Ok(false);
         }
-        period = period.learnt(bytes, alike, nearer, place);
+        period = period.learnt(bytes, &blocks, alike, nearer, place, &mut spent);
     }
-    true
+    Ok(true)
 }

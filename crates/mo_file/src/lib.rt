@@ -1,6 +1,7 @@
 //! MO files (GNU gettext manual, "MO Files"): writing the one file of a catalogue, and reading any MO file.
 #![tactic(auto)]
 
+mod blocks;
 mod claims;
 mod fault;
 mod gap;

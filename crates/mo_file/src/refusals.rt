@@ -79,6 +79,7 @@ fn passes_forms<T: ByteOrder>(
 
 /// Whether the keys rise, for a file whose strings overlap.
 fn passes_claims<T: ByteOrder>(alloc: Global, bytes: &[u8]) -> Result<bool, AllocError>
+    requires short { length bytes.now ≤ most_file }
     requires long { header_len ≤ length bytes.now }
     requires lies { Passes (file_by T.number_of bytes.now) MoFault.Bounds }
     requires closed { Passes (file_by T.number_of bytes.now) MoFault.NoNul }
@@ -86,7 +87,7 @@ fn passes_claims<T: ByteOrder>(alloc: Global, bytes: &[u8]) -> Result<bool, Allo
 {
     let rows = rows_of::<T>(alloc, bytes)?;
     let claims = in_order(read_claims(alloc, &rows)?);
-    Ok(all_hold(bytes, &claims))
+    all_hold(alloc, bytes, &claims)
 }
 
 /// Whether the keys rise. `overlap` selects the method for strings that overlap.
@@ -95,6 +96,7 @@ fn passes_order<T: ByteOrder>(
     bytes: &[u8],
     overlap: bool,
 ) -> Result<bool, AllocError>
+    requires short { length bytes.now ≤ most_file }
     requires long { header_len ≤ length bytes.now }
     requires lies { Passes (file_by T.number_of bytes.now) MoFault.Bounds }
     requires closed { Passes (file_by T.number_of bytes.now) MoFault.NoNul }
