@@ -136,16 +136,16 @@ below_at (x ∷ a) (y ∷ b) (suc n) alike differ =
     let later = below_at a b n (λ i lt. alike (suc i) (omega (arith, lt))) differ in
     (λ below. later.0 (sym same ∙ below), λ less. same ∙ later.1 less)
 
--- ---- one more block
+-- ---- one more chunk
 
 yes : (b : Bool) → false ≡ not b → b ≡ true
 yes true e = refl
 yes false e = absurd cc
 
-pub one_block : (a b : List ℕ) (start size : ℕ) → start + size ≤ length a → start + size ≤ length b → AreAlike a b start
+pub one_chunk : (a b : List ℕ) (start size : ℕ) → start + size ≤ length a → start + size ≤ length b → AreAlike a b start
     → false ≡ not (bytes_eq (part a start (start + size)) (part b start (start + size)))
     → IsFirstByte (is_byte 0) (part a start (start + size)) None → AreAlike a b (start + size)
-one_block a b start size within inside alike same none i lt = elim (cases_lt i start) [
+one_chunk a b start size within inside alike same none i lt = elim (cases_lt i start) [
   | inl before ↦ alike i before
   | inr behind ↦
       let n : start + (i - start) ≡ i = omega (arith, behind) in

@@ -7,7 +7,6 @@ ghost use Rattle.mo_file.specs.Blocks.{IsText, LacksNul, AreSame, AreFirsts, Are
 
 use crate::claims::Alike;
 use bstr::ByteSlice;
-use byteorder::{ByteOrder, LittleEndian};
 use mo_image::MAX_LEN;
 use std::alloc::{AllocError, Global};
 use std::hash::{FoldHasher, Hasher};
@@ -15,24 +14,14 @@ use std::hash::{FoldHasher, Hasher};
 /// How far behind the place of its least hash a block ends. No block but the last is shorter.
 const WINDOW: usize = 256;
 
-/// The length of the words whose hashes decide where blocks end.
-const WORD: usize = 8;
-
-/// An odd number with its bits well mixed, by which words are hashed.
+/// An odd number with its bits well mixed, by which bytes are hashed. The hash at a place is made of the 64 bytes before.
 const MULTIPLIER: u64 = 0x9e37_79b9_7f4a_7c15;
 
 /// The number of slots for each block in the table of their bytes.
-const SLOTS: usize = 2;
+const SLOTS: usize = 4;
 
 /// How many blocks are tried until one begins in both copies of a text.
 const TRIES: usize = 16;
-
-/// Returns the hash of the word at this place.
-fn hash_at(bytes: &[u8], place: usize) -> u64
-    requires { place + 8 ≤ length bytes.now }
-{
-    LittleEndian::read_u64(&bytes[place..]).wrapping_mul(MULTIPLIER)
-}
 
 /// Cuts a file into blocks that lie end to end. Returns where they begin, and where the last one ends. A block ends
 /// where the least hash in it has stood for `WINDOW` places.
@@ -41,10 +30,12 @@ fn cuts(alloc: Global, bytes: &[u8]) -> Result<Vec<u32>, AllocError>
 {
     let mut starts = Vec::with_capacity(alloc, bytes.len() / WINDOW + 2)?;
     starts.push(0)?;
+    let mut hash: u64 = 0;
     let mut least = u64::MAX;
     let mut places: usize = 0;
-    for i in 0..bytes.len().saturating_sub(WORD - 1) {
-        let hash = hash_at(bytes, i);
+    for i in 0..bytes.len() {
+        let mixed = u64::from(bytes[i]).wrapping_mul(MULTIPLIER);
+        hash = hash.wrapping_add(hash).wrapping_add(mixed);
         places = places.wrapping_add(1);
         if hash < least {
             least = hash;
@@ -154,7 +145,7 @@ impl Blocks {
         }
     }
 
-    /// Cuts a file into blocks, and numbers them. They take at most a sixteenth of the file's size.
+    /// Cuts a file into blocks, and numbers them. They take at most a tenth of the file's size.
     pub(crate) fn of(alloc: Global, bytes: &[u8]) -> Result<Blocks, AllocError>
         requires { length bytes.now ≤ most_file }
         ensures { IfOk result (AreBlocks bytes.now) }

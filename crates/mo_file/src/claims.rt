@@ -57,7 +57,7 @@ pub(crate) fn in_order(mut claims: Vec<Claim>) -> Vec<Claim>
 }
 
 /// The number of bytes that are compared at once.
-const BLOCK: usize = 256;
+const CHUNK: usize = 256;
 
 /// How many times the file's size is compared before the file is cut into blocks.
 const COMPARED: usize = 4;
@@ -68,24 +68,24 @@ const LEAD: usize = 1024;
 /// How many runs of blocks are looked for in one comparison.
 const LEAPS: usize = 16;
 
-/// Returns the length of the longest run of whole blocks that both slices begin with and that holds no NUL.
-fn alike_blocks(a: &[u8], b: &[u8]) -> usize
+/// Returns the length of the longest run of whole chunks that both slices begin with and that holds no NUL.
+fn alike_chunks(a: &[u8], b: &[u8]) -> usize
     ensures within { (result ≤ length a.now) × (result ≤ length b.now) }
     ensures alike { AreAlike a.now b.now result }
 {
-    let blocks = a.len().min(b.len()) / BLOCK;
-    for i in 0..blocks {
-        let start = i * BLOCK;
-        let block = &a[start..start + BLOCK];
-        let other = &b[start..start + BLOCK];
-        if block != other {
+    let chunks = a.len().min(b.len()) / CHUNK;
+    for i in 0..chunks {
+        let start = i * CHUNK;
+        let chunk = &a[start..start + CHUNK];
+        let other = &b[start..start + CHUNK];
+        if chunk != other {
             return start;
         }
-        let None = block.find_byte(0) else {
+        let None = chunk.find_byte(0) else {
             return start;
         };
     }
-    blocks * BLOCK
+    chunks * CHUNK
 }
 
 /// Returns the length of the longest prefix that both slices share and that holds no NUL.
@@ -95,7 +95,7 @@ fn alike_len(a: &[u8], b: &[u8]) -> usize
     ensures ends { slice_index a.now result ≡ slice_index b.now result → slice_index a.now result ≡ 0 }
 {
     let n = a.len().min(b.len());
-    for i in alike_blocks(a, b)..n {
+    for i in alike_chunks(a, b)..n {
         if a[i] != b[i] || a[i] == 0 {
             return i;
         }
