@@ -7,6 +7,8 @@
 #[cfg(test)]
 mod callers;
 #[cfg(test)]
+mod copies;
+#[cfg(test)]
 mod files;
 #[cfg(test)]
 mod lookups;

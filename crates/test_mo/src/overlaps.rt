@@ -6,16 +6,16 @@ use std::test::Fail;
 
 /// The offset of a string from the end of the tables, and its length.
 #[derive(Clone, Copy)]
-struct Place {
-    start: u32,
-    len: u32,
+pub(crate) struct Place {
+    pub(crate) start: u32,
+    pub(crate) len: u32,
 }
 
 /// An original and its translation.
 #[derive(Clone, Copy)]
-struct Pair {
-    original: Place,
-    translation: Place,
+pub(crate) struct Pair {
+    pub(crate) original: Place,
+    pub(crate) translation: Place,
 }
 
 fn push_word(file: &mut Vec<u8>, word: u32, low_first: bool) -> Result<(), AllocError> {
@@ -28,7 +28,7 @@ fn push_word(file: &mut Vec<u8>, word: u32, low_first: bool) -> Result<(), Alloc
 }
 
 /// Makes the file of these rows, whose strings follow the tables.
-fn file_of(
+pub(crate) fn file_of(
     alloc: Global,
     pairs: &[Pair],
     strings: &[u8],
@@ -63,7 +63,7 @@ fn file_of(
 }
 
 /// Why both `read_mo` and `check` refuse bytes, or `None` if they accept them.
-fn refusal(alloc: Global, bytes: &[u8]) -> Option<MoFault> {
+pub(crate) fn refusal(alloc: Global, bytes: &[u8]) -> Option<MoFault> {
     let fault = read_mo(alloc, bytes).err();
     if check(alloc, bytes).err() == fault {
         fault
