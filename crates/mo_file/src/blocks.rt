@@ -14,7 +14,8 @@ use std::hash::{FoldHasher, Hasher};
 /// How far behind the place of its least hash a block ends. No block but the last is shorter.
 const WINDOW: usize = 256;
 
-/// An odd number with its bits well mixed, by which bytes are hashed. The hash at a place is made of the 64 bytes before.
+/// An odd number with its bits well mixed, by which bytes are hashed. The hash at a place is made of the 64 bytes
+/// before it.
 const MULTIPLIER: u64 = 0x9e37_79b9_7f4a_7c15;
 
 /// The number of slots for each block in the table of their bytes.
@@ -205,8 +206,8 @@ impl Blocks {
         Some(Alike { distance, from, to })
     }
 
-    /// Returns a part behind this place that is repeated `distance` bytes further on: whole blocks that are cut alike in
-    /// both copies and have the same numbers.
+    /// Returns a part behind this place that is repeated `distance` bytes further on: whole blocks that are cut alike
+    /// in both copies and have the same numbers.
     pub(crate) fn alike(&self, place: usize, distance: usize) -> Option<Alike>
         ensures { (bytes : List ℕ) → AreBlocks bytes self.now
             → IfSome result (λ a. IsAlike bytes a × (a.distance ≡ distance)) }

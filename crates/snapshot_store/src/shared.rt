@@ -161,8 +161,8 @@ impl Shared {
         None
     }
 
-    /// Empties the slots of these bits, and returns the bits of those in which someone is copying. Such a slot keeps its
-    /// version until a later publish.
+    /// Empties the slots of these bits, and returns the bits of those in which someone is copying. Such a slot keeps
+    /// its version until a later publish.
     pub(crate) fn empty_each(&self, slots: u64) -> u64 {
         let mut left = slots;
         for at in 0..SLOTS {

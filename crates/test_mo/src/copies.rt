@@ -1,5 +1,5 @@
-//! Files whose originals are the ends of many copies of one text, at irregular places: each two copies are compared, and
-//! no comparison answers for another. The expected results follow from how the texts are made.
+//! Files whose originals are the ends of many copies of one text, at irregular places: each two copies are compared,
+//! and no comparison answers for another. The expected results follow from how the texts are made.
 use crate::overlaps::{Pair, Place, file_of, refusal};
 use mo_file::MoFault;
 use std::alloc::{AllocError, Global};
