@@ -1,4 +1,4 @@
-//! Lists of languages that are looked at once. The expected values were written by hand, from the rules of GNU gettext's
+//! Lists of languages that are looked at once. The expected values were written by hand, from the rules of the GNU
 //! manual ("The LANGUAGE variable", "Locale Names").
 use crate::sets::{HALLO, MENU, POLISH, SALUT, loaded, put, set_of};
 use live_set::CatalogueSet;
