@@ -69,17 +69,23 @@ pub(crate) fn home(hash: u32, spread: usize) -> usize
     (u64::from(hash).wrapping_mul(spread as u64) >> 32) as usize
 }
 
-/// Returns the slot of this hash among `REACH` slots. It compares every slot, so that no branch waits for memory.
+/// Counts the slots with hashes below the bound. It compares every slot, so that no branch waits for memory.
+#[inline(always)]
+fn count_below(slots: &[Slot], bound: u32) -> usize {
+    let mut below: usize = 0;
+    'slots: for slot in slots {
+        below = below.wrapping_add(usize::from(slot.hash < bound));
+    }
+    below
+}
+
+/// Returns the slot of this hash among `REACH` slots.
 #[inline(always)]
 fn slot_in(near: &[Slot; REACH], hash: u32) -> Option<&Slot>
     ensures some { IfSome result (λ slot. Contains near.now slot.now) }
     ensures hash { IfSome result (λ slot. slot.now.hash ≡ hash) }
 {
-    let mut before: usize = 0;
-    'slots: for slot in near {
-        before = before.wrapping_add(usize::from(slot.hash < hash));
-    }
-    let slot = near.get(before)?;
+    let slot = near.get(count_below(near, hash))?;
     if slot.hash == hash { Some(slot) } else { None }
 }
 
@@ -137,12 +143,14 @@ impl SlotTable {
     }
 
     /// Counts the slots with hashes below the bound, if the last of them is near `place`.
+    #[inline(always)]
     fn cut_near(&self, bound: u32, place: usize) -> Option<usize>
         ensures { IfSome result (λ cut. IsCut self.now bound cut) }
     {
         let end = place.saturating_add(REACH).min(self.slots.len());
         let start = place.saturating_sub(REACH).min(end);
-        let cut = start + self.slots[start..end].partition_point(|slot| slot.hash < bound);
+        let cut = start.saturating_add(count_below(&self.slots[start..end], bound));
+        let cut = cut.min(self.slots.len());
         if self.is_below(bound, cut) && self.is_above(bound, cut) {
             Some(cut)
         } else {
