@@ -4,7 +4,6 @@ pub mod Finding
 pub mod Slotting
 pub mod Folding
 pub mod Latest
-pub mod Keeping
 pub mod Listing
 pub mod Running
 pub mod Placing

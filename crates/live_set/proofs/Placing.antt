@@ -1,5 +1,5 @@
 -- The places that a list of languages names answer as the list does.
-use Rattle.std.proofs.Common.{◌≡◌, ℕ, ◌+◌, ◌-◌, ◌≤◌, true, false, cond, List, [], ◌∷◌, ◌++◌}
+use Rattle.std.proofs.Common.{◌≡◌, ℕ, ◌+◌, ◌≤◌, true, cond, List, [], ◌∷◌, ◌++◌}
 use Rattle.std.proofs.Common.{length, map, flat_map, take, slice_get, find, Option, Some, None}
 use Rattle.std.proofs.Common.{is_some, refl, sym, ap, subst, ◌∙◌, arith, inl, inr}
 use Rattle.std.specs.Option.{option_map_or}
@@ -7,7 +7,7 @@ use Rattle.std.specs.List.{cons_option}
 use Rattle.std.proofs.lemmas.Bool.{cases_lt, false≢true}
 use Rattle.std.proofs.lemmas.List.{append-nil, append_assoc, map-append, length-append}
 use Rattle.catalogue.specs.Entry.{Entry}
-use Rattle.live_set.specs.Asks.{has_key, map_with}
+use Rattle.live_set.specs.Asks.{has_key, map_with, maps_named}
 use Rattle.live_set.specs.Languages.{members, locales_of, named}
 use Rattle.live_set.specs.Loads.{LoadValue, is_for, map_or_empty}
 use Rattle.live_set.specs.SetPlaces.{IsListed, listed, loads_of, loads_named, map_among, map_at, most_places}
@@ -52,14 +52,18 @@ module _ (held : List LoadValue) (domain : List ℕ) where
   maps_of [] = refl
   maps_of (l ∷ ls) = ap (λ ms. l.map ∷ ms) (maps_of ls)
 
+  -- a search at the places finds what one of the maps that the list names finds
+  pub same_search : (ps : List ℕ) (languages key : List ℕ)
+      → map (slice_get held) ps ≡ map (λ l. Some l) (loads_named held domain languages)
+      → find (has_key key) (map (map_at held) ps) ≡ find (has_key key) (maps_named (map_in held) domain languages)
+  same_search ps languages key same = ap (find (has_key key))
+      (maps_at ps ∙ ap (map map_or_empty) same ∙ maps_of (loads_named held domain languages))
+      ∙ sym (search_same key (named languages))
+
   same_answers : (ps : List ℕ) (languages key : List ℕ)
       → map (slice_get held) ps ≡ map (λ l. Some l) (loads_named held domain languages)
       → map_among held ps key ≡ map_with (map_in held) domain languages key
-  same_answers ps languages key same =
-      let maps : map (map_at held) ps ≡ map (λ l. l.map) (loads_named held domain languages) =
-      maps_at ps ∙ ap (map map_or_empty) same ∙ maps_of (loads_named held domain languages) in
-      ap (λ ms. option_map_or (λ m. m) (find (has_key key) ms) []) maps
-      ∙ sym (ap (λ o. option_map_or (λ m. m) o []) (search_same key (named languages)))
+  same_answers ps languages key same = ap (λ o. option_map_or (λ m. m) o []) (same_search ps languages key same)
 
   -- ---- places added one locale after another
 

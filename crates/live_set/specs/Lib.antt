@@ -4,7 +4,6 @@ pub mod Laws
 pub mod Languages
 pub mod Asks
 pub mod FirstFound
-pub mod KeptMaps
 pub mod Slots
 pub mod LoadRuns
 pub mod Sets

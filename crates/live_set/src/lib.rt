@@ -1,7 +1,6 @@
 //! Sets of catalogues: for each text domain and locale the catalogue that was loaded last.
 #![tactic(auto)]
 
-mod kept;
 mod languages;
 mod law;
 mod listed;

@@ -1,18 +1,14 @@
 //! The catalogues that a list of languages names, looked at once for many look-ups.
-ghost use Rattle.std.specs.Prelude.{◌≡◌, ◌∷◌, [], true, map, option_map, IfSome};
+ghost use Rattle.std.specs.Prelude.{◌≡◌, option_map};
 ghost use Rattle.catalogue.specs.Entry.{key_bytes};
 ghost use Rattle.catalogue.specs.Map.{entry_at};
 ghost use Rattle.catalogue.specs.Value.{IsTranslatedClosed};
 ghost use Rattle.live_set.specs.Asks.{HasFirstValue, Plain, Context, Number, ContextNumber, first_with, maps_named};
 ghost use Rattle.live_set.specs.FirstFound.{IsFoundIn};
-ghost use Rattle.live_set.specs.KeptMaps.{AddsMaps, FindSame};
-ghost use Rattle.live_set.specs.Languages.{locales_of};
 ghost use Rattle.live_set.specs.Sets.{map_in};
 
-use crate::CatalogueSet;
-use crate::kept::KeptCatalogues;
-use crate::languages::{Found, counted, first_form, first_member, key_of, language_of};
-use byte_text::TextKey;
+use crate::languages::{Found, counted, first_form, key_of};
+use crate::{CatalogueSet, MOST_PLACES, Places};
 use catalogue::AskedKey;
 use std::marker::Model;
 
@@ -25,23 +21,22 @@ pub struct Languages<'a> {
     set: &'a CatalogueSet,
     domain: &'a str,
     languages: &'a str,
-    /// The catalogues, without those that the set doesn't have. `None` if there are too many.
-    kept: Option<KeptCatalogues<'a>>,
+    /// The places of the catalogues in the set, without those that it doesn't have.
+    places: Places,
 }
 
 impl<'a> Model for Languages<'a> {
-    ghost use Rattle.std.specs.Prelude.{List, IfSome};
+    ghost use Rattle.std.specs.Prelude.{List};
     ghost use Rattle.catalogue.specs.Entry.{Entry};
     ghost use Rattle.live_set.specs.Asks.{maps_named};
-    ghost use Rattle.live_set.specs.KeptMaps.{FindSame};
+    ghost use Rattle.live_set.specs.SetPlaces.{IsListed};
     ghost use Rattle.live_set.specs.Sets.{map_in};
 
     ghost Value = { List (List Entry) };
 
     ghost view = { λ l. maps_named (map_in l.set.now.held) l.domain.now l.languages.now };
 
-    ghost invariant = { λ l. IfSome l.kept (λ kept. FindSame kept
-        (maps_named (map_in l.set.now.held) l.domain.now l.languages.now)) };
+    ghost invariant = { λ l. IsListed l.set.now.held l.domain.now l.languages.now l.places };
 }
 
 impl CatalogueSet {
@@ -55,57 +50,7 @@ impl CatalogueSet {
             set: self,
             domain,
             languages,
-            kept: self.kept(&TextKey::new(domain), languages),
-        }
-    }
-
-    /// Keeps the catalogues that a list names. `None` if there are too many.
-    fn kept<'a>(&'a self, domain: &TextKey<'_>, languages: &str) -> Option<KeptCatalogues<'a>>
-        ensures { IfSome result (λ kept. FindSame kept (maps_named (map_in self.now.held) domain.now languages.now)) }
-    {
-        let mut kept = KeptCatalogues::new();
-        let mut rest = languages;
-        'members: while let Some((member, others)) = first_member(rest) {
-            if !self.keep_member(&mut kept, domain, member) {
-                return None;
-            }
-            rest = others;
-        }
-        Some(kept)
-    }
-
-    /// Keeps the catalogues of a member of a list: those of the locale and of its language. Returns whether there was
-    /// room.
-    fn keep_member<'a>(
-        &'a self,
-        kept: &mut KeptCatalogues<'a>,
-        domain: &TextKey<'_>,
-        member: &str,
-    ) -> bool
-        ensures { result ≡ true → AddsMaps kept.old (map (map_in self.now.held domain.now) (locales_of member.now))
-            kept.new }
-    {
-        if !self.keep_locale(kept, domain, member) {
-            return false;
-        }
-        match language_of(member) {
-            Some(language) => self.keep_locale(kept, domain, language),
-            None => true,
-        }
-    }
-
-    /// Keeps the catalogue for a domain and a locale, if there is one. Returns whether there was room.
-    fn keep_locale<'a>(
-        &'a self,
-        kept: &mut KeptCatalogues<'a>,
-        domain: &TextKey<'_>,
-        locale: &str,
-    ) -> bool
-        ensures { result ≡ true → AddsMaps kept.old (map_in self.now.held domain.now locale.now ∷ []) kept.new }
-    {
-        match self.catalogue(domain, locale) {
-            Some(catalogue) => kept.push(catalogue),
-            None => true,
+            places: self.places(domain, languages),
         }
     }
 }
@@ -116,10 +61,12 @@ impl<'a> Languages<'a> {
     fn find(&self, key: &AskedKey<'_>) -> Option<Found<'a>>
         ensures { IsFoundIn key.now self.now result }
     {
-        match &self.kept {
-            Some(kept) => kept.find(key),
-            None => self.set.find_by_key(self.domain, self.languages, key),
+        let count = self.places.count;
+        if count > MOST_PLACES {
+            return self.set.find_by_key(self.domain, self.languages, key);
         }
+        let places = &self.places.places[..count as usize];
+        self.set.find_in_places(places, key)
     }
 
     /// The translation of a msgid, as `CatalogueSet::gettext` gives it.

@@ -11,6 +11,7 @@ ghost use Rattle.live_set.specs.Placing.{IsExtended, IsPushed};
 use crate::CatalogueSet;
 use crate::languages::{Found, first_member, language_of};
 use byte_text::TextKey;
+use catalogue::AskedKey;
 
 /// The most places that a list has.
 pub const MOST_PLACES: u32 = 16;
@@ -100,25 +101,23 @@ impl CatalogueSet {
         }
     }
 
-    /// The entry with this context and msgid in the catalogue at a place.
+    /// The entry with this key in the catalogue at a place.
     #[inline(always)]
-    fn find_in_place(&self, place: u32, context: Option<&[u8]>, id: &[u8]) -> Option<Found<'_>>
-        ensures { IsFoundIn (key_bytes (option_map (λ s. s.now) context.entry) id.now)
-            (map_at self.now.held place ∷ []) result }
+    fn find_in_place(&self, place: u32, key: &AskedKey<'_>) -> Option<Found<'_>>
+        ensures { IsFoundIn key.now (map_at self.now.held place ∷ []) result }
     {
         let catalogue = self.catalogue_at(place as usize)?;
-        let entry = catalogue.find_bytes(context, id)?;
+        let entry = catalogue.find_asked(key)?;
         Some((catalogue, entry))
     }
 
-    /// Like `find_in_place`, at the first of these places that has the message.
+    /// Like `find_in_place`, at the first of these places that has the key.
     #[inline(always)]
-    fn find_in_places(&self, places: &[u32], context: Option<&[u8]>, id: &[u8]) -> Option<Found<'_>>
-        ensures { IsFoundIn (key_bytes (option_map (λ s. s.now) context.entry) id.now)
-            (map (map_at self.now.held) places.now) result }
+    pub(crate) fn find_in_places(&self, places: &[u32], key: &AskedKey<'_>) -> Option<Found<'_>>
+        ensures { IsFoundIn key.now (map (map_at self.now.held) places.now) result }
     {
         'places: for place in places {
-            if let Some(found) = self.find_in_place(*place, context, id) {
+            if let Some(found) = self.find_in_place(*place, key) {
                 return Some(found);
             }
         }
@@ -138,7 +137,8 @@ impl CatalogueSet {
             let m = map_among self.now.held places.now key in
             IsTranslatedClosed m (entry_at m key) n (option_map (λ s. s.now) result) }
     {
-        let (catalogue, entry) = self.find_in_places(places, context, id)?;
+        let key = AskedKey::new(context, id);
+        let (catalogue, entry) = self.find_in_places(places, &key)?;
         Some(catalogue.closed_form_for(&entry, n))
     }
 }
