@@ -60,6 +60,8 @@ IMPORT = re.compile(r"^ *ghost use Rattle\.(\w+)\.specs\.(\w+)(?:\.\{([^}]*)\}| 
 PUBLIC_FUNCTION = re.compile(r"^( *)pub (?:const |unsafe )*fn (\w+)", re.M)
 CLAUSE = re.compile(r"^ *(?:requires|ensures)\b", re.M)
 WORD = re.compile(r"[^\s(){}\[\],;.]+")
+GLOSSARY, CHANGELOG = Path("docs/internals/glossary.md"), Path("CHANGELOG.md")
+RETIRED = re.compile(r"^- ([^:]+): say ", re.M)
 PATH_OF_A_MACHINE = re.compile(r"(?<![\w.*}])/(?:work|opt|farm|home|root)/")
 CITATION = re.compile(
     r"\[paper\]|\bpaper (?:says|wants|asks)\b|\b(?:rung|row|request|requirement|demand) (?:no\. ?)?[0-9]+", re.I
@@ -226,19 +228,19 @@ def wide_lines_of_proofs():
     return wide_lines("proofs")
 
 
-def texts():
-    """Each tracked file that is UTF-8, but for the file that has the patterns."""
+def texts(*but):
+    """Each tracked file that is UTF-8, but for the file that has the patterns, and these."""
     for path in tracked():
-        if path != Path("tests/style.py"):
+        if path not in (Path("tests/style.py"), *but):
             try:
                 yield path, read(path)
             except UnicodeDecodeError:
                 pass
 
 
-def found_in_texts(pattern):
+def found_in_texts(pattern, *but):
     findings = []
-    for path, text in texts():
+    for path, text in texts(*but):
         for number, line in enumerate(text.split("\n"), 1):
             if found := pattern.search(line):
                 findings.append(f"{path}:{number}: {found[0]}")
@@ -255,6 +257,13 @@ def citations():
     return found_in_texts(CITATION)
 
 
+def retired_words():
+    """no file has a word that the glossary has retired"""
+    _, _, listed = read(GLOSSARY).partition("\n## Retired words\n")
+    words = [word for line in RETIRED.findall(listed) for word in line.split(", ")]
+    return found_in_texts(re.compile(rf"\b(?:{'|'.join(map(re.escape, words))})\b"), GLOSSARY, CHANGELOG)
+
+
 RULES = (
     files_without_sentence,
     files_without_section,
@@ -267,6 +276,7 @@ RULES = (
     wide_lines_of_proofs,
     paths_of_a_machine,
     citations,
+    retired_words,
 )
 
 
