@@ -15,6 +15,7 @@ const COPIED: u32 = 20_000;
 const MARKED: u32 = 16;
 
 /// Letters in no order that repeats itself.
+#[derive(Drop)]
 struct Letters {
     state: u64,
 }
@@ -42,7 +43,7 @@ impl Letters {
 /// Appends two bytes that rise with the number.
 fn push_mark(text: &mut Vec<u8>, number: u32) -> Result<(), AllocError> {
     text.push(((number / 26 % 26) as u8).wrapping_add(b'A'))?;
-    text.push(((number % 26) as u8).wrapping_add(b'A'))
+    Ok(text.push(((number % 26) as u8).wrapping_add(b'A'))?)
 }
 
 /// Returns the text that is copied: marks that rise, with letters between them.
@@ -56,13 +57,14 @@ fn copied(alloc: Global, letters: &mut Letters) -> Result<Vec<u8>, AllocError> {
 }
 
 /// The strings of a file, and where the copies begin in them.
+#[derive(Drop)]
 struct Copies {
     strings: Vec<u8>,
     starts: Vec<u32>,
 }
 
 /// Makes the copies, with letters between them, and a NUL at the end.
-fn copies(alloc: Global) -> Result<Copies, AllocError> {
+fn make_copies(alloc: Global) -> Result<Copies, AllocError> {
     let mut letters = Letters { state: 5 };
     let text = copied(alloc, &mut letters)?;
     let mut strings = Vec::new(alloc);
@@ -113,7 +115,7 @@ fn refusal_of(
     place: u32,
     byte: Option<u8>,
 ) -> Result<Option<MoFault>, AllocError> {
-    let mut copies = copies(alloc)?;
+    let mut copies = make_copies(alloc)?;
     let pairs = pairs(alloc, &copies)?;
     let begin = copies.starts.get(copy).copied().unwrap_or(0);
     let place = begin.wrapping_add(place) as usize;
