@@ -1,13 +1,14 @@
 -- The set and the version after one more batch.
 use Rattle.std.proofs.Common.{◌≡◌, ◌≢◌, ◌+◌, ◌∷◌, ◌++◌, [], List, length, fold, sym, refl, ap, ◌∙◌}
-use Rattle.std.proofs.lemmas.List.{append-nil}
+use Rattle.std.proofs.lemmas.List.{append-nil, append_assoc}
 use Rattle.live_set.specs.Loads.{LoadValue}
 use Rattle.live_set.specs.Sets.{SetValue, absorbed}
 use Rattle.live_set.specs.Sets.{fold as fold_of}
 use Rattle.live_set.proofs.Folding.{map_in-fold}
 use Rattle.live_versions.specs.Batches.{joined, version_of, published}
-use Rattle.live_versions.proofs.Joining.{joined-append, fold-append_of, version-published}
+use Rattle.live_versions.proofs.Joining.{joined-append, fold-append_of, version-add}
 use Rattle.snapshot_store.specs.Holding.{IsSetOf}
+use Rattle.snapshot_store.specs.Lacking.{Lacks}
 
 -- the loads of one more batch
 pub joined_add : (v : List (List LoadValue)) (batch : List LoadValue) → joined (v ++ batch ∷ []) ≡ joined v ++ batch
@@ -31,7 +32,28 @@ pub published_some : (v : List (List LoadValue)) (loads : List LoadValue) → lo
 published_some v [] some = absurd (some refl)
 published_some v (x ∷ xs) some = refl
 
--- the version after a publish
-pub version_published : (v : List (List LoadValue)) (loads : List LoadValue) → version_of (published v loads)
-    ≡ version_of v + length loads
-version_published = version-published
+-- the version after one more batch
+pub version_added : (v : List (List LoadValue)) (batch : List LoadValue) → version_of (v ++ batch ∷ [])
+    ≡ version_of v + length batch
+version_added = version-add
+
+-- the set of an older version with all the loads that it lacks
+pub set_with : (v : List (List LoadValue)) (a b : List LoadValue) → fold absorbed
+    (fold absorbed (fold_of (joined v)) a) b ≡ fold_of (joined v ++ (a ++ b))
+set_with v a b = ap (λ s. fold absorbed s b) (sym (fold-append_of (joined v) a))
+    ∙ (sym (fold-append_of (joined v ++ a) b) ∙ ap fold_of (append_assoc (joined v) a b))
+
+-- the version so far lacks the batch of the next one
+pub lacks_batch : (v : List (List LoadValue)) (batch : List LoadValue) → Lacks v batch (v ++ batch ∷ [])
+lacks_batch v batch = joined_add v batch
+
+-- a version before it lacks that batch, too
+pub lacks_both : (u v : List (List LoadValue)) (older batch : List LoadValue) → Lacks u older v
+    → fold_of (joined u ++ (older ++ batch)) ≡ fold_of (joined (v ++ batch ∷ []))
+lacks_both u v older batch is = ap fold_of (sym (append_assoc (joined u) older batch) ∙ (ap (λ l. l ++ batch) (sym is)
+    ∙ sym (joined_add v batch)))
+
+-- the set of a version with all the loads that it lacks
+pub lacks_one : (u v : List (List LoadValue)) (none loads : List LoadValue) → none ≡ [] → Lacks u loads v
+    → fold_of (joined u ++ (none ++ loads)) ≡ fold_of (joined v)
+lacks_one u v none loads empty is = rw empty (ap fold_of (sym is))

@@ -1,2 +1,3 @@
 pub mod SlotBook
 pub mod Holding
+pub mod Lacking

@@ -18,6 +18,7 @@ mod publisher;
 mod reader;
 mod shared;
 mod version;
+mod versions;
 
 pub use fault::{OpenFault, PublishFault};
 pub use notice::Notice;

@@ -1,24 +1,24 @@
 //! The publisher: what it loads is pending until it publishes.
-ghost use Rattle.std.specs.Prelude.{◌≡◌, ◌≢◌, ◌↔◌, ◌/◌, [], length, MatchBool, IsTrue, IfOk, IfErr, OnOk, OnErr};
+ghost use Rattle.std.specs.Prelude.{◌≡◌, ◌≢◌, ◌↔◌, ◌/◌, ◌++◌, ◌∷◌, [], length, MatchBool, IsTrue, IfOk, IfErr, OnOk, OnErr};
 ghost use Rattle.std.specs.Arc.{arc_value};
 ghost use Rattle.live_versions.specs.Batches.{version_of, published};
 ghost use Rattle.live_versions.specs.Loading.{IsUnread};
 ghost use Rattle.live_versions.specs.Store.{AreNames, HasRoom, IsWithin, AddsLoad, IsRefusedFor};
 ghost use Rattle.snapshot_store.specs.Holding.{holding, IsRefusedShared};
 
-use crate::book::{Known, Seen, open_book, show};
+use crate::book::{Head, Known, Seen, open_book, show};
 use crate::fault::{OpenFault, PublishFault};
 use crate::notice::Notice;
 use crate::reader::Reader;
 use crate::shared::{Held, LAST, SLOTS, Shared, bit_of};
 use crate::version::Version;
+use crate::versions::Versions;
 use catalogue::Catalogue;
 use counted_slot::{FREE, PRESENT};
 use live_set::{Load, Name, is_name};
 use live_versions::StoreFault;
 use std::alloc::{AllocError, Global};
 use std::marker::Model;
-use std::mem::replace;
 use std::sync::Arc;
 
 /// The number of loads that a store takes.
@@ -28,8 +28,10 @@ const MOST: u64 = 0x3ff_ffff_ffff_ffff;
 /// loads that it may accept in all.
 #[derive(Drop)]
 pub struct Publisher {
+    /// The word by which batches are made. Readers never look at it, so it isn't among what they share.
+    head: Head,
     shared: Arc<Shared>,
-    version: Arc<Version>,
+    versions: Versions,
     /// The empty beginning of the store's book.
     beginning: Seen,
     /// The slot of the version that is shown.
@@ -40,8 +42,6 @@ pub struct Publisher {
     word: u64,
     known: Known,
     pending: Vec<Load>,
-    /// Versions that were shown before, which someone else may still have.
-    retired: Vec<Arc<Version>>,
 }
 
 impl Model for Publisher {
@@ -53,12 +53,13 @@ impl Model for Publisher {
 
     ghost Value = { StoreValue };
 
-    ghost view = { λ p. holding (arc_value p.version) p.pending.items };
+    ghost view = { λ p. holding p.versions p.pending.items };
 
-    ghost invariant = { λ p. ((arc_value p.shared).head.word.book ≡ (arc_value p.version).book)
-        × (p.beginning.batches ≡ []) × (p.beginning.book ≡ (arc_value p.version).book)
-        × (p.word / 64 ≡ length (arc_value p.version).batches) × (p.known ≡ arc_value p.version)
-        × (version_of (arc_value p.version).batches + length p.pending.items ≤ most_loads) };
+    ghost invariant = { λ p. (p.head.word.book ≡ p.versions.book)
+        × ((arc_value p.shared).shown.word.book ≡ p.versions.book)
+        × (p.beginning.batches ≡ []) × (p.beginning.book ≡ p.versions.book)
+        × (p.word / 64 ≡ length p.versions.batches) × (p.known ≡ p.versions)
+        × (version_of p.versions.batches + length p.pending.items ≤ most_loads) };
 }
 
 /// Opens a store in which nothing is published.
@@ -66,22 +67,22 @@ pub fn open_store(alloc: Global) -> Result<Publisher, OpenFault>
     ensures { IfOk result (λ p. (p ≡ holding p.seen []) × (p.seen.batches ≡ [])) }
 {
     let (head, shown, beginning) = open_book();
-    let version = Arc::new(alloc, Version::first(alloc, &beginning))?;
+    let versions = Versions::first(alloc, &beginning)?;
     let shared = Arc::new(
         alloc,
-        Shared::new(alloc, head, shown, &beginning, &version)?,
+        Shared::new(alloc, shown, &beginning, versions.current())?,
     )?;
     let known = Known::first(&beginning);
     Ok(Publisher {
+        head,
         shared,
-        version,
+        versions,
         beginning,
         at: 0,
         full: 0,
         word: 0,
         known,
         pending: Vec::new(alloc),
-        retired: Vec::new(alloc),
     })
 }
 
@@ -123,7 +124,7 @@ impl Publisher {
         // Published and pending loads together never exceed what the store takes.
         ensures within { IsWithin self.now }
     {
-        self.version.version()
+        self.versions.current().version()
     }
 
     /// The number of pending loads: accepted and not yet published.
@@ -137,14 +138,14 @@ impl Publisher {
     /// The number of versions that were replaced and that a reader may still have. A publish frees those that nobody
     /// has.
     pub fn retained(&self) -> usize {
-        self.retired.len()
+        self.versions.retained()
     }
 
     /// A notice of what is published now.
     pub fn tell(&self) -> Notice
         ensures { result ≡ self.now.seen }
     {
-        Notice::new(self.version.version(), self.known.again())
+        Notice::new(self.versions.current().version(), self.known.again())
     }
 
     /// A reader of this store, in the version that was published last. Fails if there are 2^31 readers already.
@@ -152,7 +153,7 @@ impl Publisher {
         ensures { IfOk result (λ reader. reader ≡ self.now.seen) }
     {
         let shared = Arc::try_clone(&self.shared)?;
-        let version = Arc::try_clone(&self.version)?;
+        let version = Arc::try_clone(self.versions.current())?;
         Ok(Reader::new(shared, version, self.known.again()))
     }
 
@@ -161,7 +162,7 @@ impl Publisher {
         requires { reader.now.book ≡ self.now.seen.book }
         ensures { MatchBool result (reader.now ≡ self.now.seen) (reader.now ≢ self.now.seen) }
     {
-        self.version.seen().is_same(reader.seen())
+        self.versions.current().seen().is_same(reader.seen())
     }
 
     /// Checks that both are names and that the store takes one more load, and only then allocates the two names.
@@ -178,7 +179,7 @@ impl Publisher {
         if !are_names(domain, locale) {
             return Err(StoreFault::BadName);
         }
-        if MOST - self.version.version() <= self.pending.len() as u64 {
+        if MOST - self.versions.current().version() <= self.pending.len() as u64 {
             return Err(StoreFault::VersionsSpent);
         }
         Ok((name_of(alloc, domain)?, name_of(alloc, locale)?))
@@ -271,19 +272,19 @@ impl Publisher {
         ensures book { self.new.seen.book ≡ self.old.seen.book }
     {
         if self.pending.is_empty() {
-            return Ok(self.version.version());
+            return Ok(self.versions.current().version());
         }
-        let number = self.version.number() + 1;
+        let number = self.versions.current().number() + 1;
         if number >= LAST {
             return Err(PublishFault::Spent);
         }
         // Once the batch is in the book nothing may fail, so all memory is taken before.
-        let set = self.version.next_set(alloc, &self.pending)?;
+        let set = self.versions.next_set(alloc, &self.pending)?;
         let mut place = Arc::new(alloc, Version::first(alloc, &self.beginning))?;
         let Some((at, claim)) = self.shared.any_room(self.at) else {
             return Err(PublishFault::Busy);
         };
-        let Some(version) = self.version.next(&self.shared.head, &self.pending, set) else {
+        let Some(version) = self.versions.current().next(&self.head, &self.pending, set) else {
             drop(claim.put(None, FREE));
             return Err(PublishFault::Spent);
         };
@@ -302,34 +303,22 @@ impl Publisher {
         let replaced = (self.full | bit_of(self.at)) & !bit_of(at);
         self.full = self.shared.empty_each(replaced);
         self.at = at;
-        let was = self.turn(mine, number * SLOTS + at, known);
-        self.retire(was);
-        Ok(self.version.version())
+        self.turn(mine, number * SLOTS + at, known);
+        Ok(self.versions.current().version())
     }
 
     /// From now on this version is the one that is shown, and nothing is pending.
-    #[tactic(auto, using(crate::proofs::Growing::version_published))]
-    fn turn(&mut self, version: Arc<Version>, word: u64, known: Known) -> Arc<Version>
+    #[tactic(auto, using(crate::proofs::Growing::version_added))]
+    fn turn(&mut self, version: Arc<Version>, word: u64, known: Known)
         requires version { arc_value version ≡ record {
           book = self.old.seen.book;
-          batches = published self.old.seen.batches self.old.pending;
+          batches = self.old.seen.batches ++ self.old.pending ∷ [];
         } }
         requires known { (known ≡ arc_value version) × (word / 64 ≡ length (arc_value version).batches) }
         ensures { self.new ≡ holding (arc_value version) [] }
     {
         self.word = word;
         self.known = known;
-        self.pending.clear();
-        replace(&mut self.version, version)
-    }
-
-    /// Keeps a version that was shown until nobody else has it, so that no reader has to free it.
-    fn retire(&mut self, version: Arc<Version>)
-        ensures { self.new ≡ self.old }
-    {
-        // Where memory is refused for the list, the last reader frees the version.
-        drop(self.retired.push(version));
-        self.retired
-            .retain(|version| Arc::strong_count(version) > 1);
+        self.versions.advance(version, &mut self.pending);
     }
 }

@@ -30,13 +30,13 @@ impl Model for Reader {
 
     ghost view = { λ r. arc_value r.version };
 
-    ghost invariant = { λ r. ((arc_value r.shared).head.word.book ≡ (arc_value r.version).book)
+    ghost invariant = { λ r. ((arc_value r.shared).shown.word.book ≡ (arc_value r.version).book)
         × (r.known.book ≡ (arc_value r.version).book) };
 }
 
 impl Reader {
     pub(crate) fn new(shared: Arc<Shared>, version: Arc<Version>, known: Known) -> Reader
-        requires { ((arc_value shared).head.word.book ≡ (arc_value version).book)
+        requires { ((arc_value shared).shown.word.book ≡ (arc_value version).book)
             × (known.book ≡ (arc_value version).book) }
         ensures { result ≡ arc_value version }
     {

@@ -6,7 +6,7 @@ ghost use Rattle.std.specs.Prelude.{◌≡◌, ◌<◌, ◌≤◌, length, ◌*�
 ghost use Rattle.std.specs.Arc.{arc_value};
 ghost use Rattle.counted_slot.specs.Counting.{readers};
 
-use crate::book::{Head, Known, Seen, Shown, shown_after};
+use crate::book::{Known, Seen, Shown, shown_after};
 use crate::version::Version;
 use counted_slot::{Claim, Counted, FREE, Fits, MOST_READERS, ONE_READER, PRESENT, TAKEN};
 use std::alloc::{AllocError, Global};
@@ -14,6 +14,11 @@ use std::sync::Arc;
 
 /// With fewer readers than slots but one, a slot is always free for the publisher.
 pub(crate) const SLOTS: u64 = 64;
+
+/// How many slots a cache line of 64 bytes has, and how many such lines the slots take.
+const IN_A_LINE: u64 = 4;
+
+const LINES: u64 = SLOTS / IN_A_LINE;
 
 /// The greatest number of a version.
 pub(crate) const LAST: u64 = 0x3ff_ffff_ffff_ffff;
@@ -35,16 +40,21 @@ pub(crate) type Slot = Counted<Option<Held>>;
 
 #[derive(Drop)]
 pub(crate) struct Shared {
-    pub(crate) head: Head,
     pub(crate) shown: Shown,
     slots: Vec<Slot>,
-    pub ghost shown_book: { shown.word.book ≡ head.word.book },
-    pub ghost one_book: { All (λ tag. tag.book ≡ head.word.book) slots.items },
+    pub ghost one_book: { All (λ tag. tag.book ≡ shown.word.book) slots.items },
 }
 
 /// The bit of a slot, in a word that has one for each.
 pub(crate) fn bit_of(at: u64) -> u64 {
     1 << (at % SLOTS)
+}
+
+/// How far from a slot its 63 neighbours are, in the order in which a publish tries them: 4, 8, .., 60, 1, 5, .., 63.
+fn distance(turn: u64) -> u64
+    ensures { result < 64 }
+{
+    turn % LINES * IN_A_LINE + turn % SLOTS / LINES
 }
 
 fn readers_of(word: u64) -> u64
@@ -68,17 +78,16 @@ impl Shared {
     /// Slots of which the first one has this version, which is shown, and the others nothing.
     pub(crate) fn new(
         alloc: Global,
-        head: Head,
         shown: Shown,
         seen: &Seen,
         first: &Arc<Version>,
     ) -> Result<Shared, AllocError>
-        requires seen { (head.word.book ≡ seen.now.book) × (shown.word.book ≡ seen.now.book) }
-        requires first { (arc_value first.now).book ≡ head.word.book }
-        ensures { IfOk result (λ shared. shared.head ≡ head) }
+        requires seen { shown.word.book ≡ seen.now.book }
+        requires first { (arc_value first.now).book ≡ shown.word.book }
+        ensures { IfOk result (λ shared. shared.shown ≡ shown) }
     {
         let slots = new_slots(alloc, seen)?;
-        let shared = Shared { head, shown, slots };
+        let shared = Shared { shown, slots };
         let version = Arc::try_clone(first)?;
         let Some(claim) = shared.room(0) else {
             return Err(AllocError);
@@ -88,14 +97,14 @@ impl Shared {
     }
 
     fn slot(&self, at: u64) -> Option<&Slot>
-        ensures { IfSome result (λ slot. slot.now.book ≡ self.now.head.word.book) }
+        ensures { IfSome result (λ slot. slot.now.book ≡ self.now.shown.word.book) }
     {
         self.slots.get((at % SLOTS) as usize)
     }
 
     /// The right to write a slot, where no one is copying what is in it.
     fn room(&self, at: u64) -> Option<Claim<'_, Option<Held>>>
-        ensures { IfSome result (λ claim. (claim.right ≡ 2) × (claim.tag.book ≡ self.now.head.word.book)) }
+        ensures { IfSome result (λ claim. (claim.right ≡ 2) × (claim.tag.book ≡ self.now.shown.word.book)) }
     {
         let slot = self.slot(at)?;
         let seen = slot.load();
@@ -110,15 +119,15 @@ impl Shared {
         Some(claim)
     }
 
-    /// The right to write any slot but this one.
+    /// The right to write any slot but this one. Slots of other cache lines come first, so that who copies what is in
+    /// this slot isn't disturbed.
     pub(crate) fn any_room(&self, but: u64) -> Option<(u64, Claim<'_, Option<Held>>)>
-        ensures { IfSome result (λ r. (r.0 < 64) × (r.1.right ≡ 2) × (r.1.tag.book ≡ self.now.head.word.book)) }
+        ensures { IfSome result (λ r. (r.0 < 64) × (r.1.right ≡ 2) × (r.1.tag.book ≡ self.now.shown.word.book)) }
     {
-        for at in 0..SLOTS {
-            if at != but {
-                if let Some(claim) = self.room(at) {
-                    return Some((at, claim));
-                }
+        for turn in 1..SLOTS {
+            let at = (but % SLOTS + distance(turn)) % SLOTS;
+            if let Some(claim) = self.room(at) {
+                return Some((at, claim));
             }
         }
         None
@@ -126,7 +135,7 @@ impl Shared {
 
     /// A copy of what is in a slot, if something is.
     fn copy(&self, at: u64) -> Option<Arc<Version>>
-        ensures { IfSome result (λ version. (arc_value version).book ≡ self.now.head.word.book) }
+        ensures { IfSome result (λ version. (arc_value version).book ≡ self.now.shown.word.book) }
     {
         let slot = self.slot(at)?;
         for _ in 0..u64::MAX {
@@ -145,8 +154,8 @@ impl Shared {
 
     /// The version that is shown, which is not behind what is known. It gives up only where it failed very often.
     pub(crate) fn newest(&self, known: &Known) -> Option<Arc<Version>>
-        requires { known.now.book ≡ self.now.head.word.book }
-        ensures { IfSome result (λ version. ((arc_value version).book ≡ self.now.head.word.book)
+        requires { known.now.book ≡ self.now.shown.word.book }
+        ensures { IfSome result (λ version. ((arc_value version).book ≡ self.now.shown.word.book)
             × (length known.now.batches ≤ length (arc_value version).batches)) }
     {
         for _ in 0..u64::MAX {

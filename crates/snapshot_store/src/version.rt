@@ -31,12 +31,12 @@ impl Model for Version {
     ghost invariant = { λ v. (v.version ≡ version_of v.seen.batches) × (v.set ≡ fold (joined v.seen.batches)) };
 }
 
-/// The set with the loads of one more batch. It shares all catalogues with `set`.
-fn grown(alloc: Global, set: &CatalogueSet, batch: &Vec<Load>) -> Result<CatalogueSet, AllocError>
-    ensures { IfOk result (λ grown. grown ≡ fold absorbed set.now batch.now.items) }
+/// The set with these loads, one after another. It shares their catalogues.
+pub(crate) fn with_loads(set: CatalogueSet, loads: &Vec<Load>) -> Result<CatalogueSet, AllocError>
+    ensures { IfOk result (λ grown. grown ≡ fold absorbed set loads.now.items) }
 {
-    let mut grown = set.try_clone(alloc)?;
-    'loads: for load in batch {
+    let mut grown = set;
+    'loads: for load in loads {
         grown.absorb(load)?;
     }
     Ok(grown)
@@ -92,17 +92,18 @@ impl Version {
         self.seen.begins(&other.seen)
     }
 
-    /// The set of the next version. It shares all catalogues with this one's.
-    #[tactic(auto, using(crate::proofs::Growing::set_add))]
-    pub(crate) fn next_set(
-        &self,
-        alloc: Global,
-        batch: &Vec<Load>,
-    ) -> Result<CatalogueSet, AllocError>
-        ensures { IfOk result (λ set. set ≡ fold_of (joined (self.now.batches ++ batch.now.items ∷ []))) }
+    /// A copy of the set, which shares all catalogues with it.
+    pub(crate) fn copy_of_set(&self, alloc: Global) -> Result<CatalogueSet, AllocError>
+        ensures { IfOk result (λ set. set ≡ fold_of (joined self.now.batches)) }
     {
-        let set = grown(alloc, &self.set, batch)?;
-        Ok(set)
+        self.set.try_clone(alloc)
+    }
+
+    /// The set of a version that is needed no more.
+    pub(crate) fn into_set(self) -> CatalogueSet
+        ensures { result ≡ fold_of (joined self.batches) }
+    {
+        self.set
     }
 
     /// The next version, which has the batch and this set. Returns `None` if the book has moved on.
