@@ -48,6 +48,19 @@ pub same_locale : (domain locale : List ℕ) (l : LoadValue) → compared l (ask
 same_locale domain locale l h = slice_cmp-IsAntisymmetric nat_cmp-IsAntisymmetric l.locale locale
     (equal_parts (slice_cmp nat_cmp l.locale locale) (slice_cmp nat_cmp l.domain domain) h).0
 
+same_domain : (domain locale : List ℕ) (l : LoadValue) → compared l (asked domain locale) ≡ Equal
+    → l.domain ≡ domain
+same_domain domain locale l h = slice_cmp-IsAntisymmetric nat_cmp-IsAntisymmetric l.domain domain
+    (equal_parts (slice_cmp nat_cmp l.locale locale) (slice_cmp nat_cmp l.domain domain) h).1
+
+-- with the map of another load for its domain and locale it is that load
+pub with_map : (l other : LoadValue) → compared l (asked other.domain other.locale) ≡ Equal
+    → record { domain = l.domain; locale = l.locale; map = other.map } ≡ other
+with_map l other h =
+    let d = same_domain other.domain other.locale l h in
+    let e = same_locale other.domain other.locale l h in
+    λ i. record { domain = d i; locale = e i; map = other.map }
+
 pub for_tied : (domain locale : List ℕ) (l : LoadValue) → is_for domain locale l ≡ true
     → compared l (asked domain locale) ≡ Equal
 for_tied domain locale l h =

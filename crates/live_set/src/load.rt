@@ -1,5 +1,6 @@
 //! Loads: a catalogue with its domain and locale.
 ghost use Rattle.std.specs.Prelude.{◌≡◌, IfOk};
+ghost use Rattle.std.specs.Arc.{arc_value};
 ghost use Rattle.live_set.specs.Names.{IsName};
 ghost use Rattle.live_set.specs.Slots.{compared, asked};
 
@@ -63,6 +64,17 @@ impl Load {
         // Mentioning the name makes its invariant available to the proof.
         let _name = self.locale.as_str();
         &*self.catalogue
+    }
+
+    /// From now on the load is one of this catalogue.
+    pub(crate) fn replace_catalogue(&mut self, catalogue: Arc<Catalogue>)
+        ensures { self.new ≡ record {
+          domain = self.old.domain;
+          locale = self.old.locale;
+          map = arc_value catalogue;
+        } }
+    {
+        self.catalogue = catalogue;
     }
 
     /// Compares by locale first, since locales differ most, and then by domain.

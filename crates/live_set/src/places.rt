@@ -38,14 +38,6 @@ impl Places {
         }
     }
 
-    /// The places, or `None` if the list names more than `MOST_PLACES` catalogues.
-    pub fn listed(&self) -> Option<&[u32]>
-        ensures { MatchOption result (most_places < self.now.count)
-            (λ places. places.now ≡ listed self.now) }
-    {
-        self.places.get(..self.count as usize)
-    }
-
     /// Adds a place, if there is room and it isn't too large.
     fn push(&mut self, place: usize)
         ensures { IsPushed place self.old self.new }

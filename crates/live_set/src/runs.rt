@@ -12,6 +12,7 @@ use byte_text::TextKey;
 use std::alloc::{AllocError, Global};
 use std::cmp::Ordering;
 use std::marker::Model;
+use std::sync::Arc;
 
 /// A run is split before an insertion once it has this many loads.
 const RUN_LIMIT: usize = 128;
@@ -118,18 +119,20 @@ fn load_at(runs: &[Vec<Load>], place: usize) -> Option<&Load>
     None
 }
 
-/// Inserts a load into a run, replacing the one for its domain and locale if there is one.
-fn put_in(run: &mut Vec<Load>, load: Load) -> Result<(), AllocError>
+/// Inserts a copy of a load into a run. If the run has a load for its domain and locale, that one gets its catalogue, and
+/// keeps its own two names: whoever reads them in another set has their cache lines.
+fn put_in(run: &mut Vec<Load>, load: &Load) -> Result<(), AllocError>
     requires { Rises run.old.items }
-    ensures { MatchResult result (λ _. run.new.items ≡ slotted run.old.items load)
+    ensures { MatchResult result (λ _. run.new.items ≡ slotted run.old.items load.now)
         (λ _. run.new.items ≡ run.old.items) }
 {
     match slot(run, &load.domain(), &load.locale()) {
         Ok(at) => {
-            run[at] = load;
+            let catalogue = Arc::try_clone(&load.catalogue)?;
+            run[at].replace_catalogue(catalogue);
             Ok(())
         }
-        Err(at) => Ok(run.insert(at, load)?),
+        Err(at) => Ok(run.insert(at, load.try_clone()?)?),
     }
 }
 
@@ -214,12 +217,12 @@ impl LoadRuns {
         Ok(())
     }
 
-    /// Inserts a load, replacing the one for its domain and locale if there is one. If memory runs out, it fails and
-    /// the loads are unchanged.
-    pub(crate) fn put(&mut self, load: Load) -> Result<(), AllocError>
-        ensures { MatchResult result (λ _. self.new ≡ slotted self.old load) (λ _. self.new ≡ self.old) }
+    /// Inserts a copy of a load, replacing the one for its domain and locale if there is one. If memory runs out, it
+    /// fails and the loads are unchanged.
+    pub(crate) fn put(&mut self, load: &Load) -> Result<(), AllocError>
+        ensures { MatchResult result (λ _. self.new ≡ slotted self.old load.now) (λ _. self.new ≡ self.old) }
     {
-        self.make_room(&load)?;
+        self.make_room(load)?;
         match run_for(&self.later, &load.domain(), &load.locale()) {
             None => put_in(&mut self.first, load),
             Some(at) => put_in(&mut self.later[at], load),

@@ -88,7 +88,7 @@ impl CatalogueSet {
         // The result depends only on the old value and the load, so two copies stay equal.
         ensures value { OnOk result (self.new ≡ absorbed self.old load.now) }
     {
-        self.held.put(load.try_clone()?)?;
+        self.held.put(load)?;
         self.version = self.version.saturating_add(1);
         Ok(())
     }

@@ -1,6 +1,6 @@
 -- The set and the version after one more batch.
 use Rattle.std.proofs.Common.{◌≡◌, ◌≢◌, ◌+◌, ◌∷◌, ◌++◌, [], List, length, fold, sym, refl, ap, ◌∙◌}
-use Rattle.std.proofs.lemmas.List.{append-nil, append_assoc}
+use Rattle.std.proofs.lemmas.List.{append-nil}
 use Rattle.live_set.specs.Loads.{LoadValue}
 use Rattle.live_set.specs.Sets.{SetValue, absorbed}
 use Rattle.live_set.specs.Sets.{fold as fold_of}
@@ -37,23 +37,16 @@ pub version_added : (v : List (List LoadValue)) (batch : List LoadValue) → ver
     ≡ version_of v + length batch
 version_added = version-add
 
--- the set of an older version with all the loads that it lacks
-pub set_with : (v : List (List LoadValue)) (a b : List LoadValue) → fold absorbed
-    (fold absorbed (fold_of (joined v)) a) b ≡ fold_of (joined v ++ (a ++ b))
-set_with v a b = ap (λ s. fold absorbed s b) (sym (fold-append_of (joined v) a))
-    ∙ (sym (fold-append_of (joined v ++ a) b) ∙ ap fold_of (append_assoc (joined v) a b))
+-- the set of a version with more loads
+pub set_with : (v : List (List LoadValue)) (loads : List LoadValue) → fold absorbed (fold_of (joined v)) loads
+    ≡ fold_of (joined v ++ loads)
+set_with v loads = sym (fold-append_of (joined v) loads)
 
 -- the version so far lacks the batch of the next one
 pub lacks_batch : (v : List (List LoadValue)) (batch : List LoadValue) → Lacks v batch (v ++ batch ∷ [])
 lacks_batch v batch = joined_add v batch
 
--- a version before it lacks that batch, too
-pub lacks_both : (u v : List (List LoadValue)) (older batch : List LoadValue) → Lacks u older v
-    → fold_of (joined u ++ (older ++ batch)) ≡ fold_of (joined (v ++ batch ∷ []))
-lacks_both u v older batch is = ap fold_of (sym (append_assoc (joined u) older batch) ∙ (ap (λ l. l ++ batch) (sym is)
-    ∙ sym (joined_add v batch)))
-
 -- the set of a version with all the loads that it lacks
-pub lacks_one : (u v : List (List LoadValue)) (none loads : List LoadValue) → none ≡ [] → Lacks u loads v
-    → fold_of (joined u ++ (none ++ loads)) ≡ fold_of (joined v)
-lacks_one u v none loads empty is = rw empty (ap fold_of (sym is))
+pub lacks_none : (older newer : List (List LoadValue)) (loads : List LoadValue) → Lacks older loads newer
+    → fold_of (joined older ++ loads) ≡ fold_of (joined newer)
+lacks_none older newer loads is = ap fold_of (sym is)

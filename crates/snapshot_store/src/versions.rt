@@ -1,8 +1,8 @@
 //! The version that is published, those that it replaced, and a set that waits for the next publish.
 //!
 //! A publish needs a set of its own to add its loads to. It copies the published one only if it has no other: a set
-//! that nobody has any more is brought up to date instead. That takes the loads of a batch or two, and not all rows.
-ghost use Rattle.std.specs.Prelude.{◌≡◌, ◌++◌, ◌∷◌, [], IfErr, IfOk, IfSome};
+//! that nobody has any more is brought up to date instead. That takes the loads of a batch, and not all rows.
+ghost use Rattle.std.specs.Prelude.{◌≡◌, ◌++◌, ◌∷◌, [], IfOk, IfSome};
 ghost use Rattle.std.specs.Arc.{arc_value};
 ghost use Rattle.live_set.specs.Sets.{fold as fold_of};
 ghost use Rattle.live_versions.specs.Batches.{joined};
@@ -49,36 +49,15 @@ impl Model for Versions {
         × IfSome v.spare (λ set. set ≡ fold (joined (arc_value v.current).batches)) };
 }
 
-/// The set of a version, with the loads that it lacks. Returns `None` if memory runs out.
+/// The set of a version, with the loads that it lacks. Returns `None` if they are many, or memory runs out.
 #[tactic(auto, using(crate::proofs::Growing::set_with))]
-fn caught_up(version: Version, older: &Vec<Load>, newest: &Vec<Load>) -> Option<CatalogueSet>
-    ensures { IfSome result (λ set. set
-        ≡ fold_of (joined version.batches ++ (older.now.items ++ newest.now.items))) }
+fn caught_up(version: Version, loads: &Vec<Load>) -> Option<CatalogueSet>
+    ensures { IfSome result (λ set. set ≡ fold_of (joined version.batches ++ loads.now.items)) }
 {
-    let set = with_loads(version.into_set(), older).ok()?;
-    with_loads(set, newest).ok()
-}
-
-/// Frees a version that nobody else has, and gives it back if someone does. Its set is brought up to date by these
-/// loads and returned, if it is wanted and that is cheap.
-fn reused(
-    version: Arc<Version>,
-    older: &Vec<Load>,
-    newest: &Vec<Load>,
-    wanted: bool,
-) -> Result<Option<CatalogueSet>, Arc<Version>>
-    ensures set { IfOk result (λ spare. IfSome spare (λ set. set
-        ≡ fold_of (joined (arc_value version).batches ++ (older.now.items ++ newest.now.items)))) }
-    ensures shared { IfErr result (λ back. arc_value back ≡ arc_value version) }
-{
-    if Arc::strong_count(&version) > 1 {
-        return Err(version);
+    if loads.len() > MOST_LOADS {
+        return None;
     }
-    let version = Arc::try_unwrap(version)?;
-    if !wanted || older.len().saturating_add(newest.len()) > MOST_LOADS {
-        return Ok(None);
-    }
-    Ok(caught_up(version, older, newest))
+    with_loads(version.into_set(), loads).ok()
 }
 
 impl Versions {
@@ -110,6 +89,27 @@ impl Versions {
             .saturating_add(usize::from(self.last.is_some()))
     }
 
+    /// Frees the last version if nobody else has it. Its set is brought up to date and waits for the next publish.
+    #[tactic(auto, using(crate::proofs::Growing::lacks_none))]
+    fn reuse_last(&mut self)
+        ensures { self.new ≡ self.old }
+    {
+        let Some(last) = self.last.take() else {
+            return;
+        };
+        if Arc::strong_count(&last) > 1 {
+            self.last = Some(last);
+            return;
+        }
+        match Arc::try_unwrap(last) {
+            Ok(version) => {
+                self.spare = caught_up(version, &self.newest);
+                self.newest.clear();
+            }
+            Err(last) => self.last = Some(last),
+        }
+    }
+
     /// The set of the next version, which has this batch. It shares all other catalogues with the published one.
     #[tactic(auto, using(crate::proofs::Growing::set_add))]
     pub(crate) fn next_set(
@@ -120,6 +120,10 @@ impl Versions {
         ensures set { IfOk result (λ set. set ≡ fold_of (joined (self.old.batches ++ batch.now.items ∷ []))) }
         ensures unchanged { self.new ≡ self.old }
     {
+        // Readers that were in the last version when it was replaced have left it at their next entry.
+        if self.spare.is_none() {
+            self.reuse_last();
+        }
         let set = match self.spare.take() {
             Some(set) => set,
             None => self.current.copy_of_set(alloc)?,
@@ -129,7 +133,7 @@ impl Versions {
     }
 
     /// From now on this version is the published one: that so far, with the batch. The batch is left empty.
-    #[tactic(auto, using(crate::proofs::Growing::lacks_batch, crate::proofs::Growing::lacks_both, crate::proofs::Growing::lacks_one))]
+    #[tactic(auto, using(crate::proofs::Growing::lacks_batch))]
     pub(crate) fn advance(&mut self, version: Arc<Version>, batch: &mut Vec<Load>)
         requires { arc_value version ≡ record {
           book = self.old.book;
@@ -140,38 +144,14 @@ impl Versions {
     {
         let was = replace(&mut self.current, version);
         swap(&mut self.newest, batch);
-        let before = replace(&mut self.last, Some(was));
-        self.spare = None;
-        if let Some(before) = before {
-            match reused(before, batch, &self.newest, true) {
-                Ok(spare) => self.spare = spare,
-                // Where memory is refused for the list, the last reader frees the version.
-                Err(before) => drop(self.retired.push(before)),
-            }
-        }
         batch.clear();
-        self.free_last(batch);
+        self.spare = None;
+        if let Some(before) = replace(&mut self.last, Some(was)) {
+            // Where memory is refused for the list, the last reader frees the version.
+            drop(self.retired.push(before));
+        }
+        self.reuse_last();
         self.retired
             .retain(|version| Arc::strong_count(version) > 1);
-    }
-
-    /// Frees the last version if nobody else has it. Its set waits for the next publish, if no other does.
-    fn free_last(&mut self, none: &Vec<Load>)
-        requires { none.now.items ≡ [] }
-        ensures { self.new ≡ self.old }
-    {
-        let Some(last) = self.last.take() else {
-            return;
-        };
-        let wanted = self.spare.is_none();
-        match reused(last, none, &self.newest, wanted) {
-            Ok(spare) => {
-                self.newest.clear();
-                if wanted {
-                    self.spare = spare;
-                }
-            }
-            Err(last) => self.last = Some(last),
-        }
     }
 }

@@ -14,40 +14,40 @@ put_in-requires c = rises_front _ _ c.self.invariant.0
 pub invariant_of-self : goal.invariant_of-self
 invariant_of-self c =
     let now = c.self.inside in
-    let parted = parted_for items c.domain.result c.locale.result _ None c.args.load now.later.items c.domain.ensures
+    let parted = parted_for items c.domain.result c.locale.result _ None c.args.load.now now.later.items c.domain.ensures
     c.locale.ensures c.deref.ensures.value c.in-None.ensures.parted in
-    let put = put_first items c.args.load now.first.items now.later.items c.self.invariant.0 c.self.invariant.1 parted
+    let put = put_first items c.args.load.now now.first.items now.later.items c.self.invariant.0 c.self.invariant.1 parted
     c.put_in.new.run.items c.put_in.result c.put_in.ensures in
     (put.rises, c.self.invariant.1)
 
 pub returns-in-None : goal.returns-in-None
 returns-in-None c =
     let now = c.self.inside in
-    let parted = parted_for items c.domain.result c.locale.result _ None c.args.load now.later.items c.domain.ensures
+    let parted = parted_for items c.domain.result c.locale.result _ None c.args.load.now now.later.items c.domain.ensures
     c.locale.ensures c.deref.ensures.value c.in-None.ensures.parted in
-    let put = put_first items c.args.load now.first.items now.later.items c.self.invariant.0 c.self.invariant.1 parted
+    let put = put_first items c.args.load.now now.first.items now.later.items c.self.invariant.0 c.self.invariant.1 parted
     c.put_in.new.run.items c.put_in.result c.put_in.ensures in
-    subst (λ (old : List LoadValue). IsPut c.put_in.result c.args.load old
+    subst (λ (old : List LoadValue). IsPut c.put_in.result c.args.load.now old
     (c.put_in.new.run.items ++ flat_map items now.later.items)) (c.self.view_is ∙ c.make_room.ensures) put.is
 
 -- into a later one
 pub put_in-requires-in-Some : goal.put_in-requires-in-Some
 put_in-requires-in-Some c =
     let now = c.self.inside in
-    let parted = parted_for items c.domain.result c.locale.result _ (Some c.in-Some.at) c.args.load now.later.items
+    let parted = parted_for items c.domain.result c.locale.result _ (Some c.in-Some.at) c.args.load.now now.later.items
     c.domain.ensures c.locale.ensures c.deref.ensures.value c.in-Some.ensures.parted in
     let inside = within c.in-Some.at _ now.later.items c.deref.ensures.value c.in-Some.ensures.bound in
     subst (λ (run : Vec LoadValue Global). Rises run.items) (sym c.index_mut.ensures.value)
-    (later_rises items c.args.load.domain c.args.load.locale now.first.items now.later.items c.self.invariant.0
+    (later_rises items c.args.load.now.domain c.args.load.now.locale now.first.items now.later.items c.self.invariant.0
     c.self.invariant.1 c.in-Some.at inside parted c.index_mut.result.now)
 
 pub invariant_of-self-in-Some : goal.invariant_of-self-in-Some
 invariant_of-self-in-Some c =
     let now = c.self.inside in
-    let parted = parted_for items c.domain.result c.locale.result _ (Some c.in-Some.at) c.args.load now.later.items
+    let parted = parted_for items c.domain.result c.locale.result _ (Some c.in-Some.at) c.args.load.now now.later.items
     c.domain.ensures c.locale.ensures c.deref.ensures.value c.in-Some.ensures.parted in
     let inside = within c.in-Some.at _ now.later.items c.deref.ensures.value c.in-Some.ensures.bound in
-    let put = put_later items c.args.load now.first.items now.later.items c.self.invariant.0 c.self.invariant.1
+    let put = put_later items c.args.load.now now.first.items now.later.items c.self.invariant.0 c.self.invariant.1
     c.in-Some.at c.index_mut.result.now c.put_in-in-Some.new.run c.put_in-in-Some.result inside parted
     c.index_mut.ensures.value c.put_in-in-Some.ensures in
     (put.rises, put.has)
@@ -55,12 +55,12 @@ invariant_of-self-in-Some c =
 pub returns-in-Some : goal.returns-in-Some
 returns-in-Some c =
     let now = c.self.inside in
-    let parted = parted_for items c.domain.result c.locale.result _ (Some c.in-Some.at) c.args.load now.later.items
+    let parted = parted_for items c.domain.result c.locale.result _ (Some c.in-Some.at) c.args.load.now now.later.items
     c.domain.ensures c.locale.ensures c.deref.ensures.value c.in-Some.ensures.parted in
     let inside = within c.in-Some.at _ now.later.items c.deref.ensures.value c.in-Some.ensures.bound in
-    let put = put_later items c.args.load now.first.items now.later.items c.self.invariant.0 c.self.invariant.1
+    let put = put_later items c.args.load.now now.first.items now.later.items c.self.invariant.0 c.self.invariant.1
     c.in-Some.at c.index_mut.result.now c.put_in-in-Some.new.run c.put_in-in-Some.result inside parted
     c.index_mut.ensures.value c.put_in-in-Some.ensures in
-    subst (λ (old : List LoadValue). IsPut c.put_in-in-Some.result c.args.load old (now.first.items
+    subst (λ (old : List LoadValue). IsPut c.put_in-in-Some.result c.args.load.now old (now.first.items
     ++ flat_map items (set now.later.items c.in-Some.at c.put_in-in-Some.new.run)))
     (c.self.view_is ∙ c.make_room.ensures) put.is

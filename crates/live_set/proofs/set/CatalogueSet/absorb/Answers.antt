@@ -10,6 +10,3 @@ returns-clause-value c = search rules
 
 pub returns-in_err-put-clause-err : goal.returns-in_err-put-clause-err
 returns-in_err-put-clause-err c = search rules
-
-pub returns-in_err-try_clone-clause-err : goal.returns-in_err-try_clone-clause-err
-returns-in_err-try_clone-clause-err c = search rules
