@@ -300,8 +300,10 @@ impl Publisher {
         let Some(known) = show(&self.shared.shown, mine.seen(), self.word, at) else {
             return Err(PublishFault::Spent);
         };
-        let replaced = (self.full | bit_of(self.at)) & !bit_of(at);
-        self.full = self.shared.empty_each(replaced);
+        self.full = self.shared.empty_each(self.full & !bit_of(at));
+        if !self.shared.empty(self.at) {
+            self.full |= bit_of(self.at);
+        }
         self.at = at;
         self.turn(mine, number * SLOTS + at, known);
         Ok(self.versions.current().version())

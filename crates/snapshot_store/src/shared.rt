@@ -173,6 +173,9 @@ impl Shared {
     /// Empties the slots of these bits, and returns the bits of those in which someone is copying. Such a slot keeps
     /// its version until a later publish.
     pub(crate) fn empty_each(&self, slots: u64) -> u64 {
+        if slots == 0 {
+            return 0;
+        }
         let mut left = slots;
         for at in 0..SLOTS {
             if slots & bit_of(at) != 0 && self.empty(at) {
@@ -182,8 +185,8 @@ impl Shared {
         left
     }
 
-    /// Empties a slot, unless someone is copying what is in it.
-    fn empty(&self, at: u64) -> bool {
+    /// Empties a slot, unless someone is copying what is in it. Returns whether it did.
+    pub(crate) fn empty(&self, at: u64) -> bool {
         match self.room(at) {
             Some(claim) => {
                 drop(claim.put(None, FREE));
