@@ -1,6 +1,6 @@
 -- The set and the version after one more batch.
 use Rattle.std.proofs.Common.{◌≡◌, ◌≢◌, ◌+◌, ◌∷◌, ◌++◌, [], List, length, fold, sym, refl, ap, ◌∙◌}
-use Rattle.std.proofs.lemmas.List.{append-nil}
+use Rattle.std.proofs.lemmas.List.{append-nil, append_assoc}
 use Rattle.live_set.specs.Loads.{LoadValue}
 use Rattle.live_set.specs.Sets.{SetValue, absorbed}
 use Rattle.live_set.specs.Sets.{fold as fold_of}
@@ -37,16 +37,22 @@ pub version_added : (v : List (List LoadValue)) (batch : List LoadValue) → ver
     ≡ version_of v + length batch
 version_added = version-add
 
--- the set of a version with more loads
-pub set_with : (v : List (List LoadValue)) (loads : List LoadValue) → fold absorbed (fold_of (joined v)) loads
-    ≡ fold_of (joined v ++ loads)
-set_with v loads = sym (fold-append_of (joined v) loads)
-
 -- the version so far lacks the batch of the next one
 pub lacks_batch : (v : List (List LoadValue)) (batch : List LoadValue) → Lacks v batch (v ++ batch ∷ [])
 lacks_batch v batch = joined_add v batch
 
+-- a version before it lacks that batch, too
+pub lacks_both : (u v : List (List LoadValue)) (older batch : List LoadValue) → Lacks u older v
+    → Lacks u (older ++ batch) (v ++ batch ∷ [])
+lacks_both u v older batch is = joined_add v batch ∙ (ap (λ l. l ++ batch) is
+    ∙ append_assoc (joined u) older batch)
+
 -- the set of a version with all the loads that it lacks
-pub lacks_none : (older newer : List (List LoadValue)) (loads : List LoadValue) → Lacks older loads newer
-    → fold_of (joined older ++ loads) ≡ fold_of (joined newer)
-lacks_none older newer loads is = ap fold_of (sym is)
+pub set_of_last : (u v : List (List LoadValue)) (loads : List LoadValue) → Lacks u loads v
+    → fold absorbed (fold_of (joined u)) loads ≡ fold_of (joined v)
+set_of_last u v loads is = sym (fold-append_of (joined u) loads) ∙ ap fold_of (sym is)
+
+pub set_of_before : (u v : List (List LoadValue)) (older newest : List LoadValue) → Lacks u (older ++ newest) v
+    → fold absorbed (fold absorbed (fold_of (joined u)) older) newest ≡ fold_of (joined v)
+set_of_before u v older newest is = ap (λ s. fold absorbed s newest) (sym (fold-append_of (joined u) older))
+    ∙ (sym (fold-append_of (joined u ++ older) newest) ∙ ap fold_of (append_assoc (joined u) older newest ∙ sym is))

@@ -1,10 +1,10 @@
 //! The version that is published, those that it replaced, and a set that waits for the next publish.
 //!
 //! A publish needs a set of its own to add its loads to. It copies the published one only if it has no other: a set
-//! that nobody has any more is brought up to date instead. That takes the loads of a batch, and not all rows.
-ghost use Rattle.std.specs.Prelude.{◌≡◌, ◌++◌, ◌∷◌, [], IfOk, IfSome};
+//! that nobody has any more is brought up to date instead. That takes the loads of a batch or two, and not all rows.
+ghost use Rattle.std.specs.Prelude.{◌≡◌, ◌++◌, ◌∷◌, [], fold, IfErr, IfOk, IfSome};
 ghost use Rattle.std.specs.Arc.{arc_value};
-ghost use Rattle.live_set.specs.Sets.{fold as fold_of};
+ghost use Rattle.live_set.specs.Sets.{absorbed, fold as fold_of};
 ghost use Rattle.live_versions.specs.Batches.{joined};
 
 use crate::book::Seen;
@@ -24,8 +24,12 @@ pub(crate) struct Versions {
     current: Arc<Version>,
     /// The version that the current one replaced, if a reader may have it.
     last: Option<Arc<Version>>,
+    /// The version before the last one, if a reader may have it.
+    before: Option<Arc<Version>>,
     /// The loads that the last version lacks.
     newest: Vec<Load>,
+    /// The loads that the last version has, and the one before lacks.
+    older: Vec<Load>,
     /// A second set with all that is published, for the next version.
     spare: Option<CatalogueSet>,
     /// Older versions that a reader may have.
@@ -33,7 +37,7 @@ pub(crate) struct Versions {
 }
 
 impl Model for Versions {
-    ghost use Rattle.std.specs.Prelude.{◌≡◌, IfSome};
+    ghost use Rattle.std.specs.Prelude.{◌≡◌, ◌++◌, IfSome};
     ghost use Rattle.std.specs.Arc.{arc_value};
     ghost use Rattle.live_set.specs.Sets.{fold};
     ghost use Rattle.live_versions.specs.Batches.{joined};
@@ -46,18 +50,30 @@ impl Model for Versions {
 
     ghost invariant = { λ v.
         IfSome v.last (λ last. Lacks (arc_value last).batches v.newest.items (arc_value v.current).batches)
+        × IfSome v.before (λ before. Lacks (arc_value before).batches (v.older.items ++ v.newest.items)
+        (arc_value v.current).batches)
         × IfSome v.spare (λ set. set ≡ fold (joined (arc_value v.current).batches)) };
 }
 
-/// The set of a version, with the loads that it lacks. Returns `None` if they are many, or memory runs out.
-#[tactic(auto, using(crate::proofs::Growing::set_with))]
-fn caught_up(version: Version, loads: &Vec<Load>) -> Option<CatalogueSet>
-    ensures { IfSome result (λ set. set ≡ fold_of (joined version.batches ++ loads.now.items)) }
+/// The version, if nobody else has it, and else the reference to it.
+fn alone(version: Arc<Version>) -> Result<Version, Arc<Version>>
+    ensures ok { IfOk result (λ alone. alone ≡ arc_value version) }
+    ensures err { IfErr result (λ shared. arc_value shared ≡ arc_value version) }
+{
+    if Arc::strong_count(&version) > 1 {
+        return Err(version);
+    }
+    Arc::try_unwrap(version)
+}
+
+/// The set with more loads. Returns `None` if they are many, or if memory runs out.
+fn caught_up(set: CatalogueSet, loads: &Vec<Load>) -> Option<CatalogueSet>
+    ensures { IfSome result (λ more. more ≡ fold absorbed set loads.now.items) }
 {
     if loads.len() > MOST_LOADS {
         return None;
     }
-    with_loads(version.into_set(), loads).ok()
+    with_loads(set, loads).ok()
 }
 
 impl Versions {
@@ -69,7 +85,9 @@ impl Versions {
         Ok(Versions {
             current: Arc::new(alloc, Version::first(alloc, seen))?,
             last: None,
+            before: None,
             newest: Vec::new(alloc),
+            older: Vec::new(alloc),
             spare: None,
             retired: Vec::new(alloc),
         })
@@ -84,29 +102,66 @@ impl Versions {
 
     /// The number of replaced versions that a reader may still have.
     pub(crate) fn retained(&self) -> usize {
-        self.retired
-            .len()
-            .saturating_add(usize::from(self.last.is_some()))
+        let newer = usize::from(self.last.is_some()) + usize::from(self.before.is_some());
+        self.retired.len().saturating_add(newer)
     }
 
-    /// Frees the last version if nobody else has it. Its set is brought up to date and waits for the next publish.
-    #[tactic(auto, using(crate::proofs::Growing::lacks_none))]
+    /// Keeps a version until nobody else has it. Where memory is refused for the list, the last reader frees it.
+    fn retire(&mut self, version: Option<Arc<Version>>)
+        ensures { self.new ≡ self.old }
+    {
+        if let Some(version) = version {
+            drop(self.retired.push(version));
+        }
+    }
+
+    /// Brings the set of the last version up to date for the next publish, if nobody else has that version.
+    #[tactic(auto, using(crate::proofs::Growing::set_of_last))]
     fn reuse_last(&mut self)
         ensures { self.new ≡ self.old }
     {
         let Some(last) = self.last.take() else {
             return;
         };
-        if Arc::strong_count(&last) > 1 {
-            self.last = Some(last);
-            return;
-        }
-        match Arc::try_unwrap(last) {
+        match alone(last) {
             Ok(version) => {
-                self.spare = caught_up(version, &self.newest);
+                self.spare = caught_up(version.into_set(), &self.newest);
+                let before = self.before.take();
                 self.newest.clear();
+                self.older.clear();
+                self.retire(before);
             }
             Err(last) => self.last = Some(last),
+        }
+    }
+
+    /// The same with the version before the last one, which lacks two batches.
+    #[tactic(auto, using(crate::proofs::Growing::set_of_before))]
+    fn reuse_before(&mut self)
+        ensures { self.new ≡ self.old }
+    {
+        let Some(before) = self.before.take() else {
+            return;
+        };
+        match alone(before) {
+            Ok(version) => {
+                self.spare = match caught_up(version.into_set(), &self.older) {
+                    Some(set) => caught_up(set, &self.newest),
+                    None => None,
+                };
+                self.older.clear();
+            }
+            Err(before) => self.before = Some(before),
+        }
+    }
+
+    /// Has a set for the next publish, if one of the two last versions is nobody else's.
+    fn reuse(&mut self)
+        ensures { self.new ≡ self.old }
+    {
+        self.reuse_last();
+        if self.spare.is_none() {
+            self.reuse_before();
         }
     }
 
@@ -120,9 +175,9 @@ impl Versions {
         ensures set { IfOk result (λ set. set ≡ fold_of (joined (self.old.batches ++ batch.now.items ∷ []))) }
         ensures unchanged { self.new ≡ self.old }
     {
-        // Readers that were in the last version when it was replaced have left it at their next entry.
+        // Readers that were in a replaced version leave it at their next entry.
         if self.spare.is_none() {
-            self.reuse_last();
+            self.reuse();
         }
         let set = match self.spare.take() {
             Some(set) => set,
@@ -133,7 +188,7 @@ impl Versions {
     }
 
     /// From now on this version is the published one: that so far, with the batch. The batch is left empty.
-    #[tactic(auto, using(crate::proofs::Growing::lacks_batch))]
+    #[tactic(auto, using(crate::proofs::Growing::lacks_batch, crate::proofs::Growing::lacks_both))]
     pub(crate) fn advance(&mut self, version: Arc<Version>, batch: &mut Vec<Load>)
         requires { arc_value version ≡ record {
           book = self.old.book;
@@ -143,14 +198,14 @@ impl Versions {
         ensures batch { batch.new.items ≡ [] }
     {
         let was = replace(&mut self.current, version);
+        let last = replace(&mut self.last, Some(was));
+        let before = replace(&mut self.before, last);
         swap(&mut self.newest, batch);
+        swap(&mut self.older, batch);
         batch.clear();
         self.spare = None;
-        if let Some(before) = replace(&mut self.last, Some(was)) {
-            // Where memory is refused for the list, the last reader frees the version.
-            drop(self.retired.push(before));
-        }
-        self.reuse_last();
+        self.retire(before);
+        self.reuse();
         self.retired
             .retain(|version| Arc::strong_count(version) > 1);
     }
