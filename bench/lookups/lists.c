@@ -1,9 +1,10 @@
 /* Look-ups by a list of languages, by libkobdzila and by glibc's dcgettext. Run by bench/lookups/run.
  *
- *   lists FOLDER TURNS
+ *   lists FOLDER TURNS COUNT
  *
- * Only the last language of a list has the messages. Of the others, every second one has no catalogue, and the rest
- * have one with other messages. */
+ * The catalogues of the domain mCOUNT have COUNT messages, whose msgids are the lines of FOLDER/mCOUNT.ids. Only the
+ * last language of a list has them. Of the others, every second one has no catalogue, and the rest have one with other
+ * messages. */
 #include "kobdzila.h"
 
 #include <libintl.h>
@@ -13,17 +14,15 @@
 #include <string.h>
 #include <time.h>
 
-#define DOMAIN "m5000"
-#define MESSAGES 5000
-#define ROUNDS 60
+#define LOOK_UPS 400000 /* at least so many are timed together */
 
 extern int _nl_msg_cat_cntr; /* glibc: raise it when LANGUAGE changes */
 
-static const char *ids[MESSAGES];
-static size_t count;
+static const char **ids;
+static size_t count, rounds;
 static const kob_set *set;
-static kob_text languages;
-static const kob_text domain = { DOMAIN, sizeof DOMAIN - 1 };
+static char name[20]; /* of the domain */
+static kob_text languages, domain;
 static const kob_text none;
 
 static double now(void) {
@@ -38,7 +37,7 @@ static kob_text text(const char *string) { return (kob_text){ string, strlen(str
 static unsigned long by_glibc(void) {
     unsigned long sum = 0;
     for (size_t i = 0; i < count; i++)
-        sum += (unsigned char)*dcgettext(DOMAIN, ids[i], LC_MESSAGES);
+        sum += (unsigned char)*dcgettext(name, ids[i], LC_MESSAGES);
     return sum;
 }
 
@@ -64,9 +63,9 @@ static unsigned long by_list(void) {
 /* The nanoseconds of a look-up. */
 static double timed(unsigned long (*work)(void), unsigned long *sum) {
     double start = now();
-    for (int round = 0; round < ROUNDS; round++)
+    for (size_t round = 0; round < rounds; round++)
         *sum = work();
-    return (now() - start) / ((double)ROUNDS * (double)count);
+    return (now() - start) / ((double)rounds * (double)count);
 }
 
 static int compare(const char *list, int turns) {
@@ -87,37 +86,48 @@ static int compare(const char *list, int turns) {
     return other;
 }
 
-static void read_ids(const char *folder) {
+/* Reads at most so many msgids. */
+static void read_ids(const char *folder, size_t most) {
     static char line[4096];
-    snprintf(line, sizeof line, "%s/" DOMAIN ".ids", folder);
+    snprintf(line, sizeof line, "%s/%s.ids", folder, name);
     FILE *f = fopen(line, "r");
-    while (f && count < MESSAGES && fgets(line, sizeof line, f)) {
+    ids = calloc(most, sizeof *ids);
+    while (f && ids && count < most && fgets(line, sizeof line, f)) {
         line[strcspn(line, "\n")] = 0;
         ids[count++] = strdup(line);
     }
     if (f)
         fclose(f);
+    rounds = count ? (LOOK_UPS + count - 1) / count : 0;
 }
 
-int main(int argc, char **argv) {
+/* A set of the three catalogues that there are, or NULL. */
+static kob_set *opened(const char *folder) {
     static const char *const have[] = { "xx", "x0", "x1" };
-    if (argc != 3)
-        return 2;
-    if (!setlocale(LC_ALL, "C.UTF-8") || !bindtextdomain(DOMAIN, argv[1]))
-        return 1;
-    read_ids(argv[1]);
     kob_set *made = kob_set_new();
     for (int i = 0; i < 3 && made; i++) {
-        kob_set *more = kob_set_open(made, argv[1], DOMAIN, have[i], NULL);
+        kob_set *more = kob_set_open(made, folder, name, have[i], NULL);
         kob_set_release(made);
         made = more;
     }
+    return made;
+}
+
+int main(int argc, char **argv) {
+    if (argc != 4)
+        return 2;
+    snprintf(name, sizeof name, "m%s", argv[3]);
+    domain = text(name);
+    if (!setlocale(LC_ALL, "C.UTF-8") || !bindtextdomain(name, argv[1]))
+        return 1;
+    read_ids(argv[1], strtoul(argv[3], NULL, 10));
+    kob_set *made = opened(argv[1]);
     if (!made || !count) {
-        fprintf(stderr, "no catalogues in %s\n", argv[1]);
+        fprintf(stderr, "no catalogues of %s in %s\n", name, argv[1]);
         return 1;
     }
     set = made;
-    puts("ns a look-up\nlanguages             dcgettext kob_set_find kob_languages_find");
+    printf("ns a look-up, %zu messages\nlanguages             dcgettext kob_set_find kob_languages_find\n", count);
     int bad = compare("xx", atoi(argv[2])) | compare("a0:x0:xx", atoi(argv[2])) |
               compare("a0:x0:a1:x1:a2:xx", atoi(argv[2]));
     kob_set_release(made);
