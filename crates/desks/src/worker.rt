@@ -18,7 +18,7 @@ use std::thread::{Threads, join_mut};
 fn answer_all<G: Gate>(
     gate: &G,
     alloc: Global,
-    place: u32,
+    worker: u32,
     reader: &mut Lookups,
     queries: &[Query],
     answers: &mut Vec<Answer>,
@@ -34,7 +34,7 @@ fn answer_all<G: Gate>(
         return Err(ServeFault::Memory);
     }
     for index in 0..queries.len() {
-        gate.pass(Place::Worker(place), index as u64);
+        gate.pass(Place::Worker(worker), index as u64);
         match reader.ask(alloc, &queries[index]) {
             Ok((version, text)) => {
                 if answers.push(Answer { version, text }).is_err() {
@@ -49,14 +49,14 @@ fn answer_all<G: Gate>(
 }
 
 /// Works one desk. What every answer changes is kept on the thread's own stack, since desks are neighbours in memory.
-fn work<G: Gate>(gate: &G, alloc: Global, place: u32, desk: &mut Desk)
+fn work<G: Gate>(gate: &G, alloc: Global, worker: u32, desk: &mut Desk)
     ensures { Worked desk.old desk.new }
 {
     let mut answers = mem::replace(&mut desk.answers, Vec::new(alloc));
     let answered = answer_all(
         gate,
         alloc,
-        place,
+        worker,
         &mut desk.reader,
         desk.queries.as_slice(),
         &mut answers,
@@ -70,7 +70,7 @@ pub(crate) fn are_idle(desks: &[Desk]) -> bool {
     desks.iter().all(|desk| desk.queries.is_empty())
 }
 
-/// Answers the queries of all desks; the worker of the first one is number `place`. Each desk takes a thread of its
+/// Answers the queries of all desks; the worker of the first one is number `first`. Each desk takes a thread of its
 /// own, except those without queries and the last one that has some.
 ///
 /// A desk's fault is `Closed` or `Memory`; after one don't rely on its answers.
@@ -78,28 +78,28 @@ pub fn work_all<R: Threads + Sync, G: Gate + Sync>(
     rt: &R,
     gate: &G,
     alloc: Global,
-    place: u32,
+    first: u32,
     desks: &mut [Desk],
 )
-    requires { place + length desks.old < 2 ^ 32 }
+    requires { first + length desks.old < 2 ^ 32 }
     ensures { AllZip Worked desks.old desks.new }
 {
     let Some((desk, rest)) = desks.split_first_mut() else {
         return;
     };
     if desk.queries.is_empty() || are_idle(rest) {
-        work(gate, alloc, place, desk);
-        work_all(rt, gate, alloc, place + 1, rest);
+        work(gate, alloc, first, desk);
+        work_all(rt, gate, alloc, first + 1, rest);
         return;
     }
     join_mut(
         rt,
         &mut ||
             ensures { Worked desk.entry.now desk.exit.now }
-        { work(gate, alloc, place, desk) },
+        { work(gate, alloc, first, desk) },
         &mut ||
-            requires { IsSync R.row × IsSync G.row × (place + 1 + length rest.now < 2 ^ 32) }
+            requires { IsSync R.row × IsSync G.row × (first + 1 + length rest.now < 2 ^ 32) }
             ensures { AllZip Worked rest.entry.now rest.exit.now }
-        { work_all(rt, gate, alloc, place + 1, rest) },
+        { work_all(rt, gate, alloc, first + 1, rest) },
     );
 }

@@ -123,7 +123,7 @@ fn answer(
 fn answer_all<G: Gate>(
     gate: &G,
     alloc: Global,
-    place: u32,
+    worker: u32,
     reader: &mut Lookups,
     requests: &[Request],
     replies: &mut Vec<Reply>,
@@ -137,7 +137,7 @@ fn answer_all<G: Gate>(
     replies.clear();
     let mut kept = String::new(alloc);
     for index in 0..requests.len() {
-        gate.pass(Place::Worker(place), index as u64);
+        gate.pass(Place::Worker(worker), index as u64);
         let reply = answer(alloc, reader, &mut kept, &requests[index])?;
         if replies.push(reply).is_err() {
             return Err(ServeFault::Memory);
@@ -151,7 +151,7 @@ fn answer_all<G: Gate>(
 fn answer_client<G: Gate>(
     gate: &G,
     alloc: Global,
-    place: u32,
+    worker: u32,
     client: &mut Client,
 ) -> Result<(), ServeFault>
     ensures kept { KeepsClient client.old client.new }
@@ -161,7 +161,7 @@ fn answer_client<G: Gate>(
     let answered = answer_all(
         gate,
         alloc,
-        place,
+        worker,
         &mut client.reader,
         client.requests.as_slice(),
         &mut replies,
@@ -170,16 +170,16 @@ fn answer_client<G: Gate>(
     answered
 }
 
-/// Answers the requests of all clients, whose places are counted from `place`. Each client but the last takes a thread
+/// Answers the requests of all clients, whose workers are counted from `first`. Each client but the last takes a thread
 /// of its own.
 pub(crate) fn answer_each<R: Threads + Sync, G: Gate + Sync>(
     rt: &R,
     gate: &G,
     alloc: Global,
-    place: u32,
+    first: u32,
     clients: &mut [Client],
 ) -> Result<(), ServeFault>
-    requires { place + length clients.old < 2 ^ 32 }
+    requires { first + length clients.old < 2 ^ 32 }
     ensures kept { AllZip KeepsClient clients.old clients.new }
     ensures answered { OnOk result (AllZip HasAnswered clients.old clients.new) }
 {
@@ -187,19 +187,19 @@ pub(crate) fn answer_each<R: Threads + Sync, G: Gate + Sync>(
         return Ok(());
     };
     if rest.is_empty() {
-        return answer_client(gate, alloc, place, client);
+        return answer_client(gate, alloc, first, client);
     }
     let (mine, theirs) = join_mut(
         rt,
         &mut ||
             ensures kept { KeepsClient client.entry.now client.exit.now }
             ensures answered { OnOk result (HasAnswered client.entry.now client.exit.now) }
-        { answer_client(gate, alloc, place, client) },
+        { answer_client(gate, alloc, first, client) },
         &mut ||
-            requires { IsSync R.row × IsSync G.row × (place + 1 + length rest.now < 2 ^ 32) }
+            requires { IsSync R.row × IsSync G.row × (first + 1 + length rest.now < 2 ^ 32) }
             ensures kept { AllZip KeepsClient rest.entry.now rest.exit.now }
             ensures answered { OnOk result (AllZip HasAnswered rest.entry.now rest.exit.now) }
-        { answer_each(rt, gate, alloc, place + 1, rest) },
+        { answer_each(rt, gate, alloc, first + 1, rest) },
     );
     mine?;
     theirs
