@@ -243,14 +243,6 @@ books_given was now old given e same all =
     let each = books_of was given (subst P (sym e) all) in
     λ k d below. each k d below ∙ sym same
 
--- desks whose readers are as they were, of a store whose book is
-pub readers_kept : (was now : SeenValue) (old given : List Desk) → readers_of given ≡ readers_of old → now ≡ was
-    → HaveBook was old → HaveBook now given
-readers_kept was now old given e same all =
-    let P : List SeenValue → Type 0 = λ rs. All (λ (seen : SeenValue). seen.book ≡ now.book) rs in
-    let Q : SeenValue → Type 0 = λ s. All (λ (seen : SeenValue). seen.book ≡ s.book) (readers_of old) in
-    subst P (sym e) (subst Q (sym same) all)
-
 -- a list that was written back whole
 pub whole_of : (new old : List Desk) (count : ℕ) → count ≡ length new → take count (new ++ drop (length new) old) ≡ new
 whole_of new old count e = rw e (take-append_seam new (drop (length new) old))

@@ -22,10 +22,10 @@ in_front : (workers : ℕ) (before : List LoadValue) (rounds more : List RoundVa
 in_front workers before [] more output first all none = (output, sym (ap (λ xs. xs ++ output) none))
 in_front workers before (round ∷ rounds) more output first (after, front, back, p, all, is)
     (after', front', back', q, all', is') =
-    let same : after ≡ after' = after_one workers before round after after' front front' p q in
+    let same : after ≡ after' = after_one p q in
     let P : List LoadValue → Type 0 = λ ls. Plays workers before round ls front' in
     let Q : List LoadValue → Type 0 = λ ls. PlaysAll workers ls rounds back' in
-    let fronts : front ≡ front' = round_one workers before round after front front' p (subst P (sym same) q) in
+    let fronts : front ≡ front' = round_one p (subst P (sym same) q) in
     let found = in_front workers after rounds more back back' all (subst Q (sym same) all') in (
       found.0,
       is ∙ ap (λ xs. xs ++ back) fronts ∙ ap (λ xs. front' ++ xs) found.1
@@ -33,9 +33,10 @@ in_front workers before (round ∷ rounds) more output first (after, front, back
     )
 
 -- the rounds of a text that has an output, cut in two
-plays_both : (text output : List ℕ) (value : ScriptValue) (rounds more : List RoundValue) → HasOutput text output
+plays_both : {text : List ℕ} (output : List ℕ) {value : ScriptValue} (rounds more : List RoundValue)
+    → HasOutput text output
     → IsScript text value → value.rounds ≡ rounds ++ more → PlaysAll value.workers [] (rounds ++ more) output
-plays_both text output value rounds more (value', script', all) script cut =
+plays_both output {value} rounds more (value', script', all) script cut =
     let same : value' ≡ value = ap (ok_or value') (sym script'.says ∙ script.says) in
     let P : ScriptValue → Type 0 = λ v. PlaysAll v.workers [] v.rounds output in
     let R : List RoundValue → Type 0 = λ rs. PlaysAll value.workers [] rs output in
@@ -43,8 +44,8 @@ plays_both text output value rounds more (value', script', all) script cut =
 
 pub first_some : HaveFirstOutput
 first_some text output value rounds more has script cut =
-    some_first value.workers [] rounds more output (plays_both text output value rounds more has script cut)
+    some_first value.workers [] rounds more output (plays_both output rounds more has script cut)
 
 pub first_front : IsInFront
 first_front text output value rounds more first has script cut plays =
-    in_front value.workers [] rounds more output first (plays_both text output value rounds more has script cut) plays
+    in_front value.workers [] rounds more output first (plays_both output rounds more has script cut) plays

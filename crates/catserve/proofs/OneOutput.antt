@@ -109,26 +109,21 @@ outcome_one l (Refused fault) (RefusedMo fault') h k = absurd
 outcome_one l (RefusedMo fault) (Refused fault') h k = absurd
     (cc (fault_one l.source (store_fault.RefusedMo fault) (store_fault.Refused fault') h.1 k.1))
 outcome_one l Unnamed Unnamed h k = refl
-outcome_one l Unnamed (Accepted load answer) h k = absurd (h k.0)
-outcome_one l Unnamed (Refused fault) h k = absurd (h k.0)
-outcome_one l Unnamed (RefusedMo fault) h k = absurd (h k.0)
-outcome_one l (Accepted load answer) Unnamed h k = absurd (k h.0)
-outcome_one l (Refused fault) Unnamed h k = absurd (k h.0)
-outcome_one l (RefusedMo fault) Unnamed h k = absurd (k h.0)
+outcome_one l Unnamed _ h k = absurd (h k.0)
+outcome_one l _ Unnamed h k = absurd (k h.0)
 
 -- ---- rounds
 
-pub after_one : (workers : ℕ) (before : List LoadValue) (round : RoundValue) (after after' : List LoadValue)
-    (output other : List ℕ) → Plays workers before round after output → Plays workers before round after' other → after
+pub after_one : {workers : ℕ} {before : List LoadValue} {round : RoundValue} {after after' : List LoadValue}
+    {output other : List ℕ} → Plays workers before round after output → Plays workers before round after' other → after
     ≡ after'
-after_one workers before round after after' output other p q =
-    p.after_is ∙ ap (λ os. before ++ filter_map accepted_load os)
+after_one {before} {round} p q = p.after_is ∙ ap (λ os. before ++ filter_map accepted_load os)
     (zip_one IsOutcome outcome_one round.loads p.outcomes q.outcomes p.loaded q.loaded) ∙ sym q.after_is
 
-pub round_one : (workers : ℕ) (before : List LoadValue) (round : RoundValue) (after : List LoadValue)
-    (output other : List ℕ)
+pub round_one : {workers : ℕ} {before : List LoadValue} {round : RoundValue} {after : List LoadValue}
+    {output other : List ℕ}
     → Plays workers before round after output → Plays workers before round after other → output ≡ other
-round_one workers before round after output other p q =
+round_one {workers} {round} {after} p q =
     let loads = zip_one IsOutcome outcome_one round.loads p.outcomes q.outcomes p.loaded q.loaded in
     let answers = turn_one after round.questions 0 workers p.answers q.answers p.answered q.answered in
     p.output_is ∙ ap (λ os. flat_map outcome_line os ++ version_line (length after) ++ p.answers) loads
@@ -139,12 +134,11 @@ rounds_one : (workers : ℕ) (before : List LoadValue) (rounds : List RoundValue
 rounds_one workers before [] output other h k = h ∙ sym k
 rounds_one workers before (round ∷ rounds) output other (after, front, back, p, all, is)
     (after', front', back', q, all', is') =
-    let same : after ≡ after' = after_one workers before round after after' front front' p q in
+    let same : after ≡ after' = after_one p q in
     let P : List LoadValue → Type 0 = λ ls. Plays workers before round ls front' in
     let Q : List LoadValue → Type 0 = λ ls. PlaysAll workers ls rounds back' in
-    is ∙ ap (λ xs. xs ++ back) (round_one workers before round after front front' p (subst P (sym same) q))
-    ∙ ap (λ xs. front' ++ xs) (rounds_one workers after rounds back back' all (subst Q (sym same) all'))
-    ∙ sym is'
+    is ∙ ap (λ xs. xs ++ back) (round_one p (subst P (sym same) q))
+    ∙ ap (λ xs. front' ++ xs) (rounds_one workers after rounds back back' all (subst Q (sym same) all')) ∙ sym is'
 
 -- ---- scripts
 

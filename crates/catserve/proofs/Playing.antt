@@ -26,10 +26,6 @@ pub map_ok : {T E A B : Type 0} (r : Result T E) → OnOk r A → (A → B) → 
 map_ok (Ok x) a f = f a
 map_ok (Err x) a f = tt
 
-pub map_if_ok : {T E A B : Type 0} (r : Result T E) → IfOk r (λ _. A) → (A → B) → IfOk r (λ _. B)
-map_if_ok (Ok x) a f = f a
-map_if_ok (Err x) a f = tt
-
 -- the load is accepted, with the map that its source brings
 pub accepts_one : (load : JobValue) (answer : job.Accepted) (s s' : StoreValue) (before after : List ℕ)
     → (is : IsAccepted s (job_of load) answer s') → after ≡ before
@@ -53,9 +49,9 @@ refuses_one load outcome s s' before after is none same written = record {
   written = written;
 }
 
-pub loads_more : (loads : List JobValue) (load : JobValue) (p q r : List LoadValue) (a b c : List ℕ)
+pub loads_more : {loads : List JobValue} {load : JobValue} {p q r : List LoadValue} {a b c : List ℕ}
     → LoadsAll loads p q a b → LoadsOne load q r b c → LoadsAll (loads ++ load ∷ []) p r a c
-loads_more loads load p q r a b c all one = record {
+loads_more {loads} {load} {p} {a} all one = record {
   outcomes = all.outcomes ++ one.outcome ∷ [];
   each = AllZip-snoc IsOutcome loads all.outcomes load one.outcome all.each one.is;
   pending_are = one.pending_are ∙ ap (λ xs. xs ++ filter_map accepted_load (one.outcome ∷ [])) all.pending_are
@@ -75,18 +71,16 @@ joined-published bs (l ∷ ls) = joined-append bs ((l ∷ ls) ∷ []) ∙ ap (λ
 few_accepted : (outcomes : List Outcome) → length (filter_map accepted_load outcomes) ≤ length outcomes
 few_accepted [] = omega arith
 few_accepted (Accepted load answer ∷ outcomes) = omega (arith, few_accepted outcomes)
-few_accepted (Refused fault ∷ outcomes) = omega (arith, few_accepted outcomes)
-few_accepted (RefusedMo fault ∷ outcomes) = omega (arith, few_accepted outcomes)
-few_accepted (Unnamed ∷ outcomes) = omega (arith, few_accepted outcomes)
+few_accepted (_ ∷ outcomes) = omega (arith, few_accepted outcomes)
 
 pub few_outcomes : (loads : List JobValue) (outcomes : List Outcome) → AllZip IsOutcome loads outcomes
     → length (filter_map accepted_load outcomes) ≤ length loads
 few_outcomes loads outcomes each = omega (arith, few_accepted outcomes, AllZip-long IsOutcome loads outcomes each)
 
 -- so there is room for one load more
-pub has_room : (loads : List JobValue) (was now : StoreValue) (before after : List ℕ) (count : ℕ)
+pub has_room : {loads : List JobValue} {was now : StoreValue} {before after : List ℕ} (count : ℕ)
     → HasLoaded loads was now before after → HasRoomFor count was → length loads < count → HasRoom now
-has_room loads was now before after count h room more = omega (
+has_room {loads} {was} count h room more = omega (
   arith,
   room,
   more,
@@ -99,13 +93,14 @@ has_room loads was now before after count h room more = omega (
 
 -- the loads, the version and the answers of a round
 pub plays_one : (workers : ℕ) (round : RoundValue) (was loaded now : StoreValue) (version : ℕ)
-    (a b c d answers : List ℕ)
+    {a b : List ℕ} (c d answers : List ℕ)
     → was.pending ≡ [] → LoadsAll round.loads was.pending loaded.pending a b → loaded.seen ≡ was.seen
     → now.seen.batches ≡ published loaded.seen.batches loaded.pending → now.pending ≡ [] → now.most ≡ was.most → version
     ≡ version_of now.seen.batches → c ≡ b ++ version_line version
     → AnswersInTurn (joined now.seen.batches) round.questions 0 workers answers → d ≡ c ++ answers
     → PlaysOne workers round was now a d
-plays_one workers round was loaded now version a b c d answers none all front shown empty most is_version c_is answered
+plays_one workers round was loaded now version {a} {b} c d answers none all front shown empty most is_version c_is
+    answered
     d_is =
     let lines = flat_map outcome_line all.outcomes in
     let version_is = version_line (version_of now.seen.batches) in
@@ -126,15 +121,14 @@ plays_one workers round was loaded now version a b c d answers none all front sh
       most = most;
       written = d_is ∙ ap (λ xs. xs ++ answers)
           (c_is ∙ ap (λ v. b ++ version_line v) is_version ∙ ap (λ xs. xs ++ version_is) all.written)
-          ∙ ap (λ xs. xs ++ answers) (append_assoc a lines version_is)
-          ∙ append_assoc a (lines ++ version_is) answers;
+          ∙ ap (λ xs. xs ++ answers) (append_assoc a lines version_is) ∙ append_assoc a (lines ++ version_is) answers;
     }
 
 -- one more round
-pub plays_more : (workers : ℕ) (rounds : List RoundValue) (round : RoundValue) (was now after : StoreValue)
-    (output written : List ℕ) → HasPlayed workers rounds was now output
+pub plays_more : {workers : ℕ} {rounds : List RoundValue} {round : RoundValue} {was now after : StoreValue}
+    {output written : List ℕ} → HasPlayed workers rounds was now output
     → PlaysOne workers round now after output written → HasPlayed workers (rounds ++ round ∷ []) was after written
-plays_more workers rounds round was now after output written played one = record {
+plays_more {workers} {rounds} {round} {was} {now} {after} {output} {written} played one = record {
   going = λ rest tail all.
       let P : List RoundValue → Type 0 = λ rs. PlaysAll workers (joined was.seen.batches) rs (written ++ tail) in
       let Q : List ℕ → Type 0 = λ out. PlaysAll workers (joined was.seen.batches) (rounds ++ round ∷ rest) out in
@@ -161,9 +155,9 @@ plays_more workers rounds round was now after output written played one = record
 }
 
 -- all rounds
-pub plays_all : (workers : ℕ) (rounds : List RoundValue) (was now : StoreValue) (output : List ℕ)
+pub plays_all : {workers : ℕ} {rounds : List RoundValue} {was now : StoreValue} {output : List ℕ}
     → HasPlayed workers rounds was now output → PlaysAll workers (joined was.seen.batches) rounds output
-plays_all workers rounds was now output played =
+plays_all {workers} {rounds} {was} {output} played =
     let P : List RoundValue → Type 0 = λ rs. PlaysAll workers (joined was.seen.batches) rs (output ++ []) in
     let Q : List ℕ → Type 0 = λ out. PlaysAll workers (joined was.seen.batches) rounds out in
     subst Q (append-nil output) (subst P (append-nil rounds) (played.going [] [] refl))
@@ -173,10 +167,11 @@ plays_none workers was none = record
     { going = λ rest tail all. all; none_pending = none; few = omega arith; most = refl }
 
 -- there is room for the loads of the next round
-pub has_room_for : (workers : ℕ) (all played left : List RoundValue) (round : RoundValue) (was now : StoreValue)
-    (output : List ℕ) → HasPlayed workers played was now output → HasRoomFor (load_count all) was → all
+pub has_room_for : {workers : ℕ} (all : List RoundValue) {played : List RoundValue} (left : List RoundValue)
+    (round : RoundValue) {was now : StoreValue}
+    {output : List ℕ} → HasPlayed workers played was now output → HasRoomFor (load_count all) was → all
     ≡ played ++ round ∷ left → HasRoomFor (length round.loads) now
-has_room_for workers all played left round was now output h room whole =
+has_room_for all {played} left round {now} h room whole =
     let count : load_count all ≡ load_count played + load_count (round ∷ left) = ap load_count whole
     ∙ sum_by-append (λ (r : RoundValue). length r.loads) played (round ∷ left) in
     let next : load_count (round ∷ left) ≡ load_count (round ∷ []) + load_count left =

@@ -54,10 +54,10 @@ pub record Answered (given : Option ℕ) (i j : InputSeen) (o o' : OutputSeen) (
   pub first : ℕ
   pub ended_before : HaveEnded given before first rounds
 
-abbrev pub stops_so : (given : Option ℕ) (i j k : InputSeen) (o o' : OutputSeen) (y z : HearingValue)
-    (front : List (List ℕ)) (lost : List ℕ) (a : Answered given i j o o' y front) (s : Stays j k y z lost)
+abbrev pub stops_so : {given : Option ℕ} {i j k : InputSeen} {o o' : OutputSeen} {y z : HearingValue}
+    {front : List (List ℕ)} {lost : List ℕ} (a : Answered given i j o o' y front) (s : Stays j k y z lost)
     → StopsBehind given i k o o' front (a.taken.more ++ s.got.more) z.input.left lost z.input.ended
-stops_so given i j k o o' y z front lost a s =
+stops_so {i} {j} {k} {y} {front} {lost} a s =
     let t = a.taken in
     record {
       read = rw (append_assoc t.more s.got.more lost)
@@ -77,27 +77,27 @@ stops_so given i j k o o' y z front lost a s =
       written = a.written;
     }
 
-stops_early : (given : Option ℕ) (i j k : InputSeen) (o o' : OutputSeen) (y z : HearingValue)
-    (front : List (List ℕ)) (lost : List ℕ) → Answered given i j o o' y front → Stays j k y z lost
+stops_early : {given : Option ℕ} {i j k : InputSeen} {o o' : OutputSeen} {y z : HearingValue}
+    {front : List (List ℕ)} {lost : List ℕ} → Answered given i j o o' y front → Stays j k y z lost
     → StopsEarly given i k o o'
-stops_early given i j k o o' y z front lost a s = record {
+stops_early {z} {front} {lost} a s = record {
   front = front;
   text = a.taken.more ++ s.got.more;
   rest = z.input.left;
   lost = lost;
   ended = z.input.ended;
-  stops = stops_so given i j k o o' y z front lost a s;
+  stops = stops_so a s;
 }
 
-too_much : (given : Option ℕ) (i j k : InputSeen) (o o' : OutputSeen) (y z : HearingValue)
-    (front : List (List ℕ)) (line : ℕ) → Answered given i j o o' y front → HearsTooMuch j k y z line
+too_much : {given : Option ℕ} {i j k : InputSeen} {o o' : OutputSeen} {y z : HearingValue}
+    {front : List (List ℕ)} {line : ℕ} → Answered given i j o o' y front → HearsTooMuch j k y z line
     → EndsFor given i k o o' kind.TooLarge line
-too_much given i j k o o' y z front line a h = record {
+too_much {y} {z} {front} {line} a h = record {
   front = front;
   text = a.taken.more ++ h.stays.got.more;
   rest = z.input.left;
   ended = z.input.ended;
-  stops = stops_so given i j k o o' y z front [] a h.stays;
+  stops = stops_so a h.stays;
   line_is = h.line_is ∙ a.number;
   round = a.round;
   is_open = record {
@@ -116,11 +116,11 @@ too_much given i j k o o' y z front line a h = record {
   over (inl large) = inl (omega (arith, large, a.size, length-append (concat a.round) z.input.left))
   over (inr long) = inr (omega (arith, long, h.line_is))
 
-undecodable : (given : Option ℕ) (i j k : InputSeen) (o o' : OutputSeen) (y z : HearingValue)
-    (front : List (List ℕ)) (line : ℕ) → Answered given i j o o' y front → HearsUndecodable j k y z line
+undecodable : {given : Option ℕ} {i j k : InputSeen} {o o' : OutputSeen} {y z : HearingValue}
+    {front : List (List ℕ)} {line : ℕ} → Answered given i j o o' y front → HearsUndecodable j k y z line
     → EndsFor given i k o o' kind.NotUtf8 line
-undecodable given i j k o o' y z front line a h =
-    let stops = stops_so given i j k o o' y z front [] a h.stays in
+undecodable {z} {front} a h =
+    let stops = stops_so a h.stays in
     record {
       front = front;
       text = a.taken.more ++ h.stays.got.more;
@@ -139,9 +139,9 @@ undecodable given i j k o o' y z front line a h =
 -- ---- in the front
 
 -- nothing is played before the first command
-abbrev pub front_answered : (i j : InputSeen) (o : OutputSeen) (y : HearingValue) (front : List (List ℕ))
+abbrev pub front_answered : {i j : InputSeen} (o : OutputSeen) {y : HearingValue} {front : List (List ℕ)}
     → HasPassed i j unheard y front → Answered None i j o o y front
-front_answered i j o y front passed = record {
+front_answered o {front} passed = record {
   taken = passed.taken;
   number = omega (arith, passed.number);
   workers = 2;
@@ -161,28 +161,22 @@ front_answered i j o y front passed = record {
   ended_before = (ended_first None).1;
 }
 
-ends_front : (i j k : InputSeen) (o : OutputSeen) (y z : HearingValue) (front : List (List ℕ)) (kind : ScriptKind)
+ends_front : {i j : InputSeen} (k : InputSeen) (o : OutputSeen) {y : HearingValue} (z : HearingValue)
+    {front : List (List ℕ)} (kind : ScriptKind)
     (line : ℕ) → HasPassed i j unheard y front → HearsNoFront j k y z kind line → EndsFor None i k o o kind line
-ends_front i j k o y z front kind.TooLarge line passed h =
-    too_much None i j k o o y z front line (front_answered i j o y front passed) h
-ends_front i j k o y z front kind.NotUtf8 line passed h =
-    undecodable None i j k o o y z front line (front_answered i j o y front passed) h
-ends_front i j k o y z front kind.BadLine line passed h = absurd h
-ends_front i j k o y z front kind.ReadFault line passed ((lost, h), failed, is) = (
-  stops_early None i j k o o y z front lost (front_answered i j o y front passed) h,
-  fails_later i j k passed.taken.counts failed,
+ends_front k o z kind.TooLarge line passed h = too_much (front_answered o passed) h
+ends_front k o z kind.NotUtf8 line passed h = undecodable (front_answered o passed) h
+ends_front k o z kind.ReadFault line passed ((lost, h), failed, is) = (
+  stops_early (front_answered o passed) h,
+  fails_later k passed.taken.counts failed,
   is,
 )
-ends_front i j k o y z front kind.WriteFault line passed h = absurd h
-ends_front i j k o y z front kind.NoPlace line passed h = absurd h
-ends_front i j k o y z front kind.Closed line passed h = absurd h
-ends_front i j k o y z front kind.Join line passed h = absurd h
-ends_front i j k o y z front kind.Memory line passed ((lost, h), is) =
-    (stops_early None i j k o o y z front lost (front_answered i j o y front passed) h, is)
+ends_front k o z kind.Memory line passed ((lost, h), is) = (stops_early (front_answered o passed) h, is)
+ends_front k o z _ line passed h = absurd h
 
-pub front_ends : (i k : InputSeen) (o : OutputSeen) (kind : ScriptKind) (line : ℕ) → FailsInFront i k kind line
+pub front_ends : {i k : InputSeen} (o : OutputSeen) {kind : ScriptKind} {line : ℕ} → FailsInFront i k kind line
     → EndsFor None i k o o kind line
-front_ends i k o kind line f = ends_front i f.mid k o f.y f.z f.front kind line f.passed f.none
+front_ends {k} o {kind} {line} f = ends_front k o f.z kind line f.passed f.none
 
 -- nothing at all was heard
 pub ends_at_once : (given : Option ℕ) (i : InputSeen) (o : OutputSeen) → StopsEarly given i i o o
@@ -211,21 +205,20 @@ ends_at_once given i o =
 -- ---- after the front
 
 -- the rounds that have ended after a front
-abbrev pub answered : (given : Option ℕ) (first i j : InputSeen) (o o' : OutputSeen) (x y : HearingValue) (workers : ℕ)
-    (start talk : PlayerValue) (b : Begins given first i x workers) (c : Conversing workers i j o o' x y start talk)
+abbrev pub answered : {given : Option ℕ} {first i j : InputSeen} {o o' : OutputSeen} {x y : HearingValue} {workers : ℕ}
+    {start talk : PlayerValue} (b : Begins given first i x workers) (c : Conversing workers i j o o' x y start talk)
     → IsFresh workers start → Answered given first j o o' y (b.front ++ c.lines)
-answered given first i j o o' x y workers start talk b c fresh =
+answered {given} {first} {y} {workers} b c fresh =
     let open_round = c.is_open given first b in
     let Plays : List (List LoadValue) → Type 0 = λ batches. PlaysAll workers (joined batches) c.g.ended c.written in
     record {
-      taken = taken_then first i j silence x.input y.input b.front c.lines b.taken c.taken;
+      taken = taken_then b.taken c.taken;
       number = omega (arith, b.number, c.heard.number_is, length-append b.front c.lines);
       workers = workers;
       rounds = c.g.ended;
-      ended = ended_so given first i j x y workers b c.lines c.g c.taken c.heard;
+      ended = ended_so y b c.taken c.heard;
       output = c.written;
-      plays = subst Plays fresh.none_published (plays_all workers c.g.ended start.store c.talked.before c.written
-          c.talked.played);
+      plays = subst Plays fresh.none_published (plays_all c.talked.played);
       written = c.output;
       before = open_round.before;
       round = open_round.round;
@@ -236,72 +229,64 @@ answered given first i j o o' x y workers start talk b c fresh =
     }
 
 -- what all lines say, whatever still comes
-said_all : (given : Option ℕ) (first i j : InputSeen) (o o' : OutputSeen) (x y : HearingValue) (workers : ℕ)
-    (start talk : PlayerValue) (b : Begins given first i x workers) (c : Conversing workers i j o o' x y start talk)
+said_all : {given : Option ℕ} {first i j : InputSeen} {o o' : OutputSeen} {x y : HearingValue} {workers : ℕ}
+    {start talk : PlayerValue} (b : Begins given first i x workers) (c : Conversing workers i j o o' x y start talk)
     (text : List ℕ) → MayCome y.input text → said given (lines ((b.taken.more ++ c.taken.more) ++ text))
     ≡ going_on workers c.g (commands_from workers y.number 0 (lines (y.input.left ++ text)))
-said_all given first i j o o' x y workers start talk b c text may =
+said_all {given} {x} {y} {workers} b c text may =
     let behind : MayCome x.input (c.taken.more ++ text) = c.taken.may text may in
     ap (λ xs. said given (lines xs)) (append_assoc b.taken.more c.taken.more text)
     ∙ ap (said given) (b.taken.cut (c.taken.more ++ text) behind)
-    ∙ b.going (lines (x.input.left ++ (c.taken.more ++ text)))
-    (follows_all x.input (c.taken.more ++ text) behind)
+    ∙ b.going (lines (x.input.left ++ (c.taken.more ++ text))) (follows_all x.input (c.taken.more ++ text) behind)
     ∙ ap (λ xs. script_of workers (commands_from workers x.number 0 (lines xs)))
     (sym (append_assoc x.input.left c.taken.more text))
     ∙ ap (λ ls. script_of workers (commands_from workers x.number 0 ls)) (c.taken.cut text may)
     ∙ c.heard.going (lines (y.input.left ++ text))
 
 -- nothing more was heard
-pub none_ends : (given : Option ℕ) (first i j k : InputSeen) (o o' : OutputSeen) (x y z : HearingValue) (workers : ℕ)
-    (start talk : PlayerValue) (kind : ScriptKind) (line : ℕ) → IsFresh workers start
+pub none_ends : {given : Option ℕ} {first i j : InputSeen} (k : InputSeen) {o o' : OutputSeen} {x y : HearingValue}
+    (z : HearingValue) {workers : ℕ}
+    {start talk : PlayerValue} (kind : ScriptKind) (line : ℕ) → IsFresh workers start
     → Conversing workers i j o o' x y start talk → HearsNone j k workers y z kind line
     → Begins given first i x workers → EndsFor given first k o o' kind line
-none_ends given first i j k o o' x y z workers start talk kind.TooLarge line fresh c h b =
-    too_much given first j k o o' y z (b.front ++ c.lines) line
-    (answered given first i j o o' x y workers start talk b c fresh) h
-none_ends given first i j k o o' x y z workers start talk kind.NotUtf8 line fresh c h b =
-    undecodable given first j k o o' y z (b.front ++ c.lines) line
-    (answered given first i j o o' x y workers start talk b c fresh) h
-none_ends given first i j k o o' x y z workers start talk kind.BadLine line fresh c h b =
-    let a = answered given first i j o o' x y workers start talk b c fresh in
+none_ends k z kind.TooLarge line fresh c h b = too_much (answered b c fresh) h
+none_ends k z kind.NotUtf8 line fresh c h b = undecodable (answered b c fresh) h
+none_ends {given} k {y} z {workers} kind.BadLine line fresh c h b =
+    let a = answered b c fresh in
     let got = h.stays.got in
     record {
       front = b.front ++ c.lines;
       text = a.taken.more ++ got.more;
       rest = z.input.left;
       ended = z.input.ended;
-      stops = stops_so given first j k o o' y z (b.front ++ c.lines) [] a h.stays;
+      stops = stops_so a h.stays;
       line_is = h.line_is ∙ a.number;
       bad = λ more may. ap (λ xs. said given (lines xs)) (append_assoc a.taken.more got.more more)
-          ∙ said_all given first i j o o' x y workers start talk b c (got.more ++ more) (got.may more may)
+          ∙ said_all b c (got.more ++ more) (got.may more may)
           ∙ ap (λ xs. going_on workers c.g (commands_from workers y.number 0 (lines xs)))
           (sym (append_assoc y.input.left got.more more) ∙ ap (λ xs. xs ++ more) (sym got.behind))
           ∙ ap (going_on workers c.g) (h.bad more may) ∙ ap Err (sym h.line_is);
     }
-none_ends given first i j k o o' x y z workers start talk kind.ReadFault line fresh c ((lost, h), failed, is) b =
-    let a = answered given first i j o o' x y workers start talk b c fresh in (
-      stops_early given first j k o o' y z (b.front ++ c.lines) lost a h,
-      fails_later first j k a.taken.counts failed,
+none_ends k z kind.ReadFault line fresh c ((lost, h), failed, is) b =
+    let a = answered b c fresh in (
+      stops_early a h,
+      fails_later k a.taken.counts failed,
       is,
     )
-none_ends given first i j k o o' x y z workers start talk kind.WriteFault line fresh c h b = absurd h
-none_ends given first i j k o o' x y z workers start talk kind.NoPlace line fresh c h b = absurd h
-none_ends given first i j k o o' x y z workers start talk kind.Closed line fresh c h b = absurd h
-none_ends given first i j k o o' x y z workers start talk kind.Join line fresh c h b = absurd h
-none_ends given first i j k o o' x y z workers start talk kind.Memory line fresh c ((lost, h), is) b = (
-  stops_early given first j k o o' y z (b.front ++ c.lines) lost
-      (answered given first i j o o' x y workers start talk b c fresh) h,
+none_ends k z kind.Memory line fresh c ((lost, h), is) b = (
+  stops_early (answered b c fresh) h,
   is,
 )
+none_ends k z _ line fresh c h b = absurd h
 
 -- what was read of lines that were taken off
-pub taken_stays : (j k : InputSeen) (y z : HearingValue) (raw : List (List ℕ)) (t : HasTaken j k y.input z.input raw)
+pub taken_stays : {j k : InputSeen} (y z : HearingValue) {raw : List (List ℕ)} (t : HasTaken j k y.input z.input raw)
     → Stays j k y (record {
       input = record { left = y.input.left ++ t.more; ended = z.input.ended };
       number = y.number;
       size = y.size;
     }) []
-taken_stays j k y z raw t = record {
+taken_stays y z t = record {
   got = record {
     more = t.more;
     read = rw (append-nil t.more) t.read;
@@ -324,13 +309,13 @@ open_last round =
     ap Loads (append-nil round.loads) ∙ ap Questions (append-nil round.questions)
 
 -- some first bytes of the open round were written
-breaks_off : (given : Option ℕ) (first i j k : InputSeen) (o o' o'' : OutputSeen) (x y z : HearingValue)
-    (workers : ℕ) (start talk : PlayerValue) → IsFresh workers start
+breaks_off : {given : Option ℕ} {first i j k : InputSeen} {o o' o'' : OutputSeen} {x y z : HearingValue}
+    {workers : ℕ} {start talk : PlayerValue} → IsFresh workers start
     → (c : Conversing workers i j o o' x y start talk) → Stays j k y z [] → BreaksRound talk o' o''
     → Begins given first i x workers → BreaksOff given first k o o''
-breaks_off given first i j k o o' o'' x y z workers start talk fresh c s h b =
-    let a = answered given first i j o o' x y workers start talk b c fresh in
-    let played = plays_open workers c.g start.store talk h.store c.written h.lines c.talked h.finishes in
+breaks_off {o'} {z} {workers} fresh c s h b =
+    let a = answered b c fresh in
+    let played = plays_open h.store h.lines c.talked h.finishes in
     let Batches : List (List LoadValue) → Type 0 = λ batches.
     PlaysAll workers (joined batches) (c.g.ended ++ c.g.current ∷ []) (c.written ++ h.lines) in
     let Last : RoundValue → Type 0 = λ last. PlaysAll workers [] (c.g.ended ++ last ∷ []) (c.written ++ h.lines) in
@@ -340,32 +325,27 @@ breaks_off given first i j k o o' o'' x y z workers start talk fresh c s h b =
       rest = z.input.left;
       ended = z.input.ended;
       mid = o';
-      stops = stops_so given first j k o o' y z (b.front ++ c.lines) [] a s;
+      stops = stops_so a s;
       lines = h.lines;
-      plays = subst Last (sym (open_last c.g.current)) (subst Batches fresh.none_published
-          (plays_all workers (c.g.ended ++ c.g.current ∷ []) start.store h.store (c.written ++ h.lines) played));
+      plays = subst Last (sym (open_last c.g.current)) (subst Batches fresh.none_published (plays_all played));
       written = h.front;
     }
 
 -- a round isn't answered
-pub fails_so : (given : Option ℕ) (first i j k : InputSeen) (o o' o'' : OutputSeen) (x y z : HearingValue)
-    (workers : ℕ) (start talk : PlayerValue) (why : ScriptKind) → IsFresh workers start
+pub fails_so : {given : Option ℕ} {first i j k : InputSeen} {o o' : OutputSeen} (o'' : OutputSeen)
+    {x y z : HearingValue}
+    {workers : ℕ} {start talk : PlayerValue} (why : ScriptKind) → IsFresh workers start
     → Conversing workers i j o o' x y start talk → Stays j k y z [] → FailsToAnswer talk o' o'' why
     → Begins given first i x workers → EndsFor given first k o o'' why 0
-fails_so given first i j k o o' o'' x y z workers start talk why fresh c s h b =
+fails_so {given} {first} {k} {o} {o'} o'' {talk} why fresh c s h b =
     by_kind why h (λ same. subst (λ out. StopsEarly given first k o out) (sym same)
-    (stops_early given first j k o o' y z (b.front ++ c.lines) []
-    (answered given first i j o o' x y workers start talk b c fresh) s))
+    (stops_early (answered b c fresh) s))
   where
     by_kind : (why : ScriptKind) → FailsToAnswer talk o' o'' why → (o'' ≡ o' → StopsEarly given first k o o'')
         → EndsFor given first k o o'' why 0
-    by_kind kind.TooLarge h early = absurd h
-    by_kind kind.NotUtf8 h early = absurd h
-    by_kind kind.BadLine h early = absurd h
-    by_kind kind.ReadFault h early = absurd h
     by_kind kind.WriteFault h early =
         let P : ℕ → Type 0 = λ n. RisesBy 1 n o''.failures in (
-          breaks_off given first i j k o o' o'' x y z workers start talk fresh c s h b,
+          breaks_off fresh c s h b,
           subst P c.steady h.failed,
           refl,
         )
@@ -373,18 +353,19 @@ fails_so given first i j k o o' o'' x y z workers start talk why fresh c s h b =
     by_kind kind.Closed h early = (early h, refl)
     by_kind kind.Join h early = (early h, refl)
     by_kind kind.Memory h early = (early h, refl)
+    by_kind _ h early = absurd h
 
 -- the input has ended, and these are the rounds
-all_said : (given : Option ℕ) (first i j k : InputSeen) (o o' o'' : OutputSeen) (x y z : HearingValue) (workers : ℕ)
-    (start talk : PlayerValue) (written : List ℕ) → IsFresh workers start
+all_said : {given : Option ℕ} {first i j k : InputSeen} {o o' : OutputSeen} (o'' : OutputSeen) {x y z : HearingValue}
+    {workers : ℕ}
+    {start talk : PlayerValue} (written : List ℕ) → IsFresh workers start
     → (c : Conversing workers i j o o' x y start talk) → HearsEnd j k y z → Begins given first i x workers
     → PlaysAll workers [] (c.g.ended ++ onto_open c.g []) written → Appends o.bytes o''.bytes written
     → AnswersAll given first k o o''
-all_said given first i j k o o' o'' x y z workers start talk written fresh c h b plays appended =
-    let a = answered given first i j o o' x y workers start talk b c fresh in
+all_said {first} {k} o'' {y} {z} {workers} written fresh c h b plays appended =
+    let a = answered b c fresh in
     let got = h.got in
-    let stops = stops_so given first j k o o' y z (b.front ++ c.lines) [] a
-    (record { got = got; number = h.number; size = h.size }) in
+    let stops = stops_so a (record { got = got; number = h.number; size = h.size }) in
     let text : List ℕ = a.taken.more ++ got.more in
     let none : MayCome z.input [] = λ ended. refl in
     let may : MayCome y.input got.more = subst (MayCome y.input) (append-nil got.more) (got.may [] none) in
@@ -397,7 +378,7 @@ all_said given first i j k o o' o'' x y z workers start talk written fresh c h b
       utf8 = rw (whole, concat-append b.front c.lines) (IsUtf8-append (concat b.front) (concat c.lines) b.utf8
           c.heard.utf8);
       value = record { workers = workers; rounds = c.g.ended ++ onto_open c.g [] };
-      says = said_all given first i j o o' x y workers start talk b c got.more may
+      says = said_all b c got.more may
           ∙ ap (λ xs. going_on workers c.g (commands_from workers y.number 0 (lines xs))) (sym got.behind ∙ h.left);
       output = written;
       plays = plays;
@@ -412,30 +393,29 @@ one_open : (g : Gathered) (begun : Bool) → begun ≡ g.begun → begun ≡ tru
 one_open g begun same busy = rw (sym same ∙ busy) refl
 
 -- nothing stood in the open round
-pub all_answered : (given : Option ℕ) (first i j k : InputSeen) (o o' : OutputSeen) (x y z : HearingValue)
-    (workers : ℕ) (start talk : PlayerValue) → IsFresh workers start → Conversing workers i j o o' x y start talk
+pub all_answered : {given : Option ℕ} {first i j k : InputSeen} {o o' : OutputSeen} {x y z : HearingValue}
+    {workers : ℕ} {start talk : PlayerValue} → IsFresh workers start → Conversing workers i j o o' x y start talk
     → HearsEnd j k y z → talk.begun ≡ false → Begins given first i x workers → AnswersAll given first k o o'
-all_answered given first i j k o o' x y z workers start talk fresh c h idle b =
-    let a = answered given first i j o o' x y workers start talk b c fresh in
+all_answered {o'} {workers} {talk} fresh c h idle b =
+    let a = answered b c fresh in
     let Plays : List RoundValue → Type 0 = λ rs. PlaysAll workers [] rs c.written in
-    all_said given first i j k o o' o' x y z workers start talk c.written fresh c h b
-    (subst Plays (sym (nothing_open c.g talk.begun c.talked.begun idle)) a.plays) c.output
+    all_said o' c.written fresh c h b (subst Plays (sym (nothing_open c.g talk.begun c.talked.begun idle)) a.plays)
+    c.output
 
 -- the open round was answered last
-pub last_answered : (given : Option ℕ) (first i j k : InputSeen) (o o' o'' : OutputSeen) (x y z : HearingValue)
-    (workers : ℕ) (start talk after : PlayerValue) → IsFresh workers start
+pub last_answered : {given : Option ℕ} {first i j k : InputSeen} {o o' o'' : OutputSeen} {x y z : HearingValue}
+    {workers : ℕ} {start talk after : PlayerValue} → IsFresh workers start
     → Conversing workers i j o o' x y start talk → HearsEnd j k y z → talk.begun ≡ true
     → AnswersRound talk after o' o'' → Begins given first i x workers → AnswersAll given first k o o''
-last_answered given first i j k o o' o'' x y z workers start talk after fresh c h busy answers b =
+last_answered {o} {o'} {o''} {workers} {talk} fresh c h busy answers b =
     let written : List ℕ = c.written ++ answers.lines in
-    let played = answers_one workers c.g start.store talk after o' o'' c.written c.talked answers in
+    let played = answers_one c.talked answers in
     let Batches : List (List LoadValue) → Type 0 = λ batches.
     PlaysAll workers (joined batches) (c.g.ended ++ c.g.current ∷ []) written in
     let Plays : List RoundValue → Type 0 = λ rs. PlaysAll workers [] rs written in
-    all_said given first i j k o o' o'' x y z workers start talk written fresh c h b
+    all_said o'' written fresh c h b
     (subst Plays (sym (one_open c.g talk.begun c.talked.begun busy)) (subst Batches fresh.none_published
-    (plays_all workers (c.g.ended ++ c.g.current ∷ []) start.store after.store written played)))
-    (Appends-trans o.bytes o'.bytes o''.bytes c.written answers.lines c.output answers.written)
+    (plays_all played))) (Appends-trans o.bytes o'.bytes o''.bytes c.written answers.lines c.output answers.written)
 
 -- ---- before anything was heard after the front
 
@@ -448,8 +428,8 @@ begun given first i o x workers b =
       number = b.number;
       workers = workers;
       rounds = [];
-      ended = subst Ended (append-nil b.front) (ended_so given first i i x x workers b [] nothing (taken_none i x.input)
-          (heard_none workers x.number (omega (arith, b.number))));
+      ended = subst Ended (append-nil b.front)
+          (ended_so x b (taken_none i x.input) (heard_none workers x.number (omega (arith, b.number))));
       output = [];
       plays = refl;
       written = Appends-nil o.bytes;
@@ -462,24 +442,19 @@ begun given first i o x workers b =
     }
 
 -- no store was opened
-pub stops_begun : (given : Option ℕ) (first i : InputSeen) (o : OutputSeen) (x : HearingValue) (workers : ℕ)
+pub stops_begun : {given : Option ℕ} {first i : InputSeen} (o : OutputSeen) {x : HearingValue} {workers : ℕ}
     → Begins given first i x workers → StopsEarly given first i o o
-stops_begun given first i o x workers b =
-    stops_early given first i i o o x x b.front [] (begun given first i o x workers b) (stays_put i x)
+stops_begun {given} {first} {i} o {x} {workers} b = stops_early (begun given first i o x workers b) (stays_put i x)
 
 -- no player was opened, for this reason
-pub stops_unopened : (given : Option ℕ) (first i : InputSeen) (o : OutputSeen) (x : HearingValue)
-    (workers : ℕ) → Begins given first i x workers → (why : ScriptKind) → IsPlayKind why
+pub stops_unopened : {given : Option ℕ} {first i : InputSeen} (o : OutputSeen) {x : HearingValue}
+    {workers : ℕ} → Begins given first i x workers → (why : ScriptKind) → IsPlayKind why
     → EndsFor given first i o o why 0
-stops_unopened given first i o x workers b kind.NoPlace h = (stops_begun given first i o x workers b, refl)
-stops_unopened given first i o x workers b kind.Closed h = (stops_begun given first i o x workers b, refl)
-stops_unopened given first i o x workers b kind.Join h = (stops_begun given first i o x workers b, refl)
-stops_unopened given first i o x workers b kind.Memory h = (stops_begun given first i o x workers b, refl)
-stops_unopened given first i o x workers b kind.TooLarge h = absurd h
-stops_unopened given first i o x workers b kind.NotUtf8 h = absurd h
-stops_unopened given first i o x workers b kind.BadLine h = absurd h
-stops_unopened given first i o x workers b kind.ReadFault h = absurd h
-stops_unopened given first i o x workers b kind.WriteFault h = absurd h
+stops_unopened o b kind.NoPlace h = (stops_begun o b, refl)
+stops_unopened o b kind.Closed h = (stops_begun o b, refl)
+stops_unopened o b kind.Join h = (stops_begun o b, refl)
+stops_unopened o b kind.Memory h = (stops_begun o b, refl)
+stops_unopened o b _ h = absurd h
 
 -- the number of workers is given
 abbrev pub begins_so : (i : InputSeen) (workers : ℕ) → Begins (Some workers) i i unheard workers

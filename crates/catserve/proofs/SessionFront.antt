@@ -37,35 +37,32 @@ behind_line y end = record {
   size = y.size + end;
 }
 
-abbrev pub line_taken : (i j : InputSeen) (x y : HearingValue) (end : ℕ) → Stays i j x y [] → EndsLine y.input 0 end
+abbrev pub line_taken : {i j : InputSeen} {x y : HearingValue} {end : ℕ} → Stays i j x y [] → EndsLine y.input 0 end
     → HasTaken i j x.input (behind_line y end).input (take end y.input.left ∷ [])
-line_taken i j x y end stays ends = got_taken i j x.input y.input (behind_line y end).input (take end y.input.left ∷ [])
-    stays.got refl (line_whole y.input end) (line_cut y.input end ends)
+line_taken {y} {end} stays ends = got_taken (behind_line y end).input (take end y.input.left ∷ []) stays.got refl
+    (line_whole y.input end) (line_cut ends)
 
-pub line_size : (y : HearingValue) (end : ℕ) → EndsLine y.input 0 end
+pub line_size : (y : HearingValue) {end : ℕ} → EndsLine y.input 0 end
     → length (concat (take end y.input.left ∷ [])) ≡ end
-line_size y end ends = ap length (append-nil (take end y.input.left)) ∙ length-take-le end y.input.left ends.within
+line_size y {end} ends = ap length (append-nil (take end y.input.left)) ∙ length-take-le end y.input.left ends.within
 
 -- a line that says nothing
-abbrev pub passed_more : (i j k : InputSeen) (x y z : HearingValue) (front : List (List ℕ)) (end : ℕ)
-    → HasPassed i j x y front
-    → Stays j k y z [] → EndsLine z.input 0 end → IsUtf8 (take end z.input.left)
+abbrev pub passed_more : {i j k : InputSeen} {x y z : HearingValue} {front : List (List ℕ)} {end : ℕ}
+    → HasPassed i j x y front → Stays j k y z [] → EndsLine z.input 0 end → IsUtf8 (take end z.input.left)
     → is_blank (without_end (take end z.input.left)) ≡ true
     → HasPassed i k x (behind_line z end) (front ++ take end z.input.left ∷ [])
-passed_more i j k x y z front end passed stays ends utf8 blank =
+passed_more {x} {z} {front} {end} passed stays ends utf8 blank =
     let line = take end z.input.left in
     record {
-      taken = taken_then i j k x.input y.input (behind_line z end).input front (line ∷ []) passed.taken
-          (line_taken j k y z end stays ends);
+      taken = taken_then passed.taken (line_taken stays ends);
       passes = λ behind. ap (λ ls. script_from x.number ls) (append_assoc front (line ∷ []) behind)
-          ∙ passed.passes (line ∷ behind)
-          ∙ rw blank (ap (λ n. script_from (n + 1) behind) (sym stays.number));
+          ∙ passed.passes (line ∷ behind) ∙ rw blank (ap (λ n. script_from (n + 1) behind) (sym stays.number));
       number = omega (arith, passed.number, stays.number, length-append front (line ∷ []));
       size = omega (
         arith,
         passed.size,
         stays.size,
-        line_size z end ends,
+        line_size z ends,
         ap length (concat-append front (line ∷ [])),
         length-append (concat front) (concat (line ∷ [])),
       );
@@ -74,17 +71,16 @@ passed_more i j k x y z front end passed stays ends utf8 blank =
     }
 
 -- the line that gives the number of workers
-abbrev pub begins_given : (i j k : InputSeen) (y z : HearingValue) (front : List (List ℕ)) (end workers : ℕ)
+abbrev pub begins_given : {i j k : InputSeen} {y z : HearingValue} {front : List (List ℕ)} {end : ℕ} (workers : ℕ)
     → HasPassed i j unheard y front → Stays j k y z [] → EndsLine z.input 0 end → IsUtf8 (take end z.input.left)
     → is_blank (without_end (take end z.input.left)) ≡ false
     → workers_line (fields (without_end (take end z.input.left))) ≡ Some workers
     → Begins None i k (behind_line z end) workers
-begins_given i j k y z front end workers passed stays ends utf8 other is =
+begins_given {z} {front} {end} workers passed stays ends utf8 other is =
     let line = take end z.input.left in
     record {
       front = front ++ line ∷ [];
-      taken = taken_then i j k silence y.input (behind_line z end).input front (line ∷ []) passed.taken
-          (line_taken j k y z end stays ends);
+      taken = taken_then passed.taken (line_taken stays ends);
       going = λ behind follows. ap (λ ls. script_from 1 ls) (append_assoc front (line ∷ []) behind)
           ∙ passed.passes (line ∷ behind)
           ∙ rw (other, is) (ap (λ n. script_of workers (commands_from workers (n + 1) 0 behind)) (sym stays.number));
@@ -93,7 +89,7 @@ begins_given i j k y z front end workers passed stays ends utf8 other is =
         arith,
         passed.size,
         stays.size,
-        line_size z end ends,
+        line_size z ends,
         ap length (concat-append front (line ∷ [])),
         length-append (concat front) (concat (line ∷ [])),
       );
@@ -112,27 +108,26 @@ first_other number line (l ∷ behind) rest other none alike =
     ∙ none in
     rw (blank, no, blank) refl
 
-pub begins_first : (number : ℕ) (input : Incoming) (end : ℕ) (behind : List (List ℕ)) → EndsLine input 0 end
+pub begins_first : (number : ℕ) {input : Incoming} {end : ℕ} (behind : List (List ℕ)) → EndsLine input 0 end
     → is_blank (without_end (take end input.left)) ≡ false
     → workers_line (fields (without_end (take end input.left))) ≡ None → Follows input behind
     → script_from number behind ≡ script_of 2 (commands_from 2 number 0 behind)
-begins_first number input end behind ends other none (inl alone) = rw alone refl
-begins_first number input end behind ends other none (inr (text, may, alike)) =
+begins_first number behind ends other none (inl alone) = rw alone refl
+begins_first number {input} {end} behind ends other none (inr (text, may, alike)) =
     first_other number (take end input.left) behind (lines (drop end input.left ++ text)) other none
-    (subst (BeginAlike behind) (line_cut input end ends text may) alike)
+    (subst (BeginAlike behind) (line_cut ends text may) alike)
 
-abbrev pub begins_other : (i j k : InputSeen) (y z : HearingValue) (front : List (List ℕ)) (end : ℕ)
+abbrev pub begins_other : {i j k : InputSeen} {y z : HearingValue} {front : List (List ℕ)} {end : ℕ}
     → HasPassed i j unheard y front → Stays j k y z [] → EndsLine z.input 0 end
     → is_blank (without_end (take end z.input.left)) ≡ false
     → workers_line (fields (without_end (take end z.input.left))) ≡ None → Begins None i k z 2
-begins_other i j k y z front end passed stays ends other none =
-    let all = taken_then i j k silence y.input z.input front [] passed.taken (stays_taken j k y z stays) in
+begins_other {z} {front} passed stays ends other none =
+    let all = taken_then passed.taken (stays_taken stays) in
     record {
       front = front ++ [];
       taken = all;
       going = λ behind follows. ap (λ ls. script_from 1 (ls ++ behind)) (append-nil front) ∙ passed.passes behind
-          ∙ ap (λ n. script_from n behind) (sym stays.number)
-          ∙ begins_first z.number z.input end behind ends other none follows;
+          ∙ ap (λ n. script_from n behind) (sym stays.number) ∙ begins_first z.number behind ends other none follows;
       number = omega (arith, passed.number, stays.number, ap length (append-nil front));
       size = omega (arith, passed.size, stays.size, ap (λ ls. length (concat ls)) (append-nil front));
       utf8 = rw (append-nil front) passed.utf8;
@@ -151,17 +146,15 @@ ended_first number input behind none ended (inr (text, may, alike)) =
     nothing_follows [] alike = refl
     nothing_follows (l ∷ ls) alike = absurd alike
 
-abbrev pub begins_ended : (i j k : InputSeen) (y z : HearingValue) (front : List (List ℕ))
-    → HasPassed i j unheard y front
-    → Stays j k y z [] → z.input.left ≡ [] → z.input.ended ≡ true → Begins None i k z 2
-begins_ended i j k y z front passed stays none ended =
-    let all = taken_then i j k silence y.input z.input front [] passed.taken (stays_taken j k y z stays) in
+abbrev pub begins_ended : {i j k : InputSeen} {y z : HearingValue} {front : List (List ℕ)}
+    → HasPassed i j unheard y front → Stays j k y z [] → z.input.left ≡ [] → z.input.ended ≡ true → Begins None i k z 2
+begins_ended {z} {front} passed stays none ended =
+    let all = taken_then passed.taken (stays_taken stays) in
     record {
       front = front ++ [];
       taken = all;
       going = λ behind follows. ap (λ ls. script_from 1 (ls ++ behind)) (append-nil front) ∙ passed.passes behind
-          ∙ ap (λ n. script_from n behind) (sym stays.number)
-          ∙ ended_first z.number z.input behind none ended follows;
+          ∙ ap (λ n. script_from n behind) (sym stays.number) ∙ ended_first z.number z.input behind none ended follows;
       number = omega (arith, passed.number, stays.number, ap length (append-nil front));
       size = omega (arith, passed.size, stays.size, ap (λ ls. length (concat ls)) (append-nil front));
       utf8 = rw (append-nil front) passed.utf8;
@@ -169,15 +162,16 @@ begins_ended i j k y z front passed stays none ended =
 
 -- ---- why the front wasn't heard
 
-pub front_fails : (i j k : InputSeen) (y z : HearingValue) (front : List (List ℕ)) (kind : ScriptKind) (line : ℕ)
+pub front_fails : {i j : InputSeen} (k : InputSeen) {y : HearingValue} (z : HearingValue) {front : List (List ℕ)}
+    (kind : ScriptKind) (line : ℕ)
     → HasPassed i j unheard y front → HearsNothing j k y z kind line → FailsInFront i k kind line
-front_fails i j k y z front kind line passed h = record
+front_fails {j} k {y} z {front} kind line passed h = record
     { mid = j; y = y; z = z; front = front; passed = passed; none = no_line (λ line. ⊥) j k y z kind line h }
 
-pub front_undecodable : (i j k : InputSeen) (y z : HearingValue) (front : List (List ℕ)) (end : ℕ)
+pub front_undecodable : {i j k : InputSeen} {y z : HearingValue} {front : List (List ℕ)} {end : ℕ}
     → HasPassed i j unheard y front → Stays j k y z [] → EndsLine z.input 0 end → ¬ IsUtf8 (take end z.input.left)
     → FailsInFront i k kind.NotUtf8 z.number
-front_undecodable i j k y z front end passed stays ends undecodable = record {
+front_undecodable {j} {y} {z} {front} {end} passed stays ends undecodable = record {
   mid = j;
   y = y;
   z = z;
@@ -189,7 +183,7 @@ front_undecodable i j k y z front end passed stays ends undecodable = record {
     raw = take end z.input.left ∷ [];
     behind = drop end z.input.left;
     begins = line_whole z.input end;
-    cut = line_cut z.input end ends;
+    cut = line_cut ends;
     undecodable = rw (append-nil (take end z.input.left)) undecodable;
   };
 }

@@ -1,7 +1,7 @@
 -- What was heard of a session's input.
 use Rattle.std.proofs.Common.{◌≡◌, ◌∙◌, refl, sym, ap, subst, ℕ, ◌+◌, ◌<◌, List, [], ◌∷◌}
 use Rattle.std.proofs.Common.{◌++◌, length, take, drop, arith, inl, inr, append_assoc}
-use Rattle.std.proofs.Common.{Option, Some, None, Result, Ok, Err, IsErrOf}
+use Rattle.std.proofs.Common.{Option, Some, None, Result, Ok, Err}
 use Rattle.std.specs.List.{concat}
 use Rattle.std.specs.Str.{IsUtf8}
 use Rattle.std.proofs.lemmas.List.{append-nil}
@@ -12,31 +12,28 @@ use Rattle.line_input.proofs.Arriving.{consumes_both, rises_both, rises_later}
 use Rattle.script_text.specs.Commands.{Line, line_of}
 use Rattle.script_text.specs.CommandValues.{command_with, listed, text_lines}
 use Rattle.script_text.specs.Script.{commands_from}
-use Rattle.script_text.specs.declared.command.Line as code
 use Rattle.script_text.specs.declared.fault.ScriptKind.{ScriptKind}
 use Rattle.script_text.specs.declared.fault.ScriptKind.TheVariants as kind
 use Rattle.catserve.specs.declared.hearing.Heard.{Heard}
 use Rattle.catserve.specs.declared.session_fault.SessionFault.{SessionFault}
-use Rattle.catserve.specs.declared.said.SaidFault.{SaidFault}
-use Rattle.catserve.specs.declared.said.SaidFault.TheVariants as said_fault
 use Rattle.catserve.specs.Run.{FailsToRead}
 use Rattle.catserve.specs.Session.{most_lines}
 use Rattle.catserve.specs.Hearing.{HearingValue, CountsOn, HasTaken, HasSaid, Hears, Stays}
 use Rattle.catserve.specs.Hearing.{HearsNone, HearsNoText}
-use Rattle.catserve.specs.Hearing.{HearsText, HearsOne, FailsToSay, size_behind, commands_of}
+use Rattle.catserve.specs.Hearing.{HearsText, HearsOne, IsUnsaid, line_of_kind, size_behind, commands_of}
 use Rattle.catserve.proofs.LinesTaken.{counts_both, taken_then, got_taken, first_same, line_cut, line_later, line_whole}
 use Rattle.catserve.proofs.LinesTaken.{stays_put}
 use Rattle.catserve.proofs.SessionLines.{says_text, bad_line, bad_text}
 
 -- ---- one step after another
 
-pub fails_later : (i j k : InputSeen) → CountsOn i j → FailsToRead j k → FailsToRead i k
-fails_later i j k counts (inl failed) = inl (rises_later 1 i.failures j.failures k.failures counts.later failed)
-fails_later i j k counts (inr reads) = inr (rises_both 0 most_reads i.reads j.reads k.reads counts.reads reads)
+pub fails_later : {i j : InputSeen} (k : InputSeen) → CountsOn i j → FailsToRead j k → FailsToRead i k
+fails_later {i} {j} k counts (inl failed) = inl (rises_later 1 i.failures j.failures k.failures counts.later failed)
+fails_later {i} {j} k counts (inr reads) = inr (rises_both 0 most_reads i.reads j.reads k.reads counts.reads reads)
 
-pub stays_then : (i j k : InputSeen) (x y z : HearingValue) (lost : List ℕ) → Stays i j x y [] → Stays j k y z lost
+pub stays_then : {i j k : InputSeen} {x y z : HearingValue} {lost : List ℕ} → Stays i j x y [] → Stays j k y z lost
     → Stays i k x z lost
-stays_then i j k x y z lost a b = record {
+stays_then {i} {j} {k} {x} {lost} a b = record {
   got = record {
     more = a.got.more ++ b.got.more;
     read = rw (append_assoc a.got.more b.got.more lost) (consumes_both i.left j.left k.left a.got.more
@@ -45,25 +42,26 @@ stays_then i j k x y z lost a b = record {
     may = λ text may. subst (MayCome x.input) (sym (append_assoc a.got.more b.got.more text))
         (a.got.may (b.got.more ++ text) (b.got.may text may));
     at_end = λ before. b.got.at_end (a.got.at_end before);
-    counts = counts_both i j k a.got.counts b.got.counts;
+    counts = counts_both a.got.counts b.got.counts;
   };
   number = b.number ∙ a.number;
   size = b.size ∙ a.size;
 }
 
 -- nothing was taken yet
-abbrev pub stays_taken : (i j : InputSeen) (x y : HearingValue) → Stays i j x y [] → HasTaken i j x.input y.input []
-stays_taken i j x y stays = got_taken i j x.input y.input y.input [] stays.got refl refl (λ text may. refl)
+abbrev pub stays_taken : {i j : InputSeen} {x y : HearingValue} → Stays i j x y [] → HasTaken i j x.input y.input []
+stays_taken {y} stays = got_taken y.input [] stays.got refl refl (λ text may. refl)
 
-pub none_then : (i j k : InputSeen) (workers : ℕ) (x y z : HearingValue) (kind : ScriptKind) (line : ℕ)
+pub none_then : {i j : InputSeen} (k : InputSeen) (workers : ℕ) {x y : HearingValue} (z : HearingValue)
+    (kind : ScriptKind) (line : ℕ)
     → Stays i j x y [] → HearsNone j k workers y z kind line → HearsNone i k workers x z kind line
-none_then i j k workers x y z kind.TooLarge line a h = record {
-  stays = stays_then i j k x y z [] a h.stays;
+none_then k workers z kind.TooLarge line a h = record {
+  stays = stays_then a h.stays;
   line_is = h.line_is ∙ a.number;
   over = rw (← a.number, ← a.size) h.over;
 }
-none_then i j k workers x y z kind.NotUtf8 line a h = record {
-  stays = stays_then i j k x y z [] a h.stays;
+none_then k workers z kind.NotUtf8 line a h = record {
+  stays = stays_then a h.stays;
   line_is = h.line_is ∙ a.number;
   raw = h.raw;
   behind = h.behind;
@@ -71,79 +69,71 @@ none_then i j k workers x y z kind.NotUtf8 line a h = record {
   cut = h.cut;
   undecodable = h.undecodable;
 }
-none_then i j k workers x y z kind.BadLine line a h =
+none_then k workers z kind.BadLine line a h =
     let P : ℕ → Type 0 = λ n. (text : List ℕ) → MayCome z.input text
     → commands_from workers n 0 (lines (z.input.left ++ text)) ≡ Err n in
     record {
-      stays = stays_then i j k x y z [] a h.stays;
+      stays = stays_then a h.stays;
       line_is = h.line_is ∙ a.number;
       bad = subst P a.number h.bad;
     }
-none_then i j k workers x y z kind.ReadFault line a ((lost, h), failed, is) = (
-  (lost, stays_then i j k x y z lost a h),
-  fails_later i j k a.got.counts failed,
+none_then k workers z kind.ReadFault line a ((lost, h), failed, is) = (
+  (lost, stays_then a h),
+  fails_later k a.got.counts failed,
   is,
 )
-none_then i j k workers x y z kind.Memory line a ((lost, h), is) = ((lost, stays_then i j k x y z lost a h), is)
-none_then i j k workers x y z kind.WriteFault line a h = absurd h
-none_then i j k workers x y z kind.NoPlace line a h = absurd h
-none_then i j k workers x y z kind.Closed line a h = absurd h
-none_then i j k workers x y z kind.Join line a h = absurd h
+none_then k workers z kind.Memory line a ((lost, h), is) = ((lost, stays_then a h), is)
+none_then k workers z _ line a h = absurd h
 
-abbrev pub hears_then : (i j k : InputSeen) (workers : ℕ) (x y z : HearingValue)
+abbrev pub hears_then : {i j : InputSeen} (k : InputSeen) (workers : ℕ) {x y : HearingValue} (z : HearingValue)
     (r : Result (Option Heard) SessionFault)
     → Stays i j x y [] → HearsOne j k workers y z r → HearsOne i k workers x z r
-hears_then i j k workers x y z (Ok (Some thing)) a h =
+hears_then k workers z (Ok (Some thing)) a h =
     let Said : ℕ → Type 0 = λ n. HasSaid workers n h.raw (commands_of thing) in
     record {
       raw = h.raw;
-      taken = taken_then i j k x.input y.input z.input [] h.raw (stays_taken i j x y a) h.taken;
+      taken = taken_then (stays_taken a) h.taken;
       said = subst Said a.number h.said;
       few = omega (arith, h.few, a.number);
       number = h.number ∙ ap (λ n. n + length h.raw) a.number;
       size = h.size ∙ ap (λ n. size_behind (commands_of thing) (n + length (concat h.raw))) a.size;
     }
-hears_then i j k workers x y z (Ok None) a h =
-    let both = stays_then i j k x y z [] a (record { got = h.got; number = h.number; size = h.size }) in
+hears_then k workers z (Ok None) a h =
+    let both = stays_then a (record { got = h.got; number = h.number; size = h.size }) in
     record { got = both.got; left = h.left; ended = h.ended; number = both.number; size = both.size }
-hears_then i j k workers x y z (Err fault) a h = none_then i j k workers x y z fault.kind fault.line a h
+hears_then k workers z (Err fault) a h = none_then k workers z fault.kind fault.line a h
 
 -- ---- a line
 
-abbrev pub Unsaid : SaidFault → Result code.Line SaidFault
-Unsaid fault = Err fault
-
 -- it isn't known what it says
-pub hears_none : (i : InputSeen) (workers : ℕ) (x : HearingValue) (end : ℕ) (fault : SaidFault) (f : SessionFault)
-    → EndsLine x.input 0 end
-    → (IsErrOf (Unsaid fault) said_fault.NotUtf8 → ¬ IsUtf8 (take end x.input.left))
-    → (IsErrOf (Unsaid fault) said_fault.Bad → line_of workers (without_end (take end x.input.left)) ≡ None)
-    → FailsToSay fault x.number f → HearsNone i i workers x x f.kind f.line
-hears_none i workers x end said_fault.NotUtf8 f ends undecodable bad is = rw is (record {
+pub hears_none : (i : InputSeen) (workers : ℕ) (x : HearingValue) {end : ℕ} (kind : ScriptKind) → EndsLine x.input 0 end
+    → IsUnsaid workers (take end x.input.left) kind → HearsNone i i workers x x kind (line_of_kind kind x.number)
+hears_none i workers x {end} kind.NotUtf8 ends undecodable = record {
   stays = stays_put i x;
   line_is = refl;
   raw = take end x.input.left ∷ [];
   behind = drop end x.input.left;
   begins = line_whole x.input end;
-  cut = line_cut x.input end ends;
-  undecodable = rw (append-nil (take end x.input.left)) (undecodable refl);
-})
-hears_none i workers x end said_fault.Bad f ends undecodable bad is = rw is (record {
+  cut = line_cut ends;
+  undecodable = rw (append-nil (take end x.input.left)) undecodable;
+}
+hears_none i workers x {end} kind.BadLine ends bad = record {
   stays = stays_put i x;
   line_is = refl;
-  bad = λ text may. ap (λ ls. commands_from workers x.number 0 ls) (line_cut x.input end ends text may)
-      ∙ bad_line workers x.number (take end x.input.left) (lines (drop end x.input.left ++ text)) (bad refl);
-})
-hears_none i workers x end said_fault.Memory f ends undecodable bad is = rw is (([], stays_put i x), refl)
+  bad = λ text may. ap (λ ls. commands_from workers x.number 0 ls) (line_cut ends text may)
+      ∙ bad_line workers x.number (take end x.input.left) (lines (drop end x.input.left ++ text)) bad;
+}
+hears_none i workers x kind.Memory ends h = (([], stays_put i x), refl)
+hears_none i workers x _ ends h = absurd h
 
 -- ---- a line with its text
 
-abbrev pub hears_said : (i j : InputSeen) (workers : ℕ) (x y : HearingValue) (end : ℕ) (line : Line) (bytes : List ℕ)
+abbrev pub hears_said : {i j : InputSeen} (workers : ℕ) {x y : HearingValue} {end : ℕ} (line : Line) {bytes : List ℕ}
     → x.number < most_lines → line_of workers (without_end (take end x.input.left)) ≡ Some line
     → HearsText i j x y end (text_lines line) bytes
     → Hears i j workers x (record y { size = size_behind (listed (command_with line bytes)) y.size })
     (listed (command_with line bytes))
-hears_said i j workers x y end line bytes few is h =
+hears_said workers {x} {end} line {bytes} few is h =
     let raw : List (List ℕ) = take end x.input.left ∷ h.texts in
     let Said : List ℕ → Type 0 = λ text. HasSaid workers x.number raw (listed (command_with line text)) in
     record {
@@ -156,12 +146,12 @@ hears_said i j workers x y end line bytes few is h =
       size = ap (λ n. size_behind (listed (command_with line bytes)) n) h.size;
     }
 
-pub none_text : (i j : InputSeen) (workers : ℕ) (x y : HearingValue) (end : ℕ) (said : Line) (kind : ScriptKind)
+pub none_text : (i j : InputSeen) (workers : ℕ) (x y : HearingValue) {end : ℕ} (said : Line) (kind : ScriptKind)
     (line : ℕ) → EndsLine x.input 0 end → line_of workers (without_end (take end x.input.left)) ≡ Some said
     → HearsNoText i j x y end (text_lines said) kind line → HearsNone i j workers x y kind line
-none_text i j workers x y end said kind.TooLarge line ends is h = h
-none_text i j workers x y end said kind.NotUtf8 line ends is h = h
-none_text i j workers x y end said kind.BadLine line ends is (lacks, line_is) = record {
+none_text i j workers x y said kind.TooLarge line ends is h = h
+none_text i j workers x y said kind.NotUtf8 line ends is h = h
+none_text i j workers x y {end} said kind.BadLine line ends is (lacks, line_is) = record {
   stays = lacks.stays;
   line_is = line_is;
   bad = λ text may.
@@ -169,14 +159,11 @@ none_text i j workers x y end said kind.BadLine line ends is (lacks, line_is) = 
       let Few : List ℕ → Type 0 = λ t. length (lines t) < text_lines said in
       let few : Few (drop end y.input.left ++ text) = subst Few
       (sym (append-nil (drop end y.input.left)) ∙ ap (λ t. drop end y.input.left ++ t) (sym none)) lacks.fewer.fewer in
-      let later : EndsLine y.input 0 end = line_later i j x.input y.input end lacks.stays.got ends in
-      ap (λ ls. commands_from workers x.number 0 ls) (line_cut y.input end later text may
-      ∙ ap (λ l. l ∷ lines (drop end y.input.left ++ text)) (first_same i j x.input y.input end lacks.stays.got ends))
+      let later : EndsLine y.input 0 end = line_later lacks.stays.got ends in
+      ap (λ ls. commands_from workers x.number 0 ls) (line_cut later text may
+      ∙ ap (λ l. l ∷ lines (drop end y.input.left ++ text)) (first_same lacks.stays.got ends))
       ∙ bad_text workers x.number (take end x.input.left) said (drop end y.input.left ++ text) is few;
 }
-none_text i j workers x y end said kind.ReadFault line ends is h = h
-none_text i j workers x y end said kind.WriteFault line ends is h = absurd h
-none_text i j workers x y end said kind.NoPlace line ends is h = absurd h
-none_text i j workers x y end said kind.Closed line ends is h = absurd h
-none_text i j workers x y end said kind.Join line ends is h = absurd h
-none_text i j workers x y end said kind.Memory line ends is h = h
+none_text i j workers x y said kind.ReadFault line ends is h = h
+none_text i j workers x y said kind.Memory line ends is h = h
+none_text i j workers x y said _ line ends is h = absurd h

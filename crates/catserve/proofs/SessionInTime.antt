@@ -39,9 +39,9 @@ append_cancel [] ys zs same = same
 append_cancel (x ∷ xs) ys zs same = append_cancel xs ys zs (cc)
 
 -- what came is known
-pub open_known : (a b : Log) (workers : ℕ) (x : Incoming) (more : List ℕ) (reads : ReadsWhile a b (StillOpen workers x))
+pub open_known : {a b : Log} {workers : ℕ} {x : Incoming} (more : List ℕ) (reads : ReadsWhile a b (StillOpen workers x))
     → came reads.events ≡ more → ReadsOpen a b workers x more
-open_known a b workers x more reads known = record {
+open_known more reads known = record {
   events = reads.events;
   logged = reads.logged;
   came_is = known;
@@ -49,54 +49,53 @@ open_known a b workers x more reads known = record {
   each = reads.each;
 }
 
-abbrev pub reads_open : (a b : Log) (workers : ℕ) (x : Incoming) (more : List ℕ) → ReadsOpen a b workers x more
+abbrev pub reads_open : {a b : Log} {workers : ℕ} {x : Incoming} {more : List ℕ} → ReadsOpen a b workers x more
     → ReadsWhile a b (StillOpen workers x)
-reads_open a b workers x more reads = record
-    { events = reads.events; logged = reads.logged; silent = reads.silent; each = reads.each }
+reads_open reads = record { events = reads.events; logged = reads.logged; silent = reads.silent; each = reads.each }
 
 -- a line was waited for
-pub line_reads : (i j : InputSeen) (workers : ℕ) (a b : Log) (x y : Incoming) (got : HasGot i j x y [])
+pub line_reads : {i j : InputSeen} (workers : ℕ) {a b : Log} {x y : Incoming} (got : HasGot i j x y [])
     → Waits a b x y [] (StillWaits x 0) → ReadsOpen a b workers x got.more
-line_reads i j workers a b x y got waits = open_known a b workers x got.more (open_line workers a b x y [] waits)
+line_reads workers {x} {y} got waits = open_known got.more (open_line workers waits)
     (append_cancel x.left (came waits.events) got.more (waits.placed ∙ append-nil y.left ∙ got.behind))
 
 -- a line was waited for, and then more
-pub open_more : (i j : InputSeen) (workers : ℕ) (a b c : Log) (x y : Incoming) (more : List ℕ) (got : HasGot i j x y [])
-    → Waits a b x y [] (StillWaits x 0) → ReadsOpen b c workers y more
-    → ReadsOpen a c workers x (got.more ++ more)
-open_more i j workers a b c x y more got waits reads = record {
+pub open_more : {i j : InputSeen} {workers : ℕ} {a b c : Log} {x y : Incoming} {more : List ℕ} (got : HasGot i j x y [])
+    → Waits a b x y [] (StillWaits x 0) → ReadsOpen b c workers y more → ReadsOpen a c workers x (got.more ++ more)
+open_more {a} {b} {c} {x} {y} got waits reads = record {
   events = waits.events ++ reads.events;
   logged = grows_then a b c waits.events reads.events waits.logged reads.logged;
   came_is = came_then waits.events reads.events ∙ ap (λ xs. xs ++ came reads.events) first
       ∙ ap (λ xs. got.more ++ xs) reads.came_is;
   silent = given_then waits.events reads.events ∙ ap (λ xs. xs ++ gave reads.events) waits.silent ∙ reads.silent;
-  each = open_each workers a b c x y got.more got.may waits (reads_open b c workers y more reads);
+  each = open_each got.more got.may waits (reads_open reads);
 } where
   first : came waits.events ≡ got.more
   first = append_cancel x.left (came waits.events) got.more (waits.placed ∙ append-nil y.left ∙ got.behind)
 
-pub in_time_then : (i j k : InputSeen) (a b c : Log) (workers : ℕ) (x y z : HearingValue)
+pub in_time_then : {i j : InputSeen} (k : InputSeen) {a b : Log} (c : Log) (workers : ℕ) {x y : HearingValue}
+    (z : HearingValue)
     (r : Result (Option Heard) SessionFault) (stays : Stays i j x y [])
     → Waits a b x.input y.input [] (StillWaits x.input 0)
     → HearsInTime j k b c workers y z r → HearsInTime i k a c workers x z r
-in_time_then i j k a b c workers x y z (Ok (Some thing)) stays waits (h, reads) = (
-  hears_then i j k workers x y z (Ok (Some thing)) stays h,
-  open_more i j workers a b c x.input y.input h.taken.more stays.got waits reads,
+in_time_then k c workers z (Ok (Some thing)) stays waits (h, reads) = (
+  hears_then k workers z (Ok (Some thing)) stays h,
+  open_more stays.got waits reads,
 )
-in_time_then i j k a b c workers x y z (Ok None) stays waits (h, reads) = (
-  hears_then i j k workers x y z (Ok None) stays h,
-  open_then workers a b c x.input y.input stays.got.more stays.got.may waits reads,
+in_time_then k c workers z (Ok None) stays waits (h, reads) = (
+  hears_then k workers z (Ok None) stays h,
+  open_then stays.got.more stays.got.may waits reads,
 )
-in_time_then i j k a b c workers x y z (Err fault) stays waits (h, reads) = (
-  hears_then i j k workers x y z (Err fault) stays h,
-  open_then workers a b c x.input y.input stays.got.more stays.got.may waits reads,
+in_time_then k c workers z (Err fault) stays waits (h, reads) = (
+  hears_then k workers z (Err fault) stays h,
+  open_then stays.got.more stays.got.may waits reads,
 )
 
 -- the input has ended
-pub end_heard : (i j : InputSeen) (a b : Log) (workers : ℕ) (x y : HearingValue) → Stays i j x y []
+pub end_heard : {i j : InputSeen} {a b : Log} (workers : ℕ) {x y : HearingValue} → Stays i j x y []
     → (y.input.ended ≡ true) × (length y.input.left ≡ 0) → Waits a b x.input y.input [] (StillWaits x.input 0)
     → HearsEnd i j x y × ReadsWhile a b (StillOpen workers x.input)
-end_heard i j a b workers x y stays (ended, none) waits = (
+end_heard workers {y} stays (ended, none) waits = (
   record {
     got = stays.got;
     left = nil_from_length y.input.left none;
@@ -104,16 +103,16 @@ end_heard i j a b workers x y stays (ended, none) waits = (
     number = stays.number;
     size = stays.size;
   },
-  open_line workers a b x.input y.input [] waits,
+  open_line workers waits,
 )
 
 -- ---- a load's text
 
-pub text_reads : (a b : Log) (x y : Incoming) (end count place : ℕ) → EndsLine x 0 end → EndsLines count y end place
+pub text_reads : {a b : Log} {x y : Incoming} {end count place : ℕ} → EndsLine x 0 end → EndsLines count y end place
     → Waits a b x y [] (StillCounts count x end)
     → ReadsText a b x (record { left = drop place y.left; ended = y.ended }) end count
     (take (place - end) (drop end y.left))
-text_reads a b x y end count place line ends waits = record {
+text_reads {x} {y} {end} {place} line ends waits = record {
   events = waits.events;
   logged = waits.logged;
   placed = here ∙ sym (take-append-drop place y.left) ∙ ap (λ xs. xs ++ drop place y.left) (cut ∙ ap (λ xs. xs
@@ -130,17 +129,15 @@ text_reads a b x y end count place line ends waits = record {
   first : take end y.left ≡ take end x.left
   first = ap (take end) (sym here) ∙ take-append-le end x.left (came waits.events) line.within
 
-abbrev pub text_whole : (a b : Log) (x y : Incoming) (end count : ℕ) (bytes : List ℕ)
-    → ReadsText a b x y end count bytes
-    → ReadsWhile a b (StillCounts count x end)
-text_whole a b x y end count bytes reads = record
-    { events = reads.events; logged = reads.logged; silent = reads.silent; each = reads.each }
+abbrev pub text_whole : {a b : Log} {x y : Incoming} {end count : ℕ} {bytes : List ℕ}
+    → ReadsText a b x y end count bytes → ReadsWhile a b (StillCounts count x end)
+text_whole reads = record { events = reads.events; logged = reads.logged; silent = reads.silent; each = reads.each }
 
 -- the text came that was heard
-pub text_came : (i j : InputSeen) (a b : Log) (x y : HearingValue) (end count : ℕ) (bytes : List ℕ)
+pub text_came : {i j : InputSeen} {a b : Log} {x y : HearingValue} {end count : ℕ} {bytes : List ℕ}
     (h : HearsText i j x y end count bytes) (reads : ReadsText a b x.input y.input end count bytes)
     → came reads.events ≡ h.taken.more
-text_came i j a b x y end count bytes h reads = append_cancel x.input.left (came reads.events) h.taken.more
+text_came {x} {y} {end} h reads = append_cancel x.input.left (came reads.events) h.taken.more
     (reads.placed ∙ ap (λ bs. (take end x.input.left ++ bs) ++ y.input.left) h.bytes_are ∙ sym h.taken.whole)
 
 -- ---- what was heard
@@ -150,26 +147,23 @@ abbrev pub HearsSo : InputSeen → InputSeen → Log → Log → ℕ → Hearing
 HearsSo i j a b workers x y commands = (h : Hears i j workers x y commands)
     × ReadsOpen a b workers x.input h.taken.more
 
-pub said_heard : (i j : InputSeen) (a b : Log) (workers : ℕ) (x y : HearingValue) (end : ℕ) (line : Line)
-    (bytes : List ℕ) → x.number < most_lines → EndsLine x.input 0 end
-    → line_of workers (without_end (take end x.input.left)) ≡ Some line
-    → HearsText i j x y end (text_lines line) bytes
+pub said_heard : {i j : InputSeen} {a b : Log} (workers : ℕ) {x y : HearingValue} {end : ℕ} (line : Line)
+    {bytes : List ℕ} → x.number < most_lines → EndsLine x.input 0 end
+    → line_of workers (without_end (take end x.input.left)) ≡ Some line → HearsText i j x y end (text_lines line) bytes
     → ReadsText a b x.input y.input end (text_lines line) bytes → HearsSo i j a b workers x
     (record y { size = size_behind (listed (command_with line bytes)) y.size }) (listed (command_with line bytes))
-said_heard i j a b workers x y end line bytes few ends is h reads = (
-  hears_said i j workers x y end line bytes few is h,
-  open_known a b workers x.input h.taken.more (open_text workers a b x.input end line ends is
-      (text_whole a b x.input y.input end (text_lines line) bytes reads))
-      (text_came i j a b x y end (text_lines line) bytes h reads),
+said_heard workers line few ends is h reads = (
+  hears_said workers line few is h,
+  open_known h.taken.more (open_text workers line ends is (text_whole reads)) (text_came h reads),
 )
 
 -- ---- steps
 
 -- all that had ended is answered, while no further round ends
-pub is_answered : (given : Option ℕ) (i j : InputSeen) (o o' : OutputSeen) (y : HearingValue) (front : List (List ℕ))
+pub is_answered : {given : Option ℕ} {i j : InputSeen} {o o' : OutputSeen} {y : HearingValue} {front : List (List ℕ)}
     (a : Answered given i j o o' y front) (t g : List ℕ) → StillOpen a.workers y.input t g
     → IsAnswered given (a.taken.more ++ t) (a.output ++ g)
-is_answered given i j o o' y front a t g still =
+is_answered {y} {front} a t g still =
     let Plays : List ℕ → Type 0 = λ out. PlaysAll a.workers [] a.rounds out in
     record {
       front = front;
@@ -195,11 +189,11 @@ begins_timely given log = record {
 }
 
 -- only reads, and all was answered before each of them
-reads_first : (given : Option ℕ) (a b c : Log) (text output : List ℕ) (workers : ℕ) (y : Incoming)
+reads_first : {given : Option ℕ} {a b c : Log} {text output : List ℕ} {workers : ℕ} {y : Incoming}
     (had : InTime given a b text output)
     → ((t g : List ℕ) → StillOpen workers y t g → IsAnswered given (text ++ t) (output ++ g))
     → (reads : ReadsWhile b c (StillOpen workers y)) → AnswersFirst (IsAnswered given) (had.events ++ reads.events)
-reads_first given a b c text output workers y had here reads =
+reads_first {given} {text} {workers} {y} had here reads =
     let Here : List ℕ → List ℕ → Type 0 = λ xs ys. (t g : List ℕ) → StillOpen workers y t g
     → IsAnswered given (xs ++ t) (ys ++ g) in
     let at : Here (came had.events) (gave had.events) = subst (λ xs. Here xs (gave had.events)) (sym had.came_is)
@@ -207,23 +201,24 @@ reads_first given a b c text output workers y had here reads =
     answers_then (IsAnswered given) had.events reads.events had.first (answers_so (StillOpen workers y)
     (λ t g. IsAnswered given (came had.events ++ t) (gave had.events ++ g)) reads.events at reads.each)
 
-pub reads_timely : (given : Option ℕ) (a b c : Log) (text output more : List ℕ) (workers : ℕ) (y : Incoming)
+pub reads_timely : {given : Option ℕ} {a b c : Log} {text output more : List ℕ} {workers : ℕ} {y : Incoming}
     → InTime given a b text output
     → ((t g : List ℕ) → StillOpen workers y t g → IsAnswered given (text ++ t) (output ++ g))
     → ReadsOpen b c workers y more → InTime given a c (text ++ more) output
-reads_timely given a b c text output more workers y had here reads = record {
+reads_timely {a} {b} {c} {text} had here reads = record {
   events = had.events ++ reads.events;
   logged = grows_then a b c had.events reads.events had.logged reads.logged;
   came_is = came_then had.events reads.events ∙ ap (λ xs. xs ++ came reads.events) had.came_is
       ∙ ap (λ xs. text ++ xs) reads.came_is;
   given_is = given_then had.events reads.events ∙ ap (λ xs. gave had.events ++ xs) reads.silent
       ∙ append-nil (gave had.events) ∙ had.given_is;
-  first = reads_first given a b c text output workers y had here (reads_open b c workers y more reads);
+  first = reads_first had here (reads_open reads);
 }
 
-pub gives_timely : (given : Option ℕ) (a b c : Log) (text output bytes : List ℕ) → InTime given a b text output
+pub gives_timely : {given : Option ℕ} {a b : Log} (c : Log) {text output : List ℕ} (bytes : List ℕ)
+    → InTime given a b text output
     → Grows b c (Gave bytes ∷ []) → InTime given a c text (output ++ bytes)
-gives_timely given a b c text output bytes had logged = record {
+gives_timely {given} {a} {b} c bytes had logged = record {
   events = had.events ++ Gave bytes ∷ [];
   logged = grows_then a b c had.events (Gave bytes ∷ []) had.logged logged;
   came_is = came_then had.events (Gave bytes ∷ []) ∙ append-nil (came had.events) ∙ had.came_is;
@@ -252,93 +247,87 @@ gives_last given a b c events logged first (inr (bytes, gave_it)) = record {
 pub gives_none : (log : Log) → GivesSome log log
 gives_none log = inl (grows_none log)
 
-pub ends_at : (given : Option ℕ) (a b : Log) (text output : List ℕ) → InTime given a b text output
+pub ends_at : {given : Option ℕ} {a b : Log} {text output : List ℕ} → InTime given a b text output
     → AnswersInTime given a b
-ends_at given a b text output had = record { events = had.events; logged = had.logged; first = had.first }
+ends_at had = record { events = had.events; logged = had.logged; first = had.first }
 
 -- more is read, and then some bytes may be given
-pub ends_timely : (given : Option ℕ) (a b c d : Log) (text output : List ℕ) (workers : ℕ) (y : Incoming)
+pub ends_timely : {given : Option ℕ} {a b c : Log} (d : Log) {text output : List ℕ} {workers : ℕ} {y : Incoming}
     → InTime given a b text output
     → ((t g : List ℕ) → StillOpen workers y t g → IsAnswered given (text ++ t) (output ++ g))
     → ReadsWhile b c (StillOpen workers y) → GivesSome c d → AnswersInTime given a d
-ends_timely given a b c d text output workers y had here reads gives =
+ends_timely {given} {a} {b} {c} d had here reads gives =
     gives_last given a c d (had.events ++ reads.events) (grows_then a b c had.events reads.events had.logged
-    reads.logged)
-    (reads_first given a b c text output workers y had here reads) gives
+    reads.logged) (reads_first had here reads) gives
 
 -- ---- the talk
 
-pub talks_none : (workers : ℕ) (i : InputSeen) (o : OutputSeen) (x : HearingValue) (start : PlayerValue) (log : Log)
+pub talks_none : {workers : ℕ} (i : InputSeen) (o : OutputSeen) (x : HearingValue) {start : PlayerValue} (log : Log)
     → 0 < x.number → IsFresh workers start → TalksInTime workers i i o o x x start start log log
-talks_none workers i o x start log some fresh = (
-  converses_none workers i o x start some fresh,
+talks_none i o x log some fresh = (
+  converses_none i o x some fresh,
   λ given first b before begun. subst (λ xs. InTime given before log xs []) (sym (append-nil b.taken.more)) begun,
 )
 
 -- what is read for the next line is read in time
-pub talks_here : (given : Option ℕ) (first i j : InputSeen) (o o' : OutputSeen) (x y : HearingValue) (workers : ℕ)
-    (start talk : PlayerValue) (begun : Begins given first i x workers) (c : Conversing workers i j o o' x y start talk)
+pub talks_here : {given : Option ℕ} {first i j : InputSeen} {o o' : OutputSeen} {x y : HearingValue} {workers : ℕ}
+    {start talk : PlayerValue} (begun : Begins given first i x workers) (c : Conversing workers i j o o' x y start talk)
     → IsFresh workers start → (t g : List ℕ) → StillOpen workers y.input t g
     → IsAnswered given ((begun.taken.more ++ c.taken.more) ++ t) (c.written ++ g)
-talks_here given first i j o o' x y workers start talk begun c fresh = is_answered given first j o o' y
-    (begun.front ++ c.lines) (answered given first i j o o' x y workers start talk begun c fresh)
+talks_here begun c fresh = is_answered (answered begun c fresh)
 
-moved : (given : Option ℕ) (a b c : Log) (front mid back output : List ℕ)
-    → InTime given a b ((front ++ mid) ++ back) output
-    → c ≡ b → InTime given a c (front ++ (mid ++ back)) output
-moved given a b c front mid back output had same = subst (λ log. InTime given a log (front ++ (mid ++ back)) output)
+moved : {given : Option ℕ} {a b : Log} (c : Log) (front mid back : List ℕ) {output : List ℕ}
+    → InTime given a b ((front ++ mid) ++ back) output → c ≡ b → InTime given a c (front ++ (mid ++ back)) output
+moved {given} {a} {b} c front mid back {output} had same = subst (λ log. InTime given a log (front ++ (mid ++ back))
+    output)
     (sym same) (subst (λ xs. InTime given a b xs output) (append_assoc front mid back) had)
 
-pub talks_more : (workers : ℕ) (i j k : InputSeen) (o o' o'' : OutputSeen) (x y z : HearingValue)
-    (start old new : PlayerValue) (a b c d : Log) (command : Option Command) → IsFresh workers start
+pub talks_more : {workers : ℕ} {i j k : InputSeen} {o o' : OutputSeen} (o'' : OutputSeen) {x y z : HearingValue}
+    {start old : PlayerValue} (new : PlayerValue) {a b c : Log} (d : Log) (command : Option Command)
+    → IsFresh workers start
     → TalksInTime workers i j o o' x y start old a b
     → (h : Hears j k workers y z (listed command)) × ReadsOpen b c workers y.input h.taken.more
     → RespondsInTime command old new o' o'' c d → TalksInTime workers i k o o'' x z start new a d
-talks_more workers i j k o o' o'' x y z start old new a b c d command fresh talks heard_it responds =
+talks_more {workers} {i} {j} {k} {o} {o'} o'' {x} {y} {z} {start} {old} new {a} {b} {c} d command fresh talks heard_it
+    responds =
     by_command command heard_it responds
   where
     read : (more : List ℕ) → ReadsOpen b c workers y.input more → (given : Option ℕ) (first : InputSeen)
         (begun : Begins given first i x workers) (before : Log) → InTime given before a begun.taken.more []
         → InTime given before c ((begun.taken.more ++ talks.0.taken.more) ++ more) talks.0.written
-    read more reads given first begun before timely = reads_timely given before b c
-        (begun.taken.more ++ talks.0.taken.more) talks.0.written more workers y.input
-        (talks.1 given first begun before timely)
-        (talks_here given first i j o o' x y workers start old begun talks.0 fresh) reads
+    read more reads given first begun before timely = reads_timely (talks.1 given first begun before timely)
+        (talks_here begun talks.0 fresh) reads
 
     by_command : (command : Option Command)
         → (h : Hears j k workers y z (listed command)) × ReadsOpen b c workers y.input h.taken.more
         → RespondsInTime command old new o' o'' c d → TalksInTime workers i k o o'' x z start new a d
     by_command None (h, reads) (done, same) = (
-      converses_more workers i j k o o' o'' x y z start old new None talks.0 h done,
-      λ given first begun before timely. moved given before c d begun.taken.more talks.0.taken.more h.taken.more
-          talks.0.written (read h.taken.more reads given first begun before timely) same,
+      converses_more o'' new None talks.0 h done,
+      λ given first begun before timely. moved d begun.taken.more talks.0.taken.more h.taken.more
+          (read h.taken.more reads given first begun before timely) same,
     )
     by_command (Some (Load load)) (h, reads) (done, same) = (
-      converses_more workers i j k o o' o'' x y z start old new (Some (Load load)) talks.0 h done,
-      λ given first begun before timely. moved given before c d begun.taken.more talks.0.taken.more h.taken.more
-          talks.0.written (read h.taken.more reads given first begun before timely) same,
+      converses_more o'' new (Some (Load load)) talks.0 h done,
+      λ given first begun before timely. moved d begun.taken.more talks.0.taken.more h.taken.more
+          (read h.taken.more reads given first begun before timely) same,
     )
     by_command (Some (Ask worker query)) (h, reads) (done, same) = (
-      converses_more workers i j k o o' o'' x y z start old new (Some (Ask worker query)) talks.0 h done,
-      λ given first begun before timely. moved given before c d begun.taken.more talks.0.taken.more h.taken.more
-          talks.0.written (read h.taken.more reads given first begun before timely) same,
+      converses_more o'' new (Some (Ask worker query)) talks.0 h done,
+      λ given first begun before timely. moved d begun.taken.more talks.0.taken.more h.taken.more
+          (read h.taken.more reads given first begun before timely) same,
     )
     by_command (Some Go) (h, reads) (answers, logged) = (
-      converses_more workers i j k o o' o'' x y z start old new (Some Go) talks.0 h answers,
-      λ given first begun before timely. gives_timely given before c d
-          (begun.taken.more ++ (talks.0.taken.more ++ h.taken.more)) talks.0.written answers.lines
-          (moved given before c c begun.taken.more talks.0.taken.more h.taken.more talks.0.written
-          (read h.taken.more reads given first begun before timely) refl) logged,
+      converses_more o'' new (Some Go) talks.0 h answers,
+      λ given first begun before timely. gives_timely d answers.lines (moved c begun.taken.more talks.0.taken.more
+          h.taken.more (read h.taken.more reads given first begun before timely) refl) logged,
     )
 
 -- nothing more is heard, or what was heard isn't answered
-pub talks_last : (workers : ℕ) (i j : InputSeen) (o o' : OutputSeen) (x y : HearingValue) (start talk : PlayerValue)
-    (a b c d : Log) → IsFresh workers start → TalksInTime workers i j o o' x y start talk a b
+pub talks_last : {workers : ℕ} {i j : InputSeen} {o o' : OutputSeen} {x y : HearingValue} {start talk : PlayerValue}
+    {a b c : Log} (d : Log) → IsFresh workers start → TalksInTime workers i j o o' x y start talk a b
     → ReadsWhile b c (StillOpen workers y.input) → GivesSome c d → ContinuesInTime workers i x a d
-talks_last workers i j o o' x y start talk a b c d fresh talks reads gives given first begun before timely =
-    ends_timely given before b c d (begun.taken.more ++ talks.0.taken.more) talks.0.written workers y.input
-    (talks.1 given first begun before timely)
-    (talks_here given first i j o o' x y workers start talk begun talks.0 fresh) reads gives
+talks_last d fresh talks reads gives given first begun before timely =
+    ends_timely d (talks.1 given first begun before timely) (talks_here begun talks.0 fresh) reads gives
 
 -- ---- the front
 
@@ -346,10 +335,9 @@ abbrev no_output : OutputSeen
 no_output = record { bytes = None; failures = 0 }
 
 -- nothing is due before the first command
-passed_here : (i j : InputSeen) (y : HearingValue) (front : List (List ℕ)) (passed : HasPassed i j unheard y front)
+passed_here : {i j : InputSeen} {y : HearingValue} {front : List (List ℕ)} (passed : HasPassed i j unheard y front)
     (t g : List ℕ) → StillOpen 2 y.input t g → IsAnswered None (passed.taken.more ++ t) ([] ++ g)
-passed_here i j y front passed = is_answered None i j no_output no_output y front
-    (front_answered i j no_output y front passed)
+passed_here passed = is_answered (front_answered no_output passed)
 
 -- lines before the first command that say nothing were passed in time
 abbrev pub PassesInTime : InputSeen → InputSeen → HearingValue → List (List ℕ) → Log → Log → Type 0
@@ -359,18 +347,14 @@ pub passes_none : (i : InputSeen) (log : Log) → PassesInTime i i unheard [] lo
 passes_none i log = (passed_none i unheard, begins_timely None log)
 
 -- one line more was waited for
-pub passed_timely : (i j k : InputSeen) (y z : HearingValue) (front : List (List ℕ)) (a b c : Log)
+pub passed_timely : {i j k : InputSeen} {y z : HearingValue} {front : List (List ℕ)} {a b c : Log}
     (passed : HasPassed i j unheard y front) → InTime None a b passed.taken.more []
     → (stays : Stays j k y z []) → Waits b c y.input z.input [] (StillWaits y.input 0)
     → InTime None a c (passed.taken.more ++ stays.got.more) []
-passed_timely i j k y z front a b c passed timely stays waits = reads_timely None a b c passed.taken.more []
-    stays.got.more 2 y.input timely (passed_here i j y front passed)
-    (line_reads j k 2 b c y.input z.input stays.got waits)
+passed_timely passed timely stays waits = reads_timely timely (passed_here passed) (line_reads 2 stays.got waits)
 
 -- it didn't come
-pub passed_last : (i j : InputSeen) (y : HearingValue) (z : Incoming) (front : List (List ℕ)) (lost : List ℕ)
-    (a b c : Log) (passed : HasPassed i j unheard y front) → InTime None a b passed.taken.more []
+pub passed_last : {i j : InputSeen} {y : HearingValue} {z : Incoming} {front : List (List ℕ)} {lost : List ℕ}
+    {a b c : Log} (passed : HasPassed i j unheard y front) → InTime None a b passed.taken.more []
     → Waits b c y.input z lost (StillWaits y.input 0) → AnswersInTime None a c
-passed_last i j y z front lost a b c passed timely waits = ends_timely None a b c c passed.taken.more [] 2 y.input
-    timely
-    (passed_here i j y front passed) (open_line 2 b c y.input z lost waits) (gives_none c)
+passed_last {c} passed timely waits = ends_timely c timely (passed_here passed) (open_line 2 waits) (gives_none c)

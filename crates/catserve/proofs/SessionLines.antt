@@ -69,11 +69,11 @@ heard_none workers first some = record {
   utf8 = search Rattle.std.proofs.lemmas.Str.IsUtf8-nil;
 }
 
-pub heard_more : (workers first : ℕ) (front raw : List (List ℕ)) (g : Gathered) (number next : ℕ)
-    (commands : List Command) → HasHeard workers first front g number → HasSaid workers number raw commands
+pub heard_more : {workers first : ℕ} {front raw : List (List ℕ)} {g : Gathered} {number : ℕ} (next : ℕ)
+    {commands : List Command} → HasHeard workers first front g number → HasSaid workers number raw commands
     → next ≡ number + length raw → loads_so_far (fold gathered g commands) ≤ loads_so_far g + 1
     → HasHeard workers first (front ++ raw) (fold gathered g commands) next
-heard_more workers first front raw g number next commands heard said next_is few = record {
+heard_more {workers} {first} {front} {raw} {g} {number} next {commands} heard said next_is few = record {
   going = λ behind. ap (λ ls. script_of workers (commands_from workers first 0 ls)) (append_assoc front raw behind)
       ∙ heard.going (raw ++ behind) ∙ ap (λ found. going_on workers g found) (said.says behind)
       ∙ gathers workers number g commands (commands_from workers (number + length raw) 0 behind)
@@ -94,22 +94,21 @@ pub follows_all : (input : Incoming) (text : List ℕ) → MayCome input text �
 follows_all input text may = inr (text, may, alike_self (lines (input.left ++ text)))
 
 -- so do the first lines of it, followed by the end of a round
-pub follows_end : (i j : InputSeen) (x y : Incoming) (front : List (List ℕ)) → HasTaken i j x y front
+pub follows_end : {i j : InputSeen} {x y : Incoming} (front : List (List ℕ)) → HasTaken i j x y front
     → Follows x (front ++ round_end ∷ [])
-follows_end i j x y [] taken = inl refl
-follows_end i j x y (l ∷ front) taken =
+follows_end [] taken = inl refl
+follows_end {x} {y} (l ∷ front) taken =
     let none : MayCome y [] = λ ended. refl in
     let cut = ap lines (sym (append_assoc x.left taken.more [])) ∙ taken.cut [] none in
     let P : List (List ℕ) → Type 0 = λ ls. BeginAlike (l ∷ (front ++ round_end ∷ [])) ls in
     inr (taken.more ++ [], taken.may [] none, subst P (sym cut) refl)
 
 -- the rounds that have ended
-abbrev pub ended_so : (given : Option ℕ) (first i j : InputSeen) (x y : HearingValue) (workers : ℕ)
-    (b : Begins given first i x workers) (front : List (List ℕ)) (g : Gathered) → HasTaken i j x.input y.input front
+abbrev pub ended_so : {given : Option ℕ} {first i j : InputSeen} {x : HearingValue} (y : HearingValue) {workers : ℕ}
+    (b : Begins given first i x workers) {front : List (List ℕ)} {g : Gathered} → HasTaken i j x.input y.input front
     → HasHeard workers x.number front g y.number → HaveEnded given (b.front ++ front) workers g.ended
-ended_so given first i j x y workers b front g taken heard = record {
+ended_so {given} y b {front} {g} taken heard = record {
   last = both g.current empty_round;
   says = ap (said given) (append_assoc b.front front (round_end ∷ []))
-      ∙ b.going (front ++ round_end ∷ []) (follows_end i j x.input y.input front taken) ∙ heard.going (round_end ∷ [])
-      ∙ refl;
+      ∙ b.going (front ++ round_end ∷ []) (follows_end front taken) ∙ heard.going (round_end ∷ []) ∙ refl;
 }

@@ -41,21 +41,20 @@ loaded_none store held none = record {
 }
 
 -- one load more
-pub loaded_more : (loads : List JobValue) (load : JobValue) (before : StoreValue) (lines : List ℕ)
-    (old new : PlayerValue) → HasLoaded loads before old.store lines old.held → MakesLoad load old new
+pub loaded_more : {loads : List JobValue} {load : JobValue} {before : StoreValue} {lines : List ℕ}
+    {old new : PlayerValue} → HasLoaded loads before old.store lines old.held → MakesLoad load old new
     → HasLoaded (loads ++ load ∷ []) before new.store lines new.held
-loaded_more loads load before lines old new loaded makes = record {
-  loaded = loads_more loads load before.pending old.store.pending new.store.pending lines old.held new.held
-      loaded.loaded makes.loads;
+loaded_more loaded makes = record {
+  loaded = loads_more loaded.loaded makes.loads;
   seen = makes.seen ∙ loaded.seen;
   most = makes.most ∙ loaded.most;
 }
 
 -- one question more
-pub given_more : (questions : List QuestionValue) (question : QuestionValue) (old mid new : PlayerValue)
+pub given_more : {questions : List QuestionValue} (question : QuestionValue) {old mid new : PlayerValue}
     → GivesAll questions old mid → GivesQuestion question.worker question.query mid new
     → GivesAll (questions ++ question ∷ []) old new
-given_more questions question old mid new all gives = record {
+given_more {questions} question {mid} {new} all gives = record {
   asked = asked_more 0 question.worker question.worker questions question.query mid.desks new.desks (omega arith)
       all.asked gives.gives;
   readers = readers-given mid.desks new.desks question.worker question.query gives.gives ∙ all.readers;
@@ -64,9 +63,9 @@ given_more questions question old mid new all gives = record {
 }
 
 -- a round whose lines begin with nothing, after what was written
-played_behind : (workers : ℕ) (round : RoundValue) (was now : StoreValue) (written lines : List ℕ)
+played_behind : {workers : ℕ} {round : RoundValue} {was now : StoreValue} (written : List ℕ) {lines : List ℕ}
     → PlaysOne workers round was now [] lines → PlaysOne workers round was now written (written ++ lines)
-played_behind workers round was now written lines one = record {
+played_behind written one = record {
   output = one.output;
   plays = one.plays;
   none_pending = one.none_pending;
@@ -75,30 +74,28 @@ played_behind workers round was now written lines one = record {
 }
 
 -- the open round has these lines
-pub plays_open : (workers : ℕ) (g : Gathered) (start : StoreValue) (old : PlayerValue) (now : StoreValue)
-    (written lines : List ℕ) → HasTalked workers g start old written
+pub plays_open : {workers : ℕ} {g : Gathered} {start : StoreValue} {old : PlayerValue} (now : StoreValue)
+    {written : List ℕ} (lines : List ℕ) → HasTalked workers g start old written
     → Finishes (length old.desks) old.store old.desks old.held now lines
     → HasPlayed workers (g.ended ++ g.current ∷ []) start now (written ++ lines)
-plays_open workers g start old now written lines talked finishes =
+plays_open {g} {old} now {written} lines talked finishes =
     let one : PlaysOne (length old.desks) g.current talked.before now [] lines =
     finishes g.current talked.before [] talked.played.none_pending talked.loaded talked.asked in
     let P : ℕ → Type 0 = λ n. PlaysOne n g.current talked.before now [] lines in
-    plays_more workers g.ended g.current start talked.before now written (written ++ lines) talked.played
-    (played_behind workers g.current talked.before now written lines (subst P talked.count one))
+    plays_more talked.played (played_behind written (subst P talked.count one))
 
 -- it was answered
-pub answers_one : (workers : ℕ) (g : Gathered) (start : StoreValue) (old new : PlayerValue) (o o' : OutputSeen)
-    (written : List ℕ) (talked : HasTalked workers g start old written) (a : AnswersRound old new o o')
+pub answers_one : {workers : ℕ} {g : Gathered} {start : StoreValue} {old new : PlayerValue} {o o' : OutputSeen}
+    {written : List ℕ} (talked : HasTalked workers g start old written) (a : AnswersRound old new o o')
     → HasPlayed workers (g.ended ++ g.current ∷ []) start new.store (written ++ a.lines)
-answers_one workers g start old new o o' written talked a = plays_open workers g start old new.store written a.lines
-    talked a.finishes
+answers_one {new} talked a = plays_open new.store a.lines talked a.finishes
 
 -- ---- the talk
 
 -- with the first line
-pub talked_none : (workers : ℕ) (start : PlayerValue) → IsFresh workers start
+pub talked_none : {workers : ℕ} {start : PlayerValue} → IsFresh workers start
     → HasTalked workers nothing start.store start []
-talked_none workers start fresh = record {
+talked_none {workers} {start} fresh = record {
   before = start.store;
   played = plays_none workers start.store fresh.none_pending;
   loaded = loaded_none start.store start.held fresh.held;
@@ -108,10 +105,10 @@ talked_none workers start fresh = record {
   begun = fresh.begun;
 }
 
-pub talked_load : (workers : ℕ) (g : Gathered) (start : StoreValue) (old new : PlayerValue) (written : List ℕ)
-    (load : JobValue) → HasTalked workers g start old written → MakesLoad load old new
+pub talked_load : {workers : ℕ} {g : Gathered} {start : StoreValue} {old new : PlayerValue} {written : List ℕ}
+    {load : JobValue} → HasTalked workers g start old written → MakesLoad load old new
     → HasTalked workers (gathered g (Load load)) start new written
-talked_load workers g start old new written load talked makes =
+talked_load {g} {old} {new} talked makes =
     let Asked : List Desk → Type 0 = λ ds. AreAsked 0 (g.current.questions ++ []) ds in
     let Given : List QuestionValue → Type 0 = λ qs. AreAsked 0 qs old.desks in
     let Desks : List Desk → Type 0 = λ ds. HaveBook new.store.seen ds in
@@ -119,17 +116,17 @@ talked_load workers g start old new written load talked makes =
     record {
       before = talked.before;
       played = talked.played;
-      loaded = loaded_more g.current.loads load talked.before [] old new talked.loaded makes;
+      loaded = loaded_more talked.loaded makes;
       asked = subst Asked (sym makes.desks) (subst Given (sym (append-nil g.current.questions)) talked.asked);
       book = subst Desks (sym makes.desks) (subst Seen (sym makes.seen) talked.book);
       count = ap length makes.desks ∙ talked.count;
       begun = makes.begun;
     }
 
-pub talked_ask : (workers : ℕ) (g : Gathered) (start : StoreValue) (old new : PlayerValue) (written : List ℕ)
-    (worker : ℕ) (query : QueryValue) → HasTalked workers g start old written → GivesQuestion worker query old new
+pub talked_ask : {workers : ℕ} {g : Gathered} {start : StoreValue} {old new : PlayerValue} {written : List ℕ}
+    {worker : ℕ} {query : QueryValue} → HasTalked workers g start old written → GivesQuestion worker query old new
     → HasTalked workers (gathered g (Ask worker query)) start new written
-talked_ask workers g start old new written worker query talked gives =
+talked_ask {g} {old} {new} {worker} {query} talked gives =
     let readers = readers-given old.desks new.desks worker query gives.gives in
     let Loads : List JobValue → Type 0 = λ ls. HasLoaded ls talked.before new.store [] new.held in
     let Store : StoreValue → Type 0 = λ s. HasLoaded g.current.loads talked.before s [] new.held in
@@ -149,12 +146,12 @@ talked_ask workers g start old new written worker query talked gives =
       begun = gives.begun;
     }
 
-pub talked_go : (workers : ℕ) (g : Gathered) (start : StoreValue) (old new : PlayerValue) (o o' : OutputSeen)
-    (written : List ℕ) (talked : HasTalked workers g start old written) (a : AnswersRound old new o o')
+pub talked_go : {workers : ℕ} {g : Gathered} {start : StoreValue} {old new : PlayerValue} {o o' : OutputSeen}
+    {written : List ℕ} (talked : HasTalked workers g start old written) (a : AnswersRound old new o o')
     → HasTalked workers (gathered g Go) start new (written ++ a.lines)
-talked_go workers g start old new o o' written talked a = record {
+talked_go {new} talked a = record {
   before = new.store;
-  played = answers_one workers g start old new o o' written talked a;
+  played = answers_one talked a;
   loaded = loaded_none new.store new.held a.held;
   asked = a.ready.free;
   book = a.ready.book;
@@ -169,15 +166,15 @@ abbrev pub ended_first : (given : Option ℕ) → (workers : ℕ) × HaveEnded g
 ended_first None = (2, record { last = empty_round; says = refl })
 ended_first (Some workers) = (workers, record { last = empty_round; says = refl })
 
-abbrev pub converses_none : (workers : ℕ) (i : InputSeen) (o : OutputSeen) (x : HearingValue) (start : PlayerValue)
+abbrev pub converses_none : {workers : ℕ} (i : InputSeen) (o : OutputSeen) (x : HearingValue) {start : PlayerValue}
     → 0 < x.number → IsFresh workers start → Conversing workers i i o o x x start start
-converses_none workers i o x start some fresh = record {
+converses_none {workers} i o x some fresh = record {
   lines = [];
   g = nothing;
   written = [];
   taken = taken_none i x.input;
   heard = heard_none workers x.number some;
-  talked = talked_none workers start fresh;
+  talked = talked_none fresh;
   output = Appends-nil o.bytes;
   steady = refl;
   is_open = λ given first b. record {
@@ -191,9 +188,10 @@ converses_none workers i o x start some fresh = record {
 }
 
 -- the open round with some lines more
-pub open_more : (given : Option ℕ) (front raw : List (List ℕ)) (g h : Gathered) (size next : ℕ) → h.ended ≡ g.ended
+pub open_more : {given : Option ℕ} {front : List (List ℕ)} (raw : List (List ℕ)) {g : Gathered} (h : Gathered)
+    {size : ℕ} (next : ℕ) → h.ended ≡ g.ended
     → next ≡ size + length (concat raw) → HasOpen given front g size → HasOpen given (front ++ raw) h next
-open_more given front raw g h size next same next_is was =
+open_more {given} raw h next same next_is was =
     let P : List RoundValue → Type 0 = λ rs. HaveEnded given was.before was.workers rs in
     record {
       before = was.before;
@@ -211,9 +209,9 @@ open_more given front raw g h size next same next_is was =
     }
 
 -- a round has ended
-pub open_none : (given : Option ℕ) (front : List (List ℕ)) (g : Gathered) (size workers : ℕ) → size ≡ 0
+pub open_none : {given : Option ℕ} {front : List (List ℕ)} (g : Gathered) (size : ℕ) {workers : ℕ} → size ≡ 0
     → HaveEnded given front workers g.ended → HasOpen given front g size
-open_none given front g size workers none ended = record {
+open_none {front} g size {workers} none ended = record {
   before = front;
   round = [];
   cut = sym (append-nil front);
@@ -223,71 +221,64 @@ open_none given front g size workers none ended = record {
 }
 
 -- something that doesn't end the round
-abbrev pub goes_on : (workers : ℕ) (i j k : InputSeen) (o o' o'' : OutputSeen) (x y z : HearingValue)
-    (start old new : PlayerValue)
-    (commands : List Command) (c : Conversing workers i j o o' x y start old)
+abbrev pub goes_on : {workers : ℕ} {i j k : InputSeen} {o o' : OutputSeen} (o'' : OutputSeen) {x y z : HearingValue}
+    {start old new : PlayerValue} {commands : List Command} (c : Conversing workers i j o o' x y start old)
     (h : Hears j k workers y z commands) (few : loads_so_far (fold gathered c.g commands) ≤ loads_so_far c.g + 1)
     → size_behind commands (y.size + length (concat h.raw)) ≡ y.size + length (concat h.raw)
     → (fold gathered c.g commands).ended ≡ c.g.ended
     → HasTalked workers (fold gathered c.g commands) start.store new c.written → o'' ≡ o'
     → Conversing workers i k o o'' x z start new
-goes_on workers i j k o o' o'' x y z start old new commands c h few size same talked kept =
+goes_on {o} o'' {z} {commands} c h few size same talked kept =
     let Out : OutputSeen → Type 0 = λ out. Appends o.bytes out.bytes c.written in
     record {
       lines = c.lines ++ h.raw;
       g = fold gathered c.g commands;
       written = c.written;
-      taken = taken_then i j k x.input y.input z.input c.lines h.raw c.taken h.taken;
-      heard = heard_more workers x.number c.lines h.raw c.g y.number z.number commands c.heard h.said h.number few;
+      taken = taken_then c.taken h.taken;
+      heard = heard_more z.number c.heard h.said h.number few;
       talked = talked;
       output = subst Out (sym kept) c.output;
       steady = ap (λ (out : OutputSeen). out.failures) kept ∙ c.steady;
       is_open = λ given first b.
           let P : List (List ℕ) → Type 0 = λ ls. HasOpen given ls (fold gathered c.g commands) z.size in
           subst P (append_assoc b.front c.lines h.raw)
-          (open_more given (b.front ++ c.lines) h.raw c.g (fold gathered c.g commands) y.size z.size same
-          (h.size ∙ size) (c.is_open given first b));
+          (open_more h.raw (fold gathered c.g commands) z.size same (h.size ∙ size) (c.is_open given first b));
     }
 
 -- what a line says was done
-abbrev pub converses_more : (workers : ℕ) (i j k : InputSeen) (o o' o'' : OutputSeen) (x y z : HearingValue)
-    (start old new : PlayerValue) (command : Option Command) → Conversing workers i j o o' x y start old
+abbrev pub converses_more : {workers : ℕ} {i j k : InputSeen} {o o' : OutputSeen} (o'' : OutputSeen)
+    {x y z : HearingValue}
+    {start old : PlayerValue} (new : PlayerValue) (command : Option Command) → Conversing workers i j o o' x y start old
     → Hears j k workers y z (listed command) → Responds command old new o' o''
     → Conversing workers i k o o'' x z start new
-converses_more workers i j k o o' o'' x y z start old new None c h (same, kept) =
+converses_more {workers} o'' {start} new None c h (same, kept) =
     let Player : PlayerValue → Type 0 = λ t. HasTalked workers c.g start.store t c.written in
-    goes_on workers i j k o o' o'' x y z start old new [] c h (few_more c.g None) refl refl
-    (subst Player (sym same) c.talked) kept
-converses_more workers i j k o o' o'' x y z start old new (Some (Load load)) c h (makes, kept) =
-    goes_on workers i j k o o' o'' x y z start old new (Load load ∷ []) c h (few_more c.g (Some (Load load))) refl refl
-    (talked_load workers c.g start.store old new c.written load c.talked makes) kept
-converses_more workers i j k o o' o'' x y z start old new (Some (Ask worker query)) c h (gives, kept) =
-    goes_on workers i j k o o' o'' x y z start old new (Ask worker query ∷ []) c h
-    (few_more c.g (Some (Ask worker query))) refl refl
-    (talked_ask workers c.g start.store old new c.written worker query c.talked gives) kept
-converses_more workers i j k o o' o'' x y z start old new (Some Go) c h answers =
+    goes_on o'' c h (few_more c.g None) refl refl (subst Player (sym same) c.talked) kept
+converses_more o'' new (Some (Load load)) c h (makes, kept) =
+    goes_on o'' c h (few_more c.g (Some (Load load))) refl refl (talked_load c.talked makes) kept
+converses_more o'' new (Some (Ask worker query)) c h (gives, kept) =
+    goes_on o'' c h (few_more c.g (Some (Ask worker query))) refl refl (talked_ask c.talked gives) kept
+converses_more {o} {o'} o'' {z} new (Some Go) c h answers =
     let g = gathered c.g Go in
-    let taken = taken_then i j k x.input y.input z.input c.lines h.raw c.taken h.taken in
-    let heard_so = heard_more workers x.number c.lines h.raw c.g y.number z.number (Go ∷ []) c.heard h.said h.number
-    (few_more c.g (Some Go)) in
+    let taken = taken_then c.taken h.taken in
+    let heard_so = heard_more z.number c.heard h.said h.number (few_more c.g (Some Go)) in
     record {
       lines = c.lines ++ h.raw;
       g = g;
       written = c.written ++ answers.lines;
       taken = taken;
       heard = heard_so;
-      talked = talked_go workers c.g start.store old new o' o'' c.written c.talked answers;
+      talked = talked_go c.talked answers;
       output = Appends-trans o.bytes o'.bytes o''.bytes c.written answers.lines c.output answers.written;
       steady = answers.steady ∙ c.steady;
-      is_open = λ given first b. open_none given (b.front ++ (c.lines ++ h.raw)) g z.size workers h.size
-          (ended_so given first i k x z workers b (c.lines ++ h.raw) g taken heard_so);
+      is_open = λ given first b. open_none g z.size h.size (ended_so z b taken heard_so);
     }
 
 -- there is room for one load more
-pub has_room : (workers : ℕ) (i j : InputSeen) (o o' : OutputSeen) (x y : HearingValue) (start talk : PlayerValue)
+pub has_room : {workers : ℕ} {i j : InputSeen} {o o' : OutputSeen} {x y : HearingValue} {start talk : PlayerValue}
     → Conversing workers i j o o' x y start talk → IsFresh workers start → y.number < 18446744073709551616
     → HasRoom talk.store
-has_room workers i j o o' x y start talk c fresh small =
+has_room c fresh small =
     let t = c.talked in
     let all = t.loaded.loaded in
     omega (

@@ -19,14 +19,14 @@ use Rattle.catserve.specs.Timing.{StillOpen}
 pub reads_none : (log : Log) (Still : List ℕ → List ℕ → Type 0) → ReadsWhile log log Still
 reads_none log Still = record { events = []; logged = grows_none log; silent = refl; each = answers_none Still }
 
-abbrev pub reads_of : (a b : Log) (x y : Incoming) (lost : List ℕ) (Still : List ℕ → List ℕ → Type 0)
+abbrev pub reads_of : {a b : Log} {x y : Incoming} {lost : List ℕ} {Still : List ℕ → List ℕ → Type 0}
     → Waits a b x y lost Still → ReadsWhile a b Still
-reads_of a b x y lost Still waits = record
-    { events = waits.events; logged = waits.logged; silent = waits.silent; each = waits.each }
+reads_of waits = record { events = waits.events; logged = waits.logged; silent = waits.silent; each = waits.each }
 
-abbrev pub reads_so : (a b : Log) (Still Other : List ℕ → List ℕ → Type 0) → ((c g : List ℕ) → Still c g → Other c g)
+abbrev pub reads_so : {a b : Log} {Still : List ℕ → List ℕ → Type 0} (Other : List ℕ → List ℕ → Type 0)
+    → ((c g : List ℕ) → Still c g → Other c g)
     → ReadsWhile a b Still → ReadsWhile a b Other
-reads_so a b Still Other so reads = record {
+reads_so {Still} Other so reads = record {
   events = reads.events;
   logged = reads.logged;
   silent = reads.silent;
@@ -34,20 +34,18 @@ reads_so a b Still Other so reads = record {
 }
 
 -- no whole line has come
-pub line_open : (workers : ℕ) (x : Incoming) (c g : List ℕ) → StillWaits x 0 c g → StillOpen workers x c g
-line_open workers x c g still = record { going = still.going; is_open = inl still.lacks; silent = still.silent }
+pub line_open : (workers : ℕ) {x : Incoming} (c g : List ℕ) → StillWaits x 0 c g → StillOpen workers x c g
+line_open workers c g still = record { going = still.going; is_open = inl still.lacks; silent = still.silent }
 
-abbrev pub open_line : (workers : ℕ) (a b : Log) (x y : Incoming) (lost : List ℕ) → Waits a b x y lost (StillWaits x 0)
+abbrev pub open_line : (workers : ℕ) {a b : Log} {x y : Incoming} {lost : List ℕ} → Waits a b x y lost (StillWaits x 0)
     → ReadsWhile a b (StillOpen workers x)
-open_line workers a b x y lost waits = reads_so a b (StillWaits x 0) (StillOpen workers x)
-    (line_open workers x)
-    (reads_of a b x y lost (StillWaits x 0) waits)
+open_line workers {x} waits = reads_so (StillOpen workers x) (line_open workers) (reads_of waits)
 
 -- a load without its whole text
-pub text_open : (workers : ℕ) (x : Incoming) (end : ℕ) (line : Line) → EndsLine x 0 end
+pub text_open : (workers : ℕ) {x : Incoming} {end : ℕ} (line : Line) → EndsLine x 0 end
     → line_of workers (without_end (take end x.left)) ≡ Some line
     → (c g : List ℕ) → StillCounts (text_lines line) x end c g → StillOpen workers x c g
-text_open workers x end (Loads domain locale options count) ends says c g still = record {
+text_open workers {x} {end} (Loads domain locale options count) ends says c g still = record {
   going = still.going;
   is_open = inr (record {
     end = end;
@@ -66,16 +64,12 @@ text_open workers x end (Loads domain locale options count) ends says c g still 
   });
   silent = still.silent;
 }
-text_open workers x end Blank ends says c g still = absurd (omega (arith, still.fewer))
-text_open workers x end (LoadsMo domain locale bytes) ends says c g still = absurd (omega (arith, still.fewer))
-text_open workers x end (Asks worker query) ends says c g still = absurd (omega (arith, still.fewer))
-text_open workers x end Goes ends says c g still = absurd (omega (arith, still.fewer))
+text_open workers _ ends says c g still = absurd (omega (arith, still.fewer))
 
-abbrev pub open_text : (workers : ℕ) (a b : Log) (x : Incoming) (end : ℕ) (line : Line) → EndsLine x 0 end
+abbrev pub open_text : (workers : ℕ) {a b : Log} {x : Incoming} {end : ℕ} (line : Line) → EndsLine x 0 end
     → line_of workers (without_end (take end x.left)) ≡ Some line
     → ReadsWhile a b (StillCounts (text_lines line) x end) → ReadsWhile a b (StillOpen workers x)
-open_text workers a b x end line ends says reads = reads_so a b (StillCounts (text_lines line) x end)
-    (StillOpen workers x) (text_open workers x end line ends says) reads
+open_text workers {x} line ends says reads = reads_so (StillOpen workers x) (text_open workers line ends says) reads
 
 -- ---- one after another
 
@@ -85,13 +79,11 @@ going_before x more may = elim (cases_Bool x.ended) [
   | inr goes ↦ goes
 ]
 
-pub open_each : (workers : ℕ) (a b c : Log) (x y : Incoming) (more : List ℕ)
+pub open_each : {workers : ℕ} {a b c : Log} {x y : Incoming} (more : List ℕ)
     → ((text : List ℕ) → MayCome y text → MayCome x (more ++ text)) → (waits : Waits a b x y [] (StillWaits x 0))
-    → (reads : ReadsWhile b c (StillOpen workers y))
-    → AnswersFirst (StillOpen workers x) (waits.events ++ reads.events)
-open_each workers a b c x y more may waits reads =
-    answers_then (StillOpen workers x) waits.events reads.events
-    (answers_so (StillWaits x 0) (StillOpen workers x) waits.events (line_open workers x) waits.each)
+    → (reads : ReadsWhile b c (StillOpen workers y)) → AnswersFirst (StillOpen workers x) (waits.events ++ reads.events)
+open_each {workers} {x} {y} more may waits reads = answers_then (StillOpen workers x) waits.events reads.events
+    (answers_so (StillWaits x 0) (StillOpen workers x) waits.events (line_open workers) waits.each)
     (answers_so (StillOpen workers y) (λ t g. StillOpen workers x (came waits.events ++ t) (given waits.events ++ g))
     reads.events still reads.each)
   where
@@ -107,12 +99,12 @@ open_each workers a b c x y more may waits reads =
       silent = ap (λ h. h ++ g) waits.silent ∙ was.silent;
     }
 
-pub open_then : (workers : ℕ) (a b c : Log) (x y : Incoming) (more : List ℕ)
+pub open_then : {workers : ℕ} {a b c : Log} {x y : Incoming} (more : List ℕ)
     → ((text : List ℕ) → MayCome y text → MayCome x (more ++ text)) → Waits a b x y [] (StillWaits x 0)
     → ReadsWhile b c (StillOpen workers y) → ReadsWhile a c (StillOpen workers x)
-open_then workers a b c x y more may waits reads = record {
+open_then {a} {b} {c} more may waits reads = record {
   events = waits.events ++ reads.events;
   logged = grows_then a b c waits.events reads.events waits.logged reads.logged;
   silent = given_then waits.events reads.events ∙ ap (λ g. g ++ given reads.events) waits.silent ∙ reads.silent;
-  each = open_each workers a b c x y more may waits reads;
+  each = open_each more may waits reads;
 }

@@ -139,9 +139,7 @@ accepted_formed [] (o ∷ os) all = absurd all
 accepted_formed (l ∷ ls) [] all = absurd all
 accepted_formed (l ∷ ls) (Accepted load answer ∷ os) (is, all) =
     (brings_formed l.source answer load.map is.1, accepted_formed ls os all)
-accepted_formed (l ∷ ls) (Refused fault ∷ os) all = accepted_formed ls os all.1
-accepted_formed (l ∷ ls) (RefusedMo fault ∷ os) all = accepted_formed ls os all.1
-accepted_formed (l ∷ ls) (Unnamed ∷ os) all = accepted_formed ls os all.1
+accepted_formed (l ∷ ls) (_ ∷ os) all = accepted_formed ls os all.1
 
 -- ---- rounds
 

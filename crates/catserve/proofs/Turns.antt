@@ -7,9 +7,10 @@ pub record HasTaken {X : Type 0} (all taken left : List X) (count : ℕ) : Type 
   pub whole : taken ++ left ≡ all
   pub count_is : count ≡ length left
 
-pub takes_one : {X : Type 0} (all taken left rest : List X) (count less : ℕ) (x : X) → HasTaken all taken left count
+pub takes_one : {X : Type 0} {all taken left : List X} (rest : List X) {count : ℕ} (less : ℕ) (x : X)
+    → HasTaken all taken left count
     → left ≡ x ∷ rest → count ≡ less + 1 → HasTaken all (taken ++ x ∷ []) rest less
-takes_one all taken left rest count less x h next one = record {
+takes_one {taken} rest less x h next one = record {
   whole = append_assoc taken (x ∷ []) rest ∙ ap (λ xs. taken ++ xs) (sym next) ∙ h.whole;
   count_is = omega (arith, h.count_is, ap length next, one);
 }
@@ -18,7 +19,7 @@ none_left : {X : Type 0} (xs : List X) → length xs ≡ 0 → xs ≡ []
 none_left [] e = refl
 none_left (x ∷ xs) e = absurd (omega arith)
 
-pub takes_all : {X : Type 0} (all taken left : List X) (count : ℕ) → HasTaken all taken left count → count ≡ 0 → taken
+pub takes_all : {X : Type 0} {all taken left : List X} {count : ℕ} → HasTaken all taken left count → count ≡ 0 → taken
     ≡ all
-takes_all all taken left count h none =
+takes_all {taken} {left} h none =
     sym (append-nil taken) ∙ ap (λ xs. taken ++ xs) (sym (none_left left (sym h.count_is ∙ none))) ∙ h.whole

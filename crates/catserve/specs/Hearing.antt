@@ -9,7 +9,7 @@ use Rattle.line_input.specs.Lines.{lines, without_end}
 use Rattle.line_input.specs.Incoming.{Incoming, MayCome, EndsLine, LacksLines}
 use Rattle.line_input.specs.declared.fault.LineInputFault.{LineInputFault}
 use Rattle.line_input.specs.declared.fault.LineInputFault.TheVariants as line_fault
-use Rattle.script_text.specs.Commands.{is_blank, workers_line}
+use Rattle.script_text.specs.Commands.{is_blank, line_of, workers_line}
 use Rattle.script_text.specs.CommandValues.{command_with, listed}
 use Rattle.script_text.specs.LineValues.{line_value}
 use Rattle.script_text.specs.LineFields.{fields}
@@ -21,8 +21,6 @@ use Rattle.script_text.specs.declared.fault.ScriptKind.TheVariants.{TooLarge, No
 use Rattle.catserve.specs.declared.session_fault.SessionFault.{SessionFault}
 use Rattle.catserve.specs.declared.said.FrontLine.{FrontLine}
 use Rattle.catserve.specs.declared.said.FrontLine.TheVariants as front_line
-use Rattle.catserve.specs.declared.said.SaidFault.{SaidFault}
-use Rattle.catserve.specs.declared.said.SaidFault.TheVariants as said_fault
 use Rattle.catserve.specs.declared.hearing.Heard.{Heard}
 use Rattle.catserve.specs.Run.{FailsToRead}
 use Rattle.catserve.specs.Session.{most_lines, round_end, said as meant}
@@ -191,11 +189,17 @@ FailsFor line_fault.TooLong number fault = fault ≡ record { kind = TooLarge; l
 FailsFor line_fault.Unreadable number fault = fault ≡ record { kind = ReadFault; line = 0 }
 FailsFor line_fault.Memory number fault = fault ≡ record { kind = Memory; line = 0 }
 
--- the fault of the line with this number
-abbrev pub FailsToSay : SaidFault → ℕ → SessionFault → Type 0
-FailsToSay said_fault.NotUtf8 number fault = fault ≡ record { kind = NotUtf8; line = number }
-FailsToSay said_fault.Bad number fault = fault ≡ record { kind = BadLine; line = number }
-FailsToSay said_fault.Memory number fault = fault ≡ record { kind = Memory; line = 0 }
+-- why a session with this number of workers doesn't understand the line
+abbrev pub IsUnsaid : ℕ → List ℕ → ScriptKind → Type 0
+IsUnsaid workers line NotUtf8 = ¬ IsUtf8 line
+IsUnsaid workers line BadLine = line_of workers (without_end line) ≡ None
+IsUnsaid workers line Memory = ⊤
+IsUnsaid workers line _ = ⊥
+
+-- the line of a fault at the line with this number
+abbrev pub line_of_kind : ScriptKind → ℕ → ℕ
+line_of_kind Memory number = 0
+line_of_kind _ number = number
 
 -- what was heard, or why nothing was
 abbrev pub HearsOne : InputSeen → InputSeen → ℕ → HearingValue → HearingValue

@@ -10,9 +10,9 @@ ghost use Rattle.catserve.specs.Timing.{BeginsInTime, HearsInTime, ReadsText};
 ghost use Rattle.catserve.specs.Run.{input_seen};
 ghost use Rattle.catserve.specs.Session.{most_lines, AnswersInTime};
 ghost use Rattle.catserve.specs.Hearing.{unheard, EndsNext, FailsFor, FailsInFront, HearsNothing, HearsNoText};
-ghost use Rattle.catserve.specs.Hearing.{commands_of, size_behind, FailsToSay, HearsText};
+ghost use Rattle.catserve.specs.Hearing.{commands_of, line_of_kind, size_behind, HearsText};
 
-use crate::said::{FrontLine, SaidFault, read_front_line, read_said};
+use crate::said::{FrontLine, read_front_line, read_said};
 use crate::session_fault::SessionFault;
 use devices::Source;
 use line_input::{LineInput, LineInputFault};
@@ -72,14 +72,15 @@ impl Hearing {
         })
     }
 
-    /// A fault at the next line.
+    /// A fault at the next line. Running out of memory isn't one of a line.
     fn fault_here(&self, kind: ScriptKind) -> SessionFault
-        ensures { result ≡ record { kind = kind; line = self.now.number } }
+        ensures { result ≡ record { kind = kind; line = line_of_kind kind self.now.number } }
     {
-        SessionFault {
-            kind,
-            line: self.number,
-        }
+        let line = match kind {
+            ScriptKind::Memory => 0,
+            _ => self.number,
+        };
+        SessionFault { kind, line }
     }
 
     /// The fault of an input that gives no end of the next line.
@@ -173,17 +174,6 @@ impl Hearing {
         Ok(bytes)
     }
 
-    /// The fault of a next line that wasn't understood.
-    fn fault_of_line(&self, fault: SaidFault) -> SessionFault
-        ensures { FailsToSay fault self.now.number result }
-    {
-        match fault {
-            SaidFault::NotUtf8 => self.fault_here(ScriptKind::NotUtf8),
-            SaidFault::Bad => self.fault_here(ScriptKind::BadLine),
-            SaidFault::Memory => SessionFault::from(ScriptKind::Memory),
-        }
-    }
-
     /// Counts the bytes of the next round from here, if this was the end of a round.
     fn end_round(&mut self, heard: &Heard)
         ensures { self.new ≡ record self.old { size = size_behind (commands_of heard.now) self.old.size } }
@@ -242,7 +232,7 @@ impl Hearing {
         };
         match read_said(alloc, workers, &self.input.left()[..end]) {
             Ok(said) => self.hear_said(alloc, reader, end, said),
-            Err(fault) => Err(self.fault_of_line(fault)),
+            Err(kind) => Err(self.fault_here(kind)),
         }
     }
 

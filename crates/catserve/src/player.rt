@@ -164,14 +164,6 @@ impl Player {
         Ok(())
     }
 
-    /// Opens the next round, with no lines held back.
-    fn next_round(&mut self)
-        ensures { self.new ≡ record self.old { held = []; begun = false } }
-    {
-        self.held.clear();
-        self.begun = false;
-    }
-
     /// Ends the round: publishes its loads, answers its questions, and writes all its lines.
     pub(crate) fn answer<T: Threads + Wait + Sync, W: Sink>(
         &mut self,
@@ -198,7 +190,8 @@ impl Player {
         )?;
         match writer.write_all(self.held.as_slice()) {
             Ok(()) => {
-                self.next_round();
+                self.held.clear();
+                self.begun = false;
                 Ok(())
             }
             Err(_) => Err(ScriptKind::WriteFault),

@@ -31,27 +31,7 @@ fn play_rounds<T: Threads + Wait + Sync>(
     Ok(())
 }
 
-/// The output of a script. Its store has a reader for each worker, and room for all its loads.
-fn play_script<T: Threads + Wait + Sync>(
-    rt: &T,
-    alloc: Global,
-    script: Script<'_>,
-) -> Result<Vec<u8>, ScriptKind>
-    requires { load_count script.rounds ≤ MOST_SCRIPT }
-    ensures ok { IfOk result (λ output. PlaysAll script.entry.workers [] script.entry.rounds output.items) }
-    ensures fault { IsPlayFault result }
-{
-    let Script { workers, rounds } = script;
-    let mut player = Player::open(rt, alloc, workers, MOST_SCRIPT as u64)?;
-    let played = play_rounds(rt, alloc, &mut player, rounds);
-    let output = player.end(rt);
-    match played {
-        Ok(()) => Ok(output),
-        Err(kind) => Err(kind),
-    }
-}
-
-/// The output of a text that is a script.
+/// The output of a text that is a script. Its store has a reader for each worker, and room for all its loads.
 fn output_of<T: Threads + Wait + Sync>(
     rt: &T,
     alloc: Global,
@@ -60,9 +40,12 @@ fn output_of<T: Threads + Wait + Sync>(
     ensures ok { IfOk result (λ output. HasOutput text.now output.items) }
     ensures fault { IfErr result (λ fault. EndsPlaying text.now fault.kind fault.line) }
 {
-    let script = read_script(alloc, text)?;
-    match play_script(rt, alloc, script) {
-        Ok(output) => Ok(output),
+    let Script { workers, rounds } = read_script(alloc, text)?;
+    let mut player = Player::open(rt, alloc, workers, MOST_SCRIPT as u64)?;
+    let played = play_rounds(rt, alloc, &mut player, rounds);
+    let output = player.end(rt);
+    match played {
+        Ok(()) => Ok(output),
         Err(kind) => Err(ScriptFault::from(kind)),
     }
 }

@@ -1,13 +1,12 @@
 //! What a line of a session says, whatever input it comes from.
-ghost use Rattle.std.specs.Prelude.{◌≡◌, IfOk, IsErrOf, Some, None};
-ghost use Rattle.std.specs.Str.{IsUtf8};
+ghost use Rattle.std.specs.Prelude.{◌≡◌, IfOk, IfErr, Some};
 ghost use Rattle.line_input.specs.Lines.{without_end};
 ghost use Rattle.script_text.specs.Commands.{line_of};
 ghost use Rattle.script_text.specs.LineValues.{line_value};
-ghost use Rattle.catserve.specs.Hearing.{IsFrontLine};
+ghost use Rattle.catserve.specs.Hearing.{IsFrontLine, IsUnsaid};
 
 use byte_text::split_at_byte;
-use script_text::{Line, LineFault, read_line, read_workers, says_nothing};
+use script_text::{Line, LineFault, ScriptKind, read_line, read_workers, says_nothing};
 use simdutf8::compat::from_utf8;
 use std::alloc::Global;
 
@@ -24,17 +23,6 @@ pub(crate) enum FrontLine {
     Other,
 }
 
-/// Why a line wasn't understood.
-#[derive(Clone, Copy)]
-pub(crate) enum SaidFault {
-    /// The line isn't UTF-8.
-    NotUtf8,
-    /// A session with this number of workers can't have it.
-    Bad,
-    /// Out of memory.
-    Memory,
-}
-
 /// A line without its LF.
 fn without_lf(line: &str) -> &str
     ensures { result.now ≡ without_end line.now }
@@ -45,20 +33,18 @@ fn without_lf(line: &str) -> &str
     }
 }
 
-/// What a line says in a session with this number of workers.
-pub(crate) fn read_said(alloc: Global, workers: u32, line: &[u8]) -> Result<Line, SaidFault>
+/// What a line says in a session with this number of workers. `BadLine` if such a session can't have it.
+pub(crate) fn read_said(alloc: Global, workers: u32, line: &[u8]) -> Result<Line, ScriptKind>
     ensures ok { IfOk result (λ said. line_of workers (without_end line.now) ≡ Some (line_value said)) }
-    ensures utf8 { IfOk result (λ _. IsUtf8 line.now) }
-    ensures undecodable { IsErrOf result SaidFault.NotUtf8 → ¬ IsUtf8 line.now }
-    ensures bad { IsErrOf result SaidFault.Bad → line_of workers (without_end line.now) ≡ None }
+    ensures fault { IfErr result (IsUnsaid workers line.now) }
 {
     let Ok(text) = from_utf8(line) else {
-        return Err(SaidFault::NotUtf8);
+        return Err(ScriptKind::NotUtf8);
     };
     match read_line(alloc, workers, without_lf(text)) {
         Ok(said) => Ok(said),
-        Err(LineFault::Bad) => Err(SaidFault::Bad),
-        Err(LineFault::Memory) => Err(SaidFault::Memory),
+        Err(LineFault::Bad) => Err(ScriptKind::BadLine),
+        Err(LineFault::Memory) => Err(ScriptKind::Memory),
     }
 }
 

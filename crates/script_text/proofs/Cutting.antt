@@ -88,17 +88,17 @@ cut_get n xs k below = sym (get_or_append_left (take n xs) (drop n xs) 0 k below
     ∙ ap (λ zs. get_or zs k 0) (take-append-drop n xs)
 
 -- the byte is between the two parts
-pub cut_whole : (byte : ℕ) (text front behind : List ℕ) → IsCut byte text front behind → text ≡ front ++ byte ∷ behind
-cut_whole byte text front behind cut =
+pub cut_whole : {byte : ℕ} {text front behind : List ℕ} → IsCut byte text front behind → text ≡ front ++ byte ∷ behind
+cut_whole {byte} {text} cut =
     let is : get_or text (position_or_len (is_byte byte) text) 0
     ≡ byte = eqb-true _ _ (passes_at_first (is_byte byte) text 0 cut.within) in
     rw (cut.front_is, cut.behind_is) (split_at_first (is_byte byte) text 0 cut.within
     ∙ ap (λ b. before_first (is_byte byte) text ++ b ∷ after_first (is_byte byte) text) is)
 
 -- and the first part lacks it
-pub cut_lacks : (byte : ℕ) (text front behind : List ℕ) → IsCut byte text front behind → (k : ℕ) → k < length front
+pub cut_lacks : {byte : ℕ} {text front behind : List ℕ} → IsCut byte text front behind → (k : ℕ) → k < length front
     → get_or front k 0 ≢ byte
-cut_lacks byte text front behind cut k below =
+cut_lacks {byte} {text} cut k below =
     let n = position_or_len (is_byte byte) text in
     let lt : k < length (take n text) = rw (← cut.front_is) below in
     rw (cut.front_is, cut_get n text k lt) (eqb-false _ _ (fails_before_first (is_byte byte) text k 0

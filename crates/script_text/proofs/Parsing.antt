@@ -108,10 +108,10 @@ few_more g (Some Go) = omega (
 )
 
 -- a line with its text
-pub takes_in : (old new : Gathered) (line : Line) (behind : List ℕ) (number : ℕ) (text rest : List ℕ)
+pub takes_in : (old new : Gathered) (line : Line) {behind : List ℕ} (number : ℕ) {text rest : List ℕ}
     → TakesLines (text_lines line) behind text rest → new ≡ fold gathered old (listed (command_with line text))
     → TakesIn old new line behind number rest (number + 1 + text_lines line)
-takes_in old new line behind number text rest taken is = record {
+takes_in old new line {behind} number {text} taken is = record {
   commands = listed (command_with line text);
   text = text_lines line;
   says = says_with line (lines behind) taken.enough
@@ -131,21 +131,20 @@ pub starts : (text : List ℕ) → length text ≤ most_script → IsUtf8 text �
 starts text small utf8 = record { going = refl; some = omega arith; bounded = omega arith; utf8 = utf8 }
 
 -- a line that says nothing
-pub skips_one : (text rest line behind : List ℕ) (number : ℕ) → HasSkipped text rest number
+pub skips_one : {text rest line behind : List ℕ} {number : ℕ} → HasSkipped text rest number
     → IsFirstLine rest line behind → is_blank line ≡ true → HasSkipped text behind (number + 1)
-skips_one text rest line behind number skipped first blank = record {
-  going = skipped.going ∙ ap (λ ls. script_from number ls) first.cut
-      ∙ rw (ap is_blank first.said ∙ blank) refl;
+skips_one {behind} {number} skipped first blank = record {
+  going = skipped.going ∙ ap (λ ls. script_from number ls) first.cut ∙ rw (ap is_blank first.said ∙ blank) refl;
   some = omega arith;
   bounded = omega (arith, skipped.bounded, first.some, ap length first.whole, length-append first.raw behind);
   utf8 = first.utf8;
 }
 
 -- the line that gives the number of workers
-pub begins_so : (text rest line behind : List ℕ) (number workers : ℕ) → HasSkipped text rest number
+pub begins_so : {text rest line behind : List ℕ} {number : ℕ} (workers : ℕ) → HasSkipped text rest number
     → IsFirstLine rest line behind → is_blank line ≡ false → workers_line (fields line) ≡ Some workers
     → HasBegun text workers behind (number + 1)
-begins_so text rest line behind number workers skipped first other is = record {
+begins_so {behind} {number} workers skipped first other is = record {
   going = skipped.going ∙ ap (λ ls. script_from number ls) first.cut
       ∙ rw (ap is_blank first.said ∙ other, ap (λ l. workers_line (fields l)) first.said ∙ is) refl;
   some = omega arith;
@@ -154,10 +153,10 @@ begins_so text rest line behind number workers skipped first other is = record {
 }
 
 -- another line
-pub begins_else : (text rest line behind : List ℕ) (number : ℕ) → HasSkipped text rest number
+pub begins_else : {text rest line behind : List ℕ} {number : ℕ} → HasSkipped text rest number
     → IsFirstLine rest line behind → is_blank line ≡ false → workers_line (fields line) ≡ None
     → HasBegun text 2 rest number
-begins_else text rest line behind number skipped first other none =
+begins_else {number} skipped first other none =
     let said : is_blank (without_end first.raw) ≡ false = ap is_blank first.said ∙ other in
     record {
       going = skipped.going ∙ ap (λ ls. script_from number ls) first.cut
@@ -169,9 +168,9 @@ begins_else text rest line behind number skipped first other none =
     }
 
 -- no line at all
-pub begins_none : (text rest : List ℕ) (number : ℕ) → HasSkipped text rest number → rest ≡ []
+pub begins_none : {text rest : List ℕ} {number : ℕ} → HasSkipped text rest number → rest ≡ []
     → HasBegun text 2 rest number
-begins_none text rest number skipped none = record {
+begins_none {number} skipped none = record {
   going = skipped.going ∙ ap (λ t. script_from number (lines t)) none
       ∙ ap (λ t. script_of 2 (commands_from 2 number 0 (lines t))) (sym none);
   some = skipped.some;
@@ -188,9 +187,9 @@ begins_with workers (Ok cs) = ap (λ rs. Ok (record { workers = workers; rounds 
   by_rounds (r ∷ rs) = refl
 begins_with workers (Err bad) = refl
 
-pub parses_none : (text : List ℕ) (workers : ℕ) (rest : List ℕ) (number : ℕ) → HasBegun text workers rest number
+pub parses_none : {text : List ℕ} {workers : ℕ} {rest : List ℕ} {number : ℕ} → HasBegun text workers rest number
     → HasParsed text workers nothing rest number
-parses_none text workers rest number begun = record {
+parses_none {workers} {rest} {number} begun = record {
   going = begun.going ∙ begins_with workers (commands_from workers number 0 (lines rest));
   few = omega (arith, begun.some);
   bounded = begun.bounded;
@@ -199,13 +198,12 @@ parses_none text workers rest number begun = record {
 
 -- ---- the whole script
 
-read_first : (text : List ℕ) (workers : ℕ) (rest line behind : List ℕ) (rounds : Gathered) (number : ℕ)
+read_first : {text : List ℕ} {workers : ℕ} {rest line behind : List ℕ} {rounds : Gathered} {number : ℕ}
     (saw : Option Line)
     → HasParsed text workers rounds rest number → IsFirstLine rest line behind → line_of workers line ≡ saw
-    → script text
-    ≡ going_on workers rounds (and_then (saying saw (lines behind)) number (λ n. commands_from workers
+    → script text ≡ going_on workers rounds (and_then (saying saw (lines behind)) number (λ n. commands_from workers
     (number + 1) n (lines behind)))
-read_first text workers rest line behind rounds number saw parsed first is =
+read_first {text} {workers} {line} {behind} {rounds} {number} saw parsed first is =
     let F : List (List ℕ) → Type 0 = λ ls. script text ≡ going_on workers rounds (commands_from workers number 0 ls) in
     let cut : F (first.raw ∷ lines behind) = subst F first.cut parsed.going in
     let G : List ℕ → Type 0 = λ l. script text ≡ going_on workers rounds
@@ -216,18 +214,15 @@ read_first text workers rest line behind rounds number saw parsed first is =
     (and_then (saying o (lines behind)) number (λ n. commands_from workers (number + 1) n (lines behind))) in
     subst H is said
 
-pub bad_line : (text : List ℕ) (workers : ℕ) (rest line behind : List ℕ) (rounds : Gathered) (number : ℕ)
+pub bad_line : {text : List ℕ} {workers : ℕ} {rest line behind : List ℕ} {rounds : Gathered} {number : ℕ}
     → HasParsed text workers rounds rest number
     → IsFirstLine rest line behind → line_of workers line ≡ None → script text ≡ Err number
-bad_line text workers rest line behind rounds number parsed first none =
-    read_first text workers rest line behind rounds number None
-    parsed first none
+bad_line parsed first none = read_first None parsed first none
 
-pub bad_text : (text : List ℕ) (workers : ℕ) (rest line behind : List ℕ) (rounds : Gathered) (number : ℕ) (saw : Line)
+pub bad_text : {text : List ℕ} {workers : ℕ} {rest line behind : List ℕ} {rounds : Gathered} {number : ℕ} (saw : Line)
     → HasParsed text workers rounds rest number → IsFirstLine rest line behind → line_of workers line ≡ Some saw
     → saying (Some saw) (lines behind) ≡ IsBad → script text ≡ Err number
-bad_text text workers rest line behind rounds number saw parsed first is bad =
-    read_first text workers rest line behind rounds number (Some saw) parsed first is
+bad_text {workers} {behind} {rounds} {number} saw parsed first is bad = read_first (Some saw) parsed first is
     ∙ ap (λ s. going_on workers rounds (and_then s number (λ n. commands_from workers (number + 1) n
     (lines behind)))) bad
 
@@ -239,12 +234,12 @@ gathers workers number g commands (Ok cs) = ap (λ rs. Ok (record { workers = wo
     g cs)
 gathers workers number g commands (Err bad) = refl
 
-pub goes_on : (text : List ℕ) (workers : ℕ) (rest line behind : List ℕ) (old new : Gathered) (number : ℕ)
-    (saw : Line) (after : List ℕ)
-    (next : ℕ) → HasParsed text workers old rest number → IsFirstLine rest line behind → line_of workers line ≡ Some saw
+pub goes_on : {text : List ℕ} {workers : ℕ} {rest line behind : List ℕ} {old new : Gathered} {number : ℕ}
+    {saw : Line} {after : List ℕ}
+    {next : ℕ} → HasParsed text workers old rest number → IsFirstLine rest line behind → line_of workers line ≡ Some saw
     → TakesIn old new saw behind number after next → HasParsed text workers new after next
-goes_on text workers rest line behind old new number saw after next parsed first is taken = record {
-  going = read_first text workers rest line behind old number (Some saw) parsed first is
+goes_on {workers} {behind} {old} {number} {saw} {after} {next} parsed first is taken = record {
+  going = read_first (Some saw) parsed first is
       ∙ ap (λ s. going_on workers old (and_then s number (λ n. commands_from workers (number + 1) n
       (lines behind)))) taken.says
       ∙ ap (λ found. going_on workers old (and_then (Says taken.commands taken.text) number (λ n. found)))
@@ -261,23 +256,21 @@ goes_on text workers rest line behind old new number saw after next parsed first
     parsed.bounded,
     first.some,
     ap length first.whole,
-    length-append
-        first.raw behind,
+    length-append first.raw behind,
   );
   utf8 = taken.utf8;
 }
 
-pub ends : (text : List ℕ) (workers : ℕ) (rest : List ℕ) (rounds : Gathered) (number : ℕ)
+pub ends : {text : List ℕ} {workers : ℕ} {rest : List ℕ} {rounds : Gathered} {number : ℕ}
     → HasParsed text workers rounds rest number → rest ≡ []
     → script text ≡ Ok (record { workers = workers; rounds = all_rounds rounds })
-ends text workers rest rounds number parsed none = parsed.going
-    ∙ ap (λ t. going_on workers rounds (commands_from workers number 0 (lines t)))
-    none
+ends {workers} {rounds} {number} parsed none = parsed.going
+    ∙ ap (λ t. going_on workers rounds (commands_from workers number 0 (lines t))) none
 
 -- there are fewer loads than lines
-pub ends_few : (text : List ℕ) (workers : ℕ) (rest : List ℕ) (rounds : Gathered) (number : ℕ)
+pub ends_few : {text : List ℕ} {workers : ℕ} {rest : List ℕ} {rounds : Gathered} {number : ℕ}
     → HasParsed text workers rounds rest number → load_count (all_rounds rounds) ≤ most_script
-ends_few text workers rest rounds number parsed = omega (arith, parsed.few, parsed.bounded, fewer rounds) where
+ends_few {rounds} parsed = omega (arith, parsed.few, parsed.bounded, fewer rounds) where
   fewer : (g : Gathered) → load_count (all_rounds g) ≤ loads_so_far g
   fewer g = omega (
     arith,

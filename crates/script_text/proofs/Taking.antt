@@ -22,9 +22,9 @@ cut_at (suc i) (x ∷ xs) y ys e = let h = cut_at i xs y ys e in record
 none_left : {X : Type 0} (i : ℕ) (xs : List X) → drop i xs ≡ [] → length xs ≤ i
 none_left i xs e = omega (arith, length-drop i xs, ap length e)
 
-pub too_few : (count i : ℕ) (text rest : List ℕ) → HasTaken i text rest → rest ≡ [] → i < count
+pub too_few : (count : ℕ) {i : ℕ} {text rest : List ℕ} → HasTaken i text rest → rest ≡ [] → i < count
     → length (lines text) < count
-too_few count i text rest h e below =
+too_few count {i} {text} h e below =
     let none : drop i (lines text) ≡ [] = sym h.left ∙ ap lines e in
     omega (arith, none_left i (lines text) none)
 
@@ -32,17 +32,16 @@ concat-snoc : (ls : List (List ℕ)) (l : List ℕ) → concat (ls ++ l ∷ []) 
 concat-snoc [] l = append-nil l
 concat-snoc (x ∷ ls) l = ap (λ zs. x ++ zs) (concat-snoc ls l) ∙ sym (append_assoc x (concat ls) l)
 
-pub takes_more : (i : ℕ) (text rest line behind : List ℕ) → HasTaken i text rest → IsFirstLine rest line behind
+pub takes_more : {i : ℕ} {text rest line behind : List ℕ} → HasTaken i text rest → IsFirstLine rest line behind
     → HasTaken (i + 1) text behind
-takes_more i text rest line behind h first =
+takes_more {i} {text} {behind} h first =
     let cut = cut_at i (lines text) first.raw (lines behind) (sym h.left ∙ first.cut) in
     record {
       within = omega (arith, cut.within);
       left = rw add-one (sym cut.behind);
       whole = h.whole ∙ ap (λ zs. concat (take i (lines text)) ++ zs) first.whole
           ∙ sym (append_assoc (concat (take i (lines text))) first.raw behind)
-          ∙ ap (λ zs. zs ++ behind) (sym (concat-snoc (take i (lines text)) first.raw))
-          ∙ rw (add-one, cut.front) refl;
+          ∙ ap (λ zs. zs ++ behind) (sym (concat-snoc (take i (lines text)) first.raw)) ∙ rw (add-one, cut.front) refl;
       shorter = omega (arith, h.shorter, first.some, ap length first.whole, length-append first.raw behind);
       utf8 = first.utf8;
     }

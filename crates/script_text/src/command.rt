@@ -1,7 +1,7 @@
 //! What a line of a script says.
 ghost use Rattle.std.specs.Prelude.{◌≡◌, IfErr};
 ghost use Rattle.script_text.specs.Commands.{plain_call, context_call, number_call, context_number_call, call_of};
-ghost use Rattle.script_text.specs.Commands.{load_line, load_mo_line, ask_line, go_line, command_line};
+ghost use Rattle.script_text.specs.Commands.{load_line, load_mo_line, ask_line, command_line};
 ghost use Rattle.script_text.specs.Commands.{is_blank, line_of, workers_line};
 ghost use Rattle.script_text.specs.LineFields.{fields};
 ghost use Rattle.script_text.specs.LineValues.{Reads, line_value};
@@ -197,14 +197,6 @@ fn read_ask(alloc: Global, workers: u32, mut fields: Fields<'_>) -> Result<Line,
     Ok(Line::Asks { worker, query })
 }
 
-/// The fields after `go`: none.
-fn read_go(fields: Fields<'_>) -> Result<Line, LineFault>
-    ensures { Reads line_value result (go_line fields.entry) }
-{
-    fields.end()?;
-    Ok(Line::Goes)
-}
-
 /// What a line says, by its first field.
 fn read_command(alloc: Global, workers: u32, mut fields: Fields<'_>) -> Result<Line, LineFault>
     ensures { Reads line_value result (command_line workers fields.entry) }
@@ -213,7 +205,10 @@ fn read_command(alloc: Global, workers: u32, mut fields: Fields<'_>) -> Result<L
         "load" => read_load(alloc, fields),
         "loadmo" => read_load_mo(alloc, fields),
         "ask" => read_ask(alloc, workers, fields),
-        "go" => read_go(fields),
+        "go" => {
+            fields.end()?;
+            Ok(Line::Goes)
+        }
         _ => Err(LineFault::Bad),
     }
 }

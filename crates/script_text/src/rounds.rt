@@ -1,6 +1,5 @@
 //! The rounds of a script.
 ghost use Rattle.std.specs.Prelude.{◌≡◌, [], ◌∷◌, ◌++◌, false, true, OnOk, IfOk, fold};
-ghost use Rattle.script_text.specs.Script.{Load, Ask, Go};
 ghost use Rattle.script_text.specs.CommandValues.{listed, some_command};
 ghost use Rattle.script_text.specs.Gathering.{empty_round, nothing, gathered, all_rounds};
 
@@ -138,34 +137,6 @@ impl<'a> Rounds<'a> {
         }
     }
 
-    /// Appends a load to the open round.
-    fn load(&mut self, load: ScriptLoad<'a>) -> Result<(), AllocError>
-        ensures { OnOk result (self.new ≡ gathered self.old (Load load.entry)) }
-    {
-        self.begun = true;
-        self.current.loads.push(load)?;
-        Ok(())
-    }
-
-    /// Appends a question to the open round.
-    fn ask(&mut self, question: Question) -> Result<(), AllocError>
-        ensures { OnOk result (self.new ≡ gathered self.old (Ask question.worker question.query)) }
-    {
-        self.begun = true;
-        self.current.questions.push(question)?;
-        Ok(())
-    }
-
-    /// Ends the open round, and opens the next one.
-    fn go(&mut self, alloc: Global) -> Result<(), AllocError>
-        ensures { OnOk result (self.new ≡ gathered self.old Go) }
-    {
-        let round = mem::replace(&mut self.current, Round::new(alloc));
-        self.ended.push(round)?;
-        self.begun = false;
-        Ok(())
-    }
-
     /// Takes in what a line says.
     pub(crate) fn add(
         &mut self,
@@ -176,9 +147,22 @@ impl<'a> Rounds<'a> {
     {
         match command {
             None => Ok(()),
-            Some(Command::Load(load)) => self.load(load),
-            Some(Command::Ask(question)) => self.ask(question),
-            Some(Command::Go) => self.go(alloc),
+            Some(Command::Load(load)) => {
+                self.begun = true;
+                self.current.loads.push(load)?;
+                Ok(())
+            }
+            Some(Command::Ask(question)) => {
+                self.begun = true;
+                self.current.questions.push(question)?;
+                Ok(())
+            }
+            Some(Command::Go) => {
+                let round = mem::replace(&mut self.current, Round::new(alloc));
+                self.ended.push(round)?;
+                self.begun = false;
+                Ok(())
+            }
         }
     }
 

@@ -16,10 +16,8 @@ readers-preserved c =
     let items : c.push.new.self.items ≡ at.desks.items ++ desk ∷ [] = c.in_ok-push.ensures.items in
     let P : List Desk → Type 0 = λ ds. AreAsked 0 [] ds in
     record {
-      taken = takes_one (into_iter_items c.into_iter-reader-iterator.result) at.yielded
-          (into_iter_items at.reader-iterator)
-          (into_iter_items c.next.new.self) (into_iter_len at.reader-iterator) (into_iter_len c.next.new.self) x
-          at.invariant.taken c.in-Some.ensures.steps.0 (omega (arith, c.in-Some.ensures.steps.1));
+      taken = takes_one (into_iter_items c.next.new.self) (into_iter_len c.next.new.self) x at.invariant.taken
+          c.in-Some.ensures.steps.0 (omega (arith, c.in-Some.ensures.steps.1));
       readers = ap readers_of items ∙ map-append (λ (d : Desk). d.reader) at.desks.items (desk ∷ [])
           ∙ ap (λ rs. rs ++ x ∷ []) at.invariant.readers;
       free = subst P (sym items) (opens_more at.desks.items desk at.invariant.free c.new.ensures.items);
@@ -28,7 +26,5 @@ readers-preserved c =
 pub returns : goal.returns
 returns c =
     let at = c.readers in
-    let all = takes_all (into_iter_items c.into_iter-reader-iterator.result) at.yielded
-    (into_iter_items at.reader-iterator)
-    (into_iter_len at.reader-iterator) at.invariant.taken c.in-None.ensures.steps.0
+    let all = takes_all at.invariant.taken c.in-None.ensures.steps.0
     ∙ c.into_iter-reader-iterator.ensures.into_iter_gives.0 in (at.invariant.readers ∙ all, at.invariant.free)

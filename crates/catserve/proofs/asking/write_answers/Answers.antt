@@ -14,10 +14,8 @@ answers-preserved c =
     let x = c.in-Some.answer in
     let line = answer_line c.args.worker x.version (string_bytes x.text) in
     record {
-      taken = takes_one (into_iter_items c.into_iter-answer-iterator.result) at.yielded
-          (into_iter_items at.answer-iterator) (into_iter_items c.next.new.self) (into_iter_len at.answer-iterator)
-          (into_iter_len c.next.new.self) x at.invariant.taken c.in-Some.ensures.steps.0
-          (omega (arith, c.in-Some.ensures.steps.1));
+      taken = takes_one (into_iter_items c.next.new.self) (into_iter_len c.next.new.self) x at.invariant.taken
+          c.in-Some.ensures.steps.0 (omega (arith, c.in-Some.ensures.steps.1));
       written = c.in_ok-write_answer.ensures
           ∙ ap (λ (text : List ℕ). at.output.items ++ answer_line c.args.worker x.version text) c.as_str.ensures.value
           ∙ ap (λ (out : List ℕ). out ++ line) at.invariant.written
@@ -30,7 +28,6 @@ answers-preserved c =
 pub returns : goal.returns
 returns c =
     let at = c.answers in
-    let all = takes_all (into_iter_items c.into_iter-answer-iterator.result) at.yielded
-    (into_iter_items at.answer-iterator) (into_iter_len at.answer-iterator) at.invariant.taken
-    c.in-None.ensures.steps.0 ∙ c.into_iter-answer-iterator.ensures.into_iter_gives.0 in
+    let all = takes_all at.invariant.taken c.in-None.ensures.steps.0
+    ∙ c.into_iter-answer-iterator.ensures.into_iter_gives.0 in
     at.invariant.written ∙ ap (λ answers. c.args.output.now.items ++ answer_lines c.args.worker answers) all

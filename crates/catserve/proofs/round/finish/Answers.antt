@@ -24,14 +24,13 @@ returns-clause-ok g c round was before none loaded asked =
     let same : now ≡ published = done_none published now c.new.result.items c.in-Ok-serve.served.outcomes.items
     c.new.ensures.items c.in-Ok.ensures.empty c.in-Ok-serve.ensures.done in
     let batches : now.seen.batches ≡ published.seen.batches = ap (λ (s : StoreValue). s.seen.batches) same in
-    plays_one (length desks) round was c.args.publisher.now now c.in-Ok.version before
-    c.args.output.now.items c.write_version.new.output.items c.write_all.new.output.items (desk_lines 0 served) none
+    plays_one (length desks) round was c.args.publisher.now now c.in-Ok.version c.write_version.new.output.items
+    c.write_all.new.output.items (desk_lines 0 served) none
     loaded.loaded loaded.seen (batches ∙ ap (λ (f : SeenValue). f.batches) c.in-Ok.ensures.ok)
     (ap (λ (s : StoreValue). s.pending) same ∙ c.in-Ok.ensures.empty)
     (c.in-Ok-serve.ensures.most ∙ c.in-Ok.ensures.most ∙ loaded.most)
     (c.in-Ok.ensures.version ∙ ap version_of (sym batches)) c.in_ok-write_version.ensures
-    (answers_in_turn published.seen now.seen round.questions 0 desks served batches asked
-    c.in-Ok-serve.ensures.desks)
+    (answers_in_turn published.seen now.seen round.questions 0 desks served batches asked c.in-Ok-serve.ensures.desks)
     (c.in_ok-write_all.ensures.written ∙ ap (λ ds. c.write_version.new.output.items ++ desk_lines 0 ds)
     c.as_mut_slice.ensures.value)
 

@@ -24,7 +24,6 @@ rounds-init g c =
 pub play-requires : goal.play-requires
 play-requires g c =
     let at = c.rounds in
-    let start = c.args.player.now in
     let fresh = c.requires.fresh in (
       c.type_bounds.sync-T,
       (
@@ -33,15 +32,14 @@ play-requires g c =
           at.invariant.ready,
           (
             rw (at.invariant.count) (fresh.some, fresh.few),
-            has_room_for (length start.desks) c.args.rounds.items at.yielded (into_iter_items c.next.new.self)
-                c.in-Some.round start.store at.player.store at.player.held at.invariant.played (omega (
+            has_room_for c.args.rounds.items (into_iter_items c.next.new.self)
+                c.in-Some.round at.invariant.played (omega (
                   arith,
                   c.requires.room,
                   fresh.room,
                   ap version_of fresh.none_published,
                   ap (λ (ls : List LoadValue). length ls) fresh.none_pending,
-                ))
-                (sym c.into_iter-round-iterator.ensures.into_iter_gives.0 ∙ sym at.invariant.taken.whole
+                )) (sym c.into_iter-round-iterator.ensures.into_iter_gives.0 ∙ sym at.invariant.taken.whole
                 ∙ ap (λ xs. at.yielded ++ xs) c.in-Some.ensures.steps.0),
           ),
         ),
@@ -52,16 +50,12 @@ pub rounds-preserved : goal.rounds-preserved
 rounds-preserved g c =
     let at = c.rounds in
     let x = c.in-Some.round in
-    let start = c.args.player.now in
     let now = c.play.new.self in
     let P : ℕ → Type 0 = λ n. PlaysOne n x at.player.store now.store at.player.held now.held in
     record {
-      taken = takes_one (into_iter_items c.into_iter-round-iterator.result) at.yielded
-          (into_iter_items at.round-iterator) (into_iter_items c.next.new.self) (into_iter_len at.round-iterator)
-          (into_iter_len c.next.new.self) x at.invariant.taken c.in-Some.ensures.steps.0
-          (omega (arith, c.in-Some.ensures.steps.1));
-      played = plays_more (length start.desks) at.yielded x start.store at.player.store now.store at.player.held
-          now.held at.invariant.played (subst P at.invariant.count c.in_ok-play.ensures.ok);
+      taken = takes_one (into_iter_items c.next.new.self) (into_iter_len c.next.new.self) x at.invariant.taken
+          c.in-Some.ensures.steps.0 (omega (arith, c.in-Some.ensures.steps.1));
+      played = plays_more at.invariant.played (subst P at.invariant.count c.in_ok-play.ensures.ok);
       ready = c.in_ok-play.ensures.ready;
       count = c.in_ok-play.ensures.count ∙ at.invariant.count;
     }
@@ -71,10 +65,8 @@ returns-clause-ok g c =
     let at = c.rounds in
     let start = c.args.player.now in
     let workers = length start.desks in
-    let all = takes_all (into_iter_items c.into_iter-round-iterator.result) at.yielded
-    (into_iter_items at.round-iterator) (into_iter_len at.round-iterator) at.invariant.taken
-    c.in-None.ensures.steps.0 ∙ c.into_iter-round-iterator.ensures.into_iter_gives.0 in
+    let all = takes_all at.invariant.taken c.in-None.ensures.steps.0
+    ∙ c.into_iter-round-iterator.ensures.into_iter_gives.0 in
     let P : List RoundValue → Type 0 = λ rs. HasPlayed workers rs start.store at.player.store at.player.held in
     let Q : List LoadValue → Type 0 = λ before. PlaysAll workers before c.args.rounds.items at.player.held in
-    subst Q (ap joined c.requires.fresh.none_published) (plays_all workers c.args.rounds.items start.store
-    at.player.store at.player.held (subst P all at.invariant.played))
+    subst Q (ap joined c.requires.fresh.none_published) (plays_all (subst P all at.invariant.played))

@@ -32,4 +32,4 @@ returns-in_err-output g c =
     let ends : EndsPlaying text f.kind f.line = subst P c.as_slice.ensures.value c.in_err-output.ensures.fault in
     let is : c.from_residual-in_err-output.result ≡ Err f = search rules in
     subst (λ (r : Result (Unit {0}) ScriptFault). Runs i j o o r) (sym is)
-    (run_fails i j o o text f.kind f.line c.in_ok-text.ensures.ok ends refl)
+    (run_fails o o f.kind f.line c.in_ok-text.ensures.ok ends refl)

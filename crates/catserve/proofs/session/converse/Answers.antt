@@ -13,37 +13,29 @@ use Rattle.catserve.proofs.SessionTalk.{has_room}
 use Rattle.catserve.proofs.session.converse.Goals as goal
 
 pub lines-init : goal.lines-init
-lines-init g c = talks_none c.args.workers
-    (input_seen g.D.Source.remaining g.D.Source.reads g.D.Source.failures c.args.device.now)
-    (output_seen g.D.Sink.contents g.D.Sink.failures c.args.device.now) c.args.hearing.now c.args.player.now
+lines-init g c = talks_none (input_seen g.D.Source.remaining g.D.Source.reads g.D.Source.failures c.args.device.now)
+    (output_seen g.D.Sink.contents g.D.Sink.failures c.args.device.now) c.args.hearing.now
     (g.D.Device.log c.args.device.now) c.requires.number c.requires.fresh
 
 pub lines-preserved : goal.lines-preserved
 lines-preserved g c =
     let i : InputSeen = input_seen g.D.Source.remaining g.D.Source.reads g.D.Source.failures c.args.device.now in
-    let j : InputSeen = input_seen g.D.Source.remaining g.D.Source.reads g.D.Source.failures c.lines.device in
     let o : OutputSeen = output_seen g.D.Sink.contents g.D.Sink.failures c.args.device.now in
-    let p : OutputSeen = output_seen g.D.Sink.contents g.D.Sink.failures c.lines.device in
     let start = c.args.player.now in
     let x = c.args.hearing.now in
-    let k : InputSeen = input_seen g.D.Source.remaining g.D.Source.reads g.D.Source.failures c.hear.new.reader in
     let q : OutputSeen = output_seen g.D.Sink.contents g.D.Sink.failures c.respond.new.writer in
-    let p' : OutputSeen = output_seen g.D.Sink.contents g.D.Sink.failures c.hear.new.reader in
-    let out : p' ≡ p = sym (g.met.D.Sink.shows c.hear.new.reader) ∙ c.in_ok-thing.ensures.keeps
+    let out = sym (g.met.D.Sink.shows c.hear.new.reader) ∙ c.in_ok-thing.ensures.keeps
     ∙ g.met.D.Sink.shows c.lines.device in
-    let k' : InputSeen = input_seen g.D.Source.remaining g.D.Source.reads g.D.Source.failures c.respond.new.writer in
-    let inn : k' ≡ k = sym (g.met.D.Source.sees c.respond.new.writer) ∙ c.in_ok-respond.ensures.keeps
+    let inn = sym (g.met.D.Source.sees c.respond.new.writer) ∙ c.in_ok-respond.ensures.keeps
     ∙ g.met.D.Source.sees c.hear.new.reader in
     let a : Log = g.D.Device.log c.args.device.now in
-    let b : Log = g.D.Device.log c.lines.device in
     let m : Log = g.D.Device.log c.hear.new.reader in
     let d : Log = g.D.Device.log c.respond.new.writer in
     let R : OutputSeen → Type 0 = λ v.
     RespondsInTime (command_of c.in-Some.thing) c.lines.player c.respond.new.self v q m d in
     let C : InputSeen → Type 0 = λ v.
     TalksInTime c.args.workers i v o q x c.hear.new.self start c.respond.new.self a d in
-    subst C (sym inn) (talks_more c.args.workers i j k o p q x c.lines.hearing c.hear.new.self start c.lines.player
-    c.respond.new.self a b m d (command_of c.in-Some.thing) c.requires.fresh c.lines.invariant
+    subst C (sym inn) (talks_more q c.respond.new.self d (command_of c.in-Some.thing) c.requires.fresh c.lines.invariant
     (rw c.in-Some.is at c.in_ok-thing.ensures.heard) (subst R out c.in_ok-respond.ensures.ok))
 
 pub lines-smaller : goal.lines-smaller
@@ -53,185 +45,97 @@ lines-smaller g c =
 
 pub respond-requires-clause-room : goal.respond-requires-clause-room
 respond-requires-clause-room g c κs within =
-    let i : InputSeen = input_seen g.D.Source.remaining g.D.Source.reads g.D.Source.failures c.args.device.now in
-    let j : InputSeen = input_seen g.D.Source.remaining g.D.Source.reads g.D.Source.failures c.lines.device in
-    let o : OutputSeen = output_seen g.D.Sink.contents g.D.Sink.failures c.args.device.now in
-    let p : OutputSeen = output_seen g.D.Sink.contents g.D.Sink.failures c.lines.device in
-    let start = c.args.player.now in
-    let x = c.args.hearing.now in
     let h = (rw c.in-Some.is at c.in_ok-thing.ensures.heard).0 in
-    has_room c.args.workers i j o p x c.lines.hearing start c.lines.player c.lines.invariant.0 c.requires.fresh
-    (omega (arith, h.few))
+    has_room c.lines.invariant.0 c.requires.fresh (omega (arith, h.few))
 
 pub returns-in_err-thing-clause-all : goal.returns-in_err-thing-clause-all
 returns-in_err-thing-clause-all g c given first b =
-    let i : InputSeen = input_seen g.D.Source.remaining g.D.Source.reads g.D.Source.failures c.args.device.now in
-    let j : InputSeen = input_seen g.D.Source.remaining g.D.Source.reads g.D.Source.failures c.lines.device in
     let o : OutputSeen = output_seen g.D.Sink.contents g.D.Sink.failures c.args.device.now in
-    let p : OutputSeen = output_seen g.D.Sink.contents g.D.Sink.failures c.lines.device in
-    let start = c.args.player.now in
-    let x = c.args.hearing.now in
     let k : InputSeen = input_seen g.D.Source.remaining g.D.Source.reads g.D.Source.failures c.hear.new.reader in
     let e = err_from_is_err_and c.from_residual.result c.from_residual.ensures.1 in
-    let p' : OutputSeen = output_seen g.D.Sink.contents g.D.Sink.failures c.hear.new.reader in
-    let out : p' ≡ p = sym (g.met.D.Sink.shows c.hear.new.reader) ∙ c.in_err-thing.ensures.keeps
+    let out = sym (g.met.D.Sink.shows c.hear.new.reader) ∙ c.in_err-thing.ensures.keeps
     ∙ g.met.D.Sink.shows c.lines.device in
     let Q : OutputSeen → Type 0 = λ v. Converses given first k o v c.from_residual.result in
-    subst Q (sym out) (rw (e.1, e.2) (none_ends given first i j k o p x c.lines.hearing c.hear.new.self
-    c.args.workers start c.lines.player
-    c.in_err-thing.field-0.0.kind c.in_err-thing.field-0.0.line c.requires.fresh c.lines.invariant.0
-    c.in_err-thing.ensures.heard.0
-    b))
+    subst Q (sym out) (rw (e.1, e.2) (none_ends k c.hear.new.self c.in_err-thing.field-0.0.kind
+    c.in_err-thing.field-0.0.line c.requires.fresh c.lines.invariant.0 c.in_err-thing.ensures.heard.0 b))
 
 pub returns-in_err-respond-clause-all : goal.returns-in_err-respond-clause-all
 returns-in_err-respond-clause-all g c given first b =
-    let i : InputSeen = input_seen g.D.Source.remaining g.D.Source.reads g.D.Source.failures c.args.device.now in
-    let j : InputSeen = input_seen g.D.Source.remaining g.D.Source.reads g.D.Source.failures c.lines.device in
     let o : OutputSeen = output_seen g.D.Sink.contents g.D.Sink.failures c.args.device.now in
-    let p : OutputSeen = output_seen g.D.Sink.contents g.D.Sink.failures c.lines.device in
-    let start = c.args.player.now in
-    let x = c.args.hearing.now in
-    let k : InputSeen = input_seen g.D.Source.remaining g.D.Source.reads g.D.Source.failures c.hear.new.reader in
     let q : OutputSeen = output_seen g.D.Sink.contents g.D.Sink.failures c.respond.new.writer in
     let h = (rw c.in-Some.is at c.in_ok-thing.ensures.heard).0 in
     let e = err_from_is_err_and c.from_residual-in_err-respond.result c.from_residual-in_err-respond.ensures.1 in
-    let p' : OutputSeen = output_seen g.D.Sink.contents g.D.Sink.failures c.hear.new.reader in
-    let out : p' ≡ p = sym (g.met.D.Sink.shows c.hear.new.reader) ∙ c.in_ok-thing.ensures.keeps
+    let out = sym (g.met.D.Sink.shows c.hear.new.reader) ∙ c.in_ok-thing.ensures.keeps
     ∙ g.met.D.Sink.shows c.lines.device in
-    let k' : InputSeen = input_seen g.D.Source.remaining g.D.Source.reads g.D.Source.failures c.respond.new.writer in
-    let inn : k' ≡ k = sym (g.met.D.Source.sees c.respond.new.writer) ∙ c.in_err-respond.ensures.keeps
+    let inn = sym (g.met.D.Source.sees c.respond.new.writer) ∙ c.in_err-respond.ensures.keeps
     ∙ g.met.D.Source.sees c.hear.new.reader in
     let Q : InputSeen → Type 0 = λ v. Converses given first v o q c.from_residual-in_err-respond.result in
     let F : OutputSeen → Type 0 = λ v. FailsToAnswer c.lines.player v q c.in_err-respond.field-0.0 in
-    subst Q (sym inn) (rw (e.1, e.2) (fails_so given first i j k o p q x c.lines.hearing _ c.args.workers start
-    c.lines.player
-    c.in_err-respond.field-0.0 c.requires.fresh c.lines.invariant.0
-    (taken_stays j k c.lines.hearing c.hear.new.self h.raw h.taken) (subst F out c.in_err-respond.ensures.fault) b))
+    subst Q (sym inn) (rw (e.1, e.2) (fails_so q c.in_err-respond.field-0.0 c.requires.fresh c.lines.invariant.0
+    (taken_stays c.lines.hearing c.hear.new.self h.taken) (subst F out c.in_err-respond.ensures.fault) b))
 
 pub returns-in_err-answer-clause-all : goal.returns-in_err-answer-clause-all
 returns-in_err-answer-clause-all g c given first b =
-    let i : InputSeen = input_seen g.D.Source.remaining g.D.Source.reads g.D.Source.failures c.args.device.now in
-    let j : InputSeen = input_seen g.D.Source.remaining g.D.Source.reads g.D.Source.failures c.lines.device in
     let o : OutputSeen = output_seen g.D.Sink.contents g.D.Sink.failures c.args.device.now in
-    let p : OutputSeen = output_seen g.D.Sink.contents g.D.Sink.failures c.lines.device in
-    let start = c.args.player.now in
-    let x = c.args.hearing.now in
-    let k : InputSeen = input_seen g.D.Source.remaining g.D.Source.reads g.D.Source.failures c.hear.new.reader in
     let q : OutputSeen = output_seen g.D.Sink.contents g.D.Sink.failures c.answer.new.writer in
     let h = (rw c.in_default.is at c.in_ok-thing.ensures.heard).0 in
     let e = err_from_is_err_and c.from_residual-in_err-answer.result c.from_residual-in_err-answer.ensures.1 in
-    let p' : OutputSeen = output_seen g.D.Sink.contents g.D.Sink.failures c.hear.new.reader in
-    let out : p' ≡ p = sym (g.met.D.Sink.shows c.hear.new.reader) ∙ c.in_ok-thing.ensures.keeps
+    let out = sym (g.met.D.Sink.shows c.hear.new.reader) ∙ c.in_ok-thing.ensures.keeps
     ∙ g.met.D.Sink.shows c.lines.device in
-    let k' : InputSeen = input_seen g.D.Source.remaining g.D.Source.reads g.D.Source.failures c.answer.new.writer in
-    let inn : k' ≡ k = sym (g.met.D.Source.sees c.answer.new.writer) ∙ c.in_err-answer.ensures.keeps
+    let inn = sym (g.met.D.Source.sees c.answer.new.writer) ∙ c.in_err-answer.ensures.keeps
     ∙ g.met.D.Source.sees c.hear.new.reader in
     let Q : InputSeen → Type 0 = λ v. Converses given first v o q c.from_residual-in_err-answer.result in
     let F : OutputSeen → Type 0 = λ v. FailsToAnswer c.lines.player v q c.in_err-answer.field-0.0 in
-    subst Q (sym inn) (rw (e.1, e.2) (fails_so given first i j k o p q x c.lines.hearing c.hear.new.self
-    c.args.workers start c.lines.player
-    c.in_err-answer.field-0.0 c.requires.fresh c.lines.invariant.0
+    subst Q (sym inn) (rw (e.1, e.2) (fails_so q c.in_err-answer.field-0.0 c.requires.fresh c.lines.invariant.0
     (record { got = h.got; number = h.number; size = h.size }) (subst F out c.in_err-answer.ensures.fault) b))
 
 pub returns-in_ok-answer-clause-all : goal.returns-in_ok-answer-clause-all
 returns-in_ok-answer-clause-all g c given first b =
-    let i : InputSeen = input_seen g.D.Source.remaining g.D.Source.reads g.D.Source.failures c.args.device.now in
-    let j : InputSeen = input_seen g.D.Source.remaining g.D.Source.reads g.D.Source.failures c.lines.device in
     let o : OutputSeen = output_seen g.D.Sink.contents g.D.Sink.failures c.args.device.now in
-    let p : OutputSeen = output_seen g.D.Sink.contents g.D.Sink.failures c.lines.device in
-    let start = c.args.player.now in
-    let x = c.args.hearing.now in
-    let k : InputSeen = input_seen g.D.Source.remaining g.D.Source.reads g.D.Source.failures c.hear.new.reader in
     let q : OutputSeen = output_seen g.D.Sink.contents g.D.Sink.failures c.answer.new.writer in
-    let p' : OutputSeen = output_seen g.D.Sink.contents g.D.Sink.failures c.hear.new.reader in
-    let out : p' ≡ p = sym (g.met.D.Sink.shows c.hear.new.reader) ∙ c.in_ok-thing.ensures.keeps
+    let out = sym (g.met.D.Sink.shows c.hear.new.reader) ∙ c.in_ok-thing.ensures.keeps
     ∙ g.met.D.Sink.shows c.lines.device in
-    let k' : InputSeen = input_seen g.D.Source.remaining g.D.Source.reads g.D.Source.failures c.answer.new.writer in
-    let inn : k' ≡ k = sym (g.met.D.Source.sees c.answer.new.writer) ∙ c.in_ok-answer.ensures.keeps
+    let inn = sym (g.met.D.Source.sees c.answer.new.writer) ∙ c.in_ok-answer.ensures.keeps
     ∙ g.met.D.Source.sees c.hear.new.reader in
     let A : OutputSeen → Type 0 = λ v. AnswersRound c.lines.player c.answer.new.self v q in
     let Q : InputSeen → Type 0 = λ v. AnswersAll given first v o q in
-    subst Q (sym inn) (last_answered given first i j k o p q x c.lines.hearing c.hear.new.self c.args.workers start
-    c.lines.player
-    c.answer.new.self c.requires.fresh c.lines.invariant.0 (rw c.in_default.is at c.in_ok-thing.ensures.heard).0
-    (sym c.has_begun.ensures ∙ c.if-has_begun.true) (subst A out c.in_ok-answer.ensures.ok.0) b)
+    subst Q (sym inn) (last_answered c.requires.fresh c.lines.invariant.0
+    (rw c.in_default.is at c.in_ok-thing.ensures.heard).0 (sym c.has_begun.ensures ∙ c.if-has_begun.true)
+    (subst A out c.in_ok-answer.ensures.ok.0) b)
 
 pub returns-else-has_begun-clause-all : goal.returns-else-has_begun-clause-all
 returns-else-has_begun-clause-all g c given first b =
-    let i : InputSeen = input_seen g.D.Source.remaining g.D.Source.reads g.D.Source.failures c.args.device.now in
-    let j : InputSeen = input_seen g.D.Source.remaining g.D.Source.reads g.D.Source.failures c.lines.device in
     let o : OutputSeen = output_seen g.D.Sink.contents g.D.Sink.failures c.args.device.now in
-    let p : OutputSeen = output_seen g.D.Sink.contents g.D.Sink.failures c.lines.device in
-    let start = c.args.player.now in
-    let x = c.args.hearing.now in
     let k : InputSeen = input_seen g.D.Source.remaining g.D.Source.reads g.D.Source.failures c.hear.new.reader in
-    let p' : OutputSeen = output_seen g.D.Sink.contents g.D.Sink.failures c.hear.new.reader in
-    let out : p' ≡ p = sym (g.met.D.Sink.shows c.hear.new.reader) ∙ c.in_ok-thing.ensures.keeps
+    let out = sym (g.met.D.Sink.shows c.hear.new.reader) ∙ c.in_ok-thing.ensures.keeps
     ∙ g.met.D.Sink.shows c.lines.device in
     let Q : OutputSeen → Type 0 = λ v. AnswersAll given first k o v in
-    subst Q (sym out) (all_answered given first i j k o p x c.lines.hearing c.hear.new.self c.args.workers start
-    c.lines.player
-    c.requires.fresh c.lines.invariant.0 (rw c.in_default.is at c.in_ok-thing.ensures.heard).0
-    (sym c.has_begun.ensures ∙ c.if-has_begun.false) b)
+    subst Q (sym out) (all_answered c.requires.fresh c.lines.invariant.0
+    (rw c.in_default.is at c.in_ok-thing.ensures.heard).0 (sym c.has_begun.ensures ∙ c.if-has_begun.false) b)
 
 pub returns-in_err-thing-clause-in_time : goal.returns-in_err-thing-clause-in_time
 returns-in_err-thing-clause-in_time g c =
-    let i : InputSeen = input_seen g.D.Source.remaining g.D.Source.reads g.D.Source.failures c.args.device.now in
-    let j : InputSeen = input_seen g.D.Source.remaining g.D.Source.reads g.D.Source.failures c.lines.device in
-    let o : OutputSeen = output_seen g.D.Sink.contents g.D.Sink.failures c.args.device.now in
-    let p : OutputSeen = output_seen g.D.Sink.contents g.D.Sink.failures c.lines.device in
     let m : Log = g.D.Device.log c.hear.new.reader in
-    talks_last c.args.workers i j o p c.args.hearing.now c.lines.hearing c.args.player.now c.lines.player
-    (g.D.Device.log c.args.device.now) (g.D.Device.log c.lines.device) m m c.requires.fresh c.lines.invariant
-    c.in_err-thing.ensures.heard.1 (gives_none m)
+    talks_last m c.requires.fresh c.lines.invariant c.in_err-thing.ensures.heard.1 (gives_none m)
 
 pub returns-in_err-respond-clause-in_time : goal.returns-in_err-respond-clause-in_time
 returns-in_err-respond-clause-in_time g c =
-    let i : InputSeen = input_seen g.D.Source.remaining g.D.Source.reads g.D.Source.failures c.args.device.now in
-    let j : InputSeen = input_seen g.D.Source.remaining g.D.Source.reads g.D.Source.failures c.lines.device in
-    let o : OutputSeen = output_seen g.D.Sink.contents g.D.Sink.failures c.args.device.now in
-    let p : OutputSeen = output_seen g.D.Sink.contents g.D.Sink.failures c.lines.device in
-    let m : Log = g.D.Device.log c.hear.new.reader in
-    talks_last c.args.workers i j o p c.args.hearing.now c.lines.hearing c.args.player.now c.lines.player
-    (g.D.Device.log c.args.device.now) (g.D.Device.log c.lines.device) m (g.D.Device.log c.respond.new.writer)
-    c.requires.fresh c.lines.invariant
-    (reads_open (g.D.Device.log c.lines.device) m c.args.workers c.lines.hearing.input _
-    (rw c.in-Some.is at c.in_ok-thing.ensures.heard).1) c.in_err-respond.ensures.broken
+    talks_last (g.D.Device.log c.respond.new.writer) c.requires.fresh c.lines.invariant
+    (reads_open (rw c.in-Some.is at c.in_ok-thing.ensures.heard).1) c.in_err-respond.ensures.broken
 
 pub returns-in_err-answer-clause-in_time : goal.returns-in_err-answer-clause-in_time
 returns-in_err-answer-clause-in_time g c =
-    let i : InputSeen = input_seen g.D.Source.remaining g.D.Source.reads g.D.Source.failures c.args.device.now in
-    let j : InputSeen = input_seen g.D.Source.remaining g.D.Source.reads g.D.Source.failures c.lines.device in
-    let o : OutputSeen = output_seen g.D.Sink.contents g.D.Sink.failures c.args.device.now in
-    let p : OutputSeen = output_seen g.D.Sink.contents g.D.Sink.failures c.lines.device in
-    let m : Log = g.D.Device.log c.hear.new.reader in
-    talks_last c.args.workers i j o p c.args.hearing.now c.lines.hearing c.args.player.now c.lines.player
-    (g.D.Device.log c.args.device.now) (g.D.Device.log c.lines.device) m (g.D.Device.log c.answer.new.writer)
-    c.requires.fresh c.lines.invariant
+    talks_last (g.D.Device.log c.answer.new.writer) c.requires.fresh c.lines.invariant
     (rw c.in_default.is at c.in_ok-thing.ensures.heard).1 c.in_err-answer.ensures.broken
 
 pub returns-in_ok-answer-clause-in_time : goal.returns-in_ok-answer-clause-in_time
-returns-in_ok-answer-clause-in_time g c =
-    let i : InputSeen = input_seen g.D.Source.remaining g.D.Source.reads g.D.Source.failures c.args.device.now in
-    let j : InputSeen = input_seen g.D.Source.remaining g.D.Source.reads g.D.Source.failures c.lines.device in
-    let o : OutputSeen = output_seen g.D.Sink.contents g.D.Sink.failures c.args.device.now in
-    let p : OutputSeen = output_seen g.D.Sink.contents g.D.Sink.failures c.lines.device in
-    let m : Log = g.D.Device.log c.hear.new.reader in
-    talks_last c.args.workers i j o p c.args.hearing.now c.lines.hearing c.args.player.now c.lines.player
-    (g.D.Device.log c.args.device.now) (g.D.Device.log c.lines.device) m (g.D.Device.log c.answer.new.writer)
-    c.requires.fresh c.lines.invariant
-    (rw c.in_default.is at c.in_ok-thing.ensures.heard).1 (inr (
+returns-in_ok-answer-clause-in_time g c = talks_last (g.D.Device.log c.answer.new.writer)
+    c.requires.fresh c.lines.invariant (rw c.in_default.is at c.in_ok-thing.ensures.heard).1 (inr (
       c.in_ok-answer.ensures.ok.0.lines,
       c.in_ok-answer.ensures.ok.1,
     ))
 
 pub returns-else-has_begun-clause-in_time : goal.returns-else-has_begun-clause-in_time
 returns-else-has_begun-clause-in_time g c =
-    let i : InputSeen = input_seen g.D.Source.remaining g.D.Source.reads g.D.Source.failures c.args.device.now in
-    let j : InputSeen = input_seen g.D.Source.remaining g.D.Source.reads g.D.Source.failures c.lines.device in
-    let o : OutputSeen = output_seen g.D.Sink.contents g.D.Sink.failures c.args.device.now in
-    let p : OutputSeen = output_seen g.D.Sink.contents g.D.Sink.failures c.lines.device in
     let m : Log = g.D.Device.log c.hear.new.reader in
-    talks_last c.args.workers i j o p c.args.hearing.now c.lines.hearing c.args.player.now c.lines.player
-    (g.D.Device.log c.args.device.now) (g.D.Device.log c.lines.device) m m c.requires.fresh c.lines.invariant
-    (rw c.in_default.is at c.in_ok-thing.ensures.heard).1 (gives_none m)
+    talks_last m c.requires.fresh c.lines.invariant (rw c.in_default.is at c.in_ok-thing.ensures.heard).1 (gives_none m)

@@ -35,14 +35,13 @@ returns-in_err-count-in-None-clause-all g c =
     let k : InputSeen = input_seen g.D.Source.remaining g.D.Source.reads g.D.Source.failures c.hear_front.new.reader in
     let o : OutputSeen = output_seen g.D.Sink.contents g.D.Sink.failures c.args.device.now in
     let p : OutputSeen = output_seen g.D.Sink.contents g.D.Sink.failures c.hear_front.new.reader in
-    let out : p ≡ o = sym (g.met.D.Sink.shows c.hear_front.new.reader)
+    let out = sym (g.met.D.Sink.shows c.hear_front.new.reader)
     ∙ c.in_err-count-in-None.ensures.keeps ∙ g.met.D.Sink.shows c.args.device.now in
     let P : Option ℕ → Type 0 = λ given. Converses given i k o p c.from_residual-in_err-count-in-None.result in
     let Q : OutputSeen → Type 0 = λ v. Converses None i k o v c.from_residual-in_err-count-in-None.result in
     let e = err_from_is_err_and c.from_residual-in_err-count-in-None.result
     c.from_residual-in_err-count-in-None.ensures.1 in
-    subst P (sym c.in-None.is) (subst Q (sym out) (rw (e.1, e.2) (front_ends i k o c.in_err-count-in-None.field-0.0.kind
-    c.in_err-count-in-None.field-0.0.line c.in_err-count-in-None.ensures.fault)))
+    subst P (sym c.in-None.is) (subst Q (sym out) (rw (e.1, e.2) (front_ends o c.in_err-count-in-None.ensures.fault)))
 
 pub returns-clause-all : goal.returns-clause-all
 returns-clause-all g c =
@@ -50,9 +49,8 @@ returns-clause-all g c =
     let k : InputSeen = input_seen g.D.Source.remaining g.D.Source.reads g.D.Source.failures
     c.converse_by_store-in-None.new.device in
     let o : OutputSeen = output_seen g.D.Sink.contents g.D.Sink.failures c.args.device.now in
-    let p : OutputSeen = output_seen g.D.Sink.contents g.D.Sink.failures c.hear_front.new.reader in
     let q : OutputSeen = output_seen g.D.Sink.contents g.D.Sink.failures c.converse_by_store-in-None.new.device in
-    let out : p ≡ o = sym (g.met.D.Sink.shows c.hear_front.new.reader)
+    let out = sym (g.met.D.Sink.shows c.hear_front.new.reader)
     ∙ c.in_ok-count-in-None.ensures.keeps ∙ g.met.D.Sink.shows c.args.device.now in
     let P : Option ℕ → Type 0 = λ given. Converses given i k o q c.converse_by_store-in-None.result in
     let Q : OutputSeen → Type 0 = λ v. Converses None i k v q c.converse_by_store-in-None.result in
@@ -62,7 +60,7 @@ returns-clause-all g c =
 pub returns-in_err-hearing-clause-in_time : goal.returns-in_err-hearing-clause-in_time
 returns-in_err-hearing-clause-in_time g c =
     let log : Log = g.D.Device.log c.args.device.now in
-    ends_at c.args.workers log log [] [] (begins_timely c.args.workers log)
+    ends_at (begins_timely c.args.workers log)
 
 pub returns-in-Some-clause-in_time : goal.returns-in-Some-clause-in_time
 returns-in-Some-clause-in_time g c =

@@ -14,7 +14,7 @@ returns-in_default-split_escape c =
     let behind = c.in-Some.behind.now in
     let cut = c.in-Some.ensures.cases in
     reads_none c.args.field.now (string_bytes c.escapes.text) rest plain behind c.escapes.invariant.going
-    (cut_whole 92 rest plain behind cut) (cut_lacks 92 rest plain behind cut) c.in_default-split_escape.ensures
+    (cut_whole cut) (cut_lacks cut) c.in_default-split_escape.ensures
 
 pub escapes-preserved : goal.escapes-preserved
 escapes-preserved c =
@@ -23,11 +23,10 @@ escapes-preserved c =
     let behind = c.in-Some.behind.now in
     let after = c.in-Some-split_escape.after.now in
     let cut = c.in-Some.ensures.cases in
-    let whole = cut_whole 92 rest plain behind cut in
+    let whole = cut_whole cut in
     let escape = c.in-Some-split_escape.ensures in
     let more = reads_more c.args.field.now (string_bytes c.escapes.text) rest plain behind after escape.0
-    c.in-Some-split_escape.byte c.escapes.invariant.going whole (cut_lacks 92 rest plain behind cut) escape.1
-    escape.2 in
+    c.in-Some-split_escape.byte c.escapes.invariant.going whole (cut_lacks cut) escape.1 escape.2 in
     let bytes : string_bytes c.push.new.self ≡ (string_bytes c.escapes.text ++ plain)
     ++ (c.in-Some-split_escape.byte ∷ []) = rw (
       c.in_ok-push.ensures.bytes,

@@ -14,17 +14,14 @@ use Rattle.catserve.proofs.hearing.Hearing.hear_front.Goals as goal
 
 pub returns-in_err-end-clause-fault : goal.returns-in_err-end-clause-fault
 returns-in_err-end-clause-fault g c =
-    let i : InputSeen = input_seen g.R.Source.remaining g.R.Source.reads g.R.Source.failures c.args.reader.now in
-    let j : InputSeen = input_seen g.R.Source.remaining g.R.Source.reads g.R.Source.failures c.front.reader in
     let k : InputSeen = input_seen g.R.Source.remaining g.R.Source.reads g.R.Source.failures c.next_end.new.reader in
     let p = err_from_is_err_and c.from_residual.result c.from_residual.ensures.1 in
-    rw (p.1, p.2) (front_fails i j k c.front.self c.next_end.new.self c.front.invariant.0 c.in_err-end.field-0.0.kind
-    c.in_err-end.field-0.0.line c.front.invariant.1.0 c.in_err-end.ensures.fault)
+    rw (p.1, p.2) (front_fails k c.next_end.new.self c.in_err-end.field-0.0.kind c.in_err-end.field-0.0.line
+    c.front.invariant.1.0 c.in_err-end.ensures.fault)
 
 pub returns-in-NotUtf8-clause-fault : goal.returns-in-NotUtf8-clause-fault
 returns-in-NotUtf8-clause-fault g c =
     let i : InputSeen = input_seen g.R.Source.remaining g.R.Source.reads g.R.Source.failures c.args.reader.now in
-    let j : InputSeen = input_seen g.R.Source.remaining g.R.Source.reads g.R.Source.failures c.front.reader in
     let k : InputSeen = input_seen g.R.Source.remaining g.R.Source.reads g.R.Source.failures c.next_end.new.reader in
     let passed = c.front.invariant.1.0 in
     let found = rw c.in-Some.is at c.in_ok-end.ensures.found.line in
@@ -33,13 +30,11 @@ returns-in-NotUtf8-clause-fault g c =
     let is = subst (λ line. IsFrontLine (take c.in-Some.end c.next_end.new.self.input.left) line) c.in-NotUtf8.is
     (subst Is left c.read_front_line.ensures) in
     let P : SessionFault → Type 0 = λ f. FailsInFront i k f.kind f.line in
-    subst P (sym c.fault_here.ensures) (front_undecodable i j k c.front.self c.next_end.new.self c.front.invariant.0
-    c.in-Some.end passed c.in_ok-end.ensures.found.stays found.0 is)
+    subst P (sym c.fault_here.ensures) (front_undecodable passed c.in_ok-end.ensures.found.stays found.0 is)
 
 pub front-preserved : goal.front-preserved
 front-preserved g c =
     let i : InputSeen = input_seen g.R.Source.remaining g.R.Source.reads g.R.Source.failures c.args.reader.now in
-    let j : InputSeen = input_seen g.R.Source.remaining g.R.Source.reads g.R.Source.failures c.front.reader in
     let k : InputSeen = input_seen g.R.Source.remaining g.R.Source.reads g.R.Source.failures c.next_end.new.reader in
     let passed = c.front.invariant.1.0 in
     let found = rw c.in-Some.is at c.in_ok-end.ensures.found.line in
@@ -51,14 +46,12 @@ front-preserved g c =
     let line = take c.in-Some.end c.next_end.new.self.input.left in
     let a : Log = g.R.Device.log c.args.reader.now in
     let b : Log = g.R.Device.log c.next_end.new.reader in
-    let timely = passed_timely i j k c.front.self c.next_end.new.self c.front.invariant.0 a
-    (g.R.Device.log c.front.reader) b c.front.invariant.1.0 c.front.invariant.1.1 c.in_ok-end.ensures.found.stays
+    let timely = passed_timely c.front.invariant.1.0 c.front.invariant.1.1 c.in_ok-end.ensures.found.stays
     c.in_ok-end.ensures.waits in
     let P : HearingValue → Type 0 = λ y. PassesInTime i k y (front ++ line ∷ []) a b in (
       front ++ line ∷ [],
       subst P (sym c.take.ensures) (
-        passed_more i j k unheard c.front.self c.next_end.new.self front c.in-Some.end passed
-            c.in_ok-end.ensures.found.stays found.0 is.0 is.1,
+        passed_more passed c.in_ok-end.ensures.found.stays found.0 is.0 is.1,
         timely,
       ),
       c.in_ok-end.ensures.keeps ∙ c.front.invariant.2,
@@ -67,7 +60,6 @@ front-preserved g c =
 pub returns-in-Workers-clause-begins : goal.returns-in-Workers-clause-begins
 returns-in-Workers-clause-begins g c =
     let i : InputSeen = input_seen g.R.Source.remaining g.R.Source.reads g.R.Source.failures c.args.reader.now in
-    let j : InputSeen = input_seen g.R.Source.remaining g.R.Source.reads g.R.Source.failures c.front.reader in
     let k : InputSeen = input_seen g.R.Source.remaining g.R.Source.reads g.R.Source.failures c.next_end.new.reader in
     let passed = c.front.invariant.1.0 in
     let found = rw c.in-Some.is at c.in_ok-end.ensures.found.line in
@@ -77,77 +69,49 @@ returns-in-Workers-clause-begins g c =
     (subst Is left c.read_front_line.ensures) in
     let a : Log = g.R.Device.log c.args.reader.now in
     let b : Log = g.R.Device.log c.next_end.new.reader in
-    let timely = passed_timely i j k c.front.self c.next_end.new.self c.front.invariant.0 a
-    (g.R.Device.log c.front.reader) b c.front.invariant.1.0 c.front.invariant.1.1 c.in_ok-end.ensures.found.stays
+    let timely = passed_timely c.front.invariant.1.0 c.front.invariant.1.1 c.in_ok-end.ensures.found.stays
     c.in_ok-end.ensures.waits in
     let P : HearingValue → Type 0 = λ y. BeginsInTime None i k y c.in-Workers.workers a b in
     subst P (sym c.take-in-Workers.ensures) (
-      begins_given i j k c.front.self c.next_end.new.self c.front.invariant.0 c.in-Some.end c.in-Workers.workers passed
-          c.in_ok-end.ensures.found.stays found.0 is.0 is.1 is.2,
+      begins_given c.in-Workers.workers passed c.in_ok-end.ensures.found.stays found.0 is.0 is.1 is.2,
       timely,
     )
 
 pub returns-in-Other-clause-begins : goal.returns-in-Other-clause-begins
 returns-in-Other-clause-begins g c =
-    let i : InputSeen = input_seen g.R.Source.remaining g.R.Source.reads g.R.Source.failures c.args.reader.now in
-    let j : InputSeen = input_seen g.R.Source.remaining g.R.Source.reads g.R.Source.failures c.front.reader in
-    let k : InputSeen = input_seen g.R.Source.remaining g.R.Source.reads g.R.Source.failures c.next_end.new.reader in
     let passed = c.front.invariant.1.0 in
     let found = rw c.in-Some.is at c.in_ok-end.ensures.found.line in
     let left = c.left.ensures ∙ ap (λ (x : HearingValue). x.input.left) c.self.view_is in
     let Is : List ℕ → Type 0 = λ left. IsFrontLine (take c.in-Some.end left) c.read_front_line.result in
     let is = subst (λ line. IsFrontLine (take c.in-Some.end c.next_end.new.self.input.left) line) c.in-Other.is
     (subst Is left c.read_front_line.ensures) in
-    let a : Log = g.R.Device.log c.args.reader.now in
-    let b : Log = g.R.Device.log c.next_end.new.reader in
-    let timely = passed_timely i j k c.front.self c.next_end.new.self c.front.invariant.0 a
-    (g.R.Device.log c.front.reader) b c.front.invariant.1.0 c.front.invariant.1.1 c.in_ok-end.ensures.found.stays
+    let timely = passed_timely c.front.invariant.1.0 c.front.invariant.1.1 c.in_ok-end.ensures.found.stays
     c.in_ok-end.ensures.waits in (
-      begins_other i j k c.front.self c.next_end.new.self c.front.invariant.0 c.in-Some.end passed
-          c.in_ok-end.ensures.found.stays found.0 is.1 is.2,
+      begins_other passed c.in_ok-end.ensures.found.stays found.0 is.1 is.2,
       timely,
     )
 
 pub returns-clause-begins : goal.returns-clause-begins
 returns-clause-begins g c =
-    let i : InputSeen = input_seen g.R.Source.remaining g.R.Source.reads g.R.Source.failures c.args.reader.now in
-    let j : InputSeen = input_seen g.R.Source.remaining g.R.Source.reads g.R.Source.failures c.front.reader in
-    let k : InputSeen = input_seen g.R.Source.remaining g.R.Source.reads g.R.Source.failures c.next_end.new.reader in
-    let a : Log = g.R.Device.log c.args.reader.now in
-    let b : Log = g.R.Device.log c.next_end.new.reader in
     let found = c.in_ok-end.ensures.found in
     let none = rw c.in_default.is at found.none in
-    let timely = passed_timely i j k c.front.self c.next_end.new.self c.front.invariant.0 a
-    (g.R.Device.log c.front.reader) b c.front.invariant.1.0 c.front.invariant.1.1 c.in_ok-end.ensures.found.stays
+    let timely = passed_timely c.front.invariant.1.0 c.front.invariant.1.1 c.in_ok-end.ensures.found.stays
     c.in_ok-end.ensures.waits in (
-      begins_ended i j k c.front.self c.next_end.new.self c.front.invariant.0 c.front.invariant.1.0 found.stays
-          (nil_from_length c.next_end.new.self.input.left none.1) none.0,
+      begins_ended c.front.invariant.1.0 found.stays (nil_from_length c.next_end.new.self.input.left none.1) none.0,
       timely,
     )
 
 pub returns-in_err-end-clause-in_time : goal.returns-in_err-end-clause-in_time
 returns-in_err-end-clause-in_time g c =
-    let i : InputSeen = input_seen g.R.Source.remaining g.R.Source.reads g.R.Source.failures c.args.reader.now in
-    let j : InputSeen = input_seen g.R.Source.remaining g.R.Source.reads g.R.Source.failures c.front.reader in
-    let k : InputSeen = input_seen g.R.Source.remaining g.R.Source.reads g.R.Source.failures c.next_end.new.reader in
-    let a : Log = g.R.Device.log c.args.reader.now in
-    let b : Log = g.R.Device.log c.next_end.new.reader in
     let waits = c.in_err-end.ensures.waits in
     let p = err_from_is_err_and c.from_residual.result c.from_residual.ensures.1 in
-    rw (p.1) (passed_last i j c.front.self c.next_end.new.self.input c.front.invariant.0 waits.0 a
-    (g.R.Device.log c.front.reader) b c.front.invariant.1.0 c.front.invariant.1.1 waits.1)
+    rw (p.1) (passed_last c.front.invariant.1.0 c.front.invariant.1.1 waits.1)
 
 pub returns-in-NotUtf8-clause-in_time : goal.returns-in-NotUtf8-clause-in_time
 returns-in-NotUtf8-clause-in_time g c =
-    let i : InputSeen = input_seen g.R.Source.remaining g.R.Source.reads g.R.Source.failures c.args.reader.now in
-    let j : InputSeen = input_seen g.R.Source.remaining g.R.Source.reads g.R.Source.failures c.front.reader in
-    let k : InputSeen = input_seen g.R.Source.remaining g.R.Source.reads g.R.Source.failures c.next_end.new.reader in
-    let a : Log = g.R.Device.log c.args.reader.now in
-    let b : Log = g.R.Device.log c.next_end.new.reader in
-    let timely = passed_timely i j k c.front.self c.next_end.new.self c.front.invariant.0 a
-    (g.R.Device.log c.front.reader) b c.front.invariant.1.0 c.front.invariant.1.1 c.in_ok-end.ensures.found.stays
+    let timely = passed_timely c.front.invariant.1.0 c.front.invariant.1.1 c.in_ok-end.ensures.found.stays
     c.in_ok-end.ensures.waits in
-    ends_at None a b (c.front.invariant.1.0.taken.more ++ c.in_ok-end.ensures.found.stays.got.more) [] timely
+    ends_at timely
 
 pub front-init : goal.front-init
 front-init g c =

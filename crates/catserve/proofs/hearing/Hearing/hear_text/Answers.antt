@@ -27,7 +27,7 @@ returns-in-Err-clause-fault g c =
     let P : HearingValue → Type 0 = λ x.
     HearsNoText i j x after c.args.end c.args.count c.fault_of.result.kind c.fault_of.result.line in
     subst P c.self.view_is (no_line _ i j here after c.fault_of.result.kind c.fault_of.result.line
-    (nothing_heard i j here after c.in-Err.fault c.fault_of.result c.in-Err.ensures.comes
+    (nothing_heard here after c.in-Err.fault c.fault_of.result c.in-Err.ensures.comes
     (record { later = c.in-Err.ensures.later; reads = c.in-Err.ensures.reads }) refl refl
     (λ long. omega (arith, (c.in-Err.ensures.long long).over, c.self.invariant)) c.in-Err.ensures.cause
     c.fault_of.ensures))
@@ -45,7 +45,7 @@ returns-in_default-clause-fault g c =
     let Q : SessionFault → Type 0 = λ f. HearsNoText i j here after c.args.end c.args.count f.kind f.line in
     subst P c.self.view_is (subst Q (sym c.fault_here.ensures) (
       record {
-        stays = stays_whole i j here after c.in-Ok.ensures.comes
+        stays = stays_whole here after c.in-Ok.ensures.comes
             (record { later = c.in-Ok.ensures.later; reads = c.in-Ok.ensures.reads }) refl refl;
         fewer = rw c.in_default.is at c.in-Ok.ensures.none;
       },
@@ -55,7 +55,7 @@ returns-in_default-clause-fault g c =
 pub overflow_add-count : goal.overflow_add-count
 overflow_add-count g c =
     let ends = rw c.in-Some.is at c.in-Ok.ensures.lines in
-    let few = (text_within c.lines_end.new.self c.args.end c.args.count c.in-Some.text_end ends).0 in
+    let few = (text_within ends).0 in
     omega (arith, few, c.ranges.count.fits, ends.within)
 
 pub take-requires-clause-size : goal.take-requires-clause-size
@@ -64,8 +64,7 @@ take-requires-clause-size g c =
     let within = rw c.in-Some.is at c.in-Ok.ensures.within in
     let most : ℕ = most_script - c.self.inside.size in
     let known = ap (λ (x : HearingValue). x.size) c.self.view_is in
-    let placed = text_ends_within c.lines_end.new.self c.args.end c.args.count c.in-Some.text_end most ends
-    (omega (arith, known, c.requires.size)) within in
+    let placed = text_ends_within c.args.count most ends (omega (arith, known, c.requires.size)) within in
     omega (arith, placed, c.self.invariant)
 
 pub take-requires-clause-number : goal.take-requires-clause-number
@@ -74,9 +73,8 @@ take-requires-clause-number g c =
     let within = rw c.in-Some.is at c.in-Ok.ensures.within in
     let most : ℕ = most_script - c.self.inside.size in
     let known = ap (λ (x : HearingValue). x.size) c.self.view_is in
-    let placed = text_ends_within c.lines_end.new.self c.args.end c.args.count c.in-Some.text_end most ends
-    (omega (arith, known, c.requires.size)) within in
-    let few = (text_within c.lines_end.new.self c.args.end c.args.count c.in-Some.text_end ends).0 in
+    let placed = text_ends_within c.args.count most ends (omega (arith, known, c.requires.size)) within in
+    let few = (text_within ends).0 in
     omega (arith, placed, few, ap (λ (x : HearingValue). x.number) c.self.view_is, c.requires.few)
 
 pub returns-then-not-is_utf8-clause-fault : goal.returns-then-not-is_utf8-clause-fault
@@ -87,7 +85,7 @@ returns-then-not-is_utf8-clause-fault g c =
     { input = c.self.inside.input; number = c.self.inside.number; size = c.self.inside.size } in
     let after : HearingValue = record
     { input = c.lines_end.new.self; number = c.self.inside.number; size = c.self.inside.size } in
-    let stays = stays_whole i j here after c.in-Ok.ensures.comes
+    let stays = stays_whole here after c.in-Ok.ensures.comes
     (record { later = c.in-Ok.ensures.later; reads = c.in-Ok.ensures.reads }) refl refl in
     let ends = rw c.in-Some.is at c.in-Ok.ensures.lines in
     let line = subst (λ x. EndsLine x 0 c.args.end) (sym (ap (λ (x : HearingValue). x.input) c.self.view_is))
@@ -99,7 +97,7 @@ returns-then-not-is_utf8-clause-fault g c =
     let undecodable = subst NotText c.left-left.ensures
     (λ utf8. both c.is_utf8.result (c.is_utf8.ensures.1 utf8) c.if-not-is_utf8.true) in
     subst P c.self.view_is (subst Q (sym c.fault_here-then-not-is_utf8.ensures)
-    (text_undecodable i j here after c.args.end c.args.count c.in-Some.text_end stays line ends undecodable))
+    (text_undecodable stays line ends undecodable))
 
 pub returns-in_default-copied-clause-fault : goal.returns-in_default-copied-clause-fault
 returns-in_default-copied-clause-fault g c =
@@ -109,7 +107,7 @@ returns-in_default-copied-clause-fault g c =
     { input = c.self.inside.input; number = c.self.inside.number; size = c.self.inside.size } in
     let after : HearingValue = record
     { input = c.lines_end.new.self; number = c.self.inside.number; size = c.self.inside.size } in
-    let stays = stays_whole i j here after c.in-Ok.ensures.comes
+    let stays = stays_whole here after c.in-Ok.ensures.comes
     (record { later = c.in-Ok.ensures.later; reads = c.in-Ok.ensures.reads }) refl refl in
     let P : HearingValue → Type 0 = λ x.
     HearsNoText i j x after c.args.end c.args.count c.from.result.kind c.from.result.line in
@@ -124,7 +122,7 @@ returns-clause-heard g c =
     { input = c.self.inside.input; number = c.self.inside.number; size = c.self.inside.size } in
     let after : HearingValue = record
     { input = c.lines_end.new.self; number = c.self.inside.number; size = c.self.inside.size } in
-    let stays = stays_whole i j here after c.in-Ok.ensures.comes
+    let stays = stays_whole here after c.in-Ok.ensures.comes
     (record { later = c.in-Ok.ensures.later; reads = c.in-Ok.ensures.reads }) refl refl in
     let ends = rw c.in-Some.is at c.in-Ok.ensures.lines in
     let line = subst (λ x. EndsLine x 0 c.args.end) (sym (ap (λ (x : HearingValue). x.input) c.self.view_is))
@@ -138,41 +136,35 @@ returns-clause-heard g c =
     HearsText i j x c.take.new.self c.args.end c.args.count c.in-Ok-copied.bytes.items in
     let Q : HearingValue → Type 0 = λ y. HearsText i j here y c.args.end c.args.count c.in-Ok-copied.bytes.items in
     subst P c.self.view_is (subst Q (sym c.take.ensures)
-    (text_taken i j here after c.args.end c.args.count c.in-Some.text_end c.in-Ok-copied.bytes.items stays line ends
-    utf8
-    bytes))
+    (text_taken c.in-Ok-copied.bytes.items stays line ends utf8 bytes))
 
 pub returns-in-Err-clause-waited : goal.returns-in-Err-clause-waited
 returns-in-Err-clause-waited g c =
     let a : Log = g.R.Device.log c.args.reader.now in
     let b : Log = g.R.Device.log c.lines_end.new.reader in
     let P : HearingValue → Type 0 = λ x. ReadsWhile a b (StillCounts c.args.count x.input c.args.end) in
-    subst P c.self.view_is (counts_of a b c.self.inside.input c.lines_end.new.self _
-    (StillCounts c.args.count c.self.inside.input c.args.end) c.in-Err.ensures.waits.1)
+    subst P c.self.view_is (counts_of c.in-Err.ensures.waits.1)
 
 pub returns-in_default-clause-waited : goal.returns-in_default-clause-waited
 returns-in_default-clause-waited g c =
     let a : Log = g.R.Device.log c.args.reader.now in
     let b : Log = g.R.Device.log c.lines_end.new.reader in
     let P : HearingValue → Type 0 = λ x. ReadsWhile a b (StillCounts c.args.count x.input c.args.end) in
-    subst P c.self.view_is (counts_of a b c.self.inside.input c.lines_end.new.self _
-    (StillCounts c.args.count c.self.inside.input c.args.end) c.in-Ok.ensures.waits)
+    subst P c.self.view_is (counts_of c.in-Ok.ensures.waits)
 
 pub returns-then-not-is_utf8-clause-waited : goal.returns-then-not-is_utf8-clause-waited
 returns-then-not-is_utf8-clause-waited g c =
     let a : Log = g.R.Device.log c.args.reader.now in
     let b : Log = g.R.Device.log c.lines_end.new.reader in
     let P : HearingValue → Type 0 = λ x. ReadsWhile a b (StillCounts c.args.count x.input c.args.end) in
-    subst P c.self.view_is (counts_of a b c.self.inside.input c.lines_end.new.self _
-    (StillCounts c.args.count c.self.inside.input c.args.end) c.in-Ok.ensures.waits)
+    subst P c.self.view_is (counts_of c.in-Ok.ensures.waits)
 
 pub returns-in_default-copied-clause-waited : goal.returns-in_default-copied-clause-waited
 returns-in_default-copied-clause-waited g c =
     let a : Log = g.R.Device.log c.args.reader.now in
     let b : Log = g.R.Device.log c.lines_end.new.reader in
     let P : HearingValue → Type 0 = λ x. ReadsWhile a b (StillCounts c.args.count x.input c.args.end) in
-    subst P c.self.view_is (counts_of a b c.self.inside.input c.lines_end.new.self _
-    (StillCounts c.args.count c.self.inside.input c.args.end) c.in-Ok.ensures.waits)
+    subst P c.self.view_is (counts_of c.in-Ok.ensures.waits)
 
 pub returns-clause-waits : goal.returns-clause-waits
 returns-clause-waits g c =
@@ -194,5 +186,5 @@ returns-clause-waits g c =
       left = drop c.in-Some.text_end c.lines_end.new.self.left;
       ended = c.lines_end.new.self.ended;
     }) c.args.end c.args.count bs in
-    subst P c.self.view_is (subst Q (sym c.take.ensures) (subst R (sym bytes) (text_reads a b here.input
-    c.lines_end.new.self c.args.end c.args.count c.in-Some.text_end line ends c.in-Ok.ensures.waits)))
+    subst P c.self.view_is (subst Q (sym c.take.ensures)
+    (subst R (sym bytes) (text_reads line ends c.in-Ok.ensures.waits)))

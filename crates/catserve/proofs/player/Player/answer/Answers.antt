@@ -1,4 +1,4 @@
-use Rattle.std.proofs.Common.{◌∷◌, [], List, ℕ, arith, false, refl, sym, subst}
+use Rattle.std.proofs.Common.{◌∷◌, [], List, ℕ, arith, false, refl, rules, subst}
 use Rattle.std.specs.Io.KnownBytes.{Appends}
 use Rattle.devices.specs.Devices.{AppendsFront, OutputSeen}
 use Rattle.devices.specs.Logs.{Gave, Grows, Log}
@@ -32,21 +32,20 @@ returns-in-Ok-clause-ok g c =
     let new : PlayerValue = record {
       store = c.finish.new.publisher;
       desks = c.finish.new.desks.items;
-      held = [];
+      held = c.clear.new.self.items;
       begun = false;
     } in
     let P : PlayerValue → Type 0 = λ x. GivesRound x new o p a b in
-    let Q : PlayerValue → Type 0 = λ y. GivesRound c.args.self.now y o p a b in
-    subst Q (sym c.next_round.ensures) (subst P c.self.view_is (
+    subst P c.self.view_is (
       record {
         lines = c.finish.new.output.items;
         finishes = c.in_ok-finish.ensures.ok;
         ready = c.in_ok-finish.ensures.ready;
         count = omega (arith, c.in_ok-finish.ensures.count, c.finish.new.desks.ok, c.self.inside.desks.ok);
-        held = refl;
+        held = search rules;
         begun = refl;
         written = subst Written c.as_slice.ensures.value c.in-Ok.ensures.bytes;
         steady = c.in-Ok.ensures.steady;
       },
       subst Logged c.as_slice.ensures.value c.in-Ok.ensures.logged,
-    ))
+    )

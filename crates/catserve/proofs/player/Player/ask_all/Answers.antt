@@ -17,18 +17,15 @@ questions-preserved c =
     let at = c.questions in
     let x = c.in-Some.question in
     record {
-      taken = takes_one (into_iter_items c.into_iter-question-iterator.result) at.yielded
-          (into_iter_items at.question-iterator) (into_iter_items c.next.new.self)
-          (into_iter_len at.question-iterator) (into_iter_len c.next.new.self) x at.invariant.taken
+      taken = takes_one (into_iter_items c.next.new.self) (into_iter_len c.next.new.self) x at.invariant.taken
           c.in-Some.ensures.steps.0 (omega (arith, c.in-Some.ensures.steps.1));
-      given = given_more at.yielded x c.args.self.now at.self c.ask.new.self at.invariant.given c.in_ok-ask.ensures;
+      given = given_more x at.invariant.given c.in_ok-ask.ensures;
     }
 
 pub returns : goal.returns
 returns c =
     let at = c.questions in
-    let all = takes_all (into_iter_items c.into_iter-question-iterator.result) at.yielded
-    (into_iter_items at.question-iterator) (into_iter_len at.question-iterator) at.invariant.taken
-    c.in-None.ensures.steps.0 ∙ c.into_iter-question-iterator.ensures.into_iter_gives.0 in
+    let all = takes_all at.invariant.taken c.in-None.ensures.steps.0
+    ∙ c.into_iter-question-iterator.ensures.into_iter_gives.0 in
     let P : List QuestionValue → Type 0 = λ qs. GivesAll qs c.args.self.now at.self in
     subst P all at.invariant.given

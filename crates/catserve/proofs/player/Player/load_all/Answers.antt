@@ -17,8 +17,7 @@ loads-preserved c =
     ∙ ap (λ q. take i loads ++ q ∷ []) (sym c.each-item.is) in
     let P : List JobValue → Type 0 = λ ls. HasLoaded ls was.store now.store was.held now.held in
     record {
-      loaded = subst P (sym front) (loaded_more (take i loads) load was.store was.held c.loads.self now
-          c.loads.invariant.loaded c.in_ok-load.ensures);
+      loaded = subst P (sym front) (loaded_more c.loads.invariant.loaded c.in_ok-load.ensures);
       desks = c.in_ok-load.ensures.desks ∙ c.loads.invariant.desks;
     }
 
@@ -26,6 +25,4 @@ pub load-requires : goal.load-requires
 load-requires c =
     let loads = c.args.loads.now in
     let i = c.loads.each-index in
-    let was = c.args.self.now in
-    has_room (take i loads) was.store c.loads.self.store was.held c.loads.self.held (length loads)
-    c.loads.invariant.loaded c.requires (omega (arith, length-take i loads))
+    has_room (length loads) c.loads.invariant.loaded c.requires (omega (arith, length-take i loads))
