@@ -23,7 +23,7 @@ use Rattle.script_text.specs.Script.{QuestionValue, query_for, queries_for}
 use Rattle.catserve.specs.Output.{answer_line}
 use Rattle.catserve.specs.Rounds.{Answers, AnswersInTurn}
 use Rattle.catserve.specs.Asking.{readers_of, AreAsked, GivesOne, answer_lines, desk_lines, IsFreed}
-use Rattle.catserve.specs.Running.{AreReady, HaveBook}
+use Rattle.catserve.specs.Running.{AreReady}
 use Rattle.catserve.proofs.Batching.{joined-append}
 use Rattle.script_text.proofs.Cutting.{take-all}
 
@@ -146,10 +146,9 @@ answered_all batches least (query ∷ queries) (answer ∷ answers) last (from, 
     )
 
 -- their lines are those of a worker
-lines_of : (loads : List LoadValue) (worker : ℕ) (queries : List QueryValue) (answers : List Answer) → AllZip
-    (λ (query : QueryValue) (answer : Answer). (answer.version ≡ length loads)
-    × IsAnswer loads query (string_bytes answer.text)) queries answers
-    → Answers loads worker queries (answer_lines worker answers)
+lines_of : (loads : List LoadValue) (worker : ℕ) (queries : List QueryValue) (answers : List Answer)
+    → AllZip (λ (query : QueryValue) (answer : Answer). (answer.version ≡ length loads) × IsAnswer loads query
+    (string_bytes answer.text)) queries answers → Answers loads worker queries (answer_lines worker answers)
 lines_of loads worker [] [] h = ([], tt, refl)
 lines_of loads worker [] (answer ∷ answers) h = absurd h
 lines_of loads worker (query ∷ queries) [] h = absurd h
@@ -183,9 +182,9 @@ answers_in_turn start end questions worker (desk ∷ asked) (s ∷ served) same 
 -- ---- from round to round
 
 -- desks that were served and freed are ready for the next round
-pub ready_again : (start end : SeenValue) (asked served freed : List Desk) → AllZip (IsServed start end) asked served
-    → AllZip IsFreed served freed → AreReady end freed
-ready_again start end asked served freed all gone = record
+pub ready_again : (start : SeenValue) {end : SeenValue} (asked served : List Desk) {freed : List Desk}
+    → AllZip (IsServed start end) asked served → AllZip IsFreed served freed → AreReady end freed
+ready_again start {end} asked served {freed} all gone = record
     { book = books asked served freed all gone; free = frees 0 served freed gone }
   where
     books : (asked served freed : List Desk) → AllZip (IsServed start end) asked served → AllZip IsFreed served freed
@@ -213,9 +212,9 @@ books_of of (desk ∷ desks) all = All-cons (λ (desk : Desk). desk.reader.book 
     (all 0 desk.reader (omega arith)) (books_of of desks (λ k d below. all (suc k) d (omega arith)))
 
 -- the desks of new readers
-pub ready_first : (seen : SeenValue) (readers : List SeenValue) (desks : List Desk) → readers_of desks ≡ readers
+pub ready_first : {seen : SeenValue} (readers : List SeenValue) {desks : List Desk} → readers_of desks ≡ readers
     → AreAsked 0 [] desks → All (λ (reader : SeenValue). reader ≡ seen) readers → AreReady seen desks
-ready_first seen readers desks e free all =
+ready_first {seen} readers e free all =
     let P : List SeenValue → Type 0 = λ rs. All (λ (reader : SeenValue). reader ≡ seen) rs in
     let each = subst P (sym e) all in
     record { book = λ k d below. ap (λ (reader : SeenValue). reader.book) (each k d below); free = free }
@@ -235,8 +234,7 @@ opens_more desks desk free none = go 0 desks free where
 
 -- desks that were given questions have the readers that they had
 pub books_given : (was now : SeenValue) (old given : List Desk) → readers_of given ≡ readers_of old
-    → now.book ≡ was.book
-    → All (λ (seen : SeenValue). seen.book ≡ was.book) (readers_of old)
+    → now.book ≡ was.book → All (λ (seen : SeenValue). seen.book ≡ was.book) (readers_of old)
     → All (λ (desk : Desk). desk.reader.book ≡ now.book) given
 books_given was now old given e same all =
     let P : List SeenValue → Type 0 = λ rs. All (λ (seen : SeenValue). seen.book ≡ was.book) rs in

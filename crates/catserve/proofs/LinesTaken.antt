@@ -35,8 +35,8 @@ may_add x y more text behind stays may ended =
     (omega (arith, ap length behind, ap (λ (v : Incoming). length v.left) same, length-append x.left more)) in
     rw none (may (ap (λ (v : Incoming). v.ended) same ∙ ended))
 
-pub counts_none : (i : InputSeen) → CountsOn i i
-counts_none i = record { later = omega arith; reads = rises_none i.reads }
+pub counts_none : {i : InputSeen} → CountsOn i i
+counts_none {i} = record { later = omega arith; reads = rises_none i.reads }
 
 pub counts_both : {i j k : InputSeen} → CountsOn i j → CountsOn j k → CountsOn i k
 counts_both {i} {j} {k} a b = record {
@@ -44,9 +44,9 @@ counts_both {i} {j} {k} a b = record {
   reads = rises_both 0 0 i.reads j.reads k.reads a.reads b.reads;
 }
 
-pub stays_whole : {i j : InputSeen} (x y : HearingValue) → AddsInput i.left j.left x.input y.input → CountsOn i j
+pub stays_whole : {i j : InputSeen} {x y : HearingValue} → AddsInput i.left j.left x.input y.input → CountsOn i j
     → y.number ≡ x.number → y.size ≡ x.size → Stays i j x y []
-stays_whole x y adds counts number size = record {
+stays_whole {x} {y} adds counts number size = record {
   got = record {
     more = adds.more;
     read = rw (append-nil adds.more) adds.consumed;
@@ -59,9 +59,9 @@ stays_whole x y adds counts number size = record {
   size = size;
 }
 
-pub stays_lost : {i j : InputSeen} (x y : HearingValue) (adds : AddsSome i.left j.left x.input y.input) → CountsOn i j
+pub stays_lost : {i j : InputSeen} {x y : HearingValue} (adds : AddsSome i.left j.left x.input y.input) → CountsOn i j
     → y.number ≡ x.number → y.size ≡ x.size → Stays i j x y adds.lost
-stays_lost x y adds counts number size = record {
+stays_lost {x} {y} adds counts number size = record {
   got = record {
     more = adds.more;
     read = adds.consumed;
@@ -74,15 +74,15 @@ stays_lost x y adds counts number size = record {
   size = size;
 }
 
-abbrev pub stays_put : (i : InputSeen) (x : HearingValue) → Stays i i x x []
-stays_put i x = record {
+abbrev pub stays_put : {i : InputSeen} {x : HearingValue} → Stays i i x x []
+stays_put {i} {x} = record {
   got = record {
     more = [];
     read = consumes_none i.left;
     behind = sym (append-nil x.input.left);
     may = λ text may. may;
     at_end = λ before. before;
-    counts = counts_none i;
+    counts = counts_none;
   };
   number = refl;
   size = refl;
@@ -98,15 +98,15 @@ found_so None stays few size line within none = record { stays = stays; line = t
 
 -- ---- what was taken
 
-abbrev pub taken_none : (i : InputSeen) (x : Incoming) → HasTaken i i x x []
-taken_none i x = record {
+abbrev pub taken_none : {i : InputSeen} {x : Incoming} → HasTaken i i x x []
+taken_none {i} {x} = record {
   more = [];
   read = consumes_none i.left;
   may = λ text may. may;
   cut = λ text may. ap (λ xs. lines (xs ++ text)) (append-nil x.left);
   whole = append-nil x.left;
   at_end = λ before. before;
-  counts = counts_none i;
+  counts = counts_none;
 }
 
 abbrev pub taken_then : {i j k : InputSeen} {x y z : Incoming} {front back : List (List ℕ)} → HasTaken i j x y front
@@ -128,10 +128,10 @@ taken_then {i} {j} {k} {x} {y} {z} {front} {back} a b = record {
 }
 
 -- what was got is there to be taken
-abbrev pub got_taken : {i j : InputSeen} {x y : Incoming} (z : Incoming) (raw : List (List ℕ)) → HasGot i j x y []
+abbrev pub got_taken : {i j : InputSeen} {x y z : Incoming} {raw : List (List ℕ)} → HasGot i j x y []
     → z.ended ≡ y.ended → y.left ≡ concat raw ++ z.left
     → ((text : List ℕ) → MayCome y text → lines (y.left ++ text) ≡ raw ++ lines (z.left ++ text)) → HasTaken i j x z raw
-got_taken {y} z raw got same whole cut =
+got_taken {y} {z} got same whole cut =
     let may_y : (text : List ℕ) → MayCome z text → MayCome y text = λ text may ended. may (same ∙ ended) in
     record {
       more = got.more;
@@ -168,13 +168,13 @@ take_nothing : (count : ℕ) → take count no_lines ≡ no_lines
 take_nothing zero = refl
 take_nothing (suc count) = refl
 
-again_behind : (b : ℕ) (count : ℕ) (ls : List (List ℕ)) → is_line_end b ≡ false
+again_behind : (b count : ℕ) (ls : List (List ℕ)) → is_line_end b ≡ false
     → lines (concat (take (suc count) ls)) ≡ take (suc count) ls
     → lines (concat (take (suc count) (onto_first b ls))) ≡ take (suc count) (onto_first b ls)
 again_behind b count [] other again = rw (take_nothing count, other) refl
 again_behind b count (l ∷ ls) other again = rw (other, again) refl
 
-again_first : (b : ℕ) (count : ℕ) (text : List ℕ) (e : Bool) → is_line_end b ≡ e
+again_first : (b count : ℕ) (text : List ℕ) (e : Bool) → is_line_end b ≡ e
     → lines (concat (take count (lines text))) ≡ take count (lines text)
     → lines (concat (take (suc count) (lines text))) ≡ take (suc count) (lines text)
     → lines (concat (take (suc count) (lines (b ∷ text)))) ≡ take (suc count) (lines (b ∷ text))
@@ -267,21 +267,20 @@ text_undecodable {x} {y} {end} {place} stays line ends undecodable =
     }
 
 -- it is taken off
-pub text_taken : {i j : InputSeen} {x y : HearingValue} {end count place : ℕ} (bytes : List ℕ) → Stays i j x y []
+pub text_taken : {i j : InputSeen} {x y : HearingValue} {end count place : ℕ} {bytes : List ℕ} → Stays i j x y []
     → EndsLine x.input 0 end → EndsLines count y.input end place → IsUtf8 (take place y.input.left)
     → bytes ≡ take (place - end) (drop end y.input.left) → HearsText i j x (record {
       input = record { left = drop place y.input.left; ended = y.input.ended };
       number = x.number + (1 + count);
       size = x.size + place;
     }) end count bytes
-text_taken {x} {y} {end} {place} bytes stays line ends utf8 bytes_are =
+text_taken {x} {y} {place} stays line ends utf8 bytes_are =
     let (texts, counted, whole, together, cut) = text_heard stays.got line ends in
     record {
       texts = texts;
       counted = counted;
       bytes_are = bytes_are ∙ whole;
-      taken = got_taken (record { left = drop place y.input.left; ended = y.input.ended })
-          (take end x.input.left ∷ texts) stays.got refl (sym (take-append-drop place y.input.left)
+      taken = got_taken stays.got refl (sym (take-append-drop place y.input.left)
           ∙ ap (λ xs. xs ++ drop place y.input.left) together) cut;
       utf8 = subst IsUtf8 together utf8;
       number = refl;
@@ -304,11 +303,11 @@ pub nothing_heard : {i j : InputSeen} (x y : HearingValue) (fault : LineInputFau
     → (IsErrOf (Failed fault) line_fault.Unreadable → FailsToRead i j) → FailsFor fault x.number f
     → HearsNothing i j x y f.kind f.line
 nothing_heard x y line_fault.TooLong f comes counts number size over failed is = rw is
-    (record { stays = stays_whole x y comes counts number size; line_is = refl; over = inl (over refl) })
+    (record { stays = stays_whole comes counts number size; line_is = refl; over = inl (over refl) })
 nothing_heard x y line_fault.Unreadable f comes counts number size over failed is = rw is
-    ((comes.lost, stays_lost x y comes counts number size), failed refl, refl)
+    ((comes.lost, stays_lost comes counts number size), failed refl, refl)
 nothing_heard x y line_fault.Memory f comes counts number size over failed is = rw is
-    ((comes.lost, stays_lost x y comes counts number size), refl)
+    ((comes.lost, stays_lost comes counts number size), refl)
 
 -- whatever a bad line means
 pub no_line : (Bad : ℕ → Type 0) (i j : InputSeen) (x y : HearingValue) (kind : ScriptKind) (line : ℕ)
@@ -348,7 +347,6 @@ text_within {y} {end} {count} {place} ends =
 
 -- so the text ends within the limit that its line ends within
 pub text_ends_within : {y : Incoming} {end : ℕ} (count : ℕ) {place : ℕ} (most : ℕ) → EndsLines count y end place
-    → end ≤ most
-    → (0 < count → place ≤ most) → place ≤ most
+    → end ≤ most → (0 < count → place ≤ most) → place ≤ most
 text_ends_within zero most ends line text = omega (arith, line, (text_within ends).1 refl)
 text_ends_within (suc count) most ends line text = text (omega arith)

@@ -16,7 +16,7 @@ use Rattle.desks.specs.declared.job.Accepted as job
 use Rattle.script_text.specs.ScriptLoads.{JobValue}
 use Rattle.script_text.specs.Script.{RoundValue}
 use Rattle.catserve.specs.Output.{version_line}
-use Rattle.catserve.specs.Rounds.{Outcome, Accepted, Refused, RefusedMo, Unnamed, IsOutcome, outcome_line}
+use Rattle.catserve.specs.Rounds.{Outcome, Accepted, IsOutcome, outcome_line}
 use Rattle.catserve.specs.Rounds.{accepted_load, AnswersInTurn, PlaysAll}
 use Rattle.script_text.specs.Script.{load_count}
 use Rattle.catserve.specs.Running.{LoadsOne, LoadsAll, HasLoaded, HasRoomFor, PlaysOne, HasPlayed, job_of}
@@ -27,11 +27,11 @@ map_ok (Ok x) a f = f a
 map_ok (Err x) a f = tt
 
 -- the load is accepted, with the map that its source brings
-pub accepts_one : (load : JobValue) (answer : job.Accepted) (s s' : StoreValue) (before after : List ℕ)
+pub accepts_one : {load : JobValue} (answer : job.Accepted) (s s' : StoreValue) {before after : List ℕ}
     → (is : IsAccepted s (job_of load) answer s') → after ≡ before
     ++ outcome_line (Accepted (record { domain = load.domain; locale = load.locale; map = is.0 }) answer)
     → LoadsOne load s.pending s'.pending before after
-accepts_one load answer s s' before after (map, brings, adds) written = record {
+accepts_one {load} answer s s' (map, brings, adds) written = record {
   outcome = Accepted (record { domain = load.domain; locale = load.locale; map = map }) answer;
   is = (adds.names, brings, refl, refl);
   pending_are = ap (λ (x : StoreValue). x.pending) adds.after_is;
@@ -39,10 +39,10 @@ accepts_one load answer s s' before after (map, brings, adds) written = record {
 }
 
 -- it isn't
-pub refuses_one : (load : JobValue) (outcome : Outcome) (s s' : StoreValue) (before after : List ℕ)
+pub refuses_one : {load : JobValue} (outcome : Outcome) (s s' : StoreValue) {before after : List ℕ}
     → IsOutcome load outcome → accepted_load outcome ≡ None → s' ≡ s → after ≡ before ++ outcome_line outcome
     → LoadsOne load s.pending s'.pending before after
-refuses_one load outcome s s' before after is none same written = record {
+refuses_one outcome s s' is none same written = record {
   outcome = outcome;
   is = is;
   pending_are = ap (λ (x : StoreValue). x.pending) same ∙ sym (rw none (append-nil s.pending));
@@ -92,15 +92,14 @@ has_room {loads} {was} count h room more = omega (
 )
 
 -- the loads, the version and the answers of a round
-pub plays_one : (workers : ℕ) (round : RoundValue) (was loaded now : StoreValue) (version : ℕ)
-    {a b : List ℕ} (c d answers : List ℕ)
-    → was.pending ≡ [] → LoadsAll round.loads was.pending loaded.pending a b → loaded.seen ≡ was.seen
-    → now.seen.batches ≡ published loaded.seen.batches loaded.pending → now.pending ≡ [] → now.most ≡ was.most → version
-    ≡ version_of now.seen.batches → c ≡ b ++ version_line version
+pub plays_one : {workers : ℕ} {round : RoundValue} {was : StoreValue} (loaded : StoreValue) {now : StoreValue}
+    (version : ℕ) {a b : List ℕ} (c : List ℕ) {d : List ℕ} (answers : List ℕ) → was.pending ≡ []
+    → LoadsAll round.loads was.pending loaded.pending a b → loaded.seen ≡ was.seen
+    → now.seen.batches ≡ published loaded.seen.batches loaded.pending → now.pending ≡ [] → now.most ≡ was.most
+    → version ≡ version_of now.seen.batches → c ≡ b ++ version_line version
     → AnswersInTurn (joined now.seen.batches) round.questions 0 workers answers → d ≡ c ++ answers
     → PlaysOne workers round was now a d
-plays_one workers round was loaded now version {a} {b} c d answers none all front shown empty most is_version c_is
-    answered
+plays_one loaded {now} version {a} {b} c answers none all front shown empty most is_version c_is answered
     d_is =
     let lines = flat_map outcome_line all.outcomes in
     let version_is = version_line (version_of now.seen.batches) in
@@ -162,15 +161,13 @@ plays_all {workers} {rounds} {was} {output} played =
     let Q : List ℕ → Type 0 = λ out. PlaysAll workers (joined was.seen.batches) rounds out in
     subst Q (append-nil output) (subst P (append-nil rounds) (played.going [] [] refl))
 
-pub plays_none : (workers : ℕ) (was : StoreValue) → was.pending ≡ [] → HasPlayed workers [] was was []
-plays_none workers was none = record
-    { going = λ rest tail all. all; none_pending = none; few = omega arith; most = refl }
+pub plays_none : {workers : ℕ} {was : StoreValue} → was.pending ≡ [] → HasPlayed workers [] was was []
+plays_none none = record { going = λ rest tail all. all; none_pending = none; few = omega arith; most = refl }
 
 -- there is room for the loads of the next round
 pub has_room_for : {workers : ℕ} (all : List RoundValue) {played : List RoundValue} (left : List RoundValue)
-    (round : RoundValue) {was now : StoreValue}
-    {output : List ℕ} → HasPlayed workers played was now output → HasRoomFor (load_count all) was → all
-    ≡ played ++ round ∷ left → HasRoomFor (length round.loads) now
+    (round : RoundValue) {was now : StoreValue} {output : List ℕ} → HasPlayed workers played was now output
+    → HasRoomFor (load_count all) was → all ≡ played ++ round ∷ left → HasRoomFor (length round.loads) now
 has_room_for all {played} left round {now} h room whole =
     let count : load_count all ≡ load_count played + load_count (round ∷ left) = ap load_count whole
     ∙ sum_by-append (λ (r : RoundValue). length r.loads) played (round ∷ left) in

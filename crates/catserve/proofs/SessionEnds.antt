@@ -17,7 +17,7 @@ use Rattle.live_versions.specs.Batches.{joined}
 use Rattle.script_text.specs.ScriptLoads.{JobValue}
 use Rattle.script_text.specs.Script.{QuestionValue, RoundValue, commands_from, script_of}
 use Rattle.script_text.specs.Texts.{most_script}
-use Rattle.script_text.specs.Gathering.{Gathered, both as bound, empty_round, nothing, going_on, onto_open}
+use Rattle.script_text.specs.Gathering.{Gathered, both as bound, empty_round, going_on, onto_open}
 use Rattle.script_text.specs.declared.fault.ScriptKind.{ScriptKind}
 use Rattle.script_text.specs.declared.fault.ScriptKind.TheVariants as kind
 use Rattle.catserve.specs.Rounds.{PlaysAll}
@@ -77,9 +77,8 @@ stops_so {i} {j} {k} {y} {front} {lost} a s =
       written = a.written;
     }
 
-stops_early : {given : Option ℕ} {i j k : InputSeen} {o o' : OutputSeen} {y z : HearingValue}
-    {front : List (List ℕ)} {lost : List ℕ} → Answered given i j o o' y front → Stays j k y z lost
-    → StopsEarly given i k o o'
+stops_early : {given : Option ℕ} {i j k : InputSeen} {o o' : OutputSeen} {y z : HearingValue} {front : List (List ℕ)}
+    {lost : List ℕ} → Answered given i j o o' y front → Stays j k y z lost → StopsEarly given i k o o'
 stops_early {z} {front} {lost} a s = record {
   front = front;
   text = a.taken.more ++ s.got.more;
@@ -89,9 +88,8 @@ stops_early {z} {front} {lost} a s = record {
   stops = stops_so a s;
 }
 
-too_much : {given : Option ℕ} {i j k : InputSeen} {o o' : OutputSeen} {y z : HearingValue}
-    {front : List (List ℕ)} {line : ℕ} → Answered given i j o o' y front → HearsTooMuch j k y z line
-    → EndsFor given i k o o' kind.TooLarge line
+too_much : {given : Option ℕ} {i j k : InputSeen} {o o' : OutputSeen} {y z : HearingValue} {front : List (List ℕ)}
+    {line : ℕ} → Answered given i j o o' y front → HearsTooMuch j k y z line → EndsFor given i k o o' kind.TooLarge line
 too_much {y} {z} {front} {line} a h = record {
   front = front;
   text = a.taken.more ++ h.stays.got.more;
@@ -139,9 +137,9 @@ undecodable {z} {front} a h =
 -- ---- in the front
 
 -- nothing is played before the first command
-abbrev pub front_answered : {i j : InputSeen} (o : OutputSeen) {y : HearingValue} {front : List (List ℕ)}
+abbrev pub front_answered : {i j : InputSeen} {o : OutputSeen} {y : HearingValue} {front : List (List ℕ)}
     → HasPassed i j unheard y front → Answered None i j o o y front
-front_answered o {front} passed = record {
+front_answered {o} {front} passed = record {
   taken = passed.taken;
   number = omega (arith, passed.number);
   workers = 2;
@@ -164,14 +162,14 @@ front_answered o {front} passed = record {
 ends_front : {i j : InputSeen} (k : InputSeen) (o : OutputSeen) {y : HearingValue} (z : HearingValue)
     {front : List (List ℕ)} (kind : ScriptKind)
     (line : ℕ) → HasPassed i j unheard y front → HearsNoFront j k y z kind line → EndsFor None i k o o kind line
-ends_front k o z kind.TooLarge line passed h = too_much (front_answered o passed) h
-ends_front k o z kind.NotUtf8 line passed h = undecodable (front_answered o passed) h
+ends_front k o z kind.TooLarge line passed h = too_much (front_answered passed) h
+ends_front k o z kind.NotUtf8 line passed h = undecodable (front_answered passed) h
 ends_front k o z kind.ReadFault line passed ((lost, h), failed, is) = (
-  stops_early (front_answered o passed) h,
+  stops_early (front_answered passed) h,
   fails_later k passed.taken.counts failed,
   is,
 )
-ends_front k o z kind.Memory line passed ((lost, h), is) = (stops_early (front_answered o passed) h, is)
+ends_front k o z kind.Memory line passed ((lost, h), is) = (stops_early (front_answered passed) h, is)
 ends_front k o z _ line passed h = absurd h
 
 pub front_ends : {i k : InputSeen} (o : OutputSeen) {kind : ScriptKind} {line : ℕ} → FailsInFront i k kind line
@@ -179,8 +177,8 @@ pub front_ends : {i k : InputSeen} (o : OutputSeen) {kind : ScriptKind} {line : 
 front_ends {k} o {kind} {line} f = ends_front k o f.z kind line f.passed f.none
 
 -- nothing at all was heard
-pub ends_at_once : (given : Option ℕ) (i : InputSeen) (o : OutputSeen) → StopsEarly given i i o o
-ends_at_once given i o =
+pub ends_at_once : {given : Option ℕ} {i : InputSeen} {o : OutputSeen} → StopsEarly given i i o o
+ends_at_once {given} {i} {o} =
     let (workers, ended) = ended_first given in
     record {
       front = [];
@@ -245,10 +243,9 @@ said_all {given} {x} {y} {workers} b c text may =
 
 -- nothing more was heard
 pub none_ends : {given : Option ℕ} {first i j : InputSeen} (k : InputSeen) {o o' : OutputSeen} {x y : HearingValue}
-    (z : HearingValue) {workers : ℕ}
-    {start talk : PlayerValue} (kind : ScriptKind) (line : ℕ) → IsFresh workers start
-    → Conversing workers i j o o' x y start talk → HearsNone j k workers y z kind line
-    → Begins given first i x workers → EndsFor given first k o o' kind line
+    (z : HearingValue) {workers : ℕ} {start talk : PlayerValue} (kind : ScriptKind) (line : ℕ) → IsFresh workers start
+    → Conversing workers i j o o' x y start talk → HearsNone j k workers y z kind line → Begins given first i x workers
+    → EndsFor given first k o o' kind line
 none_ends k z kind.TooLarge line fresh c h b = too_much (answered b c fresh) h
 none_ends k z kind.NotUtf8 line fresh c h b = undecodable (answered b c fresh) h
 none_ends {given} k {y} z {workers} kind.BadLine line fresh c h b =
@@ -280,13 +277,14 @@ none_ends k z kind.Memory line fresh c ((lost, h), is) b = (
 none_ends k z _ line fresh c h b = absurd h
 
 -- what was read of lines that were taken off
-pub taken_stays : {j k : InputSeen} (y z : HearingValue) {raw : List (List ℕ)} (t : HasTaken j k y.input z.input raw)
+pub taken_stays : {j k : InputSeen} {y : HearingValue} (z : HearingValue) {raw : List (List ℕ)}
+    (t : HasTaken j k y.input z.input raw)
     → Stays j k y (record {
       input = record { left = y.input.left ++ t.more; ended = z.input.ended };
       number = y.number;
       size = y.size;
     }) []
-taken_stays y z t = record {
+taken_stays z t = record {
   got = record {
     more = t.more;
     read = rw (append-nil t.more) t.read;
@@ -302,20 +300,18 @@ taken_stays y z t = record {
 -- the open round, as one more `go` ends it
 open_last : (round : RoundValue) → bound round empty_round ≡ round
 open_last round =
-    let Loads : List JobValue → RoundValue = λ loads. record
-    { loads = loads; questions = round.questions ++ [] } in
+    let Loads : List JobValue → RoundValue = λ loads. record { loads = loads; questions = round.questions ++ [] } in
     let Questions : List QuestionValue → RoundValue = λ questions. record
     { loads = round.loads; questions = questions } in
     ap Loads (append-nil round.loads) ∙ ap Questions (append-nil round.questions)
 
 -- some first bytes of the open round were written
-breaks_off : {given : Option ℕ} {first i j k : InputSeen} {o o' o'' : OutputSeen} {x y z : HearingValue}
-    {workers : ℕ} {start talk : PlayerValue} → IsFresh workers start
-    → (c : Conversing workers i j o o' x y start talk) → Stays j k y z [] → BreaksRound talk o' o''
-    → Begins given first i x workers → BreaksOff given first k o o''
+breaks_off : {given : Option ℕ} {first i j k : InputSeen} {o o' o'' : OutputSeen} {x y z : HearingValue} {workers : ℕ}
+    {start talk : PlayerValue} → IsFresh workers start → (c : Conversing workers i j o o' x y start talk)
+    → Stays j k y z [] → BreaksRound talk o' o'' → Begins given first i x workers → BreaksOff given first k o o''
 breaks_off {o'} {z} {workers} fresh c s h b =
     let a = answered b c fresh in
-    let played = plays_open h.store h.lines c.talked h.finishes in
+    let played = plays_open h.lines c.talked h.finishes in
     let Batches : List (List LoadValue) → Type 0 = λ batches.
     PlaysAll workers (joined batches) (c.g.ended ++ c.g.current ∷ []) (c.written ++ h.lines) in
     let Last : RoundValue → Type 0 = λ last. PlaysAll workers [] (c.g.ended ++ last ∷ []) (c.written ++ h.lines) in
@@ -333,8 +329,7 @@ breaks_off {o'} {z} {workers} fresh c s h b =
 
 -- a round isn't answered
 pub fails_so : {given : Option ℕ} {first i j k : InputSeen} {o o' : OutputSeen} (o'' : OutputSeen)
-    {x y z : HearingValue}
-    {workers : ℕ} {start talk : PlayerValue} (why : ScriptKind) → IsFresh workers start
+    {x y z : HearingValue} {workers : ℕ} {start talk : PlayerValue} (why : ScriptKind) → IsFresh workers start
     → Conversing workers i j o o' x y start talk → Stays j k y z [] → FailsToAnswer talk o' o'' why
     → Begins given first i x workers → EndsFor given first k o o'' why 0
 fails_so {given} {first} {k} {o} {o'} o'' {talk} why fresh c s h b =
@@ -356,13 +351,12 @@ fails_so {given} {first} {k} {o} {o'} o'' {talk} why fresh c s h b =
     by_kind _ h early = absurd h
 
 -- the input has ended, and these are the rounds
-all_said : {given : Option ℕ} {first i j k : InputSeen} {o o' : OutputSeen} (o'' : OutputSeen) {x y z : HearingValue}
-    {workers : ℕ}
-    {start talk : PlayerValue} (written : List ℕ) → IsFresh workers start
+all_said : {given : Option ℕ} {first i j k : InputSeen} {o o' o'' : OutputSeen} {x y z : HearingValue}
+    {workers : ℕ} {start talk : PlayerValue} (written : List ℕ) → IsFresh workers start
     → (c : Conversing workers i j o o' x y start talk) → HearsEnd j k y z → Begins given first i x workers
     → PlaysAll workers [] (c.g.ended ++ onto_open c.g []) written → Appends o.bytes o''.bytes written
     → AnswersAll given first k o o''
-all_said {first} {k} o'' {y} {z} {workers} written fresh c h b plays appended =
+all_said {first} {k} {y} {z} {workers} written fresh c h b plays appended =
     let a = answered b c fresh in
     let got = h.got in
     let stops = stops_so a (record { got = got; number = h.number; size = h.size }) in
@@ -396,10 +390,10 @@ one_open g begun same busy = rw (sym same ∙ busy) refl
 pub all_answered : {given : Option ℕ} {first i j k : InputSeen} {o o' : OutputSeen} {x y z : HearingValue}
     {workers : ℕ} {start talk : PlayerValue} → IsFresh workers start → Conversing workers i j o o' x y start talk
     → HearsEnd j k y z → talk.begun ≡ false → Begins given first i x workers → AnswersAll given first k o o'
-all_answered {o'} {workers} {talk} fresh c h idle b =
+all_answered {workers} {talk} fresh c h idle b =
     let a = answered b c fresh in
     let Plays : List RoundValue → Type 0 = λ rs. PlaysAll workers [] rs c.written in
-    all_said o' c.written fresh c h b (subst Plays (sym (nothing_open c.g talk.begun c.talked.begun idle)) a.plays)
+    all_said c.written fresh c h b (subst Plays (sym (nothing_open c.g talk.begun c.talked.begun idle)) a.plays)
     c.output
 
 -- the open round was answered last
@@ -413,7 +407,7 @@ last_answered {o} {o'} {o''} {workers} {talk} fresh c h busy answers b =
     let Batches : List (List LoadValue) → Type 0 = λ batches.
     PlaysAll workers (joined batches) (c.g.ended ++ c.g.current ∷ []) written in
     let Plays : List RoundValue → Type 0 = λ rs. PlaysAll workers [] rs written in
-    all_said o'' written fresh c h b
+    all_said written fresh c h b
     (subst Plays (sym (one_open c.g talk.begun c.talked.begun busy)) (subst Batches fresh.none_published
     (plays_all played))) (Appends-trans o.bytes o'.bytes o''.bytes c.written answers.lines c.output answers.written)
 
@@ -428,8 +422,7 @@ begun given first i o x workers b =
       number = b.number;
       workers = workers;
       rounds = [];
-      ended = subst Ended (append-nil b.front)
-          (ended_so x b (taken_none i x.input) (heard_none workers x.number (omega (arith, b.number))));
+      ended = subst Ended (append-nil b.front) (ended_so x b taken_none (heard_none (omega (arith, b.number))));
       output = [];
       plays = refl;
       written = Appends-nil o.bytes;
@@ -442,25 +435,24 @@ begun given first i o x workers b =
     }
 
 -- no store was opened
-pub stops_begun : {given : Option ℕ} {first i : InputSeen} (o : OutputSeen) {x : HearingValue} {workers : ℕ}
+pub stops_begun : {given : Option ℕ} {first i : InputSeen} {o : OutputSeen} {x : HearingValue} {workers : ℕ}
     → Begins given first i x workers → StopsEarly given first i o o
-stops_begun {given} {first} {i} o {x} {workers} b = stops_early (begun given first i o x workers b) (stays_put i x)
+stops_begun {given} {first} {i} {o} {x} {workers} b = stops_early (begun given first i o x workers b) stays_put
 
 -- no player was opened, for this reason
-pub stops_unopened : {given : Option ℕ} {first i : InputSeen} (o : OutputSeen) {x : HearingValue}
-    {workers : ℕ} → Begins given first i x workers → (why : ScriptKind) → IsPlayKind why
-    → EndsFor given first i o o why 0
-stops_unopened o b kind.NoPlace h = (stops_begun o b, refl)
-stops_unopened o b kind.Closed h = (stops_begun o b, refl)
-stops_unopened o b kind.Join h = (stops_begun o b, refl)
-stops_unopened o b kind.Memory h = (stops_begun o b, refl)
+pub stops_unopened : {given : Option ℕ} {first i : InputSeen} (o : OutputSeen) {x : HearingValue} {workers : ℕ}
+    → Begins given first i x workers → (why : ScriptKind) → IsPlayKind why → EndsFor given first i o o why 0
+stops_unopened o b kind.NoPlace h = (stops_begun b, refl)
+stops_unopened o b kind.Closed h = (stops_begun b, refl)
+stops_unopened o b kind.Join h = (stops_begun b, refl)
+stops_unopened o b kind.Memory h = (stops_begun b, refl)
 stops_unopened o b _ h = absurd h
 
 -- the number of workers is given
-abbrev pub begins_so : (i : InputSeen) (workers : ℕ) → Begins (Some workers) i i unheard workers
-begins_so i workers = record {
+abbrev pub begins_so : {i : InputSeen} {workers : ℕ} → Begins (Some workers) i i unheard workers
+begins_so = record {
   front = [];
-  taken = taken_none i silence;
+  taken = taken_none;
   going = λ behind follows. refl;
   number = omega arith;
   size = refl;

@@ -16,13 +16,13 @@ use Rattle.script_text.specs.declared.fault.ScriptKind.{ScriptKind}
 use Rattle.script_text.specs.declared.fault.ScriptKind.TheVariants as kind
 use Rattle.devices.specs.Devices.{InputSeen}
 use Rattle.catserve.specs.Hearing.{HearingValue, HasTaken, Stays, HasPassed, Begins, Follows, BeginAlike}
-use Rattle.catserve.specs.Hearing.{unheard, silence, HearsNothing, FailsInFront}
+use Rattle.catserve.specs.Hearing.{unheard, HearsNothing, FailsInFront}
 use Rattle.catserve.proofs.LinesTaken.{no_line, taken_none, taken_then, got_taken, line_cut, line_whole}
 use Rattle.catserve.proofs.SessionHears.{stays_taken}
 
-abbrev pub passed_none : (i : InputSeen) (x : HearingValue) → HasPassed i i x x []
-passed_none i x = record {
-  taken = taken_none i x.input;
+abbrev pub passed_none : {i : InputSeen} {x : HearingValue} → HasPassed i i x x []
+passed_none = record {
+  taken = taken_none;
   passes = λ behind. refl;
   number = omega arith;
   size = omega arith;
@@ -39,8 +39,7 @@ behind_line y end = record {
 
 abbrev pub line_taken : {i j : InputSeen} {x y : HearingValue} {end : ℕ} → Stays i j x y [] → EndsLine y.input 0 end
     → HasTaken i j x.input (behind_line y end).input (take end y.input.left ∷ [])
-line_taken {y} {end} stays ends = got_taken (behind_line y end).input (take end y.input.left ∷ []) stays.got refl
-    (line_whole y.input end) (line_cut ends)
+line_taken {y} {end} stays ends = got_taken stays.got refl (line_whole y.input end) (line_cut ends)
 
 pub line_size : (y : HearingValue) {end : ℕ} → EndsLine y.input 0 end
     → length (concat (take end y.input.left ∷ [])) ≡ end
@@ -71,12 +70,12 @@ passed_more {x} {z} {front} {end} passed stays ends utf8 blank =
     }
 
 -- the line that gives the number of workers
-abbrev pub begins_given : {i j k : InputSeen} {y z : HearingValue} {front : List (List ℕ)} {end : ℕ} (workers : ℕ)
+abbrev pub begins_given : {i j k : InputSeen} {y z : HearingValue} {front : List (List ℕ)} {end workers : ℕ}
     → HasPassed i j unheard y front → Stays j k y z [] → EndsLine z.input 0 end → IsUtf8 (take end z.input.left)
     → is_blank (without_end (take end z.input.left)) ≡ false
     → workers_line (fields (without_end (take end z.input.left))) ≡ Some workers
     → Begins None i k (behind_line z end) workers
-begins_given {z} {front} {end} workers passed stays ends utf8 other is =
+begins_given {z} {front} {end} {workers} passed stays ends utf8 other is =
     let line = take end z.input.left in
     record {
       front = front ++ line ∷ [];
@@ -162,10 +161,9 @@ begins_ended {z} {front} passed stays none ended =
 
 -- ---- why the front wasn't heard
 
-pub front_fails : {i j : InputSeen} (k : InputSeen) {y : HearingValue} (z : HearingValue) {front : List (List ℕ)}
-    (kind : ScriptKind) (line : ℕ)
-    → HasPassed i j unheard y front → HearsNothing j k y z kind line → FailsInFront i k kind line
-front_fails {j} k {y} z {front} kind line passed h = record
+pub front_fails : {i j k : InputSeen} {y : HearingValue} (z : HearingValue) {front : List (List ℕ)} {kind : ScriptKind}
+    {line : ℕ} → HasPassed i j unheard y front → HearsNothing j k y z kind line → FailsInFront i k kind line
+front_fails {j} {k} {y} z {front} {kind} {line} passed h = record
     { mid = j; y = y; z = z; front = front; passed = passed; none = no_line (λ line. ⊥) j k y z kind line h }
 
 pub front_undecodable : {i j k : InputSeen} {y z : HearingValue} {front : List (List ℕ)} {end : ℕ}

@@ -3,7 +3,6 @@ use Rattle.std.proofs.Common.{◌≡◌, ◌∙◌, refl, sym, ap, subst, ℕ, �
 use Rattle.std.proofs.Common.{◌++◌, length, take, drop, arith, inl, inr, append_assoc}
 use Rattle.std.proofs.Common.{Option, Some, None, Result, Ok, Err}
 use Rattle.std.specs.List.{concat}
-use Rattle.std.specs.Str.{IsUtf8}
 use Rattle.std.proofs.lemmas.List.{append-nil}
 use Rattle.devices.specs.Devices.{InputSeen, most_reads}
 use Rattle.line_input.specs.Lines.{lines, without_end}
@@ -50,7 +49,7 @@ stays_then {i} {j} {k} {x} {lost} a b = record {
 
 -- nothing was taken yet
 abbrev pub stays_taken : {i j : InputSeen} {x y : HearingValue} → Stays i j x y [] → HasTaken i j x.input y.input []
-stays_taken {y} stays = got_taken y.input [] stays.got refl refl (λ text may. refl)
+stays_taken stays = got_taken stays.got refl refl (λ text may. refl)
 
 pub none_then : {i j : InputSeen} (k : InputSeen) (workers : ℕ) {x y : HearingValue} (z : HearingValue)
     (kind : ScriptKind) (line : ℕ)
@@ -109,7 +108,7 @@ hears_then k workers z (Err fault) a h = none_then k workers z fault.kind fault.
 pub hears_none : (i : InputSeen) (workers : ℕ) (x : HearingValue) {end : ℕ} (kind : ScriptKind) → EndsLine x.input 0 end
     → IsUnsaid workers (take end x.input.left) kind → HearsNone i i workers x x kind (line_of_kind kind x.number)
 hears_none i workers x {end} kind.NotUtf8 ends undecodable = record {
-  stays = stays_put i x;
+  stays = stays_put;
   line_is = refl;
   raw = take end x.input.left ∷ [];
   behind = drop end x.input.left;
@@ -118,29 +117,28 @@ hears_none i workers x {end} kind.NotUtf8 ends undecodable = record {
   undecodable = rw (append-nil (take end x.input.left)) undecodable;
 }
 hears_none i workers x {end} kind.BadLine ends bad = record {
-  stays = stays_put i x;
+  stays = stays_put;
   line_is = refl;
   bad = λ text may. ap (λ ls. commands_from workers x.number 0 ls) (line_cut ends text may)
       ∙ bad_line workers x.number (take end x.input.left) (lines (drop end x.input.left ++ text)) bad;
 }
-hears_none i workers x kind.Memory ends h = (([], stays_put i x), refl)
+hears_none i workers x kind.Memory ends h = (([], stays_put), refl)
 hears_none i workers x _ ends h = absurd h
 
 -- ---- a line with its text
 
-abbrev pub hears_said : {i j : InputSeen} (workers : ℕ) {x y : HearingValue} {end : ℕ} (line : Line) {bytes : List ℕ}
+abbrev pub hears_said : {i j : InputSeen} {workers : ℕ} {x y : HearingValue} {end : ℕ} (line : Line) {bytes : List ℕ}
     → x.number < most_lines → line_of workers (without_end (take end x.input.left)) ≡ Some line
     → HearsText i j x y end (text_lines line) bytes
     → Hears i j workers x (record y { size = size_behind (listed (command_with line bytes)) y.size })
     (listed (command_with line bytes))
-hears_said workers {x} {end} line {bytes} few is h =
+hears_said {workers} {x} {end} line {bytes} few is h =
     let raw : List (List ℕ) = take end x.input.left ∷ h.texts in
     let Said : List ℕ → Type 0 = λ text. HasSaid workers x.number raw (listed (command_with line text)) in
     record {
       raw = raw;
       taken = h.taken;
-      said = subst Said (sym h.bytes_are)
-          (says_text workers x.number (take end x.input.left) line h.texts is h.counted h.utf8);
+      said = subst Said (sym h.bytes_are) (says_text (take end x.input.left) line h.texts is h.counted h.utf8);
       few = few;
       number = omega (arith, h.number, h.counted);
       size = ap (λ n. size_behind (listed (command_with line bytes)) n) h.size;

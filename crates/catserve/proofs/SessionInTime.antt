@@ -39,9 +39,9 @@ append_cancel [] ys zs same = same
 append_cancel (x ∷ xs) ys zs same = append_cancel xs ys zs (cc)
 
 -- what came is known
-pub open_known : {a b : Log} {workers : ℕ} {x : Incoming} (more : List ℕ) (reads : ReadsWhile a b (StillOpen workers x))
+pub open_known : {a b : Log} {workers : ℕ} {x : Incoming} {more : List ℕ} (reads : ReadsWhile a b (StillOpen workers x))
     → came reads.events ≡ more → ReadsOpen a b workers x more
-open_known more reads known = record {
+open_known reads known = record {
   events = reads.events;
   logged = reads.logged;
   came_is = known;
@@ -54,10 +54,10 @@ abbrev pub reads_open : {a b : Log} {workers : ℕ} {x : Incoming} {more : List 
 reads_open reads = record { events = reads.events; logged = reads.logged; silent = reads.silent; each = reads.each }
 
 -- a line was waited for
-pub line_reads : {i j : InputSeen} (workers : ℕ) {a b : Log} {x y : Incoming} (got : HasGot i j x y [])
+pub line_reads : {i j : InputSeen} {workers : ℕ} {a b : Log} {x y : Incoming} (got : HasGot i j x y [])
     → Waits a b x y [] (StillWaits x 0) → ReadsOpen a b workers x got.more
-line_reads workers {x} {y} got waits = open_known got.more (open_line workers waits)
-    (append_cancel x.left (came waits.events) got.more (waits.placed ∙ append-nil y.left ∙ got.behind))
+line_reads {x} {y} got waits = open_known (open_line waits) (append_cancel x.left (came waits.events) got.more
+    (waits.placed ∙ append-nil y.left ∙ got.behind))
 
 -- a line was waited for, and then more
 pub open_more : {i j : InputSeen} {workers : ℕ} {a b c : Log} {x y : Incoming} {more : List ℕ} (got : HasGot i j x y [])
@@ -74,10 +74,9 @@ open_more {a} {b} {c} {x} {y} got waits reads = record {
   first = append_cancel x.left (came waits.events) got.more (waits.placed ∙ append-nil y.left ∙ got.behind)
 
 pub in_time_then : {i j : InputSeen} (k : InputSeen) {a b : Log} (c : Log) (workers : ℕ) {x y : HearingValue}
-    (z : HearingValue)
-    (r : Result (Option Heard) SessionFault) (stays : Stays i j x y [])
-    → Waits a b x.input y.input [] (StillWaits x.input 0)
-    → HearsInTime j k b c workers y z r → HearsInTime i k a c workers x z r
+    (z : HearingValue) (r : Result (Option Heard) SessionFault) (stays : Stays i j x y [])
+    → Waits a b x.input y.input [] (StillWaits x.input 0) → HearsInTime j k b c workers y z r
+    → HearsInTime i k a c workers x z r
 in_time_then k c workers z (Ok (Some thing)) stays waits (h, reads) = (
   hears_then k workers z (Ok (Some thing)) stays h,
   open_more stays.got waits reads,
@@ -92,10 +91,10 @@ in_time_then k c workers z (Err fault) stays waits (h, reads) = (
 )
 
 -- the input has ended
-pub end_heard : {i j : InputSeen} {a b : Log} (workers : ℕ) {x y : HearingValue} → Stays i j x y []
+pub end_heard : {i j : InputSeen} {a b : Log} {workers : ℕ} {x y : HearingValue} → Stays i j x y []
     → (y.input.ended ≡ true) × (length y.input.left ≡ 0) → Waits a b x.input y.input [] (StillWaits x.input 0)
     → HearsEnd i j x y × ReadsWhile a b (StillOpen workers x.input)
-end_heard workers {y} stays (ended, none) waits = (
+end_heard {y} stays (ended, none) waits = (
   record {
     got = stays.got;
     left = nil_from_length y.input.left none;
@@ -103,7 +102,7 @@ end_heard workers {y} stays (ended, none) waits = (
     number = stays.number;
     size = stays.size;
   },
-  open_line workers waits,
+  open_line waits,
 )
 
 -- ---- a load's text
@@ -147,14 +146,14 @@ abbrev pub HearsSo : InputSeen → InputSeen → Log → Log → ℕ → Hearing
 HearsSo i j a b workers x y commands = (h : Hears i j workers x y commands)
     × ReadsOpen a b workers x.input h.taken.more
 
-pub said_heard : {i j : InputSeen} {a b : Log} (workers : ℕ) {x y : HearingValue} {end : ℕ} (line : Line)
+pub said_heard : {i j : InputSeen} {a b : Log} {workers : ℕ} {x y : HearingValue} {end : ℕ} (line : Line)
     {bytes : List ℕ} → x.number < most_lines → EndsLine x.input 0 end
     → line_of workers (without_end (take end x.input.left)) ≡ Some line → HearsText i j x y end (text_lines line) bytes
     → ReadsText a b x.input y.input end (text_lines line) bytes → HearsSo i j a b workers x
     (record y { size = size_behind (listed (command_with line bytes)) y.size }) (listed (command_with line bytes))
-said_heard workers line few ends is h reads = (
-  hears_said workers line few is h,
-  open_known h.taken.more (open_text workers line ends is (text_whole reads)) (text_came h reads),
+said_heard line few ends is h reads = (
+  hears_said line few is h,
+  open_known (open_text line ends is (text_whole reads)) (text_came h reads),
 )
 
 -- ---- steps
@@ -179,8 +178,8 @@ is_answered {y} {front} a t g still =
       is_open = still.is_open;
     }
 
-pub begins_timely : (given : Option ℕ) (log : Log) → InTime given log log [] []
-begins_timely given log = record {
+pub begins_timely : {given : Option ℕ} {log : Log} → InTime given log log [] []
+begins_timely {given} {log} = record {
   events = [];
   logged = grows_none log;
   came_is = refl;
@@ -215,10 +214,9 @@ reads_timely {a} {b} {c} {text} had here reads = record {
   first = reads_first had here (reads_open reads);
 }
 
-pub gives_timely : {given : Option ℕ} {a b : Log} (c : Log) {text output : List ℕ} (bytes : List ℕ)
-    → InTime given a b text output
-    → Grows b c (Gave bytes ∷ []) → InTime given a c text (output ++ bytes)
-gives_timely {given} {a} {b} c bytes had logged = record {
+pub gives_timely : {given : Option ℕ} {a b c : Log} {text output : List ℕ} (bytes : List ℕ)
+    → InTime given a b text output → Grows b c (Gave bytes ∷ []) → InTime given a c text (output ++ bytes)
+gives_timely {given} {a} {b} {c} bytes had logged = record {
   events = had.events ++ Gave bytes ∷ [];
   logged = grows_then a b c had.events (Gave bytes ∷ []) had.logged logged;
   came_is = came_then had.events (Gave bytes ∷ []) ∙ append-nil (came had.events) ∙ had.came_is;
@@ -230,14 +228,14 @@ gives_timely {given} {a} {b} c bytes had logged = record {
 
 -- ---- the end
 
-gives_last : (given : Option ℕ) (a b c : Log) (events : List Event) → Grows a b events
+gives_last : {given : Option ℕ} {a : Log} (b : Log) {c : Log} (events : List Event) → Grows a b events
     → AnswersFirst (IsAnswered given) events → GivesSome b c → AnswersInTime given a c
-gives_last given a b c events logged first (inl none) = record {
+gives_last {a} b {c} events logged first (inl none) = record {
   events = events;
   logged = subst (Grows a c) (append-nil events) (grows_then a b c events [] logged none);
   first = first;
 }
-gives_last given a b c events logged first (inr (bytes, gave_it)) = record {
+gives_last {given} {a} b {c} events logged first (inr (bytes, gave_it)) = record {
   events = events ++ Gave bytes ∷ [];
   logged = grows_then a b c events (Gave bytes ∷ []) logged gave_it;
   first = answers_then (IsAnswered given) events (Gave bytes ∷ []) first (answers_write
@@ -252,20 +250,20 @@ pub ends_at : {given : Option ℕ} {a b : Log} {text output : List ℕ} → InTi
 ends_at had = record { events = had.events; logged = had.logged; first = had.first }
 
 -- more is read, and then some bytes may be given
-pub ends_timely : {given : Option ℕ} {a b c : Log} (d : Log) {text output : List ℕ} {workers : ℕ} {y : Incoming}
+pub ends_timely : {given : Option ℕ} {a b c d : Log} {text output : List ℕ} {workers : ℕ} {y : Incoming}
     → InTime given a b text output
     → ((t g : List ℕ) → StillOpen workers y t g → IsAnswered given (text ++ t) (output ++ g))
     → ReadsWhile b c (StillOpen workers y) → GivesSome c d → AnswersInTime given a d
-ends_timely {given} {a} {b} {c} d had here reads gives =
-    gives_last given a c d (had.events ++ reads.events) (grows_then a b c had.events reads.events had.logged
+ends_timely {a} {b} {c} had here reads gives =
+    gives_last c (had.events ++ reads.events) (grows_then a b c had.events reads.events had.logged
     reads.logged) (reads_first had here reads) gives
 
 -- ---- the talk
 
-pub talks_none : {workers : ℕ} (i : InputSeen) (o : OutputSeen) (x : HearingValue) {start : PlayerValue} (log : Log)
+pub talks_none : {workers : ℕ} {i : InputSeen} {o : OutputSeen} {x : HearingValue} {start : PlayerValue} {log : Log}
     → 0 < x.number → IsFresh workers start → TalksInTime workers i i o o x x start start log log
-talks_none i o x log some fresh = (
-  converses_none i o x some fresh,
+talks_none {log} some fresh = (
+  converses_none some fresh,
   λ given first b before begun. subst (λ xs. InTime given before log xs []) (sym (append-nil b.taken.more)) begun,
 )
 
@@ -276,21 +274,19 @@ pub talks_here : {given : Option ℕ} {first i j : InputSeen} {o o' : OutputSeen
     → IsAnswered given ((begun.taken.more ++ c.taken.more) ++ t) (c.written ++ g)
 talks_here begun c fresh = is_answered (answered begun c fresh)
 
-moved : {given : Option ℕ} {a b : Log} (c : Log) (front mid back : List ℕ) {output : List ℕ}
+moved : {given : Option ℕ} {a b c : Log} (front mid back : List ℕ) {output : List ℕ}
     → InTime given a b ((front ++ mid) ++ back) output → c ≡ b → InTime given a c (front ++ (mid ++ back)) output
-moved {given} {a} {b} c front mid back {output} had same = subst (λ log. InTime given a log (front ++ (mid ++ back))
-    output)
-    (sym same) (subst (λ xs. InTime given a b xs output) (append_assoc front mid back) had)
+moved {given} {a} {b} front mid back {output} had same = subst (λ log. InTime given a log (front ++ (mid ++ back))
+    output) (sym same) (subst (λ xs. InTime given a b xs output) (append_assoc front mid back) had)
 
-pub talks_more : {workers : ℕ} {i j k : InputSeen} {o o' : OutputSeen} (o'' : OutputSeen) {x y z : HearingValue}
-    {start old : PlayerValue} (new : PlayerValue) {a b c : Log} (d : Log) (command : Option Command)
-    → IsFresh workers start
-    → TalksInTime workers i j o o' x y start old a b
+pub talks_more : {workers : ℕ} {i j k : InputSeen} {o o' o'' : OutputSeen} {x y z : HearingValue}
+    {start old new : PlayerValue} {a b c d : Log} (command : Option Command)
+    → IsFresh workers start → TalksInTime workers i j o o' x y start old a b
     → (h : Hears j k workers y z (listed command)) × ReadsOpen b c workers y.input h.taken.more
     → RespondsInTime command old new o' o'' c d → TalksInTime workers i k o o'' x z start new a d
-talks_more {workers} {i} {j} {k} {o} {o'} o'' {x} {y} {z} {start} {old} new {a} {b} {c} d command fresh talks heard_it
-    responds =
-    by_command command heard_it responds
+talks_more {workers} {i} {j} {k} {o} {o'} {o''} {x} {y} {z} {start} {old} {new} {a} {b} {c} {d} command fresh talks
+    heard_it
+    responds = by_command command heard_it responds
   where
     read : (more : List ℕ) → ReadsOpen b c workers y.input more → (given : Option ℕ) (first : InputSeen)
         (begun : Begins given first i x workers) (before : Log) → InTime given before a begun.taken.more []
@@ -302,23 +298,23 @@ talks_more {workers} {i} {j} {k} {o} {o'} o'' {x} {y} {z} {start} {old} new {a} 
         → (h : Hears j k workers y z (listed command)) × ReadsOpen b c workers y.input h.taken.more
         → RespondsInTime command old new o' o'' c d → TalksInTime workers i k o o'' x z start new a d
     by_command None (h, reads) (done, same) = (
-      converses_more o'' new None talks.0 h done,
-      λ given first begun before timely. moved d begun.taken.more talks.0.taken.more h.taken.more
+      converses_more None talks.0 h done,
+      λ given first begun before timely. moved begun.taken.more talks.0.taken.more h.taken.more
           (read h.taken.more reads given first begun before timely) same,
     )
     by_command (Some (Load load)) (h, reads) (done, same) = (
-      converses_more o'' new (Some (Load load)) talks.0 h done,
-      λ given first begun before timely. moved d begun.taken.more talks.0.taken.more h.taken.more
+      converses_more (Some (Load load)) talks.0 h done,
+      λ given first begun before timely. moved begun.taken.more talks.0.taken.more h.taken.more
           (read h.taken.more reads given first begun before timely) same,
     )
     by_command (Some (Ask worker query)) (h, reads) (done, same) = (
-      converses_more o'' new (Some (Ask worker query)) talks.0 h done,
-      λ given first begun before timely. moved d begun.taken.more talks.0.taken.more h.taken.more
+      converses_more (Some (Ask worker query)) talks.0 h done,
+      λ given first begun before timely. moved begun.taken.more talks.0.taken.more h.taken.more
           (read h.taken.more reads given first begun before timely) same,
     )
     by_command (Some Go) (h, reads) (answers, logged) = (
-      converses_more o'' new (Some Go) talks.0 h answers,
-      λ given first begun before timely. gives_timely d answers.lines (moved c begun.taken.more talks.0.taken.more
+      converses_more (Some Go) talks.0 h answers,
+      λ given first begun before timely. gives_timely answers.lines (moved begun.taken.more talks.0.taken.more
           h.taken.more (read h.taken.more reads given first begun before timely) refl) logged,
     )
 
@@ -327,7 +323,7 @@ pub talks_last : {workers : ℕ} {i j : InputSeen} {o o' : OutputSeen} {x y : He
     {a b c : Log} (d : Log) → IsFresh workers start → TalksInTime workers i j o o' x y start talk a b
     → ReadsWhile b c (StillOpen workers y.input) → GivesSome c d → ContinuesInTime workers i x a d
 talks_last d fresh talks reads gives given first begun before timely =
-    ends_timely d (talks.1 given first begun before timely) (talks_here begun talks.0 fresh) reads gives
+    ends_timely (talks.1 given first begun before timely) (talks_here begun talks.0 fresh) reads gives
 
 -- ---- the front
 
@@ -337,24 +333,23 @@ no_output = record { bytes = None; failures = 0 }
 -- nothing is due before the first command
 passed_here : {i j : InputSeen} {y : HearingValue} {front : List (List ℕ)} (passed : HasPassed i j unheard y front)
     (t g : List ℕ) → StillOpen 2 y.input t g → IsAnswered None (passed.taken.more ++ t) ([] ++ g)
-passed_here passed = is_answered (front_answered no_output passed)
+passed_here passed = is_answered (front_answered {o = no_output} passed)
 
 -- lines before the first command that say nothing were passed in time
 abbrev pub PassesInTime : InputSeen → InputSeen → HearingValue → List (List ℕ) → Log → Log → Type 0
 PassesInTime i j y front a b = (passed : HasPassed i j unheard y front) × InTime None a b passed.taken.more []
 
-pub passes_none : (i : InputSeen) (log : Log) → PassesInTime i i unheard [] log log
-passes_none i log = (passed_none i unheard, begins_timely None log)
+pub passes_none : {i : InputSeen} {log : Log} → PassesInTime i i unheard [] log log
+passes_none = (passed_none, begins_timely)
 
 -- one line more was waited for
 pub passed_timely : {i j k : InputSeen} {y z : HearingValue} {front : List (List ℕ)} {a b c : Log}
-    (passed : HasPassed i j unheard y front) → InTime None a b passed.taken.more []
-    → (stays : Stays j k y z []) → Waits b c y.input z.input [] (StillWaits y.input 0)
-    → InTime None a c (passed.taken.more ++ stays.got.more) []
-passed_timely passed timely stays waits = reads_timely timely (passed_here passed) (line_reads 2 stays.got waits)
+    (passed : HasPassed i j unheard y front) → InTime None a b passed.taken.more [] → (stays : Stays j k y z [])
+    → Waits b c y.input z.input [] (StillWaits y.input 0) → InTime None a c (passed.taken.more ++ stays.got.more) []
+passed_timely passed timely stays waits = reads_timely timely (passed_here passed) (line_reads stays.got waits)
 
 -- it didn't come
 pub passed_last : {i j : InputSeen} {y : HearingValue} {z : Incoming} {front : List (List ℕ)} {lost : List ℕ}
     {a b c : Log} (passed : HasPassed i j unheard y front) → InTime None a b passed.taken.more []
     → Waits b c y.input z lost (StillWaits y.input 0) → AnswersInTime None a c
-passed_last {c} passed timely waits = ends_timely c timely (passed_here passed) (open_line 2 waits) (gives_none c)
+passed_last {c} passed timely waits = ends_timely timely (passed_here passed) (open_line waits) (gives_none c)

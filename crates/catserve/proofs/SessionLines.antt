@@ -24,10 +24,10 @@ use Rattle.catserve.specs.Talking.{HasHeard}
 -- ---- one line
 
 -- a line with its text
-pub says_text : (workers number : ℕ) (raw : List ℕ) (line : Line) (texts : List (List ℕ))
+pub says_text : {workers number : ℕ} (raw : List ℕ) (line : Line) (texts : List (List ℕ))
     → line_of workers (without_end raw) ≡ Some line → length texts ≡ text_lines line → IsUtf8 (concat (raw ∷ texts))
     → HasSaid workers number (raw ∷ texts) (listed (command_with line (concat texts)))
-says_text workers number raw line texts is counted utf8 = record {
+says_text {workers} {number} raw line texts is counted utf8 = record {
   some = omega arith;
   says = says;
   utf8 = utf8;
@@ -61,19 +61,19 @@ bad_text workers number raw line behind is fewer = rw (is, too_long line (lines 
 
 -- ---- one after another
 
-pub heard_none : (workers first : ℕ) → 0 < first → HasHeard workers first [] nothing first
-heard_none workers first some = record {
+pub heard_none : {workers first : ℕ} → 0 < first → HasHeard workers first [] nothing first
+heard_none {workers} {first} some = record {
   going = λ behind. begins_with workers (commands_from workers first 0 behind);
   number_is = omega arith;
   few = some;
   utf8 = search Rattle.std.proofs.lemmas.Str.IsUtf8-nil;
 }
 
-pub heard_more : {workers first : ℕ} {front raw : List (List ℕ)} {g : Gathered} {number : ℕ} (next : ℕ)
+pub heard_more : {workers first : ℕ} {front raw : List (List ℕ)} {g : Gathered} {number next : ℕ}
     {commands : List Command} → HasHeard workers first front g number → HasSaid workers number raw commands
     → next ≡ number + length raw → loads_so_far (fold gathered g commands) ≤ loads_so_far g + 1
     → HasHeard workers first (front ++ raw) (fold gathered g commands) next
-heard_more {workers} {first} {front} {raw} {g} {number} next {commands} heard said next_is few = record {
+heard_more {workers} {first} {front} {raw} {g} {number} {commands} heard said next_is few = record {
   going = λ behind. ap (λ ls. script_of workers (commands_from workers first 0 ls)) (append_assoc front raw behind)
       ∙ heard.going (raw ++ behind) ∙ ap (λ found. going_on workers g found) (said.says behind)
       ∙ gathers workers number g commands (commands_from workers (number + length raw) 0 behind)

@@ -33,8 +33,8 @@ use Rattle.catserve.proofs.SessionLines.{heard_none, heard_more, ended_so}
 -- ---- the open round
 
 -- without a load
-loaded_none : (store : StoreValue) (held : List ℕ) → held ≡ [] → HasLoaded [] store store [] held
-loaded_none store held none = record {
+loaded_none : {store : StoreValue} {held : List ℕ} → held ≡ [] → HasLoaded [] store store [] held
+loaded_none {store} none = record {
   loaded = record { outcomes = []; each = tt; pending_are = sym (append-nil store.pending); written = none };
   seen = refl;
   most = refl;
@@ -63,9 +63,9 @@ given_more {questions} question {mid} {new} all gives = record {
 }
 
 -- a round whose lines begin with nothing, after what was written
-played_behind : {workers : ℕ} {round : RoundValue} {was now : StoreValue} (written : List ℕ) {lines : List ℕ}
+played_behind : {workers : ℕ} {round : RoundValue} {was now : StoreValue} {written lines : List ℕ}
     → PlaysOne workers round was now [] lines → PlaysOne workers round was now written (written ++ lines)
-played_behind written one = record {
+played_behind {written} one = record {
   output = one.output;
   plays = one.plays;
   none_pending = one.none_pending;
@@ -74,31 +74,31 @@ played_behind written one = record {
 }
 
 -- the open round has these lines
-pub plays_open : {workers : ℕ} {g : Gathered} {start : StoreValue} {old : PlayerValue} (now : StoreValue)
+pub plays_open : {workers : ℕ} {g : Gathered} {start : StoreValue} {old : PlayerValue} {now : StoreValue}
     {written : List ℕ} (lines : List ℕ) → HasTalked workers g start old written
     → Finishes (length old.desks) old.store old.desks old.held now lines
     → HasPlayed workers (g.ended ++ g.current ∷ []) start now (written ++ lines)
-plays_open {g} {old} now {written} lines talked finishes =
+plays_open {g} {old} {now} lines talked finishes =
     let one : PlaysOne (length old.desks) g.current talked.before now [] lines =
     finishes g.current talked.before [] talked.played.none_pending talked.loaded talked.asked in
     let P : ℕ → Type 0 = λ n. PlaysOne n g.current talked.before now [] lines in
-    plays_more talked.played (played_behind written (subst P talked.count one))
+    plays_more talked.played (played_behind (subst P talked.count one))
 
 -- it was answered
 pub answers_one : {workers : ℕ} {g : Gathered} {start : StoreValue} {old new : PlayerValue} {o o' : OutputSeen}
     {written : List ℕ} (talked : HasTalked workers g start old written) (a : AnswersRound old new o o')
     → HasPlayed workers (g.ended ++ g.current ∷ []) start new.store (written ++ a.lines)
-answers_one {new} talked a = plays_open new.store a.lines talked a.finishes
+answers_one talked a = plays_open a.lines talked a.finishes
 
 -- ---- the talk
 
 -- with the first line
 pub talked_none : {workers : ℕ} {start : PlayerValue} → IsFresh workers start
     → HasTalked workers nothing start.store start []
-talked_none {workers} {start} fresh = record {
+talked_none {start} fresh = record {
   before = start.store;
-  played = plays_none workers start.store fresh.none_pending;
-  loaded = loaded_none start.store start.held fresh.held;
+  played = plays_none fresh.none_pending;
+  loaded = loaded_none fresh.held;
   asked = fresh.ready.free;
   book = fresh.ready.book;
   count = fresh.count;
@@ -152,7 +152,7 @@ pub talked_go : {workers : ℕ} {g : Gathered} {start : StoreValue} {old new : P
 talked_go {new} talked a = record {
   before = new.store;
   played = answers_one talked a;
-  loaded = loaded_none new.store new.held a.held;
+  loaded = loaded_none a.held;
   asked = a.ready.free;
   book = a.ready.book;
   count = a.count ∙ talked.count;
@@ -166,14 +166,14 @@ abbrev pub ended_first : (given : Option ℕ) → (workers : ℕ) × HaveEnded g
 ended_first None = (2, record { last = empty_round; says = refl })
 ended_first (Some workers) = (workers, record { last = empty_round; says = refl })
 
-abbrev pub converses_none : {workers : ℕ} (i : InputSeen) (o : OutputSeen) (x : HearingValue) {start : PlayerValue}
+abbrev pub converses_none : {workers : ℕ} {i : InputSeen} {o : OutputSeen} {x : HearingValue} {start : PlayerValue}
     → 0 < x.number → IsFresh workers start → Conversing workers i i o o x x start start
-converses_none {workers} i o x some fresh = record {
+converses_none {workers} {o} some fresh = record {
   lines = [];
   g = nothing;
   written = [];
-  taken = taken_none i x.input;
-  heard = heard_none workers x.number some;
+  taken = taken_none;
+  heard = heard_none some;
   talked = talked_none fresh;
   output = Appends-nil o.bytes;
   steady = refl;
@@ -188,10 +188,10 @@ converses_none {workers} i o x some fresh = record {
 }
 
 -- the open round with some lines more
-pub open_more : {given : Option ℕ} {front : List (List ℕ)} (raw : List (List ℕ)) {g : Gathered} (h : Gathered)
-    {size : ℕ} (next : ℕ) → h.ended ≡ g.ended
+pub open_more : {given : Option ℕ} {front : List (List ℕ)} (raw : List (List ℕ)) {g h : Gathered}
+    {size next : ℕ} → h.ended ≡ g.ended
     → next ≡ size + length (concat raw) → HasOpen given front g size → HasOpen given (front ++ raw) h next
-open_more {given} raw h next same next_is was =
+open_more {given} raw same next_is was =
     let P : List RoundValue → Type 0 = λ rs. HaveEnded given was.before was.workers rs in
     record {
       before = was.before;
@@ -209,9 +209,9 @@ open_more {given} raw h next same next_is was =
     }
 
 -- a round has ended
-pub open_none : {given : Option ℕ} {front : List (List ℕ)} (g : Gathered) (size : ℕ) {workers : ℕ} → size ≡ 0
+pub open_none : {given : Option ℕ} {front : List (List ℕ)} {g : Gathered} {size workers : ℕ} → size ≡ 0
     → HaveEnded given front workers g.ended → HasOpen given front g size
-open_none {front} g size {workers} none ended = record {
+open_none {front} {workers} none ended = record {
   before = front;
   round = [];
   cut = sym (append-nil front);
@@ -221,47 +221,45 @@ open_none {front} g size {workers} none ended = record {
 }
 
 -- something that doesn't end the round
-abbrev pub goes_on : {workers : ℕ} {i j k : InputSeen} {o o' : OutputSeen} (o'' : OutputSeen) {x y z : HearingValue}
+abbrev pub goes_on : {workers : ℕ} {i j k : InputSeen} {o o' o'' : OutputSeen} {x y z : HearingValue}
     {start old new : PlayerValue} {commands : List Command} (c : Conversing workers i j o o' x y start old)
     (h : Hears j k workers y z commands) (few : loads_so_far (fold gathered c.g commands) ≤ loads_so_far c.g + 1)
     → size_behind commands (y.size + length (concat h.raw)) ≡ y.size + length (concat h.raw)
     → (fold gathered c.g commands).ended ≡ c.g.ended
     → HasTalked workers (fold gathered c.g commands) start.store new c.written → o'' ≡ o'
     → Conversing workers i k o o'' x z start new
-goes_on {o} o'' {z} {commands} c h few size same talked kept =
+goes_on {o} {z} {commands} c h few size same talked kept =
     let Out : OutputSeen → Type 0 = λ out. Appends o.bytes out.bytes c.written in
     record {
       lines = c.lines ++ h.raw;
       g = fold gathered c.g commands;
       written = c.written;
       taken = taken_then c.taken h.taken;
-      heard = heard_more z.number c.heard h.said h.number few;
+      heard = heard_more c.heard h.said h.number few;
       talked = talked;
       output = subst Out (sym kept) c.output;
       steady = ap (λ (out : OutputSeen). out.failures) kept ∙ c.steady;
       is_open = λ given first b.
           let P : List (List ℕ) → Type 0 = λ ls. HasOpen given ls (fold gathered c.g commands) z.size in
-          subst P (append_assoc b.front c.lines h.raw)
-          (open_more h.raw (fold gathered c.g commands) z.size same (h.size ∙ size) (c.is_open given first b));
+          subst P (append_assoc b.front c.lines h.raw) (open_more h.raw same (h.size ∙ size) (c.is_open given first b));
     }
 
 -- what a line says was done
-abbrev pub converses_more : {workers : ℕ} {i j k : InputSeen} {o o' : OutputSeen} (o'' : OutputSeen)
-    {x y z : HearingValue}
-    {start old : PlayerValue} (new : PlayerValue) (command : Option Command) → Conversing workers i j o o' x y start old
-    → Hears j k workers y z (listed command) → Responds command old new o' o''
-    → Conversing workers i k o o'' x z start new
-converses_more {workers} o'' {start} new None c h (same, kept) =
+abbrev pub converses_more : {workers : ℕ} {i j k : InputSeen} {o o' o'' : OutputSeen}
+    {x y z : HearingValue} {start old new : PlayerValue} (command : Option Command)
+    → Conversing workers i j o o' x y start old → Hears j k workers y z (listed command)
+    → Responds command old new o' o'' → Conversing workers i k o o'' x z start new
+converses_more {workers} {start} None c h (same, kept) =
     let Player : PlayerValue → Type 0 = λ t. HasTalked workers c.g start.store t c.written in
-    goes_on o'' c h (few_more c.g None) refl refl (subst Player (sym same) c.talked) kept
-converses_more o'' new (Some (Load load)) c h (makes, kept) =
-    goes_on o'' c h (few_more c.g (Some (Load load))) refl refl (talked_load c.talked makes) kept
-converses_more o'' new (Some (Ask worker query)) c h (gives, kept) =
-    goes_on o'' c h (few_more c.g (Some (Ask worker query))) refl refl (talked_ask c.talked gives) kept
-converses_more {o} {o'} o'' {z} new (Some Go) c h answers =
+    goes_on c h (few_more c.g None) refl refl (subst Player (sym same) c.talked) kept
+converses_more (Some (Load load)) c h (makes, kept) =
+    goes_on c h (few_more c.g (Some (Load load))) refl refl (talked_load c.talked makes) kept
+converses_more (Some (Ask worker query)) c h (gives, kept) =
+    goes_on c h (few_more c.g (Some (Ask worker query))) refl refl (talked_ask c.talked gives) kept
+converses_more {o} {o'} {o''} {z} (Some Go) c h answers =
     let g = gathered c.g Go in
     let taken = taken_then c.taken h.taken in
-    let heard_so = heard_more z.number c.heard h.said h.number (few_more c.g (Some Go)) in
+    let heard_so = heard_more c.heard h.said h.number (few_more c.g (Some Go)) in
     record {
       lines = c.lines ++ h.raw;
       g = g;
@@ -271,7 +269,7 @@ converses_more {o} {o'} o'' {z} new (Some Go) c h answers =
       talked = talked_go c.talked answers;
       output = Appends-trans o.bytes o'.bytes o''.bytes c.written answers.lines c.output answers.written;
       steady = answers.steady ∙ c.steady;
-      is_open = λ given first b. open_none g z.size h.size (ended_so z b taken heard_so);
+      is_open = λ given first b. open_none h.size (ended_so z b taken heard_so);
     }
 
 -- there is room for one load more

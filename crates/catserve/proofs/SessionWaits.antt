@@ -11,22 +11,21 @@ use Rattle.line_input.specs.Incoming.{EndsLine, Incoming, MayCome}
 use Rattle.line_input.specs.Waiting.{ReadsWhile, StillCounts, StillWaits, Waits}
 use Rattle.line_input.proofs.Arriving.{both}
 use Rattle.line_input.proofs.LineCounting.{ends_grown, ends_more, ends_none}
-use Rattle.script_text.specs.Commands.{Line, Blank, Loads, LoadsMo, Asks, Goes, line_of}
+use Rattle.script_text.specs.Commands.{Line, Loads, line_of}
 use Rattle.script_text.specs.CommandValues.{text_lines}
 use Rattle.catserve.specs.Session.{IsOpen, coming}
 use Rattle.catserve.specs.Timing.{StillOpen}
 
-pub reads_none : (log : Log) (Still : List ℕ → List ℕ → Type 0) → ReadsWhile log log Still
-reads_none log Still = record { events = []; logged = grows_none log; silent = refl; each = answers_none Still }
+pub reads_none : {log : Log} {Still : List ℕ → List ℕ → Type 0} → ReadsWhile log log Still
+reads_none {log} {Still} = record { events = []; logged = grows_none log; silent = refl; each = answers_none Still }
 
 abbrev pub reads_of : {a b : Log} {x y : Incoming} {lost : List ℕ} {Still : List ℕ → List ℕ → Type 0}
     → Waits a b x y lost Still → ReadsWhile a b Still
 reads_of waits = record { events = waits.events; logged = waits.logged; silent = waits.silent; each = waits.each }
 
-abbrev pub reads_so : {a b : Log} {Still : List ℕ → List ℕ → Type 0} (Other : List ℕ → List ℕ → Type 0)
-    → ((c g : List ℕ) → Still c g → Other c g)
-    → ReadsWhile a b Still → ReadsWhile a b Other
-reads_so {Still} Other so reads = record {
+abbrev pub reads_so : {a b : Log} {Still Other : List ℕ → List ℕ → Type 0}
+    → ((c g : List ℕ) → Still c g → Other c g) → ReadsWhile a b Still → ReadsWhile a b Other
+reads_so {Still} {Other} so reads = record {
   events = reads.events;
   logged = reads.logged;
   silent = reads.silent;
@@ -34,18 +33,18 @@ reads_so {Still} Other so reads = record {
 }
 
 -- no whole line has come
-pub line_open : (workers : ℕ) {x : Incoming} (c g : List ℕ) → StillWaits x 0 c g → StillOpen workers x c g
-line_open workers c g still = record { going = still.going; is_open = inl still.lacks; silent = still.silent }
+pub line_open : {workers : ℕ} {x : Incoming} (c g : List ℕ) → StillWaits x 0 c g → StillOpen workers x c g
+line_open c g still = record { going = still.going; is_open = inl still.lacks; silent = still.silent }
 
-abbrev pub open_line : (workers : ℕ) {a b : Log} {x y : Incoming} {lost : List ℕ} → Waits a b x y lost (StillWaits x 0)
+abbrev pub open_line : {workers : ℕ} {a b : Log} {x y : Incoming} {lost : List ℕ} → Waits a b x y lost (StillWaits x 0)
     → ReadsWhile a b (StillOpen workers x)
-open_line workers {x} waits = reads_so (StillOpen workers x) (line_open workers) (reads_of waits)
+open_line waits = reads_so (line_open) (reads_of waits)
 
 -- a load without its whole text
-pub text_open : (workers : ℕ) {x : Incoming} {end : ℕ} (line : Line) → EndsLine x 0 end
+pub text_open : {workers : ℕ} {x : Incoming} {end : ℕ} (line : Line) → EndsLine x 0 end
     → line_of workers (without_end (take end x.left)) ≡ Some line
     → (c g : List ℕ) → StillCounts (text_lines line) x end c g → StillOpen workers x c g
-text_open workers {x} {end} (Loads domain locale options count) ends says c g still = record {
+text_open {workers} {x} {end} (Loads domain locale options count) ends says c g still = record {
   going = still.going;
   is_open = inr (record {
     end = end;
@@ -64,12 +63,12 @@ text_open workers {x} {end} (Loads domain locale options count) ends says c g st
   });
   silent = still.silent;
 }
-text_open workers _ ends says c g still = absurd (omega (arith, still.fewer))
+text_open _ ends says c g still = absurd (omega (arith, still.fewer))
 
-abbrev pub open_text : (workers : ℕ) {a b : Log} {x : Incoming} {end : ℕ} (line : Line) → EndsLine x 0 end
+abbrev pub open_text : {workers : ℕ} {a b : Log} {x : Incoming} {end : ℕ} (line : Line) → EndsLine x 0 end
     → line_of workers (without_end (take end x.left)) ≡ Some line
     → ReadsWhile a b (StillCounts (text_lines line) x end) → ReadsWhile a b (StillOpen workers x)
-open_text workers {x} line ends says reads = reads_so (StillOpen workers x) (text_open workers line ends says) reads
+open_text line ends says reads = reads_so (text_open line ends says) reads
 
 -- ---- one after another
 
@@ -83,7 +82,7 @@ pub open_each : {workers : ℕ} {a b c : Log} {x y : Incoming} (more : List ℕ)
     → ((text : List ℕ) → MayCome y text → MayCome x (more ++ text)) → (waits : Waits a b x y [] (StillWaits x 0))
     → (reads : ReadsWhile b c (StillOpen workers y)) → AnswersFirst (StillOpen workers x) (waits.events ++ reads.events)
 open_each {workers} {x} {y} more may waits reads = answers_then (StillOpen workers x) waits.events reads.events
-    (answers_so (StillWaits x 0) (StillOpen workers x) waits.events (line_open workers) waits.each)
+    (answers_so (StillWaits x 0) (StillOpen workers x) waits.events (line_open) waits.each)
     (answers_so (StillOpen workers y) (λ t g. StillOpen workers x (came waits.events ++ t) (given waits.events ++ g))
     reads.events still reads.each)
   where

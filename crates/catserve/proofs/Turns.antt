@@ -7,10 +7,9 @@ pub record HasTaken {X : Type 0} (all taken left : List X) (count : ℕ) : Type 
   pub whole : taken ++ left ≡ all
   pub count_is : count ≡ length left
 
-pub takes_one : {X : Type 0} {all taken left : List X} (rest : List X) {count : ℕ} (less : ℕ) (x : X)
-    → HasTaken all taken left count
-    → left ≡ x ∷ rest → count ≡ less + 1 → HasTaken all (taken ++ x ∷ []) rest less
-takes_one {taken} rest less x h next one = record {
+pub takes_one : {X : Type 0} {all taken left rest : List X} {count less : ℕ} (x : X)
+    → HasTaken all taken left count → left ≡ x ∷ rest → count ≡ less + 1 → HasTaken all (taken ++ x ∷ []) rest less
+takes_one {taken} {rest} x h next one = record {
   whole = append_assoc taken (x ∷ []) rest ∙ ap (λ xs. taken ++ xs) (sym next) ∙ h.whole;
   count_is = omega (arith, h.count_is, ap length next, one);
 }

@@ -66,9 +66,8 @@ pub utf8_behind : (c : ℕ) (text front behind : List ℕ) → IsUtf8 text → t
     → IsUtf8 behind
 utf8_behind c text front behind utf8 e small =
     let whole : IsUtf8 (front ++ c ∷ behind) = rw e at utf8 in
-    let here : get_or (front ++ c ∷ behind) (length front) 0
-    ≡ c = get_or-append_right front (c ∷ behind) (length front) (length front) 0 refl (omega arith)
-    ∙ ap (λ k. get_or (c ∷ behind) k 0) (sub_same (length front)) in
+    let here : get_or (front ++ c ∷ behind) (length front) 0 ≡ c = get_or-append_right front (c ∷ behind) (length front)
+    (length front) 0 refl (omega arith) ∙ ap (λ k. get_or (c ∷ behind) k 0) (sub_same (length front)) in
     let rest : drop (length front + 1) (front ++ c ∷ behind) ≡ behind = rw add-one (drop-past front c behind) in
     rw (← rest) (IsUtf8-drop (front ++ c ∷ behind) (length front + 1) whole
     (IsCharBoundary-after_ascii (front ++ c ∷ behind) (length front) whole (simp length-append (omega arith))
@@ -110,10 +109,10 @@ uncut_lacks byte text none k below = eqb-false _ _ (fails_before_first (is_byte 
 
 -- ---- lines
 
-first_line-at : (line : List ℕ) (y : ℕ) (rest : List ℕ) → IsUtf8 (line ++ y ∷ rest)
+first_line-at : {line : List ℕ} (y : ℕ) {rest : List ℕ} → IsUtf8 (line ++ y ∷ rest)
     → ((k : ℕ) → k < length line → is_line_end (get_or line k 0) ≡ false) → is_line_end y ≡ true
     → IsFirstLine (line ++ y ∷ rest) line rest
-first_line-at line y rest utf8 fails ends = record {
+first_line-at {line} y {rest} utf8 fails ends = record {
   raw = line ++ y ∷ [];
   cut = pieces-at is_line_end line y rest 0 fails ends;
   said = before-at is_line_end line y [] 0 fails ends;
@@ -123,9 +122,9 @@ first_line-at line y rest utf8 fails ends = record {
 }
 
 -- a line that ends in LF
-pub first_line : (text line rest : List ℕ) → IsUtf8 text → position_or_len is_line_end text < length text → line
+pub first_line : {text line rest : List ℕ} → IsUtf8 text → position_or_len is_line_end text < length text → line
     ≡ before_first is_line_end text → rest ≡ after_first is_line_end text → IsFirstLine text line rest
-first_line text line rest utf8 lt line_is rest_is =
+first_line {text} utf8 lt line_is rest_is =
     let n = position_or_len is_line_end text in
     let whole : text ≡ before_first is_line_end text ++ get_or text n 0
     ∷ after_first is_line_end text = split_at_first is_line_end text 0 lt in
@@ -133,8 +132,8 @@ first_line text line rest utf8 lt line_is rest_is =
     ≡ false = λ k below. rw (cut_get n text k below) (fails_before_first is_line_end text k 0
     (omega (arith, length-take n text))) in
     let P : List ℕ → Type 0 = λ t. IsFirstLine t (before_first is_line_end text) (after_first is_line_end text) in
-    rw (line_is, rest_is) (subst P (sym whole) (first_line-at (take n text) (get_or text n 0)
-    (after_first is_line_end text) (rw whole at utf8) fails (passes_at_first is_line_end text 0 lt)))
+    rw (line_is, rest_is) (subst P (sym whole) (first_line-at (get_or text n 0) (rw whole at utf8) fails
+    (passes_at_first is_line_end text 0 lt)))
 
 -- a line that lacks it
 pub last_line : (text : List ℕ) → text ≢ [] → position_or_len is_line_end text ≡ length text → IsFirstLine text text []

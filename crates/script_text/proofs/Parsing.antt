@@ -108,10 +108,10 @@ few_more g (Some Go) = omega (
 )
 
 -- a line with its text
-pub takes_in : (old new : Gathered) (line : Line) {behind : List ℕ} (number : ℕ) {text rest : List ℕ}
+pub takes_in : {old new : Gathered} {line : Line} {behind : List ℕ} {number : ℕ} {text rest : List ℕ}
     → TakesLines (text_lines line) behind text rest → new ≡ fold gathered old (listed (command_with line text))
     → TakesIn old new line behind number rest (number + 1 + text_lines line)
-takes_in old new line {behind} number {text} taken is = record {
+takes_in {old} {line} {behind} {text} taken is = record {
   commands = listed (command_with line text);
   text = text_lines line;
   says = says_with line (lines behind) taken.enough
@@ -127,8 +127,8 @@ takes_in old new line {behind} number {text} taken is = record {
 
 -- ---- the front of a script
 
-pub starts : (text : List ℕ) → length text ≤ most_script → IsUtf8 text → HasSkipped text text 1
-starts text small utf8 = record { going = refl; some = omega arith; bounded = omega arith; utf8 = utf8 }
+pub starts : {text : List ℕ} → length text ≤ most_script → IsUtf8 text → HasSkipped text text 1
+starts small utf8 = record { going = refl; some = omega arith; bounded = omega arith; utf8 = utf8 }
 
 -- a line that says nothing
 pub skips_one : {text rest line behind : List ℕ} {number : ℕ} → HasSkipped text rest number
@@ -141,10 +141,10 @@ skips_one {behind} {number} skipped first blank = record {
 }
 
 -- the line that gives the number of workers
-pub begins_so : {text rest line behind : List ℕ} {number : ℕ} (workers : ℕ) → HasSkipped text rest number
+pub begins_so : {text rest line behind : List ℕ} {number workers : ℕ} → HasSkipped text rest number
     → IsFirstLine rest line behind → is_blank line ≡ false → workers_line (fields line) ≡ Some workers
     → HasBegun text workers behind (number + 1)
-begins_so {behind} {number} workers skipped first other is = record {
+begins_so {behind} {number} skipped first other is = record {
   going = skipped.going ∙ ap (λ ls. script_from number ls) first.cut
       ∙ rw (ap is_blank first.said ∙ other, ap (λ l. workers_line (fields l)) first.said ∙ is) refl;
   some = omega arith;
@@ -206,9 +206,8 @@ read_first : {text : List ℕ} {workers : ℕ} {rest line behind : List ℕ} {ro
 read_first {text} {workers} {line} {behind} {rounds} {number} saw parsed first is =
     let F : List (List ℕ) → Type 0 = λ ls. script text ≡ going_on workers rounds (commands_from workers number 0 ls) in
     let cut : F (first.raw ∷ lines behind) = subst F first.cut parsed.going in
-    let G : List ℕ → Type 0 = λ l. script text ≡ going_on workers rounds
-    (and_then (saying (line_of workers l) (lines behind)) number (λ n. commands_from workers (number + 1) n
-    (lines behind))) in
+    let G : List ℕ → Type 0 = λ l. script text ≡ going_on workers rounds (and_then
+    (saying (line_of workers l) (lines behind)) number (λ n. commands_from workers (number + 1) n (lines behind))) in
     let said : G line = subst G first.said cut in
     let H : Option Line → Type 0 = λ o. script text ≡ going_on workers rounds
     (and_then (saying o (lines behind)) number (λ n. commands_from workers (number + 1) n (lines behind))) in

@@ -12,11 +12,11 @@ record Cut {X : Type 0} (i : ℕ) (xs : List X) (y : X) (ys : List X) : Type 0 w
   behind : drop (suc i) xs ≡ ys
   front : take (suc i) xs ≡ take i xs ++ y ∷ []
 
-cut_at : {X : Type 0} (i : ℕ) (xs : List X) (y : X) (ys : List X) → drop i xs ≡ y ∷ ys → Cut i xs y ys
-cut_at zero [] y ys e = absurd (cc)
-cut_at zero (x ∷ xs) y ys e = record { within = omega arith; behind = cc; front = cc }
-cut_at (suc i) [] y ys e = absurd (cc)
-cut_at (suc i) (x ∷ xs) y ys e = let h = cut_at i xs y ys e in record
+cut_at : {X : Type 0} (i : ℕ) (xs : List X) {y : X} {ys : List X} → drop i xs ≡ y ∷ ys → Cut i xs y ys
+cut_at zero [] e = absurd (cc)
+cut_at zero (x ∷ xs) e = record { within = omega arith; behind = cc; front = cc }
+cut_at (suc i) [] e = absurd (cc)
+cut_at (suc i) (x ∷ xs) e = let h = cut_at i xs e in record
     { within = omega arith; behind = h.behind; front = ap (λ zs. x ∷ zs) h.front }
 
 none_left : {X : Type 0} (i : ℕ) (xs : List X) → drop i xs ≡ [] → length xs ≤ i
@@ -35,7 +35,7 @@ concat-snoc (x ∷ ls) l = ap (λ zs. x ++ zs) (concat-snoc ls l) ∙ sym (appen
 pub takes_more : {i : ℕ} {text rest line behind : List ℕ} → HasTaken i text rest → IsFirstLine rest line behind
     → HasTaken (i + 1) text behind
 takes_more {i} {text} {behind} h first =
-    let cut = cut_at i (lines text) first.raw (lines behind) (sym h.left ∙ first.cut) in
+    let cut = cut_at i (lines text) (sym h.left ∙ first.cut) in
     record {
       within = omega (arith, cut.within);
       left = rw add-one (sym cut.behind);

@@ -1,6 +1,5 @@
 use Rattle.std.proofs.Common.{◌≡◌, ◌∙◌, ◌++◌, ◌∷◌, [], List, None, sym, ap, subst}
 use Rattle.std.proofs.Common.{arith}
-use Rattle.std.specs.Vec.Iter.{into_iter_items, into_iter_len}
 use Rattle.catserve.proofs.Turns.{takes_one, takes_all}
 use Rattle.std.proofs.lemmas.List.{map-append}
 use Rattle.desks.specs.declared.desk.Desk.{Desk}
@@ -16,8 +15,7 @@ readers-preserved c =
     let items : c.push.new.self.items ≡ at.desks.items ++ desk ∷ [] = c.in_ok-push.ensures.items in
     let P : List Desk → Type 0 = λ ds. AreAsked 0 [] ds in
     record {
-      taken = takes_one (into_iter_items c.next.new.self) (into_iter_len c.next.new.self) x at.invariant.taken
-          c.in-Some.ensures.steps.0 (omega (arith, c.in-Some.ensures.steps.1));
+      taken = takes_one x at.invariant.taken c.in-Some.ensures.steps.0 (omega (arith, c.in-Some.ensures.steps.1));
       readers = ap readers_of items ∙ map-append (λ (d : Desk). d.reader) at.desks.items (desk ∷ [])
           ∙ ap (λ rs. rs ++ x ∷ []) at.invariant.readers;
       free = subst P (sym items) (opens_more at.desks.items desk at.invariant.free c.new.ensures.items);

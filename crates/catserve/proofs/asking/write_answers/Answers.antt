@@ -1,6 +1,5 @@
 use Rattle.std.proofs.Common.{◌∙◌, ◌++◌, ℕ, List, ap, append_assoc, sym, arith}
 use Rattle.std.specs.Prelude.{string_bytes}
-use Rattle.std.specs.Vec.Iter.{into_iter_items, into_iter_len}
 use Rattle.desks.specs.declared.desk.Answer.{Answer}
 use Rattle.catserve.specs.Asking.{answer_lines}
 use Rattle.catserve.specs.Output.{answer_line}
@@ -14,8 +13,7 @@ answers-preserved c =
     let x = c.in-Some.answer in
     let line = answer_line c.args.worker x.version (string_bytes x.text) in
     record {
-      taken = takes_one (into_iter_items c.next.new.self) (into_iter_len c.next.new.self) x at.invariant.taken
-          c.in-Some.ensures.steps.0 (omega (arith, c.in-Some.ensures.steps.1));
+      taken = takes_one x at.invariant.taken c.in-Some.ensures.steps.0 (omega (arith, c.in-Some.ensures.steps.1));
       written = c.in_ok-write_answer.ensures
           ∙ ap (λ (text : List ℕ). at.output.items ++ answer_line c.args.worker x.version text) c.as_str.ensures.value
           ∙ ap (λ (out : List ℕ). out ++ line) at.invariant.written

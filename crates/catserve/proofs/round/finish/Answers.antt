@@ -1,4 +1,4 @@
-use Rattle.std.proofs.Common.{◌≡◌, ◌∙◌, ◌++◌, List, refl, sym, ap, subst, length, arith}
+use Rattle.std.proofs.Common.{◌≡◌, ◌∙◌, ◌++◌, List, refl, sym, ap, subst, arith}
 use Rattle.std.specs.List.{AllZip}
 use Rattle.live_versions.specs.Batches.{version_of}
 use Rattle.live_versions.specs.Store.{StoreValue}
@@ -24,8 +24,7 @@ returns-clause-ok g c round was before none loaded asked =
     let same : now ≡ published = done_none published now c.new.result.items c.in-Ok-serve.served.outcomes.items
     c.new.ensures.items c.in-Ok.ensures.empty c.in-Ok-serve.ensures.done in
     let batches : now.seen.batches ≡ published.seen.batches = ap (λ (s : StoreValue). s.seen.batches) same in
-    plays_one (length desks) round was c.args.publisher.now now c.in-Ok.version c.write_version.new.output.items
-    c.write_all.new.output.items (desk_lines 0 served) none
+    plays_one c.args.publisher.now c.in-Ok.version c.write_version.new.output.items (desk_lines 0 served) none
     loaded.loaded loaded.seen (batches ∙ ap (λ (f : SeenValue). f.batches) c.in-Ok.ensures.ok)
     (ap (λ (s : StoreValue). s.pending) same ∙ c.in-Ok.ensures.empty)
     (c.in-Ok-serve.ensures.most ∙ c.in-Ok.ensures.most ∙ loaded.most)
@@ -44,4 +43,4 @@ returns-clause-ready g c =
     let Ready : List Desk → Type 0 = λ ds. AreReady end ds in
     subst Ready (sym (whole_of freed served c.serve.new.desks.len
     (omega (arith, c.write_all.auto.desks, c.as_mut_slice.ensures.len))))
-    (ready_again c.publish.new.self.seen end c.args.desks.now.items served freed c.in-Ok-serve.ensures.desks gone)
+    (ready_again c.publish.new.self.seen c.args.desks.now.items served c.in-Ok-serve.ensures.desks gone)

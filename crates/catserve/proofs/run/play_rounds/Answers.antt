@@ -1,5 +1,5 @@
 use Rattle.std.proofs.Common.{◌∙◌, ◌++◌, [], List, ℕ, refl, sym, ap, subst, length, arith, rules}
-use Rattle.std.specs.Vec.Iter.{into_iter_items, into_iter_len}
+use Rattle.std.specs.Vec.Iter.{into_iter_items}
 use Rattle.live_set.specs.Loads.{LoadValue}
 use Rattle.live_versions.specs.Batches.{joined, version_of}
 use Rattle.script_text.specs.Script.{RoundValue}
@@ -15,8 +15,7 @@ rounds-init g c =
     let P : List ℕ → Type 0 = λ out. HasPlayed (length start.desks) [] start.store start.store out in
     record {
       taken = record { whole = refl; count_is = search rules };
-      played = subst P (sym c.requires.fresh.held)
-          (plays_none (length start.desks) start.store c.requires.fresh.none_pending);
+      played = subst P (sym c.requires.fresh.held) (plays_none c.requires.fresh.none_pending);
       ready = c.requires.fresh.ready;
       count = refl;
     }
@@ -53,8 +52,7 @@ rounds-preserved g c =
     let now = c.play.new.self in
     let P : ℕ → Type 0 = λ n. PlaysOne n x at.player.store now.store at.player.held now.held in
     record {
-      taken = takes_one (into_iter_items c.next.new.self) (into_iter_len c.next.new.self) x at.invariant.taken
-          c.in-Some.ensures.steps.0 (omega (arith, c.in-Some.ensures.steps.1));
+      taken = takes_one x at.invariant.taken c.in-Some.ensures.steps.0 (omega (arith, c.in-Some.ensures.steps.1));
       played = plays_more at.invariant.played (subst P at.invariant.count c.in_ok-play.ensures.ok);
       ready = c.in_ok-play.ensures.ready;
       count = c.in_ok-play.ensures.count ∙ at.invariant.count;

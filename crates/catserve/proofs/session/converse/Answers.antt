@@ -1,4 +1,4 @@
-use Rattle.std.proofs.Common.{◌≡◌, ◌∙◌, inr, sym, subst, arith}
+use Rattle.std.proofs.Common.{◌∙◌, inr, sym, subst, arith}
 use Rattle.std.proofs.lemmas.Result.{err_from_is_err_and}
 use Rattle.devices.specs.Logs.{Log}
 use Rattle.devices.specs.Devices.{InputSeen, OutputSeen}
@@ -13,9 +13,7 @@ use Rattle.catserve.proofs.SessionTalk.{has_room}
 use Rattle.catserve.proofs.session.converse.Goals as goal
 
 pub lines-init : goal.lines-init
-lines-init g c = talks_none (input_seen g.D.Source.remaining g.D.Source.reads g.D.Source.failures c.args.device.now)
-    (output_seen g.D.Sink.contents g.D.Sink.failures c.args.device.now) c.args.hearing.now
-    (g.D.Device.log c.args.device.now) c.requires.number c.requires.fresh
+lines-init g c = talks_none c.requires.number c.requires.fresh
 
 pub lines-preserved : goal.lines-preserved
 lines-preserved g c =
@@ -35,7 +33,7 @@ lines-preserved g c =
     RespondsInTime (command_of c.in-Some.thing) c.lines.player c.respond.new.self v q m d in
     let C : InputSeen → Type 0 = λ v.
     TalksInTime c.args.workers i v o q x c.hear.new.self start c.respond.new.self a d in
-    subst C (sym inn) (talks_more q c.respond.new.self d (command_of c.in-Some.thing) c.requires.fresh c.lines.invariant
+    subst C (sym inn) (talks_more (command_of c.in-Some.thing) c.requires.fresh c.lines.invariant
     (rw c.in-Some.is at c.in_ok-thing.ensures.heard) (subst R out c.in_ok-respond.ensures.ok))
 
 pub lines-smaller : goal.lines-smaller
@@ -72,7 +70,7 @@ returns-in_err-respond-clause-all g c given first b =
     let Q : InputSeen → Type 0 = λ v. Converses given first v o q c.from_residual-in_err-respond.result in
     let F : OutputSeen → Type 0 = λ v. FailsToAnswer c.lines.player v q c.in_err-respond.field-0.0 in
     subst Q (sym inn) (rw (e.1, e.2) (fails_so q c.in_err-respond.field-0.0 c.requires.fresh c.lines.invariant.0
-    (taken_stays c.lines.hearing c.hear.new.self h.taken) (subst F out c.in_err-respond.ensures.fault) b))
+    (taken_stays c.hear.new.self h.taken) (subst F out c.in_err-respond.ensures.fault) b))
 
 pub returns-in_err-answer-clause-all : goal.returns-in_err-answer-clause-all
 returns-in_err-answer-clause-all g c given first b =

@@ -1,4 +1,4 @@
-use Rattle.std.proofs.Common.{◌≡◌, ◌∙◌, [], ℕ, Option, Some, None, refl, sym, subst}
+use Rattle.std.proofs.Common.{◌∙◌, ℕ, Option, Some, None, refl, sym, subst}
 use Rattle.std.proofs.lemmas.Result.{err_from_is_err_and}
 use Rattle.devices.specs.Logs.{Log}
 use Rattle.devices.specs.Devices.{InputSeen, OutputSeen}
@@ -12,10 +12,8 @@ use Rattle.catserve.proofs.session.run_session.Goals as goal
 
 pub returns-in_err-hearing-clause-all : goal.returns-in_err-hearing-clause-all
 returns-in_err-hearing-clause-all g c =
-    let i : InputSeen = input_seen g.D.Source.remaining g.D.Source.reads g.D.Source.failures c.args.device.now in
-    let o : OutputSeen = output_seen g.D.Sink.contents g.D.Sink.failures c.args.device.now in
     let e = err_from_is_err_and c.from_residual.result c.from_residual.ensures.1 in
-    rw (e.1, e.2) (ends_at_once c.args.workers i o, refl)
+    rw (e.1, e.2) (ends_at_once, refl)
 
 pub returns-in-Some-clause-all : goal.returns-in-Some-clause-all
 returns-in-Some-clause-all g c =
@@ -27,7 +25,7 @@ returns-in-Some-clause-all g c =
     let P : Option ℕ → Type 0 = λ given. Converses given i k o q c.converse_by_store.result in
     let Q : HearingValue → Type 0 = λ x. Begins (Some c.in-Some.count) i i x c.in-Some.count in
     subst P (sym c.in-Some.is) (c.converse_by_store.ensures.all (Some c.in-Some.count) i
-    (subst Q (sym c.in_ok-hearing.ensures) (begins_so i c.in-Some.count)))
+    (subst Q (sym c.in_ok-hearing.ensures) (begins_so)))
 
 pub returns-in_err-count-in-None-clause-all : goal.returns-in_err-count-in-None-clause-all
 returns-in_err-count-in-None-clause-all g c =
@@ -58,9 +56,7 @@ returns-clause-all g c =
     (c.converse_by_store-in-None.ensures.all None i c.in_ok-count-in-None.ensures.begins.0))
 
 pub returns-in_err-hearing-clause-in_time : goal.returns-in_err-hearing-clause-in_time
-returns-in_err-hearing-clause-in_time g c =
-    let log : Log = g.D.Device.log c.args.device.now in
-    ends_at (begins_timely c.args.workers log)
+returns-in_err-hearing-clause-in_time g c = ends_at (begins_timely)
 
 pub returns-in-Some-clause-in_time : goal.returns-in-Some-clause-in_time
 returns-in-Some-clause-in_time g c =
@@ -70,7 +66,7 @@ returns-in-Some-clause-in_time g c =
     let given : Option ℕ = Some c.in-Some.count in
     let P : Option ℕ → Type 0 = λ given. AnswersInTime given a b in
     let Q : HearingValue → Type 0 = λ x. BeginsInTime given i i x c.in-Some.count a a in
-    let begun = subst Q (sym c.in_ok-hearing.ensures) (begins_so i c.in-Some.count, begins_timely given a) in
+    let begun = subst Q (sym c.in_ok-hearing.ensures) (begins_so, begins_timely) in
     subst P (sym c.in-Some.is) (c.converse_by_store.ensures.in_time given i begun.0 a begun.1)
 
 pub returns-in_err-count-in-None-clause-in_time : goal.returns-in_err-count-in-None-clause-in_time

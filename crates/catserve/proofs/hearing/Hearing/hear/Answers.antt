@@ -1,5 +1,4 @@
-use Rattle.std.proofs.Common.{◌≡◌, ◌∙◌, ℕ, List, [], Some, sym, ap, subst, take}
-use Rattle.devices.specs.Logs.{Log}
+use Rattle.std.proofs.Common.{◌≡◌, ◌∙◌, ℕ, List, Some, sym, ap, subst, take}
 use Rattle.line_input.specs.Lines.{without_end}
 use Rattle.devices.specs.Devices.{InputSeen}
 use Rattle.catserve.specs.Run.{input_seen}
@@ -19,13 +18,13 @@ returns-in-Err-clause-heard g c =
     let j : InputSeen = input_seen g.R.Source.remaining g.R.Source.reads g.R.Source.failures c.next_end.new.reader in
     let waits = c.in-Err.ensures.waits in (
       no_line _ i j c.args.self.now c.next_end.new.self c.in-Err.fault.kind c.in-Err.fault.line c.in-Err.ensures.fault,
-      open_line c.args.workers waits.1,
+      open_line waits.1,
     )
 
 pub returns-in_default-clause-heard : goal.returns-in_default-clause-heard
 returns-in_default-clause-heard g c =
     let found = c.in-Ok.ensures.found in
-    end_heard c.args.workers found.stays (rw c.in_default.is at found.none) c.in-Ok.ensures.waits
+    end_heard found.stays (rw c.in_default.is at found.none) c.in-Ok.ensures.waits
 
 pub returns-in-Ok-read_said-clause-heard : goal.returns-in-Ok-read_said-clause-heard
 returns-in-Ok-read_said-clause-heard g c =
@@ -51,5 +50,5 @@ returns-in-Err-read_said-clause-heard g c =
           (line_of_kind kind c.next_end.new.self.number) c.in-Ok.ensures.found.stays
           (hears_none j c.args.workers c.next_end.new.self kind ends
           (subst Unsaid left c.in-Err-read_said.ensures.fault))),
-      open_line c.args.workers c.in-Ok.ensures.waits,
+      open_line c.in-Ok.ensures.waits,
     )

@@ -5,7 +5,7 @@ use Rattle.devices.specs.Logs.{Log}
 use Rattle.devices.specs.Devices.{InputSeen}
 use Rattle.catserve.specs.Run.{input_seen}
 use Rattle.catserve.specs.declared.session_fault.SessionFault.{SessionFault}
-use Rattle.catserve.specs.Hearing.{HearingValue, FailsInFront, IsFrontLine, unheard}
+use Rattle.catserve.specs.Hearing.{HearingValue, FailsInFront, IsFrontLine}
 use Rattle.catserve.specs.Timing.{BeginsInTime}
 use Rattle.catserve.proofs.SessionInTime.{PassesInTime, ends_at, passed_last, passed_timely, passes_none}
 use Rattle.catserve.proofs.SessionFront.{begins_ended, begins_given, begins_other, front_fails, front_undecodable}
@@ -14,10 +14,8 @@ use Rattle.catserve.proofs.hearing.Hearing.hear_front.Goals as goal
 
 pub returns-in_err-end-clause-fault : goal.returns-in_err-end-clause-fault
 returns-in_err-end-clause-fault g c =
-    let k : InputSeen = input_seen g.R.Source.remaining g.R.Source.reads g.R.Source.failures c.next_end.new.reader in
     let p = err_from_is_err_and c.from_residual.result c.from_residual.ensures.1 in
-    rw (p.1, p.2) (front_fails k c.next_end.new.self c.in_err-end.field-0.0.kind c.in_err-end.field-0.0.line
-    c.front.invariant.1.0 c.in_err-end.ensures.fault)
+    rw (p.1, p.2) (front_fails c.next_end.new.self c.front.invariant.1.0 c.in_err-end.ensures.fault)
 
 pub returns-in-NotUtf8-clause-fault : goal.returns-in-NotUtf8-clause-fault
 returns-in-NotUtf8-clause-fault g c =
@@ -73,7 +71,7 @@ returns-in-Workers-clause-begins g c =
     c.in_ok-end.ensures.waits in
     let P : HearingValue → Type 0 = λ y. BeginsInTime None i k y c.in-Workers.workers a b in
     subst P (sym c.take-in-Workers.ensures) (
-      begins_given c.in-Workers.workers passed c.in_ok-end.ensures.found.stays found.0 is.0 is.1 is.2,
+      begins_given passed c.in_ok-end.ensures.found.stays found.0 is.0 is.1 is.2,
       timely,
     )
 
@@ -118,4 +116,4 @@ front-init g c =
     let i : InputSeen = input_seen g.R.Source.remaining g.R.Source.reads g.R.Source.failures c.args.reader.now in
     let a : Log = g.R.Device.log c.args.reader.now in
     let P : HearingValue → Type 0 = λ y. PassesInTime i i y [] a a in
-    ([], subst P (sym c.requires) (passes_none i a), refl)
+    ([], subst P (sym c.requires) (passes_none), refl)

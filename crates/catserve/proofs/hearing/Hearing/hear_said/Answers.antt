@@ -25,7 +25,7 @@ returns-clause-heard g c workers is =
     let Text : ℕ → Type 0 = λ count. HearsText i j x y c.args.end count bytes in
     let Read : ℕ → Type 0 = λ count. ReadsText a b x.input y.input c.args.end count bytes in
     let P : HearingValue → Type 0 = λ z. HearsSo i j a b workers x z (commands_of heard) in
-    subst P (sym c.end_round.ensures) (said_heard workers (line_value c.args.line) c.requires.few c.requires.line is
+    subst P (sym c.end_round.ensures) (said_heard (line_value c.args.line) c.requires.few c.requires.line is
     (subst Text c.text_lines.ensures c.in-Ok.ensures.heard) (subst Read c.text_lines.ensures c.in-Ok.ensures.waits))
 
 pub returns-in-Err-clause-heard : goal.returns-in-Err-clause-heard
@@ -42,5 +42,5 @@ returns-in-Err-clause-heard g c workers is =
     let Read : ℕ → Type 0 = λ count. ReadsWhile a b (StillCounts count x.input c.args.end) in (
       none_text i j workers x y line fault.kind fault.line c.requires.line is
           (subst Text c.text_lines.ensures c.in-Err.ensures.fault),
-      open_text workers line c.requires.line is (subst Read c.text_lines.ensures c.in-Err.ensures.waited),
+      open_text line c.requires.line is (subst Read c.text_lines.ensures c.in-Err.ensures.waited),
     )

@@ -45,7 +45,7 @@ returns-in_default-clause-fault g c =
     let Q : SessionFault → Type 0 = λ f. HearsNoText i j here after c.args.end c.args.count f.kind f.line in
     subst P c.self.view_is (subst Q (sym c.fault_here.ensures) (
       record {
-        stays = stays_whole here after c.in-Ok.ensures.comes
+        stays = stays_whole c.in-Ok.ensures.comes
             (record { later = c.in-Ok.ensures.later; reads = c.in-Ok.ensures.reads }) refl refl;
         fewer = rw c.in_default.is at c.in-Ok.ensures.none;
       },
@@ -85,7 +85,7 @@ returns-then-not-is_utf8-clause-fault g c =
     { input = c.self.inside.input; number = c.self.inside.number; size = c.self.inside.size } in
     let after : HearingValue = record
     { input = c.lines_end.new.self; number = c.self.inside.number; size = c.self.inside.size } in
-    let stays = stays_whole here after c.in-Ok.ensures.comes
+    let stays = stays_whole c.in-Ok.ensures.comes
     (record { later = c.in-Ok.ensures.later; reads = c.in-Ok.ensures.reads }) refl refl in
     let ends = rw c.in-Some.is at c.in-Ok.ensures.lines in
     let line = subst (λ x. EndsLine x 0 c.args.end) (sym (ap (λ (x : HearingValue). x.input) c.self.view_is))
@@ -107,7 +107,7 @@ returns-in_default-copied-clause-fault g c =
     { input = c.self.inside.input; number = c.self.inside.number; size = c.self.inside.size } in
     let after : HearingValue = record
     { input = c.lines_end.new.self; number = c.self.inside.number; size = c.self.inside.size } in
-    let stays = stays_whole here after c.in-Ok.ensures.comes
+    let stays = stays_whole c.in-Ok.ensures.comes
     (record { later = c.in-Ok.ensures.later; reads = c.in-Ok.ensures.reads }) refl refl in
     let P : HearingValue → Type 0 = λ x.
     HearsNoText i j x after c.args.end c.args.count c.from.result.kind c.from.result.line in
@@ -120,9 +120,7 @@ returns-clause-heard g c =
     let j : InputSeen = input_seen g.R.Source.remaining g.R.Source.reads g.R.Source.failures c.lines_end.new.reader in
     let here : HearingValue = record
     { input = c.self.inside.input; number = c.self.inside.number; size = c.self.inside.size } in
-    let after : HearingValue = record
-    { input = c.lines_end.new.self; number = c.self.inside.number; size = c.self.inside.size } in
-    let stays = stays_whole here after c.in-Ok.ensures.comes
+    let stays = stays_whole c.in-Ok.ensures.comes
     (record { later = c.in-Ok.ensures.later; reads = c.in-Ok.ensures.reads }) refl refl in
     let ends = rw c.in-Some.is at c.in-Ok.ensures.lines in
     let line = subst (λ x. EndsLine x 0 c.args.end) (sym (ap (λ (x : HearingValue). x.input) c.self.view_is))
@@ -135,8 +133,7 @@ returns-clause-heard g c =
     let P : HearingValue → Type 0 = λ x.
     HearsText i j x c.take.new.self c.args.end c.args.count c.in-Ok-copied.bytes.items in
     let Q : HearingValue → Type 0 = λ y. HearsText i j here y c.args.end c.args.count c.in-Ok-copied.bytes.items in
-    subst P c.self.view_is (subst Q (sym c.take.ensures)
-    (text_taken c.in-Ok-copied.bytes.items stays line ends utf8 bytes))
+    subst P c.self.view_is (subst Q (sym c.take.ensures) (text_taken stays line ends utf8 bytes))
 
 pub returns-in-Err-clause-waited : goal.returns-in-Err-clause-waited
 returns-in-Err-clause-waited g c =

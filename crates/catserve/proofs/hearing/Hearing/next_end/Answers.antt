@@ -31,14 +31,12 @@ pub returns-in-Ok-clause-found : goal.returns-in-Ok-clause-found
 returns-in-Ok-clause-found g c =
     let i : InputSeen = input_seen g.R.Source.remaining g.R.Source.reads g.R.Source.failures c.args.reader.now in
     let j : InputSeen = input_seen g.R.Source.remaining g.R.Source.reads g.R.Source.failures c.line_end.new.reader in
-    let at : HearingValue = record
-    { input = c.self.inside.input; number = c.self.inside.number; size = c.self.inside.size } in
     let after : HearingValue = record
     { input = c.line_end.new.self; number = c.self.inside.number; size = c.self.inside.size } in
     let known = c.in-Ok.ensures in
     let P : HearingValue → Type 0 = λ x. EndsNext i j x after c.in-Ok.end in
     subst P c.self.view_is (found_so c.in-Ok.end
-    (stays_whole at after known.comes (record { later = known.later; reads = known.reads }) refl refl)
+    (stays_whole known.comes (record { later = known.later; reads = known.reads }) refl refl)
     c.if-self-ge-MOST_LINES.false c.self.invariant known.line known.within known.none)
 
 pub returns-then-self-ge-MOST_LINES-clause-waits : goal.returns-then-self-ge-MOST_LINES-clause-waits

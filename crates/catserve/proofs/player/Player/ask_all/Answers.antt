@@ -1,5 +1,4 @@
 use Rattle.std.proofs.Common.{◌∙◌, List, refl, rules, subst, arith}
-use Rattle.std.specs.Vec.Iter.{into_iter_items, into_iter_len}
 use Rattle.script_text.specs.Script.{QuestionValue}
 use Rattle.catserve.specs.Talking.{GivesAll}
 use Rattle.catserve.proofs.Turns.{takes_one, takes_all}
@@ -17,8 +16,7 @@ questions-preserved c =
     let at = c.questions in
     let x = c.in-Some.question in
     record {
-      taken = takes_one (into_iter_items c.next.new.self) (into_iter_len c.next.new.self) x at.invariant.taken
-          c.in-Some.ensures.steps.0 (omega (arith, c.in-Some.ensures.steps.1));
+      taken = takes_one x at.invariant.taken c.in-Some.ensures.steps.0 (omega (arith, c.in-Some.ensures.steps.1));
       given = given_more x at.invariant.given c.in_ok-ask.ensures;
     }
 
