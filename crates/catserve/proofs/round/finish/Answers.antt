@@ -36,11 +36,7 @@ returns-clause-ok g c round was before none loaded asked =
 pub returns-clause-ready : goal.returns-clause-ready
 returns-clause-ready g c =
     let served = c.serve.new.desks.items in
-    let freed = c.write_all.new.desks in
-    let end = c.serve.new.publisher.seen in
-    let Freed : List Desk → Type 0 = λ ds. AllZip IsFreed ds freed in
-    let gone = subst Freed c.as_mut_slice.ensures.value c.in_ok-write_all.ensures.freed in
-    let Ready : List Desk → Type 0 = λ ds. AreReady end ds in
-    subst Ready (sym (whole_of freed served c.serve.new.desks.len
-    (omega (arith, c.write_all.auto.desks, c.as_mut_slice.ensures.len))))
+    let gone = rw c.as_mut_slice.ensures.value at c.in_ok-write_all.ensures.freed in
+    rw (whole_of c.write_all.new.desks served c.serve.new.desks.len
+    (omega (arith, c.write_all.auto.desks, c.as_mut_slice.ensures.len)))
     (ready_again c.publish.new.self.seen c.args.desks.now.items served c.in-Ok-serve.ensures.desks gone)

@@ -9,27 +9,18 @@ use Rattle.script_text.specs.declared.fault.ScriptFault.{ScriptFault}
 use Rattle.catserve.proofs.run.run_script.Goals as goal
 
 pub returns-in-Ok : goal.returns-in-Ok
-returns-in-Ok g c =
-    let Is : List ℕ → Type 0 = λ text. HasOutput text c.in_ok-output.output.items in
-    let Written : List ℕ → Type 0 = λ bytes. Appends (g.W.Sink.contents c.args.writer.now)
-    (g.W.Sink.contents c.write_all.new.self) bytes in
-    record {
-      text = c.in_ok-text.text.items;
-      read = c.in_ok-text.ensures.ok;
-      output = c.in_ok-output.output.items;
-      is = subst Is c.as_slice.ensures.value c.in_ok-output.ensures.ok;
-      written = subst Written c.as_slice-2.ensures.value c.in-Ok.ensures.bytes;
-    }
+returns-in-Ok g c = record {
+  text = c.in_ok-text.text.items;
+  read = c.in_ok-text.ensures.ok;
+  output = c.in_ok-output.output.items;
+  is = rw c.as_slice.ensures.value at c.in_ok-output.ensures.ok;
+  written = rw c.as_slice-2.ensures.value at c.in-Ok.ensures.bytes;
+}
 
 pub returns-in_err-output : goal.returns-in_err-output
 returns-in_err-output g c =
-    let i : InputSeen = input_seen g.R.Source.remaining g.R.Source.reads g.R.Source.failures c.args.reader.now in
-    let j : InputSeen = input_seen g.R.Source.remaining g.R.Source.reads g.R.Source.failures c.read_text.new.reader in
     let o : OutputSeen = output_seen g.W.Sink.contents g.W.Sink.failures c.args.writer.now in
-    let f : ScriptFault = c.in_err-output.field-0.0 in
-    let text : List ℕ = c.in_ok-text.text.items in
-    let P : List ℕ → Type 0 = λ t. EndsPlaying t f.kind f.line in
-    let ends : EndsPlaying text f.kind f.line = subst P c.as_slice.ensures.value c.in_err-output.ensures.fault in
+    let f = c.in_err-output.field-0.0 in
     let is : c.from_residual-in_err-output.result ≡ Err f = search rules in
-    subst (λ (r : Result (Unit {0}) ScriptFault). Runs i j o o r) (sym is)
-    (run_fails o o f.kind f.line c.in_ok-text.ensures.ok ends refl)
+    rw is (run_fails o o f.kind f.line c.in_ok-text.ensures.ok
+    (rw c.as_slice.ensures.value at c.in_err-output.ensures.fault) refl)

@@ -17,24 +17,12 @@ lines-init g c = talks_none c.requires.number c.requires.fresh
 
 pub lines-preserved : goal.lines-preserved
 lines-preserved g c =
-    let i : InputSeen = input_seen g.D.Source.remaining g.D.Source.reads g.D.Source.failures c.args.device.now in
-    let o : OutputSeen = output_seen g.D.Sink.contents g.D.Sink.failures c.args.device.now in
-    let start = c.args.player.now in
-    let x = c.args.hearing.now in
-    let q : OutputSeen = output_seen g.D.Sink.contents g.D.Sink.failures c.respond.new.writer in
     let out = sym (g.met.D.Sink.shows c.hear.new.reader) ∙ c.in_ok-thing.ensures.keeps
     ∙ g.met.D.Sink.shows c.lines.device in
     let inn = sym (g.met.D.Source.sees c.respond.new.writer) ∙ c.in_ok-respond.ensures.keeps
     ∙ g.met.D.Source.sees c.hear.new.reader in
-    let a : Log = g.D.Device.log c.args.device.now in
-    let m : Log = g.D.Device.log c.hear.new.reader in
-    let d : Log = g.D.Device.log c.respond.new.writer in
-    let R : OutputSeen → Type 0 = λ v.
-    RespondsInTime (command_of c.in-Some.thing) c.lines.player c.respond.new.self v q m d in
-    let C : InputSeen → Type 0 = λ v.
-    TalksInTime c.args.workers i v o q x c.hear.new.self start c.respond.new.self a d in
-    subst C (sym inn) (talks_more (command_of c.in-Some.thing) c.requires.fresh c.lines.invariant
-    (rw c.in-Some.is at c.in_ok-thing.ensures.heard) (subst R out c.in_ok-respond.ensures.ok))
+    rw inn (talks_more (command_of c.in-Some.thing) c.requires.fresh c.lines.invariant
+    (rw c.in-Some.is at c.in_ok-thing.ensures.heard) (rw out at c.in_ok-respond.ensures.ok))
 
 pub lines-smaller : goal.lines-smaller
 lines-smaller g c =
@@ -48,18 +36,15 @@ respond-requires-clause-room g c κs within =
 
 pub returns-in_err-thing-clause-all : goal.returns-in_err-thing-clause-all
 returns-in_err-thing-clause-all g c given first b =
-    let o : OutputSeen = output_seen g.D.Sink.contents g.D.Sink.failures c.args.device.now in
     let k : InputSeen = input_seen g.D.Source.remaining g.D.Source.reads g.D.Source.failures c.hear.new.reader in
     let e = err_from_is_err_and c.from_residual.result c.from_residual.ensures.1 in
     let out = sym (g.met.D.Sink.shows c.hear.new.reader) ∙ c.in_err-thing.ensures.keeps
     ∙ g.met.D.Sink.shows c.lines.device in
-    let Q : OutputSeen → Type 0 = λ v. Converses given first k o v c.from_residual.result in
-    subst Q (sym out) (rw (e.1, e.2) (none_ends k c.hear.new.self c.in_err-thing.field-0.0.kind
-    c.in_err-thing.field-0.0.line c.requires.fresh c.lines.invariant.0 c.in_err-thing.ensures.heard.0 b))
+    rw (out, e.1, e.2) (none_ends k c.hear.new.self c.in_err-thing.field-0.0.kind c.in_err-thing.field-0.0.line
+    c.requires.fresh c.lines.invariant.0 c.in_err-thing.ensures.heard.0 b)
 
 pub returns-in_err-respond-clause-all : goal.returns-in_err-respond-clause-all
 returns-in_err-respond-clause-all g c given first b =
-    let o : OutputSeen = output_seen g.D.Sink.contents g.D.Sink.failures c.args.device.now in
     let q : OutputSeen = output_seen g.D.Sink.contents g.D.Sink.failures c.respond.new.writer in
     let h = (rw c.in-Some.is at c.in_ok-thing.ensures.heard).0 in
     let e = err_from_is_err_and c.from_residual-in_err-respond.result c.from_residual-in_err-respond.ensures.1 in
@@ -67,14 +52,11 @@ returns-in_err-respond-clause-all g c given first b =
     ∙ g.met.D.Sink.shows c.lines.device in
     let inn = sym (g.met.D.Source.sees c.respond.new.writer) ∙ c.in_err-respond.ensures.keeps
     ∙ g.met.D.Source.sees c.hear.new.reader in
-    let Q : InputSeen → Type 0 = λ v. Converses given first v o q c.from_residual-in_err-respond.result in
-    let F : OutputSeen → Type 0 = λ v. FailsToAnswer c.lines.player v q c.in_err-respond.field-0.0 in
-    subst Q (sym inn) (rw (e.1, e.2) (fails_so q c.in_err-respond.field-0.0 c.requires.fresh c.lines.invariant.0
-    (taken_stays c.hear.new.self h.taken) (subst F out c.in_err-respond.ensures.fault) b))
+    rw (inn, e.1, e.2) (fails_so q c.in_err-respond.field-0.0 c.requires.fresh c.lines.invariant.0
+    (taken_stays c.hear.new.self h.taken) (rw out at c.in_err-respond.ensures.fault) b)
 
 pub returns-in_err-answer-clause-all : goal.returns-in_err-answer-clause-all
 returns-in_err-answer-clause-all g c given first b =
-    let o : OutputSeen = output_seen g.D.Sink.contents g.D.Sink.failures c.args.device.now in
     let q : OutputSeen = output_seen g.D.Sink.contents g.D.Sink.failures c.answer.new.writer in
     let h = (rw c.in_default.is at c.in_ok-thing.ensures.heard).0 in
     let e = err_from_is_err_and c.from_residual-in_err-answer.result c.from_residual-in_err-answer.ensures.1 in
@@ -82,34 +64,24 @@ returns-in_err-answer-clause-all g c given first b =
     ∙ g.met.D.Sink.shows c.lines.device in
     let inn = sym (g.met.D.Source.sees c.answer.new.writer) ∙ c.in_err-answer.ensures.keeps
     ∙ g.met.D.Source.sees c.hear.new.reader in
-    let Q : InputSeen → Type 0 = λ v. Converses given first v o q c.from_residual-in_err-answer.result in
-    let F : OutputSeen → Type 0 = λ v. FailsToAnswer c.lines.player v q c.in_err-answer.field-0.0 in
-    subst Q (sym inn) (rw (e.1, e.2) (fails_so q c.in_err-answer.field-0.0 c.requires.fresh c.lines.invariant.0
-    (record { got = h.got; number = h.number; size = h.size }) (subst F out c.in_err-answer.ensures.fault) b))
+    rw (inn, e.1, e.2) (fails_so q c.in_err-answer.field-0.0 c.requires.fresh c.lines.invariant.0
+    (record { got = h.got; number = h.number; size = h.size }) (rw out at c.in_err-answer.ensures.fault) b)
 
 pub returns-in_ok-answer-clause-all : goal.returns-in_ok-answer-clause-all
 returns-in_ok-answer-clause-all g c given first b =
-    let o : OutputSeen = output_seen g.D.Sink.contents g.D.Sink.failures c.args.device.now in
-    let q : OutputSeen = output_seen g.D.Sink.contents g.D.Sink.failures c.answer.new.writer in
     let out = sym (g.met.D.Sink.shows c.hear.new.reader) ∙ c.in_ok-thing.ensures.keeps
     ∙ g.met.D.Sink.shows c.lines.device in
     let inn = sym (g.met.D.Source.sees c.answer.new.writer) ∙ c.in_ok-answer.ensures.keeps
     ∙ g.met.D.Source.sees c.hear.new.reader in
-    let A : OutputSeen → Type 0 = λ v. AnswersRound c.lines.player c.answer.new.self v q in
-    let Q : InputSeen → Type 0 = λ v. AnswersAll given first v o q in
-    subst Q (sym inn) (last_answered c.requires.fresh c.lines.invariant.0
-    (rw c.in_default.is at c.in_ok-thing.ensures.heard).0 (sym c.has_begun.ensures ∙ c.if-has_begun.true)
-    (subst A out c.in_ok-answer.ensures.ok.0) b)
+    rw inn (last_answered c.requires.fresh c.lines.invariant.0 (rw c.in_default.is at c.in_ok-thing.ensures.heard).0
+    (sym c.has_begun.ensures ∙ c.if-has_begun.true) (rw out at c.in_ok-answer.ensures.ok.0) b)
 
 pub returns-else-has_begun-clause-all : goal.returns-else-has_begun-clause-all
 returns-else-has_begun-clause-all g c given first b =
-    let o : OutputSeen = output_seen g.D.Sink.contents g.D.Sink.failures c.args.device.now in
-    let k : InputSeen = input_seen g.D.Source.remaining g.D.Source.reads g.D.Source.failures c.hear.new.reader in
     let out = sym (g.met.D.Sink.shows c.hear.new.reader) ∙ c.in_ok-thing.ensures.keeps
     ∙ g.met.D.Sink.shows c.lines.device in
-    let Q : OutputSeen → Type 0 = λ v. AnswersAll given first k o v in
-    subst Q (sym out) (all_answered c.requires.fresh c.lines.invariant.0
-    (rw c.in_default.is at c.in_ok-thing.ensures.heard).0 (sym c.has_begun.ensures ∙ c.if-has_begun.false) b)
+    rw out (all_answered c.requires.fresh c.lines.invariant.0 (rw c.in_default.is at c.in_ok-thing.ensures.heard).0
+    (sym c.has_begun.ensures ∙ c.if-has_begun.false) b)
 
 pub returns-in_err-thing-clause-in_time : goal.returns-in_err-thing-clause-in_time
 returns-in_err-thing-clause-in_time g c =

@@ -18,42 +18,25 @@ returns-in_err-hearing-clause-all g c =
 pub returns-in-Some-clause-all : goal.returns-in-Some-clause-all
 returns-in-Some-clause-all g c =
     let i : InputSeen = input_seen g.D.Source.remaining g.D.Source.reads g.D.Source.failures c.args.device.now in
-    let k : InputSeen = input_seen g.D.Source.remaining g.D.Source.reads g.D.Source.failures
-    c.converse_by_store.new.device in
-    let o : OutputSeen = output_seen g.D.Sink.contents g.D.Sink.failures c.args.device.now in
-    let q : OutputSeen = output_seen g.D.Sink.contents g.D.Sink.failures c.converse_by_store.new.device in
-    let P : Option ℕ → Type 0 = λ given. Converses given i k o q c.converse_by_store.result in
     let Q : HearingValue → Type 0 = λ x. Begins (Some c.in-Some.count) i i x c.in-Some.count in
-    subst P (sym c.in-Some.is) (c.converse_by_store.ensures.all (Some c.in-Some.count) i
-    (subst Q (sym c.in_ok-hearing.ensures) (begins_so)))
+    rw c.in-Some.is (c.converse_by_store.ensures.all (Some c.in-Some.count) i
+    (subst Q (sym c.in_ok-hearing.ensures) begins_so))
 
 pub returns-in_err-count-in-None-clause-all : goal.returns-in_err-count-in-None-clause-all
 returns-in_err-count-in-None-clause-all g c =
-    let i : InputSeen = input_seen g.D.Source.remaining g.D.Source.reads g.D.Source.failures c.args.device.now in
-    let k : InputSeen = input_seen g.D.Source.remaining g.D.Source.reads g.D.Source.failures c.hear_front.new.reader in
-    let o : OutputSeen = output_seen g.D.Sink.contents g.D.Sink.failures c.args.device.now in
-    let p : OutputSeen = output_seen g.D.Sink.contents g.D.Sink.failures c.hear_front.new.reader in
     let out = sym (g.met.D.Sink.shows c.hear_front.new.reader)
     ∙ c.in_err-count-in-None.ensures.keeps ∙ g.met.D.Sink.shows c.args.device.now in
-    let P : Option ℕ → Type 0 = λ given. Converses given i k o p c.from_residual-in_err-count-in-None.result in
-    let Q : OutputSeen → Type 0 = λ v. Converses None i k o v c.from_residual-in_err-count-in-None.result in
     let e = err_from_is_err_and c.from_residual-in_err-count-in-None.result
     c.from_residual-in_err-count-in-None.ensures.1 in
-    subst P (sym c.in-None.is) (subst Q (sym out) (rw (e.1, e.2) (front_ends o c.in_err-count-in-None.ensures.fault)))
+    let o : OutputSeen = output_seen g.D.Sink.contents g.D.Sink.failures c.args.device.now in
+    rw (c.in-None.is, out, e.1, e.2) (front_ends o c.in_err-count-in-None.ensures.fault)
 
 pub returns-clause-all : goal.returns-clause-all
 returns-clause-all g c =
     let i : InputSeen = input_seen g.D.Source.remaining g.D.Source.reads g.D.Source.failures c.args.device.now in
-    let k : InputSeen = input_seen g.D.Source.remaining g.D.Source.reads g.D.Source.failures
-    c.converse_by_store-in-None.new.device in
-    let o : OutputSeen = output_seen g.D.Sink.contents g.D.Sink.failures c.args.device.now in
-    let q : OutputSeen = output_seen g.D.Sink.contents g.D.Sink.failures c.converse_by_store-in-None.new.device in
     let out = sym (g.met.D.Sink.shows c.hear_front.new.reader)
     ∙ c.in_ok-count-in-None.ensures.keeps ∙ g.met.D.Sink.shows c.args.device.now in
-    let P : Option ℕ → Type 0 = λ given. Converses given i k o q c.converse_by_store-in-None.result in
-    let Q : OutputSeen → Type 0 = λ v. Converses None i k v q c.converse_by_store-in-None.result in
-    subst P (sym c.in-None.is) (subst Q out
-    (c.converse_by_store-in-None.ensures.all None i c.in_ok-count-in-None.ensures.begins.0))
+    rw (c.in-None.is, ← out) (c.converse_by_store-in-None.ensures.all None i c.in_ok-count-in-None.ensures.begins.0)
 
 pub returns-in_err-hearing-clause-in_time : goal.returns-in_err-hearing-clause-in_time
 returns-in_err-hearing-clause-in_time g c = ends_at (begins_timely)
@@ -62,25 +45,17 @@ pub returns-in-Some-clause-in_time : goal.returns-in-Some-clause-in_time
 returns-in-Some-clause-in_time g c =
     let i : InputSeen = input_seen g.D.Source.remaining g.D.Source.reads g.D.Source.failures c.args.device.now in
     let a : Log = g.D.Device.log c.args.device.now in
-    let b : Log = g.D.Device.log c.converse_by_store.new.device in
     let given : Option ℕ = Some c.in-Some.count in
-    let P : Option ℕ → Type 0 = λ given. AnswersInTime given a b in
     let Q : HearingValue → Type 0 = λ x. BeginsInTime given i i x c.in-Some.count a a in
     let begun = subst Q (sym c.in_ok-hearing.ensures) (begins_so, begins_timely) in
-    subst P (sym c.in-Some.is) (c.converse_by_store.ensures.in_time given i begun.0 a begun.1)
+    rw c.in-Some.is (c.converse_by_store.ensures.in_time given i begun.0 a begun.1)
 
 pub returns-in_err-count-in-None-clause-in_time : goal.returns-in_err-count-in-None-clause-in_time
-returns-in_err-count-in-None-clause-in_time g c =
-    let a : Log = g.D.Device.log c.args.device.now in
-    let b : Log = g.D.Device.log c.hear_front.new.reader in
-    let P : Option ℕ → Type 0 = λ given. AnswersInTime given a b in
-    subst P (sym c.in-None.is) c.in_err-count-in-None.ensures.in_time
+returns-in_err-count-in-None-clause-in_time g c = rw c.in-None.is c.in_err-count-in-None.ensures.in_time
 
 pub returns-clause-in_time : goal.returns-clause-in_time
 returns-clause-in_time g c =
     let i : InputSeen = input_seen g.D.Source.remaining g.D.Source.reads g.D.Source.failures c.args.device.now in
-    let a : Log = g.D.Device.log c.args.device.now in
-    let b : Log = g.D.Device.log c.converse_by_store-in-None.new.device in
-    let P : Option ℕ → Type 0 = λ given. AnswersInTime given a b in
     let begun = c.in_ok-count-in-None.ensures.begins in
-    subst P (sym c.in-None.is) (c.converse_by_store-in-None.ensures.in_time None i begun.0 a begun.1)
+    rw c.in-None.is (c.converse_by_store-in-None.ensures.in_time None i begun.0 (g.D.Device.log c.args.device.now)
+    begun.1)

@@ -30,25 +30,19 @@ pub returns-in-Ok-read_said-clause-heard : goal.returns-in-Ok-read_said-clause-h
 returns-in-Ok-read_said-clause-heard g c =
     let k : InputSeen = input_seen g.R.Source.remaining g.R.Source.reads g.R.Source.failures c.hear_said.new.reader in
     let left = c.left.ensures ∙ ap (λ (x : HearingValue). x.input.left) c.self.view_is in
-    let Says : List ℕ → Type 0 = λ left. line_of c.args.workers (without_end (take c.in-Some.end left))
-    ≡ Some (line_value c.in-Ok-read_said.said) in
     in_time_then k (g.R.Device.log c.hear_said.new.reader) c.args.workers c.hear_said.new.self c.hear_said.result
     c.in-Ok.ensures.found.stays c.in-Ok.ensures.waits (c.hear_said.ensures.heard c.args.workers
-    (subst Says left c.in-Ok-read_said.ensures.ok))
+    (rw left at c.in-Ok-read_said.ensures.ok))
 
 pub returns-in-Err-read_said-clause-heard : goal.returns-in-Err-read_said-clause-heard
 returns-in-Err-read_said-clause-heard g c =
-    let i : InputSeen = input_seen g.R.Source.remaining g.R.Source.reads g.R.Source.failures c.args.reader.now in
     let j : InputSeen = input_seen g.R.Source.remaining g.R.Source.reads g.R.Source.failures c.next_end.new.reader in
     let left = c.left.ensures ∙ ap (λ (x : HearingValue). x.input.left) c.self.view_is in
     let ends = (rw c.in-Some.is at c.in-Ok.ensures.found.line).0 in
+    let y = c.next_end.new.self in
     let kind = c.in-Err-read_said.kind in
-    let Unsaid : List ℕ → Type 0 = λ left. IsUnsaid c.args.workers (take c.in-Some.end left) kind in
-    let P : SessionFault → Type 0 = λ f.
-    HearsNone i j c.args.workers c.args.self.now c.next_end.new.self f.kind f.line in (
-      subst P (sym c.fault_here.ensures) (none_then j c.args.workers c.next_end.new.self kind
-          (line_of_kind kind c.next_end.new.self.number) c.in-Ok.ensures.found.stays
-          (hears_none j c.args.workers c.next_end.new.self kind ends
-          (subst Unsaid left c.in-Err-read_said.ensures.fault))),
+    rw c.fault_here.ensures (
+      none_then j c.args.workers y kind (line_of_kind kind y.number) c.in-Ok.ensures.found.stays
+          (hears_none j c.args.workers y kind ends (rw left at c.in-Err-read_said.ensures.fault)),
       open_line c.in-Ok.ensures.waits,
     )

@@ -19,36 +19,24 @@ returns-in_err-end-clause-fault g c =
 
 pub returns-in-NotUtf8-clause-fault : goal.returns-in-NotUtf8-clause-fault
 returns-in-NotUtf8-clause-fault g c =
-    let i : InputSeen = input_seen g.R.Source.remaining g.R.Source.reads g.R.Source.failures c.args.reader.now in
-    let k : InputSeen = input_seen g.R.Source.remaining g.R.Source.reads g.R.Source.failures c.next_end.new.reader in
     let passed = c.front.invariant.1.0 in
     let found = rw c.in-Some.is at c.in_ok-end.ensures.found.line in
     let left = c.left.ensures ∙ ap (λ (x : HearingValue). x.input.left) c.self.view_is in
-    let Is : List ℕ → Type 0 = λ left. IsFrontLine (take c.in-Some.end left) c.read_front_line.result in
-    let is = subst (λ line. IsFrontLine (take c.in-Some.end c.next_end.new.self.input.left) line) c.in-NotUtf8.is
-    (subst Is left c.read_front_line.ensures) in
-    let P : SessionFault → Type 0 = λ f. FailsInFront i k f.kind f.line in
-    subst P (sym c.fault_here.ensures) (front_undecodable passed c.in_ok-end.ensures.found.stays found.0 is)
+    let is = rw c.in-NotUtf8.is at (rw left at c.read_front_line.ensures) in
+    rw c.fault_here.ensures (front_undecodable passed c.in_ok-end.ensures.found.stays found.0 is)
 
 pub front-preserved : goal.front-preserved
 front-preserved g c =
-    let i : InputSeen = input_seen g.R.Source.remaining g.R.Source.reads g.R.Source.failures c.args.reader.now in
-    let k : InputSeen = input_seen g.R.Source.remaining g.R.Source.reads g.R.Source.failures c.next_end.new.reader in
     let passed = c.front.invariant.1.0 in
     let found = rw c.in-Some.is at c.in_ok-end.ensures.found.line in
     let left = c.left.ensures ∙ ap (λ (x : HearingValue). x.input.left) c.self.view_is in
-    let Is : List ℕ → Type 0 = λ left. IsFrontLine (take c.in-Some.end left) c.read_front_line.result in
-    let is = subst (λ line. IsFrontLine (take c.in-Some.end c.next_end.new.self.input.left) line) c.in-Blank.is
-    (subst Is left c.read_front_line.ensures) in
+    let is = rw c.in-Blank.is at (rw left at c.read_front_line.ensures) in
     let front = c.front.invariant.0 in
     let line = take c.in-Some.end c.next_end.new.self.input.left in
-    let a : Log = g.R.Device.log c.args.reader.now in
-    let b : Log = g.R.Device.log c.next_end.new.reader in
     let timely = passed_timely c.front.invariant.1.0 c.front.invariant.1.1 c.in_ok-end.ensures.found.stays
-    c.in_ok-end.ensures.waits in
-    let P : HearingValue → Type 0 = λ y. PassesInTime i k y (front ++ line ∷ []) a b in (
+    c.in_ok-end.ensures.waits in (
       front ++ line ∷ [],
-      subst P (sym c.take.ensures) (
+      rw c.take.ensures (
         passed_more passed c.in_ok-end.ensures.found.stays found.0 is.0 is.1,
         timely,
       ),
@@ -57,20 +45,13 @@ front-preserved g c =
 
 pub returns-in-Workers-clause-begins : goal.returns-in-Workers-clause-begins
 returns-in-Workers-clause-begins g c =
-    let i : InputSeen = input_seen g.R.Source.remaining g.R.Source.reads g.R.Source.failures c.args.reader.now in
-    let k : InputSeen = input_seen g.R.Source.remaining g.R.Source.reads g.R.Source.failures c.next_end.new.reader in
     let passed = c.front.invariant.1.0 in
     let found = rw c.in-Some.is at c.in_ok-end.ensures.found.line in
     let left = c.left.ensures ∙ ap (λ (x : HearingValue). x.input.left) c.self.view_is in
-    let Is : List ℕ → Type 0 = λ left. IsFrontLine (take c.in-Some.end left) c.read_front_line.result in
-    let is = subst (λ line. IsFrontLine (take c.in-Some.end c.next_end.new.self.input.left) line) c.in-Workers.is
-    (subst Is left c.read_front_line.ensures) in
-    let a : Log = g.R.Device.log c.args.reader.now in
-    let b : Log = g.R.Device.log c.next_end.new.reader in
+    let is = rw c.in-Workers.is at (rw left at c.read_front_line.ensures) in
     let timely = passed_timely c.front.invariant.1.0 c.front.invariant.1.1 c.in_ok-end.ensures.found.stays
     c.in_ok-end.ensures.waits in
-    let P : HearingValue → Type 0 = λ y. BeginsInTime None i k y c.in-Workers.workers a b in
-    subst P (sym c.take-in-Workers.ensures) (
+    rw c.take-in-Workers.ensures (
       begins_given passed c.in_ok-end.ensures.found.stays found.0 is.0 is.1 is.2,
       timely,
     )
@@ -80,9 +61,7 @@ returns-in-Other-clause-begins g c =
     let passed = c.front.invariant.1.0 in
     let found = rw c.in-Some.is at c.in_ok-end.ensures.found.line in
     let left = c.left.ensures ∙ ap (λ (x : HearingValue). x.input.left) c.self.view_is in
-    let Is : List ℕ → Type 0 = λ left. IsFrontLine (take c.in-Some.end left) c.read_front_line.result in
-    let is = subst (λ line. IsFrontLine (take c.in-Some.end c.next_end.new.self.input.left) line) c.in-Other.is
-    (subst Is left c.read_front_line.ensures) in
+    let is = rw c.in-Other.is at (rw left at c.read_front_line.ensures) in
     let timely = passed_timely c.front.invariant.1.0 c.front.invariant.1.1 c.in_ok-end.ensures.found.stays
     c.in_ok-end.ensures.waits in (
       begins_other passed c.in_ok-end.ensures.found.stays found.0 is.1 is.2,

@@ -1,17 +1,13 @@
 use Rattle.std.proofs.Common.{◌≡◌, ◌-◌, ◌∙◌, [], ℕ, List, refl, sym, ap, subst, arith, take, drop}
 use Rattle.std.specs.Str.{IsUtf8}
-use Rattle.devices.specs.Logs.{Log}
 use Rattle.line_input.specs.Incoming.{EndsLine}
-use Rattle.line_input.specs.Waiting.{ReadsWhile, StillCounts}
 use Rattle.line_input.proofs.Arriving.{both}
 use Rattle.devices.specs.Devices.{InputSeen}
 use Rattle.catserve.specs.Run.{input_seen}
-use Rattle.catserve.specs.declared.session_fault.SessionFault.{SessionFault}
 use Rattle.script_text.specs.Texts.{most_script}
-use Rattle.catserve.specs.Hearing.{HearingValue, HearsNoText, HearsText}
+use Rattle.catserve.specs.Hearing.{HearingValue}
 use Rattle.catserve.proofs.LinesTaken.{nothing_heard, no_line, stays_whole, text_ends_within, text_within}
 use Rattle.catserve.proofs.LinesTaken.{text_taken, text_undecodable}
-use Rattle.catserve.specs.Timing.{ReadsText}
 use Rattle.catserve.proofs.SessionInTime.{text_reads}
 use Rattle.catserve.proofs.SessionWaits.{reads_of as counts_of}
 use Rattle.catserve.proofs.hearing.Hearing.hear_text.Goals as goal
@@ -24,39 +20,26 @@ returns-in-Err-clause-fault g c =
     { input = c.self.inside.input; number = c.self.inside.number; size = c.self.inside.size } in
     let after : HearingValue = record
     { input = c.lines_end.new.self; number = c.self.inside.number; size = c.self.inside.size } in
-    let P : HearingValue → Type 0 = λ x.
-    HearsNoText i j x after c.args.end c.args.count c.fault_of.result.kind c.fault_of.result.line in
-    subst P c.self.view_is (no_line _ i j here after c.fault_of.result.kind c.fault_of.result.line
+    rw (← c.self.view_is) (no_line _ i j here after c.fault_of.result.kind c.fault_of.result.line
     (nothing_heard here after c.in-Err.fault c.fault_of.result c.in-Err.ensures.comes
     (record { later = c.in-Err.ensures.later; reads = c.in-Err.ensures.reads }) refl refl
     (λ long. omega (arith, (c.in-Err.ensures.long long).over, c.self.invariant)) c.in-Err.ensures.cause
     c.fault_of.ensures))
 
 pub returns-in_default-clause-fault : goal.returns-in_default-clause-fault
-returns-in_default-clause-fault g c =
-    let i : InputSeen = input_seen g.R.Source.remaining g.R.Source.reads g.R.Source.failures c.args.reader.now in
-    let j : InputSeen = input_seen g.R.Source.remaining g.R.Source.reads g.R.Source.failures c.lines_end.new.reader in
-    let here : HearingValue = record
-    { input = c.self.inside.input; number = c.self.inside.number; size = c.self.inside.size } in
-    let after : HearingValue = record
-    { input = c.lines_end.new.self; number = c.self.inside.number; size = c.self.inside.size } in
-    let P : HearingValue → Type 0 = λ x.
-    HearsNoText i j x after c.args.end c.args.count c.fault_here.result.kind c.fault_here.result.line in
-    let Q : SessionFault → Type 0 = λ f. HearsNoText i j here after c.args.end c.args.count f.kind f.line in
-    subst P c.self.view_is (subst Q (sym c.fault_here.ensures) (
-      record {
-        stays = stays_whole c.in-Ok.ensures.comes
-            (record { later = c.in-Ok.ensures.later; reads = c.in-Ok.ensures.reads }) refl refl;
-        fewer = rw c.in_default.is at c.in-Ok.ensures.none;
-      },
-      refl,
-    ))
+returns-in_default-clause-fault g c = rw (← c.self.view_is, c.fault_here.ensures) (
+  record {
+    stays = stays_whole c.in-Ok.ensures.comes
+        (record { later = c.in-Ok.ensures.later; reads = c.in-Ok.ensures.reads }) refl refl;
+    fewer = rw c.in_default.is at c.in-Ok.ensures.none;
+  },
+  refl,
+)
 
 pub overflow_add-count : goal.overflow_add-count
 overflow_add-count g c =
     let ends = rw c.in-Some.is at c.in-Ok.ensures.lines in
-    let few = (text_within ends).0 in
-    omega (arith, few, c.ranges.count.fits, ends.within)
+    omega (arith, (text_within ends).0, c.ranges.count.fits, ends.within)
 
 pub take-requires-clause-size : goal.take-requires-clause-size
 take-requires-clause-size g c =
@@ -79,109 +62,51 @@ take-requires-clause-number g c =
 
 pub returns-then-not-is_utf8-clause-fault : goal.returns-then-not-is_utf8-clause-fault
 returns-then-not-is_utf8-clause-fault g c =
-    let i : InputSeen = input_seen g.R.Source.remaining g.R.Source.reads g.R.Source.failures c.args.reader.now in
-    let j : InputSeen = input_seen g.R.Source.remaining g.R.Source.reads g.R.Source.failures c.lines_end.new.reader in
-    let here : HearingValue = record
-    { input = c.self.inside.input; number = c.self.inside.number; size = c.self.inside.size } in
-    let after : HearingValue = record
-    { input = c.lines_end.new.self; number = c.self.inside.number; size = c.self.inside.size } in
     let stays = stays_whole c.in-Ok.ensures.comes
     (record { later = c.in-Ok.ensures.later; reads = c.in-Ok.ensures.reads }) refl refl in
     let ends = rw c.in-Some.is at c.in-Ok.ensures.lines in
     let line = subst (λ x. EndsLine x 0 c.args.end) (sym (ap (λ (x : HearingValue). x.input) c.self.view_is))
     c.requires.line in
-    let P : HearingValue → Type 0 = λ x. HearsNoText i j x after c.args.end c.args.count
-    c.fault_here-then-not-is_utf8.result.kind c.fault_here-then-not-is_utf8.result.line in
-    let Q : SessionFault → Type 0 = λ f. HearsNoText i j here after c.args.end c.args.count f.kind f.line in
     let NotText : List ℕ → Type 0 = λ left. ¬ IsUtf8 (take c.in-Some.text_end left) in
     let undecodable = subst NotText c.left-left.ensures
     (λ utf8. both c.is_utf8.result (c.is_utf8.ensures.1 utf8) c.if-not-is_utf8.true) in
-    subst P c.self.view_is (subst Q (sym c.fault_here-then-not-is_utf8.ensures)
-    (text_undecodable stays line ends undecodable))
+    rw (← c.self.view_is, c.fault_here-then-not-is_utf8.ensures) (text_undecodable stays line ends undecodable)
 
 pub returns-in_default-copied-clause-fault : goal.returns-in_default-copied-clause-fault
 returns-in_default-copied-clause-fault g c =
-    let i : InputSeen = input_seen g.R.Source.remaining g.R.Source.reads g.R.Source.failures c.args.reader.now in
-    let j : InputSeen = input_seen g.R.Source.remaining g.R.Source.reads g.R.Source.failures c.lines_end.new.reader in
-    let here : HearingValue = record
-    { input = c.self.inside.input; number = c.self.inside.number; size = c.self.inside.size } in
-    let after : HearingValue = record
-    { input = c.lines_end.new.self; number = c.self.inside.number; size = c.self.inside.size } in
     let stays = stays_whole c.in-Ok.ensures.comes
     (record { later = c.in-Ok.ensures.later; reads = c.in-Ok.ensures.reads }) refl refl in
-    let P : HearingValue → Type 0 = λ x.
-    HearsNoText i j x after c.args.end c.args.count c.from.result.kind c.from.result.line in
-    let Q : SessionFault → Type 0 = λ f. HearsNoText i j here after c.args.end c.args.count f.kind f.line in
-    subst P c.self.view_is (subst Q (sym c.from.ensures) (([], stays), refl))
+    rw (← c.self.view_is, c.from.ensures) (([], stays), refl)
 
 pub returns-clause-heard : goal.returns-clause-heard
 returns-clause-heard g c =
-    let i : InputSeen = input_seen g.R.Source.remaining g.R.Source.reads g.R.Source.failures c.args.reader.now in
-    let j : InputSeen = input_seen g.R.Source.remaining g.R.Source.reads g.R.Source.failures c.lines_end.new.reader in
-    let here : HearingValue = record
-    { input = c.self.inside.input; number = c.self.inside.number; size = c.self.inside.size } in
     let stays = stays_whole c.in-Ok.ensures.comes
     (record { later = c.in-Ok.ensures.later; reads = c.in-Ok.ensures.reads }) refl refl in
     let ends = rw c.in-Some.is at c.in-Ok.ensures.lines in
     let line = subst (λ x. EndsLine x 0 c.args.end) (sym (ap (λ (x : HearingValue). x.input) c.self.view_is))
     c.requires.line in
-    let Is : List ℕ → Type 0 = λ left. IsUtf8 (take c.in-Some.text_end left) in
-    let utf8 = subst Is c.left-left.ensures (c.is_utf8.ensures.0 c.if-not-is_utf8.false) in
-    let Copies : List ℕ → Type 0 = λ left.
-    c.in-Ok-copied.bytes.items ≡ take (c.in-Some.text_end - c.args.end) (drop c.args.end left) in
-    let bytes = subst Copies c.left-left.ensures c.in-Ok-copied.ensures in
-    let P : HearingValue → Type 0 = λ x.
-    HearsText i j x c.take.new.self c.args.end c.args.count c.in-Ok-copied.bytes.items in
-    let Q : HearingValue → Type 0 = λ y. HearsText i j here y c.args.end c.args.count c.in-Ok-copied.bytes.items in
-    subst P c.self.view_is (subst Q (sym c.take.ensures) (text_taken stays line ends utf8 bytes))
+    let utf8 = rw c.left-left.ensures at (c.is_utf8.ensures.0 c.if-not-is_utf8.false) in
+    let bytes = rw c.left-left.ensures at c.in-Ok-copied.ensures in
+    rw (← c.self.view_is, c.take.ensures) (text_taken stays line ends utf8 bytes)
 
 pub returns-in-Err-clause-waited : goal.returns-in-Err-clause-waited
-returns-in-Err-clause-waited g c =
-    let a : Log = g.R.Device.log c.args.reader.now in
-    let b : Log = g.R.Device.log c.lines_end.new.reader in
-    let P : HearingValue → Type 0 = λ x. ReadsWhile a b (StillCounts c.args.count x.input c.args.end) in
-    subst P c.self.view_is (counts_of c.in-Err.ensures.waits.1)
+returns-in-Err-clause-waited g c = rw (← c.self.view_is) (counts_of c.in-Err.ensures.waits.1)
 
 pub returns-in_default-clause-waited : goal.returns-in_default-clause-waited
-returns-in_default-clause-waited g c =
-    let a : Log = g.R.Device.log c.args.reader.now in
-    let b : Log = g.R.Device.log c.lines_end.new.reader in
-    let P : HearingValue → Type 0 = λ x. ReadsWhile a b (StillCounts c.args.count x.input c.args.end) in
-    subst P c.self.view_is (counts_of c.in-Ok.ensures.waits)
+returns-in_default-clause-waited g c = rw (← c.self.view_is) (counts_of c.in-Ok.ensures.waits)
 
 pub returns-then-not-is_utf8-clause-waited : goal.returns-then-not-is_utf8-clause-waited
-returns-then-not-is_utf8-clause-waited g c =
-    let a : Log = g.R.Device.log c.args.reader.now in
-    let b : Log = g.R.Device.log c.lines_end.new.reader in
-    let P : HearingValue → Type 0 = λ x. ReadsWhile a b (StillCounts c.args.count x.input c.args.end) in
-    subst P c.self.view_is (counts_of c.in-Ok.ensures.waits)
+returns-then-not-is_utf8-clause-waited g c = rw (← c.self.view_is) (counts_of c.in-Ok.ensures.waits)
 
 pub returns-in_default-copied-clause-waited : goal.returns-in_default-copied-clause-waited
-returns-in_default-copied-clause-waited g c =
-    let a : Log = g.R.Device.log c.args.reader.now in
-    let b : Log = g.R.Device.log c.lines_end.new.reader in
-    let P : HearingValue → Type 0 = λ x. ReadsWhile a b (StillCounts c.args.count x.input c.args.end) in
-    subst P c.self.view_is (counts_of c.in-Ok.ensures.waits)
+returns-in_default-copied-clause-waited g c = rw (← c.self.view_is) (counts_of c.in-Ok.ensures.waits)
 
 pub returns-clause-waits : goal.returns-clause-waits
 returns-clause-waits g c =
-    let a : Log = g.R.Device.log c.args.reader.now in
-    let b : Log = g.R.Device.log c.lines_end.new.reader in
-    let here : HearingValue = record
-    { input = c.self.inside.input; number = c.self.inside.number; size = c.self.inside.size } in
     let ends = rw c.in-Some.is at c.in-Ok.ensures.lines in
     let line = subst (λ x. EndsLine x 0 c.args.end) (sym (ap (λ (x : HearingValue). x.input) c.self.view_is))
     c.requires.line in
     let text : List ℕ = take (c.in-Some.text_end - c.args.end) (drop c.args.end c.lines_end.new.self.left) in
     let bytes : c.in-Ok-copied.bytes.items ≡ text = c.in-Ok-copied.ensures
     ∙ ap (λ left. take (c.in-Some.text_end - c.args.end) (drop c.args.end left)) c.left-left.ensures in
-    let P : HearingValue → Type 0 = λ x.
-    ReadsText a b x.input c.take.new.self.input c.args.end c.args.count c.in-Ok-copied.bytes.items in
-    let Q : HearingValue → Type 0 = λ y.
-    ReadsText a b here.input y.input c.args.end c.args.count c.in-Ok-copied.bytes.items in
-    let R : List ℕ → Type 0 = λ bs. ReadsText a b here.input (record {
-      left = drop c.in-Some.text_end c.lines_end.new.self.left;
-      ended = c.lines_end.new.self.ended;
-    }) c.args.end c.args.count bs in
-    subst P c.self.view_is (subst Q (sym c.take.ensures)
-    (subst R (sym bytes) (text_reads line ends c.in-Ok.ensures.waits)))
+    rw (← c.self.view_is, c.take.ensures, bytes) (text_reads line ends c.in-Ok.ensures.waits)

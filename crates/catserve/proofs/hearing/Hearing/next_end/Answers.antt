@@ -9,33 +9,18 @@ use Rattle.catserve.proofs.hearing.Hearing.next_end.Goals as goal
 
 pub returns-in-Err-clause-fault : goal.returns-in-Err-clause-fault
 returns-in-Err-clause-fault g c =
-    let i : InputSeen = input_seen g.R.Source.remaining g.R.Source.reads g.R.Source.failures c.args.reader.now in
-    let j : InputSeen = input_seen g.R.Source.remaining g.R.Source.reads g.R.Source.failures c.line_end.new.reader in
-    let at : HearingValue = record {
-      input = c.self.inside.input;
-      number = c.self.inside.number;
-      size = c.self.inside.size;
-    } in
-    let after : HearingValue = record {
-      input = c.line_end.new.self;
-      number = c.self.inside.number;
-      size = c.self.inside.size;
-    } in
-    let P : HearingValue → Type 0 = λ x. HearsNothing i j x after c.fault_of.result.kind c.fault_of.result.line in
-    subst P c.self.view_is (nothing_heard at after c.in-Err.fault c.fault_of.result c.in-Err.ensures.comes
+    let here : HearingValue = record
+    { input = c.self.inside.input; number = c.self.inside.number; size = c.self.inside.size } in
+    let after : HearingValue = record
+    { input = c.line_end.new.self; number = c.self.inside.number; size = c.self.inside.size } in
+    rw (← c.self.view_is) (nothing_heard here after c.in-Err.fault c.fault_of.result c.in-Err.ensures.comes
     (record { later = c.in-Err.ensures.later; reads = c.in-Err.ensures.reads }) refl refl
-    (λ long. omega (arith, (c.in-Err.ensures.long long).0, c.self.invariant)) c.in-Err.ensures.cause
-    c.fault_of.ensures)
+    (λ long. omega (arith, (c.in-Err.ensures.long long).0, c.self.invariant)) c.in-Err.ensures.cause c.fault_of.ensures)
 
 pub returns-in-Ok-clause-found : goal.returns-in-Ok-clause-found
 returns-in-Ok-clause-found g c =
-    let i : InputSeen = input_seen g.R.Source.remaining g.R.Source.reads g.R.Source.failures c.args.reader.now in
-    let j : InputSeen = input_seen g.R.Source.remaining g.R.Source.reads g.R.Source.failures c.line_end.new.reader in
-    let after : HearingValue = record
-    { input = c.line_end.new.self; number = c.self.inside.number; size = c.self.inside.size } in
     let known = c.in-Ok.ensures in
-    let P : HearingValue → Type 0 = λ x. EndsNext i j x after c.in-Ok.end in
-    subst P c.self.view_is (found_so c.in-Ok.end
+    rw (← c.self.view_is) (found_so c.in-Ok.end
     (stays_whole known.comes (record { later = known.later; reads = known.reads }) refl refl)
     c.if-self-ge-MOST_LINES.false c.self.invariant known.line known.within known.none)
 
