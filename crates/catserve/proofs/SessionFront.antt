@@ -45,6 +45,29 @@ pub line_size : (y : HearingValue) {end : ℕ} → EndsLine y.input 0 end
     → length (concat (take end y.input.left ∷ [])) ≡ end
 line_size y {end} ends = ap length (append-nil (take end y.input.left)) ∙ length-take-le end y.input.left ends.within
 
+-- the front with one line more: what was taken, its lines, its bytes, and that it is UTF-8
+abbrev pub one_more : {i j k : InputSeen} {x y z : HearingValue} {front : List (List ℕ)} {end : ℕ}
+    → HasPassed i j x y front → Stays j k y z [] → EndsLine z.input 0 end → IsUtf8 (take end z.input.left)
+    → HasTaken i k x.input (behind_line z end).input (front ++ take end z.input.left ∷ [])
+    × (z.number + 1 ≡ x.number + length (front ++ take end z.input.left ∷ []))
+    × (z.size + end ≡ x.size + length (concat (front ++ take end z.input.left ∷ [])))
+    × IsUtf8 (concat (front ++ take end z.input.left ∷ []))
+one_more {z} {front} {end} passed stays ends utf8 =
+    let line = take end z.input.left in (
+      taken_then passed.taken (line_taken stays ends),
+      omega (arith, passed.number, stays.number, length-append front (line ∷ [])),
+      omega (
+        arith,
+        passed.size,
+        stays.size,
+        line_size z ends,
+        ap length (concat-append front (line ∷ [])),
+        length-append (concat front) (concat (line ∷ [])),
+      ),
+      rw (concat-append front (line ∷ [])) (IsUtf8-append (concat front) (concat (line ∷ [])) passed.utf8
+          (rw (append-nil line) utf8)),
+    )
+
 -- a line that says nothing
 abbrev pub passed_more : {i j k : InputSeen} {x y z : HearingValue} {front : List (List ℕ)} {end : ℕ}
     → HasPassed i j x y front → Stays j k y z [] → EndsLine z.input 0 end → IsUtf8 (take end z.input.left)
@@ -52,21 +75,14 @@ abbrev pub passed_more : {i j k : InputSeen} {x y z : HearingValue} {front : Lis
     → HasPassed i k x (behind_line z end) (front ++ take end z.input.left ∷ [])
 passed_more {x} {z} {front} {end} passed stays ends utf8 blank =
     let line = take end z.input.left in
+    let more = one_more passed stays ends utf8 in
     record {
-      taken = taken_then passed.taken (line_taken stays ends);
+      taken = more.0;
       passes = λ behind. ap (λ ls. script_from x.number ls) (append_assoc front (line ∷ []) behind)
           ∙ passed.passes (line ∷ behind) ∙ rw blank (ap (λ n. script_from (n + 1) behind) (sym stays.number));
-      number = omega (arith, passed.number, stays.number, length-append front (line ∷ []));
-      size = omega (
-        arith,
-        passed.size,
-        stays.size,
-        line_size z ends,
-        ap length (concat-append front (line ∷ [])),
-        length-append (concat front) (concat (line ∷ [])),
-      );
-      utf8 = rw (concat-append front (line ∷ [])) (IsUtf8-append (concat front) (concat (line ∷ [])) passed.utf8
-          (rw (append-nil line) utf8));
+      number = more.1;
+      size = more.2;
+      utf8 = more.3;
     }
 
 -- the line that gives the number of workers
@@ -77,24 +93,31 @@ abbrev pub begins_given : {i j k : InputSeen} {y z : HearingValue} {front : List
     → Begins None i k (behind_line z end) workers
 begins_given {z} {front} {end} {workers} passed stays ends utf8 other is =
     let line = take end z.input.left in
+    let more = one_more passed stays ends utf8 in
     record {
       front = front ++ line ∷ [];
-      taken = taken_then passed.taken (line_taken stays ends);
+      taken = more.0;
       going = λ behind follows. ap (λ ls. script_from 1 ls) (append_assoc front (line ∷ []) behind)
           ∙ passed.passes (line ∷ behind)
           ∙ rw (other, is) (ap (λ n. script_of workers (commands_from workers (n + 1) 0 behind)) (sym stays.number));
-      number = omega (arith, passed.number, stays.number, length-append front (line ∷ []));
-      size = omega (
-        arith,
-        passed.size,
-        stays.size,
-        line_size z ends,
-        ap length (concat-append front (line ∷ [])),
-        length-append (concat front) (concat (line ∷ [])),
-      );
-      utf8 = rw (concat-append front (line ∷ [])) (IsUtf8-append (concat front) (concat (line ∷ [])) passed.utf8
-          (rw (append-nil line) utf8));
+      number = omega (arith, more.1);
+      size = omega (arith, more.2);
+      utf8 = more.3;
     }
+
+-- the first command follows, or none does, so there are two workers
+abbrev begins_two : {i j k : InputSeen} {y z : HearingValue} {front : List (List ℕ)} → HasPassed i j unheard y front
+    → Stays j k y z [] → ((behind : List (List ℕ)) → Follows z.input behind
+    → script_from z.number behind ≡ script_of 2 (commands_from 2 z.number 0 behind)) → Begins None i k z 2
+begins_two {front} passed stays first = record {
+  front = front ++ [];
+  taken = taken_then passed.taken (stays_taken stays);
+  going = λ behind follows. ap (λ ls. script_from 1 (ls ++ behind)) (append-nil front) ∙ passed.passes behind
+      ∙ ap (λ n. script_from n behind) (sym stays.number) ∙ first behind follows;
+  number = omega (arith, passed.number, stays.number, ap length (append-nil front));
+  size = omega (arith, passed.size, stays.size, ap (λ ls. length (concat ls)) (append-nil front));
+  utf8 = rw (append-nil front) passed.utf8;
+}
 
 -- another line is the first command
 first_other : (number : ℕ) (line : List ℕ) (behind rest : List (List ℕ)) → is_blank (without_end line) ≡ false
@@ -120,17 +143,8 @@ abbrev pub begins_other : {i j k : InputSeen} {y z : HearingValue} {front : List
     → HasPassed i j unheard y front → Stays j k y z [] → EndsLine z.input 0 end
     → is_blank (without_end (take end z.input.left)) ≡ false
     → workers_line (fields (without_end (take end z.input.left))) ≡ None → Begins None i k z 2
-begins_other {z} {front} passed stays ends other none =
-    let all = taken_then passed.taken (stays_taken stays) in
-    record {
-      front = front ++ [];
-      taken = all;
-      going = λ behind follows. ap (λ ls. script_from 1 (ls ++ behind)) (append-nil front) ∙ passed.passes behind
-          ∙ ap (λ n. script_from n behind) (sym stays.number) ∙ begins_first z.number behind ends other none follows;
-      number = omega (arith, passed.number, stays.number, ap length (append-nil front));
-      size = omega (arith, passed.size, stays.size, ap (λ ls. length (concat ls)) (append-nil front));
-      utf8 = rw (append-nil front) passed.utf8;
-    }
+begins_other {z} passed stays ends other none = begins_two passed stays
+    (λ behind follows. begins_first z.number behind ends other none follows)
 
 -- the input has ended
 pub ended_first : (number : ℕ) (input : Incoming) (behind : List (List ℕ)) → input.left ≡ [] → input.ended ≡ true
@@ -147,17 +161,8 @@ ended_first number input behind none ended (inr (text, may, alike)) =
 
 abbrev pub begins_ended : {i j k : InputSeen} {y z : HearingValue} {front : List (List ℕ)}
     → HasPassed i j unheard y front → Stays j k y z [] → z.input.left ≡ [] → z.input.ended ≡ true → Begins None i k z 2
-begins_ended {z} {front} passed stays none ended =
-    let all = taken_then passed.taken (stays_taken stays) in
-    record {
-      front = front ++ [];
-      taken = all;
-      going = λ behind follows. ap (λ ls. script_from 1 (ls ++ behind)) (append-nil front) ∙ passed.passes behind
-          ∙ ap (λ n. script_from n behind) (sym stays.number) ∙ ended_first z.number z.input behind none ended follows;
-      number = omega (arith, passed.number, stays.number, ap length (append-nil front));
-      size = omega (arith, passed.size, stays.size, ap (λ ls. length (concat ls)) (append-nil front));
-      utf8 = rw (append-nil front) passed.utf8;
-    }
+begins_ended {z} passed stays none ended = begins_two passed stays
+    (λ behind follows. ended_first z.number z.input behind none ended follows)
 
 -- ---- why the front wasn't heard
 

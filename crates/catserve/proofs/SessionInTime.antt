@@ -1,7 +1,7 @@
 -- What a session has answered when it waits.
 use Rattle.std.proofs.Common.{◌≡◌, ◌∙◌, refl, sym, ap, subst, ℕ, ◌-◌, ◌<◌, true, List, [], ◌∷◌}
 use Rattle.std.proofs.Common.{◌++◌, length, take, drop}
-use Rattle.std.proofs.Common.{arith, inl, inr, append_assoc, Option, Some, None, Result, Ok, Err}
+use Rattle.std.proofs.Common.{arith, inl, inr, append_assoc, Option, Some, None, Result, Ok}
 use Rattle.std.specs.List.{concat}
 use Rattle.std.proofs.Math.Seq.{take-add}
 use Rattle.std.proofs.lemmas.List.{append-nil, nil_from_length, take-append-drop, take-append-le}
@@ -14,7 +14,7 @@ use Rattle.line_input.specs.Waiting.{ReadsWhile, StillCounts, StillWaits, Waits}
 use Rattle.line_input.proofs.Arriving.{both}
 use Rattle.script_text.specs.Commands.{Line, line_of}
 use Rattle.script_text.specs.CommandValues.{command_with, listed, text_lines}
-use Rattle.script_text.specs.Script.{Command, Load, Ask, Go}
+use Rattle.script_text.specs.Script.{Command, Go}
 use Rattle.catserve.specs.declared.hearing.Heard.{Heard}
 use Rattle.catserve.specs.declared.session_fault.SessionFault.{SessionFault}
 use Rattle.devices.specs.Devices.{InputSeen, OutputSeen}
@@ -81,12 +81,8 @@ in_time_then k c workers z (Ok (Some thing)) stays waits (h, reads) = (
   hears_then k workers z (Ok (Some thing)) stays h,
   open_more stays.got waits reads,
 )
-in_time_then k c workers z (Ok None) stays waits (h, reads) = (
-  hears_then k workers z (Ok None) stays h,
-  open_then stays.got.more stays.got.may waits reads,
-)
-in_time_then k c workers z (Err fault) stays waits (h, reads) = (
-  hears_then k workers z (Err fault) stays h,
+in_time_then k c workers z r stays waits (h, reads) = (
+  hears_then k workers z r stays h,
   open_then stays.got.more stays.got.may waits reads,
 )
 
@@ -297,25 +293,15 @@ talks_more {workers} {i} {j} {k} {o} {o'} {o''} {x} {y} {z} {start} {old} {new} 
     by_command : (command : Option Command)
         → (h : Hears j k workers y z (listed command)) × ReadsOpen b c workers y.input h.taken.more
         → RespondsInTime command old new o' o'' c d → TalksInTime workers i k o o'' x z start new a d
-    by_command None (h, reads) (done, same) = (
-      converses_more None talks.0 h done,
-      λ given first begun before timely. moved begun.taken.more talks.0.taken.more h.taken.more
-          (read h.taken.more reads given first begun before timely) same,
-    )
-    by_command (Some (Load load)) (h, reads) (done, same) = (
-      converses_more (Some (Load load)) talks.0 h done,
-      λ given first begun before timely. moved begun.taken.more talks.0.taken.more h.taken.more
-          (read h.taken.more reads given first begun before timely) same,
-    )
-    by_command (Some (Ask worker query)) (h, reads) (done, same) = (
-      converses_more (Some (Ask worker query)) talks.0 h done,
-      λ given first begun before timely. moved begun.taken.more talks.0.taken.more h.taken.more
-          (read h.taken.more reads given first begun before timely) same,
-    )
     by_command (Some Go) (h, reads) (answers, logged) = (
       converses_more (Some Go) talks.0 h answers,
       λ given first begun before timely. gives_timely answers.lines (moved begun.taken.more talks.0.taken.more
           h.taken.more (read h.taken.more reads given first begun before timely) refl) logged,
+    )
+    by_command command (h, reads) (done, same) = (
+      converses_more command talks.0 h done,
+      λ given first begun before timely. moved begun.taken.more talks.0.taken.more h.taken.more
+          (read h.taken.more reads given first begun before timely) same,
     )
 
 -- nothing more is heard, or what was heard isn't answered

@@ -5,7 +5,7 @@ use Rattle.line_input.specs.Incoming.{Incoming}
 use Rattle.line_input.specs.Waiting.{ReadsWhile, StillCounts}
 use Rattle.catserve.specs.declared.hearing.Heard.{Heard}
 use Rattle.catserve.specs.declared.session_fault.SessionFault.{SessionFault}
-use Rattle.script_text.specs.Script.{Command, Load, Ask, Go}
+use Rattle.script_text.specs.Script.{Command, Go}
 use Rattle.devices.specs.Devices.{InputSeen, OutputSeen}
 use Rattle.catserve.specs.Session.{AnswersInTime, IsAnswered, IsOpen}
 use Rattle.catserve.specs.Hearing.{Begins, Hears, HearsEnd, HearsNone, HearingValue, commands_of}
@@ -53,11 +53,8 @@ GivesRound old new o o' log log' = (a : AnswersRound old new o o') × Grows log 
 
 -- what a line says was done, and only the end of a round gives something
 abbrev pub RespondsInTime : Option Command → PlayerValue → PlayerValue → OutputSeen → OutputSeen → Log → Log → Type 0
-RespondsInTime None old new o o' log log' = Responds None old new o o' × (log' ≡ log)
-RespondsInTime (Some (Load load)) old new o o' log log' = Responds (Some (Load load)) old new o o' × (log' ≡ log)
-RespondsInTime (Some (Ask worker query)) old new o o' log log' = Responds (Some (Ask worker query)) old new o o'
-    × (log' ≡ log)
 RespondsInTime (Some Go) old new o o' log log' = GivesRound old new o o' log log'
+RespondsInTime command old new o o' log log' = Responds command old new o o' × (log' ≡ log)
 
 -- this text came and this output was given; before each read all rounds that had ended were answered
 pub record InTime (given : Option ℕ) (log log' : Log) (text output : List ℕ) : Type 0 where

@@ -1,11 +1,8 @@
-use Rattle.std.proofs.Common.{◌≡◌, ◌∙◌, ◌++◌, List, refl, sym, ap, subst, arith}
-use Rattle.std.specs.List.{AllZip}
+use Rattle.std.proofs.Common.{◌≡◌, ◌∙◌, ◌++◌, refl, sym, ap, arith}
 use Rattle.live_versions.specs.Batches.{version_of}
 use Rattle.live_versions.specs.Store.{StoreValue}
 use Rattle.live_versions.specs.Seen.{SeenValue}
-use Rattle.desks.specs.declared.desk.Desk.{Desk}
-use Rattle.catserve.specs.Asking.{desk_lines, IsFreed}
-use Rattle.catserve.specs.Running.{AreReady}
+use Rattle.catserve.specs.Asking.{desk_lines}
 use Rattle.catserve.proofs.Asked.{answers_in_turn, ready_again, books_given, whole_of, done_none}
 use Rattle.catserve.proofs.Playing.{plays_one}
 use Rattle.catserve.proofs.round.finish.Goals as goal

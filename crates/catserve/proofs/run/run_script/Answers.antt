@@ -1,11 +1,7 @@
-use Rattle.std.proofs.Common.{◌≡◌, subst, sym, refl, rules, ℕ, List, Result, Err}
-use Rattle.std.specs.Io.KnownBytes.{Appends}
-use Rattle.catserve.specs.Rounds.{HasOutput}
-use Rattle.devices.specs.Devices.{InputSeen, OutputSeen}
-use Rattle.catserve.specs.Run.{Runs, input_seen, output_seen}
-use Rattle.catserve.specs.Running.{EndsPlaying}
+use Rattle.std.proofs.Common.{◌≡◌, refl, rules, Err}
+use Rattle.devices.specs.Devices.{OutputSeen}
+use Rattle.catserve.specs.Run.{output_seen}
 use Rattle.catserve.proofs.Stopping.{run_fails}
-use Rattle.script_text.specs.declared.fault.ScriptFault.{ScriptFault}
 use Rattle.catserve.proofs.run.run_script.Goals as goal
 
 pub returns-in-Ok : goal.returns-in-Ok

@@ -3,7 +3,6 @@ use Rattle.std.proofs.lemmas.Result.{err_from_is_err_and}
 use Rattle.devices.specs.Logs.{Log}
 use Rattle.devices.specs.Devices.{InputSeen, OutputSeen}
 use Rattle.catserve.specs.Run.{input_seen, output_seen}
-use Rattle.catserve.specs.Session.{AnswersInTime, Converses}
 use Rattle.catserve.specs.Timing.{BeginsInTime}
 use Rattle.catserve.specs.Hearing.{HearingValue, Begins}
 use Rattle.catserve.proofs.SessionEnds.{begins_so, ends_at_once, front_ends}

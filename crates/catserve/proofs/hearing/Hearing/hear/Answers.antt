@@ -1,11 +1,7 @@
-use Rattle.std.proofs.Common.{◌≡◌, ◌∙◌, ℕ, List, Some, sym, ap, subst, take}
-use Rattle.line_input.specs.Lines.{without_end}
+use Rattle.std.proofs.Common.{◌∙◌, ap}
 use Rattle.devices.specs.Devices.{InputSeen}
 use Rattle.catserve.specs.Run.{input_seen}
-use Rattle.script_text.specs.Commands.{line_of}
-use Rattle.script_text.specs.LineValues.{line_value}
-use Rattle.catserve.specs.declared.session_fault.SessionFault.{SessionFault}
-use Rattle.catserve.specs.Hearing.{HearingValue, HearsNone, IsUnsaid, line_of_kind}
+use Rattle.catserve.specs.Hearing.{HearingValue, line_of_kind}
 use Rattle.catserve.proofs.LinesTaken.{no_line}
 use Rattle.catserve.proofs.SessionHears.{hears_none, none_then}
 use Rattle.catserve.proofs.SessionInTime.{end_heard, in_time_then}

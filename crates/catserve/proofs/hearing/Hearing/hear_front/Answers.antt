@@ -1,12 +1,10 @@
-use Rattle.std.proofs.Common.{◌∙◌, ◌++◌, ◌∷◌, [], ℕ, List, None, refl, sym, ap, subst, take}
+use Rattle.std.proofs.Common.{◌∙◌, ◌++◌, ◌∷◌, [], refl, sym, ap, subst, take}
 use Rattle.std.proofs.lemmas.List.{nil_from_length}
 use Rattle.std.proofs.lemmas.Result.{err_from_is_err_and}
 use Rattle.devices.specs.Logs.{Log}
 use Rattle.devices.specs.Devices.{InputSeen}
 use Rattle.catserve.specs.Run.{input_seen}
-use Rattle.catserve.specs.declared.session_fault.SessionFault.{SessionFault}
-use Rattle.catserve.specs.Hearing.{HearingValue, FailsInFront, IsFrontLine}
-use Rattle.catserve.specs.Timing.{BeginsInTime}
+use Rattle.catserve.specs.Hearing.{HearingValue}
 use Rattle.catserve.proofs.SessionInTime.{PassesInTime, ends_at, passed_last, passed_timely, passes_none}
 use Rattle.catserve.proofs.SessionFront.{begins_ended, begins_given, begins_other, front_fails, front_undecodable}
 use Rattle.catserve.proofs.SessionFront.{passed_more}

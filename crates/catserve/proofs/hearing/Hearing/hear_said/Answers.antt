@@ -1,14 +1,8 @@
-use Rattle.std.proofs.Common.{ℕ, sym, subst}
-use Rattle.devices.specs.Logs.{Log}
-use Rattle.line_input.specs.Waiting.{ReadsWhile, StillCounts}
 use Rattle.script_text.specs.LineValues.{line_value}
 use Rattle.devices.specs.Devices.{InputSeen}
 use Rattle.catserve.specs.Run.{input_seen}
-use Rattle.catserve.specs.declared.hearing.Heard.{Heard}
-use Rattle.catserve.specs.Hearing.{HearingValue, HearsNoText, HearsText, commands_of}
-use Rattle.catserve.specs.Timing.{ReadsText}
 use Rattle.catserve.proofs.SessionWaits.{open_text}
-use Rattle.catserve.proofs.SessionInTime.{HearsSo, said_heard}
+use Rattle.catserve.proofs.SessionInTime.{said_heard}
 use Rattle.catserve.proofs.SessionHears.{none_text}
 use Rattle.catserve.proofs.hearing.Hearing.hear_said.Goals as goal
 

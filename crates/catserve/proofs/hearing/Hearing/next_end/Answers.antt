@@ -1,9 +1,7 @@
-use Rattle.std.proofs.Common.{[], refl, subst, arith}
+use Rattle.std.proofs.Common.{[], refl, arith}
 use Rattle.line_input.specs.Waiting.{StillWaits}
 use Rattle.line_input.proofs.Waitings.{waits_none}
-use Rattle.devices.specs.Devices.{InputSeen}
-use Rattle.catserve.specs.Run.{input_seen}
-use Rattle.catserve.specs.Hearing.{EndsNext, HearingValue, HearsNothing}
+use Rattle.catserve.specs.Hearing.{HearingValue}
 use Rattle.catserve.proofs.LinesTaken.{found_so, nothing_heard, stays_whole}
 use Rattle.catserve.proofs.hearing.Hearing.next_end.Goals as goal
 

@@ -1,10 +1,4 @@
-use Rattle.std.proofs.Common.{◌∷◌, [], List, ℕ, arith, false, refl, rules, subst}
-use Rattle.std.specs.Io.KnownBytes.{Appends}
-use Rattle.devices.specs.Devices.{AppendsFront, OutputSeen}
-use Rattle.devices.specs.Logs.{Gave, Grows, Log}
-use Rattle.catserve.specs.Run.{output_seen}
-use Rattle.catserve.specs.Talking.{BreaksRound, PlayerValue}
-use Rattle.catserve.specs.Timing.{GivesRound}
+use Rattle.std.proofs.Common.{arith, refl, rules}
 use Rattle.catserve.proofs.player.Player.answer.Goals as goal
 
 pub returns-in-Err-clause-fault : goal.returns-in-Err-clause-fault
