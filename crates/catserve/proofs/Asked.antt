@@ -1,5 +1,5 @@
 -- What desks are asked, and what they have answered.
-use Rattle.std.proofs.Common.{◌≡◌, ◌≢◌, ◌∙◌, refl, sym, ap, subst, ℕ, zero, suc, ◌+◌, ◌<◌, ◌≤◌, max, List, [], ◌∷◌}
+use Rattle.std.proofs.Common.{◌≡◌, ◌≢◌, ◌∙◌, refl, sym, ap, ℕ, zero, suc, ◌+◌, ◌<◌, ◌≤◌, max, List, [], ◌∷◌}
 use Rattle.std.proofs.Common.{drop}
 use Rattle.std.proofs.Common.{◌++◌, length, take, set, All, Some, None, arith, length-append, get_or}
 use Rattle.std.proofs.Math.Seq.{take-append_seam}
@@ -139,9 +139,8 @@ answered_all batches least (query ∷ queries) (answer ∷ answers) last (from, 
       is.version_is,
       ap length whole,
       length-append (joined is.front) (joined rest),
-    ) in
-    let P : List LoadValue → Type 0 = λ loads. IsAnswer loads query (string_bytes answer.text) in (
-      (all, subst P (take-all answer.version (joined batches) all) is.text_is),
+    ) in (
+      (all, rw (take-all answer.version (joined batches) all) at is.text_is),
       answered_all batches answer.version queries answers (omega arith) more,
     )
 
@@ -167,17 +166,15 @@ pub answers_in_turn : (start end : SeenValue) (questions : List QuestionValue) (
 answers_in_turn start end questions worker [] [] same given all = refl
 answers_in_turn start end questions worker [] (s ∷ served) same given all = absurd all
 answers_in_turn start end questions worker (desk ∷ asked) [] same given all = absurd all
-answers_in_turn start end questions worker (desk ∷ asked) (s ∷ served) same given all =
-    let P : List QueryValue → Type 0 = λ qs. Answers (joined end.batches) worker qs
-    (answer_lines worker s.answers.items) in (
-      answer_lines worker s.answers.items,
-      desk_lines (worker + 1) served,
-      subst P given.0 (lines_of (joined end.batches) worker desk.queries.items s.answers.items
-          (answered_all end.batches (max (version_of desk.reader.batches) (version_of start.batches)) desk.queries.items
-          s.answers.items (omega (arith, ap version_of same)) all.0.answered)),
-      answers_in_turn start end questions (worker + 1) asked served same given.1 all.1,
-      refl,
-    )
+answers_in_turn start end questions worker (desk ∷ asked) (s ∷ served) same given all = (
+  answer_lines worker s.answers.items,
+  desk_lines (worker + 1) served,
+  rw given.0 at (lines_of (joined end.batches) worker desk.queries.items s.answers.items
+      (answered_all end.batches (max (version_of desk.reader.batches) (version_of start.batches)) desk.queries.items
+      s.answers.items (omega (arith, ap version_of same)) all.0.answered)),
+  answers_in_turn start end questions (worker + 1) asked served same given.1 all.1,
+  refl,
+)
 
 -- ---- from round to round
 
@@ -214,9 +211,8 @@ books_of of (desk ∷ desks) all = All-cons (λ (desk : Desk). desk.reader.book 
 -- the desks of new readers
 pub ready_first : {seen : SeenValue} (readers : List SeenValue) {desks : List Desk} → readers_of desks ≡ readers
     → AreAsked 0 [] desks → All (λ (reader : SeenValue). reader ≡ seen) readers → AreReady seen desks
-ready_first {seen} readers e free all =
-    let P : List SeenValue → Type 0 = λ rs. All (λ (reader : SeenValue). reader ≡ seen) rs in
-    let each = subst P (sym e) all in
+ready_first readers e free all =
+    let each = rw (← e) at all in
     record { book = λ k d below. ap (λ (reader : SeenValue). reader.book) (each k d below); free = free }
 
 -- as many desks as readers
@@ -237,8 +233,7 @@ pub books_given : (was now : SeenValue) (old given : List Desk) → readers_of g
     → now.book ≡ was.book → All (λ (seen : SeenValue). seen.book ≡ was.book) (readers_of old)
     → All (λ (desk : Desk). desk.reader.book ≡ now.book) given
 books_given was now old given e same all =
-    let P : List SeenValue → Type 0 = λ rs. All (λ (seen : SeenValue). seen.book ≡ was.book) rs in
-    let each = books_of was given (subst P (sym e) all) in
+    let each = books_of was given (rw (← e) at all) in
     λ k d below. each k d below ∙ sym same
 
 -- a list that was written back whole
@@ -249,8 +244,7 @@ whole_of new old count e = rw e (take-append_seam new (drop (length new) old))
 pub done_none : (s after : StoreValue) (jobs : List JobValue) (outcomes : List Outcome) → jobs ≡ [] → s.pending ≡ []
     → HasDone s jobs outcomes after → after ≡ s
 done_none s after jobs outcomes none empty done =
-    let P : List JobValue → Type 0 = λ js. HasDone s js outcomes after in
-    by_outcomes outcomes (subst P none done) ∙ ap (λ (p : List LoadValue). record s
+    by_outcomes outcomes (rw none at done) ∙ ap (λ (p : List LoadValue). record s
     { seen = record s.seen { batches = published s.seen.batches p }; pending = [] }) empty
     ∙ ap (λ (p : List LoadValue). record s { pending = p }) (sym empty)
   where

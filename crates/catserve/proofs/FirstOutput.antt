@@ -1,9 +1,9 @@
 -- The output of a text's first rounds is a front of the output of the text.
-use Rattle.std.proofs.Common.{◌≡◌, ◌∙◌, refl, sym, ap, subst, ℕ, List, [], ◌∷◌, ◌++◌, append_assoc}
+use Rattle.std.proofs.Common.{◌≡◌, ◌∙◌, refl, sym, ap, ℕ, List, [], ◌∷◌, ◌++◌, append_assoc}
 use Rattle.live_set.specs.Loads.{LoadValue}
 use Rattle.script_text.specs.Script.{RoundValue, ScriptValue}
 use Rattle.script_text.specs.Texts.{IsScript}
-use Rattle.catserve.specs.Rounds.{HasOutput, Plays, PlaysAll}
+use Rattle.catserve.specs.Rounds.{HasOutput, PlaysAll}
 use Rattle.catserve.specs.Laws.{HaveFirstOutput, IsInFront}
 use Rattle.catserve.proofs.OneOutput.{after_one, round_one, ok_or}
 
@@ -23,10 +23,8 @@ in_front workers before [] more output first all none = (output, sym (ap (λ xs.
 in_front workers before (round ∷ rounds) more output first (after, front, back, p, all, is)
     (after', front', back', q, all', is') =
     let same : after ≡ after' = after_one p q in
-    let P : List LoadValue → Type 0 = λ ls. Plays workers before round ls front' in
-    let Q : List LoadValue → Type 0 = λ ls. PlaysAll workers ls rounds back' in
-    let fronts : front ≡ front' = round_one p (subst P (sym same) q) in
-    let found = in_front workers after rounds more back back' all (subst Q (sym same) all') in (
+    let fronts : front ≡ front' = round_one p (rw (← same) at q) in
+    let found = in_front workers after rounds more back back' all (rw (← same) at all') in (
       found.0,
       is ∙ ap (λ xs. xs ++ back) fronts ∙ ap (λ xs. front' ++ xs) found.1
           ∙ sym (append_assoc front' back' found.0) ∙ ap (λ xs. xs ++ found.0) (sym is'),
@@ -38,9 +36,7 @@ plays_both : {text : List ℕ} (output : List ℕ) {value : ScriptValue} (rounds
     → IsScript text value → value.rounds ≡ rounds ++ more → PlaysAll value.workers [] (rounds ++ more) output
 plays_both output {value} rounds more (value', script', all) script cut =
     let same : value' ≡ value = ap (ok_or value') (sym script'.says ∙ script.says) in
-    let P : ScriptValue → Type 0 = λ v. PlaysAll v.workers [] v.rounds output in
-    let R : List RoundValue → Type 0 = λ rs. PlaysAll value.workers [] rs output in
-    subst R cut (subst P same all)
+    rw cut at (rw same at all)
 
 pub first_some : HaveFirstOutput
 first_some text output value rounds more has script cut =

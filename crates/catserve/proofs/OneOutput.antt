@@ -1,5 +1,5 @@
 -- A text has one output.
-use Rattle.std.proofs.Common.{◌≡◌, ◌∙◌, refl, sym, ap, subst, ℕ, zero, suc, ◌+◌, List, [], ◌∷◌, ◌++◌, length, Option}
+use Rattle.std.proofs.Common.{◌≡◌, ◌∙◌, refl, sym, ap, ℕ, zero, suc, ◌+◌, List, [], ◌∷◌, ◌++◌, length, Option}
 use Rattle.std.proofs.Common.{Some, None, Result, Ok, Err}
 use Rattle.std.specs.List.{AllZip, filter_map, flat_map}
 use Rattle.po_header.specs.Rule.{Rule, place}
@@ -135,10 +135,8 @@ rounds_one workers before [] output other h k = h ∙ sym k
 rounds_one workers before (round ∷ rounds) output other (after, front, back, p, all, is)
     (after', front', back', q, all', is') =
     let same : after ≡ after' = after_one p q in
-    let P : List LoadValue → Type 0 = λ ls. Plays workers before round ls front' in
-    let Q : List LoadValue → Type 0 = λ ls. PlaysAll workers ls rounds back' in
-    is ∙ ap (λ xs. xs ++ back) (round_one p (subst P (sym same) q))
-    ∙ ap (λ xs. front' ++ xs) (rounds_one workers after rounds back back' all (subst Q (sym same) all')) ∙ sym is'
+    is ∙ ap (λ xs. xs ++ back) (round_one p (rw (← same) at q))
+    ∙ ap (λ xs. front' ++ xs) (rounds_one workers after rounds back back' all (rw (← same) at all')) ∙ sym is'
 
 -- ---- scripts
 
@@ -149,5 +147,4 @@ ok_or d (Err bad) = d
 pub output_one : HasOneOutput
 output_one text output other (value, script, all) (value', script', all') =
     let same : value ≡ value' = ap (ok_or value) (sym script.says ∙ script'.says) in
-    let P : ScriptValue → Type 0 = λ v. PlaysAll v.workers [] v.rounds other in
-    rounds_one value.workers [] value.rounds output other all (subst P (sym same) all')
+    rounds_one value.workers [] value.rounds output other all (rw (← same) at all')

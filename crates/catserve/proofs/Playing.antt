@@ -1,5 +1,5 @@
 -- A round, step by step.
-use Rattle.std.proofs.Common.{◌≡◌, ◌∙◌, refl, sym, ap, subst, ℕ, ◌+◌, ◌<◌, ◌≤◌, List, [], ◌∷◌, ◌++◌, append_assoc}
+use Rattle.std.proofs.Common.{◌≡◌, ◌∙◌, refl, sym, ap, ℕ, ◌+◌, ◌<◌, ◌≤◌, List, [], ◌∷◌, ◌++◌, append_assoc}
 use Rattle.std.proofs.Common.{arith}
 use Rattle.std.proofs.Common.{length, length-append, None, Result, Ok, Err, OnOk, IfOk}
 use Rattle.std.proofs.lemmas.List.{append-nil}
@@ -127,12 +127,10 @@ plays_one loaded {now} version {a} {b} c answers none all front shown empty most
 pub plays_more : {workers : ℕ} {rounds : List RoundValue} {round : RoundValue} {was now after : StoreValue}
     {output written : List ℕ} → HasPlayed workers rounds was now output
     → PlaysOne workers round now after output written → HasPlayed workers (rounds ++ round ∷ []) was after written
-plays_more {workers} {rounds} {round} {was} {now} {after} {output} {written} played one = record {
+plays_more {rounds} {round} {now} {after} {output} played one = record {
   going = λ rest tail all.
-      let P : List RoundValue → Type 0 = λ rs. PlaysAll workers (joined was.seen.batches) rs (written ++ tail) in
-      let Q : List ℕ → Type 0 = λ out. PlaysAll workers (joined was.seen.batches) (rounds ++ round ∷ rest) out in
-      subst P (sym (append_assoc rounds (round ∷ []) rest))
-      (subst Q (sym (ap (λ xs. xs ++ tail) one.written ∙ append_assoc output one.output tail))
+      rw (append_assoc rounds (round ∷ []) rest)
+      (rw (← (ap (λ xs. xs ++ tail) one.written ∙ append_assoc output one.output tail)) at
       (played.going (round ∷ rest) (one.output ++ tail) (
         joined after.seen.batches,
         one.output,
@@ -156,10 +154,7 @@ plays_more {workers} {rounds} {round} {was} {now} {after} {output} {written} pla
 -- all rounds
 pub plays_all : {workers : ℕ} {rounds : List RoundValue} {was now : StoreValue} {output : List ℕ}
     → HasPlayed workers rounds was now output → PlaysAll workers (joined was.seen.batches) rounds output
-plays_all {workers} {rounds} {was} {output} played =
-    let P : List RoundValue → Type 0 = λ rs. PlaysAll workers (joined was.seen.batches) rs (output ++ []) in
-    let Q : List ℕ → Type 0 = λ out. PlaysAll workers (joined was.seen.batches) rounds out in
-    subst Q (append-nil output) (subst P (append-nil rounds) (played.going [] [] refl))
+plays_all {rounds} {output} played = rw (append-nil output) at (rw (append-nil rounds) at (played.going [] [] refl))
 
 pub plays_none : {workers : ℕ} {was : StoreValue} → was.pending ≡ [] → HasPlayed workers [] was was []
 plays_none none = record { going = λ rest tail all. all; none_pending = none; few = omega arith; most = refl }

@@ -8,12 +8,10 @@ use Rattle.std.proofs.KnownBytes.{Appends-nil, Appends-trans}
 use Rattle.std.proofs.lemmas.List.{append-nil}
 use Rattle.std.proofs.lemmas.List.Folds.{concat-append}
 use Rattle.std.proofs.lemmas.Str.{IsUtf8-append, IsUtf8-nil}
-use Rattle.devices.specs.Devices.{InputSeen, OutputSeen, RisesBy}
+use Rattle.devices.specs.Devices.{InputSeen, OutputSeen}
 use Rattle.line_input.specs.Lines.{lines}
 use Rattle.line_input.specs.Incoming.{MayCome}
 use Rattle.line_input.proofs.Arriving.{both, consumes_both, consumes_none}
-use Rattle.live_set.specs.Loads.{LoadValue}
-use Rattle.live_versions.specs.Batches.{joined}
 use Rattle.script_text.specs.ScriptLoads.{JobValue}
 use Rattle.script_text.specs.Script.{QuestionValue, RoundValue, commands_from, script_of}
 use Rattle.script_text.specs.Texts.{most_script}
@@ -208,7 +206,6 @@ abbrev pub answered : {given : Option ℕ} {first i j : InputSeen} {o o' : Outpu
     → IsFresh workers start → Answered given first j o o' y (b.front ++ c.lines)
 answered {given} {first} {y} {workers} b c fresh =
     let open_round = c.is_open given first b in
-    let Plays : List (List LoadValue) → Type 0 = λ batches. PlaysAll workers (joined batches) c.g.ended c.written in
     record {
       taken = taken_then b.taken c.taken;
       number = omega (arith, b.number, c.heard.number_is, length-append b.front c.lines);
@@ -216,7 +213,7 @@ answered {given} {first} {y} {workers} b c fresh =
       rounds = c.g.ended;
       ended = ended_so y b c.taken c.heard;
       output = c.written;
-      plays = subst Plays fresh.none_published (plays_all c.talked.played);
+      plays = rw fresh.none_published at (plays_all c.talked.played);
       written = c.output;
       before = open_round.before;
       round = open_round.round;
@@ -309,12 +306,9 @@ open_last round =
 breaks_off : {given : Option ℕ} {first i j k : InputSeen} {o o' o'' : OutputSeen} {x y z : HearingValue} {workers : ℕ}
     {start talk : PlayerValue} → IsFresh workers start → (c : Conversing workers i j o o' x y start talk)
     → Stays j k y z [] → BreaksRound talk o' o'' → Begins given first i x workers → BreaksOff given first k o o''
-breaks_off {o'} {z} {workers} fresh c s h b =
+breaks_off {o'} {z} fresh c s h b =
     let a = answered b c fresh in
     let played = plays_open h.lines c.talked h.finishes in
-    let Batches : List (List LoadValue) → Type 0 = λ batches.
-    PlaysAll workers (joined batches) (c.g.ended ++ c.g.current ∷ []) (c.written ++ h.lines) in
-    let Last : RoundValue → Type 0 = λ last. PlaysAll workers [] (c.g.ended ++ last ∷ []) (c.written ++ h.lines) in
     record {
       front = b.front ++ c.lines;
       text = a.taken.more ++ s.got.more;
@@ -323,7 +317,7 @@ breaks_off {o'} {z} {workers} fresh c s h b =
       mid = o';
       stops = stops_so a s;
       lines = h.lines;
-      plays = subst Last (sym (open_last c.g.current)) (subst Batches fresh.none_published (plays_all played));
+      plays = rw (open_last c.g.current) (rw fresh.none_published at (plays_all played));
       written = h.front;
     }
 
@@ -338,12 +332,11 @@ fails_so {given} {first} {k} {o} {o'} o'' {talk} why fresh c s h b =
   where
     by_kind : (why : ScriptKind) → FailsToAnswer talk o' o'' why → (o'' ≡ o' → StopsEarly given first k o o'')
         → EndsFor given first k o o'' why 0
-    by_kind kind.WriteFault h early =
-        let P : ℕ → Type 0 = λ n. RisesBy 1 n o''.failures in (
-          breaks_off fresh c s h b,
-          subst P c.steady h.failed,
-          refl,
-        )
+    by_kind kind.WriteFault h early = (
+      breaks_off fresh c s h b,
+      rw c.steady at h.failed,
+      refl,
+    )
     by_kind kind.NoPlace h early = (early h, refl)
     by_kind kind.Closed h early = (early h, refl)
     by_kind kind.Join h early = (early h, refl)
@@ -390,49 +383,42 @@ one_open g begun same busy = rw (sym same ∙ busy) refl
 pub all_answered : {given : Option ℕ} {first i j k : InputSeen} {o o' : OutputSeen} {x y z : HearingValue}
     {workers : ℕ} {start talk : PlayerValue} → IsFresh workers start → Conversing workers i j o o' x y start talk
     → HearsEnd j k y z → talk.begun ≡ false → Begins given first i x workers → AnswersAll given first k o o'
-all_answered {workers} {talk} fresh c h idle b =
+all_answered {talk} fresh c h idle b =
     let a = answered b c fresh in
-    let Plays : List RoundValue → Type 0 = λ rs. PlaysAll workers [] rs c.written in
-    all_said c.written fresh c h b (subst Plays (sym (nothing_open c.g talk.begun c.talked.begun idle)) a.plays)
-    c.output
+    all_said c.written fresh c h b (rw (← nothing_open c.g talk.begun c.talked.begun idle) at a.plays) c.output
 
 -- the open round was answered last
 pub last_answered : {given : Option ℕ} {first i j k : InputSeen} {o o' o'' : OutputSeen} {x y z : HearingValue}
     {workers : ℕ} {start talk after : PlayerValue} → IsFresh workers start
     → Conversing workers i j o o' x y start talk → HearsEnd j k y z → talk.begun ≡ true
     → AnswersRound talk after o' o'' → Begins given first i x workers → AnswersAll given first k o o''
-last_answered {o} {o'} {o''} {workers} {talk} fresh c h busy answers b =
+last_answered {o} {o'} {o''} {talk} fresh c h busy answers b =
     let written : List ℕ = c.written ++ answers.lines in
     let played = answers_one c.talked answers in
-    let Batches : List (List LoadValue) → Type 0 = λ batches.
-    PlaysAll workers (joined batches) (c.g.ended ++ c.g.current ∷ []) written in
-    let Plays : List RoundValue → Type 0 = λ rs. PlaysAll workers [] rs written in
     all_said written fresh c h b
-    (subst Plays (sym (one_open c.g talk.begun c.talked.begun busy)) (subst Batches fresh.none_published
-    (plays_all played))) (Appends-trans o.bytes o'.bytes o''.bytes c.written answers.lines c.output answers.written)
+    (rw (← one_open c.g talk.begun c.talked.begun busy) at (rw fresh.none_published at (plays_all played)))
+    (Appends-trans o.bytes o'.bytes o''.bytes c.written answers.lines c.output answers.written)
 
 -- ---- before anything was heard after the front
 
 begun : (given : Option ℕ) (first i : InputSeen) (o : OutputSeen) (x : HearingValue) (workers : ℕ)
     (b : Begins given first i x workers) → Answered given first i o o x b.front
-begun given first i o x workers b =
-    let Ended : List (List ℕ) → Type 0 = λ ls. HaveEnded given ls workers [] in
-    record {
-      taken = b.taken;
-      number = b.number;
-      workers = workers;
-      rounds = [];
-      ended = subst Ended (append-nil b.front) (ended_so x b taken_none (heard_none (omega (arith, b.number))));
-      output = [];
-      plays = refl;
-      written = Appends-nil o.bytes;
-      before = [];
-      round = b.front;
-      cut = refl;
-      size = b.size;
-      first = (ended_first given).0;
-      ended_before = (ended_first given).1;
-    }
+begun given first i o x workers b = record {
+  taken = b.taken;
+  number = b.number;
+  workers = workers;
+  rounds = [];
+  ended = rw (append-nil b.front) at (ended_so x b taken_none (heard_none (omega (arith, b.number))));
+  output = [];
+  plays = refl;
+  written = Appends-nil o.bytes;
+  before = [];
+  round = b.front;
+  cut = refl;
+  size = b.size;
+  first = (ended_first given).0;
+  ended_before = (ended_first given).1;
+}
 
 -- no store was opened
 pub stops_begun : {given : Option ℕ} {first i : InputSeen} {o : OutputSeen} {x : HearingValue} {workers : ℕ}

@@ -17,7 +17,7 @@ use Rattle.catserve.specs.declared.hearing.Heard.{Heard}
 use Rattle.catserve.specs.declared.session_fault.SessionFault.{SessionFault}
 use Rattle.catserve.specs.Run.{FailsToRead}
 use Rattle.catserve.specs.Session.{most_lines}
-use Rattle.catserve.specs.Hearing.{HearingValue, CountsOn, HasTaken, HasSaid, Hears, Stays}
+use Rattle.catserve.specs.Hearing.{HearingValue, CountsOn, HasTaken, Hears, Stays}
 use Rattle.catserve.specs.Hearing.{HearsNone, HearsNoText}
 use Rattle.catserve.specs.Hearing.{HearsText, HearsOne, IsUnsaid, line_of_kind, size_behind, commands_of}
 use Rattle.catserve.proofs.LinesTaken.{counts_both, taken_then, got_taken, first_same, line_cut, line_later, line_whole}
@@ -68,14 +68,11 @@ none_then k workers z kind.NotUtf8 line a h = record {
   cut = h.cut;
   undecodable = h.undecodable;
 }
-none_then k workers z kind.BadLine line a h =
-    let P : ℕ → Type 0 = λ n. (text : List ℕ) → MayCome z.input text
-    → commands_from workers n 0 (lines (z.input.left ++ text)) ≡ Err n in
-    record {
-      stays = stays_then a h.stays;
-      line_is = h.line_is ∙ a.number;
-      bad = subst P a.number h.bad;
-    }
+none_then k workers z kind.BadLine line a h = record {
+  stays = stays_then a h.stays;
+  line_is = h.line_is ∙ a.number;
+  bad = rw a.number at h.bad;
+}
 none_then k workers z kind.ReadFault line a ((lost, h), failed, is) = (
   (lost, stays_then a h),
   fails_later k a.got.counts failed,
@@ -87,16 +84,14 @@ none_then k workers z _ line a h = absurd h
 abbrev pub hears_then : {i j : InputSeen} (k : InputSeen) (workers : ℕ) {x y : HearingValue} (z : HearingValue)
     (r : Result (Option Heard) SessionFault)
     → Stays i j x y [] → HearsOne j k workers y z r → HearsOne i k workers x z r
-hears_then k workers z (Ok (Some thing)) a h =
-    let Said : ℕ → Type 0 = λ n. HasSaid workers n h.raw (commands_of thing) in
-    record {
-      raw = h.raw;
-      taken = taken_then (stays_taken a) h.taken;
-      said = subst Said a.number h.said;
-      few = omega (arith, h.few, a.number);
-      number = h.number ∙ ap (λ n. n + length h.raw) a.number;
-      size = h.size ∙ ap (λ n. size_behind (commands_of thing) (n + length (concat h.raw))) a.size;
-    }
+hears_then k workers z (Ok (Some thing)) a h = record {
+  raw = h.raw;
+  taken = taken_then (stays_taken a) h.taken;
+  said = rw a.number at h.said;
+  few = omega (arith, h.few, a.number);
+  number = h.number ∙ ap (λ n. n + length h.raw) a.number;
+  size = h.size ∙ ap (λ n. size_behind (commands_of thing) (n + length (concat h.raw))) a.size;
+}
 hears_then k workers z (Ok None) a h =
     let both = stays_then a (record { got = h.got; number = h.number; size = h.size }) in
     record { got = both.got; left = h.left; ended = h.ended; number = both.number; size = both.size }
@@ -132,13 +127,12 @@ abbrev pub hears_said : {i j : InputSeen} {workers : ℕ} {x y : HearingValue} {
     → HearsText i j x y end (text_lines line) bytes
     → Hears i j workers x (record y { size = size_behind (listed (command_with line bytes)) y.size })
     (listed (command_with line bytes))
-hears_said {workers} {x} {end} line {bytes} few is h =
+hears_said {x} {end} line {bytes} few is h =
     let raw : List (List ℕ) = take end x.input.left ∷ h.texts in
-    let Said : List ℕ → Type 0 = λ text. HasSaid workers x.number raw (listed (command_with line text)) in
     record {
       raw = raw;
       taken = h.taken;
-      said = subst Said (sym h.bytes_are) (says_text (take end x.input.left) line h.texts is h.counted h.utf8);
+      said = rw h.bytes_are (says_text (take end x.input.left) line h.texts is h.counted h.utf8);
       few = few;
       number = omega (arith, h.number, h.counted);
       size = ap (λ n. size_behind (listed (command_with line bytes)) n) h.size;

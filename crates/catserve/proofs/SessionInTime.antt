@@ -18,7 +18,6 @@ use Rattle.script_text.specs.Script.{Command, Go}
 use Rattle.catserve.specs.declared.hearing.Heard.{Heard}
 use Rattle.catserve.specs.declared.session_fault.SessionFault.{SessionFault}
 use Rattle.devices.specs.Devices.{InputSeen, OutputSeen}
-use Rattle.catserve.specs.Rounds.{PlaysAll}
 use Rattle.catserve.specs.Session.{AnswersInTime, IsAnswered, most_lines}
 use Rattle.catserve.specs.Hearing.{Begins, HasGot, HasPassed, Hears, HearsEnd, HearingValue, HearsText, Stays}
 use Rattle.catserve.specs.Hearing.{size_behind, unheard}
@@ -158,21 +157,19 @@ said_heard line few ends is h reads = (
 pub is_answered : {given : Option ℕ} {i j : InputSeen} {o o' : OutputSeen} {y : HearingValue} {front : List (List ℕ)}
     (a : Answered given i j o o' y front) (t g : List ℕ) → StillOpen a.workers y.input t g
     → IsAnswered given (a.taken.more ++ t) (a.output ++ g)
-is_answered {y} {front} a t g still =
-    let Plays : List ℕ → Type 0 = λ out. PlaysAll a.workers [] a.rounds out in
-    record {
-      front = front;
-      rest = y.input.left ++ t;
-      whole = ap (λ xs. xs ++ t) a.taken.whole ∙ append_assoc (concat front) y.input.left t;
-      lines_are = λ more. ap lines (append_assoc a.taken.more t more)
-          ∙ a.taken.cut (t ++ more) (λ ended. both y.input.ended ended still.going)
-          ∙ ap (λ xs. front ++ lines xs) (sym (append_assoc y.input.left t more));
-      workers = a.workers;
-      rounds = a.rounds;
-      ended_are = a.ended;
-      plays = subst Plays (sym (ap (λ xs. a.output ++ xs) still.silent ∙ append-nil a.output)) a.plays;
-      is_open = still.is_open;
-    }
+is_answered {y} {front} a t g still = record {
+  front = front;
+  rest = y.input.left ++ t;
+  whole = ap (λ xs. xs ++ t) a.taken.whole ∙ append_assoc (concat front) y.input.left t;
+  lines_are = λ more. ap lines (append_assoc a.taken.more t more)
+      ∙ a.taken.cut (t ++ more) (λ ended. both y.input.ended ended still.going)
+      ∙ ap (λ xs. front ++ lines xs) (sym (append_assoc y.input.left t more));
+  workers = a.workers;
+  rounds = a.rounds;
+  ended_are = a.ended;
+  plays = rw (ap (λ xs. a.output ++ xs) still.silent ∙ append-nil a.output) a.plays;
+  is_open = still.is_open;
+}
 
 pub begins_timely : {given : Option ℕ} {log : Log} → InTime given log log [] []
 begins_timely {given} {log} = record {

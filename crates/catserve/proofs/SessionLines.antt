@@ -1,5 +1,5 @@
 -- What the lines of a session say, one after another.
-use Rattle.std.proofs.Common.{◌≡◌, ◌∙◌, refl, sym, ap, subst, ℕ, ◌+◌, ◌<◌, ◌≤◌, fold}
+use Rattle.std.proofs.Common.{◌≡◌, ◌∙◌, refl, sym, ap, ℕ, ◌+◌, ◌<◌, ◌≤◌, fold}
 use Rattle.std.proofs.Common.{List, [], ◌∷◌, ◌++◌, length, take, drop, arith, inl, inr, append_assoc, length-append}
 use Rattle.std.proofs.Common.{Option, Some, None, Err}
 use Rattle.std.specs.List.{concat}
@@ -100,8 +100,7 @@ follows_end [] taken = inl refl
 follows_end {x} {y} (l ∷ front) taken =
     let none : MayCome y [] = λ ended. refl in
     let cut = ap lines (sym (append_assoc x.left taken.more [])) ∙ taken.cut [] none in
-    let P : List (List ℕ) → Type 0 = λ ls. BeginAlike (l ∷ (front ++ round_end ∷ [])) ls in
-    inr (taken.more ++ [], taken.may [] none, subst P (sym cut) refl)
+    inr (taken.more ++ [], taken.may [] none, rw cut refl)
 
 -- the rounds that have ended
 abbrev pub ended_so : {given : Option ℕ} {first i j : InputSeen} {x : HearingValue} (y : HearingValue) {workers : ℕ}

@@ -1,9 +1,8 @@
 -- How a session goes on, thing by thing.
-use Rattle.std.proofs.Common.{◌≡◌, ◌∙◌, refl, sym, ap, subst, ℕ, ◌+◌, ◌<◌, ◌≤◌, fold}
-use Rattle.std.proofs.Common.{List, [], ◌∷◌, ◌++◌, length, arith, append_assoc, length-append, All}
+use Rattle.std.proofs.Common.{◌≡◌, ◌∙◌, refl, sym, ap, ℕ, ◌+◌, ◌<◌, ◌≤◌, fold}
+use Rattle.std.proofs.Common.{List, [], ◌∷◌, ◌++◌, length, arith, append_assoc, length-append}
 use Rattle.std.proofs.Common.{Option, Some, None}
 use Rattle.std.specs.List.{concat, filter_map}
-use Rattle.std.specs.Io.KnownBytes.{Appends}
 use Rattle.std.proofs.KnownBytes.{Appends-nil, Appends-trans}
 use Rattle.std.proofs.lemmas.List.{append-nil}
 use Rattle.std.proofs.lemmas.List.Folds.{concat-append}
@@ -12,14 +11,13 @@ use Rattle.live_versions.specs.Seen.{SeenValue}
 use Rattle.live_versions.specs.Batches.{version_of}
 use Rattle.live_versions.specs.Store.{StoreValue, HasRoom}
 use Rattle.script_text.specs.ScriptLoads.{JobValue}
-use Rattle.desks.specs.declared.desk.Desk.{Desk}
 use Rattle.script_text.specs.CommandValues.{listed}
 use Rattle.script_text.specs.Script.{Command, Load, Ask, Go, RoundValue, QuestionValue}
 use Rattle.script_text.specs.Gathering.{Gathered, empty_round, nothing, gathered, loads_so_far}
 use Rattle.script_text.proofs.Parsing.{few_more}
-use Rattle.catserve.specs.Asking.{readers_of, AreAsked}
+use Rattle.catserve.specs.Asking.{readers_of}
 use Rattle.catserve.specs.Rounds.{accepted_load}
-use Rattle.catserve.specs.Running.{Finishes, HaveBook, HasLoaded, HasPlayed, PlaysOne}
+use Rattle.catserve.specs.Running.{Finishes, HasLoaded, HasPlayed, PlaysOne}
 use Rattle.devices.specs.Devices.{InputSeen, OutputSeen}
 use Rattle.catserve.specs.Session.{HaveEnded}
 use Rattle.catserve.specs.Hearing.{HearingValue, Hears, size_behind}
@@ -81,8 +79,7 @@ pub plays_open : {workers : ℕ} {g : Gathered} {start : StoreValue} {old : Play
 plays_open {g} {old} {now} lines talked finishes =
     let one : PlaysOne (length old.desks) g.current talked.before now [] lines =
     finishes g.current talked.before [] talked.played.none_pending talked.loaded talked.asked in
-    let P : ℕ → Type 0 = λ n. PlaysOne n g.current talked.before now [] lines in
-    plays_more talked.played (played_behind (subst P talked.count one))
+    plays_more talked.played (played_behind (rw talked.count at one))
 
 -- it was answered
 pub answers_one : {workers : ℕ} {g : Gathered} {start : StoreValue} {old new : PlayerValue} {o o' : OutputSeen}
@@ -108,39 +105,28 @@ talked_none {start} fresh = record {
 pub talked_load : {workers : ℕ} {g : Gathered} {start : StoreValue} {old new : PlayerValue} {written : List ℕ}
     {load : JobValue} → HasTalked workers g start old written → MakesLoad load old new
     → HasTalked workers (gathered g (Load load)) start new written
-talked_load {g} {old} {new} talked makes =
-    let Asked : List Desk → Type 0 = λ ds. AreAsked 0 (g.current.questions ++ []) ds in
-    let Given : List QuestionValue → Type 0 = λ qs. AreAsked 0 qs old.desks in
-    let Desks : List Desk → Type 0 = λ ds. HaveBook new.store.seen ds in
-    let Seen : SeenValue → Type 0 = λ s. HaveBook s old.desks in
-    record {
-      before = talked.before;
-      played = talked.played;
-      loaded = loaded_more talked.loaded makes;
-      asked = subst Asked (sym makes.desks) (subst Given (sym (append-nil g.current.questions)) talked.asked);
-      book = subst Desks (sym makes.desks) (subst Seen (sym makes.seen) talked.book);
-      count = ap length makes.desks ∙ talked.count;
-      begun = makes.begun;
-    }
+talked_load {g} talked makes = record {
+  before = talked.before;
+  played = talked.played;
+  loaded = loaded_more talked.loaded makes;
+  asked = rw makes.desks (rw (← append-nil g.current.questions) at talked.asked);
+  book = rw makes.desks (rw (← makes.seen) at talked.book);
+  count = ap length makes.desks ∙ talked.count;
+  begun = makes.begun;
+}
 
 pub talked_ask : {workers : ℕ} {g : Gathered} {start : StoreValue} {old new : PlayerValue} {written : List ℕ}
     {worker : ℕ} {query : QueryValue} → HasTalked workers g start old written → GivesQuestion worker query old new
     → HasTalked workers (gathered g (Ask worker query)) start new written
 talked_ask {g} {old} {new} {worker} {query} talked gives =
     let readers = readers-given old.desks new.desks worker query gives.gives in
-    let Loads : List JobValue → Type 0 = λ ls. HasLoaded ls talked.before new.store [] new.held in
-    let Store : StoreValue → Type 0 = λ s. HasLoaded g.current.loads talked.before s [] new.held in
-    let Held : List ℕ → Type 0 = λ held. HasLoaded g.current.loads talked.before old.store [] held in
-    let Readers : List SeenValue → Type 0 = λ rs. All (λ (reader : SeenValue). reader.book ≡ new.store.seen.book) rs in
-    let Seen : StoreValue → Type 0 = λ s. HaveBook s.seen old.desks in
     record {
       before = talked.before;
       played = talked.played;
-      loaded = subst Loads (sym (append-nil g.current.loads))
-          (subst Store (sym gives.store) (subst Held (sym gives.held) talked.loaded));
+      loaded = rw (append-nil g.current.loads) (rw (← gives.store) at (rw (← gives.held) at talked.loaded));
       asked = asked_more 0 worker worker g.current.questions query old.desks new.desks (omega arith) talked.asked
           gives.gives;
-      book = subst Readers (sym readers) (subst Seen (sym gives.store) talked.book);
+      book = rw readers (rw (← gives.store) at talked.book);
       count = count_of new.desks (readers_of old.desks) readers ∙ sym (count_of old.desks (readers_of old.desks) refl)
           ∙ talked.count;
       begun = gives.begun;
@@ -191,22 +177,20 @@ converses_none {workers} {o} some fresh = record {
 pub open_more : {given : Option ℕ} {front : List (List ℕ)} (raw : List (List ℕ)) {g h : Gathered}
     {size next : ℕ} → h.ended ≡ g.ended
     → next ≡ size + length (concat raw) → HasOpen given front g size → HasOpen given (front ++ raw) h next
-open_more {given} raw same next_is was =
-    let P : List RoundValue → Type 0 = λ rs. HaveEnded given was.before was.workers rs in
-    record {
-      before = was.before;
-      round = was.round ++ raw;
-      cut = ap (λ ls. ls ++ raw) was.cut ∙ append_assoc was.before was.round raw;
-      size_is = omega (
-        arith,
-        next_is,
-        was.size_is,
-        ap length (concat-append was.round raw),
-        length-append (concat was.round) (concat raw),
-      );
-      workers = was.workers;
-      ended_before = subst P (sym same) was.ended_before;
-    }
+open_more raw same next_is was = record {
+  before = was.before;
+  round = was.round ++ raw;
+  cut = ap (λ ls. ls ++ raw) was.cut ∙ append_assoc was.before was.round raw;
+  size_is = omega (
+    arith,
+    next_is,
+    was.size_is,
+    ap length (concat-append was.round raw),
+    length-append (concat was.round) (concat raw),
+  );
+  workers = was.workers;
+  ended_before = rw same was.ended_before;
+}
 
 -- a round has ended
 pub open_none : {given : Option ℕ} {front : List (List ℕ)} {g : Gathered} {size workers : ℕ} → size ≡ 0
@@ -228,30 +212,25 @@ abbrev pub goes_on : {workers : ℕ} {i j k : InputSeen} {o o' o'' : OutputSeen}
     → (fold gathered c.g commands).ended ≡ c.g.ended
     → HasTalked workers (fold gathered c.g commands) start.store new c.written → o'' ≡ o'
     → Conversing workers i k o o'' x z start new
-goes_on {o} {z} {commands} c h few size same talked kept =
-    let Out : OutputSeen → Type 0 = λ out. Appends o.bytes out.bytes c.written in
-    record {
-      lines = c.lines ++ h.raw;
-      g = fold gathered c.g commands;
-      written = c.written;
-      taken = taken_then c.taken h.taken;
-      heard = heard_more c.heard h.said h.number few;
-      talked = talked;
-      output = subst Out (sym kept) c.output;
-      steady = ap (λ (out : OutputSeen). out.failures) kept ∙ c.steady;
-      is_open = λ given first b.
-          let P : List (List ℕ) → Type 0 = λ ls. HasOpen given ls (fold gathered c.g commands) z.size in
-          subst P (append_assoc b.front c.lines h.raw) (open_more h.raw same (h.size ∙ size) (c.is_open given first b));
-    }
+goes_on {commands} c h few size same talked kept = record {
+  lines = c.lines ++ h.raw;
+  g = fold gathered c.g commands;
+  written = c.written;
+  taken = taken_then c.taken h.taken;
+  heard = heard_more c.heard h.said h.number few;
+  talked = talked;
+  output = rw kept c.output;
+  steady = ap (λ (out : OutputSeen). out.failures) kept ∙ c.steady;
+  is_open = λ given first b.
+      rw (← append_assoc b.front c.lines h.raw) (open_more h.raw same (h.size ∙ size) (c.is_open given first b));
+}
 
 -- what a line says was done
 abbrev pub converses_more : {workers : ℕ} {i j k : InputSeen} {o o' o'' : OutputSeen}
     {x y z : HearingValue} {start old new : PlayerValue} (command : Option Command)
     → Conversing workers i j o o' x y start old → Hears j k workers y z (listed command)
     → Responds command old new o' o'' → Conversing workers i k o o'' x z start new
-converses_more {workers} {start} None c h (same, kept) =
-    let Player : PlayerValue → Type 0 = λ t. HasTalked workers c.g start.store t c.written in
-    goes_on c h (few_more c.g None) refl refl (subst Player (sym same) c.talked) kept
+converses_more None c h (same, kept) = goes_on c h (few_more c.g None) refl refl (rw (← same) at c.talked) kept
 converses_more (Some (Load load)) c h (makes, kept) =
     goes_on c h (few_more c.g (Some (Load load))) refl refl (talked_load c.talked makes) kept
 converses_more (Some (Ask worker query)) c h (gives, kept) =

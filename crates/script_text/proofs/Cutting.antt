@@ -131,8 +131,7 @@ first_line {text} utf8 lt line_is rest_is =
     let fails : (k : ℕ) → k < length (take n text) → is_line_end (get_or (take n text) k 0)
     ≡ false = λ k below. rw (cut_get n text k below) (fails_before_first is_line_end text k 0
     (omega (arith, length-take n text))) in
-    let P : List ℕ → Type 0 = λ t. IsFirstLine t (before_first is_line_end text) (after_first is_line_end text) in
-    rw (line_is, rest_is) (subst P (sym whole) (first_line-at (get_or text n 0) (rw whole at utf8) fails
+    rw (line_is, rest_is) (rw (← whole) at (first_line-at (get_or text n 0) (rw whole at utf8) fails
     (passes_at_first is_line_end text 0 lt)))
 
 -- a line that lacks it

@@ -19,20 +19,16 @@ no_digits text other = rw other refl
 -- digits that `parse` accepts are the number that it returns
 pub some_number : {E : Type 0} (text : List ℕ) (r : Result ℕ E) (n : ℕ) → list_all is_ascii_digit text ≡ true
     → ParsesUnsigned 64 10 text r → r ≡ Ok n → number text ≡ Some n
-some_number {E} text r n digits parsed e =
-    let P : Result ℕ E → Type 0 = λ r. OkIff r ((0 < length text) × (digits_value 10 text < 2 ^ 64))
-    (digits_value 10 text) in
+some_number text r n digits parsed e =
     let h : ((0 < length text) × (digits_value 10 text < 2 ^ 64))
-    × (n ≡ digits_value 10 text) = subst P e (parse_digits own 64 text r parsed digits) in
+    × (n ≡ digits_value 10 text) = rw e at (parse_digits own 64 text r parsed digits) in
     rw (digits, lt-ltb 0 (length text) h.0.0, lt-ltb (digits_value 10 text) (2 ^ 64) h.0.1) (ap (λ m. Some m) (sym h.1))
 
 -- and digits that it refuses are no number
 pub no_number : {E : Type 0} (text : List ℕ) (r : Result ℕ E) (fault : E) → list_all is_ascii_digit text ≡ true
     → ParsesUnsigned 64 10 text r → r ≡ Err fault → number text ≡ None
-no_number {E} text r fault digits parsed e =
-    let P : Result ℕ E → Type 0 = λ r. OkIff r ((0 < length text) × (digits_value 10 text < 2 ^ 64))
-    (digits_value 10 text) in
-    let h : ¬ ((0 < length text) × (digits_value 10 text < 2 ^ 64)) = subst P e
+no_number text r fault digits parsed e =
+    let h : ¬ ((0 < length text) × (digits_value 10 text < 2 ^ 64)) = rw e at
     (parse_digits own 64 text r parsed digits) in
     elim (cases_Bool (ltb 0 (length text))) [
       | inr none ↦ rw (digits, none) refl

@@ -209,9 +209,7 @@ read_first {text} {workers} {line} {behind} {rounds} {number} saw parsed first i
     let G : List ℕ → Type 0 = λ l. script text ≡ going_on workers rounds (and_then
     (saying (line_of workers l) (lines behind)) number (λ n. commands_from workers (number + 1) n (lines behind))) in
     let said : G line = subst G first.said cut in
-    let H : Option Line → Type 0 = λ o. script text ≡ going_on workers rounds
-    (and_then (saying o (lines behind)) number (λ n. commands_from workers (number + 1) n (lines behind))) in
-    subst H is said
+    rw is at said
 
 pub bad_line : {text : List ℕ} {workers : ℕ} {rest line behind : List ℕ} {rounds : Gathered} {number : ℕ}
     → HasParsed text workers rounds rest number

@@ -1,9 +1,9 @@
-use Rattle.std.proofs.Common.{◌≡◌, ◌∙◌, ◌++◌, ◌∷◌, [], List, None, sym, ap, subst}
+use Rattle.std.proofs.Common.{◌≡◌, ◌∙◌, ◌++◌, ◌∷◌, [], None, ap}
 use Rattle.std.proofs.Common.{arith}
 use Rattle.catserve.proofs.Turns.{takes_one, takes_all}
 use Rattle.std.proofs.lemmas.List.{map-append}
 use Rattle.desks.specs.declared.desk.Desk.{Desk}
-use Rattle.catserve.specs.Asking.{readers_of, AreAsked}
+use Rattle.catserve.specs.Asking.{readers_of}
 use Rattle.catserve.proofs.Asked.{opens_more}
 use Rattle.catserve.proofs.asking.open_desks.Goals as goal
 
@@ -13,12 +13,11 @@ readers-preserved c =
     let x = c.in-Some.reader in
     let desk : Desk = record { reader = x; queries = c.new.result; answers = c.new-in-readers.result; fault = None } in
     let items : c.push.new.self.items ≡ at.desks.items ++ desk ∷ [] = c.in_ok-push.ensures.items in
-    let P : List Desk → Type 0 = λ ds. AreAsked 0 [] ds in
     record {
       taken = takes_one x at.invariant.taken c.in-Some.ensures.steps.0 (omega (arith, c.in-Some.ensures.steps.1));
       readers = ap readers_of items ∙ map-append (λ (d : Desk). d.reader) at.desks.items (desk ∷ [])
           ∙ ap (λ rs. rs ++ x ∷ []) at.invariant.readers;
-      free = subst P (sym items) (opens_more at.desks.items desk at.invariant.free c.new.ensures.items);
+      free = rw items (opens_more at.desks.items desk at.invariant.free c.new.ensures.items);
     }
 
 pub returns : goal.returns

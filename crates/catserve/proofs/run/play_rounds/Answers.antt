@@ -1,24 +1,18 @@
-use Rattle.std.proofs.Common.{◌∙◌, ◌++◌, [], List, ℕ, refl, sym, ap, subst, length, arith, rules}
+use Rattle.std.proofs.Common.{◌∙◌, ◌++◌, List, refl, sym, ap, length, arith, rules}
 use Rattle.std.specs.Vec.Iter.{into_iter_items}
 use Rattle.live_set.specs.Loads.{LoadValue}
 use Rattle.live_versions.specs.Batches.{joined, version_of}
-use Rattle.script_text.specs.Script.{RoundValue}
-use Rattle.catserve.specs.Rounds.{PlaysAll}
-use Rattle.catserve.specs.Running.{HasPlayed, PlaysOne}
 use Rattle.catserve.proofs.Turns.{takes_one, takes_all}
 use Rattle.catserve.proofs.Playing.{plays_more, plays_all, plays_none, has_room_for}
 use Rattle.catserve.proofs.run.play_rounds.Goals as goal
 
 pub rounds-init : goal.rounds-init
-rounds-init g c =
-    let start = c.args.player.now in
-    let P : List ℕ → Type 0 = λ out. HasPlayed (length start.desks) [] start.store start.store out in
-    record {
-      taken = record { whole = refl; count_is = search rules };
-      played = subst P (sym c.requires.fresh.held) (plays_none c.requires.fresh.none_pending);
-      ready = c.requires.fresh.ready;
-      count = refl;
-    }
+rounds-init g c = record {
+  taken = record { whole = refl; count_is = search rules };
+  played = rw c.requires.fresh.held (plays_none c.requires.fresh.none_pending);
+  ready = c.requires.fresh.ready;
+  count = refl;
+}
 
 pub play-requires : goal.play-requires
 play-requires g c =
@@ -49,11 +43,9 @@ pub rounds-preserved : goal.rounds-preserved
 rounds-preserved g c =
     let at = c.rounds in
     let x = c.in-Some.round in
-    let now = c.play.new.self in
-    let P : ℕ → Type 0 = λ n. PlaysOne n x at.player.store now.store at.player.held now.held in
     record {
       taken = takes_one x at.invariant.taken c.in-Some.ensures.steps.0 (omega (arith, c.in-Some.ensures.steps.1));
-      played = plays_more at.invariant.played (subst P at.invariant.count c.in_ok-play.ensures.ok);
+      played = plays_more at.invariant.played (rw at.invariant.count at c.in_ok-play.ensures.ok);
       ready = c.in_ok-play.ensures.ready;
       count = c.in_ok-play.ensures.count ∙ at.invariant.count;
     }
@@ -61,10 +53,6 @@ rounds-preserved g c =
 pub returns-clause-ok : goal.returns-clause-ok
 returns-clause-ok g c =
     let at = c.rounds in
-    let start = c.args.player.now in
-    let workers = length start.desks in
     let all = takes_all at.invariant.taken c.in-None.ensures.steps.0
     ∙ c.into_iter-round-iterator.ensures.into_iter_gives.0 in
-    let P : List RoundValue → Type 0 = λ rs. HasPlayed workers rs start.store at.player.store at.player.held in
-    let Q : List LoadValue → Type 0 = λ before. PlaysAll workers before c.args.rounds.items at.player.held in
-    subst Q (ap joined c.requires.fresh.none_published) (plays_all (subst P all at.invariant.played))
+    rw (ap joined c.requires.fresh.none_published) at (plays_all (rw all at at.invariant.played))

@@ -4,7 +4,7 @@ use Rattle.devices.specs.Logs.{Log}
 use Rattle.devices.specs.Devices.{InputSeen, OutputSeen}
 use Rattle.catserve.specs.Run.{input_seen, output_seen}
 use Rattle.catserve.specs.Timing.{BeginsInTime}
-use Rattle.catserve.specs.Hearing.{HearingValue, Begins}
+use Rattle.catserve.specs.Hearing.{HearingValue}
 use Rattle.catserve.proofs.SessionEnds.{begins_so, ends_at_once, front_ends}
 use Rattle.catserve.proofs.SessionInTime.{begins_timely, ends_at}
 use Rattle.catserve.proofs.session.run_session.Goals as goal
@@ -17,9 +17,7 @@ returns-in_err-hearing-clause-all g c =
 pub returns-in-Some-clause-all : goal.returns-in-Some-clause-all
 returns-in-Some-clause-all g c =
     let i : InputSeen = input_seen g.D.Source.remaining g.D.Source.reads g.D.Source.failures c.args.device.now in
-    let Q : HearingValue → Type 0 = λ x. Begins (Some c.in-Some.count) i i x c.in-Some.count in
-    rw c.in-Some.is (c.converse_by_store.ensures.all (Some c.in-Some.count) i
-    (subst Q (sym c.in_ok-hearing.ensures) begins_so))
+    rw c.in-Some.is (c.converse_by_store.ensures.all (Some c.in-Some.count) i (rw c.in_ok-hearing.ensures begins_so))
 
 pub returns-in_err-count-in-None-clause-all : goal.returns-in_err-count-in-None-clause-all
 returns-in_err-count-in-None-clause-all g c =

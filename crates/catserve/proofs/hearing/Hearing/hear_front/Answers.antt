@@ -1,11 +1,8 @@
-use Rattle.std.proofs.Common.{◌∙◌, ◌++◌, ◌∷◌, [], refl, sym, ap, subst, take}
+use Rattle.std.proofs.Common.{◌∙◌, ◌++◌, ◌∷◌, [], refl, ap, take}
 use Rattle.std.proofs.lemmas.List.{nil_from_length}
 use Rattle.std.proofs.lemmas.Result.{err_from_is_err_and}
-use Rattle.devices.specs.Logs.{Log}
-use Rattle.devices.specs.Devices.{InputSeen}
-use Rattle.catserve.specs.Run.{input_seen}
 use Rattle.catserve.specs.Hearing.{HearingValue}
-use Rattle.catserve.proofs.SessionInTime.{PassesInTime, ends_at, passed_last, passed_timely, passes_none}
+use Rattle.catserve.proofs.SessionInTime.{ends_at, passed_last, passed_timely, passes_none}
 use Rattle.catserve.proofs.SessionFront.{begins_ended, begins_given, begins_other, front_fails, front_undecodable}
 use Rattle.catserve.proofs.SessionFront.{passed_more}
 use Rattle.catserve.proofs.hearing.Hearing.hear_front.Goals as goal
@@ -89,8 +86,4 @@ returns-in-NotUtf8-clause-in_time g c =
     ends_at timely
 
 pub front-init : goal.front-init
-front-init g c =
-    let i : InputSeen = input_seen g.R.Source.remaining g.R.Source.reads g.R.Source.failures c.args.reader.now in
-    let a : Log = g.R.Device.log c.args.reader.now in
-    let P : HearingValue → Type 0 = λ y. PassesInTime i i y [] a a in
-    ([], subst P (sym c.requires) (passes_none), refl)
+front-init g c = ([], rw c.requires (passes_none), refl)

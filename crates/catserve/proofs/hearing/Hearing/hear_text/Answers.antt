@@ -67,9 +67,8 @@ returns-then-not-is_utf8-clause-fault g c =
     let ends = rw c.in-Some.is at c.in-Ok.ensures.lines in
     let line = subst (λ x. EndsLine x 0 c.args.end) (sym (ap (λ (x : HearingValue). x.input) c.self.view_is))
     c.requires.line in
-    let NotText : List ℕ → Type 0 = λ left. ¬ IsUtf8 (take c.in-Some.text_end left) in
-    let undecodable = subst NotText c.left-left.ensures
-    (λ utf8. both c.is_utf8.result (c.is_utf8.ensures.1 utf8) c.if-not-is_utf8.true) in
+    let undecodable : ¬ IsUtf8 (take c.in-Some.text_end c.lines_end.new.self.left) =
+    rw (← c.left-left.ensures) (λ utf8. both c.is_utf8.result (c.is_utf8.ensures.1 utf8) c.if-not-is_utf8.true) in
     rw (← c.self.view_is, c.fault_here-then-not-is_utf8.ensures) (text_undecodable stays line ends undecodable)
 
 pub returns-in_default-copied-clause-fault : goal.returns-in_default-copied-clause-fault

@@ -1,6 +1,4 @@
-use Rattle.std.proofs.Common.{◌∙◌, List, refl, rules, subst, arith}
-use Rattle.script_text.specs.Script.{QuestionValue}
-use Rattle.catserve.specs.Talking.{GivesAll}
+use Rattle.std.proofs.Common.{◌∙◌, refl, rules, arith}
 use Rattle.catserve.proofs.Turns.{takes_one, takes_all}
 use Rattle.catserve.proofs.SessionTalk.{given_more}
 use Rattle.catserve.proofs.player.Player.ask_all.Goals as goal
@@ -25,5 +23,4 @@ returns c =
     let at = c.questions in
     let all = takes_all at.invariant.taken c.in-None.ensures.steps.0
     ∙ c.into_iter-question-iterator.ensures.into_iter_gives.0 in
-    let P : List QuestionValue → Type 0 = λ qs. GivesAll qs c.args.self.now at.self in
-    subst P all at.invariant.given
+    rw all at at.invariant.given
