@@ -284,7 +284,7 @@ def faults_of_a_session():
 
 def words_of_scripts():
     """the words that begin a line of a script"""
-    wanted = set(re.findall(r'^\s*"(\w+)" => read_\w+\(', read("crates/script_text/src/command.rt"), re.M))
+    wanted = set(re.findall(r'^\s*"(\w+)" => (?:read_\w+\(|\{)', read("crates/script_text/src/command.rt"), re.M))
     wanted -= {"gettext", "pgettext", "ngettext", "npgettext"}
     table = rows(section(SCRIPT_PAGE, "Scripts of loads and look-ups"))
     found = {row[0].split("`")[1] for row in table if row[0].startswith("`")}

@@ -104,14 +104,6 @@ gives_at (x ∷ desks) (suc worker) query desk d below items reader = (
   gives_at desks worker query desk d (omega arith) items reader,
 )
 
--- a query was appended to those of a desk that is known by its value
-pub gives_so : (desks after : List Desk) (worker : ℕ) (query : QueryValue) (desk d : Desk) → after ≡ set desks worker d
-    → worker < length desks → desk ≡ get_or desks worker desk → d.queries.items ≡ desk.queries.items ++ query ∷ []
-    → d.reader ≡ desk.reader → GivesOne desks worker query after
-gives_so desks after worker query desk d is below at items reader =
-    rw is (gives_at desks worker query desk d below (items ∙ ap (λ (x : Desk). x.queries.items ++ query ∷ []) at)
-    (reader ∙ ap (λ (x : Desk). x.reader) at))
-
 -- there is no desk with this number
 pub gives_none : (desks : List Desk) (worker : ℕ) (query : QueryValue) → length desks ≤ worker
     → GivesOne desks worker query desks

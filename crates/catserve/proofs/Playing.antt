@@ -128,8 +128,7 @@ pub plays_more : {workers : ℕ} {rounds : List RoundValue} {round : RoundValue}
     {output written : List ℕ} → HasPlayed workers rounds was now output
     → PlaysOne workers round now after output written → HasPlayed workers (rounds ++ round ∷ []) was after written
 plays_more {rounds} {round} {now} {after} {output} played one = record {
-  going = λ rest tail all.
-      rw (append_assoc rounds (round ∷ []) rest)
+  going = λ rest tail all. rw (append_assoc rounds (round ∷ []) rest)
       (rw (← (ap (λ xs. xs ++ tail) one.written ∙ append_assoc output one.output tail)) at
       (played.going (round ∷ rest) (one.output ++ tail) (
         joined after.seen.batches,

@@ -11,7 +11,7 @@ use Rattle.std.proofs.lemmas.Str.{IsUtf8-append, IsUtf8-nil}
 use Rattle.devices.specs.Devices.{InputSeen, OutputSeen}
 use Rattle.line_input.specs.Lines.{lines}
 use Rattle.line_input.specs.Incoming.{MayCome}
-use Rattle.line_input.proofs.Arriving.{both, consumes_both, consumes_none}
+use Rattle.line_input.proofs.Arriving.{both, consumes_both}
 use Rattle.script_text.specs.ScriptLoads.{JobValue}
 use Rattle.script_text.specs.Script.{QuestionValue, RoundValue, commands_from, script_of}
 use Rattle.script_text.specs.Texts.{most_script}
@@ -22,8 +22,8 @@ use Rattle.catserve.specs.Rounds.{PlaysAll}
 use Rattle.catserve.specs.Running.{IsPlayKind}
 use Rattle.catserve.specs.Session.{said, round_end, HaveEnded, StopsBehind, AnswersAll, StopsEarly, EndsFor}
 use Rattle.catserve.specs.Session.{most_lines, BreaksOff}
-use Rattle.catserve.specs.Hearing.{HearingValue, HasTaken, Stays, HearsEnd, HearsNone, HearsNoFront, Begins, unheard}
-use Rattle.catserve.specs.Hearing.{silence, HasPassed, FailsInFront, HearsTooMuch, HearsUndecodable}
+use Rattle.catserve.specs.Hearing.{HearingValue, HasTaken, Stays, HearsBad, HearsEnd, HearsNone, HearsNoLine, Begins}
+use Rattle.catserve.specs.Hearing.{silence, unheard, HasPassed, FailsInFront, HearsTooMuch, HearsUndecodable}
 use Rattle.catserve.specs.Talking.{PlayerValue, AnswersRound, BreaksRound, FailsToAnswer, IsFresh}
 use Rattle.catserve.specs.Talking.{Conversing}
 use Rattle.catserve.proofs.Playing.{plays_all}
@@ -132,71 +132,57 @@ undecodable {z} {front} a h =
       undecodable = h.undecodable;
     }
 
--- ---- in the front
+-- why no line was heard, if a bad line means this
+for_no_line : {given : Option ℕ} {i j : InputSeen} {o o' : OutputSeen} {y : HearingValue} {front : List (List ℕ)}
+    (Bad : ℕ → Type 0) (k : InputSeen) (z : HearingValue) (why : ScriptKind) (line : ℕ)
+    → Answered given i j o o' y front → (Bad line → EndsFor given i k o o' kind.BadLine line)
+    → HearsNoLine Bad j k y z why line → EndsFor given i k o o' why line
+for_no_line Bad k z kind.TooLarge line a bad h = too_much a h
+for_no_line Bad k z kind.NotUtf8 line a bad h = undecodable a h
+for_no_line Bad k z kind.BadLine line a bad h = bad h
+for_no_line Bad k z kind.ReadFault line a bad ((lost, h), failed, is) =
+    (stops_early a h, fails_later k a.taken.counts failed, is)
+for_no_line Bad k z kind.Memory line a bad ((lost, h), is) = (stops_early a h, is)
+for_no_line Bad k z _ line a bad h = absurd h
 
--- nothing is played before the first command
-abbrev pub front_answered : {i j : InputSeen} {o : OutputSeen} {y : HearingValue} {front : List (List ℕ)}
-    → HasPassed i j unheard y front → Answered None i j o o y front
-front_answered {o} {front} passed = record {
-  taken = passed.taken;
-  number = omega (arith, passed.number);
-  workers = 2;
+-- no round has ended in these lines
+abbrev none_answered : {given : Option ℕ} {i j : InputSeen} {o : OutputSeen} {y : HearingValue}
+    {front : List (List ℕ)} {workers : ℕ} → HasTaken i j silence y.input front → y.number ≡ length front + 1
+    → y.size ≡ length (concat front) → HaveEnded given front workers [] → Answered given i j o o y front
+none_answered {given} {o} {front} {workers} taken number size ended = record {
+  taken = taken;
+  number = number;
+  workers = workers;
   rounds = [];
-  ended = record {
-    last = empty_round;
-    says = passed.passes (round_end ∷ []) ∙ refl;
-  };
+  ended = ended;
   output = [];
   plays = refl;
   written = Appends-nil o.bytes;
   before = [];
   round = front;
   cut = refl;
-  size = omega (arith, passed.size);
-  first = 2;
-  ended_before = (ended_first None).1;
+  size = size;
+  first = (ended_first given).0;
+  ended_before = (ended_first given).1;
 }
 
-ends_front : {i j : InputSeen} (k : InputSeen) (o : OutputSeen) {y : HearingValue} (z : HearingValue)
-    {front : List (List ℕ)} (kind : ScriptKind)
-    (line : ℕ) → HasPassed i j unheard y front → HearsNoFront j k y z kind line → EndsFor None i k o o kind line
-ends_front k o z kind.TooLarge line passed h = too_much (front_answered passed) h
-ends_front k o z kind.NotUtf8 line passed h = undecodable (front_answered passed) h
-ends_front k o z kind.ReadFault line passed ((lost, h), failed, is) = (
-  stops_early (front_answered passed) h,
-  fails_later k passed.taken.counts failed,
-  is,
-)
-ends_front k o z kind.Memory line passed ((lost, h), is) = (stops_early (front_answered passed) h, is)
-ends_front k o z _ line passed h = absurd h
+-- ---- in the front
+
+-- nothing is played before the first command
+abbrev pub front_answered : {i j : InputSeen} {o : OutputSeen} {y : HearingValue} {front : List (List ℕ)}
+    → HasPassed i j unheard y front → Answered None i j o o y front
+front_answered passed = none_answered passed.taken (omega (arith, passed.number)) (omega (arith, passed.size))
+    (record { last = empty_round; says = passed.passes (round_end ∷ []) ∙ refl })
 
 pub front_ends : {i k : InputSeen} (o : OutputSeen) {kind : ScriptKind} {line : ℕ} → FailsInFront i k kind line
     → EndsFor None i k o o kind line
-front_ends {k} o {kind} {line} f = ends_front k o f.z kind line f.passed f.none
+front_ends {k} o {kind} {line} f =
+    for_no_line (λ line. ⊥) k f.z kind line (front_answered f.passed) (λ bad. absurd bad) f.none
 
 -- nothing at all was heard
 pub ends_at_once : {given : Option ℕ} {i : InputSeen} {o : OutputSeen} → StopsEarly given i i o o
-ends_at_once {given} {i} {o} =
-    let (workers, ended) = ended_first given in
-    record {
-      front = [];
-      text = [];
-      rest = [];
-      lost = [];
-      ended = false;
-      stops = record {
-        read = consumes_none i.left;
-        at_end = λ ended. both false ended refl;
-        whole = refl;
-        lines_are = λ more may. refl;
-        workers = workers;
-        rounds = [];
-        ended_are = ended;
-        output = [];
-        plays = refl;
-        written = Appends-nil o.bytes;
-      };
-    }
+ends_at_once {given} =
+    stops_early (none_answered {y = unheard} taken_none (omega arith) refl (ended_first given).1) stays_put
 
 -- ---- after the front
 
@@ -243,40 +229,26 @@ pub none_ends : {given : Option ℕ} {first i j : InputSeen} (k : InputSeen) {o 
     (z : HearingValue) {workers : ℕ} {start talk : PlayerValue} (kind : ScriptKind) (line : ℕ) → IsFresh workers start
     → Conversing workers i j o o' x y start talk → HearsNone j k workers y z kind line → Begins given first i x workers
     → EndsFor given first k o o' kind line
-none_ends k z kind.TooLarge line fresh c h b = too_much (answered b c fresh) h
-none_ends k z kind.NotUtf8 line fresh c h b = undecodable (answered b c fresh) h
-none_ends {given} k {y} z {workers} kind.BadLine line fresh c h b =
+none_ends {given} {j} k {y} z {workers} kind line fresh c h b =
     let a = answered b c fresh in
-    let got = h.stays.got in
-    record {
+    for_no_line (HearsBad j k workers y z) k z kind line a (λ h. record {
       front = b.front ++ c.lines;
-      text = a.taken.more ++ got.more;
+      text = a.taken.more ++ h.stays.got.more;
       rest = z.input.left;
       ended = z.input.ended;
       stops = stops_so a h.stays;
       line_is = h.line_is ∙ a.number;
-      bad = λ more may. ap (λ xs. said given (lines xs)) (append_assoc a.taken.more got.more more)
+      bad = λ more may. let got = h.stays.got in
+          ap (λ xs. said given (lines xs)) (append_assoc a.taken.more got.more more)
           ∙ said_all b c (got.more ++ more) (got.may more may)
           ∙ ap (λ xs. going_on workers c.g (commands_from workers y.number 0 (lines xs)))
           (sym (append_assoc y.input.left got.more more) ∙ ap (λ xs. xs ++ more) (sym got.behind))
           ∙ ap (going_on workers c.g) (h.bad more may) ∙ ap Err (sym h.line_is);
-    }
-none_ends k z kind.ReadFault line fresh c ((lost, h), failed, is) b =
-    let a = answered b c fresh in (
-      stops_early a h,
-      fails_later k a.taken.counts failed,
-      is,
-    )
-none_ends k z kind.Memory line fresh c ((lost, h), is) b = (
-  stops_early (answered b c fresh) h,
-  is,
-)
-none_ends k z _ line fresh c h b = absurd h
+    }) h
 
 -- what was read of lines that were taken off
 pub taken_stays : {j k : InputSeen} {y : HearingValue} (z : HearingValue) {raw : List (List ℕ)}
-    (t : HasTaken j k y.input z.input raw)
-    → Stays j k y (record {
+    (t : HasTaken j k y.input z.input raw) → Stays j k y (record {
       input = record { left = y.input.left ++ t.more; ended = z.input.ended };
       number = y.number;
       size = y.size;
@@ -401,29 +373,11 @@ last_answered {o} {o'} {o''} {talk} fresh c h busy answers b =
 
 -- ---- before anything was heard after the front
 
-begun : (given : Option ℕ) (first i : InputSeen) (o : OutputSeen) (x : HearingValue) (workers : ℕ)
-    (b : Begins given first i x workers) → Answered given first i o o x b.front
-begun given first i o x workers b = record {
-  taken = b.taken;
-  number = b.number;
-  workers = workers;
-  rounds = [];
-  ended = rw (append-nil b.front) at (ended_so x b taken_none (heard_none (omega (arith, b.number))));
-  output = [];
-  plays = refl;
-  written = Appends-nil o.bytes;
-  before = [];
-  round = b.front;
-  cut = refl;
-  size = b.size;
-  first = (ended_first given).0;
-  ended_before = (ended_first given).1;
-}
-
 -- no store was opened
 pub stops_begun : {given : Option ℕ} {first i : InputSeen} {o : OutputSeen} {x : HearingValue} {workers : ℕ}
     → Begins given first i x workers → StopsEarly given first i o o
-stops_begun {given} {first} {i} {o} {x} {workers} b = stops_early (begun given first i o x workers b) stays_put
+stops_begun {x} b = stops_early (none_answered b.taken b.number b.size
+    (rw (append-nil b.front) at (ended_so x b taken_none (heard_none (omega (arith, b.number)))))) stays_put
 
 -- no player was opened, for this reason
 pub stops_unopened : {given : Option ℕ} {first i : InputSeen} (o : OutputSeen) {x : HearingValue} {workers : ℕ}

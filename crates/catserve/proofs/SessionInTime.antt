@@ -138,8 +138,7 @@ text_came {x} {y} {end} h reads = append_cancel x.input.left (came reads.events)
 
 -- lines were heard that say these commands, and how they were read
 abbrev pub HearsSo : InputSeen → InputSeen → Log → Log → ℕ → HearingValue → HearingValue → List Command → Type 0
-HearsSo i j a b workers x y commands = (h : Hears i j workers x y commands)
-    × ReadsOpen a b workers x.input h.taken.more
+HearsSo i j a b workers x y commands = (h : Hears i j workers x y commands) × ReadsOpen a b workers x.input h.taken.more
 
 pub said_heard : {i j : InputSeen} {a b : Log} {workers : ℕ} {x y : HearingValue} {end : ℕ} (line : Line)
     {bytes : List ℕ} → x.number < most_lines → EndsLine x.input 0 end

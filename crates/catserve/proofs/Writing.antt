@@ -28,8 +28,7 @@ escaped-plain : (run : List ℕ) → ((k : ℕ) → k < length run → is_in (10
 escaped-plain [] none = refl
 escaped-plain (b ∷ run) none = rw (
   escape-plain b (none 0 (omega arith)),
-  escaped-plain run
-      (λ k lt. none (suc k) (omega arith)),
+  escaped-plain run (λ k lt. none (suc k) (omega arith)),
 ) refl
 
 -- the bytes before the first that needs an escape, that byte, and what follows
@@ -48,8 +47,7 @@ escaped-at rest at found =
 pub writes_more : (whole out with_run with_escape rest : List ℕ) (at : ℕ) → out ++ escaped rest ≡ whole
     → IsFirstByte (is_in (10 ∷ 9 ∷ 92 ∷ [])) rest (Some at) → with_run ≡ out ++ take at rest → with_escape ≡ with_run
     ++ escape (get_or rest at 0) → with_escape ++ escaped (take (length rest - (at + 1)) (drop (at + 1) rest)) ≡ whole
-writes_more whole out with_run with_escape rest at h found e f =
-    rw (take_rest rest (at + 1), f, e)
+writes_more whole out with_run with_escape rest at h found e f = rw (take_rest rest (at + 1), f, e)
     (append_assoc (out ++ take at rest) (escape (get_or rest at 0)) (escaped (drop (at + 1) rest))
     ∙ append_assoc out (take at rest) _ ∙ ap (λ zs. out ++ zs) (sym (escaped-at rest at found)) ∙ h)
 

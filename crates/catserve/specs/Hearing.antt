@@ -144,10 +144,6 @@ HearsNoLine Bad i i' x y kind line = HearsNothing i i' x y kind line
 abbrev pub HearsNone : InputSeen → InputSeen → ℕ → HearingValue → HearingValue → ScriptKind → ℕ → Type 0
 HearsNone i i' workers x y = HearsNoLine (HearsBad i i' workers x y) i i' x y
 
--- why the front of a session wasn't heard: no line of it is bad
-abbrev pub HearsNoFront : InputSeen → InputSeen → HearingValue → HearingValue → ScriptKind → ℕ → Type 0
-HearsNoFront = HearsNoLine (λ line. ⊥)
-
 -- what a line before the first command is
 abbrev pub IsFrontLine : List ℕ → FrontLine → Type 0
 IsFrontLine line front_line.NotUtf8 = ¬ IsUtf8 line
@@ -222,14 +218,14 @@ pub record HasPassed (i i' : InputSeen) (x y : HearingValue) (front : List (List
   pub size : y.size ≡ x.size + length (concat front)
   pub utf8 : IsUtf8 (concat front)
 
--- the front of a session couldn't be heard whole
+-- the front of a session couldn't be heard whole; no line of it is bad
 pub record FailsInFront (i i' : InputSeen) (kind : ScriptKind) (line : ℕ) : Type 0 where
   pub mid : InputSeen
   pub y : HearingValue
   pub z : HearingValue
   pub front : List (List ℕ)
   pub passed : HasPassed i mid unheard y front
-  pub none : HearsNoFront mid i' y z kind line
+  pub none : HearsNoLine (λ line. ⊥) mid i' y z kind line
 
 -- two lists of lines have equal first lines, or both are empty
 abbrev pub BeginAlike : List (List ℕ) → List (List ℕ) → Type 0

@@ -62,8 +62,7 @@ one_more g Go cs = ap (λ r. g.ended ++ (r ∷ rounds_of cs)) (both_empty g.curr
     ∙ sym (append_assoc g.ended (g.current ∷ []) (rounds_of cs))
     ∙ ap (λ rs. (g.ended ++ g.current ∷ []) ++ rs) (sym (onto_none (rounds_of cs))) where
       onto_none : (rs : List RoundValue) → onto_open (record {
-        ended = g.ended ++ g.current
-            ∷ [];
+        ended = g.ended ++ g.current ∷ [];
         current = empty_round;
         begun = false;
       }) rs ≡ rs

@@ -14,5 +14,4 @@ pub returns : goal.returns
 returns c =
     let whole = c.args.output.now.items ++ escaped c.args.text.now in
     writes_all whole c.runs.output.items c.extend_from_slice-2.new.self.items c.runs.rest.now
-    c.extend_from_slice-2.result
-    c.runs.invariant c.in_default.ensures c.extend_from_slice-2.ensures.items
+    c.extend_from_slice-2.result c.runs.invariant c.in_default.ensures c.extend_from_slice-2.ensures.items

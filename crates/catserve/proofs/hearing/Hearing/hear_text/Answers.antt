@@ -1,6 +1,5 @@
-use Rattle.std.proofs.Common.{◌≡◌, ◌-◌, ◌∙◌, [], ℕ, List, refl, sym, ap, subst, arith, take, drop}
+use Rattle.std.proofs.Common.{◌≡◌, ◌-◌, ◌∙◌, [], ℕ, List, refl, ap, arith, take, drop}
 use Rattle.std.specs.Str.{IsUtf8}
-use Rattle.line_input.specs.Incoming.{EndsLine}
 use Rattle.line_input.proofs.Arriving.{both}
 use Rattle.devices.specs.Devices.{InputSeen}
 use Rattle.catserve.specs.Run.{input_seen}
@@ -65,8 +64,7 @@ returns-then-not-is_utf8-clause-fault g c =
     let stays = stays_whole c.in-Ok.ensures.comes
     (record { later = c.in-Ok.ensures.later; reads = c.in-Ok.ensures.reads }) refl refl in
     let ends = rw c.in-Some.is at c.in-Ok.ensures.lines in
-    let line = subst (λ x. EndsLine x 0 c.args.end) (sym (ap (λ (x : HearingValue). x.input) c.self.view_is))
-    c.requires.line in
+    let line = rw (← c.self.view_is) at c.requires.line in
     let undecodable : ¬ IsUtf8 (take c.in-Some.text_end c.lines_end.new.self.left) =
     rw (← c.left-left.ensures) (λ utf8. both c.is_utf8.result (c.is_utf8.ensures.1 utf8) c.if-not-is_utf8.true) in
     rw (← c.self.view_is, c.fault_here-then-not-is_utf8.ensures) (text_undecodable stays line ends undecodable)
@@ -82,8 +80,7 @@ returns-clause-heard g c =
     let stays = stays_whole c.in-Ok.ensures.comes
     (record { later = c.in-Ok.ensures.later; reads = c.in-Ok.ensures.reads }) refl refl in
     let ends = rw c.in-Some.is at c.in-Ok.ensures.lines in
-    let line = subst (λ x. EndsLine x 0 c.args.end) (sym (ap (λ (x : HearingValue). x.input) c.self.view_is))
-    c.requires.line in
+    let line = rw (← c.self.view_is) at c.requires.line in
     let utf8 = rw c.left-left.ensures at (c.is_utf8.ensures.0 c.if-not-is_utf8.false) in
     let bytes = rw c.left-left.ensures at c.in-Ok-copied.ensures in
     rw (← c.self.view_is, c.take.ensures) (text_taken stays line ends utf8 bytes)
@@ -103,8 +100,7 @@ returns-in_default-copied-clause-waited g c = rw (← c.self.view_is) (counts_of
 pub returns-clause-waits : goal.returns-clause-waits
 returns-clause-waits g c =
     let ends = rw c.in-Some.is at c.in-Ok.ensures.lines in
-    let line = subst (λ x. EndsLine x 0 c.args.end) (sym (ap (λ (x : HearingValue). x.input) c.self.view_is))
-    c.requires.line in
+    let line = rw (← c.self.view_is) at c.requires.line in
     let text : List ℕ = take (c.in-Some.text_end - c.args.end) (drop c.args.end c.lines_end.new.self.left) in
     let bytes : c.in-Ok-copied.bytes.items ≡ text = c.in-Ok-copied.ensures
     ∙ ap (λ left. take (c.in-Some.text_end - c.args.end) (drop c.args.end left)) c.left-left.ensures in
