@@ -1,7 +1,6 @@
 -- What desks are asked, and what they have answered.
-use Rattle.std.proofs.Common.{◌≡◌, ◌≢◌, ◌∙◌, refl, sym, ap, ℕ, zero, suc, ◌+◌, ◌<◌, ◌≤◌, max, List, [], ◌∷◌}
-use Rattle.std.proofs.Common.{drop}
-use Rattle.std.proofs.Common.{◌++◌, length, take, set, All, Some, None, arith, length-append, get_or}
+use Rattle.std.proofs.Common.{◌≡◌, ◌≢◌, ◌∙◌, refl, sym, ap, ℕ, zero, suc, ◌+◌, ◌<◌, ◌≤◌, max, List, [], ◌∷◌, drop, ◌++◌}
+use Rattle.std.proofs.Common.{length, take, set, All, Some, None, arith, length-append, get_or}
 use Rattle.std.proofs.Math.Seq.{take-append_seam}
 use Rattle.std.proofs.lemmas.List.{append-nil, length-map}
 use Rattle.std.proofs.lemmas.List.Elements.{All-nil, All-cons, filter_map-append}
@@ -10,9 +9,8 @@ use Rattle.std.specs.List.{AllZip}
 use Rattle.std.specs.String.{string_bytes}
 use Rattle.live_set.specs.Loads.{LoadValue}
 use Rattle.live_set.specs.Asks.{QueryValue, IsAnswer}
-use Rattle.live_versions.specs.Batches.{joined, version_of}
+use Rattle.live_versions.specs.Batches.{joined, version_of, published}
 use Rattle.live_versions.specs.Seen.{SeenValue}
-use Rattle.live_versions.specs.Batches.{published}
 use Rattle.live_versions.specs.Store.{StoreValue}
 use Rattle.desks.specs.Jobs.{JobValue, Outcome, HasDone, after_publish}
 use Rattle.desks.specs.Answers.{Answered}

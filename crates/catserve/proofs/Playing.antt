@@ -1,6 +1,5 @@
 -- A round, step by step.
-use Rattle.std.proofs.Common.{◌≡◌, ◌∙◌, refl, sym, ap, ℕ, ◌+◌, ◌<◌, ◌≤◌, List, [], ◌∷◌, ◌++◌, append_assoc}
-use Rattle.std.proofs.Common.{arith}
+use Rattle.std.proofs.Common.{◌≡◌, ◌∙◌, refl, sym, ap, ℕ, ◌+◌, ◌<◌, ◌≤◌, List, [], ◌∷◌, ◌++◌, append_assoc, arith}
 use Rattle.std.proofs.Common.{length, length-append, None, Result, Ok, Err, OnOk, IfOk}
 use Rattle.std.proofs.lemmas.List.{append-nil}
 use Rattle.std.proofs.lemmas.List.Elements.{filter_map-append}
@@ -14,11 +13,9 @@ use Rattle.live_versions.specs.Seen.{SeenValue}
 use Rattle.desks.specs.Jobs.{IsAccepted}
 use Rattle.desks.specs.declared.job.Accepted as job
 use Rattle.script_text.specs.ScriptLoads.{JobValue}
-use Rattle.script_text.specs.Script.{RoundValue}
+use Rattle.script_text.specs.Script.{RoundValue, load_count}
 use Rattle.catserve.specs.Output.{version_line}
-use Rattle.catserve.specs.Rounds.{Outcome, Accepted, IsOutcome, outcome_line}
-use Rattle.catserve.specs.Rounds.{accepted_load, AnswersInTurn, PlaysAll}
-use Rattle.script_text.specs.Script.{load_count}
+use Rattle.catserve.specs.Rounds.{Outcome, Accepted, IsOutcome, outcome_line, accepted_load, AnswersInTurn, PlaysAll}
 use Rattle.catserve.specs.Running.{LoadsOne, LoadsAll, HasLoaded, HasRoomFor, PlaysOne, HasPlayed, job_of}
 use Rattle.catserve.proofs.Batching.{AllZip-snoc, flat_map-snoc, joined-append}
 

@@ -1,7 +1,6 @@
 -- How a session ends.
-use Rattle.std.proofs.Common.{◌≡◌, ◌∙◌, refl, sym, ap, subst, ℕ, ◌+◌, ◌<◌, ◌≤◌, ◌⊎◌, Bool, true, false}
-use Rattle.std.proofs.Common.{List, [], ◌∷◌, ◌++◌, length, arith, inl, inr, append_assoc, length-append, Option, Some}
-use Rattle.std.proofs.Common.{None, Err}
+use Rattle.std.proofs.Common.{◌≡◌, ◌∙◌, refl, sym, ap, subst, ℕ, ◌+◌, ◌<◌, ◌≤◌, ◌⊎◌, Bool, true, false, List, [], ◌∷◌}
+use Rattle.std.proofs.Common.{◌++◌, length, arith, inl, inr, append_assoc, length-append, Option, Some, None, Err}
 use Rattle.std.specs.List.{concat}
 use Rattle.std.specs.Io.KnownBytes.{Appends, Consumes}
 use Rattle.std.proofs.KnownBytes.{Appends-nil, Appends-trans}
@@ -24,8 +23,7 @@ use Rattle.catserve.specs.Session.{said, round_end, HaveEnded, StopsBehind, Answ
 use Rattle.catserve.specs.Session.{most_lines, BreaksOff}
 use Rattle.catserve.specs.Hearing.{HearingValue, HasTaken, Stays, HearsBad, HearsEnd, HearsNone, HearsNoLine, Begins}
 use Rattle.catserve.specs.Hearing.{silence, unheard, HasPassed, FailsInFront, HearsTooMuch, HearsUndecodable}
-use Rattle.catserve.specs.Talking.{PlayerValue, AnswersRound, BreaksRound, FailsToAnswer, IsFresh}
-use Rattle.catserve.specs.Talking.{Conversing}
+use Rattle.catserve.specs.Talking.{PlayerValue, AnswersRound, BreaksRound, FailsToAnswer, IsFresh, Conversing}
 use Rattle.catserve.proofs.Playing.{plays_all}
 use Rattle.catserve.proofs.LinesTaken.{stays_put, taken_none, taken_then}
 use Rattle.catserve.proofs.SessionLines.{ended_so, follows_all, heard_none}
@@ -304,11 +302,7 @@ fails_so {given} {first} {k} {o} {o'} o'' {talk} why fresh c s h b =
   where
     by_kind : (why : ScriptKind) → FailsToAnswer talk o' o'' why → (o'' ≡ o' → StopsEarly given first k o o'')
         → EndsFor given first k o o'' why 0
-    by_kind kind.WriteFault h early = (
-      breaks_off fresh c s h b,
-      rw c.steady at h.failed,
-      refl,
-    )
+    by_kind kind.WriteFault h early = (breaks_off fresh c s h b, rw c.steady at h.failed, refl)
     by_kind kind.NoPlace h early = (early h, refl)
     by_kind kind.Closed h early = (early h, refl)
     by_kind kind.Join h early = (early h, refl)

@@ -1,7 +1,6 @@
 -- What was heard of a session's input.
-use Rattle.std.proofs.Common.{◌≡◌, ◌∙◌, refl, sym, ap, subst, ℕ, ◌+◌, ◌<◌, List, [], ◌∷◌}
-use Rattle.std.proofs.Common.{◌++◌, length, take, drop, arith, inl, inr, append_assoc}
-use Rattle.std.proofs.Common.{Option, Some, None, Result, Ok, Err}
+use Rattle.std.proofs.Common.{◌≡◌, ◌∙◌, refl, sym, ap, subst, ℕ, ◌+◌, ◌<◌, List, [], ◌∷◌, ◌++◌, length, take, drop}
+use Rattle.std.proofs.Common.{arith, inl, inr, append_assoc, Option, Some, None, Result, Ok, Err}
 use Rattle.std.specs.List.{concat}
 use Rattle.std.proofs.lemmas.List.{append-nil}
 use Rattle.devices.specs.Devices.{InputSeen, most_reads}
@@ -17,9 +16,8 @@ use Rattle.catserve.specs.declared.hearing.Heard.{Heard}
 use Rattle.catserve.specs.declared.session_fault.SessionFault.{SessionFault}
 use Rattle.catserve.specs.Run.{FailsToRead}
 use Rattle.catserve.specs.Session.{most_lines}
-use Rattle.catserve.specs.Hearing.{HearingValue, CountsOn, HasTaken, Hears, Stays}
-use Rattle.catserve.specs.Hearing.{HearsNone, HearsNoText}
-use Rattle.catserve.specs.Hearing.{HearsText, HearsOne, IsUnsaid, line_of_kind, size_behind, commands_of}
+use Rattle.catserve.specs.Hearing.{HearingValue, CountsOn, HasTaken, Hears, Stays, HearsNone, HearsNoText, HearsText}
+use Rattle.catserve.specs.Hearing.{HearsOne, IsUnsaid, line_of_kind, size_behind, commands_of}
 use Rattle.catserve.proofs.LinesTaken.{counts_both, taken_then, got_taken, first_same, line_cut, line_later, line_whole}
 use Rattle.catserve.proofs.LinesTaken.{stays_put}
 use Rattle.catserve.proofs.SessionLines.{says_text, bad_line, bad_text}

@@ -1,7 +1,6 @@
 -- What a session has answered when it waits.
-use Rattle.std.proofs.Common.{◌≡◌, ◌∙◌, refl, sym, ap, subst, ℕ, ◌-◌, ◌<◌, true, List, [], ◌∷◌}
-use Rattle.std.proofs.Common.{◌++◌, length, take, drop}
-use Rattle.std.proofs.Common.{arith, inl, inr, append_assoc, Option, Some, None, Result, Ok}
+use Rattle.std.proofs.Common.{◌≡◌, ◌∙◌, refl, sym, ap, subst, ℕ, ◌-◌, ◌<◌, true, List, [], ◌∷◌, ◌++◌, length, take}
+use Rattle.std.proofs.Common.{drop, arith, inl, inr, append_assoc, Option, Some, None, Result, Ok}
 use Rattle.std.specs.List.{concat}
 use Rattle.std.proofs.Math.Seq.{take-add}
 use Rattle.std.proofs.lemmas.List.{append-nil, nil_from_length, take-append-drop, take-append-le}
@@ -22,8 +21,7 @@ use Rattle.catserve.specs.Session.{AnswersInTime, IsAnswered, most_lines}
 use Rattle.catserve.specs.Hearing.{Begins, HasGot, HasPassed, Hears, HearsEnd, HearingValue, HearsText, Stays}
 use Rattle.catserve.specs.Hearing.{size_behind, unheard}
 use Rattle.catserve.specs.Talking.{Conversing, IsFresh, PlayerValue}
-use Rattle.catserve.specs.Timing.{ContinuesInTime, GivesSome, HearsInTime, InTime, ReadsOpen, ReadsText}
-use Rattle.catserve.specs.Timing.{RespondsInTime}
+use Rattle.catserve.specs.Timing.{ContinuesInTime, GivesSome, HearsInTime, InTime, ReadsOpen, ReadsText, RespondsInTime}
 use Rattle.catserve.specs.Timing.{StillOpen, TalksInTime}
 use Rattle.catserve.proofs.SessionEnds.{Answered, answered, front_answered}
 use Rattle.catserve.proofs.SessionFront.{passed_none}

@@ -1,7 +1,6 @@
 -- What the lines of a session say, one after another.
-use Rattle.std.proofs.Common.{◌≡◌, ◌∙◌, refl, sym, ap, ℕ, ◌+◌, ◌<◌, ◌≤◌, fold}
-use Rattle.std.proofs.Common.{List, [], ◌∷◌, ◌++◌, length, take, drop, arith, inl, inr, append_assoc, length-append}
-use Rattle.std.proofs.Common.{Option, Some, None, Err}
+use Rattle.std.proofs.Common.{◌≡◌, ◌∙◌, refl, sym, ap, ℕ, ◌+◌, ◌<◌, ◌≤◌, fold, List, [], ◌∷◌, ◌++◌, length, take, drop}
+use Rattle.std.proofs.Common.{arith, inl, inr, append_assoc, length-append, Option, Some, None, Err}
 use Rattle.std.specs.List.{concat}
 use Rattle.std.specs.Str.{IsUtf8}
 use Rattle.std.proofs.lemmas.List.Folds.{concat-append}
@@ -11,10 +10,8 @@ use Rattle.line_input.specs.Lines.{lines, without_end}
 use Rattle.line_input.specs.Incoming.{Incoming, MayCome}
 use Rattle.script_text.specs.Commands.{Line, line_of}
 use Rattle.script_text.specs.CommandValues.{command_with, listed, text_lines}
-use Rattle.script_text.specs.Script.{Command, Says, and_then, commands_from}
-use Rattle.script_text.specs.Script.{script_of}
-use Rattle.script_text.specs.Gathering.{Gathered, empty_round, nothing, both, gathered, going_on}
-use Rattle.script_text.specs.Gathering.{loads_so_far}
+use Rattle.script_text.specs.Script.{Command, Says, and_then, commands_from, script_of}
+use Rattle.script_text.specs.Gathering.{Gathered, empty_round, nothing, both, gathered, going_on, loads_so_far}
 use Rattle.script_text.proofs.Parsing.{skips, says_with, too_long, gathers, begins_with}
 use Rattle.devices.specs.Devices.{InputSeen}
 use Rattle.catserve.specs.Session.{round_end, said, HaveEnded}

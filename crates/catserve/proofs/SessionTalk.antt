@@ -1,7 +1,6 @@
 -- How a session goes on, thing by thing.
-use Rattle.std.proofs.Common.{◌≡◌, ◌∙◌, refl, sym, ap, ℕ, ◌+◌, ◌<◌, ◌≤◌, fold}
-use Rattle.std.proofs.Common.{List, [], ◌∷◌, ◌++◌, length, arith, append_assoc, length-append}
-use Rattle.std.proofs.Common.{Option, Some, None}
+use Rattle.std.proofs.Common.{◌≡◌, ◌∙◌, refl, sym, ap, ℕ, ◌+◌, ◌<◌, ◌≤◌, fold, List, [], ◌∷◌, ◌++◌, length, arith}
+use Rattle.std.proofs.Common.{append_assoc, length-append, Option, Some, None}
 use Rattle.std.specs.List.{concat, filter_map}
 use Rattle.std.proofs.KnownBytes.{Appends-nil, Appends-trans}
 use Rattle.std.proofs.lemmas.List.{append-nil}

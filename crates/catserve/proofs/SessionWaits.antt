@@ -1,7 +1,6 @@
 -- When a session waits.
-use Rattle.std.proofs.Common.{◌≡◌, ◌∙◌, refl, sym, ap, subst, ℕ, false, List, [], ◌∷◌, ◌++◌}
-use Rattle.std.proofs.Common.{length, arith}
-use Rattle.std.proofs.Common.{take, inl, inr, append_assoc, length-append, Some}
+use Rattle.std.proofs.Common.{◌≡◌, ◌∙◌, refl, sym, ap, subst, ℕ, false, List, [], ◌∷◌, ◌++◌, length, arith, take, inl}
+use Rattle.std.proofs.Common.{inr, append_assoc, length-append, Some}
 use Rattle.std.proofs.lemmas.Bool.{cases_Bool}
 use Rattle.std.proofs.lemmas.List.{append-nil, take-append-le}
 use Rattle.devices.specs.Logs.{AnswersFirst, Log, came, given}

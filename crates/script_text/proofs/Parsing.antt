@@ -1,9 +1,7 @@
 -- A script read line by line.
 use Rattle.std.proofs.Common.{◌≡◌, ◌∙◌, refl, sym, ap, subst, ℕ, zero, suc, ◌+◌, ◌<◌, ◌≤◌, Bool, true, false, cond}
-use Rattle.std.proofs.Common.{List, [], ◌∷◌}
-use Rattle.std.proofs.Common.{◌++◌, length, map, take, drop, fold, Option}
-use Rattle.std.proofs.Common.{Some, None, Result, Ok, Err, arith, append_assoc}
-use Rattle.std.proofs.Common.{length-append}
+use Rattle.std.proofs.Common.{List, [], ◌∷◌, ◌++◌, length, map, take, drop, fold, Option, Some, None, Result, Ok, Err}
+use Rattle.std.proofs.Common.{arith, append_assoc, length-append}
 use Rattle.std.specs.List.{concat, onto_first}
 use Rattle.std.specs.Str.{IsUtf8}
 use Rattle.std.proofs.lemmas.List.{append-nil}
@@ -32,10 +30,7 @@ skips workers (suc text) number (l ∷ ls) enough = skips workers text (number +
 -- ---- rounds
 
 both_assoc : (a b c : RoundValue) → both (both a b) c ≡ both a (both b c)
-both_assoc a b c = rw (
-  append_assoc a.loads b.loads c.loads,
-  append_assoc a.questions b.questions c.questions,
-) refl
+both_assoc a b c = rw (append_assoc a.loads b.loads c.loads, append_assoc a.questions b.questions c.questions) refl
 
 both_empty : (a : RoundValue) → both a empty_round ≡ a
 both_empty a = rw (append-nil a.loads, append-nil a.questions) refl

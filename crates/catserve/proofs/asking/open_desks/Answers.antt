@@ -1,5 +1,4 @@
-use Rattle.std.proofs.Common.{◌≡◌, ◌∙◌, ◌++◌, ◌∷◌, [], None, ap}
-use Rattle.std.proofs.Common.{arith}
+use Rattle.std.proofs.Common.{◌≡◌, ◌∙◌, ◌++◌, ◌∷◌, [], None, ap, arith}
 use Rattle.catserve.proofs.Turns.{takes_one, takes_all}
 use Rattle.std.proofs.lemmas.List.{map-append}
 use Rattle.desks.specs.declared.desk.Desk.{Desk}

@@ -31,10 +31,7 @@ front-preserved g c =
     let timely = passed_timely c.front.invariant.1.0 c.front.invariant.1.1 c.in_ok-end.ensures.found.stays
     c.in_ok-end.ensures.waits in (
       front ++ line ∷ [],
-      rw c.take.ensures (
-        passed_more passed c.in_ok-end.ensures.found.stays found.0 is.0 is.1,
-        timely,
-      ),
+      rw c.take.ensures (passed_more passed c.in_ok-end.ensures.found.stays found.0 is.0 is.1, timely),
       c.in_ok-end.ensures.keeps ∙ c.front.invariant.2,
     )
 
@@ -46,10 +43,7 @@ returns-in-Workers-clause-begins g c =
     let is = rw c.in-Workers.is at (rw left at c.read_front_line.ensures) in
     let timely = passed_timely c.front.invariant.1.0 c.front.invariant.1.1 c.in_ok-end.ensures.found.stays
     c.in_ok-end.ensures.waits in
-    rw c.take-in-Workers.ensures (
-      begins_given passed c.in_ok-end.ensures.found.stays found.0 is.0 is.1 is.2,
-      timely,
-    )
+    rw c.take-in-Workers.ensures (begins_given passed c.in_ok-end.ensures.found.stays found.0 is.0 is.1 is.2, timely)
 
 pub returns-in-Other-clause-begins : goal.returns-in-Other-clause-begins
 returns-in-Other-clause-begins g c =
@@ -58,10 +52,7 @@ returns-in-Other-clause-begins g c =
     let left = c.left.ensures ∙ ap (λ (x : HearingValue). x.input.left) c.self.view_is in
     let is = rw c.in-Other.is at (rw left at c.read_front_line.ensures) in
     let timely = passed_timely c.front.invariant.1.0 c.front.invariant.1.1 c.in_ok-end.ensures.found.stays
-    c.in_ok-end.ensures.waits in (
-      begins_other passed c.in_ok-end.ensures.found.stays found.0 is.1 is.2,
-      timely,
-    )
+    c.in_ok-end.ensures.waits in (begins_other passed c.in_ok-end.ensures.found.stays found.0 is.1 is.2, timely)
 
 pub returns-clause-begins : goal.returns-clause-begins
 returns-clause-begins g c =
