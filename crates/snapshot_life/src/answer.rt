@@ -71,7 +71,7 @@ fn answer(alloc: Global, reader: &mut Reader, request: &Request) -> Result<Reply
 fn answer_all<G: Gate>(
     gate: &G,
     alloc: Global,
-    place: u32,
+    worker: u32,
     reader: &mut Reader,
     requests: &[Request],
     replies: &mut Vec<Reply>,
@@ -84,7 +84,7 @@ fn answer_all<G: Gate>(
 {
     replies.clear();
     for index in 0..requests.len() {
-        gate.pass(Place::Worker(place), index as u64);
+        gate.pass(Place::Worker(worker), index as u64);
         let reply = answer(alloc, reader, &requests[index])?;
         replies.push(reply)?;
     }
@@ -95,7 +95,7 @@ fn answer_all<G: Gate>(
 fn answer_client<G: Gate>(
     gate: &G,
     alloc: Global,
-    place: u32,
+    worker: u32,
     client: &mut Client,
 ) -> Result<(), AllocError>
     ensures kept { KeepsClient client.old client.new }
@@ -105,7 +105,7 @@ fn answer_client<G: Gate>(
     let answered = answer_all(
         gate,
         alloc,
-        place,
+        worker,
         &mut client.reader,
         client.requests.as_slice(),
         &mut replies,
@@ -114,16 +114,16 @@ fn answer_client<G: Gate>(
     answered
 }
 
-/// Answers the requests of all clients, whose places are counted from `place`. Each client but the last takes a thread
+/// Answers the requests of all clients, whose workers are counted from `first`. Each client but the last takes a thread
 /// of its own.
 pub(crate) fn answer_each<R: Threads + Sync, G: Gate + Sync>(
     rt: &R,
     gate: &G,
     alloc: Global,
-    place: u32,
+    first: u32,
     clients: &mut [Client],
 ) -> Result<(), AllocError>
-    requires { place + length clients.old < 2 ^ 32 }
+    requires { first + length clients.old < 2 ^ 32 }
     ensures kept { AllZip KeepsClient clients.old clients.new }
     ensures answered { OnOk result (AllZip HasAnswered clients.old clients.new) }
 {
@@ -131,19 +131,19 @@ pub(crate) fn answer_each<R: Threads + Sync, G: Gate + Sync>(
         return Ok(());
     };
     if rest.is_empty() {
-        return answer_client(gate, alloc, place, client);
+        return answer_client(gate, alloc, first, client);
     }
     let (mine, theirs) = join_mut(
         rt,
         &mut ||
             ensures kept { KeepsClient client.entry.now client.exit.now }
             ensures answered { OnOk result (HasAnswered client.entry.now client.exit.now) }
-        { answer_client(gate, alloc, place, client) },
+        { answer_client(gate, alloc, first, client) },
         &mut ||
-            requires { IsSync R.row × IsSync G.row × (place + 1 + length rest.now < 2 ^ 32) }
+            requires { IsSync R.row × IsSync G.row × (first + 1 + length rest.now < 2 ^ 32) }
             ensures kept { AllZip KeepsClient rest.entry.now rest.exit.now }
             ensures answered { OnOk result (AllZip HasAnswered rest.entry.now rest.exit.now) }
-        { answer_each(rt, gate, alloc, place + 1, rest) },
+        { answer_each(rt, gate, alloc, first + 1, rest) },
     );
     mine?;
     theirs
