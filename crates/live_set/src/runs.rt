@@ -119,8 +119,8 @@ fn load_at(runs: &[Vec<Load>], place: usize) -> Option<&Load>
     None
 }
 
-/// Inserts a copy of a load into a run. If the run has a load for its domain and locale, that one gets its catalogue, and
-/// keeps its own two names: whoever reads them in another set has their cache lines.
+/// Inserts a copy of a load into a run. If the run has a load for its domain and locale, that one gets its catalogue,
+/// and keeps its own two names: whoever reads them in another set has their cache lines.
 fn put_in(run: &mut Vec<Load>, load: &Load) -> Result<(), AllocError>
     requires { Rises run.old.items }
     ensures { MatchResult result (λ _. run.new.items ≡ slotted run.old.items load.now)

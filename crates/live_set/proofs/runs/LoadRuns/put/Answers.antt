@@ -14,19 +14,19 @@ put_in-requires c = rises_front _ _ c.self.invariant.0
 pub invariant_of-self : goal.invariant_of-self
 invariant_of-self c =
     let now = c.self.inside in
-    let parted = parted_for items c.domain.result c.locale.result _ None c.args.load.now now.later.items c.domain.ensures
-    c.locale.ensures c.deref.ensures.value c.in-None.ensures.parted in
-    let put = put_first items c.args.load.now now.first.items now.later.items c.self.invariant.0 c.self.invariant.1 parted
-    c.put_in.new.run.items c.put_in.result c.put_in.ensures in
+    let parted = parted_for items c.domain.result c.locale.result _ None c.args.load.now now.later.items
+    c.domain.ensures c.locale.ensures c.deref.ensures.value c.in-None.ensures.parted in
+    let put = put_first items c.args.load.now now.first.items now.later.items c.self.invariant.0 c.self.invariant.1
+    parted c.put_in.new.run.items c.put_in.result c.put_in.ensures in
     (put.rises, c.self.invariant.1)
 
 pub returns-in-None : goal.returns-in-None
 returns-in-None c =
     let now = c.self.inside in
-    let parted = parted_for items c.domain.result c.locale.result _ None c.args.load.now now.later.items c.domain.ensures
-    c.locale.ensures c.deref.ensures.value c.in-None.ensures.parted in
-    let put = put_first items c.args.load.now now.first.items now.later.items c.self.invariant.0 c.self.invariant.1 parted
-    c.put_in.new.run.items c.put_in.result c.put_in.ensures in
+    let parted = parted_for items c.domain.result c.locale.result _ None c.args.load.now now.later.items
+    c.domain.ensures c.locale.ensures c.deref.ensures.value c.in-None.ensures.parted in
+    let put = put_first items c.args.load.now now.first.items now.later.items c.self.invariant.0 c.self.invariant.1
+    parted c.put_in.new.run.items c.put_in.result c.put_in.ensures in
     subst (λ (old : List LoadValue). IsPut c.put_in.result c.args.load.now old
     (c.put_in.new.run.items ++ flat_map items now.later.items)) (c.self.view_is ∙ c.make_room.ensures) put.is
 
