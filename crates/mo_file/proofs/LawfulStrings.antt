@@ -9,7 +9,7 @@ use Rattle.catalogue.specs.Entry.{HasForms, IsLawfulEntry}
 use Rattle.mo_image.proofs.EntryParts.{key_lacks_nul}
 use Rattle.mo_image.proofs.Originals.{original_utf8, translation_utf8}
 use Rattle.mo_file.specs.MoReading.{before_nul, IsOriginalText, IsTranslationText, HasLawfulForms}
-use Rattle.mo_file.proofs.Cuts.{is, count_none}
+use Rattle.mo_tables.proofs.Cuts.{is, count_none}
 use Rattle.mo_file.proofs.Entries.{key_of_original}
 
 -- a byte between two texts that lack it

@@ -1,7 +1,5 @@
 pub mod ByteOrders
-pub mod Cuts
 pub mod Entries
-pub mod RowLemmas
 pub mod Named
 pub mod LawfulStrings
 pub mod ReadBack
@@ -9,10 +7,3 @@ pub mod OneMap
 pub mod Ranking
 pub mod SomeMap
 pub mod Spelt
-pub mod PartLemmas
-pub mod GapLemmas
-pub mod RowSweeps
-pub mod KeyOrder
-pub mod BlockLemmas
-pub mod TableRows
-pub mod SoundRows

@@ -17,10 +17,10 @@ use Rattle.mo_file.specs.MoReading.{AreOriginalTexts, AreTranslationTexts, HaveL
 use Rattle.mo_file.specs.MoReading.{Fits, PassesBelow, Mo, IsMoFile}
 use Rattle.mo_file.specs.declared.fault.MoFault.{MoFault}
 use Rattle.mo_file.specs.declared.fault.MoFault.TheVariants.{BadText, Forms, Order, Charset, Swollen}
-use Rattle.mo_file.proofs.Cuts.{first_form_is}
+use Rattle.mo_tables.proofs.Cuts.{first_form_is}
 use Rattle.mo_file.specs.Pairs.{entry_of, paired_entries, named as named_rows, named_in}
 use Rattle.mo_file.proofs.Entries.{key_is, original_is, translation_is, lawful_entry}
-use Rattle.mo_file.proofs.RowLemmas.{first_row, later_rows, strings_split}
+use Rattle.mo_tables.proofs.RowLemmas.{first_row, later_rows, strings_split}
 
 -- ---- the header of a map
 

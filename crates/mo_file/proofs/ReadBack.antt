@@ -21,7 +21,7 @@ use Rattle.mo_file.specs.declared.fault.MoFault.{MoFault}
 use Rattle.mo_file.specs.declared.fault.MoFault.TheVariants.{TooLarge, Short, Magic, Revision, Bounds, NoNul, BadText}
 use Rattle.mo_file.specs.declared.fault.MoFault.TheVariants.{Forms, Order, Charset, Swollen, Memory}
 use Rattle.mo_file.proofs.ByteOrders.{order_little}
-use Rattle.mo_file.proofs.Cuts.{first_form_is}
+use Rattle.mo_tables.proofs.Cuts.{first_form_is}
 use Rattle.mo_file.proofs.Entries.{key_of_original}
 use Rattle.mo_file.proofs.LawfulStrings.{original_text, translation_text, lawful_forms}
 use Rattle.mo_image.proofs.FileStrings.{Names, strings_named, named_at, Describes, spelling_describes}

@@ -12,7 +12,7 @@ use Rattle.mo_file.specs.declared.fault.MoFault.TheVariants.{Short, Magic, Revis
 use Rattle.mo_file.specs.Pairs.{named_in}
 use Rattle.mo_file.proofs.Named.{at_words, named_words, spelling_named}
 use Rattle.mo_file.specs.Behind.{IsInOrder, StandBehind}
-use Rattle.mo_file.proofs.RowLemmas.{first_row, later_rows, length-string}
+use Rattle.mo_tables.proofs.RowLemmas.{first_row, later_rows, length-string}
 
 -- numbers that are bytes
 abbrev pub AreBytes : List ℕ → Type 0

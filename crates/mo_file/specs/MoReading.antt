@@ -1,45 +1,19 @@
 -- Which bytes are an MO file, of which map, and why other bytes are refused (GNU gettext manual, "MO Files").
-use Rattle.std.specs.Prelude.{◌≡◌, ℕ, ◌+◌, ◌*◌, ◌<◌, ◌≤◌, ⊤, ◌==◌, if◌then◌else◌, List, [], length, map, slice_index}
-use Rattle.std.specs.Prelude.{count_by}
-use Rattle.std.specs.List.{before_first}
-use Rattle.std.specs.Ordering.{nat_cmp}
-use Rattle.std.specs.declared.cmp.Ordering.TheVariants.{Less}
-use Rattle.std.specs.Cmp.Lexicographic.{slice_cmp}
-use Rattle.std.specs.Str.{IsUtf8}
+use Rattle.std.specs.Prelude.{◌≡◌, ℕ, ◌<◌, ◌≤◌, ⊤, ◌==◌, if◌then◌else◌, List, length, map}
 use Rattle.byteorder.specs.Endian.{little_number, big_number}
 use Rattle.catalogue.specs.Entry.{Entry, original, translation}
-use Rattle.catalogue.specs.MoFile.{header_len, magic_number, most_file, file}
-use Rattle.catalogue.specs.Map.{IsLawful, HasAcceptedCharset}
-use Rattle.mo_file.specs.Tables.{word_at, string_at, strings}
+use Rattle.catalogue.specs.MoFile.{header_len, magic_number, most_file}
+use Rattle.catalogue.specs.Map.{IsLawful}
+use Rattle.mo_file.specs.Tables.{word_at}
+pub use Rattle.mo_tables.specs.MoTables.{Table, table_at, row, string_in, strings_in, StringLies, IsClosed, before_nul}
+pub use Rattle.mo_tables.specs.MoTables.{IsOriginalText, IsTranslationText, HasLawfulForms, HasLawfulHeader}
+pub use Rattle.mo_tables.specs.MoTables.{TableLies, AllClosed, AreOriginalTexts, AreTranslationTexts, HaveLawfulForms}
+pub use Rattle.mo_tables.specs.MoTables.{KeysRise, HaveLawfulHeaders, Fits}
 use Rattle.mo_file.specs.declared.fault.MoFault.{MoFault}
 use Rattle.mo_file.specs.declared.fault.MoFault.TheVariants.{TooLarge, Short, Magic, Revision, Bounds, NoNul, BadText}
 use Rattle.mo_file.specs.declared.fault.MoFault.TheVariants.{Forms, Order, Charset, Swollen, Memory}
 
 -- ---- a file and its two tables of strings
-
--- a table: how the file's words are read, the file's bytes, where the table begins, and its number of rows, which have
--- 8 bytes each
-pub record Table : Type 0 where
-  pub number : ℕ → List ℕ → ℕ
-  pub bytes : List ℕ
-  pub start : ℕ
-  pub count : ℕ
-
--- the table of n rows that begins at this place
-abbrev pub table_at : (ℕ → List ℕ → ℕ) → List ℕ → ℕ → ℕ → Table
-table_at number bytes start n = record { number = number; bytes = bytes; start = start; count = n }
-
--- where the i-th row begins
-abbrev pub row : Table → ℕ → ℕ
-row table i = table.start + 8 * i
-
--- the string that the i-th row names
-abbrev pub string_in : Table → ℕ → List ℕ
-string_in table i = string_at table.number table.bytes (row table i)
-
--- the strings that the rows name
-abbrev pub strings_in : Table → List (List ℕ)
-strings_in table = strings table.number table.bytes table.start table.count
 
 -- a file: how its words are read, its bytes, the table of the originals, and the table of the translations
 pub record File : Type 0 where
@@ -76,74 +50,6 @@ order bytes = if word_at little_number bytes 0 == magic_number then little_numbe
 -- the bytes as a file, in the byte order of its magic number
 abbrev pub file_of : List ℕ → File
 file_of bytes = file_by (order bytes) bytes
-
--- ---- one string
-
--- the string of this row and one more byte after it lie in the file
-abbrev pub StringLies : (ℕ → List ℕ → ℕ) → List ℕ → ℕ → Type 0
-StringLies number bytes place = word_at number bytes (place + 4) + word_at number bytes place < length bytes
-
--- the string of this row is followed by a NUL
-abbrev pub IsClosed : (ℕ → List ℕ → ℕ) → List ℕ → ℕ → Type 0
-IsClosed number bytes place = slice_index bytes (word_at number bytes (place + 4) + word_at number bytes place) ≡ 0
-
--- what precedes the first NUL: the key of an original, or the first form of a translation
-abbrev pub before_nul : List ℕ → List ℕ
-before_nul text = before_first (λ b. b == 0) text
-
--- an original is UTF-8, with EOT (byte 4) at most once in its key
-pub record IsOriginalText (o : List ℕ) : Type 0 where
-  pub utf8 : IsUtf8 o
-  pub separators : count_by (λ b. b == 4) (before_nul o) ≤ 1
-
--- a translation is UTF-8
-pub record IsTranslationText (t : List ℕ) : Type 0 where
-  pub utf8 : IsUtf8 t
-
--- the original holds NUL at most once, and if it holds none the translation is a single form
-pub record HasLawfulForms (o t : List ℕ) : Type 0 where
-  pub plurals : count_by (λ b. b == 0) o ≤ 1
-  pub alone : count_by (λ b. b == 0) o ≡ 0 → count_by (λ b. b == 0) t ≡ 0
-
--- an entry with the empty key is the header: its first form names no charset or an accepted one
-pub record HasLawfulHeader (o t : List ℕ) : Type 0 where
-  pub accepted : before_nul o ≡ [] → HasAcceptedCharset (before_nul t)
-
--- ---- the strings of a table, or of two
-
--- the table and all its strings lie in the file
-pub record TableLies (table : Table) : Type 0 where
-  pub rows : 0 < table.count → table.start + 8 * table.count ≤ length table.bytes
-  pub strings : (i : ℕ) → i < table.count → StringLies table.number table.bytes (row table i)
-
--- every string is followed by a NUL
-pub record AllClosed (table : Table) : Type 0 where
-  pub each : (i : ℕ) → i < table.count → IsClosed table.number table.bytes (row table i)
-
--- every string is a lawful original
-pub record AreOriginalTexts (table : Table) : Type 0 where
-  pub each : (i : ℕ) → i < table.count → IsOriginalText (string_in table i)
-
--- every string is a lawful translation
-pub record AreTranslationTexts (table : Table) : Type 0 where
-  pub each : (i : ℕ) → i < table.count → IsTranslationText (string_in table i)
-
--- every original and its translation have lawful forms
-pub record HaveLawfulForms (originals translations : Table) : Type 0 where
-  pub each : (i : ℕ) → i < originals.count → HasLawfulForms (string_in originals i) (string_in translations i)
-
--- each key is below the next one, byte by byte
-pub record KeysRise (originals : Table) : Type 0 where
-  pub each : (i : ℕ) → i + 1 < originals.count
-      → slice_cmp nat_cmp (before_nul (string_in originals i)) (before_nul (string_in originals (i + 1))) ≡ Less
-
--- the header, if there is one, is lawful
-pub record HaveLawfulHeaders (originals translations : Table) : Type 0 where
-  pub each : (i : ℕ) → i < originals.count → HasLawfulHeader (string_in originals i) (string_in translations i)
-
--- the one file that is written of these strings has at most 268,435,456 bytes
-pub record Fits (originals translations : Table) : Type 0 where
-  pub short : length (file originals.count (strings_in originals) (strings_in translations)) ≤ most_file
 
 -- ---- the refusals
 

@@ -1,21 +1,11 @@
 //! MO files (GNU gettext manual, "MO Files"): writing the one file of a catalogue, and reading any MO file.
 #![tactic(auto)]
 
-mod blocks;
-mod claims;
 mod fault;
-mod gap;
 mod laws;
 mod own;
 mod read;
 mod refusals;
-mod row_tests;
-mod rows;
-mod sound;
-mod stretch;
-mod strings;
-mod tables;
-mod texts;
 mod write;
 
 pub use fault::MoFault;

@@ -6,11 +6,11 @@ ghost use Rattle.mo_file.specs.Behind.{IsInOrder, StandBehind};
 ghost use Rattle.mo_file.specs.Pairs.{named_in};
 ghost use Rattle.mo_file.specs.MoReading.{table_at, file_by, TableLies, PassesBelow};
 
-use crate::rows::word;
 use byteorder::LittleEndian;
 use mo_image::{
     COUNT_AT, HASH_SIZE_AT, HASH_TABLE_AT, HEADER_LEN, ORIGINALS_AT, ROW_LEN, TRANSLATIONS_AT,
 };
+use mo_tables::word;
 
 /// Whether the tables of `n` rows directly follow the header, and there is no hash table.
 fn is_in_order(bytes: &[u8], n: usize) -> bool

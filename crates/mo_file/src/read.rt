@@ -9,12 +9,12 @@ ghost use Rattle.mo_file.specs.Pairs.{plural_part, entry_of, named, named_in};
 use crate::fault::MoFault;
 use crate::own::is_own;
 use crate::refusals::{check_all, is_low_first};
-use crate::rows::{string, word};
 use crate::write::write_mo;
 use byte_text::split_at_byte;
 use byteorder::{BigEndian, ByteOrder, LittleEndian};
 use catalogue::{Catalogue, EntryStrings};
 use mo_image::{COUNT_AT, ORIGINALS_AT, ROW_LEN, TRANSLATIONS_AT};
+use mo_tables::{string, word};
 use std::alloc::{AllocError, Global};
 
 /// Returns the string of a row, which has been checked to be UTF-8.

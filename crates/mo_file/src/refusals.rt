@@ -3,17 +3,16 @@
 ghost use Rattle.std.specs.Prelude.{◌≡◌, ◌↔◌, ◌≤◌, length, IsTrue, OnOk, IfOk, IfErr};
 ghost use Rattle.byteorder.specs.Endian.{little_number};
 ghost use Rattle.catalogue.specs.MoFile.{header_len, magic_number, most_file};
-ghost use Rattle.mo_file.specs.Rows.{rows_in, AreSound};
+ghost use Rattle.mo_tables.specs.MoTables.{AreSound};
 ghost use Rattle.mo_file.specs.MoReading.{file_by, file_of, Passes, PassesBelow, RefusedBy, Refused, IsMoFile};
 
-use crate::claims::{all_hold, in_order, read_claims};
 use crate::fault::MoFault;
-use crate::row_tests::{have_forms, have_texts};
-use crate::rows::{Row, read_rows, word};
-use crate::sound::are_sound;
-use crate::tables::{all_closed, fits, have_lawful_headers, keys_rise, table_lies};
 use byteorder::{BigEndian, ByteOrder, LittleEndian};
 use mo_image::{COUNT_AT, HEADER_LEN, MAGIC, MAX_LEN, ORIGINALS_AT, REVISION_AT, TRANSLATIONS_AT};
+use mo_tables::{
+    all_closed, are_sound, fits, have_lawful_forms, have_lawful_headers, have_lawful_texts,
+    keys_rise, overlapping_keys_rise, table_lies, word,
+};
 use std::alloc::{AllocError, Global};
 
 /// Whether both tables and all their strings lie in the file.
@@ -37,18 +36,6 @@ fn passes_closing<T: ByteOrder>(bytes: &[u8]) -> bool
         && all_closed::<T>(bytes, word::<T>(bytes, TRANSLATIONS_AT), n)
 }
 
-/// Reads the rows of both tables.
-fn rows_of<T: ByteOrder>(alloc: Global, bytes: &[u8]) -> Result<Vec<Row>, AllocError>
-    requires long { header_len ≤ length bytes.now }
-    requires lies { Passes (file_by T.number_of bytes.now) MoFault.Bounds }
-    ensures { IfOk result (λ v. v.items ≡ rows_in (file_by T.number_of bytes.now)) }
-{
-    let n = word::<T>(bytes, COUNT_AT);
-    let originals = word::<T>(bytes, ORIGINALS_AT);
-    let translations = word::<T>(bytes, TRANSLATIONS_AT);
-    read_rows::<T>(alloc, bytes, originals, translations, n)
-}
-
 /// Whether all strings are lawful texts.
 fn passes_texts<T: ByteOrder>(
     alloc: Global,
@@ -59,8 +46,10 @@ fn passes_texts<T: ByteOrder>(
     requires lies { Passes (file_by T.number_of bytes.now) MoFault.Bounds }
     ensures { IfOk result (λ yes. IsTrue yes ↔ Passes (file_by T.number_of bytes.now) MoFault.BadText) }
 {
-    let rows = rows_of::<T>(alloc, bytes)?;
-    Ok(have_texts(bytes, rows, overlap))
+    let n = word::<T>(bytes, COUNT_AT);
+    let originals = word::<T>(bytes, ORIGINALS_AT);
+    let translations = word::<T>(bytes, TRANSLATIONS_AT);
+    have_lawful_texts::<T>(alloc, bytes, originals, translations, n, overlap)
 }
 
 /// Whether every entry has lawful forms.
@@ -73,21 +62,10 @@ fn passes_forms<T: ByteOrder>(
     requires lies { Passes (file_by T.number_of bytes.now) MoFault.Bounds }
     ensures { IfOk result (λ yes. IsTrue yes ↔ Passes (file_by T.number_of bytes.now) MoFault.Forms) }
 {
-    let rows = rows_of::<T>(alloc, bytes)?;
-    have_forms(alloc, bytes, rows, overlap)
-}
-
-/// Whether the keys rise, for a file whose strings overlap.
-fn passes_claims<T: ByteOrder>(alloc: Global, bytes: &[u8]) -> Result<bool, AllocError>
-    requires short { length bytes.now ≤ most_file }
-    requires long { header_len ≤ length bytes.now }
-    requires lies { Passes (file_by T.number_of bytes.now) MoFault.Bounds }
-    requires closed { Passes (file_by T.number_of bytes.now) MoFault.NoNul }
-    ensures { IfOk result (λ yes. IsTrue yes ↔ Passes (file_by T.number_of bytes.now) MoFault.Order) }
-{
-    let rows = rows_of::<T>(alloc, bytes)?;
-    let claims = in_order(read_claims(alloc, &rows)?);
-    all_hold(alloc, bytes, &claims)
+    let n = word::<T>(bytes, COUNT_AT);
+    let originals = word::<T>(bytes, ORIGINALS_AT);
+    let translations = word::<T>(bytes, TRANSLATIONS_AT);
+    have_lawful_forms::<T>(alloc, bytes, originals, translations, n, overlap)
 }
 
 /// Whether the keys rise. `overlap` selects the method for strings that overlap.
@@ -102,11 +80,13 @@ fn passes_order<T: ByteOrder>(
     requires closed { Passes (file_by T.number_of bytes.now) MoFault.NoNul }
     ensures { IfOk result (λ yes. IsTrue yes ↔ Passes (file_by T.number_of bytes.now) MoFault.Order) }
 {
-    if overlap {
-        return passes_claims::<T>(alloc, bytes);
-    }
+    let n = word::<T>(bytes, COUNT_AT);
     let originals = word::<T>(bytes, ORIGINALS_AT);
-    Ok(keys_rise::<T>(bytes, originals, word::<T>(bytes, COUNT_AT)))
+    if overlap {
+        let translations = word::<T>(bytes, TRANSLATIONS_AT);
+        return overlapping_keys_rise::<T>(alloc, bytes, originals, translations, n);
+    }
+    Ok(keys_rise::<T>(bytes, originals, n))
 }
 
 /// Whether the header, if there is one, names an accepted charset or none.

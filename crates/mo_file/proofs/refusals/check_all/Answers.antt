@@ -1,4 +1,4 @@
-use Rattle.std.proofs.Common.{ℕ, List, sym, subst}
+use Rattle.std.proofs.Common.{ℕ, List, rules, sym, subst}
 use Rattle.std.specs.Prelude.{OnOk, IfErr}
 use Rattle.mo_file.specs.MoReading.{file_by, PassesBelow, RefusedBy}
 use Rattle.mo_file.proofs.ByteOrders.{order_low, order_high}
@@ -27,3 +27,6 @@ returns-clause-err c =
     let P : (ℕ → List ℕ → ℕ) → Type 0 = λ number. IfErr c.check_file-2.result
     (λ f. RefusedBy (file_by number c.args.bytes.now) f) in
     subst P (sym (order_high c.args.bytes.now c.if-is_low_first.ensures)) c.check_file-2.ensures.err
+
+pub returns-then-read_u32-ne-MAGIC-clause-err : goal.returns-then-read_u32-ne-MAGIC-clause-err
+returns-then-read_u32-ne-MAGIC-clause-err c = search rules

@@ -1,9 +1,0 @@
-use Rattle.std.proofs.Common.{◌≡◌, length}
-use Rattle.mo_file.specs.Blocks.{AreFirsts}
-use Rattle.mo_file.proofs.blocks.first_blocks.Given as goal
-
-abbrev pub invariant-loop-k : goal.invariant-loop-k
-invariant-loop-k l = record {
-  count : length l.firsts.items ≡ l.k;
-  are : AreFirsts l.bytes l.starts l.firsts.items;
-}

@@ -1,6 +1,0 @@
-use Rattle.std.proofs.Common.{◌*◌}
-use Rattle.mo_file.specs.Claims.{AreAlike}
-use Rattle.mo_file.proofs.claims.alike_chunks.Given as goal
-
-abbrev pub invariant-loop-i : goal.invariant-loop-i
-invariant-loop-i l = AreAlike l.a l.b (l.i * 256)

@@ -1,5 +1,0 @@
-use Rattle.mo_file.specs.Claims.{AreAlike}
-use Rattle.mo_file.proofs.claims.alike_len.Given as goal
-
-abbrev pub invariant-loop-i : goal.invariant-loop-i
-invariant-loop-i l = AreAlike l.a l.b l.i

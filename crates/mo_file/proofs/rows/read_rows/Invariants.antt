@@ -1,6 +1,0 @@
-use Rattle.std.proofs.Common.{◌≡◌}
-use Rattle.mo_file.specs.Rows.{rows}
-use Rattle.mo_file.proofs.rows.read_rows.Given as goal
-
-abbrev pub invariant-loop-i : goal.invariant-loop-i
-invariant-loop-i g l = l.rows.items ≡ rows g.T.ByteOrder.number_of l.bytes l.originals l.translations l.i

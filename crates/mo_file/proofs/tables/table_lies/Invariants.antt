@@ -1,6 +1,0 @@
-use Rattle.std.proofs.Common.{ℕ, ◌+◌, ◌*◌, ◌<◌}
-use Rattle.mo_file.specs.MoReading.{StringLies}
-use Rattle.mo_file.proofs.tables.table_lies.Given as goal
-
-abbrev pub invariant-loop-i : goal.invariant-loop-i
-invariant-loop-i g l = (k : ℕ) → k < l.i → StringLies g.T.ByteOrder.number_of l.bytes (l.table + 8 * k)

@@ -1,0 +1,9 @@
+pub mod Cuts
+pub mod RowLemmas
+pub mod PartLemmas
+pub mod GapLemmas
+pub mod RowSweeps
+pub mod KeyOrder
+pub mod BlockLemmas
+pub mod TableRows
+pub mod SoundRows

@@ -1,0 +1,9 @@
+use Rattle.std.proofs.Common.{◌≡◌, length}
+use Rattle.mo_tables.specs.Blocks.{AreFirsts}
+use Rattle.mo_tables.proofs.blocks.first_blocks.Given as goal
+
+abbrev pub invariant-loop-k : goal.invariant-loop-k
+invariant-loop-k l = record {
+  count : length l.firsts.items ≡ l.k;
+  are : AreFirsts l.bytes l.starts l.firsts.items;
+}

@@ -1,0 +1,6 @@
+use Rattle.std.proofs.Common.{◌*◌}
+use Rattle.mo_tables.specs.Claims.{AreAlike}
+use Rattle.mo_tables.proofs.claims.alike_chunks.Given as goal
+
+abbrev pub invariant-loop-i : goal.invariant-loop-i
+invariant-loop-i l = AreAlike l.a l.b (l.i * 256)

@@ -1,0 +1,12 @@
+use Rattle.std.proofs.Common.{take}
+use Rattle.std.specs.Prelude.{All}
+use Rattle.std.specs.Str.{IsUtf8}
+use Rattle.mo_tables.specs.FileParts.{IsStretch}
+use Rattle.mo_tables.specs.Rows.{text_in}
+use Rattle.mo_tables.proofs.strings.originals_utf8.Given as goal
+
+abbrev pub invariant-rows : goal.invariant-rows
+invariant-rows l = record {
+  stretch : IsStretch l.bytes l.stretch;
+  utf8 : All (λ row. IsUtf8 (text_in l.bytes row.original)) (take l.row-index l.rows);
+}

@@ -1,0 +1,10 @@
+use Rattle.std.proofs.Common.{ℕ, ◌+◌, ◌*◌, ◌<◌}
+use Rattle.mo_image.specs.Tables.{string_at}
+use Rattle.mo_tables.specs.MoTables.{HasLawfulHeader}
+use Rattle.mo_tables.proofs.tables.have_lawful_headers.Given as goal
+
+abbrev pub invariant-loop-i : goal.invariant-loop-i
+invariant-loop-i g l =
+    let number = g.T.ByteOrder.number_of in
+    (k : ℕ) → k < l.i → HasLawfulHeader (string_at number l.bytes (l.originals + 8 * k))
+    (string_at number l.bytes (l.translations + 8 * k))

@@ -1,0 +1,5 @@
+pub mod MoTables
+pub mod Rows
+pub mod FileParts
+pub mod Claims
+pub mod Blocks
