@@ -12,10 +12,11 @@ const TOP: u64 = 1001;
 /// How often a rule is read.
 const READS: u64 = 1000;
 
-/// The sum of the forms of the numbers below `top`, `rounds` times, by the rule of a header's text.
+/// The sum of the forms of the numbers below `top`, `rounds` times, by the rule of a header's text with its table.
 #[inline(never)]
 fn sum_forms(alloc: Global, text: &str, top: u64, rounds: u64) -> Result<u64, AllocError> {
-    let rule = read_rule(alloc, text)?;
+    let mut rule = read_rule(alloc, text)?;
+    rule.tabulate(alloc)?;
     let mut sum: u64 = 0;
     for _ in 0..rounds {
         for n in 0..top {
@@ -25,12 +26,13 @@ fn sum_forms(alloc: Global, text: &str, top: u64, rounds: u64) -> Result<u64, Al
     Ok(sum)
 }
 
-/// Reads the rule of a header's text `READS` times, and gives the sum of the forms of 2.
+/// Reads the rule of a header's text `READS` times, each time with its table, and gives the sum of the forms of 2.
 #[inline(never)]
 fn read_often(alloc: Global, text: &str) -> Result<u64, AllocError> {
     let mut sum: u64 = 0;
     for _ in 0..READS {
-        let rule = read_rule(alloc, text)?;
+        let mut rule = read_rule(alloc, text)?;
+        rule.tabulate(alloc)?;
         sum = sum.wrapping_add(rule.form_index(2));
     }
     Ok(sum)

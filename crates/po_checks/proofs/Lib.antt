@@ -2,3 +2,4 @@ pub mod FirstLines
 pub mod Refusals
 pub mod Checking
 pub mod Faults
+pub mod Values

@@ -1,9 +1,10 @@
 -- Private: what the steps of the checks promise one another.
-use Rattle.std.specs.Prelude.{◌≡◌, ◌≢◌, ◌⊎◌, ℕ, ◌≤◌, ◌==◌, Bool, not, true, false, IsTrue, if◌then◌else◌, List, [], ◌∷◌}
-use Rattle.std.specs.Prelude.{◌++◌, Option, Some, None}
+use Rattle.std.specs.Prelude.{◌≡◌, ◌≢◌, ◌⊎◌, ℕ, ◌<◌, ◌≤◌, ◌==◌, Bool, not, true, false, IsTrue, if◌then◌else◌, List, []}
+use Rattle.std.specs.Prelude.{◌∷◌, ◌++◌, Option, Some, None}
 use Rattle.po_text.specs.Entries as po
 use Rattle.po_header.specs.Grammar.{Tree}
 use Rattle.po_header.specs.Rule.{Rule}
+use Rattle.po_header.specs.TreeValue.{value}
 use Rattle.c_signature.specs.Agreement.{Agrees}
 use Rattle.c_signature.specs.Signature as signature
 use Rattle.c_signature.specs.declared.Strictness.{Strictness}
@@ -56,6 +57,10 @@ pub record AddsPlural (old new : Plurals) (forms line : ℕ) : Type 0 where
 abbrev pub FirstWithoutForm : ℕ → Tree → Option ℕ → Type 0
 FirstWithoutForm nplurals tree None = (n : ℕ) → n ≤ 1000 → has_form nplurals tree n ≡ true
 FirstWithoutForm nplurals tree (Some n) = IsFirstWithoutForm nplurals tree n
+
+-- each value at 0 to 1000 is also that at a number below the end
+abbrev pub HasAllValues : Tree → ℕ → Type 0
+HasAllValues tree end = (n : ℕ) → n ≤ 1000 → (m : ℕ) × (m < end) × (value tree m ≡ value tree n)
 
 -- only one of the two begins with a newline, or only one ends with one
 pub record NewlinesDiffer (id text : List ℕ) : Type 0 where

@@ -2,9 +2,10 @@
 use Rattle.std.specs.Prelude.{◌≡◌, ℕ, ◌≤◌, ◌==◌, Bool, IsTrue, if◌then◌else◌, List, [], ◌∷◌}
 use Rattle.std.specs.Prelude.{◌++◌, Option, Some, None}
 use Rattle.po_text.specs.Entries as po
+use Rattle.po_header.specs.Rule.{Rule}
 use Rattle.po_checks.specs.Checks.{NoneOf, FirstAt, HasSystemDependentText, HasOtherArguments, IsPlural, HasOtherCount}
 use Rattle.po_checks.specs.Checks.{HasOtherNewlines}
-use Rattle.po_checks.specs.Kept.{kept, header_line_of, header_text_of}
+use Rattle.po_checks.specs.Kept.{kept, header_line_of, HasHeaderRule}
 use Rattle.po_checks.specs.Fails.{rank, Fails, IsFirst}
 use Rattle.po_checks.specs.declared.findings.Findings.{Findings}
 use Rattle.po_checks.specs.declared.plurals.FirstPlural.{FirstPlural}
@@ -57,8 +58,8 @@ abbrev pub LooksAt : Options → po.Entry → Findings → Findings → Type 0
 LooksAt options e old new = (entries : List po.Entry) → HasFound options entries old
     → HasFound options (entries ++ e ∷ []) new
 
--- the first fault by the findings and by the text and line of the header, among the refusals from the eleventh on
-abbrev pub IsFault : Findings → Options → Option (List ℕ) → ℕ → Option LoadFault → Type 0
-IsFault findings options header at fault = (entries : List po.Entry) → HasFound options entries findings → header
-    ≡ header_text_of options entries → at ≡ header_line_of options entries
+-- the first fault by the findings and by the rule and line of the header, among the refusals from the eleventh on
+abbrev pub IsFault : Findings → Options → Rule → ℕ → Option LoadFault → Type 0
+IsFault findings options rule at fault = (entries : List po.Entry) → HasFound options entries findings
+    → HasHeaderRule options entries rule → at ≡ header_line_of options entries
     → FirstFault (FailsFrom 11 options entries) fault

@@ -1,5 +1,5 @@
 //! The checks of a PO text, run on its kept entries in the order in which they are read.
-ghost use Rattle.std.specs.Prelude.{◌≡◌, ◌&&◌, [], OnOk, IfOk, IfErr, IsTrue, option_map};
+ghost use Rattle.std.specs.Prelude.{◌≡◌, ◌&&◌, [], OnOk, IfErr, IsTrue, option_map};
 ghost use Rattle.po_header.specs.Rules.{rule_of};
 ghost use Rattle.po_checks.specs.Findings.{first_or, AddsFormats, AddsTexts, IsCheckedFault};
 ghost use Rattle.po_checks.specs.Found.{HasFound, IsFault, LooksAt};
@@ -10,7 +10,7 @@ use crate::kept::is_kept;
 use crate::newlines::newlines_differ;
 use crate::plurals::Plurals;
 use crate::{LoadFault, LoadKind, Options};
-use po_header::{RuleRead, rule_in};
+use po_header::RuleRead;
 use po_text::EntryBuffer;
 use std::alloc::{AllocError, Global};
 
@@ -118,29 +118,17 @@ impl Findings {
         }
     }
 
-    /// Returns the first fault that the checks have found, given the text and the line of the kept header. The only
-    /// error is a failed allocation.
-    pub fn fault(
-        &self,
-        alloc: Global,
-        options: Options,
-        header: Option<&str>,
-        header_line: u32,
-    ) -> Result<Option<LoadFault>, AllocError>
-        ensures ok { IfOk result (λ fault. IsFault self.now options (option_map (λ text. text.now) header.entry)
-            header_line fault) }
-
-        // Only the checked level reads the rule, which allocates memory.
-        ensures no_memory { IfErr result (λ _. IsTrue options.checked) }
+    /// Returns the first fault that the checks have found, given the rule and the line of the kept header.
+    pub fn fault(&self, options: Options, rule: &RuleRead, header_line: u32) -> Option<LoadFault>
+        ensures { IsFault self.now options (rule_of rule.now) header_line result }
     {
         if let Some(line) = self.system_dependent {
             let kind = LoadKind::SystemDependent;
-            return Ok(Some(LoadFault { kind, line }));
+            return Some(LoadFault { kind, line });
         }
         if !options.checked {
-            return Ok(None);
+            return None;
         }
-        let rule = rule_in(alloc, header)?;
-        Ok(self.checked_fault(&rule, header_line))
+        self.checked_fault(rule, header_line)
     }
 }

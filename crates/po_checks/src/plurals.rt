@@ -1,13 +1,13 @@
 //! The check of plural forms: there is a rule, each plural entry has as many forms as the rule says, and each number
 //! has a form (GNU gettext manual, "Plural forms").
-ghost use Rattle.std.specs.Prelude.{◌≡◌, ◌++◌, ◌∷◌, [], List};
+ghost use Rattle.std.specs.Prelude.{◌≡◌, ◌≤◌, ◌++◌, ◌∷◌, [], List};
 ghost use Rattle.po_header.specs.Expr.{tree_of};
 ghost use Rattle.po_header.specs.Rule.{Given};
 ghost use Rattle.po_header.specs.Rules.{rule_of};
 ghost use Rattle.po_text.specs.Entries.{Entry as PoEntry};
 ghost use Rattle.po_checks.specs.Checks.{has_form};
 ghost use Rattle.po_checks.specs.Found.{line_for, line_of, FirstFault, HasPlurals};
-ghost use Rattle.po_checks.specs.Findings.{AddsPlural, FirstWithoutForm};
+ghost use Rattle.po_checks.specs.Findings.{AddsPlural, FirstWithoutForm, HasAllValues};
 ghost use Rattle.po_checks.specs.Fails.{RuleRefuses};
 
 use crate::findings::{fault_at, first_line};
@@ -41,11 +41,19 @@ fn has_form_for(nplurals: u64, expr: &PluralExpr, n: u64) -> bool
     }
 }
 
+/// Returns a number such that the values at 0 to 1000 are those at the numbers below it.
+fn end_of_values(expr: &PluralExpr) -> u64
+    ensures within { result ≤ 1001 }
+    ensures all { HasAllValues (tree_of expr.now) result }
+{
+    if expr.repeats() { 200 } else { 1001 }
+}
+
 /// Returns the least number from 0 to 1000 that the rule gives none of the forms.
 fn first_without_form(nplurals: u64, expr: &PluralExpr) -> Option<u64>
     ensures { FirstWithoutForm nplurals (tree_of expr.now) result }
 {
-    'numbers: for n in 0..1001 {
+    'numbers: for n in 0..end_of_values(expr) {
         if !has_form_for(nplurals, expr, n) {
             return Some(n);
         }

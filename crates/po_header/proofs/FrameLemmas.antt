@@ -1,5 +1,11 @@
 -- The code's frames, compared with what waits.
-use Rattle.std.proofs.Common.{◌≡◌, ℕ, ◌-◌, take, arith, true, false, List, [], ◌∷◌, ◌++◌, Some, None, refl, ap, ◌∙◌}
+use Rattle.std.proofs.Common.{◌≡◌, ℕ, suc, ◌-◌, take, arith, true, false, List, [], ◌∷◌, ◌++◌, Some, None, refl, sym}
+use Rattle.std.proofs.Common.{take-suc, ap, ◌∙◌}
+use Rattle.std.specs.Prelude.{◌==◌, length}
+use Rattle.std.specs.List.{slice_get}
+use Rattle.std.proofs.lemmas.Bool.{ne_eqb}
+use Rattle.std.proofs.lemmas.List.{take_all}
+use Rattle.std.proofs.lemmas.Option.{slice_get_within, slice_get-get_or, get_or_from_slice_get}
 use Rattle.po_header.specs.declared.parse.Frame.{Frame}
 use Rattle.po_header.specs.declared.parse.Frame.TheVariants.{Bracket, Bang, Left, Condition, Branch}
 use Rattle.po_header.specs.declared.tree.Node.{Node}
@@ -45,23 +51,40 @@ pub joined-nothing : (k : ℕ) (all frames : List Frame) (n : ℕ) (t : Tree) �
     ≡ take (n - 1) all → n ≡ 0 → joined k (stack_of all) t ≡ (stack_of frames, t)
 joined-nothing k all frames n t e rest none = let h = none_left all frames n e rest none in rw (h.0, h.1) refl
 
-pub negated-nothing : (all frames : List Frame) (n : ℕ) (t : Tree) → all ≡ frames ++ [] → frames ≡ take (n - 1) all → n
-    ≡ 0 → negated (stack_of all) t ≡ (stack_of frames, t)
-negated-nothing all frames n t e rest none = let h = none_left all frames n e rest none in rw (h.0, h.1) refl
+-- ---- the last frame
 
-pub negated-frame : (all frames : List Frame) (frame : Frame) (t u : Tree) → all ≡ frames ++ frame ∷ []
+last_split : (all : List Frame) (frame : Frame) → slice_get all (length all - 1) ≡ Some frame → all
+    ≡ take (length all - 1) all ++ frame ∷ []
+last_split all frame h =
+    let k = length all - 1 in
+    let low = slice_get_within all k frame h in
+    sym (take_all (suc k) all (omega arith)) ∙ take-suc all k frame low
+    ∙ ap (λ (f : Frame). take k all ++ f ∷ []) (get_or_from_slice_get all k frame frame h)
+
+-- there is none
+no_last : (all : List Frame) → slice_get all (length all - 1) ≡ None → all ≡ []
+no_last [] h = refl
+no_last (f ∷ frames) h =
+    let some = slice_get-get_or (f ∷ frames) (length (f ∷ frames) - 1) f (omega arith) in absurd (cc)
+
+-- after it is taken off
+last_off : (all frames : List Frame) (n : ℕ) (frame : Frame) → Some frame ≡ slice_get all (length all - 1) → n
+    ≡ length all → frames ≡ take (n - 1) all → all ≡ frames ++ frame ∷ []
+last_off all frames n frame last len rest = rw (rest, len) (last_split all frame (sym last))
+
+pub negated-nothing : (all : List Frame) (t : Tree) → None ≡ slice_get all (length all - 1) → negated (stack_of all) t
+    ≡ (stack_of all, t)
+negated-nothing all t none = rw (no_last all (sym none)) refl
+
+pub negated-frame : (all frames : List Frame) (n : ℕ) (frame : Frame) (t u : Tree)
+    → Some frame ≡ slice_get all (length all - 1) → n ≡ length all → frames ≡ take (n - 1) all
     → is_bang_waits (frame_waits frame) ≡ true → u ≡ Negation t → negated (stack_of all) t ≡ negated (stack_of frames) u
-negated-frame all frames frame t u e bang is = rw (stack_of-push all frames frame e, bang, is) refl
+negated-frame all frames n frame t u last len rest bang is =
+    rw (stack_of-push all frames frame (last_off all frames n frame last len rest), bang, is) refl
 
-pub negated-stays : (all frames new : List Frame) (frame : Frame) (t : Tree) → all ≡ frames ++ frame ∷ []
-    → is_bang_waits (frame_waits frame) ≡ false → new ≡ frames ++ frame ∷ [] → negated (stack_of all) t
-    ≡ (stack_of new, t)
-negated-stays all frames new frame t e stays f = rw (
-  stack_of-push all frames frame e,
-  stays,
-  stack_of-push new frames
-      frame f,
-) refl
+pub negated-stays : (all : List Frame) (frame : Frame) (t : Tree) → Some frame ≡ slice_get all (length all - 1)
+    → is_bang_waits (frame_waits frame) ≡ false → negated (stack_of all) t ≡ (stack_of all, t)
+negated-stays all frame t last stays = rw (stack_of-push all _ frame (last_split all frame (sym last)), stays) refl
 
 -- ---- steps
 
@@ -79,34 +102,48 @@ colon-other all frames (Condition c) t e other = absurd (other c refl)
 colon-other all frames (Branch c a) t e other = rw (stack_of-push all frames (Branch c a) e) refl
 
 -- only a bracket waits for a closing bracket
-pub close-other : (all frames : List Frame) (frame : Frame) (t : Tree) → all ≡ frames ++ frame ∷ []
+close_other : (ws : List Waiting) (frame : Frame) (t : Tree) → (frame ≡ Bracket → ⊥)
+    → close (frame_waits frame ∷ ws, t) ≡ None
+close_other ws Bracket t other = absurd (other refl)
+close_other ws Bang t other = refl
+close_other ws (Left op left) t other = refl
+close_other ws (Condition c) t other = refl
+close_other ws (Branch c a) t other = refl
+
+pub close-other : (all : List Frame) (frame : Frame) (t : Tree) → Some frame ≡ slice_get all (length all - 1)
     → (frame ≡ Bracket → ⊥) → close (stack_of all, t) ≡ None
-close-other all frames Bracket t e other = absurd (other refl)
-close-other all frames Bang t e other = rw (stack_of-push all frames Bang e) refl
-close-other all frames (Left op left) t e other = rw (stack_of-push all frames (Left op left) e) refl
-close-other all frames (Condition c) t e other = rw (stack_of-push all frames (Condition c) e) refl
-close-other all frames (Branch c a) t e other = rw (stack_of-push all frames (Branch c a) e) refl
+close-other all frame t last other =
+    rw (stack_of-push all _ frame (last_split all frame (sym last))) (close_other _ frame t other)
+
+pub close-nothing : (all : List Frame) (t : Tree) → None ≡ slice_get all (length all - 1)
+    → close (stack_of all, t) ≡ None
+close-nothing all t none = rw (no_last all (sym none)) refl
 
 pub colon-nothing : (all frames : List Frame) (n : ℕ) (t : Tree) → all ≡ frames ++ [] → frames ≡ take (n - 1) all → n
     ≡ 0 → colon (stack_of all, t) ≡ None
 colon-nothing all frames n t e rest none = let h = none_left all frames n e rest none in rw h.0 refl
 
-pub close-nothing : (all frames : List Frame) (n : ℕ) (t : Tree) → all ≡ frames ++ [] → frames ≡ take (n - 1) all → n
-    ≡ 0 → close (stack_of all, t) ≡ None
-close-nothing all frames n t e rest none = let h = none_left all frames n e rest none in rw h.0 refl
-
 pub colon-condition : (all frames : List Frame) (c : Node) (t : Tree) → all ≡ frames ++ Condition c ∷ []
     → colon (stack_of all, t) ≡ wanting (BranchWaits (node_tree c) t ∷ stack_of frames)
 colon-condition all frames c t e = rw (stack_of-push all frames (Condition c) e) refl
 
-pub close-bracket : (all frames : List Frame) (t : Tree) → all ≡ frames ++ Bracket ∷ [] → close (stack_of all, t)
-    ≡ having (negated (stack_of frames) t)
-close-bracket all frames t e = rw (stack_of-push all frames Bracket e) refl
+pub close-bracket : (all frames : List Frame) (n : ℕ) (frame : Frame) (t : Tree)
+    → Some frame ≡ slice_get all (length all - 1) → frame ≡ Bracket → n ≡ length all → frames ≡ take (n - 1) all
+    → close (stack_of all, t) ≡ having (negated (stack_of frames) t)
+close-bracket all frames n frame t last is len rest =
+    rw (stack_of-push all frames frame (last_off all frames n frame last len rest), is) refl
 
-pub ended-more : (all frames : List Frame) (frame : Frame) (t : Tree) → all ≡ frames ++ frame ∷ []
-    → ended (stack_of all, t) ≡ None
-ended-more all frames frame t e = rw (stack_of-push all frames frame e) refl
+ended-on : (frames : List Frame) (w : Waiting) (ws : List Waiting) (t : Tree) → ended (stack_on (w ∷ ws) frames, t)
+    ≡ None
+ended-on [] w ws t = refl
+ended-on (f ∷ frames) w ws t = ended-on frames (frame_waits f) (w ∷ ws) t
 
-pub ended-all : (all frames : List Frame) (n : ℕ) (t : Tree) → all ≡ frames ++ [] → frames ≡ take (n - 1) all → n ≡ 0
-    → ended (stack_of all, t) ≡ Some t
-ended-all all frames n t e rest none = let h = none_left all frames n e rest none in rw h.0 refl
+-- the operand is the whole expression if nothing waits
+pub ended-none : (frames : List Frame) (t : Tree) → true ≡ (length frames == 0) → ended (stack_of frames, t) ≡ Some t
+ended-none [] t e = refl
+ended-none (f ∷ frames) t e = let no = ne_eqb (length (f ∷ frames)) 0 (λ h. omega arith) in absurd (cc (e, no))
+
+-- and only then
+pub ended-some : (frames : List Frame) (t : Tree) → false ≡ (length frames == 0) → ended (stack_of frames, t) ≡ None
+ended-some [] t e = absurd (cc e)
+ended-some (f ∷ frames) t e = ended-on frames (frame_waits f) [] t

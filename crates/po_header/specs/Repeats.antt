@@ -1,4 +1,5 @@
--- Private: expressions whose values from 100 on depend only on the last two digits.
+-- Expressions whose values from 100 on depend only on the last two digits, and tables of values (GNU gettext manual,
+-- "Plural forms").
 use Rattle.std.specs.Prelude.{◌≡◌, ℕ, ◌<◌, ◌≤◌, ◌+◌, ◌%◌, List, length, slice_index, Some}
 use Rattle.po_header.specs.declared.token.Operator.{Operator}
 use Rattle.po_header.specs.Grammar.{Tree}

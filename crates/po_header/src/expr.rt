@@ -1,5 +1,5 @@
 //! Plural expressions.
-ghost use Rattle.std.specs.Prelude.{◌≡◌, IfOk, IsTrue};
+ghost use Rattle.std.specs.Prelude.{◌≡◌, IfOk, IfErr, IsTrue};
 ghost use Rattle.std.proofs.Props.{props};
 ghost use Rattle.po_header.specs.TreeValue.{value};
 ghost use Rattle.po_header.specs.Formulas.{formula_tree};
@@ -10,8 +10,8 @@ use crate::tree::Node;
 use std::alloc::{AllocError, Global};
 use std::fmt;
 
-/// How many values are precomputed. The values for 100 to 199 are included because most rules repeat them for all
-/// greater numbers.
+/// How many values a table has. Those for 100 to 199 are included because most rules repeat them for all greater
+/// numbers.
 const FIRST_COUNT: u64 = 200;
 
 /// The expression of a plural rule, which selects a form by `n`.
@@ -19,7 +19,7 @@ const FIRST_COUNT: u64 = 200;
 pub struct PluralExpr {
     formula: Formula,
 
-    // The precomputed values, for 0 and up.
+    // The table: the values for 0 and up. It is empty unless `tabulate` has made it.
     first: Vec<u8>,
     ghost first_are: { AreFirst first.items (formula_tree formula) } by { Prim.hlevel props },
 
@@ -56,13 +56,29 @@ impl PluralExpr {
         ensures { IfOk result (λ expr. tree_of expr ≡ node_tree node) }
     {
         let formula = Formula::new(alloc, &node)?;
-        let first = first_values(alloc, &formula)?;
         let repeats = node.repeats();
         Ok(PluralExpr {
             formula,
-            first,
+            first: Vec::new(alloc),
             repeats,
         })
+    }
+
+    /// Stores the values at 0 to 199 in a table, for an expression that is evaluated often: `eval` is then one access
+    /// to memory for most numbers. If an allocation fails, nothing is changed.
+    pub fn tabulate(&mut self, alloc: Global) -> Result<(), AllocError>
+        ensures tree { tree_of self.new ≡ tree_of self.old }
+        ensures unchanged { IfErr result (λ _. self.new ≡ self.old) }
+    {
+        self.first = first_values(alloc, &self.formula)?;
+        Ok(())
+    }
+
+    /// Whether the values from 100 on are known to depend only on the last two digits, as those of most rules do.
+    pub fn repeats(&self) -> bool
+        ensures { IsTrue result → Repeats (tree_of self.now) }
+    {
+        self.repeats
     }
 
     /// The number itself, or a smaller one that has the same value.

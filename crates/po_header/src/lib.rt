@@ -23,22 +23,20 @@ pub use fields::{FIELD_NAMES, field, missing_fields};
 pub use parse::{one_tree, parse_expr};
 pub use rule::{RuleRead, one_rule, read_rule, rule_in};
 use std::alloc::{AllocError, AllocFailed};
-use thiserror::Error;
+use std::error::Error;
+use std::fmt;
 
 /// The maximum length of an expression, in bytes.
 pub const EXPRESSION_LIMIT: usize = 1000;
 
 /// Why a text could not be read as an expression.
-#[derive(Clone, Copy, Debug, PartialEq, Eq, Error)]
+#[derive(Clone, Copy, Debug, PartialEq, Eq)]
 pub enum ExprFault {
     /// The expression has more than [`EXPRESSION_LIMIT`] bytes.
-    #[error("expression too long")]
     TooLong,
     /// The text isn't an expression of the syntax for plural rules.
-    #[error("malformed expression")]
     Malformed,
     /// An allocation failed; this says nothing about the text.
-    #[error("out of memory")]
     Memory,
 }
 
@@ -57,3 +55,15 @@ impl<T: Drop> From<AllocFailed<T>> for ExprFault {
         ExprFault::Memory
     }
 }
+
+impl fmt::Display for ExprFault {
+    fn fmt<W: fmt::Write>(&self, f: &mut fmt::Formatter<W>) -> fmt::Result {
+        f.write_str(match self {
+            ExprFault::TooLong => "expression too long",
+            ExprFault::Malformed => "malformed expression",
+            ExprFault::Memory => "out of memory",
+        })
+    }
+}
+
+impl Error for ExprFault {}

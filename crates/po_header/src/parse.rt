@@ -105,11 +105,11 @@ fn negate(alloc: Global, waiting: &mut Vec<Frame>, operand: Node) -> Result<Node
         negated (stack_of waiting.old.items) (node_tree operand) ≡ (stack_of waiting.new.items, node_tree node)) }
 {
     let mut operand = operand;
-    'frames: while let Some(frame) = waiting.pop() {
+    'frames: while let Some(frame) = waiting.last() {
         if !frame.is_bang() {
-            waiting.push(frame)?;
             return Ok(operand);
         }
+        drop(waiting.pop());
         operand = Node::not(alloc, operand)?;
     }
     Ok(operand)
@@ -156,11 +156,12 @@ fn close_bracket(
         close (stack_of waiting.old.items, node_tree inner) ≡ Some (state_of waiting.new.items operand)) }
     ensures err { IfErr result (λ fault. IsFault fault (close (stack_of waiting.old.items, node_tree inner) ≡ None)) }
 {
-    let Some(frame) = waiting.pop() else {
+    let Some(frame) = waiting.last() else {
         return Err(ExprFault::Malformed)
     };
     match frame {
         Frame::Bracket => {
+            drop(waiting.pop());
             let operand = negate(alloc, waiting, inner)?;
             Ok(Some(operand))
         }
@@ -252,9 +253,10 @@ fn finish_node(
         return Err(ExprFault::Malformed)
     };
     let node = join_above(alloc, waiting, operand, 1)?;
-    match waiting.pop() {
-        None => Ok(node),
-        Some(_) => Err(ExprFault::Malformed),
+    if waiting.is_empty() {
+        Ok(node)
+    } else {
+        Err(ExprFault::Malformed)
     }
 }
 

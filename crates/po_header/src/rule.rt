@@ -1,5 +1,5 @@
 //! The plural rule.
-ghost use Rattle.std.specs.Prelude.{◌≡◌, ℕ, List, IfOk, IsOk, option_map};
+ghost use Rattle.std.specs.Prelude.{◌≡◌, ℕ, List, IfOk, IfErr, IsOk, option_map};
 ghost use Rattle.po_header.specs.Rule.{Absent, Rule, HasRule, HasRuleIn, leading_number, place};
 ghost use Rattle.po_header.specs.Rules.{rule_of};
 
@@ -71,6 +71,18 @@ pub fn rule_in(alloc: Global, header: Option<&str>) -> Result<RuleRead, AllocErr
 }
 
 impl RuleRead {
+    /// Stores the values of the rule's expression at 0 to 199 in a table, for a rule that is asked often. All answers
+    /// stay the same. If an allocation fails, nothing is changed.
+    pub fn tabulate(&mut self, alloc: Global) -> Result<(), AllocError>
+        ensures rule { rule_of self.new ≡ rule_of self.old }
+        ensures unchanged { IfErr result (λ _. self.new ≡ self.old) }
+    {
+        match self {
+            RuleRead::Given { expr, .. } => expr.tabulate(alloc),
+            RuleRead::Absent | RuleRead::Broken => Ok(()),
+        }
+    }
+
     /// The index of the form that a number takes: the expression's value if that is below `nplurals`, else 0. Without a
     /// rule, or with a broken one, it is 0 for 1 and 1 for all other numbers.
     pub fn form_index(&self, n: u64) -> u64
