@@ -21,7 +21,7 @@ use Rattle.catalogue.specs.Spans.{span_of, stored, AreTextsOf, HasGathered}
 use Rattle.po_checks.specs.declared.findings.Findings.{Findings}
 use Rattle.po_checks.specs.declared.options.Options.{Options}
 use Rattle.catalogue.specs.declared.drafts.Draft.{Draft}
-use Rattle.catalogue.specs.Spans.{SpanValue}
+use Rattle.catalogue.specs.declared.spans.Span.{Span}
 use Rattle.catalogue.proofs.PoEntries.{message_lawful}
 use Rattle.catalogue.proofs.InOrder.{length-outlines_from}
 
@@ -43,11 +43,11 @@ drafts_are o drafts entries e = sym (length-map drafts outline) ∙ ap length e 
 
 -- ---- the texts grow
 
-texts_none : (o : Options) (texts : List ℕ) (spans : List SpanValue) → texts ≡ [] → spans ≡ []
+texts_none : (o : Options) (texts : List ℕ) (spans : List Span) → texts ≡ [] → spans ≡ []
     → AreTextsOf texts spans (outlines_from o 0 [])
 texts_none o texts spans none no_spans = record { texts_are = none; spans_are = no_spans }
 
-texts_more : (o : Options) (texts more : List ℕ) (spans longer : List SpanValue) (span : SpanValue) (es : List po.Entry)
+texts_more : (o : Options) (texts more : List ℕ) (spans longer : List Span) (span : Span) (es : List po.Entry)
     (e : po.Entry) → AreTextsOf texts spans (outlines_from o 0 es) → more ≡ texts ++ stored (outline_of o 0 e) → span
     ≡ span_of (outline_of o 0 e) → longer ≡ spans ++ span ∷ []
     → AreTextsOf more longer (outlines_from o 0 (es ++ e ∷ []))
@@ -60,14 +60,14 @@ texts_more o texts more spans longer span es e pool added span_is pushed =
       texts_are = added ∙ ap (λ (t : List ℕ). t ++ stored r) pool.texts_are
           ∙ sym (ap (λ (t : List ℕ). flat_map stored rs ++ t) one) ∙ sym (flat_map-append stored rs (r ∷ []))
           ∙ sym (ap (flat_map stored) all);
-      spans_are = pushed ∙ ap (λ (ss : List SpanValue). ss ++ span ∷ []) pool.spans_are
-          ∙ ap (λ (s : SpanValue). map span_of rs ++ s ∷ []) span_is ∙ sym (map-append span_of rs (r ∷ []))
+      spans_are = pushed ∙ ap (λ (ss : List Span). ss ++ span ∷ []) pool.spans_are
+          ∙ ap (λ (s : Span). map span_of rs ++ s ∷ []) span_is ∙ sym (map-append span_of rs (r ∷ []))
           ∙ sym (ap (map span_of) all);
     }
 
 -- ---- one entry after another
 
-pub record Collects (text : List ℕ) (o : Options) (reader : EntryReader) (texts : List ℕ) (spans : List SpanValue)
+pub record Collects (text : List ℕ) (o : Options) (reader : EntryReader) (texts : List ℕ) (spans : List Span)
     (findings : Findings) : Type 0 where
   pub entries : List po.Entry
   pub read : HasRead (body text) entries reader
@@ -75,14 +75,14 @@ pub record Collects (text : List ℕ) (o : Options) (reader : EntryReader) (text
   pub lawful : AllByRecursion IsLawfulMessage entries
   pub found : HasFound o entries findings
 
-pub collects_none : (text : List ℕ) (o : Options) (reader : EntryReader) (texts : List ℕ) (spans : List SpanValue)
+pub collects_none : (text : List ℕ) (o : Options) (reader : EntryReader) (texts : List ℕ) (spans : List Span)
     (findings : Findings) → HasRead (body text) [] reader → texts ≡ [] → spans ≡ [] → HasFound o [] findings
     → Collects text o reader texts spans findings
 collects_none text o reader texts spans findings read none no_spans found = record
     { entries = []; read = read; pool = texts_none o texts spans none no_spans; lawful = tt; found = found }
 
 pub collects_more : (text : List ℕ) (o : Options) (reader next : EntryReader) (texts more : List ℕ)
-    (spans longer : List SpanValue) (findings grown : Findings) (span : SpanValue) (e : po.Entry)
+    (spans longer : List Span) (findings grown : Findings) (span : Span) (e : po.Entry)
     → (c : Collects text o reader texts spans findings) → GoesOn true (body text) c.entries e next → IsLawfulTexts e
     → more ≡ texts ++ stored (outline_of o 0 e) → span ≡ span_of (outline_of o 0 e) → longer ≡ spans ++ span ∷ []
     → LooksAt o e findings grown → Collects text o next more longer grown
@@ -95,7 +95,7 @@ collects_more text o reader next texts more spans longer findings grown span e c
       found = looks c.entries c.found;
     }
 
-pub collects_all : (text : List ℕ) (o : Options) (reader next : EntryReader) (texts : List ℕ) (spans : List SpanValue)
+pub collects_all : (text : List ℕ) (o : Options) (reader next : EntryReader) (texts : List ℕ) (spans : List Span)
     (findings : Findings) (e : po.Entry) → IsReadable text → (c : Collects text o reader texts spans findings)
     → GoesOn false (body text) c.entries e next → HasGathered text o texts spans findings
 collects_all text o reader next texts spans findings e readable c ends = record {

@@ -11,10 +11,13 @@ use denote.Ref.{Bor}
 use Rattle.po_text.specs.Entries as po
 use Rattle.po_text.specs.Outcome.{Gives}
 use Rattle.po_text.proofs.Sizes.{gives_count}
+use Rattle.po_header.specs.Rule.{Rule, HasRuleIn}
 use Rattle.po_checks.specs.Found.{IsFault}
 use Rattle.mo_image.specs.Map.{IsLawful, HasAcceptedCharset}
+use Rattle.mo_image.specs.Map.{header_text as header_of}
+use Rattle.catalogue.specs.Value.{HasMapRule}
 use Rattle.catalogue.specs.Meaning.{Means, IsMapOf, Refuses, lacking, none_missing}
-use Rattle.po_checks.specs.Kept.{kept, kept_header, header_line_of, header_text_of, NamesAcceptedCharset}
+use Rattle.po_checks.specs.Kept.{kept, kept_header, header_line_of, header_text_of, HasHeaderRule, NamesAcceptedCharset}
 use Rattle.po_checks.specs.Fails.{Fails, HasDistinctKeys, IsDuplicateAt, IsFirst, IsForeignAt}
 use Rattle.mo_image.specs.Entry.{Entry}
 use Rattle.catalogue.specs.Drafts.{Outline, outline, outlines, kept_entry, comes_before, counts_as, header_text_in}
@@ -24,7 +27,7 @@ use Rattle.po_checks.specs.declared.options.Options.{Options}
 use Rattle.catalogue.specs.declared.compiler.Stats.{Stats}
 use Rattle.catalogue.specs.declared.compiler.Compiled.{Compiled}
 use Rattle.catalogue.specs.declared.drafts.Draft.{Draft}
-use Rattle.catalogue.specs.declared.drafts.Standing.TheVariants.{Untranslated, Fuzzy, Translated}
+use Rattle.catalogue.specs.declared.body.Standing.TheVariants.{Untranslated, Fuzzy, Translated}
 use Rattle.po_checks.specs.declared.fault.LoadFault.{LoadFault}
 use Rattle.po_checks.specs.declared.fault.LoadKind.{LoadKind}
 use Rattle.po_checks.specs.declared.fault.LoadKind.TheVariants.{TooLarge, NotUtf8, BadEscape, OpenString, BadWord}
@@ -32,7 +35,7 @@ use Rattle.po_checks.specs.declared.fault.LoadKind.TheVariants.{BadText, BadOrde
 use Rattle.catalogue.proofs.Collecting.{drafts_are}
 use Rattle.catalogue.proofs.Counting.{untranslated_count, fuzzy_count, translated_count, header_line_is}
 use Rattle.catalogue.proofs.Fitting.{fits}
-use Rattle.catalogue.proofs.HeaderFound.{accepted, another, header_text_is, map_accepted}
+use Rattle.catalogue.proofs.HeaderFound.{accepted, another, header_text_is, map_text}
 use Rattle.catalogue.proofs.InOrder.{AreOrdered, outline_lt, all_distinct, first_duplicate}
 use Rattle.catalogue.proofs.Listing.{map_of, is_map, each_lawful}
 use Rattle.po_checks.proofs.Refusals.{all_pass, first_is_check, first_is_duplicate, first_is_foreign}
@@ -160,16 +163,22 @@ foreign text o before after found header line c s none h unnamed =
     } in
     (c.entries, c.gives, first_is_foreign o c.entries line (distinct_keys text o before after found c s none) is)
 
+rule_is : (text : List ℕ) (o : Options) (before : List Draft) (found : Findings) (header : Option (Bor (List ℕ)))
+    (line : ℕ) (rule : Rule) → (c : HasCollected text o before found) → IsHeader before header line
+    → HasRuleIn (option_map (λ text. text.now) header) rule → HasHeaderRule o c.entries rule
+rule_is text o before found header line rule c h has = subst (λ (t : Option (List ℕ)). HasRuleIn t rule)
+    (header_text text o before found header line c h) has
+
 pub failed : (text : List ℕ) (o : Options) (before after : List Draft) (found : Findings)
-    (header : Option (Bor (List ℕ))) (line : ℕ) (fault : LoadFault) → HasCollected text o before found
+    (header : Option (Bor (List ℕ))) (line : ℕ) (rule : Rule) (fault : LoadFault) → HasCollected text o before found
     → Sorts before after → FirstRepeat (outlines after) (length after) None → IsHeader before header line
-    → NamesCharsets header → IsFault found o (option_map (λ text. text.now) header) line (Some fault)
-    → Refuses text o fault.kind fault.line
-failed text o before after found header line fault c s none h named checks =
+    → NamesCharsets header → HasRuleIn (option_map (λ text. text.now) header) rule
+    → IsFault found o rule line (Some fault) → Refuses text o fault.kind fault.line
+failed text o before after found header line rule fault c s none h named has checks =
     as_refusal text o c.entries fault.kind fault.line c.gives
     (first_is_check o c.entries fault.kind fault.line (distinct_keys text o before after found c s none)
     (header_accepted text o before found header line c h named)
-    (checks c.entries c.found (header_text text o before found header line c h)
+    (checks c.entries c.found (rule_is text o before found header line rule c h has)
     (lines_are text o before found header line c h)))
 
 pub lawful_map : (text : List ℕ) (o : Options) (before after : List Draft) (found : Findings)
@@ -182,10 +191,24 @@ lawful_map text o before after found header line m c s none h named kept_are =
     subst IsLawful (sym kept_are) (record {
       rises = is.rises;
       each = each_lawful o c.entries (outlines after) sorted c.lawful;
-      charset = map_accepted o c.entries (map_of (outlines after)) is (distinct_keys text o before after found c s none)
-          (header_accepted text o before found header line c h named);
+      charset = subst (λ (t : Option (List ℕ)). IfSome t HasAcceptedCharset)
+          (sym (map_text o c.entries (map_of (outlines after)) is (distinct_keys text o before after found c s none)))
+          (text_accepted header (header_text_of o c.entries) (header_text text o before found header line c h) named);
       fits = fits o text c.entries (outlines after) c.gives sorted c.lawful;
     })
+
+-- the rule that was read is the map's
+pub map_rule : (text : List ℕ) (o : Options) (before after : List Draft) (found : Findings)
+    (header : Option (Bor (List ℕ))) (line : ℕ) (rule : Rule) (m : List Entry) → HasCollected text o before found
+    → Sorts before after → FirstRepeat (outlines after) (length after) None → IsHeader before header line
+    → HasRuleIn (option_map (λ text. text.now) header) rule → m ≡ filter_map kept_entry (outlines after)
+    → HasMapRule m rule
+map_rule text o before after found header line rule m c s none h has kept_are =
+    let is = is_map o c.entries (outlines after) (ordered text o before after found c s) c.lawful
+    (no_repeat after none) in
+    let text_is : header_text_of o c.entries ≡ header_of m = sym (ap header_of kept_are
+    ∙ map_text o c.entries (map_of (outlines after)) is (distinct_keys text o before after found c s none)) in
+    subst (λ (t : Option (List ℕ)). HasRuleIn t rule) text_is (rule_is text o before found header line rule c h has)
 
 -- the counts of the drafts
 pub record Counts (drafts : List Draft) (stats : Stats) : Type 0 where
@@ -204,13 +227,15 @@ abbrev pub Lacks : Options → Option (Bor (List ℕ)) → List Bool → Type 0
 Lacks o header missing = missing ≡ (if o.checked then lacking (option_map (λ text. text.now) header) else none_missing)
 
 pub compiles : (text : List ℕ) (o : Options) (before after : List Draft) (found : Findings)
-    (header : Option (Bor (List ℕ))) (m : List Entry) (compiled : Compiled) → HasCollected text o before found
+    (header : Option (Bor (List ℕ))) (rule : Rule) (m : List Entry) (compiled : Compiled)
+    → HasCollected text o before found
     → Sorts before after → FirstRepeat (outlines after) (length after) None
     → IsHeader before header compiled.header_line → NamesCharsets header
-    → IsFault found o (option_map (λ text. text.now) header) compiled.header_line None → m
+    → HasRuleIn (option_map (λ text. text.now) header) rule → IsFault found o rule compiled.header_line None → m
     ≡ filter_map kept_entry (outlines after) → Counts before compiled.stats → compiled.catalogue ≡ m
     → Lacks o header compiled.missing → Means text o compiled
-compiles text o before after found header m compiled c s none h named checks kept_are counts catalogue_is missing_are =
+compiles text o before after found header rule m compiled c s none h named has checks kept_are counts catalogue_is
+    missing_are =
     let sorted = ordered text o before after found c s in
     let line_is : compiled.header_line ≡ header_line_of o c.entries = lines_are text o before found header
     compiled.header_line c h in
@@ -221,7 +246,7 @@ compiles text o before after found header m compiled c s none h named checks kep
       gives = c.gives;
       passes = all_pass o c.entries (distinct_keys text o before after found c s none)
           (header_accepted text o before found header compiled.header_line c h named)
-          (checks c.entries c.found text_is line_is);
+          (checks c.entries c.found (rule_is text o before found header compiled.header_line rule c h has) line_is);
       map_is = subst (IsMapOf (kept o c.entries)) (sym (catalogue_is ∙ kept_are))
           (is_map o c.entries (outlines after) sorted c.lawful (no_repeat after none));
       stats_are = stats_eq compiled.stats _ (counts.translated ∙ translated_count o c.entries before c.rows_are)

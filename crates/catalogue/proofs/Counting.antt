@@ -8,12 +8,13 @@ use Rattle.std.proofs.lemmas.List.Sums.{sum_by-cons}
 use Rattle.po_text.specs.Entries as po
 use Rattle.po_checks.specs.Kept.{is_header, is_untranslated, is_kept, kept, header_line_of}
 use Rattle.catalogue.specs.Meaning.{is_fuzzy, is_translated, counted}
-use Rattle.catalogue.specs.Drafts.{Outline, Kept, outline, outlines, outline_of, outlines_from, standing_of, texts_of}
+use Rattle.catalogue.specs.Body.{Kept}
+use Rattle.catalogue.specs.Drafts.{Outline, outline, outlines, outline_of, outlines_from, standing_of, texts_of}
 use Rattle.catalogue.specs.Drafts.{same_standing, counts_as, is_kept_header}
 use Rattle.po_checks.specs.declared.options.Options.{Options}
 use Rattle.catalogue.specs.declared.drafts.Draft.{Draft}
-use Rattle.catalogue.specs.declared.drafts.Standing.{Standing}
-use Rattle.catalogue.specs.declared.drafts.Standing.TheVariants.{Header, Untranslated, Fuzzy, Translated}
+use Rattle.catalogue.specs.declared.body.Standing.{Standing}
+use Rattle.catalogue.specs.declared.body.Standing.TheVariants.{Header, Untranslated, Fuzzy, Translated}
 
 abbrev one_if : {X : Type 0} → (X → Bool) → X → ℕ
 one_if p x = cond (p x) 1 0

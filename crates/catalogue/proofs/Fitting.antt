@@ -1,22 +1,26 @@
 -- A text within its size limit has a catalogue whose MO file is within its own.
-use Rattle.std.proofs.Common.{◌≡◌, ℕ, ◌+◌, ◌≤◌, Bool, true, false, List, [], ◌∷◌, length, Option, Some, None}
+use Rattle.std.proofs.Common.{◌≡◌, ℕ, ◌+◌, ◌^◌, ◌<◌, ◌≤◌, Bool, true, false, List, [], ◌∷◌, length, Option, Some, None}
 use Rattle.std.proofs.Common.{refl, ap, ◌∙◌, arith, length-append}
-use Rattle.std.specs.List.{AllByRecursion, cons_option, sum_by}
+use Rattle.std.specs.List.{AllByRecursion, cons_option, flat_map, sum_by}
+use Rattle.std.proofs.lemmas.List.{length-map}
 use Rattle.std.proofs.lemmas.List.Concat.{flat_map-cons}
 use Rattle.std.proofs.lemmas.List.Sums.{sum_by-cons}
 use Rattle.std.proofs.lemmas.List.Sorted.{sum_by-IsPermutation}
 use Rattle.po_text.specs.Entries as po
 use Rattle.po_text.specs.Outcome.{Gives}
-use Rattle.po_text.proofs.Sizes.{option_size, forms_size, entry_size, entries_size, gives_size}
-use Rattle.mo_image.specs.Entry.{Entry, key_bytes, with_plural, original}
+use Rattle.po_text.proofs.Sizes.{option_size, forms_size, entry_size, entries_size, gives_count, gives_size}
+use Rattle.mo_image.specs.Entry.{Entry, key_bytes, with_plural, original, translation}
 use Rattle.mo_image.specs.MoFile.{closed, pool, spelling, entry_size as size}
 use Rattle.po_checks.specs.Kept.{message_of, is_kept}
-use Rattle.catalogue.specs.Drafts.{Outline, outline_of, outlines_from, kept_entry}
+use Rattle.catalogue.specs.Drafts.{Outline, outline_of, outlines_from, kept_entry, texts_if_kept, texts_of}
+use Rattle.catalogue.specs.Spans.{bytes_if_kept, kept_bytes, plural_bytes, span_of, stored, HasGathered}
+use Rattle.catalogue.specs.declared.spans.Span.{Span}
+use Rattle.po_checks.specs.declared.findings.Findings.{Findings}
 use Rattle.po_checks.specs.declared.options.Options.{Options}
 use Rattle.mo_image.proofs.MoLengths.{length-closed, closed_joined}
 use Rattle.mo_image.proofs.FileSizes.{file_size}
 use Rattle.mo_image.proofs.EntryParts.{some_form}
-use Rattle.catalogue.proofs.InOrder.{AreOrdered}
+use Rattle.catalogue.proofs.InOrder.{AreOrdered, length-outlines_from}
 use Rattle.catalogue.proofs.Listing.{Lawful, kept_is, left_out, map_of}
 
 -- ---- an entry in the file and in the text
@@ -97,3 +101,75 @@ fits o text entries rs gives ordered lawful =
           gives,
       gives.readable.size,
     )
+
+-- ---- the texts of all entries
+
+plural_fits : (plural : Option (List ℕ)) → length (plural_bytes plural) ≤ option_size plural
+plural_fits None = omega arith
+plural_fits (Some plural) = omega arith
+
+kept_fits : (e : po.Entry) → Lawful e → length (kept_bytes (texts_of e)) ≤ option_size e.plural + forms_size e.forms
+kept_fits e lawful =
+    let t = ap length (closed_joined e.forms (some_form e.plural e.forms lawful.counted)) in
+    omega (
+      arith,
+      length-append (plural_bytes e.plural) (translation (message_of e)),
+      plural_fits e.plural,
+      t,
+      length-closed (translation (message_of e)),
+      pool_size e.forms,
+    )
+
+if_kept_fits : (o : Options) (e : po.Entry) → Lawful e → length (bytes_if_kept (texts_if_kept o e))
+    ≤ option_size e.plural + forms_size e.forms
+if_kept_fits o e lawful = of (is_kept o e) refl
+  where
+    of : (b : Bool) → is_kept o e ≡ b → length (bytes_if_kept (texts_if_kept o e))
+        ≤ option_size e.plural + forms_size e.forms
+    of true is = rw is (kept_fits e lawful)
+    of false is = rw is (omega arith)
+
+stored_fits : (o : Options) (k : ℕ) (e : po.Entry) → Lawful e → length (stored (outline_of o k e)) ≤ entry_size e
+stored_fits o k e lawful = omega (
+  arith,
+  length-append (key_bytes e.context e.id) (bytes_if_kept (texts_if_kept o e)),
+  key_size e.context e.id,
+  if_kept_fits o e lawful,
+)
+
+all_stored : (o : Options) (k : ℕ) (es : List po.Entry) → AllByRecursion Lawful es
+    → length (flat_map stored (outlines_from o k es)) ≤ entries_size es
+all_stored o k [] lawful = omega arith
+all_stored o k (e ∷ es) lawful =
+    let r = outline_of o k e in
+    let rs = outlines_from o (k + 1) es in
+    omega (
+      arith,
+      ap length (flat_map-cons stored r rs),
+      length-append (stored r) (flat_map stored rs),
+      stored_fits o k e lawful.0,
+      all_stored o (k + 1) es lawful.1,
+    )
+
+-- their length fits in 32 bits
+pub texts_fit : (text : List ℕ) (o : Options) (texts : List ℕ) (spans : List Span) (found : Findings)
+    → HasGathered text o texts spans found → length texts < 2 ^ 32
+texts_fit text o texts spans found h = omega (
+  arith,
+  ap length h.texts_are.texts_are,
+  all_stored o 0 h.entries h.lawful,
+  gives_size text h.entries h.gives,
+  h.gives.readable.size,
+)
+
+-- the number of their spans fits in 32 bits
+pub spans_fit : (text : List ℕ) (o : Options) (texts : List ℕ) (spans : List Span) (found : Findings)
+    → HasGathered text o texts spans found → length spans < 2 ^ 32
+spans_fit text o texts spans found h = omega (
+  arith,
+  ap length h.texts_are.spans_are,
+  length-map (outlines_from o 0 h.entries) span_of,
+  length-outlines_from o 0 h.entries,
+  gives_count text h.entries h.gives,
+  h.gives.readable.size,
+)

@@ -15,13 +15,14 @@ use Rattle.po_checks.specs.Kept.{message_of, key_of, is_empty, is_header, is_kep
 use Rattle.po_checks.specs.Kept.{NamesAcceptedCharset}
 use Rattle.po_checks.specs.Fails.{HasDistinctKeys}
 use Rattle.catalogue.specs.Meaning.{IsMapOf}
-use Rattle.catalogue.specs.Drafts.{Outline, Kept, outline, outlines, outline_of, outlines_from, texts_of, outline_text}
+use Rattle.catalogue.specs.Body.{Kept}
+use Rattle.catalogue.specs.Drafts.{Outline, outline, outlines, outline_of, outlines_from, texts_of, outline_text}
 use Rattle.catalogue.specs.Drafts.{text_found, header_text_in, is_kept_header, IsLawfulMessage}
 use Rattle.po_checks.specs.declared.options.Options.{Options}
 use Rattle.catalogue.specs.declared.drafts.Draft.{Draft}
 use Rattle.catalogue.proofs.Counting.{AreOutlines, header_outline, split_find}
 use Rattle.mo_image.proofs.EntryParts.{split_joined, some_form, lack_nul}
-use Rattle.catalogue.proofs.Members.{has_head, has_tail, has_cases, from_map, from_filter, from_find}
+use Rattle.catalogue.proofs.Members.{has_head, has_tail, has_cases, has_map, from_map, from_filter, from_find}
 
 -- an outline is that of a kept entry
 pub record IsRowOf (o : Options) (es : List po.Entry) (r : Outline) (e : po.Entry) : Type 0 where
@@ -173,13 +174,13 @@ header_key None (b ∷ id) e = absurd (false≢true e)
 header_key (Some context) id e = absurd (false≢true e)
 
 -- what a search finds passes and is a member; if a member passes, the search finds something
-pub record Finds (p : po.Entry → Bool) (es : List po.Entry) (e : po.Entry) : Type 0 where
-  pub found : po.Entry
+pub record Finds {X : Type 0} (p : X → Bool) (es : List X) (e : X) : Type 0 where
+  pub found : X
   pub is : find p es ≡ Some found
   pub passes : p found ≡ true
   pub has : Contains es found
 
-finds : (p : po.Entry → Bool) (es : List po.Entry) (e : po.Entry) → Contains es e → p e ≡ true → Finds p es e
+finds : {X : Type 0} (p : X → Bool) (es : List X) (e : X) → Contains es e → p e ≡ true → Finds p es e
 finds p [] e has passes = absurd (omega (arith, has.1))
 finds p (x ∷ es) e has passes = of (p x) refl (has_cases e x es has) (λ h. finds p es e h passes)
   where
@@ -196,9 +197,8 @@ finds p (x ∷ es) e has passes = of (p x) refl (has_cases e x es has) (λ h. fi
 
 -- an entry of the catalogue with the empty key is the kept header's message
 catalogued : (o : Options) (es : List po.Entry) (m : List Entry) → IsMapOf (kept o es) m → HasDistinctKeys es
-    → IfSome (kept_header o es) NamesAcceptedCharset → (x : Entry) → entry_at m [] ≡ Some x
-    → HasAcceptedCharset (first_form x.forms)
-catalogued o es m is distinct names x at =
+    → (x : Entry) → entry_at m [] ≡ Some x → Some (first_form x.forms) ≡ header_text_of o es
+catalogued o es m is distinct x at =
     let here = from_find (λ (e : Entry). bytes_eq (key e) []) m x at in
     let no_key_of : key x ≡ [] = (bytes_eq-Decides (key x) []).0 here.1 in
     let (e, has, same) = from_map message_of (kept o es) x (All-contains (Contains (map message_of (kept o es))) m x
@@ -208,20 +208,32 @@ catalogued o es m is distinct names x at =
     let h_key : key_of h.found ≡ [] = header_key h.found.context h.found.id h.passes in
     let one : e ≡ h.found = one_of es e h.found distinct (from_filter (is_kept o) es e has)
     (from_filter (is_kept o) es h.found h.has) (e_key ∙ sym h_key) in
-    let named : NamesAcceptedCharset h.found =
-    subst (λ (x : Option po.Entry). IfSome x NamesAcceptedCharset) h.is names in
-    subst (λ (y : Entry). HasAcceptedCharset (first_form y.forms)) same (subst NamesAcceptedCharset (sym one) named)
+    ap (λ (y : Entry). Some (first_form y.forms)) (sym same ∙ ap message_of one)
+    ∙ sym (ap (option_map (λ (e : po.Entry). first_form e.forms)) h.is)
 
-if_some : {X : Type 0} (o : Option X) (P : X → Type 0) → ((x : X) → o ≡ Some x → P x) → IfSome o P
-if_some None P h = tt
-if_some (Some x) P h = h x refl
+-- the catalogue has the message of the kept header
+uncatalogued : (o : Options) (es : List po.Entry) (m : List Entry) → IsMapOf (kept o es) m → entry_at m [] ≡ None
+    → (e : po.Entry) → kept_header o es ≡ Some e → ⊥
+uncatalogued o es m is at e header =
+    let here = from_find is_header (kept o es) e header in
+    let has : Contains m (message_of e) = All-contains (Contains m) (map message_of (kept o es)) (message_of e)
+    is.listed (has_map message_of (kept o es) e here.0) in
+    let f = finds (λ (x : Entry). bytes_eq (key x) []) m (message_of e) has
+    ((bytes_eq-Decides (key_of e) []).1 (header_key e.context e.id here.1)) in
+    absurd (none_is_some (sym at ∙ f.is))
+  where
+    none_is_some : {x : Entry} → None ≡ Some x → ⊥
+    none_is_some e = absurd cc
 
-if_mapped : {X Y : Type 0} (o : Option X) (f : X → Y) (P : Y → Type 0) → IfSome o (λ x. P (f x))
-    → IfSome (option_map f o) P
-if_mapped None f P h = tt
-if_mapped (Some x) f P h = h
-
-pub map_accepted : (o : Options) (es : List po.Entry) (m : List Entry) → IsMapOf (kept o es) m → HasDistinctKeys es
-    → IfSome (kept_header o es) NamesAcceptedCharset → IfSome (header_text m) HasAcceptedCharset
-map_accepted o es m is distinct names = if_mapped (entry_at m []) (λ (e : Entry). first_form e.forms) HasAcceptedCharset
-    (if_some (entry_at m []) (λ e. HasAcceptedCharset (first_form e.forms)) (catalogued o es m is distinct names))
+-- the header's text in the catalogue is that of the kept header
+pub map_text : (o : Options) (es : List po.Entry) (m : List Entry) → IsMapOf (kept o es) m → HasDistinctKeys es
+    → header_text m ≡ header_text_of o es
+map_text o es m is distinct = of (entry_at m []) (kept_header o es) refl refl
+  where
+    of : (x : Option Entry) (h : Option po.Entry) → entry_at m [] ≡ x → kept_header o es ≡ h
+        → header_text m ≡ header_text_of o es
+    of (Some x) h at header = ap (option_map (λ (e : Entry). first_form e.forms)) at
+        ∙ catalogued o es m is distinct x at
+    of None None at header = ap (option_map (λ (e : Entry). first_form e.forms)) at
+        ∙ sym (ap (option_map (λ (e : po.Entry). first_form e.forms)) header)
+    of None (Some e) at header = absurd (uncatalogued o es m is at e header)

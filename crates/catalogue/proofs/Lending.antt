@@ -1,27 +1,27 @@
 -- The pool of the entries that were read lends their outlines.
-use Rattle.std.proofs.Common.{◌≡◌, ℕ, suc, ◌+◌, ◌≤◌, true, false, Bool, List, [], ◌∷◌, ◌++◌, length, map, take, drop}
-use Rattle.std.proofs.Common.{slice_get, Option, Some, None, refl, sym, ap, ◌∙◌, subst, append_assoc, arith}
-use Rattle.std.specs.Prelude.{option_map, IfSome}
+use Rattle.std.proofs.Common.{◌≡◌, ℕ, suc, ◌+◌, ◌^◌, ◌<◌, ◌≤◌, true, false, Bool, List, [], ◌∷◌, ◌++◌, length, map}
+use Rattle.std.proofs.Common.{take, drop, slice_get, Option, Some, None, refl, sym, ap, ◌∙◌, subst, append_assoc, arith}
+use Rattle.std.specs.Prelude.{IfSome}
 use Rattle.std.specs.List.{AllByRecursion, flat_map}
 use Rattle.std.specs.Str.{IsUtf8, IsCharBoundary}
 use Rattle.std.proofs.Math.ListN.{drop_of_length-le}
 use Rattle.std.proofs.Math.Seq.{take-append_seam, drop-append_seam, drop-cons}
-use Rattle.std.proofs.lemmas.List.{append-nil, length-append, map-append}
+use Rattle.std.proofs.lemmas.List.{append-nil, length-append, length-drop, map-append}
 use Rattle.std.proofs.lemmas.List.Concat.{flat_map-cons}
 use Rattle.std.proofs.lemmas.Option.{get_or_from_slice_get, slice_get_within}
-use Rattle.std.proofs.lemmas.Str.{IsCharBoundary-from_take, IsUtf8-drop}
+use Rattle.std.proofs.lemmas.Str.{IsCharBoundary-from_take, IsUtf8-append, IsUtf8-drop, IsUtf8-nil}
 use Rattle.po_text.specs.Entries as po
 use Rattle.mo_image.specs.Entry.{IsText}
 use Rattle.po_checks.specs.Kept.{message_of, is_kept}
-use Rattle.catalogue.specs.Drafts.{Outline, Kept, outline, outlines, outline_of, outlines_from, texts_if_kept}
+use Rattle.catalogue.specs.Drafts.{Outline, outline, outlines, outline_of, outlines_from, texts_if_kept}
 use Rattle.catalogue.specs.Drafts.{IsLawfulMessage, HasCollected}
-use Rattle.catalogue.specs.Spans.{kept_bytes, bytes_if_kept, stored, kept_span, span_of, plural_size, kept_size}
-use Rattle.catalogue.specs.Spans.{size_if_kept, size, kept_at, outline_at, outlines_at, HoldsText, HoldsPlural}
-use Rattle.catalogue.specs.Spans.{HoldsKept, HoldsSpan, HoldsAll, HasGathered}
+use Rattle.catalogue.specs.Body.{Kept, texts_by}
+use Rattle.catalogue.specs.Spans.{bytes_if_kept, plural_if_kept, share_of, stored, span_of, size, kept_at}
+use Rattle.catalogue.specs.Spans.{outline_at, outlines_at, HoldsText, HoldsSpan, HoldsAll, HasGathered}
 use Rattle.po_checks.specs.declared.findings.Findings.{Findings}
 use Rattle.po_checks.specs.declared.options.Options.{Options}
 use Rattle.catalogue.specs.declared.drafts.Draft.{Draft}
-use Rattle.catalogue.specs.Spans.{SpanValue}
+use Rattle.catalogue.specs.declared.spans.Span.{Span}
 use Rattle.mo_image.proofs.Originals.{key_utf8, translation_utf8}
 
 -- ---- the first outline
@@ -32,31 +32,15 @@ in_front a b text is = ap (take (length a)) is ∙ take-append_seam a b
 left_behind : (a b : List ℕ) (text : List ℕ) → text ≡ a ++ b → drop (length a) text ≡ b
 left_behind a b text is = ap (drop (length a)) is ∙ drop-append_seam a b
 
-kept_front : (t : Kept) (rest text : List ℕ) → text ≡ kept_bytes t ++ rest → kept_at text (kept_span t) ≡ t
-kept_front (None, t) rest text is = ap (λ (x : List ℕ). (None, x)) (in_front t rest text is)
-kept_front (Some p, t) rest text is =
-    let parts : text ≡ p ++ (t ++ rest) = is ∙ append_assoc p t rest in
-    ap (λ (x : List ℕ). (Some x, take (length t) (drop (length p) text))) (in_front p (t ++ rest) text parts)
-    ∙ ap (λ (x : List ℕ). (Some p, x)) (in_front t rest (drop (length p) text) (left_behind p (t ++ rest) text parts))
-
-kept_behind : (t : Kept) (rest text : List ℕ) → text ≡ kept_bytes t ++ rest → drop (kept_size (kept_span t)) text ≡ rest
-kept_behind (None, t) rest text is = let n : 0 + length t ≡ length t = omega arith in ap (λ k. drop k text) n
-    ∙ left_behind t rest text is
-kept_behind (Some p, t) rest text is = ap (λ n. drop n text) (sym (length-append p t))
-    ∙ left_behind (p ++ t) rest text is
-
-if_kept_front : (o : Option Kept) (rest text : List ℕ) → text ≡ bytes_if_kept o ++ rest
-    → option_map (kept_at text) (option_map kept_span o) ≡ o
-if_kept_front None rest text is = refl
-if_kept_front (Some t) rest text is = ap (λ (x : Kept). Some x) (kept_front t rest text is)
-
-if_kept_size : (o : Option Kept) → size_if_kept (option_map kept_span o) ≡ length (bytes_if_kept o)
-if_kept_size None = refl
-if_kept_size (Some (None, t)) = omega arith
-if_kept_size (Some (Some p, t)) = sym (length-append p t)
+if_kept_front : (o : Option Kept) → texts_by (share_of o) (length (plural_if_kept o)) (bytes_if_kept o) ≡ o
+if_kept_front None = refl
+if_kept_front (Some (None, t)) = refl
+if_kept_front (Some (Some p, t)) =
+    ap (λ (x : List ℕ). Some (Some x, drop (length p) (p ++ t))) (take-append_seam p t)
+    ∙ ap (λ (x : List ℕ). Some (Some p, x)) (drop-append_seam p t)
 
 outline_size : (r : Outline) → size (span_of r) ≡ length (stored r)
-outline_size r = ap (λ n. length r.key + n) (if_kept_size r.texts) ∙ sym (length-append r.key (bytes_if_kept r.texts))
+outline_size r = sym (length-append r.key (bytes_if_kept r.texts))
 
 row_behind : (r : Outline) (rest text : List ℕ) → text ≡ stored r ++ rest → drop (size (span_of r)) text ≡ rest
 row_behind r rest text is = ap (λ n. drop n text) (outline_size r) ∙ left_behind (stored r) rest text is
@@ -65,10 +49,14 @@ key_parts : (r : Outline) (rest text : List ℕ) → text ≡ stored r ++ rest �
     ++ (bytes_if_kept r.texts ++ rest)
 key_parts r rest text is = is ∙ append_assoc r.key (bytes_if_kept r.texts) rest
 
+kept_front : (r : Outline) (rest text : List ℕ) → text ≡ stored r ++ rest
+    → kept_at text (span_of r) ≡ bytes_if_kept r.texts
+kept_front r rest text is =
+    in_front (bytes_if_kept r.texts) rest (drop (length r.key) text)
+    (left_behind r.key (bytes_if_kept r.texts ++ rest) text (key_parts r rest text is))
+
 row_front : (r : Outline) (rest text : List ℕ) → text ≡ stored r ++ rest → outline_at r.number text (span_of r) ≡ r
 row_front r rest text is =
-    let parts = key_parts r rest text is in
-    let behind = left_behind r.key (bytes_if_kept r.texts ++ rest) text parts in
     let of : List ℕ → Option Kept → Outline = λ k t. record {
       number = r.number;
       line = r.line;
@@ -77,9 +65,11 @@ row_front r rest text is =
           r.standing;
       texts = t;
     } in
-    ap (λ k. of k (option_map (kept_at (drop (length r.key) text)) (option_map kept_span r.texts)))
-    (in_front r.key (bytes_if_kept r.texts ++ rest) text parts)
-    ∙ ap (of r.key) (if_kept_front r.texts rest (drop (length r.key) text) behind)
+    ap (λ k. of k (texts_by (share_of r.texts) (length (plural_if_kept r.texts)) (kept_at text (span_of r))))
+    (in_front r.key (bytes_if_kept r.texts ++ rest) text (key_parts r rest text is))
+    ∙ ap (λ (kept : List ℕ). of r.key (texts_by (share_of r.texts) (length (plural_if_kept r.texts)) kept))
+    (kept_front r rest text is)
+    ∙ ap (of r.key) (if_kept_front r.texts)
 
 -- ---- all outlines
 
@@ -116,19 +106,15 @@ pub record IsUtf8Outline (r : Outline) : Type 0 where
   pub key : IsUtf8 r.key
   pub texts : IfSome r.texts AreUtf8
 
-holds_kept : (t : Kept) (rest text : List ℕ) → text ≡ kept_bytes t ++ rest → AreUtf8 t → HoldsKept text (kept_span t)
-holds_kept (None, t) rest text is u = record { plural = tt; translation = holds_text t rest text is u.translation }
-holds_kept (Some p, t) rest text is u =
-    let parts : text ≡ p ++ (t ++ rest) = is ∙ append_assoc p t rest in
-    record {
-      plural = holds_text p (t ++ rest) text parts u.plural;
-      translation = holds_text t rest (drop (length p) text) (left_behind p (t ++ rest) text parts) u.translation;
-    }
+kept_is_utf8 : (o : Option Kept) → IfSome o AreUtf8 → IsUtf8 (bytes_if_kept o)
+kept_is_utf8 None u = IsUtf8-nil
+kept_is_utf8 (Some (None, t)) u = u.translation
+kept_is_utf8 (Some (Some p, t)) u = IsUtf8-append p t u.plural u.translation
 
-holds_if_kept : (o : Option Kept) (rest text : List ℕ) → text ≡ bytes_if_kept o ++ rest → IfSome o AreUtf8
-    → IfSome (option_map kept_span o) (HoldsKept text)
-holds_if_kept None rest text is u = tt
-holds_if_kept (Some t) rest text is u = holds_kept t rest text is u
+holds_plural : (o : Option Kept) → IfSome o AreUtf8 → HoldsText (bytes_if_kept o) (length (plural_if_kept o))
+holds_plural None u = record { within = omega arith; utf8 = IsUtf8-nil }
+holds_plural (Some (None, t)) u = record { within = omega arith; utf8 = IsUtf8-nil }
+holds_plural (Some (Some p, t)) u = holds_text p t (p ++ t) refl u.plural
 
 holds_outline : (r : Outline) (rest text : List ℕ) → text ≡ stored r ++ rest → IsUtf8Outline r
     → HoldsSpan text (span_of r)
@@ -136,8 +122,10 @@ holds_outline r rest text is u =
     let parts = key_parts r rest text is in
     record {
       key = holds_text r.key (bytes_if_kept r.texts ++ rest) text parts u.key;
-      kept = holds_if_kept r.texts rest (drop (length r.key) text)
-          (left_behind r.key (bytes_if_kept r.texts ++ rest) text parts) u.texts;
+      kept = holds_text (bytes_if_kept r.texts) rest (drop (length r.key) text)
+          (left_behind r.key (bytes_if_kept r.texts ++ rest) text parts) (kept_is_utf8 r.texts u.texts);
+      plural = subst (λ (kept : List ℕ). HoldsText kept (length (plural_if_kept r.texts)))
+          (sym (kept_front r rest text is)) (holds_plural r.texts u.texts);
     }
 
 plural_texts : (plural : Option (List ℕ)) → IfSome plural IsText → IfSome plural IsUtf8
@@ -176,12 +164,12 @@ holds_all o k (e ∷ es) text is lawful =
 
 -- ---- the pool of a text
 
-pub may_lend : (text : List ℕ) (o : Options) (texts : List ℕ) (spans : List SpanValue) (found : Findings)
+pub may_lend : (text : List ℕ) (o : Options) (texts : List ℕ) (spans : List Span) (found : Findings)
     → HasGathered text o texts spans found → HoldsAll texts spans
 may_lend text o texts spans found h = subst (HoldsAll texts) (sym h.texts_are.spans_are)
     (holds_all o 0 h.entries texts h.texts_are.texts_are h.lawful)
 
-pub lent : (text : List ℕ) (o : Options) (texts : List ℕ) (spans : List SpanValue) (found : Findings)
+pub lent : (text : List ℕ) (o : Options) (texts : List ℕ) (spans : List Span) (found : Findings)
     (drafts : List Draft)
     → HasGathered text o texts spans found → outlines drafts ≡ outlines_at 0 texts spans
     → HasCollected text o drafts found
@@ -197,32 +185,34 @@ lent text o texts spans found drafts h rows_are = record {
 -- ---- outlines are lent one after another
 
 -- the drafts so far, and the outlines in what is left, are the outlines of the pool
-pub record Lends (drafts : List Draft) (number : ℕ) (rest : List ℕ) (texts : List ℕ) (spans : List SpanValue) :
+pub record Lends (drafts : List Draft) (number : ℕ) (rest : List ℕ) (texts : List ℕ) (spans : List Span) :
     Type 0 where
   pub rows_are : outlines drafts ++ outlines_at number rest (drop number spans) ≡ outlines_at 0 texts spans
   pub left : HoldsAll rest (drop number spans)
+  pub len : length rest < 2 ^ 32
 
-pub lends_none : (drafts : List Draft) (texts : List ℕ) (spans : List SpanValue) → drafts ≡ [] → HoldsAll texts spans
-    → Lends drafts 0 texts texts spans
-lends_none drafts texts spans none holds = record {
+pub lends_none : (drafts : List Draft) (texts : List ℕ) (spans : List Span) → drafts ≡ [] → HoldsAll texts spans
+    → length texts < 2 ^ 32 → Lends drafts 0 texts texts spans
+lends_none drafts texts spans none holds len = record {
   rows_are = ap
       (λ (ds : List Draft). outlines ds ++ outlines_at 0 texts spans) none;
   left = holds;
+  len = len;
 }
 
-next_span : (spans : List SpanValue) (i : ℕ) (s : SpanValue) → slice_get spans i ≡ Some s
+next_span : (spans : List Span) (i : ℕ) (s : Span) → slice_get spans i ≡ Some s
     → drop i spans ≡ s ∷ drop (i + 1) spans
 next_span spans i s at =
     let more : suc i ≡ i + 1 = omega arith in
-    drop-cons spans i s (slice_get_within spans i s at) ∙ ap (λ (x : SpanValue). x ∷ drop (suc i) spans)
+    drop-cons spans i s (slice_get_within spans i s at) ∙ ap (λ (x : Span). x ∷ drop (suc i) spans)
     (get_or_from_slice_get spans i s s at) ∙ ap (λ n. s ∷ drop n spans) more
 
-pub holds_next : (drafts : List Draft) (i : ℕ) (rest texts : List ℕ) (spans : List SpanValue) (s : SpanValue)
+pub holds_next : (drafts : List Draft) (i : ℕ) (rest texts : List ℕ) (spans : List Span) (s : Span)
     → Lends drafts i rest texts spans → slice_get spans i ≡ Some s → HoldsSpan rest s
 holds_next drafts i rest texts spans s l at = (subst (HoldsAll rest) (next_span spans i s at) l.left).0
 
-pub lends_more : (drafts longer : List Draft) (i : ℕ) (rest behind texts : List ℕ) (spans : List SpanValue)
-    (s : SpanValue) (d : Draft) → Lends drafts i rest texts spans → slice_get spans i ≡ Some s
+pub lends_more : (drafts longer : List Draft) (i : ℕ) (rest behind texts : List ℕ) (spans : List Span)
+    (s : Span) (d : Draft) → Lends drafts i rest texts spans → slice_get spans i ≡ Some s
     → outline d ≡ outline_at i rest s → behind ≡ drop (size s) rest → longer ≡ drafts ++ d ∷ []
     → Lends longer (i + 1) behind texts spans
 lends_more drafts longer i rest behind texts spans s d l at row_is left pushed =
@@ -233,14 +223,15 @@ lends_more drafts longer i rest behind texts spans s d l at row_is left pushed =
     record {
       rows_are = ap (λ (t : List ℕ). outlines longer ++ outlines_at (i + 1) t (drop (i + 1) spans)) left
           ∙ ap (λ (x : List Outline). x ++ rs) grown ∙ append_assoc (outlines drafts) (outline_at i rest s ∷ []) rs
-          ∙ sym (ap (λ (ss : List SpanValue). outlines drafts ++ outlines_at i rest ss) next) ∙ l.rows_are;
+          ∙ sym (ap (λ (ss : List Span). outlines drafts ++ outlines_at i rest ss) next) ∙ l.rows_are;
       left = subst (λ (t : List ℕ). HoldsAll t (drop (i + 1) spans)) (sym left) (subst (HoldsAll rest) next l.left).1;
+      len = omega (arith, ap length left, length-drop (size s) rest, l.len);
     }
 
-pub lends_all : (drafts : List Draft) (i : ℕ) (rest texts : List ℕ) (spans : List SpanValue)
+pub lends_all : (drafts : List Draft) (i : ℕ) (rest texts : List ℕ) (spans : List Span)
     → Lends drafts i rest texts spans → length spans ≤ i → outlines drafts ≡ outlines_at 0 texts spans
 lends_all drafts i rest texts spans l all = sym (append-nil (outlines drafts))
-    ∙ sym (ap (λ (ss : List SpanValue). outlines drafts ++ outlines_at i rest ss) (drop_of_length-le spans all))
+    ∙ sym (ap (λ (ss : List Span). outlines drafts ++ outlines_at i rest ss) (drop_of_length-le spans all))
     ∙ l.rows_are
 
 -- ---- cutting a text
@@ -248,8 +239,10 @@ lends_all drafts i rest texts spans l all = sym (append-nil (outlines drafts))
 pub cut_at : (text : List ℕ) (n : ℕ) → IsUtf8 text → HoldsText text n → IsCharBoundary text n
 cut_at text n utf8 holds = IsCharBoundary-from_take text n utf8 holds.within holds.utf8
 
--- the rest after a text is a text, too
-pub behind_plural : (text : List ℕ) (plural : Option ℕ) → IsUtf8 text → HoldsPlural text plural
-    → IsUtf8 (drop (plural_size plural) text)
-behind_plural text None utf8 holds = utf8
-behind_plural text (Some n) utf8 holds = IsUtf8-drop text n utf8 (cut_at text n utf8 holds)
+pub cut_kept : (text : List ℕ) (s : Span) → IsUtf8 text → HoldsSpan text s → IsCharBoundary (drop s.key text) s.kept
+cut_kept text s utf8 holds =
+    let behind = IsUtf8-drop text s.key utf8 (cut_at text s.key utf8 holds.key) in
+    cut_at (drop s.key text) s.kept behind holds.kept
+
+pub cut_plural : (text : List ℕ) (s : Span) → HoldsSpan text s → IsCharBoundary (kept_at text s) s.plural
+cut_plural text s holds = cut_at (kept_at text s) s.plural holds.kept.utf8 holds.plural

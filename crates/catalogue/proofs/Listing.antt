@@ -16,7 +16,8 @@ use Rattle.mo_image.specs.Map.{Rises}
 use Rattle.mo_image.specs.Parts.{entry_from}
 use Rattle.po_checks.specs.Kept.{message_of, is_kept, kept}
 use Rattle.catalogue.specs.Meaning.{IsMapOf}
-use Rattle.catalogue.specs.Drafts.{Outline, Kept, outline_of, kept_entry, IsRepeat}
+use Rattle.catalogue.specs.Body.{Kept}
+use Rattle.catalogue.specs.Drafts.{Outline, outline_of, kept_entry, IsRepeat}
 use Rattle.po_checks.specs.declared.options.Options.{Options}
 use Rattle.mo_image.proofs.EntryParts.{entry_again}
 use Rattle.mo_image.proofs.KeyParts.{rejoined}

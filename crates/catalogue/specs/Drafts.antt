@@ -16,14 +16,10 @@ use Rattle.po_checks.specs.Kept.{message_of, key_of, is_header, is_untranslated,
 use Rattle.po_checks.specs.Found.{HasFound}
 use Rattle.po_checks.specs.declared.findings.Findings.{Findings}
 use Rattle.po_checks.specs.declared.options.Options.{Options}
+use Rattle.catalogue.specs.Body.{Kept}
 use Rattle.catalogue.specs.declared.drafts.Draft.{Draft}
-use Rattle.catalogue.specs.declared.drafts.Standing.{Standing}
-use Rattle.catalogue.specs.declared.drafts.Standing.TheVariants.{Header, Untranslated, Fuzzy, Translated}
-use Rattle.catalogue.specs.declared.drafts.Texts.{Texts}
-
--- what is kept of an entry besides its key: its plural, and its forms with NUL between them
-abbrev pub Kept : Type 0
-Kept = Option (List ℕ) × List ℕ
+use Rattle.catalogue.specs.declared.body.Standing.{Standing}
+use Rattle.catalogue.specs.declared.body.Standing.TheVariants.{Header, Untranslated, Fuzzy, Translated}
 
 -- an entry by its index in the PO text, its line, its key, how it counts, and what is kept of it
 pub record Outline : Type 0 where
@@ -33,17 +29,13 @@ pub record Outline : Type 0 where
   pub standing : Standing
   pub texts : Option Kept
 
-abbrev pub kept_texts : Texts → Kept
-kept_texts t = (option_map (λ s. s.now) t.plural, t.translation.now)
-
 abbrev pub outline : Draft → Outline
 outline d = record {
   number = d.number;
   line = d.line;
   key = d.key;
-  standing = d.standing;
-  texts = option_map kept_texts
-      d.texts;
+  standing = d.body.standing;
+  texts = d.body.texts;
 }
 
 abbrev pub outlines : List Draft → List Outline
@@ -95,7 +87,7 @@ entry_with key None = entry_from key None []
 entry_with key (Some t) = entry_from key t.0 t.1
 
 abbrev pub draft_entry : Draft → Entry
-draft_entry d = entry_with d.key (option_map kept_texts d.texts)
+draft_entry d = entry_with d.key d.body.texts
 
 abbrev pub drafts_entries : List Draft → List Entry
 drafts_entries drafts = map draft_entry drafts

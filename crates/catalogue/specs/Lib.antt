@@ -12,6 +12,7 @@ pub mod Messages
 pub mod Meaning
 pub mod Value
 pub mod Laws
+pub mod Body
 pub mod Drafts
 pub mod Spans
 pub mod Reading

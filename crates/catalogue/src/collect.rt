@@ -7,12 +7,13 @@ ghost use Rattle.po_checks.specs.Kept.{message_of};
 ghost use Rattle.catalogue.specs.Meaning.{Refuses};
 ghost use Rattle.catalogue.specs.Drafts as Drafts;
 ghost use Rattle.catalogue.specs.Drafts.{outline_of, texts_if_kept};
-ghost use Rattle.catalogue.specs.Spans.{bytes_if_kept, kept_bytes, kept_span, plural_bytes, span_of, stored};
+ghost use Rattle.catalogue.specs.Spans.{bytes_if_kept, kept_bytes, plural_bytes, plural_if_kept, share_of};
+ghost use Rattle.catalogue.specs.Spans.{span_of, stored};
 ghost use Rattle.catalogue.specs.Reading.{IsReadOf};
 ghost use Rattle.po_checks.specs.Refusal.{out_of_memory};
 
-use crate::drafts::Standing;
-use crate::spans::{KeptSpan, Span};
+use crate::body::{Share, Standing};
+use crate::spans::Span;
 use mo_image::{push_form, push_key};
 use po_checks::{Findings, LoadFault, Options, is_header, is_kept, is_untranslated};
 use po_text::{EntryBuffer, open_text};
@@ -57,47 +58,47 @@ fn add_plural(texts: &mut String, entry: &EntryBuffer) -> Result<Option<usize>, 
     }
 }
 
-/// Appends the forms, with NUL between them, and returns their length in bytes.
-fn add_forms(texts: &mut String, entry: &EntryBuffer) -> Result<usize, AllocError>
-    ensures added { OnOk result (string_bytes texts.new ≡ string_bytes texts.old
-        ++ translation (message_of entry.now)) }
-    ensures len { IfOk result (λ len. len ≡ length (translation (message_of entry.now))) }
+/// Appends the forms, with NUL between them.
+fn add_forms(texts: &mut String, entry: &EntryBuffer) -> Result<(), AllocError>
+    ensures { OnOk result (string_bytes texts.new ≡ string_bytes texts.old ++ translation (message_of entry.now)) }
 {
-    let start = texts.len();
     'forms: for k in 0..entry.form_count() {
         push_form(texts, entry.form(k), k == 0)?;
     }
-    Ok(texts.len() - start)
+    Ok(())
 }
 
-/// Appends what a catalogue keeps of an entry besides its key, and returns the lengths.
-fn add_kept(texts: &mut String, entry: &EntryBuffer) -> Result<KeptSpan, AllocError>
+/// Appends what a catalogue keeps of an entry besides its key, and returns the length of the plural, if there is one.
+fn add_kept(texts: &mut String, entry: &EntryBuffer) -> Result<Option<usize>, AllocError>
     ensures added { OnOk result (string_bytes texts.new ≡ string_bytes texts.old
         ++ kept_bytes (Drafts.texts_of entry.now)) }
-    ensures span { IfOk result (λ span. span ≡ kept_span (Drafts.texts_of entry.now)) }
+    ensures plural { IfOk result (λ len. len ≡ option_map length entry.now.plural) }
 {
-    Ok(KeptSpan {
-        plural: add_plural(texts, entry)?,
-        translation: add_forms(texts, entry)?,
-    })
+    let plural = add_plural(texts, entry)?;
+    add_forms(texts, entry)?;
+    Ok(plural)
 }
 
-/// Appends what a catalogue keeps of an entry besides its key, if the entry is kept at all.
+/// Appends what a catalogue keeps of an entry besides its key, if the entry is kept at all. Returns what this is, and
+/// the length of the plural.
 fn add_if_kept(
     texts: &mut String,
     entry: &EntryBuffer,
     options: Options,
-) -> Result<Option<KeptSpan>, AllocError>
+) -> Result<(Share, usize), AllocError>
     ensures lawful { IsLawfulTexts entry.now }
     ensures added { OnOk result (string_bytes texts.new ≡ string_bytes texts.old
         ++ bytes_if_kept (texts_if_kept options entry.now)) }
-    ensures span { IfOk result (λ span. span ≡ option_map kept_span (texts_if_kept options entry.now)) }
+    ensures share { IfOk result (λ kept. kept.0 ≡ share_of (texts_if_kept options entry.now)) }
+    ensures plural { IfOk result (λ kept. kept.1 ≡ length (plural_if_kept (texts_if_kept options entry.now))) }
 {
     if !is_kept(entry, options) {
-        return Ok(None);
+        return Ok((Share::Dropped, 0));
     }
-    let span = add_kept(texts, entry)?;
-    Ok(Some(span))
+    match add_kept(texts, entry)? {
+        Some(plural) => Ok((Share::Plural, plural)),
+        None => Ok((Share::Plain, 0)),
+    }
 }
 
 /// Appends the texts of an entry, and returns their span.
@@ -108,8 +109,16 @@ fn add_entry(texts: &mut String, entry: &EntryBuffer, options: Options) -> Resul
     ensures span { IfOk result (λ span. span ≡ span_of (outline_of options 0 entry.now)) }
 {
     let key = add_key(texts, entry)?;
-    let kept = add_if_kept(texts, entry, options)?;
-    Ok(Span::new(key, kept, entry.line(), standing_of(entry)))
+    let start = texts.len();
+    let (share, plural) = add_if_kept(texts, entry, options)?;
+    Ok(Span {
+        key,
+        kept: texts.len() - start,
+        plural,
+        line: entry.line(),
+        share,
+        standing: standing_of(entry),
+    })
 }
 
 /// What was read of a PO text.

@@ -9,14 +9,13 @@ ghost use Rattle.catalogue.specs.Meaning.{lacking, none_missing, Means, Refuses}
 ghost use Rattle.po_checks.specs.Refusal.{out_of_memory};
 
 use crate::Catalogue;
+use crate::body::Standing;
 use crate::collect::{Collected, collect};
-use crate::drafts::{
-    Draft, KeptDrafts, Standing, count, first_repeat, header_line, header_text, keep, sort,
-};
+use crate::drafts::{Draft, KeptDrafts, count, first_repeat, header_line, header_text, keep, sort};
 use crate::spans::{Span, lend};
 use mo_image::{HEADER_LEN, ROW_LEN};
 use po_checks::{LoadFault, LoadKind, Options};
-use po_header::{has_accepted_charset, missing_fields};
+use po_header::{has_accepted_charset, missing_fields, rule_in};
 use std::alloc::Global;
 use std::mem::size_of;
 
@@ -158,7 +157,6 @@ fn compile_collected(
     let header = header_text(&drafts);
     let is_accepted = is_accepted(header);
     let missing = missing_in(header, options);
-    let failed = findings.fault(alloc, options, header, header_line)?;
     sort(&mut drafts);
     if let Some(draft) = first_repeat(&drafts) {
         return Err(LoadFault {
@@ -172,11 +170,12 @@ fn compile_collected(
             line: header_line,
         });
     }
-    if let Some(fault) = failed {
+    let rule = rule_in(alloc, header)?;
+    if let Some(fault) = findings.fault(options, &rule, header_line) {
         return Err(fault);
     }
     keep(&mut drafts);
-    let catalogue = Catalogue::from_list_over(alloc, memory, &KeptDrafts { drafts })?;
+    let catalogue = Catalogue::from_list_over(memory, &KeptDrafts { drafts }, rule)?;
     Ok(Compiled {
         catalogue,
         stats,

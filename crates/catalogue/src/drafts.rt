@@ -7,45 +7,31 @@ ghost use Rattle.catalogue.specs.Drafts.{comes_before, drafts_entries, header_te
 ghost use Rattle.catalogue.specs.Drafts.{outline_cmp, outline_if, outline_text, outlines, FirstRepeat};
 ghost use Rattle.catalogue.specs.Drafts as Drafts;
 
+use crate::body::{Body, Standing};
 use byte_text::LongKey;
 use mo_image::{EntryList, EntryStrings, split_form};
 use std::cmp::Ordering;
+use std::mem::size_of;
 
-/// What a catalogue keeps of an entry besides its key.
-#[derive(Drop)]
-pub(crate) struct Texts<'a> {
-    pub(crate) plural: Option<&'a str>,
-    /// The forms, with NUL between them.
-    pub(crate) translation: &'a str,
-}
-
-/// How an entry counts in the statistics.
-#[derive(Clone, Copy, PartialEq, Eq)]
-pub(crate) enum Standing {
-    /// The header, which isn't counted.
-    Header,
-    Untranslated,
-    Fuzzy,
-    Translated,
-}
-
-/// An entry that was read. It borrows its texts, since drafts are moved when they are sorted.
+/// An entry that was read. It borrows its texts and is small, since drafts are moved when they are sorted.
 #[derive(Drop)]
 pub(crate) struct Draft<'a> {
     /// The entry's key.
     pub(crate) key: LongKey<'a>,
+    /// How the entry counts, and what is kept of it.
+    pub(crate) body: Body<'a>,
     /// The index of the entry in the PO text.
-    pub(crate) number: usize,
+    pub(crate) number: u32,
     pub(crate) line: u32,
-    pub(crate) standing: Standing,
-    /// `None` if the entry isn't kept.
-    pub(crate) texts: Option<Texts<'a>>,
 }
+
+// A larger draft makes the compiler slower.
+const _: () = prove!(size_of::<Draft<'_>>() == 64);
 
 fn counts_as(draft: &Draft<'_>, standing: Standing) -> bool
     ensures { result ≡ Drafts.counts_as standing (outline draft.now) }
 {
-    draft.standing == standing
+    draft.body.standing() == standing
 }
 
 /// Counts the drafts of this standing.
@@ -61,7 +47,7 @@ pub(crate) fn count(drafts: &[Draft<'_>], standing: Standing) -> usize
 fn is_kept_header(draft: &Draft<'_>) -> bool
     ensures { result ≡ Drafts.is_kept_header (outline draft.now) }
 {
-    counts_as(draft, Standing::Header) && draft.texts.is_some()
+    counts_as(draft, Standing::Header) && draft.body.is_kept()
 }
 
 fn kept_header<'d, 'a>(drafts: &'d [Draft<'a>]) -> Option<&'d Draft<'a>>
@@ -84,10 +70,8 @@ pub(crate) fn header_line(drafts: &[Draft<'_>]) -> u32
 fn first_form_of<'a>(draft: &Draft<'a>) -> Option<&'a str>
     ensures { option_map (λ text. text.now) result ≡ outline_text (outline draft.now) }
 {
-    match &draft.texts {
-        Some(texts) => Some(split_form(texts.translation).0),
-        None => None,
-    }
+    let texts = draft.body.texts()?;
+    Some(split_form(texts.translation).0)
 }
 
 /// Returns the text of the kept header, if there is one.
@@ -156,7 +140,7 @@ pub(crate) fn first_repeat<'d, 'a>(drafts: &'d [Draft<'a>]) -> Option<&'d Draft<
 pub(crate) fn keep(drafts: &mut Vec<Draft<'_>>)
     ensures { drafts_entries drafts.new.items ≡ filter_map kept_entry (outlines drafts.old.items) }
 {
-    drafts.retain(|draft| draft.texts.is_some());
+    drafts.retain(|draft| draft.body.is_kept());
 }
 
 /// The drafts that are kept, as the list of entries that a catalogue is made of.
@@ -176,7 +160,7 @@ impl<'a> EntryList for KeptDrafts<'a> {
 
     fn strings_at(&self, i: usize) -> EntryStrings<'_> {
         let draft = &self.drafts[i];
-        match &draft.texts {
+        match draft.body.texts() {
             Some(texts) => EntryStrings::new(draft.key.as_str(), texts.plural, texts.translation),
             None => EntryStrings::new(draft.key.as_str(), None, ""),
         }

@@ -5,6 +5,7 @@
 #![tactic(auto)]
 
 mod accepts;
+mod body;
 mod collect;
 mod compiler;
 mod drafts;
@@ -16,7 +17,7 @@ mod sorted;
 mod spans;
 
 pub use compiler::{Compiled, Stats, compile, compile_owned};
-pub use entry_search::{AskedKey, Steps};
+pub use entry_search::{AskedKey, NO_HINT, Steps};
 pub use law::one_meaning;
 pub use lookup::untranslated;
 pub use map::Catalogue;

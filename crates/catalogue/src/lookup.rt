@@ -157,4 +157,21 @@ impl Catalogue {
         let entry = self.find_bytes(context, id)?;
         Some(self.closed_form_for(&entry, n))
     }
+
+    /// Translates a message as `translated_closed` does, whatever the hint is (`hint`).
+    #[inline(always)]
+    pub fn translated_closed_hinted(
+        &self,
+        context: Option<&[u8]>,
+        id: &[u8],
+        n: Option<u64>,
+        hint: u64,
+    ) -> Option<&[u8]>
+        ensures { IsTranslatedClosed self.now
+            (entry_at self.now (key_bytes (option_map (λ s. s.now) context.entry) id.now))
+            n (option_map (λ s. s.now) result) }
+    {
+        let entry = self.find_hinted(context, id, hint)?;
+        Some(self.closed_form_for(&entry, n))
+    }
 }

@@ -39,8 +39,7 @@ impl Model for Catalogue {
     ghost invariant = { λ c. HasMapRule c.entries (rule_of c.rule) };
 }
 
-/// Reads the rule for plural forms in the header of the entries. With `checked`, the checks have read it once before,
-/// to test it.
+/// Reads the rule for plural forms in the header of the entries.
 fn rule_of_header(alloc: Global, entries: &Entries) -> Result<RuleRead, AllocError>
     ensures { IfOk result (λ rule. HasMapRule entries.now (rule_of rule)) }
 {
@@ -80,16 +79,19 @@ impl Catalogue {
         Catalogue::from_image(alloc, Image::spelled(alloc, list)?)
     }
 
-    /// Makes a catalogue of a list of entries, with its MO file in `memory`.
+    /// Makes a catalogue of a list of entries and the rule in their header, with its MO file in `memory`.
     pub(crate) fn from_list_over<L: EntryList>(
-        alloc: Global,
         memory: Vec<u8>,
         list: &L,
+        rule: RuleRead,
     ) -> Result<Catalogue, AllocError>
-        requires { IsLawful (L.entries list.now) }
+        requires lawful { IsLawful (L.entries list.now) }
+        requires rule { HasMapRule (L.entries list.now) (rule_of rule) }
         ensures { IfOk result (λ catalogue. catalogue ≡ L.entries list.now) }
     {
-        Catalogue::from_image(alloc, Image::spelled_over(memory, list)?)
+        let image = Image::spelled_over(memory, list)?;
+        let entries = Entries::new(image);
+        Ok(Catalogue { entries, rule })
     }
 
     /// Makes a catalogue of an image, and reads the rule in its header.
@@ -102,13 +104,14 @@ impl Catalogue {
     }
 
     /// Indexes the entries by the hashes of their keys, for a catalogue that is asked often. A look-up then compares
-    /// one key instead of running a binary search; the index takes some 40 bytes per entry. The entries don't change.
-    /// If an allocation fails, nothing is changed.
+    /// one key instead of running a binary search; the index takes some 40 bytes per entry. The plural rule gets its
+    /// table of values, too. The entries don't change, and all look-ups answer as before, even if an allocation fails.
     ///
     /// Hashes have 32 bits. Keys that share one are still found by binary search.
     pub fn index(&mut self, alloc: Global) -> Result<(), AllocError>
         ensures { self.new ≡ self.old }
     {
+        self.rule.tabulate(alloc)?;
         self.entries.index(alloc)
     }
 
@@ -161,6 +164,23 @@ impl Catalogue {
         ensures { result ≡ entry_at self.now asked.now }
     {
         self.entries.find_asked(asked)
+    }
+
+    /// Returns a hint for `find_hinted` and `translated_closed_hinted`: where the index should have the entry of this
+    /// key. To look up many keys, first get the hints of all of them: a processor waits for the index's memory for
+    /// several of them at once.
+    #[inline(always)]
+    pub fn hint(&self, asked: &AskedKey<'_>) -> u64 {
+        self.entries.hint(asked)
+    }
+
+    /// Finds the entry of a msgid as `find_bytes` does, whatever the hint is. It takes the least time with the hint of
+    /// the msgid's key.
+    #[inline(always)]
+    pub fn find_hinted(&self, context: Option<&[u8]>, id: &[u8], hint: u64) -> Option<EntryRef<'_>>
+        ensures { result ≡ entry_at self.now (key_bytes (option_map (λ s. s.now) context.entry) id.now) }
+    {
+        self.entries.find_hinted(context, id, hint)
     }
 
     /// Finds the entry of a msgid as `find` does, and adds its steps to a count. A step is one comparison of the key

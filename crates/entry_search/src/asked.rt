@@ -42,6 +42,18 @@ fn hash_of(context: Option<&[u8]>, id: &[u8]) -> u32
     }
 }
 
+/// Whether an entry is that of a msgid, in a context or in none.
+#[inline(always)]
+pub(crate) fn has_key(entry: &EntryRef<'_>, context: Option<&[u8]>, id: &[u8]) -> bool
+    ensures { result ≡ bytes_eq (key entry.now) (key_bytes (option_map (λ s. s.now) context.entry) id.now) }
+{
+    let key = entry.key().as_bytes();
+    match context {
+        Some(context) => is_in_context(key, context, id),
+        None => key == id,
+    }
+}
+
 impl<'a> AskedKey<'a> {
     /// The key of a msgid, in a context or in none.
     #[inline(always)]
@@ -76,10 +88,6 @@ impl<'a> AskedKey<'a> {
     pub(crate) fn is_key_of(&self, entry: &EntryRef<'_>) -> bool
         ensures { result ≡ bytes_eq (key entry.now) self.now }
     {
-        let key = entry.key().as_bytes();
-        match self.context {
-            Some(context) => is_in_context(key, context, self.id),
-            None => key == self.id,
-        }
+        has_key(entry, self.context, self.id)
     }
 }

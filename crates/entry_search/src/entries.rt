@@ -4,7 +4,7 @@ ghost use Rattle.mo_image.specs.Entry.{key_bytes};
 ghost use Rattle.mo_image.specs.Map.{entry_at};
 ghost use Rattle.entry_search.specs.Search.{AtMostDigits};
 
-use crate::find::{find_counted_in, find_in};
+use crate::find::{find_counted_in, find_in, find_near};
 use crate::index::Index;
 use crate::index_slots::index_of;
 use crate::{AskedKey, Steps};
@@ -12,6 +12,9 @@ use mo_image::{EntryRef, Image};
 use std::alloc::{AllocError, Global};
 use std::marker::Model;
 use std::sync::ledger::Ledger;
+
+/// The hint that says nothing: no index has so many slots.
+pub const NO_HINT: u64 = u64::MAX;
 
 /// The entries of a catalogue, in rising order of the keys' bytes, with an index once `index` has been called.
 /// Contracts see it as the list of the entries.
@@ -77,6 +80,26 @@ impl Entries {
         ensures { result ≡ entry_at self.now asked.now }
     {
         find_in(&self.image, self.index.as_ref(), asked)
+    }
+
+    /// Returns a hint for `find_hinted`: where the index should have the entry of this key. To look up many keys, first
+    /// get the hints of all of them; a processor waits for the index's memory for several of them at once. It is
+    /// `NO_HINT` if the index is so small that there is nothing to wait for.
+    #[inline(always)]
+    pub fn hint(&self, asked: &AskedKey<'_>) -> u64 {
+        match &self.index {
+            Some(index) if index.is_large() => index.likely_place(asked.hash()) as u64,
+            _ => NO_HINT,
+        }
+    }
+
+    /// Finds the entry of a msgid as `find` does, whatever the hint is. It takes the least time with the hint of the
+    /// msgid's key (`hint`).
+    #[inline(always)]
+    pub fn find_hinted(&self, context: Option<&[u8]>, id: &[u8], hint: u64) -> Option<EntryRef<'_>>
+        ensures { result ≡ entry_at self.now (key_bytes (option_map (λ s. s.now) context.entry) id.now) }
+    {
+        find_near(&self.image, self.index.as_ref(), context, id, hint as usize)
     }
 
     /// Finds the entry of a msgid as `find` does, and counts the steps: at most as many as the number of entries has

@@ -10,6 +10,7 @@ ghost use Rattle.entry_search.specs.Search.{AtMostDigits};
 ghost use Rattle.entry_search.specs.Place.{IsPlaceOf};
 ghost use Rattle.entry_search.specs.Index.{IsIndex};
 
+use crate::asked::has_key;
 use crate::index::Index;
 use crate::keys::cmp_in_context;
 use crate::{AskedKey, Steps};
@@ -244,6 +245,47 @@ pub(crate) fn find_in<'a>(
     ensures { result ≡ entry_at image.now asked.now }
 {
     search_uncounted::<Brand>(image, index, asked, Blank::new(1))
+}
+
+/// Returns the entry whose slot is at a place, if it is that of this msgid, in a context or in none.
+#[inline(always)]
+fn entry_at_place<'a>(
+    image: &'a Image,
+    index: &Index,
+    context: Option<&[u8]>,
+    id: &[u8],
+    place: usize,
+) -> Option<EntryRef<'a>>
+    requires { IsIndex image.now index.now }
+    ensures { IfSome result (λ e. entry_at image.now (key_bytes (option_map (λ s. s.now) context.entry) id.now)
+        ≡ Some e) }
+{
+    let entry = image.entry_in(&index.at(place)?.extents);
+    if has_key(&entry, context, id) {
+        Some(entry)
+    } else {
+        None
+    }
+}
+
+/// Finds the entry of a msgid as `find_in` does. If there is an index, it first looks at the slot at `place`.
+#[inline(always)]
+pub(crate) fn find_near<'a>(
+    image: &'a Image,
+    index: Option<&Index>,
+    context: Option<&[u8]>,
+    id: &[u8],
+    place: usize,
+) -> Option<EntryRef<'a>>
+    requires { IfSome index (λ index. IsIndex image.now index.now) }
+    ensures { result ≡ entry_at image.now (key_bytes (option_map (λ s. s.now) context.entry) id.now) }
+{
+    if let Some(index) = index {
+        if let Some(entry) = entry_at_place(image, index, context, id, place) {
+            return Some(entry);
+        }
+    }
+    find_in(image, index, &AskedKey::new(context, id))
 }
 
 /// Finds the entry with this key as `find_in` does, and counts the steps.

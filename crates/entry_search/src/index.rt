@@ -46,4 +46,24 @@ impl Index {
     {
         self.slots.slot_of(hash)
     }
+
+    /// Whether a look-up has to wait for memory (`SlotTable::is_large`).
+    #[inline(always)]
+    pub(crate) fn is_large(&self) -> bool {
+        self.slots.is_large()
+    }
+
+    /// Returns the place where the slot of this hash should be (`SlotTable::likely_place`).
+    #[inline(always)]
+    pub(crate) fn likely_place(&self, hash: u32) -> usize {
+        self.slots.likely_place(hash)
+    }
+
+    /// Returns the slot at a place, if there is one.
+    #[inline(always)]
+    pub(crate) fn at(&self, place: usize) -> Option<&Slot>
+        ensures { IfSome result (λ slot. Contains self.now.slots slot.now) }
+    {
+        self.slots.at(place)
+    }
 }

@@ -11,6 +11,6 @@ mod slot_table;
 mod step_count;
 
 pub use asked::AskedKey;
-pub use entries::Entries;
+pub use entries::{Entries, NO_HINT};
 pub use keys::cmp_keys;
 pub use step_count::Steps;

@@ -10,6 +10,9 @@ use std::marker::Model;
 /// How far from its home a slot is looked for before the binary search.
 const REACH: usize = 6;
 
+/// A table of this many slots (256 kB, for some 11,000 entries) is large: a look-up waits for memory.
+const LARGE: usize = 16_384;
+
 /// A slot leads from a hash of an entry straight to the entry's texts. It has 16 bytes: four slots fill a cache line.
 #[derive(Clone, Copy)]
 pub(crate) struct Slot {
@@ -113,6 +116,12 @@ impl SlotTable {
         self.slots.is_empty()
     }
 
+    /// Whether the table doesn't fit into the memory that is next to a processor.
+    #[inline(always)]
+    pub(crate) fn is_large(&self) -> bool {
+        self.slots.len() >= LARGE
+    }
+
     /// Returns the slot of this hash, if it is at this place or one of the next few.
     #[inline(always)]
     fn slot_near(&self, hash: u32, place: usize) -> Option<&Slot>
@@ -201,5 +210,27 @@ impl SlotTable {
             Some(slot) => Some(slot),
             None => self.slot_found(hash, home),
         }
+    }
+
+    /// Returns the place where the slot of this hash should be. It may be another's, and there may be no such place.
+    #[inline(always)]
+    pub(crate) fn likely_place(&self, hash: u32) -> usize {
+        let home = home(hash, self.spread);
+        let Some(behind) = self.slots.get(home..) else {
+            return home;
+        };
+        let near: Option<&[Slot; REACH]> = behind.first_chunk();
+        match near {
+            Some(near) => home.wrapping_add(count_below(near, hash)),
+            None => home,
+        }
+    }
+
+    /// Returns the slot at a place, if there is one.
+    #[inline(always)]
+    pub(crate) fn at(&self, place: usize) -> Option<&Slot>
+        ensures { IfSome result (λ slot. Contains self.now slot.now) }
+    {
+        self.slots.get(place)
     }
 }

@@ -5,7 +5,7 @@
 //! msgid_plural and forms. `-` means no context or no plural.
 use catalogue::{Catalogue, Message};
 use std::alloc::{AllocError, Global};
-use std::test::Fail;
+use std::str;
 
 const LAWFUL: [&str; 12] = [
     "",
@@ -58,20 +58,23 @@ fn owned(alloc: Global, text: Option<&str>) -> Result<Option<String>, AllocError
     }
 }
 
-fn message(alloc: Global, text: &str) -> Result<Message, AllocError> {
-    let mut fields = text.split('|');
-    let context = owned(alloc, fields.next())?;
-    let id = String::from_str(alloc, fields.next().unwrap_or(""))?;
-    let plural = owned(alloc, fields.next())?;
+/// The forms that are left of a message's fields.
+fn forms_of(alloc: Global, fields: &mut str::Split<char>) -> Result<Vec<String>, AllocError> {
     let mut forms = Vec::new(alloc);
     for form in fields {
         forms.push(String::from_str(alloc, form)?)?;
     }
+    Ok(forms)
+}
+
+fn message(alloc: Global, text: &str) -> Result<Message, AllocError> {
+    let mut fields = text.split('|');
+    let (context, id, plural) = (fields.next(), fields.next(), fields.next());
     Ok(Message {
-        context,
-        id,
-        plural,
-        forms,
+        context: owned(alloc, context)?,
+        id: String::from_str(alloc, id.unwrap_or(""))?,
+        plural: owned(alloc, plural)?,
+        forms: forms_of(alloc, &mut fields)?,
     })
 }
 
@@ -85,45 +88,51 @@ fn messages(alloc: Global, list: &str) -> Result<Vec<Message>, AllocError> {
     Ok(messages)
 }
 
-fn accepts(alloc: Global, list: &str) -> Result<bool, AllocError> {
-    Ok(Catalogue::accepts(messages(alloc, list)?.as_slice()))
+/// Whether a list of messages is accepted, or `None` if memory runs out.
+fn accepts(alloc: Global, list: &str) -> Option<bool> {
+    match messages(alloc, list) {
+        Ok(messages) => Some(Catalogue::accepts(messages.as_slice())),
+        Err(_) => None,
+    }
 }
 
 #[test]
-fn accepts_lawful_messages(rt: HostRuntime) -> Result<(), Fail> {
+fn accepts_lawful_messages(rt: HostRuntime) {
     for list in LAWFUL {
-        assert!(rt; accepts(rt.alloc(), list)?);
+        assert!(rt; accepts(rt.alloc(), list) == Some(true), "{list}");
     }
-    Ok(())
 }
 
 #[test]
-fn refuses_unlawful_messages(rt: HostRuntime) -> Result<(), Fail> {
+fn refuses_unlawful_messages(rt: HostRuntime) {
     for list in UNLAWFUL {
-        assert!(rt; !accepts(rt.alloc(), list)?);
+        assert!(rt; accepts(rt.alloc(), list) == Some(false), "{list}");
     }
-    Ok(())
 }
 
 /// Makes a message `a` with one form of `len` bytes.
-fn long_message(alloc: Global, len: usize) -> Result<Vec<Message>, Fail> {
+fn long_message(alloc: Global, len: usize) -> Result<Vec<Message>, AllocError> {
     let mut list = messages(alloc, "-|a|-")?;
-    if let Some(message) = list.first_mut() {
-        if let Ok(text) = String::from_utf8(vec![in alloc; b'x'; len]?) {
-            message.forms.push(text)?;
-        }
+    let bytes = vec![in alloc; b'x'; len]?;
+    if let (Some(message), Ok(text)) = (list.first_mut(), String::from_utf8(bytes)) {
+        message.forms.push(text)?;
     }
     Ok(list)
 }
 
+/// Whether a message with a form of `len` bytes is accepted, or `None` if memory runs out.
+fn accepts_long(alloc: Global, len: usize) -> Option<bool> {
+    match long_message(alloc, len) {
+        Ok(messages) => Some(Catalogue::accepts(messages.as_slice())),
+        Err(_) => None,
+    }
+}
+
 /// The file has a header of 28 bytes, two rows of 8, and `a` and the form, each with a NUL after it.
 #[test]
-fn accepts_by_size(rt: HostRuntime) -> Result<(), Fail> {
-    let longest = long_message(rt.alloc(), 268_435_409)?;
-    assert!(rt; Catalogue::accepts(longest.as_slice()));
-    let longer = long_message(rt.alloc(), 268_435_410)?;
-    assert!(rt; !Catalogue::accepts(longer.as_slice()));
-    Ok(())
+fn accepts_by_size(rt: HostRuntime) {
+    assert!(rt; accepts_long(rt.alloc(), 268_435_409) == Some(true));
+    assert!(rt; accepts_long(rt.alloc(), 268_435_410) == Some(false));
 }
 
 /// Whether `a` has the forms `x` and `y`.
@@ -134,18 +143,27 @@ fn has_forms(catalogue: &Catalogue) -> bool {
         && catalogue.ngettext("a", "b", 2) == "y"
 }
 
-#[test]
-fn makes_a_catalogue_of_what_is_accepted(rt: HostRuntime) -> Result<(), Fail> {
-    let alloc = rt.alloc();
-    let list = messages(
-        alloc,
-        "-||-|Plural-Forms: nplurals=2; plural=n>1;\n/-|a|b|x|y",
-    )?;
-    if Catalogue::accepts(list.as_slice()) {
-        let catalogue = Catalogue::from_sorted(alloc, list)?;
-        assert!(rt; has_forms(&catalogue));
-    } else {
-        assert!(rt; false);
+/// Whether these messages are accepted, and make a catalogue where `a` has the forms `x` and `y`.
+fn makes_forms(alloc: Global, list: Vec<Message>) -> bool {
+    if !Catalogue::accepts(list.as_slice()) {
+        return false;
     }
-    Ok(())
+    match Catalogue::from_sorted(alloc, list) {
+        Ok(catalogue) => has_forms(&catalogue),
+        Err(_) => false,
+    }
+}
+
+/// Whether a list of messages is accepted, and makes such a catalogue.
+fn makes_catalogue(alloc: Global, list: &str) -> bool {
+    match messages(alloc, list) {
+        Ok(messages) => makes_forms(alloc, messages),
+        Err(_) => false,
+    }
+}
+
+#[test]
+fn makes_a_catalogue_of_what_is_accepted(rt: HostRuntime) {
+    let list = "-||-|Plural-Forms: nplurals=2; plural=n>1;\n/-|a|b|x|y";
+    assert!(rt; makes_catalogue(rt.alloc(), list));
 }

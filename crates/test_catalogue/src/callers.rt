@@ -1,7 +1,6 @@
 //! The first program of docs/guide/rattle.md, which quotes it.
 use catalogue::{Catalogue, LoadFault, Options, compile};
 use std::alloc::Global;
-use std::test::Fail;
 
 /// The catalogue that a PO text means, or the first thing that is wrong with the text.
 fn load(alloc: Global, text: &[u8]) -> Result<Catalogue, LoadFault> {
@@ -21,18 +20,23 @@ fn files<'a>(catalogue: &'a Catalogue, n: u64) -> &'a str {
 const TEXT: &[u8] = b"msgid \"\"\nmsgstr \"Plural-Forms: nplurals=2; plural=n>1;\\n\"\n\n\
     msgid \"file\"\nmsgid_plural \"files\"\nmsgstr[0] \"fichier\"\nmsgstr[1] \"fichiers\"\n";
 
+/// Whether `n` files are called this by the catalogue of a text.
+fn are_called(alloc: Global, text: &[u8], n: u64, wanted: &str) -> bool {
+    match load(alloc, text) {
+        Ok(catalogue) => files(&catalogue, n) == wanted,
+        Err(_) => false,
+    }
+}
+
 #[test]
-fn files_are_counted(rt: HostRuntime) -> Result<(), Fail> {
-    let french = load(rt.alloc(), TEXT)?;
-    let empty = load(rt.alloc(), b"")?;
+fn files_are_counted(rt: HostRuntime) {
     for (n, translated, id) in [
         (0, "fichier", "files"),
         (1, "fichier", "file"),
         (2, "fichiers", "files"),
     ] {
-        assert_eq!(rt; files(&french, n), translated, "{n}");
-        assert_eq!(rt; files(&empty, n), id, "{n}");
+        assert!(rt; are_called(rt.alloc(), TEXT, n, translated), "{n}");
+        assert!(rt; are_called(rt.alloc(), b"", n, id), "{n}");
     }
     assert!(rt; load(rt.alloc(), b"msgid \"a\"").is_err());
-    Ok(())
 }

@@ -5,7 +5,6 @@ use catalogue::{Catalogue, Options, Steps, compile};
 use std::alloc::{AllocError, Global};
 use std::marker::Brand;
 use std::sync::ledger::{Blank, Ledger};
-use std::test::Fail;
 
 const PLAIN: Options = Options {
     checked: false,
@@ -21,11 +20,11 @@ fn push_digits(text: &mut String, n: u32, places: usize) -> Result<(), AllocErro
     Ok(())
 }
 
-/// Makes `key` the key of a number: `k` and its last digits.
-fn write_key(key: &mut String, n: u32, places: usize) -> Result<(), AllocError> {
-    key.clear();
-    key.push('k')?;
-    push_digits(key, n, places)
+/// The key of a number: `k` and its last digits.
+fn key_of(alloc: Global, n: u32, places: usize) -> Result<String, AllocError> {
+    let mut key = String::from_str(alloc, "k")?;
+    push_digits(&mut key, n, places)?;
+    Ok(key)
 }
 
 /// Returns a PO text of `count` messages: `k` and the digits of a number, translated as the digits.
@@ -39,6 +38,22 @@ fn numbered(alloc: Global, count: u32, places: usize) -> Result<String, AllocErr
         text.push_str("\"\n")?;
     }
     Ok(text)
+}
+
+/// Compiles a PO text, or returns `None` if memory runs out.
+fn catalogue_of(alloc: Global, text: &[u8]) -> Option<Catalogue> {
+    match compile(alloc, text, PLAIN) {
+        Ok(compiled) => Some(compiled.catalogue),
+        Err(_) => None,
+    }
+}
+
+/// The catalogue of `numbered`.
+fn numbered_catalogue(alloc: Global, count: u32, places: usize) -> Option<Catalogue> {
+    match numbered(alloc, count, places) {
+        Ok(text) => catalogue_of(alloc, text.as_bytes()),
+        Err(_) => None,
+    }
 }
 
 /// Whether the key is found with this translation or, if none is wanted, isn't found.
@@ -65,119 +80,177 @@ fn is_found_in_ten<L: Ledger>(
     }
 }
 
-/// Whether all of a thousand keys are found in ten steps each, and other keys aren't.
-fn finds_thousand<L: Ledger>(
+/// Whether both searches find the key with this translation or, if none is wanted, don't find it.
+fn is_found_by_both<L: Ledger>(
+    catalogue: &Catalogue,
+    key: &str,
+    wanted: Option<&str>,
+    steps: &mut Steps<L>,
+) -> bool
+    requires { length catalogue.now ≤ 1000 }
+{
+    is_found(catalogue, key, wanted) && is_found_in_ten(catalogue, key, wanted, steps)
+}
+
+/// Whether the key of a number is found.
+fn finds_number<L: Ledger>(
     alloc: Global,
     catalogue: &Catalogue,
-    blank: Blank,
-) -> Result<bool, AllocError>
+    n: u32,
+    steps: &mut Steps<L>,
+) -> bool
+    requires { length catalogue.now ≤ 1000 }
+{
+    match key_of(alloc, n, 3) {
+        Ok(key) => {
+            let key = key.as_str();
+            is_found_by_both(catalogue, key, key.strip_prefix('k'), steps)
+        }
+        Err(_) => false,
+    }
+}
+
+/// Whether all of a thousand keys are found in ten steps each, and other keys aren't.
+fn finds_thousand<L: Ledger>(alloc: Global, catalogue: &Catalogue, blank: Blank) -> bool
     requires name { blank.name ≡ L.name }
     requires parts { blank.parts ≡ L.parts }
     requires some { 0 < L.parts }
+    requires count { length catalogue.now ≤ 1000 }
 {
     let mut steps = Steps::<L>::new(blank);
-    if catalogue.len() > 1000 {
-        return Ok(false);
-    }
-    let mut key = String::new(alloc);
+    let mut found = true;
     for n in 0..1000 {
-        write_key(&mut key, n, 3)?;
-        let wanted = key.as_str().strip_prefix('k');
-        if !is_found(catalogue, key.as_str(), wanted) {
-            return Ok(false);
-        }
-        if !is_found_in_ten(catalogue, key.as_str(), wanted, &mut steps) {
-            return Ok(false);
-        }
+        found = found && finds_number(alloc, catalogue, n, &mut steps);
     }
     for other in ["k", "k0005", "k9999", "", "j", "l"] {
-        if !is_found(catalogue, other, None) {
-            return Ok(false);
+        found = found && is_found_by_both(catalogue, other, None, &mut steps);
+    }
+    found
+}
+
+/// Whether a catalogue has a thousand entries, and they are found.
+fn has_thousand(alloc: Global, catalogue: &Catalogue) -> bool {
+    catalogue.len() == 1000 && finds_thousand::<Brand>(alloc, catalogue, Blank::new(1))
+}
+
+/// Whether the entries are found with an index and without one.
+fn has_thousand_by_both(alloc: Global) -> bool {
+    match numbered_catalogue(alloc, 1000, 3) {
+        Some(mut catalogue) => {
+            has_thousand(alloc, &catalogue)
+                && catalogue.index(alloc).is_ok()
+                && has_thousand(alloc, &catalogue)
         }
-        if !is_found_in_ten(catalogue, other, None, &mut steps) {
-            return Ok(false);
+        None => false,
+    }
+}
+
+#[test]
+fn finds_among_a_thousand(rt: HostRuntime) {
+    assert!(rt; has_thousand_by_both(rt.alloc()));
+}
+
+/// Whether a look-up of a msgid, in a context or in none, gives this text.
+fn gives(catalogue: &Catalogue, context: Option<&str>, id: &str, wanted: &str) -> bool {
+    match context {
+        Some(context) => catalogue.pgettext(context, id) == wanted,
+        None => catalogue.gettext(id) == wanted,
+    }
+}
+
+/// Whether each of these look-ups gives its text.
+fn gives_each(catalogue: &Catalogue, texts: &[(Option<&str>, &str, &str)]) -> bool {
+    for (context, id, wanted) in texts {
+        if !gives(catalogue, *context, id, wanted) {
+            return false;
         }
     }
-    Ok(true)
+    true
+}
+
+/// Keys are equal only if their bytes are.
+const CONTEXT_TEXTS: [(Option<&str>, &str, &str); 10] = [
+    (Some("c"), "a", "x"),
+    (Some(""), "a", "y"),
+    (None, "a", "z"),
+    (None, "c\u{4}a", "x"),
+    (None, "\u{4}a", "y"),
+    (Some("c\u{4}a"), "a", "a"),
+    (Some(""), "\u{4}a", "\u{4}a"),
+    (None, "a\0as", "a\0as"),
+    (None, "as", "as"),
+    (None, "", ""),
+];
+
+const IN_CONTEXTS: &[u8] = b"msgctxt \"c\"\nmsgid \"a\"\nmsgstr \"x\"\n\
+    msgctxt \"\"\nmsgid \"a\"\nmsgstr \"y\"\n\
+    msgid \"a\"\nmsgid_plural \"as\"\nmsgstr[0] \"z\"\nmsgstr[1] \"w\"\n";
+
+/// Whether these messages are told apart by an index.
+fn tells_contexts_by_index(alloc: Global) -> bool {
+    match catalogue_of(alloc, IN_CONTEXTS) {
+        Some(mut catalogue) => {
+            catalogue.index(alloc).is_ok()
+                && gives_each(&catalogue, &CONTEXT_TEXTS)
+                && catalogue.ngettext("a", "as", 2) == "w"
+        }
+        None => false,
+    }
 }
 
 #[test]
-fn finds_among_a_thousand(rt: HostRuntime) -> Result<(), Fail> {
-    let text = numbered(rt.alloc(), 1000, 3)?;
-    let mut compiled = compile(rt.alloc(), text.as_bytes(), PLAIN)?;
-    assert!(rt; compiled.catalogue.len() == 1000);
-    let found = finds_thousand::<Brand>(rt.alloc(), &compiled.catalogue, Blank::new(1))?;
-    assert!(rt; found);
-    compiled.catalogue.index(rt.alloc())?;
-    let found = finds_thousand::<Brand>(rt.alloc(), &compiled.catalogue, Blank::new(1))?;
-    assert!(rt; found);
-    Ok(())
-}
-
-/// Whether keys are equal only if their bytes are.
-fn tells_contexts_apart(catalogue: &Catalogue) -> bool {
-    catalogue.pgettext("c", "a") == "x"
-        && catalogue.pgettext("", "a") == "y"
-        && catalogue.gettext("a") == "z"
-        && catalogue.ngettext("a", "as", 2) == "w"
-        && catalogue.gettext("c\u{4}a") == "x"
-        && catalogue.gettext("\u{4}a") == "y"
-        && catalogue.pgettext("c\u{4}a", "a") == "a"
-        && catalogue.pgettext("", "\u{4}a") == "\u{4}a"
-        && catalogue.gettext("a\0as") == "a\0as"
-        && catalogue.gettext("as") == "as"
-        && catalogue.gettext("") == ""
-}
-
-#[test]
-fn finds_contexts_by_an_index(rt: HostRuntime) -> Result<(), Fail> {
-    let text = "msgctxt \"c\"\nmsgid \"a\"\nmsgstr \"x\"\n\
-        msgctxt \"\"\nmsgid \"a\"\nmsgstr \"y\"\n\
-        msgid \"a\"\nmsgid_plural \"as\"\nmsgstr[0] \"z\"\nmsgstr[1] \"w\"\n";
-    let mut compiled = compile(rt.alloc(), text.as_bytes(), PLAIN)?;
-    compiled.catalogue.index(rt.alloc())?;
-    assert!(rt; tells_contexts_apart(&compiled.catalogue));
-    Ok(())
+fn finds_contexts_by_an_index(rt: HostRuntime) {
+    assert!(rt; tells_contexts_by_index(rt.alloc()));
 }
 
 /// The hash function has a fixed seed, so keys can be chosen that share a hash: in the context `euf`, the first eight
 /// bytes of these msgids make a factor of the hasher's product zero, so the next eight don't count, and their last
 /// sixteen are equal.
-const ONE_HASH: [&str; 4] = [
-    "EZ1T{u9^aaaaaaaathe same end of.",
-    "EZ1T{u9^bbbbbbbbthe same end of.",
-    "EZ1T{u9^ccccccccthe same end of.",
-    "EZ1T{u9^ddddddddthe same end of.",
+const HASH_A: &str = "EZ1T{u9^aaaaaaaathe same end of.";
+
+const HASH_B: &str = "EZ1T{u9^bbbbbbbbthe same end of.";
+
+const HASH_C: &str = "EZ1T{u9^ccccccccthe same end of.";
+
+const HASH_D: &str = "EZ1T{u9^ddddddddthe same end of.";
+
+/// The first three of these keys are found and the fourth isn't, and so are keys that differ only in where the context
+/// ends, or in whether there is one.
+const HASH_TEXTS: [(Option<&str>, &str, &str); 9] = [
+    (Some("euf"), HASH_A, "1"),
+    (Some("euf"), HASH_B, "2"),
+    (Some("euf"), HASH_C, "3"),
+    (Some("euf"), HASH_D, HASH_D),
+    (None, HASH_A, HASH_A),
+    (Some("ab"), "c", "4"),
+    (Some("a"), "bc", "5"),
+    (Some(""), "abc", "6"),
+    (None, "abc", "7"),
 ];
 
-/// Whether the first three of these keys are found and the fourth isn't, and so are keys that differ only in where the
-/// context ends, or in whether there is one.
-fn tells_hashes_apart(catalogue: &Catalogue) -> bool {
-    catalogue.pgettext("euf", ONE_HASH[0]) == "1"
-        && catalogue.pgettext("euf", ONE_HASH[1]) == "2"
-        && catalogue.pgettext("euf", ONE_HASH[2]) == "3"
-        && catalogue.pgettext("euf", ONE_HASH[3]) == ONE_HASH[3]
-        && catalogue.gettext(ONE_HASH[0]) == ONE_HASH[0]
-        && catalogue.pgettext("ab", "c") == "4"
-        && catalogue.pgettext("a", "bc") == "5"
-        && catalogue.pgettext("", "abc") == "6"
-        && catalogue.gettext("abc") == "7"
+const HASHED: &[u8] = b"msgctxt \"euf\"\nmsgid \"EZ1T{u9^aaaaaaaathe same end of.\"\nmsgstr \"1\"\n\
+    msgctxt \"euf\"\nmsgid \"EZ1T{u9^bbbbbbbbthe same end of.\"\nmsgstr \"2\"\n\
+    msgctxt \"euf\"\nmsgid \"EZ1T{u9^ccccccccthe same end of.\"\nmsgstr \"3\"\n\
+    msgctxt \"ab\"\nmsgid \"c\"\nmsgstr \"4\"\n\
+    msgctxt \"a\"\nmsgid \"bc\"\nmsgstr \"5\"\n\
+    msgctxt \"\"\nmsgid \"abc\"\nmsgstr \"6\"\n\
+    msgid \"abc\"\nmsgstr \"7\"\n";
+
+/// Whether these messages are told apart with an index and without one.
+fn tells_hashes_by_both(alloc: Global) -> bool {
+    match catalogue_of(alloc, HASHED) {
+        Some(mut catalogue) => {
+            gives_each(&catalogue, &HASH_TEXTS)
+                && catalogue.index(alloc).is_ok()
+                && gives_each(&catalogue, &HASH_TEXTS)
+        }
+        None => false,
+    }
 }
 
 #[test]
-fn finds_keys_of_one_hash(rt: HostRuntime) -> Result<(), Fail> {
-    let text = "msgctxt \"euf\"\nmsgid \"EZ1T{u9^aaaaaaaathe same end of.\"\nmsgstr \"1\"\n\
-        msgctxt \"euf\"\nmsgid \"EZ1T{u9^bbbbbbbbthe same end of.\"\nmsgstr \"2\"\n\
-        msgctxt \"euf\"\nmsgid \"EZ1T{u9^ccccccccthe same end of.\"\nmsgstr \"3\"\n\
-        msgctxt \"ab\"\nmsgid \"c\"\nmsgstr \"4\"\n\
-        msgctxt \"a\"\nmsgid \"bc\"\nmsgstr \"5\"\n\
-        msgctxt \"\"\nmsgid \"abc\"\nmsgstr \"6\"\n\
-        msgid \"abc\"\nmsgstr \"7\"\n";
-    let mut compiled = compile(rt.alloc(), text.as_bytes(), PLAIN)?;
-    assert!(rt; tells_hashes_apart(&compiled.catalogue));
-    compiled.catalogue.index(rt.alloc())?;
-    assert!(rt; tells_hashes_apart(&compiled.catalogue));
-    Ok(())
+fn finds_keys_of_one_hash(rt: HostRuntime) {
+    assert!(rt; tells_hashes_by_both(rt.alloc()));
 }
 
 fn finds_nothing(catalogue: &Catalogue) -> bool {
@@ -186,12 +259,17 @@ fn finds_nothing(catalogue: &Catalogue) -> bool {
         && catalogue.pgettext("c", "a") == "a"
 }
 
+/// Whether an empty catalogue with an index finds nothing.
+fn finds_nothing_by_index(alloc: Global) -> bool {
+    match catalogue_of(alloc, b"") {
+        Some(mut catalogue) => catalogue.index(alloc).is_ok() && finds_nothing(&catalogue),
+        None => false,
+    }
+}
+
 #[test]
-fn finds_nothing_by_an_empty_index(rt: HostRuntime) -> Result<(), Fail> {
-    let mut compiled = compile(rt.alloc(), b"", PLAIN)?;
-    compiled.catalogue.index(rt.alloc())?;
-    assert!(rt; finds_nothing(&compiled.catalogue));
-    Ok(())
+fn finds_nothing_by_an_empty_index(rt: HostRuntime) {
+    assert!(rt; finds_nothing_by_index(rt.alloc()));
 }
 
 /// Whether `find` and the four look-ups return the right results for the key of a number.
@@ -206,39 +284,57 @@ fn looks_up(catalogue: &Catalogue, key: &str) -> bool {
         && catalogue.npgettext("z", key, "plural", 1) == key
 }
 
-/// Whether all of these keys are looked up correctly.
-fn looks_up_each(alloc: Global, catalogue: &Catalogue, count: u32) -> Result<bool, AllocError> {
-    let mut key = String::new(alloc);
-    for n in 0..count {
-        write_key(&mut key, n, 6)?;
-        if !looks_up(catalogue, key.as_str()) {
-            return Ok(false);
+/// Whether the key of a number is looked up correctly.
+fn looks_up_number(alloc: Global, catalogue: &Catalogue, n: u32) -> bool {
+    match key_of(alloc, n, 6) {
+        Ok(key) => looks_up(catalogue, key.as_str()),
+        Err(_) => false,
+    }
+}
+
+/// Whether a catalogue has half a million entries, and all are looked up correctly.
+fn looks_up_each(alloc: Global, catalogue: &Catalogue) -> bool {
+    for n in 0..500_000 {
+        if !looks_up_number(alloc, catalogue, n) {
+            return false;
         }
     }
-    Ok(true)
+    catalogue.len() == 500_000
+}
+
+/// Whether that is so with an index and without one.
+fn looks_up_by_both(alloc: Global) -> bool {
+    match numbered_catalogue(alloc, 500_000, 6) {
+        Some(mut catalogue) => {
+            looks_up_each(alloc, &catalogue)
+                && catalogue.index(alloc).is_ok()
+                && looks_up_each(alloc, &catalogue)
+        }
+        None => false,
+    }
 }
 
 /// A look-up that scanned the entries wouldn't finish in the time of a test.
 #[test]
-fn looks_up_among_half_a_million(rt: HostRuntime) -> Result<(), Fail> {
-    let text = numbered(rt.alloc(), 500_000, 6)?;
-    let mut compiled = compile(rt.alloc(), text.as_bytes(), PLAIN)?;
-    assert!(rt; compiled.catalogue.len() == 500_000);
-    assert!(rt; looks_up_each(rt.alloc(), &compiled.catalogue, 500_000)?);
-    compiled.catalogue.index(rt.alloc())?;
-    assert!(rt; looks_up_each(rt.alloc(), &compiled.catalogue, 500_000)?);
-    Ok(())
+fn looks_up_among_half_a_million(rt: HostRuntime) {
+    assert!(rt; looks_up_by_both(rt.alloc()));
+}
+
+/// Whether a text's catalogue has this file.
+fn has_file(alloc: Global, text: &[u8], wanted: &[u8]) -> bool {
+    match catalogue_of(alloc, text) {
+        Some(catalogue) => catalogue.file() == wanted,
+        None => false,
+    }
 }
 
 /// The file of two entries, byte by byte as the format defines it.
 #[test]
-fn keeps_its_file(rt: HostRuntime) -> Result<(), Fail> {
+fn keeps_its_file(rt: HostRuntime) {
     let text: &[u8] =
         b"msgid \"b\"\nmsgid_plural \"bs\"\nmsgstr[0] \"x\"\nmsgstr[1] \"\"\nmsgid \"a\"\nmsgstr \"y\"\n";
     let wanted: &[u8] = b"\xde\x12\x04\x95\0\0\0\0\x02\0\0\0\x1c\0\0\0\x2c\0\0\0\0\0\0\0\x3c\0\0\0\
         \x01\0\0\0\x3c\0\0\0\x04\0\0\0\x3e\0\0\0\x01\0\0\0\x43\0\0\0\x02\0\0\0\x45\0\0\0\
         a\0b\0bs\0y\0x\0\0";
-    let compiled = compile(rt.alloc(), text, PLAIN)?;
-    assert!(rt; compiled.catalogue.file() == wanted);
-    Ok(())
+    assert!(rt; has_file(rt.alloc(), text, wanted));
 }

@@ -3,7 +3,6 @@ use catalogue::{
     Catalogue, Compiled, EntryRef, LoadFault, LoadKind, Options, Stats, compile, one_meaning,
 };
 use std::alloc::{AllocError, Global};
-use std::test::Fail;
 
 const PLAIN: Options = Options {
     checked: false,
@@ -96,6 +95,14 @@ fn counts(compiled: &Compiled, numbers: (u32, u32, u32), header_line: u32) -> bo
     (translated, fuzzy, untranslated) == numbers && compiled.header_line == header_line
 }
 
+/// Whether a catalogue has these entries, a line for each.
+fn has_entries(alloc: Global, catalogue: &Catalogue, lines: &str) -> bool {
+    match entries(alloc, catalogue) {
+        Ok(found) => found.as_str() == lines,
+        Err(_) => false,
+    }
+}
+
 /// Whether the text compiles to these entries, with these counts and the header on this line.
 fn lists(
     alloc: Global,
@@ -103,40 +110,51 @@ fn lists(
     lines: &str,
     numbers: (u32, u32, u32),
     header_line: u32,
-) -> Result<bool, Fail> {
-    let compiled = compile(alloc, text, PLAIN)?;
-    let found = entries(alloc, &compiled.catalogue)?;
-    Ok(
-        found.as_str() == lines
-            && finds_each(&compiled.catalogue)
-            && counts(&compiled, numbers, header_line),
-    )
+) -> bool {
+    match compile(alloc, text, PLAIN) {
+        Ok(compiled) => {
+            has_entries(alloc, &compiled.catalogue, lines)
+                && finds_each(&compiled.catalogue)
+                && counts(&compiled, numbers, header_line)
+        }
+        Err(_) => false,
+    }
 }
 
 #[test]
-fn lists_entries(rt: HostRuntime) -> Result<(), Fail> {
+fn lists_entries(rt: HostRuntime) {
     let contexts = "\u{4}b||b|-|1|1\nb|-|b|-|2|2\nk\u{4}b|k|b|-|3|3\n";
-    assert!(rt; lists(rt.alloc(), CONTEXTS, contexts, (3, 0, 0), 0)?);
+    assert!(rt; lists(rt.alloc(), CONTEXTS, contexts, (3, 0, 0), 0));
     let every = "|-||-|Language: fr\n|Language: fr\n\nk\u{4}b|k|b|bs|2\u{0}3\u{0}4|2|3|4\n";
-    assert!(rt; lists(rt.alloc(), EVERY, every, (1, 1, 1), 12)?);
+    assert!(rt; lists(rt.alloc(), EVERY, every, (1, 1, 1), 12));
     let text = b"msgid \"b\"\nmsgid_plural \"c\"\nmsgstr[0] \"x\"\nmsgstr[1] \"\"\n";
-    assert!(rt; lists(rt.alloc(), text, "b|-|b|c|x\u{0}|x|\n", (1, 0, 0), 0)?);
-    Ok(())
+    assert!(rt; lists(rt.alloc(), text, "b|-|b|c|x\u{0}|x|\n", (1, 0, 0), 0));
+}
+
+/// Why a text is refused, or `None` if it isn't.
+fn refusal(alloc: Global, text: &[u8]) -> Option<LoadFault> {
+    match compile(alloc, text, PLAIN) {
+        Ok(_) => None,
+        Err(fault) => Some(fault),
+    }
+}
+
+/// Why so many spaces are refused.
+fn refusal_of_spaces(alloc: Global, count: usize) -> Option<LoadFault> {
+    match vec![in alloc; b' '; count] {
+        Ok(text) => refusal(alloc, &text),
+        Err(_) => None,
+    }
 }
 
 /// A text of more than 64 MiB is refused.
 #[test]
-fn refuses_large_texts(rt: HostRuntime) -> Result<(), Fail> {
-    let text = vec![in rt.alloc(); b' '; 67_108_865]?;
+fn refuses_large_texts(rt: HostRuntime) {
     let wanted = LoadFault {
         kind: LoadKind::TooLarge,
         line: 0,
     };
-    match compile(rt.alloc(), &text, PLAIN) {
-        Ok(_) => assert!(rt; false),
-        Err(fault) => assert_eq!(rt; fault, wanted),
-    }
-    Ok(())
+    assert!(rt; refusal_of_spaces(rt.alloc(), 67_108_865) == Some(wanted));
 }
 
 /// Whether no entry is found for any of these msgids in this context.
@@ -160,10 +178,12 @@ fn finds_contexts(catalogue: &Catalogue) -> bool {
 }
 
 #[test]
-fn finds_in_contexts(rt: HostRuntime) -> Result<(), Fail> {
-    let compiled = compile(rt.alloc(), CONTEXTS, PLAIN)?;
-    assert!(rt; finds_contexts(&compiled.catalogue));
-    Ok(())
+fn finds_in_contexts(rt: HostRuntime) {
+    let found = match compile(rt.alloc(), CONTEXTS, PLAIN) {
+        Ok(compiled) => finds_contexts(&compiled.catalogue),
+        Err(_) => false,
+    };
+    assert!(rt; found);
 }
 
 /// Whether the look-ups in `POLISH` return the right forms.
@@ -174,15 +194,24 @@ fn looks_up(catalogue: &Catalogue) -> bool {
         && catalogue.npgettext("k", "file", "files", 22) == "files"
 }
 
-/// A catalogue that is made of another one's file has the same look-ups.
+/// Whether a catalogue that is made of another one's file has its look-ups and its file.
+fn has_copy(alloc: Global, catalogue: &Catalogue) -> bool {
+    match Catalogue::from_file(alloc, catalogue.file()) {
+        Ok(copy) => looks_up(&copy) && copy.file() == catalogue.file(),
+        Err(_) => false,
+    }
+}
+
 #[test]
-fn looks_up_in_a_copy(rt: HostRuntime) -> Result<(), Fail> {
-    let compiled = compile(rt.alloc(), POLISH, CHECKED)?;
-    assert!(rt; looks_up(&compiled.catalogue));
-    let copy = Catalogue::from_file(rt.alloc(), compiled.catalogue.file())?;
-    assert!(rt; looks_up(&copy) && copy.file() == compiled.catalogue.file());
+fn looks_up_in_a_copy(rt: HostRuntime) {
+    let found = match compile(rt.alloc(), POLISH, CHECKED) {
+        Ok(compiled) => {
+            looks_up(&compiled.catalogue) && has_copy(rt.alloc(), &compiled.catalogue)
+        }
+        Err(_) => false,
+    };
+    assert!(rt; found);
     one_meaning();
-    Ok(())
 }
 
 /// Whether the text's header lacks exactly these fields and is on this line.
@@ -212,12 +241,25 @@ fn names_missing_fields(rt: HostRuntime) {
     assert!(rt; lacks_checked(alloc, b"#, fuzzy\nmsgid \"\"\nmsgstr \"x\"\n", [true; 8], 2));
 }
 
+/// Whether a catalogue has no entry, and gives the texts that it is asked for.
+fn has_nothing(catalogue: &Catalogue) -> bool {
+    catalogue.is_empty()
+        && catalogue.ngettext("file", "files", 1) == "file"
+        && catalogue.ngettext("file", "files", 2) == "files"
+}
+
+/// Whether no messages and no strings make such catalogues.
+fn makes_nothing(alloc: Global) -> bool {
+    let Ok(sorted) = Catalogue::from_sorted(alloc, Vec::new(alloc)) else {
+        return false;
+    };
+    match Catalogue::from_strings(alloc, Vec::new(alloc)) {
+        Ok(listed) => has_nothing(&sorted) && has_nothing(&listed),
+        Err(_) => false,
+    }
+}
+
 #[test]
-fn makes_an_empty_catalogue(rt: HostRuntime) -> Result<(), Fail> {
-    let alloc = rt.alloc();
-    let sorted = Catalogue::from_sorted(alloc, Vec::new(alloc))?;
-    assert!(rt; sorted.is_empty() && sorted.ngettext("file", "files", 1) == "file");
-    let listed = Catalogue::from_strings(alloc, Vec::new(alloc))?;
-    assert!(rt; listed.is_empty() && listed.ngettext("file", "files", 2) == "files");
-    Ok(())
+fn makes_an_empty_catalogue(rt: HostRuntime) {
+    assert!(rt; makes_nothing(rt.alloc()));
 }

@@ -1,9 +1,8 @@
 //! Files whose originals are the ends of many copies of one text, at irregular places: each two copies are compared,
 //! and no comparison answers for another. The expected results follow from how the texts are made.
-use crate::overlaps::{Pair, Place, file_of, refusal};
+use crate::overlaps::{Pair, Place, refusal_of_rows};
 use mo_file::MoFault;
 use std::alloc::{AllocError, Global};
-use std::test::Fail;
 
 /// The number of copies.
 const COPIES: u32 = 36;
@@ -122,21 +121,22 @@ fn refusal_of(
     if let (Some(old), Some(new)) = (copies.strings.get_mut(place), byte) {
         *old = new;
     }
-    Ok(refusal(alloc, &file_of(alloc, &pairs, &copies.strings, true)?))
+    refusal_of_rows(alloc, &pairs, &copies.strings)
 }
 
 #[test]
-fn copies_of_one_text(rt: HostRuntime) -> Result<(), Fail> {
-    let alloc = rt.alloc();
-    let swollen = Some(MoFault::Swollen);
-    let order = Some(MoFault::Order);
-    assert_eq!(rt; refusal_of(alloc, 0, 0, None)?, swollen);
-    // A copy that differs before its end, and is still above those before it or no longer.
-    assert_eq!(rt; refusal_of(alloc, 35, 19_000, Some(b'~'))?, swollen);
-    assert_eq!(rt; refusal_of(alloc, 35, 19_000, Some(b'!'))?, order);
-    assert_eq!(rt; refusal_of(alloc, 17, 19_000, Some(b'~'))?, order);
-    // The last two bytes of a copy.
-    assert_eq!(rt; refusal_of(alloc, 35, COPIED, Some(b'A'))?, order);
-    assert_eq!(rt; refusal_of(alloc, 35, COPIED, Some(b'C'))?, swollen);
-    Ok(())
+fn copies_of_one_text(rt: HostRuntime) {
+    for (copy, place, byte, wanted) in [
+        (0, 0, None, MoFault::Swollen),
+        // A copy that differs before its end, and is still above those before it or no longer.
+        (35, 19_000, Some(b'~'), MoFault::Swollen),
+        (35, 19_000, Some(b'!'), MoFault::Order),
+        (17, 19_000, Some(b'~'), MoFault::Order),
+        // The last two bytes of a copy.
+        (35, COPIED, Some(b'A'), MoFault::Order),
+        (35, COPIED, Some(b'C'), MoFault::Swollen),
+    ] {
+        let found = refusal_of(rt.alloc(), copy, place, byte);
+        assert!(rt; found == Ok(Some(wanted)), "{copy} {place}");
+    }
 }

@@ -2,7 +2,6 @@
 use catalogue::{Catalogue, Options, compile};
 use mo_file::{MoFault, check, read_mo, reread, write_mo};
 use std::alloc::{AllocError, Global};
-use std::test::Fail;
 
 /// `a` to `x` and `ba` to `xx`: a big-endian file with a hash table, in which one string is the end of another.
 const BIG: [u8; 78] = [
@@ -70,10 +69,12 @@ fn refusal(alloc: Global, bytes: &[u8]) -> Option<MoFault> {
     read_mo(alloc, bytes).err()
 }
 
-/// Reads the bytes, and returns the file that is written of their map.
-fn rewritten(alloc: Global, bytes: &[u8]) -> Result<Vec<u8>, Fail> {
-    let catalogue = read_mo(alloc, bytes)?;
-    Ok(write_mo(alloc, &catalogue)?)
+/// Whether the file that is written of a catalogue has these bytes.
+fn is_written(alloc: Global, catalogue: &Catalogue, wanted: &[u8]) -> bool {
+    match write_mo(alloc, catalogue) {
+        Ok(file) => file.as_slice() == wanted,
+        Err(_) => false,
+    }
 }
 
 fn has(catalogue: &Catalogue, i: usize, id: &str, translation: &str) -> bool {
@@ -84,57 +85,87 @@ fn has(catalogue: &Catalogue, i: usize, id: &str, translation: &str) -> bool {
     entry.id() == id && entry.translation() == translation && entry.plural().is_none()
 }
 
-#[test]
-fn high_byte_first(rt: HostRuntime) -> Result<(), Fail> {
-    let alloc = rt.alloc();
-    let catalogue = read_mo(alloc, &BIG)?;
-    assert_eq!(rt; catalogue.len(), 2);
-    assert!(rt; has(&catalogue, 0, "a", "x"));
-    assert!(rt; has(&catalogue, 1, "ba", "xx"));
-    assert_eq!(rt; catalogue.gettext("ba"), "xx");
-    let file = write_mo(alloc, &catalogue)?;
-    assert_eq!(rt; file.as_slice(), WRITTEN.as_slice());
-    let again = reread(alloc, &catalogue)?;
-    assert!(rt; has(&again, 1, "ba", "xx"));
-    assert_eq!(rt; check(alloc, &BIG), Ok(()));
-    Ok(())
+/// Whether a catalogue has the entries of `BIG`, and no other.
+fn has_both(catalogue: &Catalogue) -> bool {
+    catalogue.len() == 2
+        && has(catalogue, 0, "a", "x")
+        && has(catalogue, 1, "ba", "xx")
+        && catalogue.gettext("ba") == "xx"
+}
+
+/// Whether a catalogue has the entries of `BIG` once it has been written and read back.
+fn keeps_both(alloc: Global, catalogue: &Catalogue) -> bool {
+    match reread(alloc, catalogue) {
+        Ok(again) => has_both(&again),
+        Err(_) => false,
+    }
+}
+
+/// Whether `BIG` is read as its two entries, and written again as `WRITTEN`.
+fn reads_both(alloc: Global) -> bool {
+    match read_mo(alloc, &BIG) {
+        Ok(catalogue) => {
+            has_both(&catalogue)
+                && is_written(alloc, &catalogue, &WRITTEN)
+                && keeps_both(alloc, &catalogue)
+        }
+        Err(_) => false,
+    }
 }
 
 #[test]
-fn no_entry(rt: HostRuntime) -> Result<(), Fail> {
-    let alloc = rt.alloc();
-    let catalogue = read_mo(alloc, &EMPTY)?;
-    assert_eq!(rt; catalogue.len(), 0);
-    let file = write_mo(alloc, &catalogue)?;
-    assert_eq!(rt; file.as_slice(), EMPTY.as_slice());
+fn high_byte_first(rt: HostRuntime) {
+    assert!(rt; reads_both(rt.alloc()));
+    assert!(rt; check(rt.alloc(), &BIG).is_ok());
+}
+
+/// Whether `EMPTY` is read as no entry, and written again with the same bytes.
+fn reads_nothing(alloc: Global) -> bool {
+    match read_mo(alloc, &EMPTY) {
+        Ok(catalogue) => catalogue.is_empty() && is_written(alloc, &catalogue, &EMPTY),
+        Err(_) => false,
+    }
+}
+
+#[test]
+fn no_entry(rt: HostRuntime) {
+    assert!(rt; reads_nothing(rt.alloc()));
     // Without entries the tables are ignored.
     let mut far = EMPTY;
     far[15] = 0xff;
     far[19] = 0xff;
-    assert_eq!(rt; refusal(alloc, &far), None);
-    Ok(())
+    assert!(rt; read_mo(rt.alloc(), &far).is_ok());
+}
+
+/// Whether `read_mo` and `check` both refuse bytes for this reason.
+fn is_refused(alloc: Global, bytes: &[u8], wanted: MoFault) -> bool {
+    refusal(alloc, bytes) == Some(wanted) && check(alloc, bytes) == Err(wanted)
 }
 
 #[test]
 fn front_parts(rt: HostRuntime) {
     let alloc = rt.alloc();
-    for (k, _byte) in BIG.iter().enumerate() {
+    for k in 0..BIG.len() {
         let wanted = if k < 28 {
             MoFault::Short
         } else {
             MoFault::Bounds
         };
-        if k < BIG.len() {
-            assert_eq!(rt; refusal(alloc, &BIG[..k]), Some(wanted), "{k}");
-            assert_eq!(rt; check(alloc, &BIG[..k]), Err(wanted), "{k}");
-        }
+        let front = BIG.get(..k).unwrap_or(&BIG);
+        assert!(rt; is_refused(alloc, front, wanted), "{k}");
     }
+}
+
+/// Why `BIG` is refused with another byte at `place`, or `None` if it is read.
+fn refusal_with(alloc: Global, place: usize, byte: u8) -> Option<MoFault> {
+    let mut file = BIG;
+    file[place % 78] = byte;
+    refusal(alloc, &file)
 }
 
 #[test]
 fn changed_bytes(rt: HostRuntime) {
-    let alloc = rt.alloc();
-    let rows = [
+    for (place, byte, wanted) in [
         (3, 0xdd, Some(MoFault::Magic)),
         (7, 1, Some(MoFault::Revision)),
         // The third row of the translations is then two words of the hash table.
@@ -150,27 +181,23 @@ fn changed_bytes(rt: HostRuntime) {
         (73, 4, None),
         // `Aa` is below `a`.
         (72, 0x41, Some(MoFault::Order)),
-    ];
-    for (place, byte, wanted) in rows {
-        let mut file = BIG;
-        file[place % 78] = byte;
-        assert_eq!(rt; refusal(alloc, &file), wanted, "{place}");
+    ] {
+        assert!(rt; refusal_with(rt.alloc(), place, byte) == wanted, "{place}");
     }
 }
 
 #[test]
 fn changed_rows(rt: HostRuntime) {
-    let alloc = rt.alloc();
     // Both keys are the same string.
     let mut equal = BIG;
     equal[31] = 2;
     equal[35] = 0x48;
-    assert_eq!(rt; refusal(alloc, &equal), Some(MoFault::Order));
     // A fault of the last string is reported before a fault of an earlier string whose kind comes later.
     let mut both = BIG;
     both[72] = 0xff;
     both[77] = 1;
-    assert_eq!(rt; refusal(alloc, &both), Some(MoFault::NoNul));
+    assert!(rt; refusal(rt.alloc(), &equal) == Some(MoFault::Order));
+    assert!(rt; refusal(rt.alloc(), &both) == Some(MoFault::NoNul));
 }
 
 /// The file with other bytes from `place` on.
@@ -184,7 +211,6 @@ fn changed(place: usize, bytes: &[u8]) -> [u8; 78] {
 
 #[test]
 fn changed_words(rt: HostRuntime) {
-    let alloc = rt.alloc();
     let rows: [(usize, &[u8], MoFault); 13] = [
         (0, b"\xff", MoFault::Magic),
         (4, b"\0\0\0\x01", MoFault::Revision),
@@ -209,28 +235,18 @@ fn changed_words(rt: HostRuntime) {
         ),
     ];
     for (place, bytes, wanted) in rows {
-        let file = changed(place, bytes);
-        assert_eq!(rt; refusal(alloc, &file), Some(wanted), "{place}");
+        assert!(rt;
+            refusal(rt.alloc(), &changed(place, bytes)) == Some(wanted),
+            "{place}"
+        );
     }
 }
 
 /// Makes the file of one entry with the empty key.
 fn header_file(alloc: Global, text: &str) -> Result<Vec<u8>, AllocError> {
-    let words = [
-        0x950412de,
-        0,
-        1,
-        28,
-        36,
-        0,
-        44,
-        0,
-        44,
-        (text.len() % 256) as u32,
-        45,
-    ];
+    let len = (text.len() % 256) as u32;
     let mut file = Vec::new(alloc);
-    for word in words {
+    for word in [0x950412de, 0, 1, 28, 36, 0, 44, 0, 44, len, 45] {
         file.extend_from_slice(&u32::to_le_bytes(word))?;
     }
     file.push(0)?;
@@ -239,25 +255,27 @@ fn header_file(alloc: Global, text: &str) -> Result<Vec<u8>, AllocError> {
     Ok(file)
 }
 
+/// Whether the file of a header is refused for this reason, or read if none is given.
+fn is_header(alloc: Global, text: &str, wanted: Option<MoFault>) -> bool {
+    match header_file(alloc, text) {
+        Ok(file) => refusal(alloc, file.as_slice()) == wanted,
+        Err(_) => false,
+    }
+}
+
 #[test]
-fn charsets(rt: HostRuntime) -> Result<(), Fail> {
-    let alloc = rt.alloc();
-    let rows = [
-        (
-            "Content-Type: text/plain; charset=KOI8-R\n",
-            Some(MoFault::Charset),
-        ),
-        ("charset=UTF-8;", Some(MoFault::Charset)),
+fn charsets(rt: HostRuntime) {
+    let refused = Some(MoFault::Charset);
+    for (text, wanted) in [
+        ("Content-Type: text/plain; charset=KOI8-R\n", refused),
+        ("charset=UTF-8;", refused),
         ("Content-Type: text/plain; charset=utf-8\n", None),
         ("charset=CHARSET", None),
         ("Language: fr\n", None),
         ("", None),
-    ];
-    for (text, wanted) in rows {
-        let file = header_file(alloc, text)?;
-        assert_eq!(rt; refusal(alloc, file.as_slice()), wanted, "{text}");
+    ] {
+        assert!(rt; is_header(rt.alloc(), text, wanted), "{text}");
     }
-    Ok(())
 }
 
 /// Makes a file of 150 keys of two bytes, whose translations overlap in a run of `x`: the last translation is the whole
@@ -287,62 +305,89 @@ fn overlapping_file(alloc: Global, others: u32, last: u32) -> Result<Vec<u8>, Al
     Ok(file)
 }
 
+/// Whether an overlapping file has this many bytes, and is refused for what would be written of it.
+fn is_swollen(alloc: Global, others: u32, last: u32, len: usize) -> bool {
+    match overlapping_file(alloc, others, last) {
+        Ok(file) => file.len() == len && refusal(alloc, file.as_slice()) == Some(MoFault::Swollen),
+        Err(_) => false,
+    }
+}
+
+/// Whether an overlapping file is read, and then has this many bytes.
+fn is_read(alloc: Global, others: u32, last: u32, len: usize) -> bool {
+    let Ok(file) = overlapping_file(alloc, others, last) else {
+        return false;
+    };
+    match read_mo(alloc, file.as_slice()) {
+        Ok(catalogue) => {
+            (catalogue.len(), catalogue.file().len()) == (150, len)
+                && catalogue.gettext("jo").len() == last as usize
+        }
+        Err(_) => false,
+    }
+}
+
 #[test]
-fn swollen(rt: HostRuntime) -> Result<(), Fail> {
-    let alloc = rt.alloc();
-    let file = overlapping_file(alloc, 2_000_000, 2_000_000)?;
-    assert_eq!(rt; file.len(), 2_002_879);
-    assert_eq!(rt; refusal(alloc, file.as_slice()), Some(MoFault::Swollen));
-    Ok(())
+fn swollen(rt: HostRuntime) {
+    assert!(rt; is_swollen(rt.alloc(), 2_000_000, 2_000_000, 2_002_879));
 }
 
 /// The written file has 28 bytes, 16 for each entry, and every string with a NUL after it: here 3,028 bytes and the
 /// translations, 149 times 1,789,549 bytes and once 1,789,627. The sum is 268,435,456, the limit.
 #[test]
-fn not_yet_swollen(rt: HostRuntime) -> Result<(), Fail> {
-    let alloc = rt.alloc();
-    let file = overlapping_file(alloc, 1_789_549, 1_789_627)?;
-    let catalogue = read_mo(alloc, file.as_slice())?;
-    assert_eq!(rt;
-        (catalogue.len(), catalogue.file().len()),
-        (150, 268_435_456)
-    );
-    assert_eq!(rt; catalogue.gettext("jo").len(), 1_789_627);
-    let longer = overlapping_file(alloc, 1_789_549, 1_789_628)?;
-    assert_eq!(rt; refusal(alloc, longer.as_slice()), Some(MoFault::Swollen));
-    Ok(())
+fn not_yet_swollen(rt: HostRuntime) {
+    assert!(rt; is_read(rt.alloc(), 1_789_549, 1_789_627, 268_435_456));
+    assert!(rt; is_swollen(rt.alloc(), 1_789_549, 1_789_628, 1_792_507));
 }
 
-#[test]
-fn too_large(rt: HostRuntime) -> Result<(), Fail> {
-    let alloc = rt.alloc();
-    let mut file = Vec::with_capacity(alloc, 268_435_457)?;
-    let block = [0u8; 4096];
-    for _i in 0..65_536u32 {
-        file.extend_from_slice(&block)?;
-    }
-    assert_eq!(rt; refusal(alloc, file.as_slice()), Some(MoFault::Magic));
+/// Whether a file of 256 MiB is read for its magic number, and one with a byte more is not read at all.
+fn has_most(alloc: Global) -> Result<bool, AllocError> {
+    let mut file = vec![in alloc; 0u8; 268_435_456]?;
+    let whole = refusal(alloc, file.as_slice());
     file.push(0)?;
-    assert_eq!(rt; refusal(alloc, file.as_slice()), Some(MoFault::TooLarge));
-    Ok(())
+    let longer = refusal(alloc, file.as_slice());
+    Ok(whole == Some(MoFault::Magic) && longer == Some(MoFault::TooLarge))
 }
 
 #[test]
-fn files_of_gnu(rt: HostRuntime) -> Result<(), Fail> {
-    let alloc = rt.alloc();
+fn too_large(rt: HostRuntime) {
+    assert!(rt; has_most(rt.alloc()) == Ok(true));
+}
+
+/// The file that is written of `GNU_TEXT`.
+fn compiled_file(alloc: Global) -> Option<Vec<u8>> {
     let options = Options {
         checked: false,
         use_fuzzy: false,
     };
-    let compiled = compile(alloc, GNU_TEXT.as_bytes(), options)?;
-    let wanted = write_mo(alloc, &compiled.catalogue)?;
-    assert_eq!(rt;
-        rewritten(alloc, &GNU_LITTLE)?.as_slice(),
-        wanted.as_slice()
-    );
-    assert_eq!(rt; rewritten(alloc, &GNU_BIG)?.as_slice(), wanted.as_slice());
-    let catalogue = read_mo(alloc, &GNU_BIG)?;
-    assert_eq!(rt; catalogue.pgettext("menu", "Open"), "\u{d6}ffnen");
-    assert_eq!(rt; catalogue.ngettext("file", "files", 1), "Datei");
-    Ok(())
+    let compiled = compile(alloc, GNU_TEXT.as_bytes(), options).ok()?;
+    write_mo(alloc, &compiled.catalogue).ok()
+}
+
+/// Whether a file is read as the messages of `GNU_TEXT`, and written again as this file.
+fn is_rewritten(alloc: Global, file: &[u8], wanted: &[u8]) -> bool {
+    match read_mo(alloc, file) {
+        Ok(catalogue) => {
+            is_written(alloc, &catalogue, wanted)
+                && catalogue.pgettext("menu", "Open") == "\u{d6}ffnen"
+                && catalogue.ngettext("file", "files", 1) == "Datei"
+        }
+        Err(_) => false,
+    }
+}
+
+/// Whether both files of GNU msgfmt are written again as the file of their text.
+fn are_rewritten(alloc: Global) -> bool {
+    match compiled_file(alloc) {
+        Some(wanted) => {
+            is_rewritten(alloc, &GNU_LITTLE, wanted.as_slice())
+                && is_rewritten(alloc, &GNU_BIG, wanted.as_slice())
+        }
+        None => false,
+    }
+}
+
+#[test]
+fn files_of_gnu(rt: HostRuntime) {
+    assert!(rt; are_rewritten(rt.alloc()));
 }

@@ -3,7 +3,6 @@
 use catalogue::{Catalogue, Options, compile};
 use mo_file::reread;
 use std::alloc::Global;
-use std::test::Fail;
 
 /// A rule whose value may be below 0 or past the last form, and so select no form.
 const DECREASED: &str = "msgid \"\"\nmsgstr \"nplurals=2; plural=n-1;\"\n\
@@ -30,105 +29,149 @@ const CONTEXTS: &str = "msgctxt \"\"\nmsgid \"b\"\nmsgstr \"1\"\nmsgid \"b\"\nms
 
 /// Compiles a text, with fuzzy messages if `use_fuzzy` is set; with `again`, the catalogue is also written and read
 /// back.
-fn catalogue_with(
-    alloc: Global,
-    text: &str,
-    use_fuzzy: bool,
-    again: bool,
-) -> Result<Catalogue, Fail> {
+fn catalogue_with(alloc: Global, text: &str, use_fuzzy: bool, again: bool) -> Option<Catalogue> {
     let options = Options {
         checked: false,
         use_fuzzy,
     };
-    let compiled = compile(alloc, text.as_bytes(), options)?;
+    let compiled = compile(alloc, text.as_bytes(), options).ok()?;
     if again {
-        return Ok(reread(alloc, &compiled.catalogue)?);
+        return reread(alloc, &compiled.catalogue).ok();
     }
-    Ok(compiled.catalogue)
+    Some(compiled.catalogue)
 }
 
-/// Compiles a text without its fuzzy messages.
-fn catalogue_of(alloc: Global, text: &str, again: bool) -> Result<Catalogue, Fail> {
-    catalogue_with(alloc, text, false, again)
-}
-
-#[test]
-fn a_fuzzy_header_is_kept(rt: HostRuntime) -> Result<(), Fail> {
-    for again in [false, true] {
-        for (use_fuzzy, entries, size, wanted) in [(false, 1, 59, "a"), (true, 2, 79, "b")] {
-            let catalogue = catalogue_with(rt.alloc(), FUZZY, use_fuzzy, again)?;
-            assert_eq!(rt; (catalogue.len(), catalogue.file().len()), (entries, size));
-            assert_eq!(rt; catalogue.gettext(""), "Language: fr\n");
-            assert_eq!(rt; catalogue.gettext("a"), wanted);
+/// Whether `FUZZY` has this many entries, a file of this size, its header, and this translation of `a`.
+fn has_fuzzy(
+    alloc: Global,
+    use_fuzzy: bool,
+    again: bool,
+    entries: usize,
+    size: usize,
+    a: &str,
+) -> bool {
+    match catalogue_with(alloc, FUZZY, use_fuzzy, again) {
+        Some(catalogue) => {
+            (catalogue.len(), catalogue.file().len()) == (entries, size)
+                && catalogue.gettext("") == "Language: fr\n"
+                && catalogue.gettext("a") == a
         }
+        None => false,
     }
-    Ok(())
-}
-
-#[test]
-fn forms_by_the_rule_of_polish(rt: HostRuntime) -> Result<(), Fail> {
-    for again in [false, true] {
-        let catalogue = catalogue_of(rt.alloc(), POLISH, again)?;
-        for (n, wanted) in [
-            (0, "plikow"),
-            (1, "plik"),
-            (5, "plikow"),
-            (22, "pliki"),
-            (112, "plikow"),
-        ] {
-            assert_eq!(rt; catalogue.ngettext("file", "files", n), wanted, "{n}");
-        }
-        assert_eq!(rt; catalogue.gettext("file"), "plik");
-    }
-    Ok(())
 }
 
 #[test]
-fn forms_that_the_rule_does_not_give(rt: HostRuntime) -> Result<(), Fail> {
+fn a_fuzzy_header_is_kept(rt: HostRuntime) {
     for again in [false, true] {
-        let decreased = catalogue_of(rt.alloc(), DECREASED, again)?;
-        for (n, wanted) in [(0, "u"), (1, "u"), (2, "v"), (3, "u")] {
-            assert_eq!(rt; decreased.ngettext("a", "b", n), wanted, "{n}");
-        }
-        let divided = catalogue_of(rt.alloc(), DIVIDED, again)?;
-        for (n, wanted) in [(0, "0"), (1, "5"), (2, "2"), (3, "1"), (5, "1"), (6, "0")] {
-            assert_eq!(rt; divided.ngettext("a", "b", n), wanted, "{n}");
-        }
+        assert!(rt; has_fuzzy(rt.alloc(), false, again, 1, 59, "a"));
+        assert!(rt; has_fuzzy(rt.alloc(), true, again, 2, 79, "b"));
     }
-    Ok(())
+}
+
+/// A text, a msgid with its plural, a number, and the form for it.
+const FORMS: [(&str, &str, &str, u64, &str); 20] = [
+    (POLISH, "file", "files", 0, "plikow"),
+    (POLISH, "file", "files", 1, "plik"),
+    (POLISH, "file", "files", 5, "plikow"),
+    (POLISH, "file", "files", 22, "pliki"),
+    (POLISH, "file", "files", 112, "plikow"),
+    // Forms that the rule doesn't give.
+    (DECREASED, "a", "b", 0, "u"),
+    (DECREASED, "a", "b", 1, "u"),
+    (DECREASED, "a", "b", 2, "v"),
+    (DECREASED, "a", "b", 3, "u"),
+    (DIVIDED, "a", "b", 0, "0"),
+    (DIVIDED, "a", "b", 1, "5"),
+    (DIVIDED, "a", "b", 2, "2"),
+    (DIVIDED, "a", "b", 3, "1"),
+    (DIVIDED, "a", "b", 5, "1"),
+    (DIVIDED, "a", "b", 6, "0"),
+    // Without a header.
+    (CAT, "cat", "cats", 7, "chat"),
+    (CAT, "cat", "cats", 1, "chat"),
+    (CAT, "dog", "dogs", 0, "dogs"),
+    (CAT, "dog", "dogs", 1, "dog"),
+    (CAT, "dog", "dogs", 2, "dogs"),
+];
+
+/// Whether a text's catalogue has this form for a number.
+fn has_form(
+    alloc: Global,
+    text: &str,
+    again: bool,
+    ids: (&str, &str),
+    n: u64,
+    wanted: &str,
+) -> bool {
+    match catalogue_with(alloc, text, false, again) {
+        Some(catalogue) => catalogue.ngettext(ids.0, ids.1, n) == wanted,
+        None => false,
+    }
 }
 
 #[test]
-fn plurals_without_a_header(rt: HostRuntime) -> Result<(), Fail> {
-    for again in [false, true] {
-        let catalogue = catalogue_of(rt.alloc(), CAT, again)?;
-        assert_eq!(rt; catalogue.ngettext("cat", "cats", 7), "chat");
-        assert_eq!(rt; catalogue.ngettext("cat", "cats", 1), "chat");
-        for (n, wanted) in [(0, "dogs"), (1, "dog"), (2, "dogs")] {
-            assert_eq!(rt; catalogue.ngettext("dog", "dogs", n), wanted, "{n}");
+fn forms_by_rules_and_without(rt: HostRuntime) {
+    for (text, id, plural, n, wanted) in FORMS {
+        for again in [false, true] {
+            assert!(rt;
+                has_form(rt.alloc(), text, again, (id, plural), n, wanted),
+                "{id} {n}"
+            );
         }
-        assert_eq!(rt; catalogue.gettext(""), "");
     }
-    Ok(())
+}
+
+/// A text, a msgid, and its translation.
+const TEXTS: [(&str, &str, &str); 4] = [
+    (POLISH, "file", "plik"),
+    (CAT, "", ""),
+    (CONTEXTS, "b", "2"),
+    // A msgid that holds byte 4 is a key with a context.
+    (CONTEXTS, "k\u{4}b", "3"),
+];
+
+/// Whether a text's catalogue has this translation.
+fn has_text(alloc: Global, text: &str, again: bool, id: &str, wanted: &str) -> bool {
+    match catalogue_with(alloc, text, false, again) {
+        Some(catalogue) => catalogue.gettext(id) == wanted,
+        None => false,
+    }
 }
 
 #[test]
-fn originals_with_contexts(rt: HostRuntime) -> Result<(), Fail> {
-    for again in [false, true] {
-        let catalogue = catalogue_of(rt.alloc(), CONTEXTS, again)?;
-        let keys = ["\u{4}b", "b", "k\u{4}b"];
-        assert_eq!(rt; catalogue.len(), keys.len());
-        for (i, key) in keys.iter().enumerate() {
-            if i < catalogue.len() {
-                assert_eq!(rt; catalogue.entry(i).key(), *key);
-            }
+fn texts_of_messages(rt: HostRuntime) {
+    for (text, id, wanted) in TEXTS {
+        for again in [false, true] {
+            assert!(rt; has_text(rt.alloc(), text, again, id, wanted), "{id}");
         }
-        assert_eq!(rt; catalogue.gettext("b"), "2");
-        for (context, wanted) in [("", "1"), ("k", "3"), ("z", "b")] {
-            assert_eq!(rt; catalogue.pgettext(context, "b"), wanted, "{context}");
-        }
-        // A msgid that holds byte 4 is a key with a context.
-        assert_eq!(rt; catalogue.gettext("k\u{4}b"), "3");
     }
-    Ok(())
+}
+
+/// Whether a catalogue has just these keys, in order.
+fn has_keys(catalogue: &Catalogue, keys: &[&str]) -> bool {
+    for (i, key) in keys.iter().enumerate() {
+        if i >= catalogue.len() || catalogue.entry(i).key() != *key {
+            return false;
+        }
+    }
+    catalogue.len() == keys.len()
+}
+
+/// Whether `CONTEXTS` has its keys, and a translation in each of their contexts.
+fn has_contexts(alloc: Global, again: bool) -> bool {
+    match catalogue_with(alloc, CONTEXTS, false, again) {
+        Some(catalogue) => {
+            has_keys(&catalogue, &["\u{4}b", "b", "k\u{4}b"])
+                && catalogue.pgettext("", "b") == "1"
+                && catalogue.pgettext("k", "b") == "3"
+                && catalogue.pgettext("z", "b") == "b"
+        }
+        None => false,
+    }
+}
+
+#[test]
+fn originals_with_contexts(rt: HostRuntime) {
+    assert!(rt; has_contexts(rt.alloc(), false));
+    assert!(rt; has_contexts(rt.alloc(), true));
 }

@@ -2,7 +2,6 @@
 //! out by hand from the format.
 use mo_file::{MoFault, check, read_mo};
 use std::alloc::{AllocError, Global};
-use std::test::Fail;
 
 /// The offset of a string from the end of the tables, and its length.
 #[derive(Clone, Copy)]
@@ -72,6 +71,16 @@ pub(crate) fn refusal(alloc: Global, bytes: &[u8]) -> Option<MoFault> {
     }
 }
 
+/// Why the file of these rows is refused, or `None` if it is accepted.
+pub(crate) fn refusal_of_rows(
+    alloc: Global,
+    pairs: &[Pair],
+    strings: &[u8],
+) -> Result<Option<MoFault>, AllocError> {
+    let file = file_of(alloc, pairs, strings, true)?;
+    Ok(refusal(alloc, &file))
+}
+
 /// Returns the keys of 600 rows, two bytes each, and a text of 500,000 bytes that begins with this line.
 fn shared_strings(alloc: Global, line: &str) -> Result<Vec<u8>, AllocError> {
     let mut strings = Vec::new(alloc);
@@ -134,64 +143,55 @@ fn shared_refusal(
     Ok(refusal(alloc, &file))
 }
 
+/// Changes to the strings of 600 rows on one text, and why the file is refused then. The last byte of the text is at
+/// 501,799, and the first byte of the last key at 1,797.
+const CHANGES: [([(usize, u8); 2], MoFault); 12] = [
+    ([(0, b'A'), (1, b'0')], MoFault::Swollen),
+    ([(0, 4), (1, b'0')], MoFault::Swollen),
+    ([(0, 4), (1, 4)], MoFault::BadText),
+    ([(0, 0xc3), (1, b'0')], MoFault::BadText),
+    ([(501_799, 0x80), (0, b'A')], MoFault::BadText),
+    ([(501_799, 0x80), (501_798, 0xc3)], MoFault::Swollen),
+    ([(501_799, 0x80), (501_798, 0)], MoFault::BadText),
+    ([(501_799, 0), (0, b'A')], MoFault::Forms),
+    ([(501_799, 0), (1797, b'A')], MoFault::Forms),
+    ([(1797, b'A'), (0, b'A')], MoFault::Order),
+    ([(1798, b'i'), (0, b'A')], MoFault::Order),
+    ([(501_800, 1), (501_799, 0)], MoFault::NoNul),
+];
+
 #[test]
-fn many_rows_on_one_text(rt: HostRuntime) -> Result<(), Fail> {
-    let alloc = rt.alloc();
-    // The last byte of the text is at 501,799, and the first byte of the last key at 1,797.
-    for low_first in [false, true] {
-        let rows = [
-            ([(0, b'A'), (1, b'0')], MoFault::Swollen),
-            ([(0, 4), (1, b'0')], MoFault::Swollen),
-            ([(0, 4), (1, 4)], MoFault::BadText),
-            ([(0, 0xc3), (1, b'0')], MoFault::BadText),
-            ([(501_799, 0x80), (0, b'A')], MoFault::BadText),
-            ([(501_799, 0x80), (501_798, 0xc3)], MoFault::Swollen),
-            ([(501_799, 0x80), (501_798, 0)], MoFault::BadText),
-            ([(501_799, 0), (0, b'A')], MoFault::Forms),
-            ([(501_799, 0), (1797, b'A')], MoFault::Forms),
-            ([(1797, b'A'), (0, b'A')], MoFault::Order),
-            ([(1798, b'i'), (0, b'A')], MoFault::Order),
-            ([(501_800, 1), (501_799, 0)], MoFault::NoNul),
-        ];
-        for (changes, wanted) in rows {
-            let (place, _) = changes[0];
-            assert_eq!(rt;
-                shared_refusal(alloc, &changes, low_first)?,
-                Some(wanted),
-                "{place}"
-            );
-        }
+fn many_rows_on_one_text(rt: HostRuntime) {
+    for (changes, wanted) in CHANGES {
+        let place = changes[0].0;
+        let low = shared_refusal(rt.alloc(), &changes, true);
+        assert!(rt; low == Ok(Some(wanted)), "{place}");
+        let high = shared_refusal(rt.alloc(), &changes, false);
+        assert!(rt; high == Ok(Some(wanted)), "{place}");
     }
-    Ok(())
+}
+
+/// Why a file of 600 rows, whose first one is a header of this line, is refused with this first byte of the last key.
+fn header_refusal(alloc: Global, line: &str, last: u8) -> Result<Option<MoFault>, AllocError> {
+    let pairs = shared_pairs(alloc, true)?;
+    let strings = changed(shared_strings(alloc, line)?, &[(1797, last)]);
+    refusal_of_rows(alloc, &pairs, &strings)
 }
 
 #[test]
-fn header_on_the_text_of_all(rt: HostRuntime) -> Result<(), Fail> {
-    let alloc = rt.alloc();
-    let rows = [
-        (
-            "Content-Type: text/plain; charset=KOI8-R\n",
-            b'z',
-            MoFault::Charset,
-        ),
-        (
-            "Content-Type: text/plain; charset=UTF-8\n",
-            b'z',
-            MoFault::Swollen,
-        ),
-        (
-            "Content-Type: text/plain; charset=KOI8-R\n",
-            b'A',
-            MoFault::Order,
-        ),
-    ];
-    let pairs = shared_pairs(alloc, true)?;
-    for (line, last, wanted) in rows {
-        let strings = changed(shared_strings(alloc, line)?, &[(1797, last)]);
-        let file = file_of(alloc, &pairs, &strings, true)?;
-        assert_eq!(rt; refusal(alloc, &file), Some(wanted), "{line}");
+fn header_on_the_text_of_all(rt: HostRuntime) {
+    let (foreign, known) = (
+        "Content-Type: text/plain; charset=KOI8-R\n",
+        "Content-Type: text/plain; charset=UTF-8\n",
+    );
+    for (line, last, wanted) in [
+        (foreign, b'z', MoFault::Charset),
+        (known, b'z', MoFault::Swollen),
+        (foreign, b'A', MoFault::Order),
+    ] {
+        let found = header_refusal(rt.alloc(), line, last);
+        assert!(rt; found == Ok(Some(wanted)), "{line}");
     }
-    Ok(())
 }
 
 /// Returns `count` rows, whose originals and translations are endings of one text, each `step` bytes longer than the
@@ -222,41 +222,47 @@ fn repeated(alloc: Global, len: u32) -> Result<Vec<u8>, AllocError> {
     Ok(strings)
 }
 
-/// Why rows that are endings of one text are refused: as they are, with the last two swapped, and with the last one
-/// twice.
-fn refusals_of_endings(
+/// What becomes of the last rows that are endings of one text.
+#[derive(Clone, Copy, PartialEq, Eq)]
+enum Last {
+    Kept,
+    Swapped,
+    Doubled,
+}
+
+/// Why rows that are endings of one text are refused.
+fn refusal_of_endings(
     alloc: Global,
     count: u32,
     step: u32,
-) -> Result<[Option<MoFault>; 3], AllocError> {
+    last: Last,
+) -> Result<Option<MoFault>, AllocError> {
     let strings = repeated(alloc, count.wrapping_mul(step))?;
-    let rising = endings(alloc, count, step)?;
-    let mut exchanged = rising.clone()?;
-    let last = exchanged.pop();
-    let before = exchanged.pop();
-    let mut twice = rising.clone()?;
-    if let (Some(last), Some(before)) = (last, before) {
-        exchanged.push(last)?;
-        exchanged.push(before)?;
-        twice.push(last)?;
+    let mut rows = endings(alloc, count, step)?;
+    let len = rows.len();
+    if last == Last::Swapped && len >= 2 {
+        rows.swap(len - 1, len - 2);
     }
-    Ok([
-        refusal(alloc, &file_of(alloc, &rising, &strings, true)?),
-        refusal(alloc, &file_of(alloc, &exchanged, &strings, true)?),
-        refusal(alloc, &file_of(alloc, &twice, &strings, true)?),
-    ])
+    if last == Last::Doubled {
+        if let Some(row) = rows.last().copied() {
+            rows.push(row)?;
+        }
+    }
+    refusal_of_rows(alloc, &rows, &strings)
 }
 
 #[test]
-fn originals_that_end_one_text(rt: HostRuntime) -> Result<(), Fail> {
-    let alloc = rt.alloc();
-    let order = Some(MoFault::Order);
+fn originals_that_end_one_text(rt: HostRuntime) {
     // Together, 20 rows have 420,000 bytes, and 600 rows have 360,600,000.
-    assert_eq!(rt; refusals_of_endings(alloc, 20, 1000)?, [None, order, order]);
-    let swollen = Some(MoFault::Swollen);
-    assert_eq!(rt;
-        refusals_of_endings(alloc, 600, 1000)?,
-        [swollen, order, order]
-    );
-    Ok(())
+    for (count, last, wanted) in [
+        (20, Last::Kept, None),
+        (20, Last::Swapped, Some(MoFault::Order)),
+        (20, Last::Doubled, Some(MoFault::Order)),
+        (600, Last::Kept, Some(MoFault::Swollen)),
+        (600, Last::Swapped, Some(MoFault::Order)),
+        (600, Last::Doubled, Some(MoFault::Order)),
+    ] {
+        let found = refusal_of_endings(rt.alloc(), count, 1000, last);
+        assert!(rt; found == Ok(wanted), "{count}");
+    }
 }

@@ -1,11 +1,19 @@
 use Rattle.std.proofs.Common.{inr, sym, ◌∙◌}
 use Rattle.std.proofs.lemmas.Bool.{false≢true}
-use Rattle.catalogue.proofs.Compiling.{few, refused, foreign, failed, lawful_map, compiles}
+use Rattle.po_header.specs.Rules.{rule_of}
+use Rattle.catalogue.proofs.Compiling.{few, refused, foreign, failed, lawful_map, map_rule, compiles}
+use Rattle.catalogue.proofs.Fitting.{spans_fit, texts_fit}
 use Rattle.catalogue.proofs.Lending.{lent, may_lend}
 use Rattle.catalogue.proofs.compiler.compile_collected.Goals as goal
 
-pub lend-requires : goal.lend-requires
-lend-requires c = rw c.as_str.ensures.value (may_lend _ _ _ _ _ c.requires.1)
+pub lend-requires-clause-len : goal.lend-requires-clause-len
+lend-requires-clause-len c = rw c.as_str.ensures.value (texts_fit _ _ _ _ _ c.requires.1)
+
+pub lend-requires-clause-count : goal.lend-requires-clause-count
+lend-requires-clause-count c = spans_fit _ _ _ _ _ c.requires.1
+
+pub lend-requires-clause-holds : goal.lend-requires-clause-holds
+lend-requires-clause-holds c = rw c.as_str.ensures.value (may_lend _ _ _ _ _ c.requires.1)
 
 pub stats_of-stats-requires : goal.stats_of-stats-requires
 stats_of-stats-requires c = rw c.deref.ensures.value (few _ _ _ _
@@ -31,10 +39,10 @@ returns-then-not-is_accepted-clause-err c text read =
     })
     (λ named. false≢true (sym c.if-not-is_accepted.true ∙ c.is_accepted-is_accepted.ensures.1 named)))
 
-pub returns-in-Some-failed-clause-err : goal.returns-in-Some-failed-clause-err
-returns-in-Some-failed-clause-err c text read =
+pub returns-in-Some-fault-clause-err : goal.returns-in-Some-fault-clause-err
+returns-in-Some-fault-clause-err c text read =
     inr (failed text c.args.options _ _ c.args.collected.findings c.header_text-header.result
-    c.header_line-header_line.result c.in-Some-failed.fault
+    c.header_line-header_line.result (rule_of c.in_ok-rule.rule) c.in-Some-fault.fault
     (lent _ _ _ _ _ _ read (rw c.as_str.ensures.value at c.in_ok-drafts.ensures))
     (record { same = c.sort.ensures.same; sorted = c.sort.ensures.sorted })
     (rw (c.deref-4.ensures.value, c.in_default.is) at c.first_repeat.ensures)
@@ -43,11 +51,10 @@ returns-in-Some-failed-clause-err c text read =
       text_is = rw
           c.deref-3.ensures.value at c.header_text-header.ensures;
     })
-    (c.is_accepted-is_accepted.ensures.0 c.if-not-is_accepted.false)
-    (rw c.in-Some-failed.is at c.in_ok-failed.ensures.ok))
+    (c.is_accepted-is_accepted.ensures.0 c.if-not-is_accepted.false) c.in_ok-rule.ensures.ok c.in-Some-fault.ensures)
 
-pub from_list_over-requires : goal.from_list_over-requires
-from_list_over-requires c =
+pub from_list_over-requires-clause-lawful : goal.from_list_over-requires-clause-lawful
+from_list_over-requires-clause-lawful c =
     lawful_map c.requires.0 c.args.options _ _ _ c.header_text-header.result c.header_line-header_line.result _
     (lent _ _ _ _ _ _ c.requires.1 (rw c.as_str.ensures.value at c.in_ok-drafts.ensures))
     (record { same = c.sort.ensures.same; sorted = c.sort.ensures.sorted })
@@ -59,10 +66,25 @@ from_list_over-requires c =
     })
     (c.is_accepted-is_accepted.ensures.0 c.if-not-is_accepted.false) c.keep.ensures
 
+pub from_list_over-requires-clause-rule : goal.from_list_over-requires-clause-rule
+from_list_over-requires-clause-rule c =
+    map_rule c.requires.0 c.args.options _ _ _ c.header_text-header.result c.header_line-header_line.result
+    (rule_of c.in_ok-rule.rule) _
+    (lent _ _ _ _ _ _ c.requires.1 (rw c.as_str.ensures.value at c.in_ok-drafts.ensures))
+    (record { same = c.sort.ensures.same; sorted = c.sort.ensures.sorted })
+    (rw (c.deref-4.ensures.value, c.in_default.is) at c.first_repeat.ensures)
+    (record {
+      line_is = rw c.deref-2.ensures.value at c.header_line-header_line.ensures;
+      text_is = rw
+          c.deref-3.ensures.value at c.header_text-header.ensures;
+    })
+    c.in_ok-rule.ensures.ok c.keep.ensures
+
 pub returns-clause-ok : goal.returns-clause-ok
 returns-clause-ok c text read =
     let stats = rw c.deref.ensures.value at c.stats_of-stats.ensures in
-    compiles text c.args.options _ _ c.args.collected.findings c.header_text-header.result _ _
+    compiles text c.args.options _ _ c.args.collected.findings c.header_text-header.result
+    (rule_of c.in_ok-rule.rule) _ _
     (lent _ _ _ _ _ _ read (rw c.as_str.ensures.value at c.in_ok-drafts.ensures))
     (record { same = c.sort.ensures.same; sorted = c.sort.ensures.sorted })
     (rw (c.deref-4.ensures.value, c.in_default.is) at c.first_repeat.ensures)
@@ -71,7 +93,7 @@ returns-clause-ok c text read =
       text_is = rw
           c.deref-3.ensures.value at c.header_text-header.ensures;
     })
-    (c.is_accepted-is_accepted.ensures.0 c.if-not-is_accepted.false)
-    (rw c.in_default-failed.is at c.in_ok-failed.ensures.ok) c.keep.ensures
+    (c.is_accepted-is_accepted.ensures.0 c.if-not-is_accepted.false) c.in_ok-rule.ensures.ok
+    (rw c.in_default-fault.is at c.fault.ensures) c.keep.ensures
     (record { translated = stats.translated; fuzzy = stats.fuzzy; untranslated = stats.untranslated })
     c.in_ok-catalogue.ensures c.missing_in-missing.ensures

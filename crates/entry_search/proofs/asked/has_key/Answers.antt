@@ -2,13 +2,12 @@ use Rattle.std.proofs.Common.{List, ℕ, Some, ap, sym, ◌∙◌}
 use Rattle.std.specs.Prelude.{option_map}
 use Rattle.std.specs.Str.{bytes_eq}
 use Rattle.mo_image.specs.Entry.{key, key_bytes}
-use Rattle.entry_search.proofs.asked.AskedKey.is_key_of.Goals as goal
+use Rattle.entry_search.proofs.asked.has_key.Goals as goal
 
 pub returns-in-Some : goal.returns-in-Some
 returns-in-Some c =
-    let id = c.self.inside.id.now in
-    let asked : List ℕ = key_bytes (Some c.in-Some.context.now) id in
+    let asked : List ℕ = key_bytes (Some c.in-Some.context.now) c.args.id.now in
     c.is_in_context.ensures
     ∙ ap (λ (k : List ℕ). bytes_eq k asked) (c.as_bytes-key.ensures.value ∙ c.key.ensures)
     ∙ ap (bytes_eq (key c.args.entry.now))
-    (ap (λ (o : _). key_bytes (option_map (λ s. s.now) o) id) (sym c.in-Some.is) ∙ c.self.view_is)
+    (ap (λ (o : _). key_bytes (option_map (λ s. s.now) o) c.args.id.now) (sym c.in-Some.is))
