@@ -8,3 +8,4 @@ pub mod Listing
 pub mod Running
 pub mod Placing
 pub mod Indexing
+pub mod AllAnswers

@@ -1,5 +1,5 @@
 -- Queries and their answers (GNU gettext manual, "Interface to gettext"; "Contexts"; "Plural forms").
-use Rattle.std.specs.Prelude.{ℕ, Bool, List, [], Some, None, is_some, map, find}
+use Rattle.std.specs.Prelude.{◌≡◌, ℕ, Bool, List, [], Some, None, is_some, map, find, length, slice_get}
 use Rattle.std.specs.Option.{option_map_or}
 use Rattle.std.specs.String.{string_bytes}
 use Rattle.catalogue.specs.Entry.{Entry, key_bytes}
@@ -9,6 +9,7 @@ use Rattle.live_set.specs.Loads.{LoadValue, map_of}
 use Rattle.live_set.specs.Languages.{named}
 use Rattle.live_set.specs.declared.query.Ask.{Ask}
 use Rattle.live_set.specs.declared.query.Ask.TheVariants as ask
+use denote.Ref.{Bor}
 
 -- a call of gettext, pgettext, ngettext or npgettext, with its arguments
 pub data AskValue : Type 0 where
@@ -74,6 +75,17 @@ HasAnswer maps query text = HasValue (answering maps query) query.ask text
 -- the answer to a query after these loads
 abbrev pub IsAnswer : List LoadValue → QueryValue → List ℕ → Type 0
 IsAnswer loads query text = HasAnswer (map_of loads) query text
+
+-- the answers to queries over these maps: as many, in the same order
+pub record HaveAnswers (maps : List ℕ → List ℕ → List Entry) (queries : List QueryValue) (answers : List (Bor (List ℕ)))
+    : Type 0 where
+  pub count : length answers ≡ length queries
+  pub each : (i : ℕ) (query : QueryValue) (text : Bor (List ℕ)) → slice_get queries i ≡ Some query
+      → slice_get answers i ≡ Some text → HasAnswer maps query text.now
+
+-- the answers to queries after these loads
+abbrev pub AreAnswers : List LoadValue → List QueryValue → List (Bor (List ℕ)) → Type 0
+AreAnswers loads queries answers = HaveAnswers (map_of loads) queries answers
 
 -- a call by the bytes of its arguments
 abbrev pub ask_value : Ask → AskValue

@@ -64,7 +64,7 @@ pub(crate) fn language_of(member: &str) -> Option<&str>
 }
 
 /// Whether messages are translated in a locale: all but `C` and `POSIX`.
-fn is_translated(member: &str) -> bool
+pub(crate) fn is_translated(member: &str) -> bool
     ensures { result ≡ translates member.now }
 {
     member != "C" && member != "POSIX"

@@ -5,6 +5,7 @@ mod languages;
 mod law;
 mod listed;
 mod load;
+mod many;
 mod name;
 mod places;
 mod query;

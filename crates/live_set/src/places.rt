@@ -11,7 +11,7 @@ ghost use Rattle.live_set.specs.Placing.{IsExtended, IsPushed};
 use crate::CatalogueSet;
 use crate::languages::{Found, first_member, language_of};
 use byte_text::TextKey;
-use catalogue::AskedKey;
+use catalogue::{AskedKey, NO_HINT};
 
 /// The most places that a list has.
 pub const MOST_PLACES: u32 = 16;
@@ -116,6 +116,72 @@ impl CatalogueSet {
         None
     }
 
+    /// The entry of a msgid, in a context or in none, in the catalogue at a place.
+    #[inline(always)]
+    fn find_in_place_hinted(
+        &self,
+        place: u32,
+        context: Option<&[u8]>,
+        id: &[u8],
+        hint: u64,
+    ) -> Option<Found<'_>>
+        ensures { IsFoundIn (key_bytes (option_map (λ s. s.now) context.entry) id.now)
+            (map_at self.now.held place ∷ []) result }
+    {
+        let catalogue = self.catalogue_at(place as usize)?;
+        let entry = catalogue.find_hinted(context, id, hint)?;
+        Some((catalogue, entry))
+    }
+
+    /// Like `find_in_places`, whatever the hint is.
+    #[inline(always)]
+    fn find_in_places_hinted(
+        &self,
+        places: &[u32],
+        context: Option<&[u8]>,
+        id: &[u8],
+        hint: u64,
+    ) -> Option<Found<'_>>
+        ensures { IsFoundIn (key_bytes (option_map (λ s. s.now) context.entry) id.now)
+            (map (map_at self.now.held) places.now) result }
+    {
+        let (first, others) = places.split_first()?;
+        if let Some(found) = self.find_in_place_hinted(*first, context, id, hint) {
+            return Some(found);
+        }
+        self.find_in_places(others, &AskedKey::new(context, id))
+    }
+
+    /// Returns a hint for `translated_closed_hinted`: that of the catalogue at the first of these places.
+    #[inline(always)]
+    pub fn hint_at(&self, places: &[u32], context: Option<&[u8]>, id: &[u8]) -> u64 {
+        let Some(place) = places.first() else {
+            return NO_HINT;
+        };
+        match self.catalogue_at(*place as usize) {
+            Some(catalogue) => catalogue.hint(&AskedKey::new(context, id)),
+            None => NO_HINT,
+        }
+    }
+
+    /// Like `translated_closed_at`, whatever the hint is.
+    #[inline(always)]
+    pub fn translated_closed_hinted(
+        &self,
+        places: &[u32],
+        context: Option<&[u8]>,
+        id: &[u8],
+        n: Option<u64>,
+        hint: u64,
+    ) -> Option<&[u8]>
+        ensures { let key = key_bytes (option_map (λ s. s.now) context.entry) id.now in
+            let m = map_among self.now.held places.now key in
+            IsTranslatedClosed m (entry_at m key) n (option_map (λ s. s.now) result) }
+    {
+        let (catalogue, entry) = self.find_in_places_hinted(places, context, id, hint)?;
+        Some(catalogue.closed_form_for(&entry, n))
+    }
+
     /// Like `translated_closed`, from the first of these places whose catalogue has the message. A place where there is
     /// no catalogue is passed over.
     pub fn translated_closed_at(
@@ -129,8 +195,6 @@ impl CatalogueSet {
             let m = map_among self.now.held places.now key in
             IsTranslatedClosed m (entry_at m key) n (option_map (λ s. s.now) result) }
     {
-        let key = AskedKey::new(context, id);
-        let (catalogue, entry) = self.find_in_places(places, &key)?;
-        Some(catalogue.closed_form_for(&entry, n))
+        self.translated_closed_hinted(places, context, id, n, NO_HINT)
     }
 }

@@ -1,7 +1,8 @@
 //! Entries of readers, and the look-ups in one.
-ghost use Rattle.std.specs.Prelude.{◌≡◌, [], ◌∷◌};
+ghost use Rattle.std.specs.Prelude.{◌≡◌, [], ◌∷◌, IfOk};
 ghost use Rattle.left_right.specs.Sides.{view};
-ghost use Rattle.live_set.specs.Asks.{IsAnswer, maps_named, query_of, Plain, Context, Number, ContextNumber};
+ghost use Rattle.live_set.specs.Asks.{AreAnswers, IsAnswer, maps_named, query_of};
+ghost use Rattle.live_set.specs.Asks.{Plain, Context, Number, ContextNumber};
 ghost use Rattle.live_set.specs.Loads.{map_of};
 ghost use Rattle.live_set.specs.Sets.{fold};
 ghost use Rattle.live_versions.specs.Batches.{joined, version_of};
@@ -13,6 +14,7 @@ use crate::rule::{Shown, Versions, View};
 use crate::seen::Seen;
 use left_right::reader::Reading;
 use live_set::{CatalogueSet, Languages, Query};
+use std::alloc::{AllocError, Global};
 use std::marker::Model;
 
 pub(crate) type StoreReading = Reading<Shown, View, Versions>;
@@ -57,7 +59,7 @@ impl Entry {
 }
 
 /// An entry of a reader: it shows what was published when the reader entered, whatever is published meanwhile. It
-/// borrows its reader. It isn't `Drop`: end it with `leave`. None of its methods waits or allocates.
+/// borrows its reader. It isn't `Drop`: end it with `leave`. None of its methods waits, and only `look_all` allocates.
 pub struct Pinned<'a, G = Entry> {
     pub(crate) home: &'a mut Lookups,
     pub(crate) entry: G,
@@ -78,6 +80,18 @@ impl Pinned<'_> {
         ensures { IsAnswer (joined (entry_of self.now).batches) query.now result.now }
     {
         self.set().look(query)
+    }
+
+    /// The answers to queries, in their order, all of the entry's version (`live_set::CatalogueSet::look_all`). The
+    /// only error is a failed allocation.
+    pub fn look_all<'a>(
+        &'a self,
+        alloc: Global,
+        queries: &'a [Query],
+    ) -> Result<Vec<&'a str>, AllocError>
+        ensures { IfOk result (λ answers. AreAnswers (joined (entry_of self.now).batches) queries.now answers.items) }
+    {
+        self.set().look_all(alloc, queries)
     }
 
     /// The translation of a msgid in a domain, from the first catalogue named by the list of languages that has it

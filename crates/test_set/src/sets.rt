@@ -305,3 +305,64 @@ fn answers_numbers(rt: HostRuntime) -> Result<(), Fail> {
     }
     Ok(())
 }
+
+/// A query of one of the four calls, in one language or in two; some have no translation.
+fn any_query(alloc: Global, number: usize) -> Result<Query, AllocError> {
+    let ask = match number % 6 {
+        0 => plain(alloc, "hi")?,
+        1 => plain(alloc, "no such message")?,
+        2 => in_context(alloc, "menu", "open")?,
+        3 => files(alloc, number as u64)?,
+        4 => files_on_disk(alloc, number as u64)?,
+        _ => plain(alloc, "file")?,
+    };
+    let languages = match number % 4 {
+        0 => "pl",
+        1 => "fr",
+        2 => "fr:pl",
+        _ => "sv",
+    };
+    Ok(Query {
+        domain: String::from_str(alloc, "app")?,
+        languages: String::from_str(alloc, languages)?,
+        ask,
+    })
+}
+
+/// So many queries.
+fn any_queries(alloc: Global, count: usize) -> Result<Vec<Query>, AllocError> {
+    let mut queries = Vec::with_capacity(alloc, count)?;
+    for number in 0..count {
+        queries.push(any_query(alloc, number)?)?;
+    }
+    Ok(queries)
+}
+
+/// Whether so many queries at once have the answers that they have one by one.
+fn looks_all_up(alloc: Global, set: &CatalogueSet, count: usize) -> Result<bool, AllocError> {
+    let queries = any_queries(alloc, count)?;
+    let answers = set.look_all(alloc, &queries)?;
+    let mut same = answers.len() == count;
+    for (query, answer) in queries.iter().zip(answers.iter()) {
+        same = same && set.look(query) == *answer;
+    }
+    Ok(same)
+}
+
+#[test]
+fn answers_many_at_once(rt: HostRuntime) -> Result<(), Fail> {
+    let alloc = rt.alloc();
+    let mut set = set_of(alloc, "app", "pl", POLISH)?;
+    put(alloc, &mut set, "app", "fr", SALUT)?;
+    let mut indexed = catalogue_of(alloc, POLISH)?;
+    indexed.index(alloc)?;
+    set.absorb(&Load {
+        domain: name(alloc, "app")?,
+        locale: name(alloc, "pl")?,
+        catalogue: shared(alloc, indexed)?,
+    })?;
+    for count in [0, 1, 16, 17, 40usize] {
+        assert!(rt; looks_all_up(alloc, &set, count)?, "{count}");
+    }
+    Ok(())
+}
