@@ -77,6 +77,16 @@ static inline uint32_t call_of(kob_text context, const unsigned long long *n) {
     return (context.at ? IN_CONTEXT : GETTEXT) | (n ? WITH_NUMBER : GETTEXT);
 }
 
+/* The hint that says nothing. */
+#define NO_HINT UINT64_MAX
+
+/* Many questions are asked in blocks of this size: first all hints of a block, then its answers. */
+enum { BLOCK = 32 };
+
+static inline size_t block_size(size_t count) { return count < BLOCK ? count : BLOCK; }
+
+static inline uint64_t number_of(const unsigned long long *n) { return n ? *n : 0; }
+
 static inline uint32_t in_context(const char *context) { return context ? IN_CONTEXT : GETTEXT; }
 
 /* Replace a missing string by the empty one, so that its address is never NULL. */

@@ -11,7 +11,10 @@ uint64_t kobdzila_number(const struct held *held, uint32_t which, uint64_t place
 void kobdzila_text(const struct held *held, uint32_t part, uint64_t place, uint64_t form, struct lent *out);
 void kobdzila_gettext(const struct held *held, const unsigned char *msgid, size_t msgid_len, struct lent *out);
 void kobdzila_answer(const struct held *held, const unsigned char *context, size_t context_len,
-                     const unsigned char *msgid, size_t msgid_len, uint32_t call, uint64_t n, struct lent *out);
+                     const unsigned char *msgid, size_t msgid_len, uint32_t call, uint64_t n, uint64_t hint,
+                     struct lent *out);
+uint64_t kobdzila_hint(const struct held *held, const unsigned char *context, size_t context_len,
+                       const unsigned char *msgid, size_t msgid_len, uint32_t call);
 
 enum { FAULT, LINE, COUNT, FORMS, HAS_CONTEXT, HAS_PLURAL };            /* `which` of kobdzila_number */
 enum { FILE_BYTES, CONTEXT, MSGID, PLURAL, FORM };                      /* `part` of kobdzila_text */
@@ -76,11 +79,15 @@ void kob_release(kob_catalogue *c) {
     errno = cause;
 }
 
-static struct lent ask(const kob_catalogue *c, kob_text context, kob_text msgid, uint32_t call, uint64_t n) {
+static struct lent ask_hinted(const kob_catalogue *c, kob_text context, kob_text msgid, uint32_t call, uint64_t n,
+                              uint64_t hint) {
     struct lent out;
-    kobdzila_answer(read_by(c), (const unsigned char *)context.at, context.len, (const unsigned char *)msgid.at,
-                    msgid.len, call, n, &out);
+    kobdzila_answer(read_by(c), bytes_of(context), context.len, bytes_of(msgid), msgid.len, call, n, hint, &out);
     return out;
+}
+
+static struct lent ask(const kob_catalogue *c, kob_text context, kob_text msgid, uint32_t call, uint64_t n) {
+    return ask_hinted(c, context, msgid, call, n, NO_HINT);
 }
 
 const char *kob_gettext(const kob_catalogue *c, const char *msgid) {
@@ -114,7 +121,36 @@ kob_text kob_find(const kob_catalogue *c, kob_text context, kob_text msgid, cons
         kobdzila_gettext(read_by(c), (const unsigned char *)msgid.at, msgid.len, &out);
         return found_text(out);
     }
-    return found_text(ask(c, present(context), msgid, call_of(context, n), n ? *n : 0));
+    return found_text(ask(c, present(context), msgid, call_of(context, n), number_of(n)));
+}
+
+static uint64_t hint_of(const kob_catalogue *c, const kob_question *q) {
+    kob_text context = present(q->context), msgid = present(q->msgid);
+    return kobdzila_hint(read_by(c), bytes_of(context), context.len, bytes_of(msgid), msgid.len,
+                         call_of(q->context, q->n));
+}
+
+static kob_text find_hinted(const kob_catalogue *c, const kob_question *q, uint64_t hint) {
+    return found_text(ask_hinted(c, present(q->context), present(q->msgid), call_of(q->context, q->n),
+                                 number_of(q->n), hint));
+}
+
+/* A small catalogue has no hints, so its first question tells that the others needn't ask for one. */
+void kob_find_many(const kob_catalogue *c, const kob_question *questions, size_t count, kob_text *answers) {
+    uint64_t hints[BLOCK];
+    for (size_t size; count; questions += size, answers += size, count -= size) {
+        size = block_size(count);
+        hints[0] = hint_of(c, questions);
+        if (hints[0] == NO_HINT) {
+            for (size_t i = 0; i < count; i++)
+                answers[i] = kob_find(c, questions[i].context, questions[i].msgid, questions[i].n);
+            return;
+        }
+        for (size_t i = 1; i < size; i++)
+            hints[i] = hint_of(c, &questions[i]);
+        for (size_t i = 0; i < size; i++)
+            answers[i] = find_hinted(c, &questions[i], hints[i]);
+    }
 }
 
 size_t kob_count(const kob_catalogue *c) { return (size_t)kobdzila_number(read_by(c), COUNT, 0); }

@@ -26,7 +26,9 @@ void kobdzila_set_languages(const struct held *set, const unsigned char *domain,
                             const unsigned char *languages, size_t languages_len, struct places *out);
 void kobdzila_set_answer_at(const struct held *set, const unsigned *places, size_t count, const unsigned char *context,
                             size_t context_len, const unsigned char *msgid, size_t msgid_len, uint32_t call, uint64_t n,
-                            struct lent *out);
+                            uint64_t hint, struct lent *out);
+uint64_t kobdzila_set_hint(const struct held *set, const unsigned *places, size_t count, const unsigned char *context,
+                           size_t context_len, const unsigned char *msgid, size_t msgid_len, uint32_t call);
 void kobdzila_reader_with(const struct held *reader, const unsigned char *domain, size_t domain_len,
                           const unsigned char *locale, size_t locale_len, const struct held *catalogue,
                           struct held *out);
@@ -38,7 +40,10 @@ void kobdzila_reader_languages(const struct held *reader, const unsigned char *d
                                const unsigned char *languages, size_t languages_len, struct places *out);
 void kobdzila_reader_answer_at(const struct held *reader, const unsigned *places, size_t count,
                                const unsigned char *context, size_t context_len, const unsigned char *msgid,
-                               size_t msgid_len, uint32_t call, uint64_t n, struct lent *out);
+                               size_t msgid_len, uint32_t call, uint64_t n, uint64_t hint, struct lent *out);
+uint64_t kobdzila_reader_hint(const struct held *reader, const unsigned *places, size_t count,
+                              const unsigned char *context, size_t context_len, const unsigned char *msgid,
+                              size_t msgid_len, uint32_t call);
 
 enum { FAULT, VERSION }; /* `which` of kobdzila_set_number, and of kobdzila_reader_number */
 
@@ -148,7 +153,7 @@ const char *kob_set_npgettext(const kob_set *set, const char *domain, const char
 kob_text kob_set_find(const kob_set *set, kob_text domain, kob_text languages, kob_text context, kob_text msgid,
                       const unsigned long long *n) {
     return found_text(ask(set, present(domain), present(languages), present(context), present(msgid),
-                          call_of(context, n), n ? *n : 0));
+                          call_of(context, n), number_of(n)));
 }
 
 /* ---- lists of languages that are looked at once */
@@ -164,15 +169,30 @@ kob_languages kob_set_languages(const kob_set *set, kob_text domain, kob_text la
     return list;
 }
 
+/* The hint of a question in a list, for ask_hinted. */
+static uint64_t hint_in(const kob_languages *list, const kob_question *q) {
+    if (list->count > MOST_PLACES)
+        return NO_HINT;
+    kob_text context = present(q->context), msgid = present(q->msgid);
+    return (is_lent(list->set) ? kobdzila_reader_hint : kobdzila_set_hint)(
+        read_by(list->set), list->places, list->count, bytes_of(context), context.len, bytes_of(msgid), msgid.len,
+        call_of(q->context, q->n));
+}
+
 /* The answer in a list; one with more catalogues than it has places for is looked at anew. */
-static struct lent ask_in(const kob_languages *list, kob_text context, kob_text msgid, uint32_t call, uint64_t n) {
+static struct lent ask_hinted(const kob_languages *list, kob_text context, kob_text msgid, uint32_t call, uint64_t n,
+                              uint64_t hint) {
     if (list->count > MOST_PLACES)
         return ask(list->set, list->domain, list->languages, context, msgid, call, n);
     struct lent out;
     (is_lent(list->set) ? kobdzila_reader_answer_at : kobdzila_set_answer_at)(
         read_by(list->set), list->places, list->count, bytes_of(context), context.len, bytes_of(msgid), msgid.len, call,
-        n, &out);
+        n, hint, &out);
     return out;
+}
+
+static struct lent ask_in(const kob_languages *list, kob_text context, kob_text msgid, uint32_t call, uint64_t n) {
+    return ask_hinted(list, context, msgid, call, n, NO_HINT);
 }
 
 const char *kob_languages_gettext(const kob_languages *list, const char *msgid) {
@@ -201,5 +221,28 @@ const char *kob_languages_npgettext(const kob_languages *list, const char *conte
 }
 
 kob_text kob_languages_find(const kob_languages *list, kob_text context, kob_text msgid, const unsigned long long *n) {
-    return found_text(ask_in(list, present(context), present(msgid), call_of(context, n), n ? *n : 0));
+    return found_text(ask_in(list, present(context), present(msgid), call_of(context, n), number_of(n)));
+}
+
+/* Without a hint for the first question the others ask for none: the list's first catalogue is small. */
+void kob_languages_find_many(const kob_languages *list, const kob_question *questions, size_t count,
+                             kob_text *answers) {
+    uint64_t hints[BLOCK];
+    for (size_t size; count; questions += size, answers += size, count -= size) {
+        size = block_size(count);
+        hints[0] = hint_in(list, questions);
+        for (size_t i = 1; i < size; i++)
+            hints[i] = hints[0] == NO_HINT ? NO_HINT : hint_in(list, &questions[i]);
+        for (size_t i = 0; i < size; i++) {
+            const kob_question *q = &questions[i];
+            answers[i] = found_text(ask_hinted(list, present(q->context), present(q->msgid),
+                                               call_of(q->context, q->n), number_of(q->n), hints[i]));
+        }
+    }
+}
+
+void kob_set_find_many(const kob_set *set, kob_text domain, kob_text languages, const kob_question *questions,
+                       size_t count, kob_text *answers) {
+    kob_languages list = kob_set_languages(set, domain, languages);
+    kob_languages_find_many(&list, questions, count, answers);
 }

@@ -139,6 +139,17 @@ typedef struct {
  * count. */
 kob_text kob_find(const kob_catalogue *catalogue, kob_text context, kob_text msgid, const unsigned long long *n);
 
+/* What kob_find is asked: `context.at` is NULL if there is no context, and `n` is NULL if there is no number. */
+typedef struct {
+    kob_text context, msgid;
+    const unsigned long long *n;
+} kob_question;
+
+/* Store the answers to `count` questions in `answers`, in the same order, each as kob_find returns it. In a catalogue
+ * of tens of thousands of messages it takes less time than as many calls of kob_find, since the processor waits for the
+ * memory of several messages at once. In a small one it calls kob_find for each. */
+void kob_find_many(const kob_catalogue *catalogue, const kob_question *questions, size_t count, kob_text *answers);
+
 /* Return the number of entries of `catalogue`, including the header. */
 size_t kob_count(const kob_catalogue *catalogue);
 
@@ -199,6 +210,10 @@ const char *kob_set_npgettext(const kob_set *set, const char *domain, const char
 kob_text kob_set_find(const kob_set *set, kob_text domain, kob_text languages, kob_text context, kob_text msgid,
                       const unsigned long long *n);
 
+/* Like kob_find_many, for the catalogues of a text domain. The list of languages is looked at once. */
+void kob_set_find_many(const kob_set *set, kob_text domain, kob_text languages, const kob_question *questions,
+                       size_t count, kob_text *answers);
+
 /* A list of languages in a text domain of a set, looked at once for many look-ups. Its members are the library's own.
  * It is a plain value: copy it as you like; there is nothing to free. */
 typedef struct kob_languages {
@@ -221,6 +236,8 @@ const char *kob_languages_ngettext(const kob_languages *list, const char *msgid,
 const char *kob_languages_npgettext(const kob_languages *list, const char *context, const char *msgid,
                                     const char *plural, unsigned long long n);
 kob_text kob_languages_find(const kob_languages *list, kob_text context, kob_text msgid, const unsigned long long *n);
+void kob_languages_find_many(const kob_languages *list, const kob_question *questions, size_t count,
+                             kob_text *answers);
 
 /* A live store: a set of catalogues that is replaced while threads look up in it. Readers never wait, neither for a
  * publish nor for each other, and a publish never waits for readers.

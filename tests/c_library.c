@@ -199,6 +199,72 @@ static void list_answers(const kob_set *set, const char *domain, const char *lan
                                      kob_set_ngettext(set, domain, languages, msgid, "plural", n));
 }
 
+/* ---- many look-ups at once */
+
+#define MOST 50
+
+/* As many questions as `count`, of all calls, some of which have no answer. */
+static void ask_many(kob_question *questions, size_t count) {
+    static const char *const msgids[] = { "file", "hi", "day", "Open", "", "no such message", "\xff", "message 7" };
+    static const char *const contexts[] = { NULL, "menu", "disk", NULL, "" };
+    static const unsigned long long numbers[] = { 0, 1, 2 };
+    for (size_t i = 0; i < count; i++) {
+        const char *context = contexts[i % 5];
+        questions[i].context = context ? text(context) : (kob_text){ NULL, 0 };
+        questions[i].msgid = i % 11 == 10 ? (kob_text){ NULL, 0 } : text(msgids[i % 8]);
+        questions[i].n = i % 4 == 3 ? NULL : &numbers[i % 3];
+    }
+}
+
+/* Each answer of a call for many is that of the call for one, and nothing is written behind the last. */
+static void many_answers(const kob_catalogue *c, const kob_set *set, const char *languages, size_t count) {
+    kob_question q[MOST];
+    kob_text one[MOST + 1], in_set[MOST + 1], in_list[MOST + 1], mark = text("mark");
+    kob_languages list = kob_set_languages(set, text("app"), text(languages));
+    ask_many(q, count);
+    one[count] = in_set[count] = in_list[count] = mark;
+    kob_find_many(c, q, count, one);
+    kob_set_find_many(set, text("app"), text(languages), q, count, in_set);
+    kob_languages_find_many(&list, q, count, in_list);
+    for (size_t i = 0; i < count; i++) {
+        is("one of many", same_found(one[i], kob_find(c, q[i].context, q[i].msgid, q[i].n)));
+        kob_text found = kob_set_find(set, text("app"), text(languages), q[i].context, q[i].msgid, q[i].n);
+        is("one of many in a set", same_found(in_set[i], found));
+        is("one of many in a list", same_found(in_list[i], found));
+    }
+    is("no answer too many", same_found(one[count], mark) && same_found(in_set[count], mark) &&
+                                 same_found(in_list[count], mark));
+}
+
+static void many_answer(const kob_catalogue *c, const kob_set *set) {
+    static const size_t counts[] = { 0, 1, 15, 16, 17, 31, 32, 33, MOST };
+    static const char *const languages[] = { "fr", "de:fr", "sv:fr_CA:de", "C", "", "\xff" };
+    for (size_t i = 0; i < sizeof counts / sizeof *counts; i++)
+        for (size_t l = 0; l < sizeof languages / sizeof *languages; l++)
+            many_answers(c, set, languages[l], counts[i]);
+}
+
+/* The text of `po`, and of so many messages besides. */
+static char *po_and(size_t count) {
+    char *bytes = malloc(sizeof po + 64 * count), *end = stpcpy(bytes, po);
+    for (size_t i = 0; i < count; i++)
+        end += snprintf(end, 64, "msgid \"message %zu\"\nmsgstr \"Meldung %zu\"\n", i, i);
+    return bytes;
+}
+
+/* Only a catalogue that is larger than a processor's own cache has hints. */
+static void many_of_a_large_catalogue(void) {
+    char *bytes = po_and(20000);
+    kob_catalogue *large = kob_open_po(bytes, strlen(bytes), KOB_CHECKED, NULL);
+    free(bytes);
+    kob_set *none = kob_set_new(), *set = kob_set_with(none, "app", "fr", large, NULL);
+    is("a large catalogue", !strcmp(kob_gettext(large, "message 7"), "Meldung 7"));
+    many_answer(large, set);
+    kob_release(large);
+    kob_set_release(none);
+    kob_set_release(set);
+}
+
 static void lists_answer(const kob_set *set) {
     static const char *const domains[] = { "app", "lib", "", "\xff" };
     static const char *const languages[] = { "fr", "de", "sv:de:fr", "sv:nb:da:fi:fr_CA:de", "fr:C:de", "C:fr", "sv:C:fr",
@@ -258,6 +324,7 @@ static void sets(void) {
     kob_set_release(one);
     set_refusals(two, fr);
     set_files(two, fr);
+    many_answer(fr, two);
     kob_release(fr);
     set_look_ups(two);
     set_texts(two);
@@ -461,6 +528,7 @@ static void calls(void) {
     kob_release(c);
     sets();
     many();
+    many_of_a_large_catalogue();
     long_lists();
     po_refusals();
     mo_refusals();

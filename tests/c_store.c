@@ -136,6 +136,12 @@ static void look_ups(void) {
     is("find in a list", kob_languages_find(&list, none, id, NULL).len == 7);
     is("find in a context, with a number, in a list", kob_languages_find(&list, menu, id, &two).len == 5);
     is("find in no list", !kob_languages_find(&no_list, none, id, NULL).at);
+    const kob_question questions[] = { { none, id, NULL }, { menu, id, &two }, { none, menu, NULL } };
+    kob_text answers[3], in_list[3];
+    kob_set_find_many(set, app, fr, questions, 3, answers);
+    is("find many", answers[0].len == 7 && answers[1].len == 5 && !answers[2].at);
+    kob_languages_find_many(&list, questions, 3, in_list);
+    is("find many in a list", in_list[0].at == answers[0].at && in_list[1].at == answers[1].at && !in_list[2].at);
     is("gettext of NULL", !kob_set_gettext(set, "app", "fr", NULL));
     kob_catalogue *c = catalogue_of("filo", "fili");
     kob_refusal why = { KOB_MEMORY, 7 };

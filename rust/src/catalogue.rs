@@ -6,6 +6,7 @@ use std::os::unix::ffi::OsStrExt;
 use std::path::Path;
 
 use crate::entries::Entries;
+use crate::question::Question;
 use crate::refused::Refused;
 use crate::sys;
 
@@ -328,6 +329,26 @@ impl Catalogue {
     #[inline]
     pub fn find_plural_in(&self, context: &str, msgid: &str, n: u64) -> Option<&str> {
         self.0.find(Some(context), msgid, Some(n))
+    }
+
+    /// Returns the answers to several questions, in their order, each as `find` and its kin return it.
+    ///
+    /// In a catalogue of tens of thousands of messages this takes less time than one call for each, since the
+    /// processor waits for the memory of several messages at once. In a small one it makes single calls. It takes
+    /// memory for the list of answers.
+    ///
+    /// ```
+    /// use kobdzila::{Catalogue, Options, Question};
+    ///
+    /// let po = b"msgid \"Winter\"\nmsgstr \"Hiver\"\nmsgid \"row\"\nmsgid_plural \"rows\"\nmsgstr[0] \"rang\"\n";
+    /// let fr = Catalogue::from_po(po, Options::new())?;
+    /// let row = Question { n: Some(1), ..Question::new("row") };
+    /// let answers = fr.find_many(&[Question::new("Winter"), row, Question::new("Summer")]);
+    /// assert_eq!(answers, [Some("Hiver"), Some("rang"), None]);
+    /// # Ok::<(), kobdzila::Refused>(())
+    /// ```
+    pub fn find_many(&self, questions: &[Question<'_>]) -> Vec<Option<&str>> {
+        self.0.find_many(questions)
     }
 
     /// Returns the number of entries, including the header.

@@ -2,6 +2,7 @@
 
 use std::fmt;
 
+use crate::question::Question;
 use crate::sys;
 
 /// A list of languages in a text domain of a set, looked at once for many look-ups.
@@ -122,6 +123,23 @@ impl<'a> Languages<'a> {
     #[inline]
     pub fn find_plural_in(&self, context: &str, msgid: &str, n: u64) -> Option<&'a str> {
         self.0.find(Some(context), msgid, Some(n))
+    }
+
+    /// Returns the answers to several questions, in their order, as
+    /// [`Catalogue::find_many`](crate::Catalogue::find_many) does.
+    ///
+    /// ```
+    /// use kobdzila::{Catalogue, Options, Question, Set};
+    ///
+    /// let fr = Catalogue::from_po(b"msgid \"Winter\"\nmsgstr \"Hiver\"\n", Options::new())?;
+    /// let set = Set::new().with("garden", "fr", &fr)?;
+    /// let list = set.languages("garden", "de:fr");
+    /// let answers = list.find_many(&[Question::new("Summer"), Question::new("Winter")]);
+    /// assert_eq!(answers, [None, Some("Hiver")]);
+    /// # Ok::<(), kobdzila::Refused>(())
+    /// ```
+    pub fn find_many(&self, questions: &[Question<'_>]) -> Vec<Option<&'a str>> {
+        self.0.find_many(questions)
     }
 }
 

@@ -24,6 +24,7 @@
 //! - [`Catalogue`]: the messages of one file. It is immutable, and cloning it counts a reference.
 //! - [`Set`]: catalogues for several text domains and languages, with look-ups by a list of languages. [`Languages`] is
 //!   a list that is looked at once for many of them.
+//! - [`Question`]: what `find_many` of a catalogue or a list is asked, to look up several messages at once.
 //! - [`Store`]: a set whose catalogues are replaced while threads look up in it. Each thread has a [`Reader`], whose
 //!   [`Snapshot`]s have the look-ups.
 //! - [`Refused`]: why a file, a text or a name was refused, with the line of a PO text.
@@ -45,6 +46,7 @@
 mod catalogue;
 mod entries;
 mod languages;
+mod question;
 mod reader;
 mod refused;
 mod set;
@@ -55,6 +57,7 @@ mod sys;
 pub use catalogue::{Catalogue, Format, Options};
 pub use entries::{Entries, Entry, Forms};
 pub use languages::Languages;
+pub use question::Question;
 pub use reader::{Notice, Reader, Snapshot, WrongStore};
 pub use refused::{Kind, Refused};
 pub use set::Set;

@@ -12,6 +12,8 @@ use std::os::raw::{c_char, c_int, c_uint, c_ulonglong, c_void};
 use std::ptr::{self, NonNull};
 use std::slice;
 
+use crate::question::Question;
+
 pub const KOB_NO_FAULT: c_uint = 0;
 pub const KOB_MEMORY: c_uint = 12;
 pub const KOB_UNREADABLE: c_uint = 201;
@@ -89,6 +91,14 @@ struct kob_languages {
     places: [c_uint; 16],
 }
 
+#[repr(C)]
+#[derive(Clone, Copy)]
+struct kob_question {
+    context: kob_text,
+    msgid: kob_text,
+    n: *const c_ulonglong,
+}
+
 extern "C" {
     fn kob_version() -> *const c_char;
     fn kob_fault_text(fault: c_uint) -> *const c_char;
@@ -99,6 +109,12 @@ extern "C" {
     fn kob_release(catalogue: *mut kob_catalogue);
     fn kob_find(catalogue: *const kob_catalogue, context: kob_text, msgid: kob_text, n: *const c_ulonglong)
         -> kob_text;
+    fn kob_find_many(
+        catalogue: *const kob_catalogue,
+        questions: *const kob_question,
+        count: usize,
+        answers: *mut kob_text,
+    );
     fn kob_count(catalogue: *const kob_catalogue) -> usize;
     fn kob_entry_at(catalogue: *const kob_catalogue, place: usize, entry: *mut kob_entry) -> c_int;
     fn kob_form_at(catalogue: *const kob_catalogue, place: usize, form: usize) -> kob_text;
@@ -136,6 +152,12 @@ extern "C" {
         msgid: kob_text,
         n: *const c_ulonglong,
     ) -> kob_text;
+    fn kob_languages_find_many(
+        list: *const kob_languages,
+        questions: *const kob_question,
+        count: usize,
+        answers: *mut kob_text,
+    );
     fn kob_store_new() -> *mut kob_store;
     fn kob_store_load(
         store: *mut kob_store,
@@ -271,6 +293,33 @@ fn address(n: &Option<c_ulonglong>) -> *const c_ulonglong {
     n.as_ref().map_or(ptr::null(), ptr::from_ref)
 }
 
+impl kob_question {
+    #[inline]
+    fn new(question: &Question<'_>) -> kob_question {
+        kob_question {
+            context: kob_text::optional(question.context),
+            msgid: kob_text::new(question.msgid),
+            n: address(&question.n),
+        }
+    }
+}
+
+/// The answers to questions, in their order.
+///
+/// # Safety
+///
+/// `call` stores as many texts as there are questions, and the catalogue or set that these belong to lives for `'a`.
+unsafe fn answers<'a>(
+    questions: &[Question<'_>],
+    call: impl FnOnce(*const kob_question, usize, *mut kob_text),
+) -> Vec<Option<&'a str>> {
+    let asked: Vec<kob_question> = questions.iter().map(kob_question::new).collect();
+    let mut found = vec![kob_text::NONE; asked.len()];
+    call(asked.as_ptr(), asked.len(), found.as_mut_ptr());
+    // SAFETY: what this function asks for.
+    found.into_iter().map(|it| unsafe { it.text() }).collect()
+}
+
 /// The version of the library that was loaded.
 pub fn version() -> &'static str {
     // SAFETY: the function has no condition, and its string is static and terminated by NUL.
@@ -343,6 +392,16 @@ impl Catalogue {
         let found = unsafe { kob_find(self.0.as_ptr(), context, msgid, address(&n)) };
         // SAFETY: the text belongs to the catalogue, which the result borrows.
         unsafe { found.text() }
+    }
+
+    pub fn find_many(&self, questions: &[Question<'_>]) -> Vec<Option<&str>> {
+        // SAFETY: `self` keeps the catalogue alive, and the result borrows it. The texts and numbers are readable until
+        // the call returns, and it stores `count` answers.
+        unsafe {
+            answers(questions, |asked, count, found| {
+                kob_find_many(self.0.as_ptr(), asked, count, found)
+            })
+        }
     }
 
     pub fn count(&self) -> usize {
@@ -508,6 +567,16 @@ impl<'a> Languages<'a> {
         let found = unsafe { kob_languages_find(&self.list, context, msgid, address(&n)) };
         // SAFETY: the text belongs to a catalogue of the set, whose answers are valid for 'a.
         unsafe { found.text() }
+    }
+
+    pub fn find_many(&self, questions: &[Question<'_>]) -> Vec<Option<&'a str>> {
+        // SAFETY: the set, its answers and the list's texts are valid for 'a. The questions' texts and numbers are
+        // readable until the call returns, and it stores `count` answers.
+        unsafe {
+            answers(questions, |asked, count, found| {
+                kob_languages_find_many(&self.list, asked, count, found)
+            })
+        }
     }
 }
 

@@ -137,7 +137,7 @@ fn fields_of_c(body: &str) -> String {
 #[test]
 fn structs_are_those_of_the_header() {
     let Some(header) = header() else { return };
-    for name in ["kob_refusal", "kob_text", "kob_entry", "kob_languages"] {
+    for name in ["kob_refusal", "kob_text", "kob_entry", "kob_languages", "kob_question"] {
         let end = format!("}} {name};");
         let before = header.split(&end).next().unwrap();
         assert_ne!(before.len(), header.len(), "the header has no struct {name}");

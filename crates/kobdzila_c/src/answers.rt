@@ -10,7 +10,7 @@ use crate::numbers::{
     CONTEXT, COUNT, FAULT, FILE_BYTES, FORM, FORMS, GETTEXT, HAS_CONTEXT, HAS_PLURAL, LINE, MSGID,
     NGETTEXT, NPGETTEXT, PGETTEXT, PLURAL,
 };
-use catalogue::{Catalogue, EntryRef};
+use catalogue::{AskedKey, Catalogue, EntryRef, NO_HINT};
 
 /// The catalogue, unless opening the bytes failed.
 #[inline(always)]
@@ -45,7 +45,16 @@ pub(crate) fn number_in(call: u32, n: u64) -> Option<u64>
     }
 }
 
-/// The string that answers a question, with its terminating NUL, or no bytes if there is none.
+/// Returns a hint for `answer`: where the index should have the entry that is asked for.
+pub(crate) fn hint(opened: &Opened, context: &[u8], id: &[u8], call: u32) -> u64 {
+    match catalogue_of(opened) {
+        Some(catalogue) => catalogue.hint(&AskedKey::new(context_in(call, context), id)),
+        None => NO_HINT,
+    }
+}
+
+/// The string that answers a question, with its terminating NUL, or no bytes if there is none. The answer is the same
+/// whatever the hint is; it takes the least time with that of `hint`.
 #[inline(always)]
 pub(crate) fn answer<'k>(
     opened: &'k Opened,
@@ -53,13 +62,20 @@ pub(crate) fn answer<'k>(
     id: &[u8],
     call: u32,
     n: u64,
+    hint: u64,
 ) -> &'k [u8]
     ensures { IsClosedAnswer (map_of opened.now) (question call context.now id.now n) result.now }
 {
     let Some(catalogue) = catalogue_of(opened) else {
         return &[]
     };
-    match catalogue.translated_closed(context_in(call, context), id, number_in(call, n)) {
+    let (context, n) = (context_in(call, context), number_in(call, n));
+    let found = if hint == NO_HINT {
+        catalogue.translated_closed(context, id, n)
+    } else {
+        catalogue.translated_closed_hinted(context, id, n, hint)
+    };
+    match found {
         Some(text) => text,
         None => &[],
     }
@@ -69,7 +85,7 @@ pub(crate) fn answer<'k>(
 pub(crate) fn gettext<'k>(opened: &'k Opened, id: &[u8]) -> &'k [u8]
     ensures { IsClosedAnswer (map_of opened.now) (question gettext [] id.now 0) result.now }
 {
-    answer(opened, &[], id, GETTEXT, 0)
+    answer(opened, &[], id, GETTEXT, 0, NO_HINT)
 }
 
 /// Entry `i` of the catalogue, if there is one.

@@ -127,9 +127,25 @@ pub unsafe extern "C" fn kobdzila_text(
     *out = answers::text(&*(held as *const Opened), part, i, k);
 }
 
+/// Returns a hint for `kobdzila_answer`: a number with which it takes less time. To answer many calls, first get the
+/// hints of all of them: a processor waits for the memory of several of them at once.
+#[unsafe(no_mangle)]
+pub unsafe extern "C" fn kobdzila_hint(
+    held: *const Opaque,
+    context: &[u8],
+    id: &[u8],
+    call: u32,
+) -> u64
+    ghost g: { Lft × Share × Held }
+    requires* { sem 𝓛 (reads g.0 g.1 held g.2) }
+    ensures* { sem 𝓛 (flft g.0 g.1) }
+{
+    answers::hint(&*(held as *const Opened), context, id, call)
+}
+
 /// Writes the answer to a call to `out`, with its terminating NUL, or no bytes if there is no such entry. The calls are
 /// 0 for gettext, 1 for pgettext, 2 for ngettext and 3 for npgettext; the context and the number are used only by those
-/// that have them.
+/// that have them. The answer is the same whatever the hint is.
 #[unsafe(no_mangle)]
 pub unsafe extern "C" fn kobdzila_answer(
     held: *const Opaque,
@@ -137,13 +153,14 @@ pub unsafe extern "C" fn kobdzila_answer(
     id: &[u8],
     call: u32,
     n: u64,
+    hint: u64,
     out: *mut &[u8],
 )
     ghost g: { Lft × Share × Held }
     requires* { sem 𝓛 (reads g.0 g.1 held g.2) ∗ sem 𝓛 (room_at (Text g.0) out) }
     ensures* { sem 𝓛 (flft g.0 g.1) ∗ sem 𝓛 (answered g.0 out g.2 (question call context.now id.now n)) }
 {
-    *out = answers::answer(&*(held as *const Opened), context, id, call, n);
+    *out = answers::answer(&*(held as *const Opened), context, id, call, n, hint);
 }
 
 /// Like `kobdzila_answer` for gettext, the call that programs make most.
@@ -279,8 +296,24 @@ pub unsafe extern "C" fn kobdzila_set_languages(
     out.write(places::set_places(&*(held as *const MadeSet), domain, languages));
 }
 
+/// Returns a hint for `kobdzila_set_answer_at`, as `kobdzila_hint` does for `kobdzila_answer`.
+#[unsafe(no_mangle)]
+pub unsafe extern "C" fn kobdzila_set_hint(
+    held: *const OpaqueSet,
+    places: &[u32],
+    context: &[u8],
+    id: &[u8],
+    call: u32,
+) -> u64
+    ghost g: { Lft × Share × HeldSet }
+    requires* { sem 𝓛 (reads_set g.0 g.1 held g.2) }
+    ensures* { sem 𝓛 (flft g.0 g.1) }
+{
+    places::set_hint(&*(held as *const MadeSet), places, context, id, call)
+}
+
 /// Like `kobdzila_set_answer`, from the first of these places that has such an entry. A place where there is no
-/// catalogue is passed over.
+/// catalogue is passed over. The answer is the same whatever the hint is.
 #[unsafe(no_mangle)]
 pub unsafe extern "C" fn kobdzila_set_answer_at(
     held: *const OpaqueSet,
@@ -289,6 +322,7 @@ pub unsafe extern "C" fn kobdzila_set_answer_at(
     id: &[u8],
     call: u32,
     n: u64,
+    hint: u64,
     out: *mut &[u8],
 )
     ghost g: { Lft × Share × HeldSet }
@@ -296,7 +330,15 @@ pub unsafe extern "C" fn kobdzila_set_answer_at(
     ensures* { sem 𝓛 (flft g.0 g.1) ∗ sem 𝓛 (set_answered_at g.0 out g.2 places.now
         (question call context.now id.now n)) }
 {
-    *out = places::set_answer_at(&*(held as *const MadeSet), places, context, id, call, n);
+    *out = places::set_answer_at(
+        &*(held as *const MadeSet),
+        places,
+        context,
+        id,
+        call,
+        n,
+        hint,
+    );
 }
 
 /// The type that C's pointers to a live store have. C must not read or write its bytes.
@@ -527,6 +569,22 @@ pub unsafe extern "C" fn kobdzila_reader_languages(
     out.write(places::reader_places(&*(held as *const HeldReader), domain, languages));
 }
 
+/// Like `kobdzila_set_hint`, in the version that the reader at `held` entered last.
+#[unsafe(no_mangle)]
+pub unsafe extern "C" fn kobdzila_reader_hint(
+    held: *const OpaqueReader,
+    places: &[u32],
+    context: &[u8],
+    id: &[u8],
+    call: u32,
+) -> u64
+    ghost g: { Lft × Share × AReader }
+    requires* { sem 𝓛 (reads_reader g.0 g.1 held g.2) }
+    ensures* { sem 𝓛 (flft g.0 g.1) }
+{
+    places::reader_hint(&*(held as *const HeldReader), places, context, id, call)
+}
+
 /// Like `kobdzila_set_answer_at`, in the version that the reader at `held` entered last.
 #[unsafe(no_mangle)]
 pub unsafe extern "C" fn kobdzila_reader_answer_at(
@@ -536,6 +594,7 @@ pub unsafe extern "C" fn kobdzila_reader_answer_at(
     id: &[u8],
     call: u32,
     n: u64,
+    hint: u64,
     out: *mut &[u8],
 )
     ghost g: { Lft × Share × AReader }
@@ -543,7 +602,15 @@ pub unsafe extern "C" fn kobdzila_reader_answer_at(
     ensures* { sem 𝓛 (flft g.0 g.1) ∗ sem 𝓛 (reader_answered_at g.0 out g.2 places.now
         (question call context.now id.now n)) }
 {
-    *out = places::reader_answer_at(&*(held as *const HeldReader), places, context, id, call, n);
+    *out = places::reader_answer_at(
+        &*(held as *const HeldReader),
+        places,
+        context,
+        id,
+        call,
+        n,
+        hint,
+    );
 }
 
 /// Like `kobdzila_set_with`, for the set of the version that the reader at `held` entered last. The set that is made is

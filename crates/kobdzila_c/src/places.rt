@@ -6,6 +6,7 @@ ghost use Rattle.kobdzila_c.specs.NamedPlaces.{IsSetAnswerAt};
 use crate::answers::{context_in, number_in};
 use crate::sets::MadeSet;
 use crate::stores::HeldReader;
+use catalogue::NO_HINT;
 use live_set::{CatalogueSet, Places};
 use std::str::from_utf8;
 
@@ -36,7 +37,39 @@ pub(crate) fn reader_places(held: &HeldReader, domain: &[u8], languages: &[u8]) 
     }
 }
 
-/// The string that answers a question at places of a set, with its terminating NUL, or no bytes if there is none.
+/// Returns a hint for `answer_at`: where the index of the catalogue at the first place should have the entry.
+#[inline(always)]
+fn hint_in(set: &CatalogueSet, places: &[u32], context: &[u8], id: &[u8], call: u32) -> u64 {
+    set.hint_at(places, context_in(call, context), id)
+}
+
+/// Like `hint_in`, for a set that C holds.
+pub(crate) fn set_hint(
+    made: &MadeSet,
+    places: &[u32],
+    context: &[u8],
+    id: &[u8],
+    call: u32,
+) -> u64 {
+    hint_in(&made.set, places, context, id, call)
+}
+
+/// Like `hint_in`, in a reader's version.
+pub(crate) fn reader_hint(
+    held: &HeldReader,
+    places: &[u32],
+    context: &[u8],
+    id: &[u8],
+    call: u32,
+) -> u64 {
+    match &held.reader {
+        Some(reader) => hint_in(reader.set(), places, context, id, call),
+        None => NO_HINT,
+    }
+}
+
+/// The string that answers a question at places of a set, with its terminating NUL, or no bytes if there is none. The
+/// answer is the same whatever the hint is.
 #[inline(always)]
 fn answer_at<'k>(
     set: &'k CatalogueSet,
@@ -45,10 +78,18 @@ fn answer_at<'k>(
     id: &[u8],
     call: u32,
     n: u64,
+    hint: u64,
 ) -> &'k [u8]
     ensures { IsAnswerAt set.now places.now (question call context.now id.now n) result.now }
 {
-    match set.translated_closed_at(places, context_in(call, context), id, number_in(call, n)) {
+    let context = context_in(call, context);
+    let n = number_in(call, n);
+    let found = if hint == NO_HINT {
+        set.translated_closed_at(places, context, id, n)
+    } else {
+        set.translated_closed_hinted(places, context, id, n, hint)
+    };
+    match found {
         Some(text) => text,
         None => &[],
     }
@@ -62,10 +103,11 @@ pub(crate) fn set_answer_at<'k>(
     id: &[u8],
     call: u32,
     n: u64,
+    hint: u64,
 ) -> &'k [u8]
     ensures { IsSetAnswerAt made.now places.now (question call context.now id.now n) result.now }
 {
-    answer_at(&made.set, places, context, id, call, n)
+    answer_at(&made.set, places, context, id, call, n, hint)
 }
 
 /// Like `answer_at`, in a reader's version.
@@ -76,11 +118,12 @@ pub(crate) fn reader_answer_at<'k>(
     id: &[u8],
     call: u32,
     n: u64,
+    hint: u64,
 ) -> &'k [u8]
     ensures { IsReaderAnswerAt held.now places.now (question call context.now id.now n) result.now }
 {
     match &held.reader {
-        Some(reader) => answer_at(reader.set(), places, context, id, call, n),
+        Some(reader) => answer_at(reader.set(), places, context, id, call, n, hint),
         None => &[],
     }
 }

@@ -1,5 +1,5 @@
 use crate::{compiled, GARDEN};
-use kobdzila::{Catalogue, Options};
+use kobdzila::{Catalogue, Options, Question};
 
 #[test]
 fn messages_are_translated() {
@@ -108,4 +108,33 @@ fn the_version_is_that_of_the_crate_or_later() {
     });
     assert_eq!(library[0], package[0]);
     assert!(library >= package);
+}
+
+#[test]
+fn many_at_once_are_as_one_by_one() {
+    let fr = compiled(GARDEN);
+    let ask = |context, msgid, n| Question { msgid, context, n };
+    let asked = [
+        ask(None, "Winter", None),
+        ask(Some("menu"), "Open", None),
+        ask(Some(""), "Open", None),
+        ask(None, "Open", None),
+        ask(None, "tomato", Some(2)),
+        ask(Some("bed"), "row", Some(1)),
+        ask(None, "Summer", Some(2)),
+    ];
+    let wanted = [
+        Some("Hiver"),
+        Some("Ouvrir"),
+        Some("Ouvert"),
+        None,
+        Some("tomates"),
+        Some("rangée"),
+        None,
+    ];
+    assert_eq!(fr.find_many(&asked), wanted);
+    assert_eq!(fr.find_many(&[]), []);
+    // (more than the library looks up at once)
+    let pages: Vec<Question<'_>> = asked.iter().copied().cycle().take(7 * 13).collect();
+    assert!(fr.find_many(&pages).chunks(7).all(|page| page == wanted));
 }

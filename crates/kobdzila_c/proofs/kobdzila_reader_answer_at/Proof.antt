@@ -52,7 +52,7 @@ stayed = (
       stay_dropped _ yes,
       (
         stay_dropped _ yes,
-        (stay_dropped _ yes, (stay_dropped _ yes, (stay_dropped _ yes, tt))),
+        (stay_dropped _ yes, (stay_dropped _ yes, (stay_dropped _ yes, (stay_dropped _ yes, tt)))),
       ),
     ),
   ),
@@ -73,7 +73,14 @@ kobdzila_reader_answer_at_spec 𝓤 𝓛 𝓜 𝓡 wired =
               Goes-dropped 𝓛 3 (plain (λ _. u32)) yes (λ κs x w. refl),
               (
                 Goes-dropped 𝓛 3 (plain (λ _. u64)) yes (λ κs x w. refl),
-                (Goes-dropped 𝓛 3 (plain (λ _. RawPtr)) yes (λ κs x w. refl), tt),
+                (
+                  Goes-dropped 𝓛 3 (plain (λ _. u64)) yes (λ κs x w. refl),
+                  (
+                    Goes-dropped 𝓛 3 (plain (λ _. RawPtr)) yes
+                        (λ κs x w. refl),
+                    tt,
+                  ),
+                ),
               ),
             ),
           ),
@@ -85,7 +92,7 @@ kobdzila_reader_answer_at_spec 𝓤 𝓛 𝓜 𝓡 wired =
       rawptr_vals,
       (
         shr_slice_vals,
-        (shr_slice_vals, (shr_slice_vals, (uint_vals w32, (uint_vals w64, (rawptr_vals, tt))))),
+        (shr_slice_vals, (shr_slice_vals, (uint_vals w32, (uint_vals w64, (uint_vals w64, (rawptr_vals, tt)))))),
       ),
     ))
     (λ κs. (
@@ -96,7 +103,7 @@ kobdzila_reader_answer_at_spec 𝓤 𝓛 𝓜 𝓡 wired =
           shr_slice_Tells (named 1) κs.1.0 u8,
           (
             shr_slice_Tells (named 2) κs.1.1.0 u8,
-            (uint_Tells w32, (uint_Tells w64, (rawptr_Tells, tt))),
+            (uint_Tells w32, (uint_Tells w64, (uint_Tells w64, (rawptr_Tells, tt)))),
           ),
         ),
       ),
@@ -105,21 +112,22 @@ kobdzila_reader_answer_at_spec 𝓤 𝓛 𝓜 𝓡 wired =
     let places : Bor (List ℕ) = a.1.0 in
     let context : Bor (List ℕ) = a.1.1.0 in
     let id : Bor (List ℕ) = a.1.1.1.0 in
-    let call : ℕ = a.1.1.1.1.0 in let n : ℕ = a.1.1.1.1.1.0 in let dest : Ptr = a.1.1.1.1.1.1.0 in
+    let call : ℕ = a.1.1.1.1.0 in let n : ℕ = a.1.1.1.1.1.0 in let hint : ℕ = a.1.1.1.1.1.1.0 in let dest : Ptr =
+    a.1.1.1.1.1.1.1.0 in
     let μ : Lft = gh.0 in let s : Share = gh.1 in let x = gh.2 in
     let y : Ptr → W.Ghost = λ r. (
       (
         κs,
         qs,
         bounds,
-        (p, (places, (context, (id, (call, (n, (r, tt))))))),
+        (p, (places, (context, (id, (call, (n, (hint, (r, tt)))))))),
         (
           rawptr_vals p,
           (
             shr_slice_vals places,
             (
               shr_slice_vals context,
-              (shr_slice_vals id, (vint w32 call ∷ [], (vint w64 n ∷ [], (rawptr_vals r, tt)))),
+              (shr_slice_vals id, (vint w32 call ∷ [], (vint w64 n ∷ [], (vint w64 hint ∷ [], (rawptr_vals r, tt))))),
             ),
           ),
         ),
@@ -130,16 +138,18 @@ kobdzila_reader_answer_at_spec 𝓤 𝓛 𝓜 𝓡 wired =
     let Is = λ (t : Bor (List ℕ)). IsReaderAnswerAt x places.now (question call context.now id.now n) t.now in
     qed 𝓛 (((‵ (flft κs.0 qs.0) ⊛ (‵ (flft κs.1.0 qs.1.0) ⊛ (‵ (flft κs.1.1.0 qs.1.1.0) ⊛ ‵ ftrue)))
     ⊛ ‵ (owns (RawPtr ∷ ShrSlice (named 0) κs.0 u32 ∷ ShrSlice (named 1) κs.1.0 u8 ∷ ShrSlice (named 2) κs.1.1.0 u8
-    ∷ u32 ∷ u64 ∷ RawPtr ∷ []) a (y dest).0.4)) ∷ (‵ (reads_reader μ s p x) ⊛ ‵ (room_at R dest)) ∷ []) ∵
+    ∷ u32 ∷ u64 ∷ u64 ∷ RawPtr ∷ []) a (y dest).0.4)) ∷ (‵ (reads_reader μ s p x) ⊛ ‵ (room_at R dest)) ∷ []) ∵
     split ! $ move ! (1 ∷ []) $ fsplit ! $ drop ! $ fsplit ! $ move ! (1 ∷ []) $ fsplit ! $ move ! (1 ∷ []) $
-    fsplit ! $ move ! (1 ∷ []) $ fsplit ! $ move ! (1 ∷ []) $ fsplit ! $ move ! (1 ∷ []) $ drop ! $
+    fsplit ! $ move ! (1 ∷ []) $ fsplit ! $ move ! (1 ∷ []) $ fsplit ! $ move ! (1 ∷ []) $ fsplit ! $ move ! (1 ∷ [])
+    $ drop ! $
     -- [the arguments, the last one first; the tokens; the requires]
-    move ! (6 ∷ []) $ split ! $ fsplit ! $ fsplit ! $ use1 𝓛 (raw (fact 𝓤 (InBlock p))) (in_block_says 𝓛 p) $
+    move ! (7 ∷ []) $ split ! $ fsplit ! $ fsplit ! $ use1 𝓛 (raw (fact 𝓤 (InBlock p))) (in_block_says 𝓛 p) $
     heard ! (InBlock p) (λ inb. hide ! $
     -- [the reader; the token of μ; the room; the arguments; the tokens]
     move ! (2 ∷ []) $ in_a_block ! dest (λ r. room_at R r) (id⊢ 𝓤 _) (λ b o e.
     regoal ! (λ r. prop (WpFn 𝓤 𝓛.H 𝓣.C 𝓣.Λ code.function (rawptr_vals p ++ (shr_slice_vals places ++
-    (shr_slice_vals context ++ (shr_slice_vals id ++ (vint w32 call ∷ (vint w64 n ∷ (rawptr_vals r ++ [])))))))
+    (shr_slice_vals context ++ (shr_slice_vals id ++ (vint w32 call ∷ (vint w64 n ∷ (vint w64 hint ∷ (rawptr_vals r ++
+    []))))))))
     (W.post (y r)))) e refl $
     enter ! _ _ _ _ _ $ alloc_all ! (λ l. pass_all ! refl (
       ((rawptr_Lawful 𝓛).typed p _ refl).0,
@@ -151,7 +161,16 @@ kobdzila_reader_answer_at_spec 𝓤 𝓛 𝓜 𝓡 wired =
             ((shr_slice_Lawful 𝓛 (named 2) κs.1.1.0 u8).typed id _ are.1.1.1.0).0,
             (
               (tt, record { fits = are.1.1.1.1.0.1 }),
-              ((tt, record { fits = are.1.1.1.1.1.0.1 }), ((tt, tt), tt)),
+              (
+                (tt, record { fits = are.1.1.1.1.1.0.1 }),
+                (
+                  (tt, record { fits = are.1.1.1.1.1.1.0.1 }),
+                  (
+                    (tt, tt),
+                    tt,
+                  ),
+                ),
+              ),
             ),
           ),
         ),
@@ -168,7 +187,7 @@ kobdzila_reader_answer_at_spec 𝓤 𝓛 𝓜 𝓡 wired =
         tt,
         (
           record { ref_ptr = (block_of p, count_of p); now = x },
-          (places, (context, (id, (call, (n, tt))))),
+          (places, (context, (id, (call, (n, (hint, tt)))))),
         ),
         (
           at ∷ [],
@@ -176,7 +195,7 @@ kobdzila_reader_answer_at_spec 𝓤 𝓛 𝓜 𝓡 wired =
             shr_slice_vals places,
             (
               shr_slice_vals context,
-              (shr_slice_vals id, (vint w32 call ∷ [], (vint w64 n ∷ [], tt))),
+              (shr_slice_vals id, (vint w32 call ∷ [], (vint w64 n ∷ [], (vint w64 hint ∷ [], tt)))),
             ),
           ),
         ),
@@ -185,12 +204,12 @@ kobdzila_reader_answer_at_spec 𝓤 𝓛 𝓜 𝓡 wired =
     ) in
     move ! (1 ∷ []) $ feq_i ! (List Val) (at ∷ []) (at ∷ []) refl $ fjoin ! $ nothing ! $ move ! (4 ∷ 0 ∷ []) $
     fjoin ! $ move ! (4 ∷ 0 ∷ []) $ fjoin ! $ move ! (4 ∷ 0 ∷ []) $ fjoin ! $ move ! (4 ∷ 0 ∷ []) $ fjoin ! $
-    move ! (4 ∷ 0 ∷ []) $ fjoin ! $ move ! (1 ∷ 0 ∷ []) $ fjoin ! $
+    move ! (4 ∷ 0 ∷ []) $ fjoin ! $ move ! (4 ∷ 0 ∷ []) $ fjoin ! $ move ! (1 ∷ 0 ∷ []) $ fjoin ! $
     move ! (2 ∷ 3 ∷ []) $ join ! $ join ! $ nothing ! $ move ! (1 ∷ 0 ∷ []) $ join ! $
     use1 𝓛 (raw (G.pre z)) (id⊢ 𝓤 _) $
     calls_at ! (framed 𝓤 𝓛.H 𝓜 𝓣) G (met 𝓤 𝓛 𝓜 𝓡 (code.calls-kobdzila_c::places::reader_answer_at 𝓡.env wired)) z
     (and_then ! (get ! refl) (and_then ! (get ! refl) (and_then ! (get ! refl) (and_then ! (get ! refl) (and_then !
-    (get ! refl) (and_then ! (get ! refl) (no_more !))))))) (λ v.
+    (get ! refl) (and_then ! (get ! refl) (and_then ! (get ! refl) (no_more !)))))))) (λ v.
     use1 𝓛 (later (some (λ (r : Bor (List ℕ)). ((‵ (flft μ s) ⊛ (‵ (flft κs.0 qs.0) ⊛ (‵ (flft κs.1.0 qs.1.0) ⊛ (‵
     (flft κs.1.1.0 qs.1.1.0) ⊛ ‵ ftrue)))) ⊛ ‵ (R.own_val r (v ∷ []))) ⊛ some (λ (ws : Lasts g.ended z.0.0 z.0.3).
     ‵ (lasts g.ended z.0.0 z.0.3 ws) ⊛ raw (fact 𝓤 (Is r)))))) (id⊢ 𝓤 _) $
@@ -207,9 +226,33 @@ kobdzila_reader_answer_at_spec 𝓤 𝓛 𝓜 𝓡 wired =
     fpack ! (Bor (List ℕ)) (λ r'. fex (Is r') (λ _. lies_at R full_share (block_ptr b o) r')) r $
     move ! (1 ∷ []) $ split ! $
     -- [the token of μ; the tokens; what was answered]
-    suffices ! _ (ends_at 𝓛 f.ended stayed c (y (block_ptr b o)) vunit tt (tt, (tt, (tt, (tt, (tt, (tt, (tt, tt)))))))
-    (tt, (tt, (tt, (tt, (tt, (tt, (tt, tt)))))))) $
+    suffices ! _ (ends_at 𝓛 f.ended stayed c (y (block_ptr b o)) vunit tt (
+      tt,
+      (
+        tt,
+        (
+          tt,
+          (
+            tt,
+            (
+              tt,
+              (
+                tt,
+                (
+                  tt,
+                  (
+                    tt,
+                    tt,
+                  ),
+                ),
+              ),
+            ),
+          ),
+        ),
+      ),
+    ) (tt, (tt, (tt, (tt, (tt, (tt, (tt, (tt, tt))))))))) $
     feq_i ! (List Val) (vunit ∷ []) (vunit ∷ []) refl $ nothing ! $ nothing ! $ join ! $ nothing ! $ join ! $
-    nothing ! $ join ! $ nothing ! $ join ! $ nothing ! $ join ! $ nothing ! $ join ! $ nothing ! $ join ! $
+    nothing ! $ join ! $ nothing ! $ join ! $ nothing ! $ join ! $ nothing ! $ join ! $ nothing ! $ join ! $ nothing !
+    $ join ! $
     move ! (3 ∷ []) $ group ! 3 $
     done !)))))))))
