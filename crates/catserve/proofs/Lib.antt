@@ -10,9 +10,10 @@ pub mod FirstOutput
 pub mod LinesTaken
 pub mod SessionLines
 pub mod SessionHears
-pub mod SessionFront
+pub mod SessionPreamble
 pub mod SessionTalk
 pub mod SessionEnds
+pub mod ScriptTalk
 pub mod Stopping
 pub mod SessionWaits
 pub mod SessionInTime

@@ -1,42 +1,47 @@
 -- A round, step by step.
-use Rattle.std.proofs.Common.{◌≡◌, ◌∙◌, refl, sym, ap, ℕ, ◌+◌, ◌<◌, ◌≤◌, List, [], ◌∷◌, ◌++◌, append_assoc, arith}
-use Rattle.std.proofs.Common.{length, length-append, None, Result, Ok, Err, OnOk, IfOk}
-use Rattle.std.proofs.lemmas.List.{append-nil}
+use Rattle.std.proofs.Common.{◌≡◌, ◌∙◌, refl, sym, ap, ℕ, ◌≤◌, List, [], ◌∷◌, ◌++◌, append_assoc, arith}
+use Rattle.std.proofs.Common.{length, length-append, None, Result, Ok, Err, IfOk, IfErr, OnErr}
+use Rattle.std.proofs.lemmas.List.{append-nil, flat_map_more}
 use Rattle.std.proofs.lemmas.List.Elements.{filter_map-append}
 use Rattle.std.proofs.lemmas.List.Sums.{sum_by-append}
 use Rattle.std.proofs.lemmas.Slice.Zip.{AllZip-long}
 use Rattle.std.specs.List.{AllZip, filter_map, flat_map}
 use Rattle.live_set.specs.Loads.{LoadValue}
 use Rattle.live_versions.specs.Batches.{joined, version_of, published}
-use Rattle.live_versions.specs.Store.{StoreValue, HasRoom}
+use Rattle.live_versions.specs.Store.{StoreValue}
 use Rattle.live_versions.specs.Seen.{SeenValue}
-use Rattle.desks.specs.Jobs.{IsAccepted}
+use Rattle.live_versions.specs.declared.fault.StoreFault.{StoreFault}
+use Rattle.live_versions.specs.declared.fault.StoreFault.TheVariants as fault
+use Rattle.desks.specs.Jobs as jobs
 use Rattle.desks.specs.declared.job.Accepted as job
+use Rattle.desks.specs.declared.job.Accepted.TheVariants as accepted
 use Rattle.script_text.specs.ScriptLoads.{JobValue}
-use Rattle.script_text.specs.Script.{RoundValue, load_count}
+use Rattle.script_text.specs.Script.{RoundValue}
 use Rattle.catserve.specs.Output.{version_line}
-use Rattle.catserve.specs.Rounds.{Outcome, Accepted, IsOutcome, outcome_line, accepted_load, AnswersInTurn, PlaysAll}
-use Rattle.catserve.specs.Running.{LoadsOne, LoadsAll, HasLoaded, HasRoomFor, PlaysOne, HasPlayed, job_of}
-use Rattle.catserve.proofs.Batching.{AllZip-snoc, flat_map-snoc, joined-append}
+use Rattle.catserve.specs.Rounds.{Outcome, Accepted, Refused, RefusedMo, Unnamed, IsOutcome, outcome_line}
+use Rattle.catserve.specs.Rounds.{accepted_load, job_source, AnswersInTurn, PlaysAll}
+use Rattle.catserve.specs.Running.{LoadsOne, LoadsAll, PlaysOne, HasPlayed, IsLineOf, load_of, load_source}
+use Rattle.catserve.proofs.Batching.{AllZip-snoc, joined-append}
 
-pub map_ok : {T E A B : Type 0} (r : Result T E) → OnOk r A → (A → B) → IfOk r (λ _. B)
-map_ok (Ok x) a f = f a
-map_ok (Err x) a f = tt
+-- a source of a job, as that of a load
+same_source : (source : jobs.SourceValue) → job_source (load_source source) ≡ source
+same_source (jobs.Po text options) = refl
+same_source (jobs.Mo bytes) = refl
 
 -- the load is accepted, with the map that its source brings
-pub accepts_one : {load : JobValue} (answer : job.Accepted) (s s' : StoreValue) {before after : List ℕ}
-    → (is : IsAccepted s (job_of load) answer s') → after ≡ before
+accepts_one : (load : jobs.JobValue) (answer : job.Accepted) (s s' : StoreValue) {before after : List ℕ}
+    → (is : jobs.IsAccepted s load answer s') → after ≡ before
     ++ outcome_line (Accepted (record { domain = load.domain; locale = load.locale; map = is.0 }) answer)
-    → LoadsOne load s.pending s'.pending before after
-accepts_one {load} answer s s' (map, brings, adds) written = record {
+    → LoadsOne (load_of load) s.pending s'.pending before after
+accepts_one load answer s s' (map, brings, adds) written = record {
   outcome = Accepted (record { domain = load.domain; locale = load.locale; map = map }) answer;
-  is = (adds.names, brings, refl, refl);
+  is = (adds.names, rw (same_source load.source) brings, refl, refl);
   pending_are = ap (λ (x : StoreValue). x.pending) adds.after_is;
   written = written;
 }
 
 -- it isn't
-pub refuses_one : {load : JobValue} (outcome : Outcome) (s s' : StoreValue) {before after : List ℕ}
+refuses_one : {load : JobValue} (outcome : Outcome) (s s' : StoreValue) {before after : List ℕ}
     → IsOutcome load outcome → accepted_load outcome ≡ None → s' ≡ s → after ≡ before ++ outcome_line outcome
     → LoadsOne load s.pending s'.pending before after
 refuses_one outcome s s' is none same written = record {
@@ -45,6 +50,30 @@ refuses_one outcome s s' is none same written = record {
   pending_are = ap (λ (x : StoreValue). x.pending) same ∙ sym (rw none (append-nil s.pending));
   written = written;
 }
+
+-- it was made, and this is its line
+pub loads_one : (load : jobs.JobValue) (made : Result job.Accepted StoreFault) (s s' : StoreValue)
+    (before line : List ℕ) → IfOk made (λ answer. jobs.IsAccepted s load answer s') → IfErr made (jobs.IsRefused s load)
+    → OnErr made (s' ≡ s) → IsLineOf made line → LoadsOne (load_of load) s.pending s'.pending before (before ++ line)
+loads_one load (Ok (accepted.Po stats)) s s' before line is why same line_is =
+    accepts_one load (accepted.Po stats) s s' is (ap (λ xs. before ++ xs) line_is)
+loads_one load (Ok (accepted.Mo entries)) s s' before line is why same line_is =
+    accepts_one load (accepted.Mo entries) s s' is (ap (λ xs. before ++ xs) line_is)
+loads_one load (Err fault.BadName) s s' before line is why same line_is =
+    refuses_one Unnamed s s' why refl same (ap (λ xs. before ++ xs) line_is)
+loads_one load (Err (fault.Refused of)) s s' before line is why same line_is =
+    refuses_one (Refused of) s s' (why.0, rw (same_source load.source) why.2) refl same
+    (ap (λ xs. before ++ xs) line_is)
+loads_one load (Err (fault.RefusedMo of)) s s' before line is why same line_is =
+    refuses_one (RefusedMo of) s s' (why.0, rw (same_source load.source) why.2) refl same
+    (ap (λ xs. before ++ xs) line_is)
+loads_one load (Err _) s s' before line is why same line_is = absurd line_is
+
+-- it leaves the limit as it was
+pub most_kept : (load : jobs.JobValue) (made : Result job.Accepted StoreFault) (s s' : StoreValue)
+    → IfOk made (λ answer. jobs.IsAccepted s load answer s') → OnErr made (s' ≡ s) → s'.most ≡ s.most
+most_kept load (Ok answer) s s' (map, brings, adds) same = ap (λ (x : StoreValue). x.most) adds.after_is
+most_kept load (Err why) s s' is same = ap (λ (x : StoreValue). x.most) same
 
 pub loads_more : {loads : List JobValue} {load : JobValue} {p q r : List LoadValue} {a b c : List ℕ}
     → LoadsAll loads p q a b → LoadsOne load q r b c → LoadsAll (loads ++ load ∷ []) p r a c
@@ -55,8 +84,7 @@ loads_more {loads} {load} {p} {a} all one = record {
       ∙ append_assoc p (filter_map accepted_load all.outcomes) (filter_map accepted_load (one.outcome ∷ []))
       ∙ ap (λ xs. p ++ xs) (sym (filter_map-append accepted_load all.outcomes (one.outcome ∷ [])));
   written = one.written ∙ ap (λ xs. xs ++ outcome_line one.outcome) all.written
-      ∙ append_assoc a (flat_map outcome_line all.outcomes) (outcome_line one.outcome)
-      ∙ ap (λ xs. a ++ xs) (sym (flat_map-snoc outcome_line all.outcomes one.outcome));
+      ∙ flat_map_more outcome_line a all.outcomes one.outcome;
 }
 
 joined-published : (bs : List (List LoadValue)) (pending : List LoadValue) → joined (published bs pending) ≡ joined bs
@@ -73,20 +101,6 @@ few_accepted (_ ∷ outcomes) = omega (arith, few_accepted outcomes)
 pub few_outcomes : (loads : List JobValue) (outcomes : List Outcome) → AllZip IsOutcome loads outcomes
     → length (filter_map accepted_load outcomes) ≤ length loads
 few_outcomes loads outcomes each = omega (arith, few_accepted outcomes, AllZip-long IsOutcome loads outcomes each)
-
--- so there is room for one load more
-pub has_room : {loads : List JobValue} {was now : StoreValue} {before after : List ℕ} (count : ℕ)
-    → HasLoaded loads was now before after → HasRoomFor count was → length loads < count → HasRoom now
-has_room {loads} {was} count h room more = omega (
-  arith,
-  room,
-  more,
-  h.most,
-  ap (λ (f : SeenValue). version_of f.batches) h.seen,
-  ap length h.loaded.pending_are,
-  length-append was.pending (filter_map accepted_load h.loaded.outcomes),
-  few_outcomes loads h.loaded.outcomes h.loaded.each,
-)
 
 -- the loads, the version and the answers of a round
 pub plays_one : {workers : ℕ} {round : RoundValue} {was : StoreValue} (loaded : StoreValue) {now : StoreValue}
@@ -154,15 +168,3 @@ plays_all {rounds} {output} played = rw (append-nil output) at (rw (append-nil r
 
 pub plays_none : {workers : ℕ} {was : StoreValue} → was.pending ≡ [] → HasPlayed workers [] was was []
 plays_none none = record { going = λ rest tail all. all; none_pending = none; few = omega arith; most = refl }
-
--- there is room for the loads of the next round
-pub has_room_for : {workers : ℕ} (all : List RoundValue) {played : List RoundValue} (left : List RoundValue)
-    (round : RoundValue) {was now : StoreValue} {output : List ℕ} → HasPlayed workers played was now output
-    → HasRoomFor (load_count all) was → all ≡ played ++ round ∷ left → HasRoomFor (length round.loads) now
-has_room_for all {played} left round {now} h room whole =
-    let count : load_count all ≡ load_count played + load_count (round ∷ left) = ap load_count whole
-    ∙ sum_by-append (λ (r : RoundValue). length r.loads) played (round ∷ left) in
-    let next : load_count (round ∷ left) ≡ load_count (round ∷ []) + load_count left =
-    sum_by-append (λ (r : RoundValue). length r.loads) (round ∷ []) left in
-    let none : length now.pending ≡ 0 = ap length h.none_pending in
-    omega (arith, room, h.few, h.most, count, next, none)

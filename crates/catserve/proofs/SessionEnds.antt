@@ -22,7 +22,7 @@ use Rattle.catserve.specs.Running.{IsPlayKind}
 use Rattle.catserve.specs.Session.{said, round_end, HaveEnded, StopsBehind, AnswersAll, StopsEarly, EndsFor}
 use Rattle.catserve.specs.Session.{most_lines, BreaksOff}
 use Rattle.catserve.specs.Hearing.{HearingValue, HasTaken, Stays, HearsBad, HearsEnd, HearsNone, HearsNoLine, Begins}
-use Rattle.catserve.specs.Hearing.{silence, unheard, HasPassed, FailsInFront, HearsTooMuch, HearsUndecodable}
+use Rattle.catserve.specs.Hearing.{silence, unheard, HasPassed, FailsInPreamble, HearsTooMuch, HearsUndecodable}
 use Rattle.catserve.specs.Talking.{PlayerValue, AnswersRound, BreaksRound, FailsToAnswer, IsFresh, Conversing}
 use Rattle.catserve.proofs.Playing.{plays_all}
 use Rattle.catserve.proofs.LinesTaken.{stays_put, taken_none, taken_then}
@@ -172,7 +172,7 @@ abbrev pub front_answered : {i j : InputSeen} {o : OutputSeen} {y : HearingValue
 front_answered passed = none_answered passed.taken (omega (arith, passed.number)) (omega (arith, passed.size))
     (record { last = empty_round; says = passed.passes (round_end ∷ []) ∙ refl })
 
-pub front_ends : {i k : InputSeen} (o : OutputSeen) {kind : ScriptKind} {line : ℕ} → FailsInFront i k kind line
+pub front_ends : {i k : InputSeen} (o : OutputSeen) {kind : ScriptKind} {line : ℕ} → FailsInPreamble i k kind line
     → EndsFor None i k o o kind line
 front_ends {k} o {kind} {line} f =
     for_no_line (λ line. ⊥) k f.z kind line (front_answered f.passed) (λ bad. absurd bad) f.none
@@ -338,10 +338,10 @@ all_said {first} {k} {y} {z} {workers} written fresh c h b plays appended =
       written = appended;
     }
 
-nothing_open : (g : Gathered) (begun : Bool) → begun ≡ g.begun → begun ≡ false → g.ended ++ onto_open g [] ≡ g.ended
+pub nothing_open : (g : Gathered) (begun : Bool) → begun ≡ g.begun → begun ≡ false → g.ended ++ onto_open g [] ≡ g.ended
 nothing_open g begun same idle = rw (sym same ∙ idle) (append-nil g.ended)
 
-one_open : (g : Gathered) (begun : Bool) → begun ≡ g.begun → begun ≡ true
+pub one_open : (g : Gathered) (begun : Bool) → begun ≡ g.begun → begun ≡ true
     → g.ended ++ onto_open g [] ≡ g.ended ++ g.current ∷ []
 one_open g begun same busy = rw (sym same ∙ busy) refl
 

@@ -3,7 +3,7 @@ use Rattle.std.proofs.Common.{◌≡◌, ◌∙◌, refl, sym, ap, subst, ℕ, �
 use Rattle.std.proofs.Common.{drop, arith, inl, inr, append_assoc, Option, Some, None, Result, Ok}
 use Rattle.std.specs.List.{concat}
 use Rattle.std.proofs.Math.Seq.{take-add}
-use Rattle.std.proofs.lemmas.List.{append-nil, nil_from_length, take-append-drop, take-append-le}
+use Rattle.std.proofs.lemmas.List.{append_cancel_left, append-nil, nil_from_length, take-append-drop, take-append-le}
 use Rattle.devices.specs.Logs.{AnswersFirst, Event, Gave, Grows, Log, came, given as gave}
 use Rattle.devices.proofs.Logging.{answers_none, answers_so, answers_then, answers_write, came_then, given_then}
 use Rattle.devices.proofs.Logging.{grows_none, grows_then}
@@ -24,16 +24,12 @@ use Rattle.catserve.specs.Talking.{Conversing, IsFresh, PlayerValue}
 use Rattle.catserve.specs.Timing.{ContinuesInTime, GivesSome, HearsInTime, InTime, ReadsOpen, ReadsText, RespondsInTime}
 use Rattle.catserve.specs.Timing.{StillOpen, TalksInTime}
 use Rattle.catserve.proofs.SessionEnds.{Answered, answered, front_answered}
-use Rattle.catserve.proofs.SessionFront.{passed_none}
+use Rattle.catserve.proofs.SessionPreamble.{passed_none}
 use Rattle.catserve.proofs.SessionHears.{hears_said, hears_then}
 use Rattle.catserve.proofs.SessionTalk.{converses_more, converses_none}
 use Rattle.catserve.proofs.SessionWaits.{open_each, open_line, open_text, open_then}
 
 -- ---- reads
-
-append_cancel : (xs ys zs : List ℕ) → xs ++ ys ≡ xs ++ zs → ys ≡ zs
-append_cancel [] ys zs same = same
-append_cancel (x ∷ xs) ys zs same = append_cancel xs ys zs (cc)
 
 -- what came is known
 pub open_known : {a b : Log} {workers : ℕ} {x : Incoming} {more : List ℕ} (reads : ReadsWhile a b (StillOpen workers x))
@@ -53,7 +49,7 @@ reads_open reads = record { events = reads.events; logged = reads.logged; silent
 -- a line was waited for
 pub line_reads : {i j : InputSeen} {workers : ℕ} {a b : Log} {x y : Incoming} (got : HasGot i j x y [])
     → Waits a b x y [] (StillWaits x 0) → ReadsOpen a b workers x got.more
-line_reads {x} {y} got waits = open_known (open_line waits) (append_cancel x.left (came waits.events) got.more
+line_reads {x} {y} got waits = open_known (open_line waits) (append_cancel_left x.left (came waits.events) got.more
     (waits.placed ∙ append-nil y.left ∙ got.behind))
 
 -- a line was waited for, and then more
@@ -68,7 +64,7 @@ open_more {a} {b} {c} {x} {y} got waits reads = record {
   each = open_each got.more got.may waits (reads_open reads);
 } where
   first : came waits.events ≡ got.more
-  first = append_cancel x.left (came waits.events) got.more (waits.placed ∙ append-nil y.left ∙ got.behind)
+  first = append_cancel_left x.left (came waits.events) got.more (waits.placed ∙ append-nil y.left ∙ got.behind)
 
 pub in_time_then : {i j : InputSeen} (k : InputSeen) {a b : Log} (c : Log) (workers : ℕ) {x y : HearingValue}
     (z : HearingValue) (r : Result (Option Heard) SessionFault) (stays : Stays i j x y [])
@@ -129,7 +125,7 @@ text_whole reads = record { events = reads.events; logged = reads.logged; silent
 pub text_came : {i j : InputSeen} {a b : Log} {x y : HearingValue} {end count : ℕ} {bytes : List ℕ}
     (h : HearsText i j x y end count bytes) (reads : ReadsText a b x.input y.input end count bytes)
     → came reads.events ≡ h.taken.more
-text_came {x} {y} {end} h reads = append_cancel x.input.left (came reads.events) h.taken.more
+text_came {x} {y} {end} h reads = append_cancel_left x.input.left (came reads.events) h.taken.more
     (reads.placed ∙ ap (λ bs. (take end x.input.left ++ bs) ++ y.input.left) h.bytes_are ∙ sym h.taken.whole)
 
 -- ---- what was heard

@@ -2,6 +2,7 @@
 use Rattle.std.proofs.Common.{◌≡◌, ◌∙◌, refl, sym, ap, ℕ, ◌+◌, ◌<◌, ◌≤◌, fold, List, [], ◌∷◌, ◌++◌, length, arith}
 use Rattle.std.proofs.Common.{append_assoc, length-append, Option, Some, None}
 use Rattle.std.specs.List.{concat, filter_map}
+use Rattle.std.specs.Io.KnownBytes.{Appends}
 use Rattle.std.proofs.KnownBytes.{Appends-nil, Appends-trans}
 use Rattle.std.proofs.lemmas.List.{append-nil}
 use Rattle.std.proofs.lemmas.List.Folds.{concat-append}
@@ -11,7 +12,7 @@ use Rattle.live_versions.specs.Batches.{version_of}
 use Rattle.live_versions.specs.Store.{StoreValue, HasRoom}
 use Rattle.script_text.specs.ScriptLoads.{JobValue}
 use Rattle.script_text.specs.CommandValues.{listed}
-use Rattle.script_text.specs.Script.{Command, Load, Ask, Go, RoundValue, QuestionValue}
+use Rattle.script_text.specs.Script.{Command, Load, Ask, Go, RoundValue}
 use Rattle.script_text.specs.Gathering.{Gathered, empty_round, nothing, gathered, loads_so_far}
 use Rattle.script_text.proofs.Parsing.{few_more}
 use Rattle.catserve.specs.Asking.{readers_of}
@@ -21,7 +22,7 @@ use Rattle.devices.specs.Devices.{InputSeen, OutputSeen}
 use Rattle.catserve.specs.Session.{HaveEnded}
 use Rattle.catserve.specs.Hearing.{HearingValue, Hears, size_behind}
 use Rattle.catserve.specs.Talking.{PlayerValue, AnswersRound, MakesLoad, GivesQuestion, Responds, IsFresh, HasTalked}
-use Rattle.catserve.specs.Talking.{GivesAll, HasOpen, Conversing}
+use Rattle.catserve.specs.Talking.{HasOpen, Conversing}
 use Rattle.catserve.proofs.Asked.{asked_more, count_of, readers-given}
 use Rattle.catserve.proofs.Playing.{loads_more, plays_more, plays_none, few_outcomes}
 use Rattle.catserve.proofs.LinesTaken.{taken_none, taken_then}
@@ -35,28 +36,6 @@ loaded_none {store} none = record {
   loaded = record { outcomes = []; each = tt; pending_are = sym (append-nil store.pending); written = none };
   seen = refl;
   most = refl;
-}
-
--- one load more
-pub loaded_more : {loads : List JobValue} {load : JobValue} {before : StoreValue} {lines : List ℕ}
-    {old new : PlayerValue} → HasLoaded loads before old.store lines old.held → MakesLoad load old new
-    → HasLoaded (loads ++ load ∷ []) before new.store lines new.held
-loaded_more loaded makes = record {
-  loaded = loads_more loaded.loaded makes.loads;
-  seen = makes.seen ∙ loaded.seen;
-  most = makes.most ∙ loaded.most;
-}
-
--- one question more
-pub given_more : {questions : List QuestionValue} (question : QuestionValue) {old mid new : PlayerValue}
-    → GivesAll questions old mid → GivesQuestion question.worker question.query mid new
-    → GivesAll (questions ++ question ∷ []) old new
-given_more {questions} question {mid} {new} all gives = record {
-  asked = asked_more 0 question.worker question.worker questions question.query mid.desks new.desks (omega arith)
-      all.asked gives.gives;
-  readers = readers-given mid.desks new.desks question.worker question.query gives.gives ∙ all.readers;
-  store = gives.store ∙ all.store;
-  held = gives.held ∙ all.held;
 }
 
 -- a round whose lines begin with nothing, after what was written
@@ -107,7 +86,11 @@ pub talked_load : {workers : ℕ} {g : Gathered} {start : StoreValue} {old new :
 talked_load {g} talked makes = record {
   before = talked.before;
   played = talked.played;
-  loaded = loaded_more talked.loaded makes;
+  loaded = record {
+    loaded = loads_more talked.loaded.loaded makes.loads;
+    seen = makes.seen ∙ talked.loaded.seen;
+    most = makes.most ∙ talked.loaded.most;
+  };
   asked = rw makes.desks (rw (← append-nil g.current.questions) at talked.asked);
   book = rw makes.desks (rw (← makes.seen) at talked.book);
   count = ap length makes.desks ∙ talked.count;
@@ -143,6 +126,44 @@ talked_go {new} talked a = record {
   count = a.count ∙ talked.count;
   begun = a.begun;
 }
+
+-- what a line says was done
+pub talked_more : {workers : ℕ} {g : Gathered} {start : StoreValue} {old : PlayerValue} (new : PlayerValue)
+    (o o' : OutputSeen) {written : List ℕ} (first : Option (List ℕ)) (command : Option Command)
+    → HasTalked workers g start old written → Appends first o.bytes written → Responds command old new o o'
+    → (more : List ℕ) × HasTalked workers (fold gathered g (listed command)) start new more
+    × Appends first o'.bytes more
+talked_more new o o' {written} first None talked output (same, kept) = (written, rw (← same) at talked, rw kept output)
+talked_more new o o' {written} first (Some (Load load)) talked output (makes, kept) =
+    (written, talked_load talked makes, rw kept output)
+talked_more new o o' {written} first (Some (Ask worker query)) talked output (gives, kept) =
+    (written, talked_ask talked gives, rw kept output)
+talked_more new o o' {written} first (Some Go) talked output answers = (
+  written ++ answers.lines,
+  talked_go talked answers,
+  Appends-trans first o.bytes o'.bytes written answers.lines output answers.written,
+)
+
+-- there is room for one load more
+pub room_left : {workers : ℕ} {g : Gathered} {start talk : PlayerValue} {written : List ℕ}
+    → HasTalked workers g start.store talk written → IsFresh workers start
+    → loads_so_far g < 18446744073709551615 → HasRoom talk.store
+room_left {g} t fresh few =
+    let all = t.loaded.loaded in
+    omega (
+      arith,
+      few,
+      t.played.few,
+      t.played.most,
+      t.loaded.most,
+      fresh.room,
+      ap (λ (s : SeenValue). version_of s.batches) t.loaded.seen,
+      ap version_of fresh.none_published,
+      ap length t.played.none_pending,
+      ap length all.pending_are,
+      length-append t.before.pending (filter_map accepted_load all.outcomes),
+      few_outcomes g.current.loads all.outcomes all.each,
+    )
 
 -- ---- the session
 
@@ -254,21 +275,4 @@ converses_more {o} {o'} {o''} {z} (Some Go) c h answers =
 pub has_room : {workers : ℕ} {i j : InputSeen} {o o' : OutputSeen} {x y : HearingValue} {start talk : PlayerValue}
     → Conversing workers i j o o' x y start talk → IsFresh workers start → y.number < 18446744073709551616
     → HasRoom talk.store
-has_room c fresh small =
-    let t = c.talked in
-    let all = t.loaded.loaded in
-    omega (
-      arith,
-      small,
-      c.heard.few,
-      t.played.few,
-      t.played.most,
-      t.loaded.most,
-      fresh.room,
-      ap (λ (s : SeenValue). version_of s.batches) t.loaded.seen,
-      ap version_of fresh.none_published,
-      ap length t.played.none_pending,
-      ap length all.pending_are,
-      length-append t.before.pending (filter_map accepted_load all.outcomes),
-      few_outcomes c.g.current.loads all.outcomes all.each,
-    )
+has_room c fresh small = room_left c.talked fresh (omega (arith, small, c.heard.few))

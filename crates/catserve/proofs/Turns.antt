@@ -1,6 +1,6 @@
 -- A loop over a list that is taken apart from its front.
-use Rattle.std.proofs.Common.{◌≡◌, ◌∙◌, refl, sym, ap, ℕ, ◌+◌, List, [], ◌∷◌, ◌++◌, length, append_assoc, arith}
-use Rattle.std.proofs.lemmas.List.{append-nil}
+use Rattle.std.proofs.Common.{◌≡◌, ◌∙◌, sym, ap, ℕ, ◌+◌, List, [], ◌∷◌, ◌++◌, length, append_assoc, arith}
+use Rattle.std.proofs.lemmas.List.{append-nil, nil_from_length}
 
 -- the list is what was taken, followed by what is left; `count` elements are left
 pub record HasTaken {X : Type 0} (all taken left : List X) (count : ℕ) : Type 0 where
@@ -14,11 +14,7 @@ takes_one {taken} {rest} x h next one = record {
   count_is = omega (arith, h.count_is, ap length next, one);
 }
 
-none_left : {X : Type 0} (xs : List X) → length xs ≡ 0 → xs ≡ []
-none_left [] e = refl
-none_left (x ∷ xs) e = absurd (omega arith)
-
 pub takes_all : {X : Type 0} {all taken left : List X} {count : ℕ} → HasTaken all taken left count → count ≡ 0 → taken
     ≡ all
 takes_all {taken} {left} h none =
-    sym (append-nil taken) ∙ ap (λ xs. taken ++ xs) (sym (none_left left (sym h.count_is ∙ none))) ∙ h.whole
+    sym (append-nil taken) ∙ ap (λ xs. taken ++ xs) (sym (nil_from_length left (sym h.count_is ∙ none))) ∙ h.whole

@@ -58,3 +58,11 @@ pub writes_all : {E : Type 0} (whole out with_run rest : List ℕ) (r : Result (
 writes_all whole out with_run rest (Ok x) h none e = e ∙ ap (λ zs. out ++ zs)
     (sym (escaped-plain rest (λ k lt. none k (omega arith) lt))) ∙ h
 writes_all whole out with_run rest (Err x) h none e = tt
+
+-- ---- lines of fields
+
+pub two_fields : (a b : List ℕ) → a ++ 9 ∷ (b ++ 10 ∷ []) ≡ (a ++ 9 ∷ b) ++ 10 ∷ []
+two_fields a b = sym (append_assoc a (9 ∷ b) (10 ∷ []))
+
+pub three_fields : (a b d : List ℕ) → a ++ 9 ∷ (b ++ 9 ∷ (d ++ 10 ∷ [])) ≡ (a ++ 9 ∷ (b ++ 9 ∷ d)) ++ 10 ∷ []
+three_fields a b d = ap (λ xs. a ++ 9 ∷ xs) (two_fields b d) ∙ two_fields a (b ++ 9 ∷ d)

@@ -19,8 +19,8 @@ use Rattle.script_text.specs.Texts.{most_script}
 use Rattle.script_text.specs.declared.fault.ScriptKind.{ScriptKind}
 use Rattle.script_text.specs.declared.fault.ScriptKind.TheVariants.{TooLarge, NotUtf8, BadLine, ReadFault, Memory}
 use Rattle.catserve.specs.declared.session_fault.SessionFault.{SessionFault}
-use Rattle.catserve.specs.declared.said.FrontLine.{FrontLine}
-use Rattle.catserve.specs.declared.said.FrontLine.TheVariants as front_line
+use Rattle.catserve.specs.declared.said.PreambleLine.{PreambleLine}
+use Rattle.catserve.specs.declared.said.PreambleLine.TheVariants as preamble_line
 use Rattle.catserve.specs.declared.hearing.Heard.{Heard}
 use Rattle.catserve.specs.Run.{FailsToRead}
 use Rattle.catserve.specs.Session.{most_lines, round_end, said as meant}
@@ -145,12 +145,12 @@ abbrev pub HearsNone : InputSeen → InputSeen → ℕ → HearingValue → Hear
 HearsNone i i' workers x y = HearsNoLine (HearsBad i i' workers x y) i i' x y
 
 -- what a line before the first command is
-abbrev pub IsFrontLine : List ℕ → FrontLine → Type 0
-IsFrontLine line front_line.NotUtf8 = ¬ IsUtf8 line
-IsFrontLine line front_line.Blank = IsUtf8 line × (is_blank (without_end line) ≡ true)
-IsFrontLine line (front_line.Workers count) = IsUtf8 line × (is_blank (without_end line) ≡ false)
+abbrev pub IsPreambleLine : List ℕ → PreambleLine → Type 0
+IsPreambleLine line preamble_line.NotUtf8 = ¬ IsUtf8 line
+IsPreambleLine line preamble_line.Blank = IsUtf8 line × (is_blank (without_end line) ≡ true)
+IsPreambleLine line (preamble_line.Workers count) = IsUtf8 line × (is_blank (without_end line) ≡ false)
     × (workers_line (fields (without_end line)) ≡ Some count)
-IsFrontLine line front_line.Other = IsUtf8 line × (is_blank (without_end line) ≡ false)
+IsPreambleLine line preamble_line.Other = IsUtf8 line × (is_blank (without_end line) ≡ false)
     × (workers_line (fields (without_end line)) ≡ None)
 
 -- where the next line ends, if one begins; else the input has ended
@@ -204,7 +204,7 @@ HearsOne i i' workers x y (Ok (Some thing)) = Hears i i' workers x y (commands_o
 HearsOne i i' workers x y (Ok None) = HearsEnd i i' x y
 HearsOne i i' workers x y (Err fault) = HearsNone i i' workers x y fault.kind fault.line
 
--- ---- the front of a session
+-- ---- the preamble of a session
 
 -- a session whose input wasn't read
 abbrev pub unheard : HearingValue
@@ -218,8 +218,8 @@ pub record HasPassed (i i' : InputSeen) (x y : HearingValue) (front : List (List
   pub size : y.size ≡ x.size + length (concat front)
   pub utf8 : IsUtf8 (concat front)
 
--- the front of a session couldn't be heard whole; no line of it is bad
-pub record FailsInFront (i i' : InputSeen) (kind : ScriptKind) (line : ℕ) : Type 0 where
+-- the preamble of a session couldn't be heard whole; no line of it is bad
+pub record FailsInPreamble (i i' : InputSeen) (kind : ScriptKind) (line : ℕ) : Type 0 where
   pub mid : InputSeen
   pub y : HearingValue
   pub z : HearingValue

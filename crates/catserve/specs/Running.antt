@@ -1,5 +1,6 @@
 -- Private: the steps of a run.
-use Rattle.std.specs.Prelude.{◌≡◌, ⊤, ℕ, ◌+◌, ◌≤◌, List, [], ◌∷◌, ◌++◌, All, Result, Ok, Err}
+use Rattle.std.specs.Prelude.{◌≡◌, ⊤, ℕ, ◌+◌, ◌≤◌, List, [], ◌∷◌, ◌++◌, All, Option, Result, Ok, Err}
+use Rattle.std.specs.Io.KnownBytes.{Appends}
 use Rattle.std.specs.List.{AllZip, filter_map, flat_map}
 use Rattle.live_set.specs.Loads.{LoadValue}
 use Rattle.script_text.specs.declared.fault.ScriptKind.{ScriptKind}
@@ -7,16 +8,21 @@ use Rattle.script_text.specs.declared.fault.ScriptKind.TheVariants.{ReadFault, W
 use Rattle.script_text.specs.declared.fault.ScriptKind.TheVariants.{Memory}
 use Rattle.live_versions.specs.Batches.{joined, version_of}
 use Rattle.live_versions.specs.Seen.{SeenValue}
-use Rattle.live_versions.specs.Store.{StoreValue, accepted}
+use Rattle.live_versions.specs.Store.{StoreValue}
+use Rattle.live_versions.specs.declared.fault.StoreFault.{StoreFault}
+use Rattle.live_versions.specs.declared.fault.StoreFault.TheVariants as store_fault
+use Rattle.desks.specs.declared.job.Accepted as job
+use Rattle.desks.specs.declared.job.Accepted.TheVariants as accepted
 use Rattle.desks.specs.declared.desk.Desk.{Desk}
 use Rattle.catserve.specs.Asking.{readers_of, AreAsked}
 use Rattle.script_text.specs.Script.{load_count}
 use Rattle.desks.specs.Jobs as jobs
 use Rattle.desks.specs.declared.desk.ServeFault.{ServeFault}
 use Rattle.desks.specs.declared.desk.ServeFault.TheVariants as fault
-use Rattle.script_text.specs.ScriptLoads.{JobValue}
-use Rattle.script_text.specs.Script.{RoundValue, ScriptValue}
-use Rattle.catserve.specs.Rounds.{Outcome, IsOutcome, outcome_line, accepted_load, job_source, Plays, PlaysAll}
+use Rattle.script_text.specs.ScriptLoads.{JobValue, SourceValue, Po, Mo}
+use Rattle.script_text.specs.Script.{Command, RoundValue, ScriptValue, rounds_of}
+use Rattle.catserve.specs.Output.{accepted_line, accepted_mo_line, refused_line, refused_mo_line, unnamed_line}
+use Rattle.catserve.specs.Rounds.{Outcome, IsOutcome, outcome_line, accepted_load, Plays, PlaysAll}
 use Rattle.script_text.specs.Texts.{IsRefused, IsScript}
 use Rattle.devices.specs.Devices.{InputSeen}
 use Rattle.catserve.specs.Run.{FailsToRead}
@@ -30,13 +36,23 @@ pub record AreReady (seen : SeenValue) (desks : List Desk) : Type 0 where
   pub book : HaveBook seen desks
   pub free : AreAsked 0 [] desks
 
--- a store has room for `count` loads more
-abbrev pub HasRoomFor : ℕ → StoreValue → Type 0
-HasRoomFor count store = accepted store + count ≤ store.most
+-- the source of a job as that of a load
+abbrev pub load_source : jobs.SourceValue → SourceValue
+load_source (jobs.Po text options) = Po text options
+load_source (jobs.Mo bytes) = Mo bytes
 
--- a load as a job
-abbrev pub job_of : JobValue → jobs.JobValue
-job_of load = record { domain = load.domain; locale = load.locale; source = job_source load.source }
+-- a job as a load
+abbrev pub load_of : jobs.JobValue → JobValue
+load_of job = record { domain = job.domain; locale = job.locale; source = load_source job.source }
+
+-- the line of a load that returned this
+abbrev pub IsLineOf : Result job.Accepted StoreFault → List ℕ → Type 0
+IsLineOf (Ok (accepted.Po stats)) line = line ≡ accepted_line stats
+IsLineOf (Ok (accepted.Mo entries)) line = line ≡ accepted_mo_line entries
+IsLineOf (Err store_fault.BadName) line = line ≡ unnamed_line
+IsLineOf (Err (store_fault.Refused fault)) line = line ≡ refused_line fault.kind fault.line
+IsLineOf (Err (store_fault.RefusedMo fault)) line = line ≡ refused_mo_line fault
+IsLineOf (Err _) line = ⊥
 
 -- a load was made: its outcome, the pending loads, and its line
 pub record LoadsOne (load : JobValue) (pending pending' : List LoadValue) (before after : List ℕ) : Type 0 where
@@ -100,6 +116,16 @@ IsPlayKind _ = ⊥
 abbrev pub IsPlayFault : {T : Type 0} → Result T ScriptKind → Type 0
 IsPlayFault (Ok x) = ⊤
 IsPlayFault (Err kind) = IsPlayKind kind
+
+-- these commands were played, and their output was written
+abbrev pub HasPlayedAll : ℕ → List Command → (old new : Option (List ℕ)) → Type 0
+HasPlayedAll workers commands old new = (output : List ℕ) × PlaysAll workers [] (rounds_of commands) output
+    × Appends old new output
+
+-- or they weren't, for one of these
+abbrev pub CutsShort : ScriptKind → Type 0
+CutsShort WriteFault = ⊤
+CutsShort kind = IsPlayKind kind
 
 -- why a script wasn't read
 abbrev pub EndsReading : InputSeen → InputSeen → ScriptKind → ℕ → Type 0

@@ -9,13 +9,13 @@ use Rattle.live_set.specs.Asks.{QueryValue}
 use Rattle.live_versions.specs.Store.{StoreValue}
 use Rattle.script_text.specs.ScriptLoads.{JobValue}
 use Rattle.desks.specs.declared.desk.Desk.{Desk}
-use Rattle.script_text.specs.Script.{Command, Load, Ask, Go, QuestionValue, commands_from, script_of}
+use Rattle.script_text.specs.Script.{Command, Load, Ask, Go, commands_from, script_of}
 use Rattle.script_text.specs.ScriptFields.{most_workers}
 use Rattle.script_text.specs.Gathering.{Gathered, going_on, loads_so_far}
 use Rattle.script_text.specs.declared.fault.ScriptKind.{ScriptKind}
 use Rattle.script_text.specs.declared.fault.ScriptKind.TheVariants.{WriteFault, NoPlace, Closed, Join, Memory}
 use Rattle.catserve.specs.declared.session_fault.SessionFault.{SessionFault}
-use Rattle.catserve.specs.Asking.{AreAsked, GivesOne, readers_of}
+use Rattle.catserve.specs.Asking.{AreAsked, GivesOne}
 use Rattle.catserve.specs.Running.{AreReady, Finishes, HasLoaded, HasPlayed, HaveBook, LoadsOne}
 use Rattle.catserve.specs.Session.{HaveEnded, Converses}
 use Rattle.catserve.specs.Hearing.{HearingValue, HasTaken, Begins}
@@ -77,28 +77,17 @@ FailsToAnswer old o o' Join = o' ≡ o
 FailsToAnswer old o o' Memory = o' ≡ o
 FailsToAnswer old o o' _ = ⊥
 
--- questions were given, one after another, to desks that were asked nothing
-pub record GivesAll (questions : List QuestionValue) (old new : PlayerValue) : Type 0 where
-  pub asked : AreAsked 0 questions new.desks
-  pub readers : readers_of new.desks ≡ readers_of old.desks
-  pub store : new.store ≡ old.store
-  pub held : new.held ≡ old.held
-
--- a player before its first round, with this number of workers and room for `most` loads
-pub record IsNew (workers most : ℕ) (talk : PlayerValue) : Type 0 where
+-- a player before its first round, with this number of workers
+pub record IsFresh (workers : ℕ) (talk : PlayerValue) : Type 0 where
   pub ready : AreReady talk.store.seen talk.desks
   pub count : length talk.desks ≡ workers
   pub some : 1 ≤ workers
   pub few : workers ≤ most_workers
   pub none_published : talk.store.seen.batches ≡ []
   pub none_pending : talk.store.pending ≡ []
-  pub room : talk.store.most ≡ most
+  pub room : talk.store.most ≡ most_counted
   pub held : talk.held ≡ []
   pub begun : talk.begun ≡ false
-
--- the player of a session before its first round
-abbrev pub IsFresh : ℕ → PlayerValue → Type 0
-IsFresh workers talk = IsNew workers most_counted talk
 
 -- the rounds that have ended were played, and their output is written; the loads of the open one were made, and its
 -- questions are given to the desks
@@ -112,7 +101,7 @@ pub record HasTalked (workers : ℕ) (g : Gathered) (start : StoreValue) (talk :
     pub count : length talk.desks ≡ workers
     pub begun : talk.begun ≡ g.begun
 
--- these lines were heard after the front of a session
+-- these lines were heard after the preamble of a session
 pub record HasHeard (workers first : ℕ) (lines : List (List ℕ)) (g : Gathered) (number : ℕ) : Type 0 where
   pub going : (behind : List (List ℕ)) → script_of workers (commands_from workers first 0 (lines ++ behind))
       ≡ going_on workers g (commands_from workers number 0 behind)

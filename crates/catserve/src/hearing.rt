@@ -9,10 +9,10 @@ ghost use Rattle.line_input.specs.Waiting.{ReadsWhile, StillCounts, StillWaits, 
 ghost use Rattle.catserve.specs.Timing.{BeginsInTime, HearsInTime, ReadsText};
 ghost use Rattle.catserve.specs.Run.{input_seen};
 ghost use Rattle.catserve.specs.Session.{most_lines, AnswersInTime};
-ghost use Rattle.catserve.specs.Hearing.{unheard, EndsNext, FailsFor, FailsInFront, HearsNothing, HearsNoText};
+ghost use Rattle.catserve.specs.Hearing.{unheard, EndsNext, FailsFor, FailsInPreamble, HearsNothing, HearsNoText};
 ghost use Rattle.catserve.specs.Hearing.{commands_of, line_of_kind, size_behind, HearsText};
 
-use crate::said::{FrontLine, read_front_line, read_said};
+use crate::said::{PreambleLine, read_preamble_line, read_said};
 use crate::session_fault::SessionFault;
 use devices::Source;
 use line_input::{LineInput, LineInputFault};
@@ -51,15 +51,6 @@ impl Model for Hearing {
     ghost invariant = { λ h. h.size ≤ most_script };
 }
 
-/// A copy of some bytes.
-fn copied(alloc: Global, bytes: &[u8]) -> Result<Vec<u8>, AllocError>
-    ensures { IfOk result (λ copy. copy.items ≡ bytes.now) }
-{
-    let mut copy = Vec::new(alloc);
-    copy.extend_from_slice(bytes)?;
-    Ok(copy)
-}
-
 impl Hearing {
     /// A session whose input hasn't been read.
     pub(crate) fn new(alloc: Global) -> Result<Hearing, AllocError>
@@ -93,9 +84,7 @@ impl Hearing {
             LineInputFault::Memory => SessionFault::from(ScriptKind::Memory),
         }
     }
-}
 
-impl Hearing {
     /// Takes off the next `bytes` bytes, which are `lines` lines.
     fn take(&mut self, bytes: usize, lines: u64)
         requires size { self.old.size + bytes ≤ most_script }
@@ -167,7 +156,7 @@ impl Hearing {
         if !is_utf8(&left[..text_end]) {
             return Err(self.fault_here(ScriptKind::NotUtf8));
         }
-        let Ok(bytes) = copied(alloc, &left[end..text_end]) else {
+        let Ok(bytes) = left[end..text_end].to_vec(alloc) else {
             return Err(SessionFault::from(ScriptKind::Memory));
         };
         self.take(text_end, 1 + count);
@@ -238,25 +227,25 @@ impl Hearing {
 
     /// The number of workers: what the first line that says something gives, or `DEFAULT_WORKERS`. Takes off the lines
     /// before it that say nothing, and the line itself if it gives the number.
-    pub(crate) fn hear_front<R: Source>(&mut self, reader: &mut R) -> Result<u32, SessionFault>
+    pub(crate) fn hear_preamble<R: Source>(&mut self, reader: &mut R) -> Result<u32, SessionFault>
         requires { self.old ≡ unheard }
         ensures begins { let input = input_seen R.remaining R.reads R.failures in
             IfOk result (λ workers. BeginsInTime None (input reader.old) (input reader.new) self.new workers
             (R.log reader.old) (R.log reader.new)) }
         ensures fault { let input = input_seen R.remaining R.reads R.failures in
-            IfErr result (λ fault. FailsInFront (input reader.old) (input reader.new) fault.kind fault.line) }
+            IfErr result (λ fault. FailsInPreamble (input reader.old) (input reader.new) fault.kind fault.line) }
         ensures in_time { IfErr result (λ _. AnswersInTime None (R.log reader.old) (R.log reader.new)) }
         ensures keeps { R.output reader.new ≡ R.output reader.old }
     {
-        'front: while let Some(end) = self.next_end(reader)? {
-            match read_front_line(&self.input.left()[..end]) {
-                FrontLine::NotUtf8 => return Err(self.fault_here(ScriptKind::NotUtf8)),
-                FrontLine::Blank => self.take(end, 1),
-                FrontLine::Workers(workers) => {
+        'preamble: while let Some(end) = self.next_end(reader)? {
+            match read_preamble_line(&self.input.left()[..end]) {
+                PreambleLine::NotUtf8 => return Err(self.fault_here(ScriptKind::NotUtf8)),
+                PreambleLine::Blank => self.take(end, 1),
+                PreambleLine::Workers(workers) => {
                     self.take(end, 1);
                     return Ok(workers);
                 }
-                FrontLine::Other => return Ok(DEFAULT_WORKERS),
+                PreambleLine::Other => return Ok(DEFAULT_WORKERS),
             }
         }
         Ok(DEFAULT_WORKERS)

@@ -1,13 +1,14 @@
 //! The lines that a run writes.
-ghost use Rattle.std.specs.Prelude.{◌≡◌, ◌++◌, OnOk, string_bytes, codes};
-ghost use Rattle.std.specs.Fmt.{decimal};
+ghost use Rattle.std.specs.Prelude.{◌≡◌, ◌≢◌, ◌++◌, Err, IfOk, OnOk, string_bytes};
 ghost use Rattle.catalogue.specs.Meaning.{rank};
 ghost use Rattle.mo_file.specs.MoReading.{rank as mo_rank};
-ghost use Rattle.catserve.specs.Output.{escape, escaped, accepted_line, accepted_mo_line, refused_line};
-ghost use Rattle.catserve.specs.Output.{refused_mo_line, unnamed_line, version_line, answer_line};
+ghost use Rattle.catserve.specs.Output.{escape, escaped, version_line, answer_line};
+ghost use Rattle.catserve.specs.Running.{IsLineOf};
 
 use bstr::ByteSlice;
-use catalogue::{LoadFault, LoadKind, Stats};
+use catalogue::LoadKind;
+use desks::Accepted;
+use live_versions::StoreFault;
 use mo_file::MoFault;
 use std::alloc::{AllocError, Global};
 
@@ -89,62 +90,35 @@ fn mo_rank_of(fault: MoFault) -> u32
     }
 }
 
-/// Writes the line of a load of a PO text that was accepted.
-pub(crate) fn write_accepted(
+/// The line of a load. Memory may have run out in the load, too.
+pub(crate) fn load_line(
     alloc: Global,
-    output: &mut Vec<u8>,
-    stats: Stats,
-) -> Result<(), AllocError>
-    ensures { OnOk result (output.new.items ≡ output.old.items ++ accepted_line stats) }
+    made: Result<Accepted, StoreFault>,
+) -> Result<String, AllocError>
+    requires { made ≢ Err StoreFault.VersionsSpent }
+    ensures { IfOk result (λ line. IsLineOf made (string_bytes line)) }
 {
-    let (translated, fuzzy, untranslated) = (stats.translated, stats.fuzzy, stats.untranslated);
-    let line = format!(in alloc; "accepted\t{translated}\t{fuzzy}\t{untranslated}\n")?;
-    write_text(output, line.as_str())
-}
-
-/// Writes the line of a load of an MO file that was accepted.
-pub(crate) fn write_accepted_mo(
-    alloc: Global,
-    output: &mut Vec<u8>,
-    entries: u64,
-) -> Result<(), AllocError>
-    ensures { OnOk result (output.new.items ≡ output.old.items ++ accepted_mo_line entries) }
-{
-    let line = format!(in alloc; "accepted-mo\t{entries}\n")?;
-    write_text(output, line.as_str())
-}
-
-/// Writes the line of a load whose PO text is refused.
-pub(crate) fn write_refused(
-    alloc: Global,
-    output: &mut Vec<u8>,
-    fault: LoadFault,
-) -> Result<(), AllocError>
-    ensures { OnOk result (output.new.items ≡ output.old.items ++ refused_line fault.kind fault.line) }
-{
-    let (number, at) = (rank_of(fault.kind), fault.line);
-    let line = format!(in alloc; "refused\t{number}\t{at}\n")?;
-    write_text(output, line.as_str())
-}
-
-/// Writes the line of a load whose MO file is refused.
-pub(crate) fn write_refused_mo(
-    alloc: Global,
-    output: &mut Vec<u8>,
-    fault: MoFault,
-) -> Result<(), AllocError>
-    ensures { OnOk result (output.new.items ≡ output.old.items ++ refused_mo_line fault) }
-{
-    let number = mo_rank_of(fault);
-    let line = format!(in alloc; "refused-mo\t{number}\n")?;
-    write_text(output, line.as_str())
-}
-
-/// Writes the line of a load for what is no name.
-pub(crate) fn write_unnamed(output: &mut Vec<u8>) -> Result<(), AllocError>
-    ensures { OnOk result (output.new.items ≡ output.old.items ++ unnamed_line) }
-{
-    write_text(output, "refused\tname\n")
+    match made {
+        Ok(Accepted::Po(stats)) => {
+            let (translated, fuzzy) = (stats.translated, stats.fuzzy);
+            let untranslated = stats.untranslated;
+            let line = format!(in alloc; "accepted\t{translated}\t{fuzzy}\t{untranslated}\n")?;
+            Ok(line)
+        }
+        Ok(Accepted::Mo(entries)) => format!(in alloc; "accepted-mo\t{entries}\n"),
+        Err(StoreFault::BadName) => String::from_str(alloc, "refused\tname\n"),
+        Err(StoreFault::Refused(fault)) => {
+            let (number, at) = (rank_of(fault.kind), fault.line);
+            let line = format!(in alloc; "refused\t{number}\t{at}\n")?;
+            Ok(line)
+        }
+        Err(StoreFault::RefusedMo(fault)) => {
+            let number = mo_rank_of(fault);
+            format!(in alloc; "refused-mo\t{number}\n")
+        }
+        Err(StoreFault::VersionsSpent) => unreachable!(),
+        Err(StoreFault::Memory) => Err(AllocError),
+    }
 }
 
 /// Writes the line of what a round published.

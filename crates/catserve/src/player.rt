@@ -1,21 +1,22 @@
-//! The player of rounds, for scripts and sessions: a store, the desks of its workers, and the lines that are held back.
-ghost use Rattle.std.specs.Prelude.{◌≡◌, ◌≤◌, [], false, IfOk, IfErr, OnOk, length};
-ghost use Rattle.catserve.specs.Asking.{AreAsked};
+//! The player of scripts and sessions: a store, the desks of its workers, and the lines that are held back.
+ghost use Rattle.std.specs.Prelude.{◌≡◌, ◌≤◌, IfOk, IfErr, OnOk, length};
 ghost use Rattle.live_versions.specs.Store.{HasRoom};
 ghost use Rattle.script_text.specs.ScriptFields.{most_workers};
-ghost use Rattle.catserve.specs.Run.{output_seen};
 ghost use Rattle.catserve.specs.Hearing.{command_of};
-ghost use Rattle.catserve.specs.Running.{AreReady, HasLoaded, HasRoomFor, HaveBook, IsPlayFault, PlaysOne};
-ghost use Rattle.catserve.specs.Talking.{FailsToAnswer, GivesAll, GivesQuestion, IsNew, MakesLoad};
+ghost use Rattle.catserve.specs.Run.{output_seen};
+ghost use Rattle.catserve.specs.Running.{HaveBook, IsPlayFault, load_of};
+ghost use Rattle.catserve.specs.Talking.{FailsToAnswer, GivesQuestion, IsFresh, MakesLoad};
 ghost use Rattle.catserve.specs.Timing.{GivesRound, GivesSome, RespondsInTime};
 
 use crate::asking::{give, open_desks};
 use crate::hearing::Heard;
-use crate::round::{finish, make_load};
-use desks::Desk;
+use crate::output::load_line;
+use crate::round::finish;
+use desks::{Desk, Job, Source, load_job};
 use devices::Sink;
+use live_set::Query;
 use live_versions::{OpenFault, Publisher, open_store};
-use script_text::{Command, Question, Round, ScriptKind, ScriptLoad};
+use script_text::{Line, ScriptKind};
 use std::alloc::{AllocError, Global};
 use std::marker::Model;
 use std::sync::Wait;
@@ -39,17 +40,12 @@ impl Model for Player {
 }
 
 impl Player {
-    /// Opens a store with this number of workers, and room for `most` loads.
-    pub(crate) fn open<T: Wait>(
-        rt: &T,
-        alloc: Global,
-        workers: u32,
-        most: u64,
-    ) -> Result<Player, ScriptKind>
-        ensures ok { IfOk result (λ player. IsNew workers most player) }
+    /// Opens a store with this number of workers.
+    pub(crate) fn open<T: Wait>(rt: &T, alloc: Global, workers: u32) -> Result<Player, ScriptKind>
+        ensures ok { IfOk result (λ player. IsFresh workers player) }
         ensures fault { IsPlayFault result }
     {
-        let (publisher, readers) = match open_store(rt, alloc, workers, most) {
+        let (publisher, readers) = match open_store(rt, alloc, workers, u64::MAX) {
             Ok(opened) => opened,
             Err(OpenFault::Memory) => return Err(ScriptKind::Memory),
             Err(_) => return Err(ScriptKind::NoPlace),
@@ -68,18 +64,15 @@ impl Player {
         }
     }
 
-    /// Ends the store. Returns the lines that were held back.
-    pub(crate) fn end<T: Wait>(self, rt: &T) -> Vec<u8>
-        ensures { result.items ≡ self.held }
-    {
+    /// Ends the store.
+    pub(crate) fn end<T: Wait>(self, rt: &T) {
         let Player {
             publisher,
             desks: _,
-            held,
+            held: _,
             begun: _,
         } = self;
         publisher.end(rt);
-        held
     }
 
     /// Whether the open round has a load or a question.
@@ -90,77 +83,23 @@ impl Player {
     }
 
     /// Makes a load, and holds its line back.
-    fn load(&mut self, alloc: Global, load: &ScriptLoad<'_>) -> Result<(), AllocError>
+    fn load(&mut self, alloc: Global, job: Job) -> Result<(), AllocError>
         requires { HasRoom self.old.store }
-        ensures { OnOk result (MakesLoad load.now self.old self.new) }
+        ensures { OnOk result (MakesLoad (load_of job) self.old self.new) }
     {
-        make_load(alloc, &mut self.publisher, load, &mut self.held)?;
+        let made = load_job(alloc, &mut self.publisher, &job);
+        let line = load_line(alloc, made)?;
+        self.held.extend_from_slice(line.as_bytes())?;
         self.begun = true;
         Ok(())
     }
 
     /// Gives a question to the desk of its worker.
-    fn ask(&mut self, question: Question) -> Result<(), AllocError>
-        ensures { OnOk result (GivesQuestion question.worker question.query self.old self.new) }
+    fn ask(&mut self, worker: u32, query: Query) -> Result<(), AllocError>
+        ensures { OnOk result (GivesQuestion worker query self.old self.new) }
     {
-        let Question { worker, query } = question;
         give(self.desks.as_mut_slice(), worker, query)?;
         self.begun = true;
-        Ok(())
-    }
-
-    /// Makes loads, in order, and holds their lines back.
-    fn load_all(&mut self, alloc: Global, loads: &[ScriptLoad<'_>]) -> Result<(), AllocError>
-        requires { HasRoomFor (length loads.now) self.old.store }
-        ensures loaded { OnOk result
-            (HasLoaded loads.now self.old.store self.new.store self.old.held self.new.held) }
-        ensures desks { OnOk result (self.new.desks ≡ self.old.desks) }
-    {
-        'loads: for each in loads {
-            self.load(alloc, each)?;
-        }
-        Ok(())
-    }
-
-    /// Gives questions to the desks of their workers, in order.
-    fn ask_all(&mut self, questions: Vec<Question>) -> Result<(), AllocError>
-        requires { AreAsked 0 [] self.old.desks }
-        ensures { OnOk result (GivesAll questions.items self.old self.new) }
-    {
-        'questions: for question in questions {
-            self.ask(question)?;
-        }
-        Ok(())
-    }
-
-    /// Plays a round, and holds its lines back.
-    pub(crate) fn play<T: Threads + Wait + Sync>(
-        &mut self,
-        rt: &T,
-        alloc: Global,
-        round: Round<'_>,
-    ) -> Result<(), ScriptKind>
-        requires pending { self.old.store.pending ≡ [] }
-        requires ready { AreReady self.old.store.seen self.old.desks }
-        requires count { (1 ≤ length self.old.desks) × (length self.old.desks ≤ most_workers) }
-        requires room { HasRoomFor (length round.loads) self.old.store }
-        ensures ok { IfOk result (λ _. PlaysOne (length self.old.desks) round.entry self.old.store self.new.store
-            self.old.held self.new.held) }
-        ensures ready { OnOk result (AreReady self.new.store.seen self.new.desks) }
-        ensures count { OnOk result (length self.new.desks ≡ length self.old.desks) }
-        ensures fault { IsPlayFault result }
-    {
-        let Round { loads, questions } = round;
-        self.load_all(alloc, loads.as_slice())?;
-        self.ask_all(questions)?;
-        finish(
-            rt,
-            alloc,
-            &mut self.publisher,
-            &mut self.desks,
-            &mut self.held,
-        )?;
-        self.begun = false;
         Ok(())
     }
 
@@ -218,11 +157,40 @@ impl Player {
         ensures keeps { W.input writer.new ≡ W.input writer.old }
     {
         let Heard { line, text } = heard;
-        match line.into_command(text.as_slice()) {
-            None => Ok(()),
-            Some(Command::Load(load)) => Ok(self.load(alloc, &load)?),
-            Some(Command::Ask(question)) => Ok(self.ask(question)?),
-            Some(Command::Go) => self.answer(rt, alloc, writer),
+        match line {
+            Line::Blank => Ok(()),
+            Line::Loads {
+                domain,
+                locale,
+                options,
+                count: _,
+            } => {
+                let source = Source::Po {
+                    bytes: text,
+                    options,
+                };
+                let job = Job {
+                    domain,
+                    locale,
+                    source,
+                };
+                Ok(self.load(alloc, job)?)
+            }
+            Line::LoadsMo {
+                domain,
+                locale,
+                bytes,
+            } => {
+                let source = Source::Mo { bytes };
+                let job = Job {
+                    domain,
+                    locale,
+                    source,
+                };
+                Ok(self.load(alloc, job)?)
+            }
+            Line::Asks { worker, query } => Ok(self.ask(worker, query)?),
+            Line::Goes => self.answer(rt, alloc, writer),
         }
     }
 }

@@ -1,20 +1,14 @@
-//! A round of a script: its loads, and the answers of its workers.
-ghost use Rattle.std.specs.Prelude.{◌≡◌, ◌+◌, ◌≤◌, [], IfOk, IfErr, OnOk, OnErr, length, vec_len};
-ghost use Rattle.live_versions.specs.Store.{HasRoom};
-ghost use Rattle.desks.specs.Jobs.{IsAccepted, IsRefused};
+//! The end of a round: its loads are published, and its questions are answered.
+ghost use Rattle.std.specs.Prelude.{◌≡◌, ◌≤◌, IfOk, OnOk, length, vec_len};
 ghost use Rattle.script_text.specs.ScriptFields.{most_workers};
-ghost use Rattle.catserve.specs.Running.{AreReady, HaveBook, HasRoomFor, IsPlayFault, LoadsOne, LoadsAll};
-ghost use Rattle.catserve.specs.Running.{Finishes, PlaysOne, job_of, kind_of};
+ghost use Rattle.catserve.specs.Running.{AreReady, Finishes, HaveBook, IsPlayFault, kind_of};
 
 use crate::asking::write_all;
-use crate::output::{
-    write_accepted, write_accepted_mo, write_refused, write_refused_mo, write_unnamed,
-    write_version,
-};
-use desks::{Accepted, Desk, Gate, Place, ServeFault, serve};
-use live_versions::{Publisher, StoreFault};
-use script_text::{LoadSource, ScriptKind, ScriptLoad};
-use std::alloc::{AllocError, Global};
+use crate::output::write_version;
+use desks::{Desk, Gate, Place, ServeFault, serve};
+use live_versions::Publisher;
+use script_text::ScriptKind;
+use std::alloc::Global;
 use std::sync::Wait;
 use std::thread::Threads;
 
@@ -23,54 +17,6 @@ struct OpenGate;
 
 impl Gate for OpenGate {
     fn pass(&self, _place: Place, _index: u64) {}
-}
-
-/// Gives a load to the publisher. A refused load changes nothing.
-fn add_load(
-    alloc: Global,
-    publisher: &mut Publisher,
-    load: &ScriptLoad<'_>,
-) -> Result<Accepted, StoreFault>
-    ensures ok { IfOk result (λ answer. IsAccepted publisher.old (job_of load.now) answer publisher.new) }
-    ensures err { IfErr result (IsRefused publisher.old (job_of load.now)) }
-    ensures unchanged { OnErr result (publisher.new ≡ publisher.old) }
-    ensures seen { publisher.new.seen ≡ publisher.old.seen }
-{
-    let (domain, locale) = (load.domain.as_str(), load.locale.as_str());
-    match &load.source {
-        LoadSource::Po { text, options } => {
-            let stats = publisher.load(alloc, domain, locale, text, *options)?;
-            Ok(Accepted::Po(stats))
-        }
-        LoadSource::Mo { bytes } => {
-            let entries = publisher.load_mo(alloc, domain, locale, bytes.as_slice())?;
-            Ok(Accepted::Mo(entries))
-        }
-    }
-}
-
-/// Makes a load, and writes its line.
-pub(crate) fn make_load(
-    alloc: Global,
-    publisher: &mut Publisher,
-    load: &ScriptLoad<'_>,
-    output: &mut Vec<u8>,
-) -> Result<(), AllocError>
-    requires { HasRoom publisher.old }
-    ensures ok { IfOk result (λ _.
-        LoadsOne load.now publisher.old.pending publisher.new.pending output.old.items output.new.items) }
-    ensures seen { publisher.new.seen ≡ publisher.old.seen }
-    ensures most { publisher.new.most ≡ publisher.old.most }
-{
-    match add_load(alloc, publisher, load) {
-        Ok(Accepted::Po(stats)) => write_accepted(alloc, output, stats),
-        Ok(Accepted::Mo(entries)) => write_accepted_mo(alloc, output, entries),
-        Err(StoreFault::BadName) => write_unnamed(output),
-        Err(StoreFault::Refused(fault)) => write_refused(alloc, output, fault),
-        Err(StoreFault::RefusedMo(fault)) => write_refused_mo(alloc, output, fault),
-        Err(StoreFault::VersionsSpent) => unreachable!(),
-        Err(StoreFault::Memory) => Err(AllocError),
-    }
 }
 
 /// The fault of a service as an error of a script.

@@ -1,37 +1,45 @@
 //! A run of a script over a reader and a writer.
-ghost use Rattle.std.specs.Prelude.{◌≤◌, [], IfOk, IfErr, length};
-ghost use Rattle.catserve.specs.Rounds.{HasOutput, PlaysAll};
+ghost use Rattle.std.specs.Prelude.{IfOk, IfErr, length};
+ghost use Rattle.std.specs.List.{flat_map};
+ghost use Rattle.script_text.specs.CommandValues.{listed};
+ghost use Rattle.catserve.specs.Rounds.{HasOutput};
 ghost use Rattle.catserve.specs.Run.{ReadsText, Runs, input_seen, output_seen};
-ghost use Rattle.script_text.specs.Script.{load_count};
-ghost use Rattle.catserve.specs.Running.{EndsPlaying, EndsReading, IsPlayFault};
-ghost use Rattle.catserve.specs.Talking.{IsNew};
+ghost use Rattle.catserve.specs.Running.{CutsShort, EndsPlaying, EndsReading, HasPlayedAll};
+ghost use Rattle.catserve.specs.Talking.{IsFresh};
 
+use crate::hearing::Heard;
 use crate::player::Player;
-use devices::{InputFault, Sink, Source, read_all};
-use script_text::{MOST_SCRIPT, Round, Script, ScriptFault, ScriptKind, read_script};
+use devices::{InputFault, Sink, Source, Writing, read_all};
+use script_text::{MOST_SCRIPT, Said, Script, ScriptFault, ScriptKind, read_script};
 use std::alloc::Global;
 use std::sync::Wait;
 use std::thread::Threads;
 
-/// Plays the rounds of a script, one after another, and holds their lines back.
-fn play_rounds<T: Threads + Wait + Sync>(
+/// Plays the lines of a script, and writes the lines of each round at its end.
+fn play_all<T: Threads + Wait + Sync, W: Sink>(
     rt: &T,
     alloc: Global,
     player: &mut Player,
-    rounds: Vec<Round<'_>>,
+    lines: Vec<Said<'_>>,
+    writer: &mut W,
 ) -> Result<(), ScriptKind>
-    requires fresh { IsNew (length player.old.desks) MOST_SCRIPT player.old }
-    requires room { load_count rounds.items ≤ MOST_SCRIPT }
-    ensures ok { IfOk result (λ _. PlaysAll (length player.old.desks) [] rounds.entry.items player.new.held) }
-    ensures fault { IsPlayFault result }
+    requires { IsFresh (length player.old.desks) player.old }
+    ensures ok { IfOk result (λ _. HasPlayedAll (length player.old.desks) (flat_map listed lines.entry.items)
+        (W.contents writer.old) (W.contents writer.new)) }
+    ensures fault { IfErr result CutsShort }
 {
-    'rounds: for round in rounds {
-        player.play(rt, alloc, round)?;
+    'lines: for said in lines {
+        let Said { line, text } = said;
+        let text = text.to_vec(alloc)?;
+        player.respond(rt, alloc, Heard { line, text }, writer)?;
+    }
+    if player.has_begun() {
+        player.answer(rt, alloc, writer)?;
     }
     Ok(())
 }
 
-/// The output of a text that is a script. Its store has a reader for each worker, and room for all its loads.
+/// The output of a text that is a script. Its store has a reader for each worker.
 fn output_of<T: Threads + Wait + Sync>(
     rt: &T,
     alloc: Global,
@@ -40,12 +48,14 @@ fn output_of<T: Threads + Wait + Sync>(
     ensures ok { IfOk result (λ output. HasOutput text.now output.items) }
     ensures fault { IfErr result (λ fault. EndsPlaying text.now fault.kind fault.line) }
 {
-    let Script { workers, rounds } = read_script(alloc, text)?;
-    let mut player = Player::open(rt, alloc, workers, MOST_SCRIPT as u64)?;
-    let played = play_rounds(rt, alloc, &mut player, rounds);
-    let output = player.end(rt);
+    let Script { workers, said } = read_script(alloc, text)?;
+    let mut player = Player::open(rt, alloc, workers)?;
+    let mut output = Writing::new(Vec::new(alloc));
+    let played = play_all(rt, alloc, &mut player, said, &mut output);
+    player.end(rt);
     match played {
-        Ok(()) => Ok(output),
+        Ok(()) => Ok(output.inner),
+        Err(ScriptKind::WriteFault) => Err(ScriptFault::from(ScriptKind::Memory)),
         Err(kind) => Err(ScriptFault::from(kind)),
     }
 }

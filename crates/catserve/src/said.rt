@@ -3,7 +3,7 @@ ghost use Rattle.std.specs.Prelude.{◌≡◌, IfOk, IfErr, Some};
 ghost use Rattle.line_input.specs.Lines.{without_end};
 ghost use Rattle.script_text.specs.Commands.{line_of};
 ghost use Rattle.script_text.specs.LineValues.{line_value};
-ghost use Rattle.catserve.specs.Hearing.{IsFrontLine, IsUnsaid};
+ghost use Rattle.catserve.specs.Hearing.{IsPreambleLine, IsUnsaid};
 
 use byte_text::split_at_byte;
 use script_text::{Line, LineFault, ScriptKind, read_line, read_workers, says_nothing};
@@ -12,7 +12,7 @@ use std::alloc::Global;
 
 /// What a line before the first command is.
 #[derive(Clone, Copy)]
-pub(crate) enum FrontLine {
+pub(crate) enum PreambleLine {
     /// It isn't UTF-8.
     NotUtf8,
     /// It says nothing.
@@ -49,18 +49,18 @@ pub(crate) fn read_said(alloc: Global, workers: u32, line: &[u8]) -> Result<Line
 }
 
 /// What a line before the first command is.
-pub(crate) fn read_front_line(line: &[u8]) -> FrontLine
-    ensures { IsFrontLine line.now result }
+pub(crate) fn read_preamble_line(line: &[u8]) -> PreambleLine
+    ensures { IsPreambleLine line.now result }
 {
     let Ok(text) = from_utf8(line) else {
-        return FrontLine::NotUtf8;
+        return PreambleLine::NotUtf8;
     };
     let text = without_lf(text);
     if says_nothing(text) {
-        return FrontLine::Blank;
+        return PreambleLine::Blank;
     }
     match read_workers(text) {
-        Ok(workers) => FrontLine::Workers(workers),
-        Err(_) => FrontLine::Other,
+        Ok(workers) => PreambleLine::Workers(workers),
+        Err(_) => PreambleLine::Other,
     }
 }

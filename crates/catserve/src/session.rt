@@ -13,7 +13,7 @@ use std::alloc::Global;
 use std::sync::Wait;
 use std::thread::Threads;
 
-/// Answers what follows the front of a session, to the end of the input.
+/// Answers what follows the preamble of a session, to the end of the input.
 fn converse<T: Threads + Wait + Sync, D: Source + Sink>(
     rt: &T,
     alloc: Global,
@@ -40,7 +40,7 @@ fn converse<T: Threads + Wait + Sync, D: Source + Sink>(
     Ok(())
 }
 
-/// Opens a store with this number of workers, and answers what follows the front of a session.
+/// Opens a store with this number of workers, and answers what follows the preamble of a session.
 fn converse_by_store<T: Threads + Wait + Sync, D: Source + Sink>(
     rt: &T,
     alloc: Global,
@@ -56,9 +56,9 @@ fn converse_by_store<T: Threads + Wait + Sync, D: Source + Sink>(
     ensures in_time { let input = input_seen D.remaining D.reads D.Source.failures in
         ContinuesInTime workers (input device.old) hearing.old (D.log device.old) (D.log device.new) }
 {
-    let mut player = Player::open(rt, alloc, workers, u64::MAX)?;
+    let mut player = Player::open(rt, alloc, workers)?;
     let done = converse(rt, alloc, workers, hearing, &mut player, device);
-    let _open_round = player.end(rt);
+    player.end(rt);
     done
 }
 
@@ -89,7 +89,7 @@ pub fn run_session<T: Threads + Wait + Sync, D: Source + Sink>(
     match workers {
         Some(count) => converse_by_store(rt, alloc, count, &mut hearing, device),
         None => {
-            let count = hearing.hear_front(device)?;
+            let count = hearing.hear_preamble(device)?;
             converse_by_store(rt, alloc, count, &mut hearing, device)
         }
     }

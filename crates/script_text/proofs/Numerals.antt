@@ -1,9 +1,8 @@
 -- What `parse` reads of a text of digits.
 use Rattle.std.proofs.Common.{◌≡◌, refl, sym, ap, ℕ, ◌<◌, ◌^◌, true, false, ltb, List, length, Some, None, Result, Ok}
-use Rattle.std.proofs.Common.{Err, subst, rules, inl, inr}
+use Rattle.std.proofs.Common.{Err, rules, inl, inr}
 use Rattle.std.specs.List.{list_all}
 use Rattle.std.specs.Char.{is_ascii_digit}
-use Rattle.std.specs.Result.{OkIff}
 use Rattle.std.specs.Str.Parse.{digits_value, digits_value_after, ParsesUnsigned}
 use Rattle.std.proofs.lemmas.Bool.{cases_Bool, lt-ltb, ltb-true}
 use Rattle.std.proofs.lemmas.Str.Parse.{IsNumeralModel, numerals_by_fold, parse_digits}

@@ -2,10 +2,11 @@
 use Rattle.std.proofs.Common.{◌≡◌, ◌∙◌, refl, sym, ap, subst, ℕ, zero, suc, ◌+◌, ◌<◌, ◌≤◌, Bool, true, false, cond}
 use Rattle.std.proofs.Common.{List, [], ◌∷◌, ◌++◌, length, map, take, drop, fold, Option, Some, None, Result, Ok, Err}
 use Rattle.std.proofs.Common.{arith, append_assoc, length-append}
-use Rattle.std.specs.List.{concat, onto_first}
+use Rattle.std.specs.List.{concat, flat_map, onto_first}
 use Rattle.std.specs.Str.{IsUtf8}
 use Rattle.std.proofs.lemmas.List.{append-nil}
-use Rattle.std.proofs.lemmas.List.Sums.{sum_by-append}
+use Rattle.std.proofs.lemmas.Grind.{flat_map-append}
+use Rattle.std.proofs.lemmas.List.Sums.{fold-append, sum_by-append}
 use Rattle.std.proofs.lemmas.Bool.{le-leb, lt-leb}
 use Rattle.line_input.specs.Lines.{lines, pieces, without_end}
 use Rattle.script_text.specs.LineFields.{fields}
@@ -14,7 +15,7 @@ use Rattle.script_text.specs.CommandValues.{command_with, listed, text_lines}
 use Rattle.script_text.specs.Script.{Command, Load, Ask, Go, RoundValue, round_of, rounds_of, is_go, Says}
 use Rattle.script_text.specs.Script.{IsBad, saying, and_then, commands_from, load_count, script_of, script_from, script}
 use Rattle.script_text.specs.Gathering.{Gathered, empty_round, nothing, both, gathered, onto_open, all_rounds, going_on}
-use Rattle.script_text.specs.Gathering.{loads_so_far, TakesIn, HasSkipped, HasBegun, HasParsed}
+use Rattle.script_text.specs.Gathering.{loads_so_far, so_far, TakesIn, HasSkipped, HasBegun, HasParsed}
 use Rattle.script_text.specs.Scanning.{IsFirstLine, TakesLines}
 use Rattle.script_text.specs.Texts.{most_script}
 
@@ -70,6 +71,22 @@ more : (commands : List Command) (g : Gathered) (cs : List Command) → g.ended
 more [] g cs = refl
 more (c ∷ commands) g cs = one_more g c (commands ++ cs) ∙ more commands (gathered g c) cs
 
+-- with nothing before them
+onto_nothing : (rs : List RoundValue) → rs ≡ onto_open nothing rs
+onto_nothing [] = refl
+onto_nothing (r ∷ rs) = refl
+
+-- all rounds are those of the commands
+pub rounds_are : (cs : List Command) → all_rounds (fold gathered nothing cs) ≡ rounds_of cs
+rounds_are cs = sym (more cs nothing []) ∙ sym (onto_nothing (rounds_of (cs ++ []))) ∙ ap rounds_of (append-nil cs)
+
+-- what is gathered with one line more
+pub so_far-snoc : (said : List (Option Command)) (one : Option Command) → so_far (said ++ one ∷ [])
+    ≡ fold gathered (so_far said) (listed one)
+so_far-snoc said one = ap (λ cs. fold gathered nothing cs) (flat_map-append listed said (one ∷ []))
+    ∙ fold-append gathered nothing (flat_map listed said) (listed one ++ [])
+    ∙ ap (λ cs. fold gathered (so_far said) cs) (append-nil (listed one))
+
 -- ---- one line taken in
 
 -- a line, if all lines of its text are there
@@ -102,13 +119,14 @@ few_more g (Some Go) = omega (
 )
 
 -- a line with its text
-pub takes_in : {old new : Gathered} {line : Line} {behind : List ℕ} {number : ℕ} {text rest : List ℕ}
-    → TakesLines (text_lines line) behind text rest → new ≡ fold gathered old (listed (command_with line text))
-    → TakesIn old new line behind number rest (number + 1 + text_lines line)
-takes_in {old} {line} {behind} {text} taken is = record {
+pub takes_in : {old new : Gathered} {saw : Option Line} {line : Line} {behind : List ℕ} {number : ℕ}
+    {text rest : List ℕ} → saw ≡ Some line → TakesLines (text_lines line) behind text rest
+    → new ≡ fold gathered old (listed (command_with line text))
+    → TakesIn old new saw behind number rest (number + 1 + text_lines line)
+takes_in {old} {line} {behind} {text} saw_is taken is = record {
   commands = listed (command_with line text);
   text = text_lines line;
-  says = says_with line (lines behind) taken.enough
+  says = ap (λ saw. saying saw (lines behind)) saw_is ∙ says_with line (lines behind) taken.enough
       ∙ ap (λ bytes. Says (listed (command_with line bytes)) (text_lines line)) (sym taken.taken_is);
   gathered_are = is;
   few = subst (λ g. loads_so_far g ≤ loads_so_far old + 1) (sym is) (few_more old (command_with line text));
@@ -119,7 +137,7 @@ takes_in {old} {line} {behind} {text} taken is = record {
   utf8 = taken.utf8;
 }
 
--- ---- the front of a script
+-- ---- the preamble of a script
 
 pub starts : {text : List ℕ} → length text ≤ most_script → IsUtf8 text → HasSkipped text text 1
 starts small utf8 = record { going = refl; some = omega arith; bounded = omega arith; utf8 = utf8 }
@@ -175,10 +193,7 @@ begins_none {number} skipped none = record {
 -- the commands follow
 pub begins_with : (workers : ℕ) (found : Result (List Command) ℕ) → script_of workers found
     ≡ going_on workers nothing found
-begins_with workers (Ok cs) = ap (λ rs. Ok (record { workers = workers; rounds = rs })) (by_rounds (rounds_of cs)) where
-  by_rounds : (rs : List RoundValue) → rs ≡ onto_open nothing rs
-  by_rounds [] = refl
-  by_rounds (r ∷ rs) = refl
+begins_with workers (Ok cs) = ap (λ rs. Ok (record { workers = workers; rounds = rs })) (onto_nothing (rounds_of cs))
 begins_with workers (Err bad) = refl
 
 pub parses_none : {text : List ℕ} {workers : ℕ} {rest : List ℕ} {number : ℕ} → HasBegun text workers rest number
@@ -193,27 +208,19 @@ parses_none {workers} {rest} {number} begun = record {
 -- ---- the whole script
 
 read_first : {text : List ℕ} {workers : ℕ} {rest line behind : List ℕ} {rounds : Gathered} {number : ℕ}
-    (saw : Option Line)
-    → HasParsed text workers rounds rest number → IsFirstLine rest line behind → line_of workers line ≡ saw
-    → script text ≡ going_on workers rounds (and_then (saying saw (lines behind)) number (λ n. commands_from workers
-    (number + 1) n (lines behind)))
-read_first {text} {workers} {line} {behind} {rounds} {number} saw parsed first is =
+    → HasParsed text workers rounds rest number → IsFirstLine rest line behind
+    → script text ≡ going_on workers rounds (and_then (saying (line_of workers line) (lines behind)) number
+    (λ n. commands_from workers (number + 1) n (lines behind)))
+read_first {text} {workers} {behind} {rounds} {number} parsed first =
     let F : List (List ℕ) → Type 0 = λ ls. script text ≡ going_on workers rounds (commands_from workers number 0 ls) in
-    let cut : F (first.raw ∷ lines behind) = subst F first.cut parsed.going in
     let G : List ℕ → Type 0 = λ l. script text ≡ going_on workers rounds (and_then
     (saying (line_of workers l) (lines behind)) number (λ n. commands_from workers (number + 1) n (lines behind))) in
-    let said : G line = subst G first.said cut in
-    rw is at said
+    subst G first.said (subst F first.cut parsed.going)
 
 pub bad_line : {text : List ℕ} {workers : ℕ} {rest line behind : List ℕ} {rounds : Gathered} {number : ℕ}
-    → HasParsed text workers rounds rest number
-    → IsFirstLine rest line behind → line_of workers line ≡ None → script text ≡ Err number
-bad_line parsed first none = read_first None parsed first none
-
-pub bad_text : {text : List ℕ} {workers : ℕ} {rest line behind : List ℕ} {rounds : Gathered} {number : ℕ} (saw : Line)
-    → HasParsed text workers rounds rest number → IsFirstLine rest line behind → line_of workers line ≡ Some saw
-    → saying (Some saw) (lines behind) ≡ IsBad → script text ≡ Err number
-bad_text {workers} {behind} {rounds} {number} saw parsed first is bad = read_first (Some saw) parsed first is
+    → HasParsed text workers rounds rest number → IsFirstLine rest line behind
+    → saying (line_of workers line) (lines behind) ≡ IsBad → script text ≡ Err number
+bad_line {workers} {behind} {rounds} {number} parsed first bad = read_first parsed first
     ∙ ap (λ s. going_on workers rounds (and_then s number (λ n. commands_from workers (number + 1) n
     (lines behind)))) bad
 
@@ -226,11 +233,10 @@ gathers workers number g commands (Ok cs) = ap (λ rs. Ok (record { workers = wo
 gathers workers number g commands (Err bad) = refl
 
 pub goes_on : {text : List ℕ} {workers : ℕ} {rest line behind : List ℕ} {old new : Gathered} {number : ℕ}
-    {saw : Line} {after : List ℕ}
-    {next : ℕ} → HasParsed text workers old rest number → IsFirstLine rest line behind → line_of workers line ≡ Some saw
-    → TakesIn old new saw behind number after next → HasParsed text workers new after next
-goes_on {workers} {behind} {old} {number} {saw} {after} {next} parsed first is taken = record {
-  going = read_first (Some saw) parsed first is
+    {after : List ℕ} {next : ℕ} → HasParsed text workers old rest number → IsFirstLine rest line behind
+    → TakesIn old new (line_of workers line) behind number after next → HasParsed text workers new after next
+goes_on {workers} {behind} {old} {number} {after} {next} parsed first taken = record {
+  going = read_first parsed first
       ∙ ap (λ s. going_on workers old (and_then s number (λ n. commands_from workers (number + 1) n
       (lines behind)))) taken.says
       ∙ ap (λ found. going_on workers old (and_then (Says taken.commands taken.text) number (λ n. found)))
@@ -252,16 +258,17 @@ goes_on {workers} {behind} {old} {number} {saw} {after} {next} parsed first is t
   utf8 = taken.utf8;
 }
 
-pub ends : {text : List ℕ} {workers : ℕ} {rest : List ℕ} {rounds : Gathered} {number : ℕ}
-    → HasParsed text workers rounds rest number → rest ≡ []
-    → script text ≡ Ok (record { workers = workers; rounds = all_rounds rounds })
-ends {workers} {rounds} {number} parsed none = parsed.going
-    ∙ ap (λ t. going_on workers rounds (commands_from workers number 0 (lines t))) none
+pub ends : {text : List ℕ} {workers : ℕ} {rest : List ℕ} (said : List (Option Command)) {number : ℕ}
+    → HasParsed text workers (so_far said) rest number → rest ≡ []
+    → script text ≡ Ok (record { workers = workers; rounds = rounds_of (flat_map listed said) })
+ends {workers} said {number} parsed none = parsed.going
+    ∙ ap (λ t. going_on workers (so_far said) (commands_from workers number 0 (lines t))) none
+    ∙ ap (λ rs. Ok (record { workers = workers; rounds = rs })) (rounds_are (flat_map listed said))
 
 -- there are fewer loads than lines
-pub ends_few : {text : List ℕ} {workers : ℕ} {rest : List ℕ} {rounds : Gathered} {number : ℕ}
-    → HasParsed text workers rounds rest number → load_count (all_rounds rounds) ≤ most_script
-ends_few {rounds} parsed = omega (arith, parsed.few, parsed.bounded, fewer rounds) where
+pub ends_few : {text : List ℕ} {workers : ℕ} {rest : List ℕ} (said : List (Option Command)) {number : ℕ}
+    → HasParsed text workers (so_far said) rest number → load_count (rounds_of (flat_map listed said)) ≤ most_script
+ends_few said parsed = rw (rounds_are (flat_map listed said)) at few where
   fewer : (g : Gathered) → load_count (all_rounds g) ≤ loads_so_far g
   fewer g = omega (
     arith,
@@ -271,3 +278,6 @@ ends_few {rounds} parsed = omega (arith, parsed.few, parsed.bounded, fewer round
     last : (begun : Bool) → load_count (cond begun (g.current ∷ []) []) ≤ length g.current.loads
     last true = omega arith
     last false = omega arith
+
+  few : load_count (all_rounds (so_far said)) ≤ most_script
+  few = omega (arith, parsed.few, parsed.bounded, fewer (so_far said))

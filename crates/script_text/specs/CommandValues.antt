@@ -1,21 +1,8 @@
 -- The command of a line with the text of its load.
 use Rattle.std.specs.Prelude.{ℕ, List, [], ◌∷◌, Option, Some, None}
-use Rattle.script_text.specs.declared.rounds.Command as code
-use Rattle.script_text.specs.declared.rounds.Command.TheVariants as code_command
 use Rattle.script_text.specs.ScriptLoads.{Po, Mo}
 use Rattle.script_text.specs.Commands.{Line, Blank, Loads, LoadsMo, Asks, Goes}
 use Rattle.script_text.specs.Script.{Command, Load, Ask, Go}
-
--- what such a command is
-abbrev pub command_value : code.Command → Command
-command_value (code_command.Load load) = Load load
-command_value (code_command.Ask question) = Ask question.worker question.query
-command_value code_command.Go = Go
-
--- what such a command is, if there is one
-abbrev pub some_command : Option code.Command → Option Command
-some_command (Some command) = Some (command_value command)
-some_command None = None
 
 -- how many of the lines that follow this one are the text of its load
 abbrev pub text_lines : Line → ℕ

@@ -1,10 +1,11 @@
 -- Private: how rounds are gathered from commands, one after another.
 use Rattle.std.specs.Prelude.{◌≡◌, ℕ, ◌+◌, ◌<◌, ◌≤◌, Bool, true, false, if◌then◌else◌, List, [], ◌∷◌, ◌++◌, length}
-use Rattle.std.specs.Prelude.{drop}
-use Rattle.std.specs.Prelude.{fold, Some, Result, Ok, Err}
+use Rattle.std.specs.Prelude.{drop, fold, Option, Result, Ok, Err}
+use Rattle.std.specs.List.{flat_map}
 use Rattle.std.specs.Str.{IsUtf8}
 use Rattle.line_input.specs.Lines.{lines}
 use Rattle.script_text.specs.Commands.{Line}
+use Rattle.script_text.specs.CommandValues.{listed}
 use Rattle.script_text.specs.Script.{Command, Load, Ask, Go, RoundValue, round_of, rounds_of, Says, saying}
 use Rattle.script_text.specs.Script.{commands_from}
 use Rattle.script_text.specs.Script.{load_count, ScriptValue, script_from, script_of, script}
@@ -39,6 +40,10 @@ gathered g (Ask worker query) = record
     { ended = g.ended; current = both g.current (round_of (Ask worker query ∷ [])); begun = true }
 gathered g Go = record { ended = g.ended ++ g.current ∷ []; current = empty_round; begun = false }
 
+-- what is gathered from the lines of a script that say something
+abbrev pub so_far : List (Option Command) → Gathered
+so_far said = fold gathered nothing (flat_map listed said)
+
 -- the open round with what follows in it, and the rounds after it
 abbrev pub onto_open : Gathered → List RoundValue → List RoundValue
 onto_open g [] = if g.begun then g.current ∷ [] else []
@@ -55,18 +60,18 @@ going_on workers g (Ok commands) = Ok (record
 going_on workers g (Err bad) = Err bad
 
 -- a line with this number was taken in, with its text: what follows it, and the number of the next line
-pub record TakesIn (old new : Gathered) (line : Line) (behind : List ℕ) (number : ℕ) (rest : List ℕ) (next : ℕ) : Type 0
-  where
-    pub commands : List Command
-    pub text : ℕ
-    pub says : saying (Some line) (lines behind) ≡ Says commands text
-    pub gathered_are : new ≡ fold gathered old commands
-    pub few : loads_so_far new ≤ loads_so_far old + 1
-    pub behind_text : lines rest ≡ drop text (lines behind)
-    pub enough : text ≤ length (lines behind)
-    pub next_is : next ≡ number + 1 + text
-    pub shorter : text + length rest ≤ length behind
-    pub utf8 : IsUtf8 rest
+pub record TakesIn (old new : Gathered) (saw : Option Line) (behind : List ℕ) (number : ℕ) (rest : List ℕ) (next : ℕ)
+    : Type 0 where
+  pub commands : List Command
+  pub text : ℕ
+  pub says : saying saw (lines behind) ≡ Says commands text
+  pub gathered_are : new ≡ fold gathered old commands
+  pub few : loads_so_far new ≤ loads_so_far old + 1
+  pub behind_text : lines rest ≡ drop text (lines behind)
+  pub enough : text ≤ length (lines behind)
+  pub next_is : next ≡ number + 1 + text
+  pub shorter : text + length rest ≤ length behind
+  pub utf8 : IsUtf8 rest
 
 -- the lines before this number say nothing, and `rest` is the text from that line on
 pub record HasSkipped (text rest : List ℕ) (number : ℕ) : Type 0 where

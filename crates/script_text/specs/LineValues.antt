@@ -1,12 +1,9 @@
--- What a line of the code says, where the catalogue of a load comes from, and what reading a part of a line returns.
+-- What a line of the code says, and what reading a part of a line returns.
 use Rattle.std.specs.Prelude.{◌≡◌, ⊤, Option, Some, None, Result, Ok, Err, string_bytes}
 use Rattle.script_text.specs.declared.fault.LineFault.{LineFault}
 use Rattle.script_text.specs.declared.fault.LineFault.TheVariants.{Bad, Memory}
 use Rattle.script_text.specs.declared.command.Line as code
 use Rattle.script_text.specs.declared.command.Line.TheVariants as code_line
-use Rattle.script_text.specs.declared.rounds.LoadSource.{LoadSource}
-use Rattle.script_text.specs.declared.rounds.LoadSource.TheVariants as code_source
-use Rattle.script_text.specs.ScriptLoads.{SourceValue, Po, Mo}
 use Rattle.script_text.specs.Commands.{Line, Blank, Loads, LoadsMo, Asks, Goes}
 
 -- what such a line says
@@ -17,11 +14,6 @@ line_value (code_line.Loads domain locale options count) =
 line_value (code_line.LoadsMo domain locale bytes) = LoadsMo (string_bytes domain) (string_bytes locale) bytes.items
 line_value (code_line.Asks worker query) = Asks worker query
 line_value code_line.Goes = Goes
-
--- what such a source is
-abbrev pub source_value : LoadSource → SourceValue
-source_value (code_source.Po text options) = Po text.now options
-source_value (code_source.Mo bytes) = Mo bytes.items
 
 -- The value that was read is the one that is meant: nothing is meant if it is bad. Running out of memory says nothing
 -- about it.

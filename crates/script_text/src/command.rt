@@ -1,11 +1,10 @@
 //! What a line of a script says.
 ghost use Rattle.std.specs.Prelude.{◌≡◌, IfErr};
-ghost use Rattle.script_text.specs.Commands.{plain_call, context_call, number_call, context_number_call, call_of};
-ghost use Rattle.script_text.specs.Commands.{load_line, load_mo_line, ask_line, command_line};
+ghost use Rattle.script_text.specs.Commands.{call_of, load_line, load_mo_line, ask_line, command_line};
 ghost use Rattle.script_text.specs.Commands.{is_blank, line_of, workers_line};
 ghost use Rattle.script_text.specs.LineFields.{fields};
 ghost use Rattle.script_text.specs.LineValues.{Reads, line_value};
-ghost use Rattle.script_text.specs.CommandValues.{command_with, some_command, text_lines};
+ghost use Rattle.script_text.specs.CommandValues.{text_lines};
 ghost use Rattle.live_set.specs.Asks.{ask_value};
 
 use crate::fault::LineFault;
@@ -13,10 +12,10 @@ use crate::field::{
     read_hex, read_number, read_options, read_text, read_worker, read_worker_count,
 };
 use crate::fields::Fields;
-use crate::rounds::{Command, LoadSource, Question, ScriptLoad};
 use catalogue::Options;
 use live_set::{Ask, Query};
 use std::alloc::Global;
+use std::marker::Model;
 
 /// What a line says.
 #[derive(Drop)]
@@ -55,94 +54,62 @@ impl Line {
             Line::Blank | Line::LoadsMo { .. } | Line::Asks { .. } | Line::Goes => 0,
         }
     }
-
-    /// The command of a line, with the text of its load. None: it says nothing.
-    pub fn into_command<'a>(self, text: &'a [u8]) -> Option<Command<'a>>
-        ensures { some_command result ≡ command_with (line_value self) text.now }
-    {
-        match self {
-            Line::Blank => None,
-            Line::Loads {
-                domain,
-                locale,
-                options,
-                count: _,
-            } => Some(Command::Load(ScriptLoad {
-                domain,
-                locale,
-                source: LoadSource::Po { text, options },
-            })),
-            Line::LoadsMo {
-                domain,
-                locale,
-                bytes,
-            } => Some(Command::Load(ScriptLoad {
-                domain,
-                locale,
-                source: LoadSource::Mo { bytes },
-            })),
-            Line::Asks { worker, query } => Some(Command::Ask(Question { worker, query })),
-            Line::Goes => Some(Command::Go),
-        }
-    }
 }
 
-/// The texts of a call of gettext.
-fn read_plain(alloc: Global, mut texts: Fields<'_>) -> Result<Ask, LineFault>
-    ensures { Reads ask_value result (plain_call texts.entry) }
-{
-    let id = read_text(alloc, texts.next()?)?;
-    texts.end()?;
-    Ok(Ask::Plain { id })
+/// A line with the text of its load. Contracts see the command that it is, if it says something.
+#[derive(Drop)]
+pub struct Said<'a> {
+    pub line: Line,
+    pub text: &'a [u8],
 }
 
-/// The texts of a call of pgettext.
-fn read_context(alloc: Global, mut texts: Fields<'_>) -> Result<Ask, LineFault>
-    ensures { Reads ask_value result (context_call texts.entry) }
-{
-    let context = read_text(alloc, texts.next()?)?;
-    let id = read_text(alloc, texts.next()?)?;
-    texts.end()?;
-    Ok(Ask::Context { context, id })
-}
+impl<'a> Model for Said<'a> {
+    ghost use Rattle.std.specs.Prelude.{Option};
+    ghost use Rattle.script_text.specs.LineValues.{line_value};
+    ghost use Rattle.script_text.specs.Script.{Command};
+    ghost use Rattle.script_text.specs.CommandValues.{command_with};
 
-/// The texts of a call of ngettext.
-fn read_plural(alloc: Global, mut texts: Fields<'_>) -> Result<Ask, LineFault>
-    ensures { Reads ask_value result (number_call texts.entry) }
-{
-    let id = read_text(alloc, texts.next()?)?;
-    let plural = read_text(alloc, texts.next()?)?;
-    let n = read_number(texts.next()?)?;
-    texts.end()?;
-    Ok(Ask::Number { id, plural, n })
-}
+    ghost Value = { Option Command };
 
-/// The texts of a call of npgettext.
-fn read_context_plural(alloc: Global, mut texts: Fields<'_>) -> Result<Ask, LineFault>
-    ensures { Reads ask_value result (context_number_call texts.entry) }
-{
-    let context = read_text(alloc, texts.next()?)?;
-    let id = read_text(alloc, texts.next()?)?;
-    let plural = read_text(alloc, texts.next()?)?;
-    let n = read_number(texts.next()?)?;
-    texts.end()?;
-    Ok(Ask::ContextNumber {
-        context,
-        id,
-        plural,
-        n,
-    })
+    ghost view = { λ s. command_with (line_value s.line) s.text.now };
 }
 
 /// A call by its name and its texts.
-fn read_call(alloc: Global, name: &str, texts: Fields<'_>) -> Result<Ask, LineFault>
+fn read_call(alloc: Global, name: &str, mut texts: Fields<'_>) -> Result<Ask, LineFault>
     ensures { Reads ask_value result (call_of name.now texts.entry) }
 {
     match name {
-        "gettext" => read_plain(alloc, texts),
-        "pgettext" => read_context(alloc, texts),
-        "ngettext" => read_plural(alloc, texts),
-        "npgettext" => read_context_plural(alloc, texts),
+        "gettext" => {
+            let id = read_text(alloc, texts.next()?)?;
+            texts.end()?;
+            Ok(Ask::Plain { id })
+        }
+        "pgettext" => {
+            let context = read_text(alloc, texts.next()?)?;
+            let id = read_text(alloc, texts.next()?)?;
+            texts.end()?;
+            Ok(Ask::Context { context, id })
+        }
+        "ngettext" => {
+            let id = read_text(alloc, texts.next()?)?;
+            let plural = read_text(alloc, texts.next()?)?;
+            let n = read_number(texts.next()?)?;
+            texts.end()?;
+            Ok(Ask::Number { id, plural, n })
+        }
+        "npgettext" => {
+            let context = read_text(alloc, texts.next()?)?;
+            let id = read_text(alloc, texts.next()?)?;
+            let plural = read_text(alloc, texts.next()?)?;
+            let n = read_number(texts.next()?)?;
+            texts.end()?;
+            Ok(Ask::ContextNumber {
+                context,
+                id,
+                plural,
+                n,
+            })
+        }
         _ => Err(LineFault::Bad),
     }
 }

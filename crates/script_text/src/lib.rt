@@ -10,10 +10,8 @@ mod field;
 mod fields;
 mod line;
 mod parse;
-mod rounds;
 
-pub use command::{Line, read_line, read_workers, says_nothing};
+pub use command::{Line, Said, read_line, read_workers, says_nothing};
 pub use fault::{LineFault, ScriptFault, ScriptKind};
 pub use field::MOST_WORKERS;
-pub use parse::{DEFAULT_WORKERS, MOST_SCRIPT, read_script};
-pub use rounds::{Command, LoadSource, Question, Round, Script, ScriptLoad};
+pub use parse::{DEFAULT_WORKERS, MOST_SCRIPT, Script, read_script};

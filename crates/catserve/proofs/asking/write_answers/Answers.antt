@@ -1,9 +1,9 @@
-use Rattle.std.proofs.Common.{◌∙◌, ◌++◌, ℕ, List, ap, append_assoc, sym, arith}
+use Rattle.std.proofs.Common.{◌∙◌, ◌++◌, ℕ, List, ap, arith}
 use Rattle.std.specs.Prelude.{string_bytes}
 use Rattle.desks.specs.declared.desk.Answer.{Answer}
 use Rattle.catserve.specs.Asking.{answer_lines}
 use Rattle.catserve.specs.Output.{answer_line}
-use Rattle.catserve.proofs.Batching.{flat_map-snoc}
+use Rattle.std.proofs.lemmas.List.{flat_map_more}
 use Rattle.catserve.proofs.Turns.{takes_one, takes_all}
 use Rattle.catserve.proofs.asking.write_answers.Goals as goal
 
@@ -17,10 +17,8 @@ answers-preserved c =
       written = c.in_ok-write_answer.ensures
           ∙ ap (λ (text : List ℕ). at.output.items ++ answer_line c.args.worker x.version text) c.as_str.ensures.value
           ∙ ap (λ (out : List ℕ). out ++ line) at.invariant.written
-          ∙ append_assoc c.args.output.now.items (answer_lines c.args.worker at.yielded) line
-          ∙ ap (λ (out : List ℕ). c.args.output.now.items ++ out)
-          (sym (flat_map-snoc (λ (a : Answer). answer_line c.args.worker a.version (string_bytes a.text)) at.yielded
-          x));
+          ∙ flat_map_more (λ (a : Answer). answer_line c.args.worker a.version (string_bytes a.text))
+          c.args.output.now.items at.yielded x;
     }
 
 pub returns : goal.returns

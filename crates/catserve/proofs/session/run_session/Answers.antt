@@ -21,7 +21,7 @@ returns-in-Some-clause-all g c =
 
 pub returns-in_err-count-in-None-clause-all : goal.returns-in_err-count-in-None-clause-all
 returns-in_err-count-in-None-clause-all g c =
-    let out = sym (g.met.D.Sink.shows c.hear_front.new.reader)
+    let out = sym (g.met.D.Sink.shows c.hear_preamble.new.reader)
     ∙ c.in_err-count-in-None.ensures.keeps ∙ g.met.D.Sink.shows c.args.device.now in
     let e = err_from_is_err_and c.from_residual-in_err-count-in-None.result
     c.from_residual-in_err-count-in-None.ensures.1 in
@@ -31,7 +31,7 @@ returns-in_err-count-in-None-clause-all g c =
 pub returns-clause-all : goal.returns-clause-all
 returns-clause-all g c =
     let i : InputSeen = input_seen g.D.Source.remaining g.D.Source.reads g.D.Source.failures c.args.device.now in
-    let out = sym (g.met.D.Sink.shows c.hear_front.new.reader)
+    let out = sym (g.met.D.Sink.shows c.hear_preamble.new.reader)
     ∙ c.in_ok-count-in-None.ensures.keeps ∙ g.met.D.Sink.shows c.args.device.now in
     rw (c.in-None.is, ← out) (c.converse_by_store-in-None.ensures.all None i c.in_ok-count-in-None.ensures.begins.0)
 

@@ -69,8 +69,8 @@ returns-then-not-is_utf8-clause-fault g c =
     rw (← c.left-left.ensures) (λ utf8. both c.is_utf8.result (c.is_utf8.ensures.1 utf8) c.if-not-is_utf8.true) in
     rw (← c.self.view_is, c.fault_here-then-not-is_utf8.ensures) (text_undecodable stays line ends undecodable)
 
-pub returns-in_default-copied-clause-fault : goal.returns-in_default-copied-clause-fault
-returns-in_default-copied-clause-fault g c =
+pub returns-in_default-to_vec-clause-fault : goal.returns-in_default-to_vec-clause-fault
+returns-in_default-to_vec-clause-fault g c =
     let stays = stays_whole c.in-Ok.ensures.comes
     (record { later = c.in-Ok.ensures.later; reads = c.in-Ok.ensures.reads }) refl refl in
     rw (← c.self.view_is, c.from.ensures) (([], stays), refl)
@@ -82,7 +82,7 @@ returns-clause-heard g c =
     let ends = rw c.in-Some.is at c.in-Ok.ensures.lines in
     let line = rw (← c.self.view_is) at c.requires.line in
     let utf8 = rw c.left-left.ensures at (c.is_utf8.ensures.0 c.if-not-is_utf8.false) in
-    let bytes = rw c.left-left.ensures at c.in-Ok-copied.ensures in
+    let bytes = rw c.left-left.ensures at (c.in-Ok-to_vec.ensures.items_if_clones_equal (λ x y e. e)) in
     rw (← c.self.view_is, c.take.ensures) (text_taken stays line ends utf8 bytes)
 
 pub returns-in-Err-clause-waited : goal.returns-in-Err-clause-waited
@@ -94,14 +94,14 @@ returns-in_default-clause-waited g c = rw (← c.self.view_is) (counts_of c.in-O
 pub returns-then-not-is_utf8-clause-waited : goal.returns-then-not-is_utf8-clause-waited
 returns-then-not-is_utf8-clause-waited g c = rw (← c.self.view_is) (counts_of c.in-Ok.ensures.waits)
 
-pub returns-in_default-copied-clause-waited : goal.returns-in_default-copied-clause-waited
-returns-in_default-copied-clause-waited g c = rw (← c.self.view_is) (counts_of c.in-Ok.ensures.waits)
+pub returns-in_default-to_vec-clause-waited : goal.returns-in_default-to_vec-clause-waited
+returns-in_default-to_vec-clause-waited g c = rw (← c.self.view_is) (counts_of c.in-Ok.ensures.waits)
 
 pub returns-clause-waits : goal.returns-clause-waits
 returns-clause-waits g c =
     let ends = rw c.in-Some.is at c.in-Ok.ensures.lines in
     let line = rw (← c.self.view_is) at c.requires.line in
     let text : List ℕ = take (c.in-Some.text_end - c.args.end) (drop c.args.end c.lines_end.new.self.left) in
-    let bytes : c.in-Ok-copied.bytes.items ≡ text = c.in-Ok-copied.ensures
+    let bytes : c.in-Ok-to_vec.bytes.items ≡ text = c.in-Ok-to_vec.ensures.items_if_clones_equal (λ x y e. e)
     ∙ ap (λ left. take (c.in-Some.text_end - c.args.end) (drop c.args.end left)) c.left-left.ensures in
     rw (← c.self.view_is, c.take.ensures, bytes) (text_reads line ends c.in-Ok.ensures.waits)

@@ -3,64 +3,64 @@ use Rattle.std.proofs.lemmas.List.{nil_from_length}
 use Rattle.std.proofs.lemmas.Result.{err_from_is_err_and}
 use Rattle.catserve.specs.Hearing.{HearingValue}
 use Rattle.catserve.proofs.SessionInTime.{ends_at, passed_last, passed_timely, passes_none}
-use Rattle.catserve.proofs.SessionFront.{begins_ended, begins_given, begins_other, front_fails, front_undecodable}
-use Rattle.catserve.proofs.SessionFront.{passed_more}
-use Rattle.catserve.proofs.hearing.Hearing.hear_front.Goals as goal
+use Rattle.catserve.proofs.SessionPreamble.{begins_ended, begins_given, begins_other, passed_more, preamble_fails}
+use Rattle.catserve.proofs.SessionPreamble.{preamble_undecodable}
+use Rattle.catserve.proofs.hearing.Hearing.hear_preamble.Goals as goal
 
 pub returns-in_err-end-clause-fault : goal.returns-in_err-end-clause-fault
 returns-in_err-end-clause-fault g c =
     let p = err_from_is_err_and c.from_residual.result c.from_residual.ensures.1 in
-    rw (p.1, p.2) (front_fails c.next_end.new.self c.front.invariant.1.0 c.in_err-end.ensures.fault)
+    rw (p.1, p.2) (preamble_fails c.next_end.new.self c.preamble.invariant.1.0 c.in_err-end.ensures.fault)
 
 pub returns-in-NotUtf8-clause-fault : goal.returns-in-NotUtf8-clause-fault
 returns-in-NotUtf8-clause-fault g c =
-    let passed = c.front.invariant.1.0 in
+    let passed = c.preamble.invariant.1.0 in
     let found = rw c.in-Some.is at c.in_ok-end.ensures.found.line in
     let left = c.left.ensures ∙ ap (λ (x : HearingValue). x.input.left) c.self.view_is in
-    let is = rw c.in-NotUtf8.is at (rw left at c.read_front_line.ensures) in
-    rw c.fault_here.ensures (front_undecodable passed c.in_ok-end.ensures.found.stays found.0 is)
+    let is = rw c.in-NotUtf8.is at (rw left at c.read_preamble_line.ensures) in
+    rw c.fault_here.ensures (preamble_undecodable passed c.in_ok-end.ensures.found.stays found.0 is)
 
-pub front-preserved : goal.front-preserved
-front-preserved g c =
-    let passed = c.front.invariant.1.0 in
+pub preamble-preserved : goal.preamble-preserved
+preamble-preserved g c =
+    let passed = c.preamble.invariant.1.0 in
     let found = rw c.in-Some.is at c.in_ok-end.ensures.found.line in
     let left = c.left.ensures ∙ ap (λ (x : HearingValue). x.input.left) c.self.view_is in
-    let is = rw c.in-Blank.is at (rw left at c.read_front_line.ensures) in
-    let front = c.front.invariant.0 in
+    let is = rw c.in-Blank.is at (rw left at c.read_preamble_line.ensures) in
+    let front = c.preamble.invariant.0 in
     let line = take c.in-Some.end c.next_end.new.self.input.left in
-    let timely = passed_timely c.front.invariant.1.0 c.front.invariant.1.1 c.in_ok-end.ensures.found.stays
+    let timely = passed_timely c.preamble.invariant.1.0 c.preamble.invariant.1.1 c.in_ok-end.ensures.found.stays
     c.in_ok-end.ensures.waits in (
       front ++ line ∷ [],
       rw c.take.ensures (passed_more passed c.in_ok-end.ensures.found.stays found.0 is.0 is.1, timely),
-      c.in_ok-end.ensures.keeps ∙ c.front.invariant.2,
+      c.in_ok-end.ensures.keeps ∙ c.preamble.invariant.2,
     )
 
 pub returns-in-Workers-clause-begins : goal.returns-in-Workers-clause-begins
 returns-in-Workers-clause-begins g c =
-    let passed = c.front.invariant.1.0 in
+    let passed = c.preamble.invariant.1.0 in
     let found = rw c.in-Some.is at c.in_ok-end.ensures.found.line in
     let left = c.left.ensures ∙ ap (λ (x : HearingValue). x.input.left) c.self.view_is in
-    let is = rw c.in-Workers.is at (rw left at c.read_front_line.ensures) in
-    let timely = passed_timely c.front.invariant.1.0 c.front.invariant.1.1 c.in_ok-end.ensures.found.stays
+    let is = rw c.in-Workers.is at (rw left at c.read_preamble_line.ensures) in
+    let timely = passed_timely c.preamble.invariant.1.0 c.preamble.invariant.1.1 c.in_ok-end.ensures.found.stays
     c.in_ok-end.ensures.waits in
     rw c.take-in-Workers.ensures (begins_given passed c.in_ok-end.ensures.found.stays found.0 is.0 is.1 is.2, timely)
 
 pub returns-in-Other-clause-begins : goal.returns-in-Other-clause-begins
 returns-in-Other-clause-begins g c =
-    let passed = c.front.invariant.1.0 in
+    let passed = c.preamble.invariant.1.0 in
     let found = rw c.in-Some.is at c.in_ok-end.ensures.found.line in
     let left = c.left.ensures ∙ ap (λ (x : HearingValue). x.input.left) c.self.view_is in
-    let is = rw c.in-Other.is at (rw left at c.read_front_line.ensures) in
-    let timely = passed_timely c.front.invariant.1.0 c.front.invariant.1.1 c.in_ok-end.ensures.found.stays
+    let is = rw c.in-Other.is at (rw left at c.read_preamble_line.ensures) in
+    let timely = passed_timely c.preamble.invariant.1.0 c.preamble.invariant.1.1 c.in_ok-end.ensures.found.stays
     c.in_ok-end.ensures.waits in (begins_other passed c.in_ok-end.ensures.found.stays found.0 is.1 is.2, timely)
 
 pub returns-clause-begins : goal.returns-clause-begins
 returns-clause-begins g c =
     let found = c.in_ok-end.ensures.found in
     let none = rw c.in_default.is at found.none in
-    let timely = passed_timely c.front.invariant.1.0 c.front.invariant.1.1 c.in_ok-end.ensures.found.stays
+    let timely = passed_timely c.preamble.invariant.1.0 c.preamble.invariant.1.1 c.in_ok-end.ensures.found.stays
     c.in_ok-end.ensures.waits in (
-      begins_ended c.front.invariant.1.0 found.stays (nil_from_length c.next_end.new.self.input.left none.1) none.0,
+      begins_ended c.preamble.invariant.1.0 found.stays (nil_from_length c.next_end.new.self.input.left none.1) none.0,
       timely,
     )
 
@@ -68,13 +68,13 @@ pub returns-in_err-end-clause-in_time : goal.returns-in_err-end-clause-in_time
 returns-in_err-end-clause-in_time g c =
     let waits = c.in_err-end.ensures.waits in
     let p = err_from_is_err_and c.from_residual.result c.from_residual.ensures.1 in
-    rw (p.1) (passed_last c.front.invariant.1.0 c.front.invariant.1.1 waits.1)
+    rw (p.1) (passed_last c.preamble.invariant.1.0 c.preamble.invariant.1.1 waits.1)
 
 pub returns-in-NotUtf8-clause-in_time : goal.returns-in-NotUtf8-clause-in_time
 returns-in-NotUtf8-clause-in_time g c =
-    let timely = passed_timely c.front.invariant.1.0 c.front.invariant.1.1 c.in_ok-end.ensures.found.stays
+    let timely = passed_timely c.preamble.invariant.1.0 c.preamble.invariant.1.1 c.in_ok-end.ensures.found.stays
     c.in_ok-end.ensures.waits in
     ends_at timely
 
-pub front-init : goal.front-init
-front-init g c = ([], rw c.requires (passes_none), refl)
+pub preamble-init : goal.preamble-init
+preamble-init g c = ([], rw c.requires (passes_none), refl)

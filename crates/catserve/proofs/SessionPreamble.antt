@@ -1,4 +1,4 @@
--- The front of a session.
+-- The preamble of a session.
 use Rattle.std.proofs.Common.{◌≡◌, ◌∙◌, refl, sym, ap, subst, ℕ, ◌+◌, true, false, List, [], ◌∷◌, ◌++◌, length, take}
 use Rattle.std.proofs.Common.{drop, arith, inl, inr, append_assoc, length-append, Some, None}
 use Rattle.std.specs.List.{concat}
@@ -15,7 +15,7 @@ use Rattle.script_text.specs.declared.fault.ScriptKind.{ScriptKind}
 use Rattle.script_text.specs.declared.fault.ScriptKind.TheVariants as kind
 use Rattle.devices.specs.Devices.{InputSeen}
 use Rattle.catserve.specs.Hearing.{HearingValue, HasTaken, Stays, HasPassed, Begins, Follows, BeginAlike}
-use Rattle.catserve.specs.Hearing.{unheard, HearsNothing, FailsInFront}
+use Rattle.catserve.specs.Hearing.{unheard, HearsNothing, FailsInPreamble}
 use Rattle.catserve.proofs.LinesTaken.{no_line, taken_none, taken_then, got_taken, line_cut, line_whole}
 use Rattle.catserve.proofs.SessionHears.{stays_taken}
 
@@ -163,17 +163,18 @@ abbrev pub begins_ended : {i j k : InputSeen} {y z : HearingValue} {front : List
 begins_ended {z} passed stays none ended = begins_two passed stays
     (λ behind follows. ended_first z.number z.input behind none ended follows)
 
--- ---- why the front wasn't heard
+-- ---- why the preamble wasn't heard
 
-pub front_fails : {i j k : InputSeen} {y : HearingValue} (z : HearingValue) {front : List (List ℕ)} {kind : ScriptKind}
-    {line : ℕ} → HasPassed i j unheard y front → HearsNothing j k y z kind line → FailsInFront i k kind line
-front_fails {j} {k} {y} z {front} {kind} {line} passed h = record
+pub preamble_fails : {i j k : InputSeen} {y : HearingValue} (z : HearingValue) {front : List (List ℕ)}
+    {kind : ScriptKind} {line : ℕ} → HasPassed i j unheard y front → HearsNothing j k y z kind line
+    → FailsInPreamble i k kind line
+preamble_fails {j} {k} {y} z {front} {kind} {line} passed h = record
     { mid = j; y = y; z = z; front = front; passed = passed; none = no_line (λ line. ⊥) j k y z kind line h }
 
-pub front_undecodable : {i j k : InputSeen} {y z : HearingValue} {front : List (List ℕ)} {end : ℕ}
+pub preamble_undecodable : {i j k : InputSeen} {y z : HearingValue} {front : List (List ℕ)} {end : ℕ}
     → HasPassed i j unheard y front → Stays j k y z [] → EndsLine z.input 0 end → ¬ IsUtf8 (take end z.input.left)
-    → FailsInFront i k kind.NotUtf8 z.number
-front_undecodable {j} {y} {z} {front} {end} passed stays ends undecodable = record {
+    → FailsInPreamble i k kind.NotUtf8 z.number
+preamble_undecodable {j} {y} {z} {front} {end} passed stays ends undecodable = record {
   mid = j;
   y = y;
   z = z;
