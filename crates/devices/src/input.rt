@@ -69,13 +69,15 @@ fn read_some<R: Source>(
     }
 }
 
-/// The first `limit` bytes of an input, in at most `most_reads` reads through `chunk`.
+/// The first `limit` bytes of an input, in at most `most_reads` reads through `chunk`. They have room for `expected`
+/// bytes from the start.
 #[tactic(auto, using(crate::proofs::ReadLemmas::many_reads))]
 pub(crate) fn read_within<R: Source>(
     alloc: Global,
     reader: &mut R,
     chunk: &mut [u8],
     limit: usize,
+    expected: usize,
     most_reads: u32,
 ) -> Result<Vec<u8>, InputFault>
     requires { 0 < length chunk.old }
@@ -86,7 +88,7 @@ pub(crate) fn read_within<R: Source>(
         → RisesBy 1 (R.failures reader.old) (R.failures reader.new)
         ⊎ RisesBy most_reads (R.reads reader.old) (R.reads reader.new) }
 {
-    let mut bytes = Vec::new(alloc);
+    let mut bytes = Vec::with_capacity(alloc, expected.min(limit))?;
     for turn in 0..most_reads {
         if read_some(reader, chunk, &mut bytes, limit)? {
             return Ok(bytes);
@@ -110,6 +112,24 @@ pub fn read_all<R: Source>(
         → RisesBy 1 (R.failures reader.old) (R.failures reader.new)
         ⊎ RisesBy MOST_READS (R.reads reader.old) (R.reads reader.new) }
 {
+    read_expected(alloc, reader, limit, 0)
+}
+
+/// Reads an input as `read_all` does, into memory for `expected` bytes. That saves the input from being moved while it
+/// grows, if it has that length; it may have any other. A file has its length in its metadata.
+pub fn read_expected<R: Source>(
+    alloc: Global,
+    reader: &mut R,
+    limit: usize,
+    expected: usize,
+) -> Result<Vec<u8>, InputFault>
+    ensures bytes { IfOk result (λ v. IsFront limit (R.remaining reader.old) v.items) }
+    ensures none_lost { IfOk result (λ v. Consumes (R.remaining reader.old) (R.remaining reader.new) v.items) }
+    ensures later { R.failures reader.old ≤ R.failures reader.new }
+    ensures cause { IsErrOf result InputFault.Unreadable
+        → RisesBy 1 (R.failures reader.old) (R.failures reader.new)
+        ⊎ RisesBy MOST_READS (R.reads reader.old) (R.reads reader.new) }
+{
     let mut chunk = vec![in alloc; 0u8; CHUNK]?;
-    read_within(alloc, reader, &mut chunk, limit, MOST_READS)
+    read_within(alloc, reader, &mut chunk, limit, expected, MOST_READS)
 }

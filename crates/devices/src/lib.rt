@@ -14,5 +14,5 @@ mod pair;
 pub use adapters::{Reading, Writing};
 pub use device::{Device, ReadFault, Sink, Source, WriteFault};
 pub use file::{FileFault, Files};
-pub use input::{InputFault, MOST_READS, read_all};
+pub use input::{InputFault, MOST_READS, read_all, read_expected};
 pub use pair::Pair;

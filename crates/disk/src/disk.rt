@@ -3,7 +3,7 @@ ghost use Rattle.std.specs.Prelude.{None};
 
 use crate::failures::FileFailures;
 use crate::replace::write_file;
-use devices::{FileFault, Files, InputFault, Reading, read_all};
+use devices::{FileFault, Files, InputFault, Reading, read_expected};
 use std::alloc::Global;
 use std::fs::File;
 
@@ -24,6 +24,14 @@ impl<'a> Disk<'a> {
     }
 }
 
+/// The length of a file, or 0 if it isn't known.
+fn length_of(file: &File) -> usize {
+    match file.metadata() {
+        Ok(metadata) => usize::try_from(metadata.len()).unwrap_or(0),
+        Err(_) => 0,
+    }
+}
+
 impl Files for Disk<'_> {
     ghost content = { λ _ name. None };
 
@@ -36,7 +44,8 @@ impl Files for Disk<'_> {
             Ok(file) => file,
             Err(error) => return Err(self.failures.fault_of(&error)),
         };
-        match read_all(alloc, &mut Reading::new(file), limit) {
+        let expected = length_of(&file);
+        match read_expected(alloc, &mut Reading::new(file), limit, expected) {
             Ok(bytes) => Ok(bytes),
             Err(InputFault::Memory) => Err(FileFault::Memory),
             Err(InputFault::Unreadable) => Err(self.failures.fail()),

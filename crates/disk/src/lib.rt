@@ -5,8 +5,8 @@
 mod beside;
 mod disk;
 mod failures;
+mod late_errors;
 mod replace;
-mod settle;
 mod stream;
 
 pub use disk::Disk;

@@ -4,8 +4,9 @@
 //! whole old file or the whole new one, and a failure leaves the old one as it was. Other files are written directly.
 
 use crate::beside::Beside;
-use crate::settle::settle;
+use crate::late_errors::raise_late_errors;
 use crate::stream::{Stream, is_descriptor, stream_named};
+use devices::{Sink, Writing};
 use std::alloc::Global;
 use std::fs::{File, Metadata, OpenFile, OpenOptions};
 use std::io::{ErrorKind, Write};
@@ -21,8 +22,8 @@ pub(crate) fn write_file(
     bytes: &[u8],
 ) -> io::Result<()> {
     match stream_named(path) {
-        Some(Stream::Output) => return write_whole(&mut rt.stdout(), bytes),
-        Some(Stream::Errors) => return write_whole(&mut rt.stderr(), bytes),
+        Some(Stream::Output) => return write_straight(rt.stdout(), bytes),
+        Some(Stream::Errors) => return write_straight(rt.stderr(), bytes),
         None => {}
     }
     // (a file that may not be written is not replaced either, so it is opened first)
@@ -39,7 +40,7 @@ pub(crate) fn write_file(
     }
     if is_descriptor(path) {
         there.set_len(0)?;
-        return write_settled(rt, alloc, there, bytes);
+        return write_by_name(rt, alloc, there, bytes);
     }
     match replace_target(rt, alloc, path, bytes, &old) {
         Ok(()) => Ok(()),
@@ -48,7 +49,7 @@ pub(crate) fn write_file(
                 return Err(error);
             }
             there.set_len(0)?;
-            write_settled(rt, alloc, there, bytes)
+            write_by_name(rt, alloc, there, bytes)
         }
     }
 }
@@ -72,10 +73,10 @@ fn replace_target(
 /// Writes to a path without a file. A symbolic link to nothing is written through.
 fn write_new(rt: &HostRuntime, alloc: Global, path: &str, bytes: &[u8]) -> io::Result<()> {
     if fs::symlink_metadata(rt, path).is_ok() {
-        return write_settled(rt, alloc, File::create(rt, path)?, bytes);
+        return write_by_name(rt, alloc, File::create(rt, path)?, bytes);
     }
     match replace(rt, alloc, path, bytes, None) {
-        Err(error) if is_refused(&error) => write_settled(
+        Err(error) if is_refused(&error) => write_by_name(
             rt,
             alloc,
             File::create(rt, path)?,
@@ -85,34 +86,33 @@ fn write_new(rt: &HostRuntime, alloc: Global, path: &str, bytes: &[u8]) -> io::R
     }
 }
 
-/// Writes to a device or a pipe.
-fn write_straight(mut file: File, bytes: &[u8]) -> io::Result<()> {
-    write_whole(&mut file, bytes)
+/// Writes to a device, a pipe or a stream.
+fn write_straight<W: Write + Drop>(writer: W, bytes: &[u8]) -> io::Result<()> {
+    let _writer = write_whole(writer, bytes)?;
+    Ok(())
 }
 
 /// Writes to a file that is read by its own name.
-fn write_settled(rt: &HostRuntime, alloc: Global, mut file: File, bytes: &[u8]) -> io::Result<()> {
-    write_whole(&mut file, bytes)?;
-    begun(settle(rt, alloc, &file))
-}
-
-/// The result of a write that was begun. Its failure is never `Memory`, which means that nothing was written.
-fn begun(written: io::Result<()>) -> io::Result<()> {
-    match written {
+fn write_by_name(rt: &HostRuntime, alloc: Global, file: File, bytes: &[u8]) -> io::Result<()> {
+    let file = write_whole(file, bytes)?;
+    match raise_late_errors(rt, alloc, &file) {
         Ok(()) => Ok(()),
-        Err(_) => Err(io::Error::from(ErrorKind::Other)),
+        Err(_) => Err(incomplete()),
     }
 }
 
-/// Writes all the bytes.
-fn write_whole<W: Write>(writer: &mut W, bytes: &[u8]) -> io::Result<()> {
-    begun(write_through(writer, bytes))
+/// The error of a write that was begun. It is never `OutOfMemory`, which means that nothing was written.
+fn incomplete() -> io::Error {
+    io::Error::from(ErrorKind::Other)
 }
 
-/// Writes all the bytes and flushes them.
-fn write_through<W: Write>(writer: &mut W, bytes: &[u8]) -> io::Result<()> {
-    writer.write_all(bytes)?;
-    writer.flush()
+/// Writes all the bytes, flushes them, and gives the writer back.
+fn write_whole<W: Write + Drop>(writer: W, bytes: &[u8]) -> io::Result<W> {
+    let mut writing = Writing::new(writer);
+    match writing.write_all(bytes) {
+        Ok(()) => Ok(writing.inner),
+        Err(_) => Err(incomplete()),
+    }
 }
 
 /// Whether the folder refuses the temporary file or its renaming, or the system refuses the old file's owner. Then the
@@ -165,7 +165,7 @@ fn fill(
     if let Some(old) = old {
         file.set_permissions(old.permissions())?;
     }
-    settle(rt, alloc, file)
+    raise_late_errors(rt, alloc, file)
 }
 
 /// Gives a file the owner and the group of the old one. Any error means that the system refuses.

@@ -15,23 +15,23 @@ use std::{fs, io};
 const MOUNTS: &str = "/proc/self/mountinfo";
 
 /// Types of file systems that have no device of their own, but whose writes report all errors.
-const TELLING: [&str; 5] = ["btrfs", "overlay", "ramfs", "tmpfs", "zfs"];
+const PROMPT: [&str; 5] = ["btrfs", "overlay", "ramfs", "tmpfs", "zfs"];
 
 /// Reports an error of the writes to a file that otherwise only its close would report.
-pub(crate) fn settle(rt: &HostRuntime, alloc: Global, file: &File) -> io::Result<()> {
+pub(crate) fn raise_late_errors(rt: &HostRuntime, alloc: Global, file: &File) -> io::Result<()> {
     let device = file.metadata()?.dev();
-    if major(device) != 0 || is_telling(rt, alloc, device)? {
+    if major(device) != 0 || is_prompt(rt, alloc, device)? {
         return Ok(());
     }
     match file.sync_all() {
         // (a file that can't be synced has held nothing back)
         Err(error) if error.kind() == ErrorKind::InvalidInput => Ok(()),
-        settled => settled,
+        synced => synced,
     }
 }
 
 /// Whether a device's file system is of a type that reports all errors at the write.
-fn is_telling(rt: &HostRuntime, alloc: Global, device: u64) -> io::Result<bool> {
+fn is_prompt(rt: &HostRuntime, alloc: Global, device: u64) -> io::Result<bool> {
     let Ok(mounts) = fs::read_to_string(rt, MOUNTS) else {
         return Ok(false);
     };
@@ -47,7 +47,7 @@ fn is_mounted(line: &str, number: &str) -> bool {
         return false;
     }
     match words.skip_while(|word| *word != "-").nth(1) {
-        Some(kind) => TELLING.contains(&kind),
+        Some(kind) => PROMPT.contains(&kind),
         None => false,
     }
 }
