@@ -15,6 +15,7 @@
 #include <time.h>
 
 #define MOST_THREADS 4
+#define AT_ONCE 50 /* texts of a web page */
 
 struct text {
     unsigned char *bytes;
@@ -80,6 +81,26 @@ static void *ours(void *arg) {
     return NULL;
 }
 
+/* The same, so many texts at once. */
+static void *ours_at_once(void *arg) {
+    struct job *j = arg;
+    const struct domain *d = j->domain;
+    kob_question questions[AT_ONCE] = { 0 };
+    kob_text answers[AT_ONCE];
+    uint64_t sum = 0;
+    for (uint64_t r = 0; r < j->rounds; r++)
+        for (size_t i = 0; i < d->count; i += AT_ONCE) {
+            size_t n = d->count - i < AT_ONCE ? d->count - i : AT_ONCE;
+            for (size_t k = 0; k < n; k++)
+                questions[k].msgid = (kob_text){ d->list[i + k], strlen(d->list[i + k]) };
+            kob_find_many(d->catalogue, questions, n, answers);
+            for (size_t k = 0; k < n; k++)
+                sum += (unsigned char)*answers[k].at;
+        }
+    j->sum = sum;
+    return NULL;
+}
+
 static void *glibc(void *arg) {
     struct job *j = arg;
     const struct domain *d = j->domain;
@@ -110,12 +131,12 @@ static double timed(void *(*work)(void *), const struct domain *d, uint64_t roun
     return time;
 }
 
-static int compare(const struct domain *d, int threads, int turns, double target) {
+static int compare(void *(*work)(void *), const struct domain *d, int threads, int turns, double target) {
     double best_ours = 1e18, best_glibc = 1e18;
     uint64_t a = 0, b = 0;
     timed(glibc, d, 1, 1, &b);
     for (int turn = 0; turn < turns; turn++) {
-        double t = timed(ours, d, d->rounds, threads, &a);
+        double t = timed(work, d, d->rounds, threads, &a);
         if (t < best_ours) best_ours = t;
         t = timed(glibc, d, d->rounds, threads, &b);
         if (t < best_glibc) best_glibc = t;
@@ -169,7 +190,7 @@ int main(int argc, char **argv) {
         { "m5000", NULL, { 0 }, NULL, 5000, 60 },
         { "m80000", NULL, { 0 }, NULL, 80000, 3 },
     };
-    const double targets[] = { 1.0, 2.0, 3.0 }, with_threads[] = { 3.0, 5.0, 10.0 };
+    const double targets[] = { 1.0, 2.0, 3.0 }, with_threads[] = { 3.0, 5.0, 10.0 }, at_once[] = { 1.0, 5.0, 5.0 };
     int bad = 0;
     if (!setlocale(LC_ALL, "C.UTF-8")) {
         fprintf(stderr, "no locale C.UTF-8\n");
@@ -190,8 +211,13 @@ int main(int argc, char **argv) {
     }
     printf("ns a look-up, best of %d\nmessages  threads       ours  dcgettext    ratio   wanted\n", turns);
     for (int i = 0; i < 3; i++)
-        bad |= compare(&domains[i], 1, turns, targets[i]);
+        bad |= compare(ours, &domains[i], 1, turns, targets[i]);
     for (int i = 0; i < 3; i++)
-        bad |= compare(&domains[i], MOST_THREADS, turns, with_threads[i]);
+        bad |= compare(ours, &domains[i], MOST_THREADS, turns, with_threads[i]);
+    printf("the same, %d texts at once\n", AT_ONCE);
+    for (int i = 1; i < 3; i++)
+        bad |= compare(ours_at_once, &domains[i], 1, turns, at_once[i]);
+    for (int i = 1; i < 3; i++)
+        bad |= compare(ours_at_once, &domains[i], MOST_THREADS, turns, at_once[i]);
     return bad;
 }

@@ -1,5 +1,5 @@
 /* Opening MO files by libkobdzila, in megabytes a second: each is read, checked and copied, and its index made. A plain
- * copy of the same bytes into fresh memory stands beside. Run by bench/mo/run. */
+ * copy of the same bytes into fresh memory stands beside. A file that is refused is timed, too. Run by bench/mo/run. */
 #include "kobdzila.h"
 
 #include <stdio.h>
@@ -29,12 +29,10 @@ static unsigned char *read_file(const char *name, size_t *len) {
     return bytes;
 }
 
-static double to_open(const unsigned char *bytes, size_t len) {
+static double to_open(const unsigned char *bytes, size_t len, kob_refusal *why) {
     double start = now();
-    kob_catalogue *catalogue = kob_open_mo(bytes, len, NULL);
+    kob_catalogue *catalogue = kob_open_mo(bytes, len, why);
     double time = now() - start;
-    if (!catalogue)
-        exit(1);
     kob_release(catalogue);
     return time;
 }
@@ -58,14 +56,16 @@ int main(int argc, char **argv) {
         size_t len;
         unsigned char *bytes = read_file(argv[i], &len);
         double opened = 1e18, copied = 1e18;
+        kob_refusal why;
         for (int turn = 0; turn < turns; turn++) {
-            double t = to_open(bytes, len);
+            double t = to_open(bytes, len, &why);
             if (t < opened) opened = t;
             t = to_copy(bytes, len);
             if (t < copied) copied = t;
         }
-        printf("%-15s %9zu %12.1f %8.0f %12.1f %8.0f\n", argv[i], len, opened / 1e6, len * 1e3 / opened, copied / 1e6,
-               len * 1e3 / copied);
+        printf("%-15s %9zu %12.1f %8.0f %12.1f %8.0f%s%s\n", argv[i], len, opened / 1e6, len * 1e3 / opened,
+               copied / 1e6, len * 1e3 / copied, why.fault ? "   refused: " : "",
+               why.fault ? kob_fault_text(why.fault) : "");
         fflush(stdout);
         free(bytes);
     }
