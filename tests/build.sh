@@ -27,10 +27,19 @@ for name in low left right msgfmt shared catserve_program catsession kobdzila_c;
 done
 for name in msgfmt catserve_program catsession; do mv "$top/crates/$name/src/lib.rt" "$top/crates/$name/src/main.rt"; done
 
-# the toolchain: it notes when it begins and ends a crate, and makes what rt would make
+# the toolchain: it notes when it begins and ends a crate, and makes what rt would make. Like rt it first proves the
+# libraries below that have no stamp, or another one than their sources
 cat > "$room/rt" << 'END'
 #!/bin/sh
 name=$(basename "$PWD")
+prove() (
+  for low in $(sed -n "s/^$1[ :]//p" ../../crates.txt | sed 's/.*://'); do [ ! -d "../$low" ] || prove "$low"; done
+  sum=$(cat "../$1"/src/* | cksum)
+  [ "$(cat "../$1/out/rlib/stamp" 2> /dev/null)" != "$sum" ] || exit 0
+  mkdir -p "../$1/out/rlib"
+  echo "$sum" > "../$1/out/rlib/stamp"
+  echo "proves $1" >> "$NOTES"
+)
 case $1 in
   version) echo kit; exit ;;
   doc) echo "$KIT/page.md"; exit ;;
@@ -40,6 +49,7 @@ echo "so far: 0 of 2 functions checked; the verdict comes last"
 sleep "${SLOW:-0.1}"
 [ "${FAILS:-}" != "$name" ] || { echo "fn $name::twice: not proved"; exit 1; }
 [ "${KILLED:-}" != "$name" ] || kill -9 $$
+prove "$name"
 echo "fn $name::once: proved" >&2
 mkdir -p out
 printf '#!/bin/sh\n[ "$1" != -o ] || echo made > "$2"\n' > "out/$name"
@@ -85,6 +95,7 @@ build
 tell 'all programs are made' all_made
 tell 'a crate comes after those that it depends on' in_order
 tell 'two that do not depend on each other are proved side by side' side_by_side
+tell 'a lane takes what another lane has proved' test -z "$(grep '^proves' "$NOTES" | sort | uniq -d)"
 tell 'msgfmt comes first' is_before 'ends msgfmt' 'ends catsession'
 tell 'it says what is left' says 'msgfmt: 1 functions proved in 0:0., [0-9] crates left'
 tell 'examples are compiled' test -s "$top/build/examples/fr.mo"

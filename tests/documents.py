@@ -54,8 +54,9 @@ def variants(path, enum):
     body = re.search(rf"pub enum {enum} \{{(.*?)^\}}", code, re.M | re.S)[1]
     if found := re.findall(r'#\[error\("([^"]*)"\)\]\s*(\w+)', body):
         return found
-    texts = dict(re.findall(rf'^\s*{enum}::(\w+) => "([^"]*)",$', code, re.M))
-    return [(texts.get(name, ""), name) for name in re.findall(r"^\s*(\w+),$", body, re.M)]
+    arms = re.findall(rf'^\s*{enum}::(\w+)(\(_\))? => "([^"]*)",$', code, re.M)
+    texts = {name: text + (" {0}" if field else "") for name, field, text in arms}
+    return [(texts.get(name, ""), name) for name in re.findall(r"^\s*(\w+)(?:\(\w+\))?,$", body, re.M)]
 
 
 def kinds(path, enum):

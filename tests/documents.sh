@@ -52,7 +52,7 @@ open(sys.argv[1], "w").write(text.replace(sys.argv[2], sys.argv[3], 1))' "$top/$
 while IFS='^' read -r file from to; do
   changes "$file" "$from" "$to"
 done << 'END'
-crates/po_checks/src/fault.rt^#[error("duplicate message")]^#[error("message twice")]
+crates/po_checks/src/fault.rt^"duplicate message"^"message twice"
 crates/po_checks/src/fault.rt^    FormCount,^    FormNumber,
 crates/po_text/src/fault.rt^#[error("bad escape")]^#[error("escape")]
 crates/mo_file/src/fault.rt^    NoNul,^    NotClosed,
@@ -118,7 +118,7 @@ README.md^a refused load changes nothing.^a refused load changes little.
 docs/internals/proofs.md^`run_script` and `run_session`^`run_session`
 docs/index.md^(internals/gate.md)^(internals/releases.md)
 docs/guide/c.md^*For programmers^*By programmers
-docs/internals/benchmarks.md^| 145 ms |^| 146 ms |
+docs/internals/benchmarks.md^| 60 MB | ^| 60 MB | 1
 docs/images/publish.svg^version 3^version 4
 docs/internals/glossary.md^`crates/desks/src/desk.rt`^`crates/desks/src/desks.rt`
 docs/internals/glossary.md^`crates/live_versions/src/seal.rt`^`crates/live_versions/src/notice.rt`

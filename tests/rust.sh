@@ -32,18 +32,27 @@ unset RUSTFLAGS RUSTDOCFLAGS DOCS_RS
 # why: the end of what the last command said, in one line
 why() { grep -vE '^(warning: build failed|$)' "$room/log" | tail -n 6 | tr '\n' ' ' | tail -c 400; }
 
+# ends COMMAND..: runs it in the folder of the crate, and stops it after five minutes, which $room/log says then
+ends() {
+  local status
+  (cd "$crate" && timeout 300 "$@") > "$room/log" 2>&1
+  status=$?
+  [ $status != 124 ] || echo 'stopped after 300 seconds' >> "$room/log"
+  return $status
+}
+
 # does NAME COMMAND..: the command ends well in the folder of the crate
 does() {
   local name=$1
   shift
-  if (cd "$crate" && timeout 300 "$@") > "$room/log" 2>&1; then ok "$name"; else failed "$name" "$(why)"; fi
+  if ends "$@"; then ok "$name"; else failed "$name" "$(why)"; fi
 }
 
 # passes NAME COMMAND..: the tests pass; the line says how many
 passes() {
   local name=$1 count
   shift
-  if (cd "$crate" && timeout 300 "$@") > "$room/log" 2>&1; then
+  if ends "$@"; then
     count=$(awk '/^test result: ok\. / { sum += $4 } END { print sum + 0 }' "$room/log")
     if [ "$count" -gt 0 ]; then ok "$name: $count"; else failed "$name" 'no test ran'; fi
   else
@@ -71,9 +80,10 @@ program=$(cd "$crate" && cargo test --features static --test it --no-run 2>&1 | 
 if ! tests/needs valgrind valgrind; then
   skipped 'the Rust crate, valgrind' 'no valgrind, and it could not be installed'
 else
-  # (what the test harness itself keeps to the end is no leak of the crate)
+  # (what the test harness itself keeps to the end is no leak of the crate. valgrind runs one thread at a time: without
+  # turns, readers that never rest can keep a writer from its own for minutes)
   does 'the Rust crate, valgrind' valgrind -q --error-exitcode=9 --leak-check=full --show-leak-kinds=definite,indirect \
-    --errors-for-leak-kinds=definite,indirect --max-stackframe=4000000 "$program" -q --test-threads=1
+    --errors-for-leak-kinds=definite,indirect --max-stackframe=4000000 --fair-sched=yes "$program" --test-threads=1
 fi
 host=$(rustc -vV | sed -n 's/^host: //p')
 if [ -f "$(rustc +nightly --print sysroot 2> /dev/null)/lib/rustlib/$host/lib/librustc-nightly_rt.asan.a" ]; then

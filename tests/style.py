@@ -26,7 +26,7 @@ PRIVATE = "-- Private: "
 MOST_WORDS = 35  # of the sentence that opens a file of specs/
 
 # Crates whose definitions follow a standard, and those of their files that define this project's own terms.
-ON_A_STANDARD = ("c_signature", "mo_file", "mo_image", "po_checks", "po_header", "po_text")
+ON_A_STANDARD = ("c_signature", "mo_file", "mo_image", "mo_tables", "po_checks", "po_header", "po_text")
 OWN_WORDS = {
     ("po_checks", "Found"),
     ("po_checks", "Refusal"),
