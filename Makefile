@@ -4,7 +4,7 @@
 #                   of examples/ with it. The first build proves everything; tools/build shows its progress
 #   make msgfmt     builds bin/msgfmt alone; so do `make catserve` and `make catsession`
 #   make check      every check: the proofs and tests of the gate (rt ci), then the scripts of tests/
-#   make bench      times bin/msgfmt compared with GNU msgfmt, scripts and a session; N=7 sets the number of rounds
+#   make bench      times msgfmt compared with GNU msgfmt, scripts and a session; N=7 sets the number of rounds
 #   make driver     builds bin/msgfmt-or-gnu, the msgfmt for build systems, if there is a C compiler; `make` does too
 #   make library    builds libkobdzila, the look-ups for C, into build/lib, if there is a C compiler; `make` does too.
 #                   CC, CPPFLAGS, CFLAGS and LDFLAGS count
