@@ -7,7 +7,7 @@ use Rattle.std.proofs.lemmas.List.{append-nil, map-append, length-map}
 use Rattle.std.proofs.lemmas.List.Concat.{flat_map-cons}
 use Rattle.po_text.specs.Entries as po
 use Rattle.po_text.specs.Outcome as outcome
-use Rattle.po_text.specs.Outcome.{Gives, IsReadable, body}
+use Rattle.po_text.specs.Outcome.{IsReadable, body}
 use Rattle.po_text.specs.Progress.{HasRead, GoesOn}
 use Rattle.po_text.specs.Lawful.{IsLawfulTexts}
 use Rattle.po_text.specs.declared.reader.EntryReader.{EntryReader}

@@ -1,10 +1,17 @@
 -- What the look-ups return (GNU gettext manual, "Interface to gettext"; "Plural forms").
-use Rattle.std.specs.Prelude.{◌≡◌, ℕ, ◌==◌, nat_lt, if◌then◌else◌, List, length, Option, Some, None, slice_get}
+use Rattle.std.specs.Prelude.{◌≡◌, ℕ, ◌==◌, nat_lt, if◌then◌else◌, List, length, Option, Some, None, MatchOption}
+use Rattle.std.specs.Prelude.{slice_get}
+use denote.Ref.{Bor}
 use Rattle.po_header.specs.Rule.{Rule, place}
 pub use Rattle.po_header.specs.Rule.{HasRuleIn}
 use Rattle.mo_image.specs.Entry.{Entry}
-use Rattle.mo_image.specs.Map.{header_text}
+use Rattle.mo_image.specs.Map.{entry_at, header_text}
 use Rattle.mo_image.specs.MoFile.{closed}
+
+-- the entry of a key, and the map that it was found in
+abbrev pub IsFoundAt : List Entry → List ℕ → Option (Bor (List Entry) × Entry) → Type 0
+IsFoundAt m key found = MatchOption found (entry_at m key ≡ None)
+    (λ f. (f.0.now ≡ m) × (entry_at m key ≡ Some f.1))
 
 -- the first form of the entry that was found, or the msgid
 abbrev pub IsFirstForm : Option Entry → List ℕ → List ℕ → Type 0

@@ -19,7 +19,7 @@ mod spans;
 pub use compiler::{Compiled, Stats, compile, compile_owned};
 pub use entry_search::{AskedKey, NO_HINT, Steps};
 pub use law::one_meaning;
-pub use lookup::untranslated;
+pub use lookup::{Found, counted, first_form, untranslated};
 pub use map::Catalogue;
 pub use mo_image::{EntryRef, EntryStrings, Forms};
 pub use po_checks::{LoadFault, LoadKind, Options};

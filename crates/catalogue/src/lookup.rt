@@ -1,9 +1,9 @@
 //! The look-ups of gettext. They don't allocate; a result borrows from the catalogue or from an argument.
-ghost use Rattle.std.specs.Prelude.{◌≡◌, ◌<◌, ℕ, List, length, slice_get, Some, None, option_map};
+ghost use Rattle.std.specs.Prelude.{◌≡◌, ◌<◌, ℕ, List, length, slice_get, MatchOption, Some, None, option_map};
 ghost use Rattle.mo_image.specs.Entry.{key_bytes};
 ghost use Rattle.mo_image.specs.Map.{entry_at};
-ghost use Rattle.catalogue.specs.Value.{IsAskedForm, IsCounted, IsFirstForm, IsFormFor, IsMapFormFor, IsTranslated};
-ghost use Rattle.catalogue.specs.Value.{IsClosedFormFor, IsTranslatedClosed, text_by};
+ghost use Rattle.catalogue.specs.Value.{IsAskedForm, IsCounted, IsFirstForm, IsFormFor, IsFoundAt, IsMapFormFor};
+ghost use Rattle.catalogue.specs.Value.{IsClosedFormFor, IsTranslated, IsTranslatedClosed, text_by};
 ghost use Rattle.po_header.specs.Rules.{rule_of};
 
 use crate::Catalogue;
@@ -33,18 +33,45 @@ pub fn untranslated<'a>(id: &'a str, plural: &'a str, n: u64) -> &'a str
     if n == 1 { id } else { plural }
 }
 
-/// Returns the first form of the entry that was found, or the msgid.
+/// An entry that was found, and the catalogue that it is in.
+pub type Found<'a> = (&'a Catalogue, EntryRef<'a>);
+
+/// Returns the first form of the entry that was found, or the msgid if there is none.
 #[inline(always)]
-fn first_form<'a>(found: Option<EntryRef<'a>>, id: &'a str) -> &'a str
-    ensures { IsFirstForm found.entry id.now result.now }
+pub fn first_form<'a>(found: Option<Found<'a>>, id: &'a str) -> &'a str
+    ensures { IsFirstForm (option_map (λ f. f.1) found.entry) id.now result.now }
 {
     match found {
-        Some(entry) => entry.form(0),
+        Some((_, entry)) => entry.form(0),
         None => id,
     }
 }
 
+/// Returns the form for `n` of the entry that was found, by the plural rule of its catalogue. If there is none, returns
+/// the msgid for 1 and the plural for any other number.
+#[inline(always)]
+pub fn counted<'a>(found: Option<Found<'a>>, id: &'a str, plural: &'a str, n: u64) -> &'a str
+    ensures { MatchOption found.entry (result.now ≡ text_by n id.now plural.now)
+        (λ f. IsMapFormFor f.0.now n f.1.forms result.now) }
+{
+    match found {
+        Some((catalogue, entry)) => catalogue.form_for(&entry, n),
+        None => untranslated(id, plural, n),
+    }
+}
+
 impl Catalogue {
+    /// Finds the entry of a key in this catalogue.
+    #[inline(always)]
+    fn found<'a>(&'a self, context: Option<&str>, id: &str) -> Option<Found<'a>>
+        ensures { IsFoundAt self.now (key_bytes (option_map (λ s. s.now) context.entry) id.now) result }
+    {
+        match self.find(context, id) {
+            Some(entry) => Some((self, entry)),
+            None => None,
+        }
+    }
+
     /// Returns the form of an entry of this catalogue that the rule in the header selects for `n`, or the first form if
     /// the entry has no such form (GNU gettext manual, "Plural forms").
     #[inline(always)]
@@ -54,29 +81,12 @@ impl Catalogue {
         entry.form(place_by(entry, self.rule(), n))
     }
 
-    /// Returns the form for `n` of the entry that was found, or else the msgid or the plural.
-    #[inline(always)]
-    fn counted<'a>(
-        &'a self,
-        found: Option<EntryRef<'a>>,
-        id: &'a str,
-        plural: &'a str,
-        n: u64,
-    ) -> &'a str
-        ensures { IsCounted self.now found.entry n (text_by n id.now plural.now) result.now }
-    {
-        match found {
-            Some(entry) => self.form_for(&entry, n),
-            None => untranslated(id, plural, n),
-        }
-    }
-
     /// Translates a msgid: returns the first form of its entry, or the msgid itself if there is no entry (GNU gettext
     /// manual, "Interface to gettext").
     pub fn gettext<'a>(&'a self, id: &'a str) -> &'a str
         ensures { IsFirstForm (entry_at self.now (key_bytes None id.now)) id.now result.now }
     {
-        first_form(self.find(None, id), id)
+        first_form(self.found(None, id), id)
     }
 
     /// Translates a msgid in a context, or returns the msgid itself if there is no entry (GNU gettext manual,
@@ -84,7 +94,7 @@ impl Catalogue {
     pub fn pgettext<'a>(&'a self, context: &str, id: &'a str) -> &'a str
         ensures { IsFirstForm (entry_at self.now (key_bytes (Some context.now) id.now)) id.now result.now }
     {
-        first_form(self.find(Some(context), id), id)
+        first_form(self.found(Some(context), id), id)
     }
 
     /// Translates a message with a number: returns the form of its entry that the rule in the header selects for `n`,
@@ -94,7 +104,7 @@ impl Catalogue {
         ensures { IsCounted self.now (entry_at self.now (key_bytes None id.now)) n (text_by n id.now plural.now)
             result.now }
     {
-        self.counted(self.find(None, id), id, plural, n)
+        counted(self.found(None, id), id, plural, n)
     }
 
     /// Translates a message with a number in a context, as `ngettext` does without one.
@@ -102,7 +112,7 @@ impl Catalogue {
         ensures { IsCounted self.now (entry_at self.now (key_bytes (Some context.now) id.now)) n
             (text_by n id.now plural.now) result.now }
     {
-        self.counted(self.find(Some(context), id), id, plural, n)
+        counted(self.found(Some(context), id), id, plural, n)
     }
 
     /// Returns the index of the form that is asked for: 0 without a number, else that of the form for the number.

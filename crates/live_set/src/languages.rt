@@ -3,7 +3,6 @@ ghost use Rattle.std.specs.Prelude.{◌≡◌, ◌<◌, false, true, [], ◌∷�
 ghost use Rattle.std.specs.Prelude.{IfSome};
 ghost use Rattle.std.specs.List.{before_first, list_any};
 ghost use Rattle.catalogue.specs.Entry.{key_bytes};
-ghost use Rattle.catalogue.specs.Value.{IsFirstForm, IsMapFormFor, text_by};
 ghost use Rattle.live_set.specs.Languages.{is_colon, is_underscore, has_only_territory, translates, language_behind};
 ghost use Rattle.live_set.specs.Languages.{locales_of};
 ghost use Rattle.live_set.specs.Asks.{has_key, maps_named};
@@ -13,10 +12,7 @@ ghost use Rattle.live_set.specs.FirstFound.{IsFoundIn, IsCutAt};
 
 use crate::CatalogueSet;
 use byte_text::TextKey;
-use catalogue::{AskedKey, Catalogue, EntryRef, untranslated};
-
-/// An entry that was found, and the catalogue it is in.
-pub(crate) type Found<'a> = (&'a Catalogue, EntryRef<'a>);
+use catalogue::{AskedKey, Found};
 
 /// The key of a msgid, in a context or in none.
 #[inline(always)]
@@ -24,30 +20,6 @@ pub(crate) fn key_of<'a>(context: Option<&'a str>, id: &'a str) -> AskedKey<'a>
     ensures { result ≡ key_bytes (option_map (λ s. s.now) context.entry) id.now }
 {
     AskedKey::new(context.map(str::as_bytes), id.as_bytes())
-}
-
-/// The first form of the entry found, or the msgid if there is none.
-#[inline(always)]
-pub(crate) fn first_form<'a>(found: Option<Found<'a>>, id: &'a str) -> &'a str
-    ensures { IsFirstForm (option_map (λ f. f.1) found.entry) id.now result.now }
-{
-    match found {
-        Some((_, entry)) => entry.form(0),
-        None => id,
-    }
-}
-
-/// The form for `n` of the entry found, by its catalogue's plural rule; without an entry, the msgid for 1 and the
-/// plural for other numbers.
-#[inline(always)]
-pub(crate) fn counted<'a>(found: Option<Found<'a>>, id: &'a str, plural: &'a str, n: u64) -> &'a str
-    ensures { MatchOption found.entry (result.now ≡ text_by n id.now plural.now)
-        (λ f. IsMapFormFor f.0.now n f.1.forms result.now) }
-{
-    match found {
-        Some((catalogue, entry)) => catalogue.form_for(&entry, n),
-        None => untranslated(id, plural, n),
-    }
 }
 
 /// The language of a locale name with a territory, no codeset and no variant: `fr` for `fr_CA`.

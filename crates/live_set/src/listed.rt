@@ -7,9 +7,9 @@ ghost use Rattle.live_set.specs.Asks.{HasFirstValue, Plain, Context, Number, Con
 ghost use Rattle.live_set.specs.FirstFound.{IsFoundIn};
 ghost use Rattle.live_set.specs.Sets.{map_in};
 
-use crate::languages::{Found, counted, first_form, key_of};
+use crate::languages::key_of;
 use crate::{CatalogueSet, MOST_PLACES, Places};
-use catalogue::AskedKey;
+use catalogue::{AskedKey, Found, counted, first_form};
 use std::marker::Model;
 
 /// The catalogues of a set that a list of languages names in a domain, in order. The list is looked at once, when this

@@ -6,10 +6,10 @@ ghost use Rattle.live_set.specs.FirstFound.{IsFoundIn};
 ghost use Rattle.live_set.specs.Names.{IsName};
 ghost use Rattle.live_set.specs.Sets.{map_in};
 
-use crate::languages::{Found, counted, first_form, is_translated, key_of};
+use crate::languages::{is_translated, key_of};
 use crate::{Ask, CatalogueSet, Query};
 use byte_text::TextKey;
-use catalogue::NO_HINT;
+use catalogue::{Found, NO_HINT, counted, first_form};
 use std::alloc::{AllocError, Global};
 
 /// How many queries ahead a hint is got.

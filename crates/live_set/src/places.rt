@@ -9,9 +9,9 @@ ghost use Rattle.live_set.specs.SetPlaces.{IsListed, listed, map_among, map_at, 
 ghost use Rattle.live_set.specs.Placing.{IsExtended, IsPushed};
 
 use crate::CatalogueSet;
-use crate::languages::{Found, first_member, language_of};
+use crate::languages::{first_member, language_of};
 use byte_text::TextKey;
-use catalogue::{AskedKey, NO_HINT};
+use catalogue::{AskedKey, Found, NO_HINT};
 
 /// The most places that a list has.
 pub const MOST_PLACES: u32 = 16;

@@ -9,11 +9,10 @@ ghost use Rattle.catalogue.specs.Map.{entry_at};
 ghost use Rattle.catalogue.specs.Value.{IsTranslatedClosed};
 ghost use Rattle.live_set.specs.Asks.{HasAnswer, map_with, query_of, Plain, Context, Number, ContextNumber};
 
-use crate::languages::{counted, first_form};
 use crate::runs::LoadRuns;
 use crate::{Ask, Load, Query};
 use byte_text::TextKey;
-use catalogue::{AskedKey, Catalogue};
+use catalogue::{AskedKey, Catalogue, counted, first_form};
 use std::alloc::{AllocError, Global};
 use std::marker::Model;
 

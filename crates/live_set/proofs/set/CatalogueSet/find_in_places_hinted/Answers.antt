@@ -1,4 +1,4 @@
-use Rattle.std.proofs.Common.{◌≡◌, Bor, ℕ, List, ◌∷◌, Some, map, find, ap, ◌∙◌}
+use Rattle.std.proofs.Common.{Bor, ℕ, List, map, find, ap, ◌∙◌}
 use Rattle.std.specs.Prelude.{option_map}
 use Rattle.catalogue.specs.Entry.{key_bytes}
 use Rattle.live_set.specs.Asks.{has_key}
