@@ -8,12 +8,12 @@ use Rattle.std.proofs.lemmas.List.{append-nil, nil_from_length, take-append-le, 
 use Rattle.std.proofs.lemmas.List.{length-take-le}
 use Rattle.std.proofs.Math.Seq.{take-add}
 use Rattle.std.proofs.lemmas.List.Folds.{concat-append}
-use Rattle.line_input.specs.Lines.{lines, is_line_end}
-use Rattle.line_input.specs.Incoming.{Incoming, MayCome, EndsLine, EndsLines}
-use Rattle.line_input.specs.Arrivals.{AddsInput, AddsSome, Comes}
-use Rattle.line_input.proofs.Arriving.{consumes_none, consumes_both, rises_none, rises_both}
-use Rattle.line_input.specs.declared.fault.LineInputFault.{LineInputFault}
-use Rattle.line_input.specs.declared.fault.LineInputFault.TheVariants as line_fault
+use Rattle.devices.specs.Lines.{lines, is_line_end}
+use Rattle.devices.specs.Incoming.{Incoming, MayCome, EndsLine, EndsLines}
+use Rattle.devices.specs.Arrivals.{AddsInput, AddsSome, Comes}
+use Rattle.devices.proofs.Arriving.{consumes_none, consumes_both, rises_none, rises_both}
+use Rattle.devices.specs.declared.incoming.LineInputFault.{LineInputFault}
+use Rattle.devices.specs.declared.incoming.LineInputFault.TheVariants as line_fault
 use Rattle.script_text.specs.Texts.{most_script}
 use Rattle.script_text.specs.declared.fault.ScriptKind.{ScriptKind}
 use Rattle.script_text.specs.declared.fault.ScriptKind.TheVariants as kind

@@ -8,9 +8,9 @@ use Rattle.std.proofs.lemmas.List.{append-nil}
 use Rattle.std.proofs.lemmas.List.Folds.{concat-append}
 use Rattle.std.proofs.lemmas.Str.{IsUtf8-append, IsUtf8-nil}
 use Rattle.devices.specs.Devices.{InputSeen, OutputSeen}
-use Rattle.line_input.specs.Lines.{lines}
-use Rattle.line_input.specs.Incoming.{MayCome}
-use Rattle.line_input.proofs.Arriving.{both, consumes_both}
+use Rattle.devices.specs.Lines.{lines}
+use Rattle.devices.specs.Incoming.{MayCome}
+use Rattle.devices.proofs.Arriving.{both, consumes_both}
 use Rattle.script_text.specs.ScriptLoads.{JobValue}
 use Rattle.script_text.specs.Script.{QuestionValue, RoundValue, commands_from, script_of}
 use Rattle.script_text.specs.Texts.{most_script}

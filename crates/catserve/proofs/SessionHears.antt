@@ -4,9 +4,9 @@ use Rattle.std.proofs.Common.{arith, inl, inr, append_assoc, Option, Some, None,
 use Rattle.std.specs.List.{concat}
 use Rattle.std.proofs.lemmas.List.{append-nil}
 use Rattle.devices.specs.Devices.{InputSeen, most_reads}
-use Rattle.line_input.specs.Lines.{lines, without_end}
-use Rattle.line_input.specs.Incoming.{MayCome, EndsLine}
-use Rattle.line_input.proofs.Arriving.{consumes_both, rises_both, rises_later}
+use Rattle.devices.specs.Lines.{lines, without_end}
+use Rattle.devices.specs.Incoming.{MayCome, EndsLine}
+use Rattle.devices.proofs.Arriving.{consumes_both, rises_both, rises_later}
 use Rattle.script_text.specs.Commands.{Line, line_of}
 use Rattle.script_text.specs.CommandValues.{command_with, listed, text_lines}
 use Rattle.script_text.specs.Script.{commands_from}

@@ -7,10 +7,10 @@ use Rattle.std.proofs.lemmas.List.{append_cancel_left, append-nil, nil_from_leng
 use Rattle.devices.specs.Logs.{AnswersFirst, Event, Gave, Grows, Log, came, given as gave}
 use Rattle.devices.proofs.Logging.{answers_none, answers_so, answers_then, answers_write, came_then, given_then}
 use Rattle.devices.proofs.Logging.{grows_none, grows_then}
-use Rattle.line_input.specs.Incoming.{EndsLine, EndsLines, Incoming}
-use Rattle.line_input.specs.Lines.{lines, without_end}
-use Rattle.line_input.specs.Waiting.{ReadsWhile, StillCounts, StillWaits, Waits}
-use Rattle.line_input.proofs.Arriving.{both}
+use Rattle.devices.specs.Incoming.{EndsLine, EndsLines, Incoming}
+use Rattle.devices.specs.Lines.{lines, without_end}
+use Rattle.devices.specs.Waiting.{ReadsWhile, StillCounts, StillWaits, Waits}
+use Rattle.devices.proofs.Arriving.{both}
 use Rattle.script_text.specs.Commands.{Line, line_of}
 use Rattle.script_text.specs.CommandValues.{command_with, listed, text_lines}
 use Rattle.script_text.specs.Script.{Command, Go}

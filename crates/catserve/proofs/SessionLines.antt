@@ -6,8 +6,8 @@ use Rattle.std.specs.Str.{IsUtf8}
 use Rattle.std.proofs.lemmas.List.Folds.{concat-append}
 use Rattle.std.proofs.lemmas.Str.{IsUtf8-append}
 use Rattle.std.proofs.Math.Seq.{take-append_seam, drop-append_seam}
-use Rattle.line_input.specs.Lines.{lines, without_end}
-use Rattle.line_input.specs.Incoming.{Incoming, MayCome}
+use Rattle.devices.specs.Lines.{lines, without_end}
+use Rattle.devices.specs.Incoming.{Incoming, MayCome}
 use Rattle.script_text.specs.Commands.{Line, line_of}
 use Rattle.script_text.specs.CommandValues.{command_with, listed, text_lines}
 use Rattle.script_text.specs.Script.{Command, Says, and_then, commands_from, script_of}

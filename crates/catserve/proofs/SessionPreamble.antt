@@ -6,8 +6,8 @@ use Rattle.std.specs.Str.{IsUtf8}
 use Rattle.std.proofs.lemmas.List.{append-nil, length-take-le}
 use Rattle.std.proofs.lemmas.List.Folds.{concat-append}
 use Rattle.std.proofs.lemmas.Str.{IsUtf8-append, IsUtf8-nil}
-use Rattle.line_input.specs.Lines.{lines, without_end}
-use Rattle.line_input.specs.Incoming.{Incoming, EndsLine}
+use Rattle.devices.specs.Lines.{lines, without_end}
+use Rattle.devices.specs.Incoming.{Incoming, EndsLine}
 use Rattle.script_text.specs.Commands.{is_blank, workers_line}
 use Rattle.script_text.specs.LineFields.{fields}
 use Rattle.script_text.specs.Script.{commands_from, script_from, script_of}

@@ -5,11 +5,11 @@ use Rattle.std.proofs.lemmas.Bool.{cases_Bool}
 use Rattle.std.proofs.lemmas.List.{append-nil, take-append-le}
 use Rattle.devices.specs.Logs.{AnswersFirst, Log, came, given}
 use Rattle.devices.proofs.Logging.{answers_none, answers_so, answers_then, given_then, grows_none, grows_then}
-use Rattle.line_input.specs.Lines.{without_end}
-use Rattle.line_input.specs.Incoming.{EndsLine, Incoming, MayCome}
-use Rattle.line_input.specs.Waiting.{ReadsWhile, StillCounts, StillWaits, Waits}
-use Rattle.line_input.proofs.Arriving.{both}
-use Rattle.line_input.proofs.LineCounting.{ends_grown, ends_more, ends_none}
+use Rattle.devices.specs.Lines.{without_end}
+use Rattle.devices.specs.Incoming.{EndsLine, Incoming, MayCome}
+use Rattle.devices.specs.Waiting.{ReadsWhile, StillCounts, StillWaits, Waits}
+use Rattle.devices.proofs.Arriving.{both}
+use Rattle.devices.proofs.LineCounting.{ends_grown, ends_more, ends_none}
 use Rattle.script_text.specs.Commands.{Line, Loads, line_of}
 use Rattle.script_text.specs.CommandValues.{text_lines}
 use Rattle.catserve.specs.Session.{IsOpen, coming}

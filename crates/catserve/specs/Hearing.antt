@@ -5,10 +5,10 @@ use Rattle.std.specs.List.{concat}
 use Rattle.std.specs.Str.{IsUtf8}
 use Rattle.std.specs.Io.KnownBytes.{Consumes, IsAtEnd}
 use Rattle.devices.specs.Devices.{InputSeen, RisesBy}
-use Rattle.line_input.specs.Lines.{lines, without_end}
-use Rattle.line_input.specs.Incoming.{Incoming, MayCome, EndsLine, LacksLines}
-use Rattle.line_input.specs.declared.fault.LineInputFault.{LineInputFault}
-use Rattle.line_input.specs.declared.fault.LineInputFault.TheVariants as line_fault
+use Rattle.devices.specs.Lines.{lines, without_end}
+use Rattle.devices.specs.Incoming.{Incoming, MayCome, EndsLine, LacksLines}
+use Rattle.devices.specs.declared.incoming.LineInputFault.{LineInputFault}
+use Rattle.devices.specs.declared.incoming.LineInputFault.TheVariants as line_fault
 use Rattle.script_text.specs.Commands.{is_blank, line_of, workers_line}
 use Rattle.script_text.specs.CommandValues.{command_with, listed}
 use Rattle.script_text.specs.LineValues.{line_value}

@@ -7,8 +7,8 @@ use Rattle.std.specs.Io.KnownBytes.{Appends, Consumes, IsAtEnd}
 use Rattle.devices.specs.Devices.{AppendsFront, InputSeen, OutputSeen, RisesBy}
 use Rattle.devices.specs.Logs.{AnswersFirst, Event, Grows, Log}
 use Rattle.catalogue.specs.declared.Options.{Options}
-use Rattle.line_input.specs.Lines.{lines, without_end}
-use Rattle.line_input.specs.Incoming.{Incoming, EndsLines, LacksEnd}
+use Rattle.devices.specs.Lines.{lines, without_end}
+use Rattle.devices.specs.Incoming.{Incoming, EndsLines, LacksEnd}
 use Rattle.script_text.specs.Commands.{Loads, line_of}
 use Rattle.script_text.specs.Script.{RoundValue, ScriptValue, commands_from, script_from, script_of}
 use Rattle.script_text.specs.Texts.{most_script}

@@ -1,11 +1,11 @@
 //! The lines of a session as they arrive, and what they say.
 ghost use Rattle.std.specs.Prelude.{◌≡◌, ◌+◌, ◌<◌, ◌≤◌, ◌^◌, ℕ, IfOk, IfErr, Some, None, drop, take};
-ghost use Rattle.line_input.specs.Lines.{without_end};
+ghost use Rattle.devices.specs.Lines.{without_end};
 ghost use Rattle.script_text.specs.Commands.{line_of};
 ghost use Rattle.script_text.specs.LineValues.{line_value};
 ghost use Rattle.script_text.specs.Texts.{most_script};
-ghost use Rattle.line_input.specs.Incoming.{EndsLine};
-ghost use Rattle.line_input.specs.Waiting.{ReadsWhile, StillCounts, StillWaits, WaitsUntil};
+ghost use Rattle.devices.specs.Incoming.{EndsLine};
+ghost use Rattle.devices.specs.Waiting.{ReadsWhile, StillCounts, StillWaits, WaitsUntil};
 ghost use Rattle.catserve.specs.Timing.{BeginsInTime, HearsInTime, ReadsText};
 ghost use Rattle.catserve.specs.Run.{input_seen};
 ghost use Rattle.catserve.specs.Session.{most_lines, AnswersInTime};
@@ -14,8 +14,7 @@ ghost use Rattle.catserve.specs.Hearing.{commands_of, line_of_kind, size_behind,
 
 use crate::said::{PreambleLine, read_preamble_line, read_said};
 use crate::session_fault::SessionFault;
-use devices::Source;
-use line_input::{LineInput, LineInputFault};
+use devices::{LineInput, LineInputFault, Source};
 use script_text::{DEFAULT_WORKERS, Line, MOST_SCRIPT, ScriptKind};
 use simdutf8::is_utf8;
 use std::alloc::{AllocError, Global};

@@ -1,6 +1,6 @@
 //! What a line of a session says, whatever input it comes from.
 ghost use Rattle.std.specs.Prelude.{◌≡◌, IfOk, IfErr, Some};
-ghost use Rattle.line_input.specs.Lines.{without_end};
+ghost use Rattle.devices.specs.Lines.{without_end};
 ghost use Rattle.script_text.specs.Commands.{line_of};
 ghost use Rattle.script_text.specs.LineValues.{line_value};
 ghost use Rattle.catserve.specs.Hearing.{IsPreambleLine, IsUnsaid};

@@ -2,3 +2,8 @@ pub mod Devices
 pub mod Files
 pub mod Chunks
 pub mod Logs
+pub mod Lines
+pub mod Incoming
+pub mod Arrivals
+pub mod Seeking
+pub mod Waiting

@@ -2,8 +2,7 @@
 //! error output to `msgfmt_tool`, and ends with the exit status 0 or 1.
 #![tactic(auto)]
 
-use devices::{Reading, Sink, Writing};
-use disk::Disk;
+use devices::{Disk, Reading, Sink, Writing};
 use msgfmt_tool::{Status, run};
 use std::io;
 use std::process::ExitCode;

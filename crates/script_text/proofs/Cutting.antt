@@ -10,7 +10,7 @@ use Rattle.std.proofs.lemmas.List.Splits.{slice_split_first, length-slice_split}
 use Rattle.std.proofs.lemmas.List.Sums.{split_at_first, fails_before_first, passes_at_first}
 use Rattle.std.specs.Str.{IsUtf8}
 use Rattle.std.proofs.lemmas.Str.{IsUtf8-drop, IsUtf8-nil, IsCharBoundary-after_ascii}
-use Rattle.line_input.specs.Lines.{pieces, is_line_end}
+use Rattle.devices.specs.Lines.{pieces, is_line_end}
 use Rattle.script_text.specs.LineFields.{is_tab, fields}
 use Rattle.bstr.specs.Find.{is_byte}
 use Rattle.byte_text.specs.Cut.{IsCut}

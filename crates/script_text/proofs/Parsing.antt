@@ -8,7 +8,7 @@ use Rattle.std.proofs.lemmas.List.{append-nil}
 use Rattle.std.proofs.lemmas.Grind.{flat_map-append}
 use Rattle.std.proofs.lemmas.List.Sums.{fold-append, sum_by-append}
 use Rattle.std.proofs.lemmas.Bool.{le-leb, lt-leb}
-use Rattle.line_input.specs.Lines.{lines, pieces, without_end}
+use Rattle.devices.specs.Lines.{lines, pieces, without_end}
 use Rattle.script_text.specs.LineFields.{fields}
 use Rattle.script_text.specs.Commands.{Line, Blank, Loads, LoadsMo, Asks, Goes, is_blank, line_of, workers_line}
 use Rattle.script_text.specs.CommandValues.{command_with, listed, text_lines}

@@ -3,7 +3,7 @@ use Rattle.std.proofs.Common.{◌≡◌, ◌∙◌, refl, sym, ap, ℕ, zero, su
 use Rattle.std.proofs.Common.{drop, arith, add-one, append_assoc, length-append, length-drop}
 use Rattle.std.proofs.lemmas.List.{append-nil}
 use Rattle.std.specs.List.{concat}
-use Rattle.line_input.specs.Lines.{lines}
+use Rattle.devices.specs.Lines.{lines}
 use Rattle.script_text.specs.Scanning.{IsFirstLine, HasTaken}
 
 -- from index i on a list is y, followed by ys

@@ -3,7 +3,7 @@ use Rattle.std.specs.Prelude.{◌≡◌, ℕ, ◌+◌, ◌<◌, ◌≤◌, Bool,
 use Rattle.std.specs.Prelude.{drop, fold, Option, Result, Ok, Err}
 use Rattle.std.specs.List.{flat_map}
 use Rattle.std.specs.Str.{IsUtf8}
-use Rattle.line_input.specs.Lines.{lines}
+use Rattle.devices.specs.Lines.{lines}
 use Rattle.script_text.specs.Commands.{Line}
 use Rattle.script_text.specs.CommandValues.{listed}
 use Rattle.script_text.specs.Script.{Command, Load, Ask, Go, RoundValue, round_of, rounds_of, Says, saying}

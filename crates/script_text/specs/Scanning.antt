@@ -9,7 +9,7 @@ use Rattle.script_text.specs.declared.fault.ScriptFault.{ScriptFault}
 use Rattle.script_text.specs.declared.fault.ScriptKind.{ScriptKind}
 use Rattle.script_text.specs.declared.fault.ScriptKind.TheVariants as kind
 use Rattle.script_text.specs.Script.{ScriptValue}
-use Rattle.line_input.specs.Lines.{lines, without_end}
+use Rattle.devices.specs.Lines.{lines, without_end}
 use Rattle.script_text.specs.LineFields.{fields}
 use Rattle.std.specs.Str.{IsUtf8}
 use Rattle.std.specs.Option.{option_map}

@@ -4,7 +4,7 @@ use Rattle.std.specs.Prelude.{length, map, take, Option, Some, None, Result, Ok,
 use Rattle.std.specs.List.{concat, filter_map, sum_by}
 use Rattle.live_set.specs.Asks.{QueryValue}
 use Rattle.script_text.specs.ScriptLoads.{JobValue, Po, Mo}
-use Rattle.line_input.specs.Lines.{pieces, lines, without_end}
+use Rattle.devices.specs.Lines.{pieces, lines, without_end}
 use Rattle.script_text.specs.LineFields.{fields}
 use Rattle.script_text.specs.Commands.{Line, Blank, Loads, LoadsMo, Asks, Goes, is_blank, line_of, workers_line}
 

@@ -1,6 +1,6 @@
 //! The lines of a text.
 ghost use Rattle.std.specs.Prelude.{◌≡◌, ◌<◌, [], MatchOption, length};
-ghost use Rattle.line_input.specs.Lines.{lines};
+ghost use Rattle.devices.specs.Lines.{lines};
 ghost use Rattle.script_text.specs.Scanning.{IsFirstLine, TakesLines};
 
 use byte_text::split_at_byte;

@@ -1,6 +1,6 @@
 //! Parsing a whole script.
 ghost use Rattle.std.specs.Prelude.{◌≡◌, ◌<◌, ◌≤◌, ◌+◌, ◌^◌, IfOk, IfErr, OnOk, Ok, fold, length};
-ghost use Rattle.line_input.specs.Lines.{lines};
+ghost use Rattle.devices.specs.Lines.{lines};
 ghost use Rattle.script_text.specs.Commands.{line_of};
 ghost use Rattle.script_text.specs.CommandValues.{command_with, listed};
 ghost use Rattle.script_text.specs.Script.{load_count, script, saying, IsBad};

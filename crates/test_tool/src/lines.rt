@@ -1,7 +1,6 @@
 //! Inputs that come byte by byte or in any two parts, are interrupted and fail.
 
-use devices::Reading;
-use line_input::{LineInput, LineInputFault};
+use devices::{LineInput, LineInputFault, Reading};
 use std::io;
 use std::io::Read;
 

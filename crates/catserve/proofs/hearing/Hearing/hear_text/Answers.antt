@@ -1,6 +1,6 @@
 use Rattle.std.proofs.Common.{◌≡◌, ◌-◌, ◌∙◌, [], ℕ, List, refl, ap, arith, take, drop}
 use Rattle.std.specs.Str.{IsUtf8}
-use Rattle.line_input.proofs.Arriving.{both}
+use Rattle.devices.proofs.Arriving.{both}
 use Rattle.devices.specs.Devices.{InputSeen}
 use Rattle.catserve.specs.Run.{input_seen}
 use Rattle.script_text.specs.Texts.{most_script}

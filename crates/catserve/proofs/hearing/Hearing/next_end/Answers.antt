@@ -1,6 +1,6 @@
 use Rattle.std.proofs.Common.{[], refl, arith}
-use Rattle.line_input.specs.Waiting.{StillWaits}
-use Rattle.line_input.proofs.Waitings.{waits_none}
+use Rattle.devices.specs.Waiting.{StillWaits}
+use Rattle.devices.proofs.Waitings.{waits_none}
 use Rattle.catserve.specs.Hearing.{HearingValue}
 use Rattle.catserve.proofs.LinesTaken.{found_so, nothing_heard, stays_whole}
 use Rattle.catserve.proofs.hearing.Hearing.next_end.Goals as goal

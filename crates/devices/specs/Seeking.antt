@@ -2,9 +2,9 @@
 use Rattle.std.specs.Prelude.{◌≡◌, ◌+◌, ◌<◌, ◌≤◌, ℕ, true, false, List, ◌++◌, length}
 use Rattle.std.specs.Prelude.{slice_index, Option, Result, Ok, Err}
 use Rattle.std.specs.Io.KnownBytes.{Consumes, IsAtEnd}
-use Rattle.line_input.specs.Lines.{is_line_end}
-use Rattle.line_input.specs.Incoming.{Incoming, LacksEnd, EndsLine}
-use Rattle.line_input.specs.declared.fault.LineInputFault.{LineInputFault}
+use Rattle.devices.specs.Lines.{is_line_end}
+use Rattle.devices.specs.Incoming.{Incoming, LacksEnd, EndsLine}
+use Rattle.devices.specs.declared.incoming.LineInputFault.{LineInputFault}
 
 -- bytes went from a reader to the end of a buffer
 pub record AddsBytes (before after : Option (List ℕ)) (old new : List ℕ) : Type 0 where

@@ -3,10 +3,11 @@
 //! A regular file is written under a temporary name in its folder and then renamed, so that a reader always has the
 //! whole old file or the whole new one, and a failure leaves the old one as it was. Other files are written directly.
 
+use crate::adapters::Writing;
 use crate::beside::Beside;
+use crate::device::Sink;
 use crate::late_errors::raise_late_errors;
 use crate::stream::{Stream, is_descriptor, stream_named};
-use devices::{Sink, Writing};
 use std::alloc::Global;
 use std::fs::{File, Metadata, OpenFile, OpenOptions};
 use std::io::{ErrorKind, Write};

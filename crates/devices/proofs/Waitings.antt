@@ -7,12 +7,12 @@ use Rattle.std.proofs.Common.{Option, Result, Ok, Err}
 use Rattle.devices.specs.Logs.{Came, Grows, Log, came, given}
 use Rattle.devices.proofs.Logging.{answers_none, answers_read, answers_so, answers_then, came_then, given_then}
 use Rattle.devices.proofs.Logging.{grows_none, grows_then}
-use Rattle.line_input.specs.Incoming.{EndsLines, Incoming, LacksEnd}
+use Rattle.devices.specs.Incoming.{EndsLines, Incoming, LacksEnd}
 use Rattle.std.proofs.lemmas.Bool.{cases_Bool}
-use Rattle.line_input.specs.Arrivals.{AddsInput}
-use Rattle.line_input.proofs.Arriving.{both}
-use Rattle.line_input.proofs.LineCounting.{ends_grown}
-use Rattle.line_input.specs.Waiting.{GrowsOnce, ReadsOnce, StillCounts, StillWaits, Waits}
+use Rattle.devices.specs.Arrivals.{AddsInput}
+use Rattle.devices.proofs.Arriving.{both}
+use Rattle.devices.proofs.LineCounting.{ends_grown}
+use Rattle.devices.specs.Waiting.{GrowsOnce, ReadsOnce, StillCounts, StillWaits, Waits}
 
 pub waits_none : (log : Log) (input : Incoming) (Still : List ℕ → List ℕ → Type 0)
     → Waits log log input input [] Still

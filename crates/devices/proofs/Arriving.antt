@@ -4,11 +4,11 @@ use Rattle.std.proofs.Common.{inl, inr, append_assoc, Option, Some, None, Result
 use Rattle.std.proofs.lemmas.List.{append-nil}
 use Rattle.std.specs.Io.KnownBytes.{Consumes, IsAtEnd, Keeps}
 use Rattle.devices.specs.Devices.{RisesBy}
-use Rattle.line_input.specs.Incoming.{Incoming}
-use Rattle.line_input.specs.Arrivals.{AddsInput, AddsSome, Comes}
-use Rattle.line_input.specs.Seeking.{AddsBytes, LosesBytes}
-use Rattle.line_input.specs.declared.fault.LineInputFault.{LineInputFault}
-use Rattle.line_input.specs.declared.fault.LineInputFault.TheVariants.{TooLong, Unreadable, Memory}
+use Rattle.devices.specs.Incoming.{Incoming}
+use Rattle.devices.specs.Arrivals.{AddsInput, AddsSome, Comes}
+use Rattle.devices.specs.Seeking.{AddsBytes, LosesBytes}
+use Rattle.devices.specs.declared.incoming.LineInputFault.{LineInputFault}
+use Rattle.devices.specs.declared.incoming.LineInputFault.TheVariants.{TooLong, Unreadable, Memory}
 
 pub consumes_none : (known : Option (List ℕ)) → Consumes known known []
 consumes_none None = tt

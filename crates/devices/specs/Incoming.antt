@@ -2,7 +2,7 @@
 use Rattle.std.specs.Prelude.{◌≡◌, ◌⊎◌, ◌-◌, ◌<◌, ◌≤◌, ℕ, Bool, true, false, List, [], ◌∷◌, ◌++◌, length, take, drop}
 use Rattle.std.specs.Prelude.{slice_index}
 use Rattle.std.specs.List.{concat}
-use Rattle.line_input.specs.Lines.{is_line_end, lines}
+use Rattle.devices.specs.Lines.{is_line_end, lines}
 
 -- what has come and isn't taken, and whether the input has ended
 pub record Incoming : Type 0 where

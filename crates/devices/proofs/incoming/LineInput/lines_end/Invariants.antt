@@ -1,8 +1,8 @@
 use Rattle.std.proofs.Common.{◌≡◌, []}
-use Rattle.line_input.specs.Waiting.{StillCounts, Waits}
-use Rattle.line_input.specs.Incoming.{HasEnds}
-use Rattle.line_input.proofs.LineCounting.{HasCounted}
-use Rattle.line_input.proofs.incoming.LineInput.lines_end.Given as goal
+use Rattle.devices.specs.Waiting.{StillCounts, Waits}
+use Rattle.devices.specs.Incoming.{HasEnds}
+use Rattle.devices.proofs.LineCounting.{HasCounted}
+use Rattle.devices.proofs.incoming.LineInput.lines_end.Given as goal
 
 abbrev pub invariant-lines : goal.invariant-lines
 invariant-lines g l = HasCounted (g.R.Source.remaining l.fn.reader) (g.R.Source.remaining l.reader)

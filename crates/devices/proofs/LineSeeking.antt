@@ -5,11 +5,11 @@ use Rattle.std.proofs.lemmas.List.{get_or_append_left}
 use Rattle.std.specs.List.{slice_index}
 use Rattle.std.specs.Io.KnownBytes.{IsAtEnd}
 use Rattle.devices.specs.Devices.{RisesBy}
-use Rattle.line_input.specs.Lines.{is_line_end}
-use Rattle.line_input.specs.Incoming.{Incoming, LacksEnd, HasEnd}
-use Rattle.line_input.specs.Arrivals.{AddsInput}
-use Rattle.line_input.specs.Seeking.{AddsBytes, HasNoEnd, IsKnownEnd}
-use Rattle.line_input.proofs.Arriving.{adds_none, adds_read, adds_then, both, rises_both, rises_none}
+use Rattle.devices.specs.Lines.{is_line_end}
+use Rattle.devices.specs.Incoming.{Incoming, LacksEnd, HasEnd}
+use Rattle.devices.specs.Arrivals.{AddsInput}
+use Rattle.devices.specs.Seeking.{AddsBytes, HasNoEnd, IsKnownEnd}
+use Rattle.devices.proofs.Arriving.{adds_none, adds_read, adds_then, both, rises_both, rises_none}
 
 -- `turn` reads were made, and there is no LF from `from` to `searched`
 pub record HasSearched (before after : Option (List ℕ)) (failed failed' reads reads' turn : ℕ) (old new : Incoming)

@@ -1,10 +1,10 @@
 use Rattle.std.proofs.Common.{◌∙◌, ℕ, Option, refl}
 use Rattle.std.proofs.lemmas.Result.{err_from_is_err_and}
-use Rattle.line_input.proofs.Arriving.{comes_lost}
-use Rattle.line_input.specs.Waiting.{StillWaits}
-use Rattle.line_input.proofs.Waitings.{going_first, waits_err, waits_none, waits_ok}
-use Rattle.line_input.proofs.LineSeeking.{searched_more, searched_none, no_end_of}
-use Rattle.line_input.proofs.incoming.LineInput.line_end.Goals as goal
+use Rattle.devices.proofs.Arriving.{comes_lost}
+use Rattle.devices.specs.Waiting.{StillWaits}
+use Rattle.devices.proofs.Waitings.{going_first, waits_err, waits_none, waits_ok}
+use Rattle.devices.proofs.LineSeeking.{searched_more, searched_none, no_end_of}
+use Rattle.devices.proofs.incoming.LineInput.line_end.Goals as goal
 
 pub returns-in_err-read_more-clause-comes : goal.returns-in_err-read_more-clause-comes
 returns-in_err-read_more-clause-comes g c =

@@ -1,6 +1,6 @@
 use Rattle.std.proofs.Common.{◌∙◌, sym}
-use Rattle.line_input.proofs.Ends.{known_at, known_at_end, known_nowhere, rest_is}
-use Rattle.line_input.proofs.incoming.LineInput.known_end.Goals as goal
+use Rattle.devices.proofs.Ends.{known_at, known_at_end, known_nowhere, rest_is}
+use Rattle.devices.proofs.incoming.LineInput.known_end.Goals as goal
 
 pub returns-in-Some : goal.returns-in-Some
 returns-in-Some c = known_at c.args.self.now c.args.from c.args.searched c.in-Some.at c.requires.low c.requires.high

@@ -1,9 +1,11 @@
 //! The files of the system.
 ghost use Rattle.std.specs.Prelude.{None};
 
+use crate::adapters::Reading;
 use crate::failures::FileFailures;
+use crate::file::{FileFault, Files};
+use crate::input::{InputFault, read_expected};
 use crate::replace::write_file;
-use devices::{FileFault, Files, InputFault, Reading, read_expected};
 use std::alloc::Global;
 use std::fs::File;
 

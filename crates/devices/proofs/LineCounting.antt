@@ -10,14 +10,14 @@ use Rattle.std.proofs.lemmas.List.{get_or_append_left, get_or-append_right}
 use Rattle.std.proofs.lemmas.List.Sums.{fails_before_first, passes_at_first}
 use Rattle.std.specs.List.{concat, onto_first, position_or_len}
 use Rattle.devices.specs.Devices.{RisesBy}
-use Rattle.line_input.specs.Lines.{is_line_end, lines}
-use Rattle.line_input.specs.Incoming.{Incoming, MayCome, HasLineEnd, HasEnd, HasEnds, EndsLine, EndsLines, CutsLines}
-use Rattle.line_input.specs.Incoming.{EndsFewer, LacksEnd, LacksLines}
-use Rattle.line_input.specs.declared.fault.LineInputFault.{LineInputFault}
-use Rattle.line_input.specs.declared.fault.LineInputFault.TheVariants.{TooLong, Unreadable, Memory}
-use Rattle.line_input.specs.Arrivals.{AddsInput, Comes}
-use Rattle.line_input.proofs.Arriving.{adds_none, adds_then, both, failed, rises_both, rises_none}
-use Rattle.line_input.proofs.Ends.{one_line}
+use Rattle.devices.specs.Lines.{is_line_end, lines}
+use Rattle.devices.specs.Incoming.{Incoming, MayCome, HasLineEnd, HasEnd, HasEnds, EndsLine, EndsLines, CutsLines}
+use Rattle.devices.specs.Incoming.{EndsFewer, LacksEnd, LacksLines}
+use Rattle.devices.specs.declared.incoming.LineInputFault.{LineInputFault}
+use Rattle.devices.specs.declared.incoming.LineInputFault.TheVariants.{TooLong, Unreadable, Memory}
+use Rattle.devices.specs.Arrivals.{AddsInput, Comes}
+use Rattle.devices.proofs.Arriving.{adds_none, adds_then, both, failed, rises_both, rises_none}
+use Rattle.devices.proofs.Ends.{one_line}
 
 -- ---- lists of lines
 

@@ -1,9 +1,9 @@
 -- What comes from a reader while the end of a line is looked for.
 use Rattle.std.specs.Prelude.{◌≡◌, ℕ, true, List, ◌++◌, Option, Result, Ok, Err}
 use Rattle.std.specs.Io.KnownBytes.{Consumes, IsAtEnd}
-use Rattle.line_input.specs.Incoming.{Incoming}
-use Rattle.line_input.specs.declared.fault.LineInputFault.{LineInputFault}
-use Rattle.line_input.specs.declared.fault.LineInputFault.TheVariants.{TooLong, Unreadable, Memory}
+use Rattle.devices.specs.Incoming.{Incoming}
+use Rattle.devices.specs.declared.incoming.LineInputFault.{LineInputFault}
+use Rattle.devices.specs.declared.incoming.LineInputFault.TheVariants.{TooLong, Unreadable, Memory}
 
 -- what was read follows what was there; an input that has ended stays as it was
 pub record AddsInput (before after : Option (List ℕ)) (old new : Incoming) : Type 0 where

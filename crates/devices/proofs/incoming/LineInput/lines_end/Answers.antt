@@ -1,10 +1,10 @@
 use Rattle.std.proofs.Common.{◌∙◌, ℕ, Option, arith, refl}
 use Rattle.std.proofs.lemmas.Result.{err_from_is_err_and}
-use Rattle.line_input.proofs.Arriving.{adds_then, comes_then, failed}
-use Rattle.line_input.specs.Waiting.{StillCounts}
-use Rattle.line_input.proofs.Waitings.{counts_more, waits_none}
-use Rattle.line_input.proofs.LineCounting.{counted_none, counted_more, counted_all, ends_fewer, lazy_more}
-use Rattle.line_input.proofs.incoming.LineInput.lines_end.Goals as goal
+use Rattle.devices.proofs.Arriving.{adds_then, comes_then, failed}
+use Rattle.devices.specs.Waiting.{StillCounts}
+use Rattle.devices.proofs.Waitings.{counts_more, waits_none}
+use Rattle.devices.proofs.LineCounting.{counted_none, counted_more, counted_all, ends_fewer, lazy_more}
+use Rattle.devices.proofs.incoming.LineInput.lines_end.Goals as goal
 
 pub returns-in_err-behind-clause-comes : goal.returns-in_err-behind-clause-comes
 returns-in_err-behind-clause-comes g c =

@@ -1,7 +1,7 @@
 -- Which reads are made while the end of a line is looked for.
 use Rattle.std.specs.Prelude.{◌≡◌, ◌⊎◌, ℕ, false, List, [], ◌∷◌, ◌++◌, ◌<◌, length, Result, Ok, Err}
 use Rattle.devices.specs.Logs.{AnswersFirst, Came, Event, Grows, Log, came, given}
-use Rattle.line_input.specs.Incoming.{EndsLines, Incoming, LacksEnd}
+use Rattle.devices.specs.Incoming.{EndsLines, Incoming, LacksEnd}
 
 -- what came was put at the end of what was there, unless it was lost
 abbrev pub IsPlaced : {T E : Type 0} → List ℕ → List ℕ → List ℕ → Result T E → Type 0

@@ -3,11 +3,11 @@ use Rattle.std.proofs.Common.{◌≡◌, refl, ℕ, zero, suc, ◌+◌, ◌-◌,
 use Rattle.std.proofs.Common.{◌≢◌, ◌++◌, length, get_or, take, drop, arith, inl, inr, length-drop, Option, Some, None}
 use Rattle.std.proofs.lemmas.Bool.{cases_lt, false_from_ne_true}
 use Rattle.bstr.specs.Find.{IsFirstByte}
-use Rattle.line_input.specs.Seeking.{IsKnownEnd, HasNoEnd}
+use Rattle.devices.specs.Seeking.{IsKnownEnd, HasNoEnd}
 use Rattle.std.proofs.lemmas.List.{append-nil, get_or-drop, drop-drop, take_all, drop_all}
 use Rattle.std.specs.List.{slice_index}
-use Rattle.line_input.specs.Lines.{is_line_end, lines}
-use Rattle.line_input.specs.Incoming.{Incoming, LacksEnd, EndsLine}
+use Rattle.devices.specs.Lines.{is_line_end, lines}
+use Rattle.devices.specs.Incoming.{Incoming, LacksEnd, EndsLine}
 
 -- a line that ends in the first LF of a text
 ends_at : (xs text : List ℕ) (n : ℕ) → n < length xs → ((k : ℕ) → k < n → is_line_end (get_or xs k 0) ≡ false)

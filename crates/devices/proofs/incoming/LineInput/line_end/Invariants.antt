@@ -1,8 +1,8 @@
 use Rattle.std.proofs.Common.{◌≡◌, []}
-use Rattle.line_input.specs.Waiting.{StillWaits, Waits}
-use Rattle.line_input.specs.Incoming.{HasEnd}
-use Rattle.line_input.proofs.LineSeeking.{HasSearched}
-use Rattle.line_input.proofs.incoming.LineInput.line_end.Given as goal
+use Rattle.devices.specs.Waiting.{StillWaits, Waits}
+use Rattle.devices.specs.Incoming.{HasEnd}
+use Rattle.devices.proofs.LineSeeking.{HasSearched}
+use Rattle.devices.proofs.incoming.LineInput.line_end.Given as goal
 
 abbrev pub invariant-loop-turn : goal.invariant-loop-turn
 invariant-loop-turn g l = HasSearched (g.R.Source.remaining l.fn.reader) (g.R.Source.remaining l.reader)

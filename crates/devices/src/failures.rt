@@ -2,7 +2,7 @@
 ghost use Rattle.std.specs.Prelude.{◌≡◌, ◌≤◌};
 ghost use Rattle.devices.specs.Devices.{RisesBy};
 
-use devices::FileFault;
+use crate::file::FileFault;
 use std::io;
 use std::io::ErrorKind;
 

@@ -3,17 +3,42 @@ ghost use Rattle.std.specs.Prelude.{◌≡◌, ◌⊎◌, ◌<◌, ◌≤◌, []
 ghost use Rattle.std.specs.Prelude.{drop, false, length, true, vec_len};
 ghost use Rattle.std.specs.Io.KnownBytes.{IsAtEnd};
 ghost use Rattle.devices.specs.Devices.{RisesBy};
-ghost use Rattle.line_input.specs.Incoming.{HasEnd, HasEnds, EndsFewer, EndsLine, EndsLines, LacksEnd};
-ghost use Rattle.line_input.specs.Incoming.{LacksLines};
-ghost use Rattle.line_input.specs.Arrivals.{Comes};
-ghost use Rattle.line_input.specs.Waiting.{ReadsOnce, StillCounts, StillWaits, WaitsUntil};
-ghost use Rattle.line_input.specs.Seeking.{AddsBytes, LosesBytes, Reads, IsKnownEnd, HasNoEnd};
+ghost use Rattle.devices.specs.Incoming.{HasEnd, HasEnds, EndsFewer, EndsLine, EndsLines, LacksEnd};
+ghost use Rattle.devices.specs.Incoming.{LacksLines};
+ghost use Rattle.devices.specs.Arrivals.{Comes};
+ghost use Rattle.devices.specs.Waiting.{ReadsOnce, StillCounts, StillWaits, WaitsUntil};
+ghost use Rattle.devices.specs.Seeking.{AddsBytes, LosesBytes, Reads, IsKnownEnd, HasNoEnd};
 
-use crate::fault::LineInputFault;
+use crate::device::{ReadFault, Source};
+use crate::input::MOST_READS;
 use bstr::ByteSlice;
-use devices::{MOST_READS, ReadFault, Source};
 use std::alloc::{AllocError, Global};
 use std::marker::Model;
+use thiserror::Error;
+
+/// Why the end of a line isn't known.
+#[derive(Clone, Copy, Debug, PartialEq, Eq, Error)]
+pub enum LineInputFault {
+    /// The line doesn't end within what a caller takes.
+    #[error("the line is too long")]
+    TooLong,
+    /// The reader failed, or `MOST_READS` reads gave no end of the line.
+    #[error("the input can't be read")]
+    Unreadable,
+    /// Memory ran out.
+    #[error("out of memory")]
+    Memory,
+}
+
+impl From<AllocError> for LineInputFault {
+    ghost use Rattle.devices.specs.declared.incoming.LineInputFault.TheVariants.{Memory};
+
+    ghost from_gives = { λ _ fault. fault ≡ Memory };
+
+    fn from(_: AllocError) -> LineInputFault {
+        LineInputFault::Memory
+    }
+}
 
 /// How many bytes one read asks for.
 const CHUNK: usize = 65_536;
@@ -74,7 +99,7 @@ pub struct LineInput {
 
 impl Model for LineInput {
     ghost use Rattle.std.specs.Prelude.{◌≤◌, ◌<◌, drop, vec_len, length};
-    ghost use Rattle.line_input.specs.Incoming.{Incoming};
+    ghost use Rattle.devices.specs.Incoming.{Incoming};
 
     ghost Value = { Incoming };
 

@@ -1,5 +1,0 @@
-pub mod Ends
-pub mod Arriving
-pub mod LineSeeking
-pub mod LineCounting
-pub mod Waitings

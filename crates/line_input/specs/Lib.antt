@@ -1,5 +1,0 @@
-pub mod Lines
-pub mod Incoming
-pub mod Arrivals
-pub mod Seeking
-pub mod Waiting
