@@ -7,3 +7,5 @@ pub mod Serving
 pub mod Clients
 pub mod Running
 pub mod Fresh
+pub mod Looking
+pub mod Seated

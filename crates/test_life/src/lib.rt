@@ -1,4 +1,4 @@
-//! Tests of whole lives of a store, `life::run_life`, through its public API.
+//! Tests of `life` and of `snapshot_store` through their public functions: what no clause says.
 //!
 //! They are a crate of their own because a crate with tests is proved twice, with and without them.
 #![tactic(auto)]
@@ -9,5 +9,9 @@ mod made;
 mod random;
 #[cfg(test)]
 mod rounds;
+#[cfg(test)]
+mod runs;
+#[cfg(test)]
+mod store;
 #[cfg(test)]
 mod worked;

@@ -1,9 +1,0 @@
-use Rattle.std.proofs.Common.{◌≡◌, take}
-use Rattle.live_versions.specs.Batches.{StartsWith}
-use Rattle.life.proofs.Entries.{Replied}
-use Rattle.snapshot_life.proofs.answer.answer_all.Given as goal
-
-abbrev pub invariant-loop-index : goal.invariant-loop-index
-invariant-loop-index g l =
-    (l.reader.book ≡ l.fn.reader.book) × StartsWith l.reader.batches l.fn.reader.batches
-    × Replied l.fn.reader.batches l.reader.batches (take l.index l.requests) l.replies.items

@@ -1,7 +1,0 @@
-use Rattle.std.proofs.Common.{take}
-use Rattle.live_versions.specs.Batches.{joined}
-use Rattle.life.specs.Replies.{AreTextsOf}
-use Rattle.snapshot_life.proofs.answer.look_all.Given as goal
-
-abbrev pub invariant-loop-index : goal.invariant-loop-index
-invariant-loop-index l = AreTextsOf (joined l.reader.batches) (take l.index l.queries) l.texts.items

@@ -1,7 +1,0 @@
-use Rattle.std.proofs.Common.{◌≡◌, take}
-use Rattle.life.specs.PublisherWork.{DoesAll}
-use Rattle.snapshot_life.proofs.publish.do_commands.Given as goal
-
-abbrev pub invariant-loop-index : goal.invariant-loop-index
-invariant-loop-index g l = (l.publisher.seen.book ≡ l.fn.publisher.seen.book)
-    × DoesAll l.fn.publisher (take l.index l.commands) l.outcomes.items l.publisher
