@@ -1,19 +1,26 @@
-//! Commands and queries for the tests.
+//! Commands with their outcomes, and requests, as the tables of the tests have them.
 use catalogue::{LoadFault, LoadKind, Options, Stats};
 use desks::{Accepted, Gate, Job, Place, Source};
-use life::{Command, Life, LifeFault, Request, run_life};
+use life::{Command, Life, LifeFault, Outcome, Request, run_life};
 use live_set::{Ask, Query};
 use live_versions::StoreFault;
 use std::alloc::{AllocError, Global};
 use std::sync::Wait;
 use std::thread::Threads;
 
-const PLAIN: Options = Options {
+pub(crate) const PLAIN: Options = Options {
     checked: false,
     use_fuzzy: false,
 };
 
+const CHECKED: Options = Options {
+    checked: true,
+    use_fuzzy: false,
+};
+
 pub(crate) const SALUT: &[u8] = b"msgid \"hi\"\nmsgstr \"salut\"\n";
+
+pub(crate) const BONJOUR: &[u8] = b"msgid \"hi\"\nmsgstr \"bonjour\"\n";
 
 /// A text with one message twice, the second time on line 4.
 pub(crate) const TWICE: &[u8] = b"msgid \"a\"\nmsgstr \"x\"\n#, fuzzy\nmsgid \"a\"\nmsgstr \"y\"\n";
@@ -24,29 +31,43 @@ pub(crate) const DUPLICATE: StoreFault = StoreFault::Refused(LoadFault {
     line: 4,
 });
 
-/// Lets all pass.
-#[derive(Drop)]
-struct Open;
+/// The counts of a text with one translated entry and no other.
+pub(crate) const ONE: Accepted = Accepted::Po(Stats {
+    translated: 1,
+    fuzzy: 0,
+    untranslated: 0,
+});
 
-impl Gate for Open {
-    fn pass(&self, _place: Place, _index: u64) {}
+/// A command of a table. Each load is for the domain `app` and a locale, unless its name says otherwise.
+pub(crate) enum Step {
+    /// A load of a PO text.
+    Po(&'static str, &'static [u8]),
+    /// A load of a PO text at the checked level.
+    Checked(&'static str, &'static [u8]),
+    /// A load of an MO file.
+    Mo(&'static str, &'static [u8]),
+    /// A load of `SALUT` for a domain that isn't a name.
+    Misnamed,
+    Publish,
 }
 
-/// The counts of a text with this number of translated entries and no other.
-pub(crate) fn translated(entries: u32) -> Accepted {
-    Accepted::Po(Stats {
-        translated: entries,
-        fuzzy: 0,
-        untranslated: 0,
-    })
-}
+/// A command, and what it is to be answered.
+pub(crate) type Row = (Step, Outcome);
 
-fn load_of(
+/// A load of a PO text with these options or, if there are none, of an MO file.
+pub(crate) fn load_command(
     alloc: Global,
     domain: &str,
     locale: &str,
-    source: Source,
+    text: &[u8],
+    options: Option<Options>,
 ) -> Result<Command, AllocError> {
+    let mut bytes = Vec::new(alloc);
+    bytes.extend_from_slice(text)?;
+    let source = match options {
+        Some(options) => Source::Po { bytes, options },
+        None => Source::Mo { bytes },
+    };
     Ok(Command::Load(Job {
         domain: String::from_str(alloc, domain)?,
         locale: String::from_str(alloc, locale)?,
@@ -54,52 +75,45 @@ fn load_of(
     }))
 }
 
-fn load_po(
-    alloc: Global,
-    domain: &str,
-    locale: &str,
-    text: &[u8],
-    options: Options,
-) -> Result<Command, AllocError> {
-    let mut bytes = Vec::new(alloc);
-    bytes.extend_from_slice(text)?;
-    load_of(alloc, domain, locale, Source::Po { bytes, options })
+fn command_of(alloc: Global, step: &Step) -> Result<Command, AllocError> {
+    match *step {
+        Step::Po(locale, text) => load_command(alloc, "app", locale, text, Some(PLAIN)),
+        Step::Checked(locale, text) => load_command(alloc, "app", locale, text, Some(CHECKED)),
+        Step::Mo(locale, file) => load_command(alloc, "app", locale, file, None),
+        Step::Misnamed => load_command(alloc, "a b", "fr", SALUT, Some(PLAIN)),
+        Step::Publish => Ok(Command::Publish),
+    }
 }
 
-/// A load of a PO text.
-pub(crate) fn load_text(
-    alloc: Global,
-    domain: &str,
-    locale: &str,
-    text: &[u8],
-) -> Result<Command, AllocError> {
-    load_po(alloc, domain, locale, text, PLAIN)
+pub(crate) fn commands_of(alloc: Global, rows: &[Row]) -> Result<Vec<Command>, AllocError> {
+    let mut commands = Vec::new(alloc);
+    for row in rows {
+        commands.push(command_of(alloc, &row.0)?)?;
+    }
+    Ok(commands)
 }
 
-/// A load of a PO text at the checked level.
-pub(crate) fn load_checked(
-    alloc: Global,
-    domain: &str,
-    locale: &str,
-    text: &[u8],
-) -> Result<Command, AllocError> {
-    let options = Options {
-        checked: true,
-        use_fuzzy: false,
-    };
-    load_po(alloc, domain, locale, text, options)
+/// Whether two outcomes are the same. A publish that ran out of memory is never wanted.
+fn is_same(one: &Outcome, other: &Outcome) -> bool {
+    match (one, other) {
+        (Outcome::Loaded(one), Outcome::Loaded(other)) => one == other,
+        (Outcome::Refused(one), Outcome::Refused(other)) => one == other,
+        (Outcome::Published(one), Outcome::Published(other)) => one == other,
+        _ => false,
+    }
 }
 
-/// A load of an MO file.
-pub(crate) fn load_file(
-    alloc: Global,
-    domain: &str,
-    locale: &str,
-    file: &[u8],
-) -> Result<Command, AllocError> {
-    let mut bytes = Vec::new(alloc);
-    bytes.extend_from_slice(file)?;
-    load_of(alloc, domain, locale, Source::Mo { bytes })
+/// Whether each command was answered as its row says, and no other was.
+pub(crate) fn came_out(outcomes: &[Outcome], rows: &[Row]) -> bool {
+    if outcomes.len() != rows.len() {
+        return false;
+    }
+    for (outcome, row) in outcomes.iter().zip(rows.iter()) {
+        if !is_same(outcome, &row.1) {
+            return false;
+        }
+    }
+    true
 }
 
 /// How a test has its queries looked up.
@@ -110,37 +124,77 @@ pub(crate) enum Way {
     Group,
 }
 
-/// What a msgid of the domain `app` is in a locale, as a query.
-pub(crate) fn query(alloc: Global, locale: &str, id: &str) -> Result<Query, AllocError> {
-    query_of(
-        alloc,
-        locale,
-        Ask::Plain {
-            id: String::from_str(alloc, id)?,
-        },
-    )
+/// One way after another, and then all over again.
+pub(crate) fn way_of(number: usize) -> Way {
+    match number % 3 {
+        0 => Way::Ask,
+        1 => Way::AskInto,
+        _ => Way::Group,
+    }
 }
 
-/// A query in the domain `app`.
-pub(crate) fn query_of(alloc: Global, locale: &str, ask: Ask) -> Result<Query, AllocError> {
-    Ok(Query {
-        domain: String::from_str(alloc, "app")?,
-        languages: String::from_str(alloc, locale)?,
-        ask,
+/// A query of a table, in the domain `app` and a locale.
+#[derive(Clone, Copy)]
+pub(crate) enum Asked {
+    /// A msgid.
+    Plain(&'static str, &'static str),
+    /// A context and a msgid.
+    Context(&'static str, &'static str, &'static str),
+    /// A msgid, its plural, and a number.
+    Number(&'static str, &'static str, &'static str, u64),
+}
+
+/// What `hi` is in French.
+pub(crate) const HI: Asked = Asked::Plain("fr", "hi");
+
+fn ask_of(alloc: Global, asked: Asked) -> Result<Ask, AllocError> {
+    Ok(match asked {
+        Asked::Plain(_, id) => Ask::Plain {
+            id: String::from_str(alloc, id)?,
+        },
+        Asked::Context(_, context, id) => Ask::Context {
+            context: String::from_str(alloc, context)?,
+            id: String::from_str(alloc, id)?,
+        },
+        Asked::Number(_, id, plural, n) => Ask::Number {
+            id: String::from_str(alloc, id)?,
+            plural: String::from_str(alloc, plural)?,
+            n,
+        },
     })
 }
 
-/// Adds the requests that look up the queries: one group of them all, or one request for each.
+pub(crate) fn query_of(alloc: Global, asked: Asked) -> Result<Query, AllocError> {
+    let (Asked::Plain(locale, _) | Asked::Context(locale, _, _) | Asked::Number(locale, _, _, _)) =
+        asked;
+    Ok(Query {
+        domain: String::from_str(alloc, "app")?,
+        languages: String::from_str(alloc, locale)?,
+        ask: ask_of(alloc, asked)?,
+    })
+}
+
+fn group_of(alloc: Global, asked: &[Asked]) -> Result<Request, AllocError> {
+    let mut queries = Vec::new(alloc);
+    for one in asked {
+        queries.push(query_of(alloc, *one)?)?;
+    }
+    Ok(Request::Group(queries))
+}
+
+/// Adds the requests that look up these queries: one group of them all, or one request for each.
 pub(crate) fn push_requests(
+    alloc: Global,
     requests: &mut Vec<Request>,
     way: Way,
-    queries: Vec<Query>,
+    asked: &[Asked],
 ) -> Result<(), AllocError> {
     if way == Way::Group {
-        requests.push(Request::Group(queries))?;
+        requests.push(group_of(alloc, asked)?)?;
         return Ok(());
     }
-    for query in queries {
+    for one in asked {
+        let query = query_of(alloc, *one)?;
         let request = if way == Way::Ask {
             Request::Ask(query)
         } else {
@@ -151,19 +205,16 @@ pub(crate) fn push_requests(
     Ok(())
 }
 
-/// The life of a store with these commands and lists of requests (1 to 16 lists).
-pub(crate) fn live<R: Threads + Wait + Sync>(
-    rt: &R,
-    alloc: Global,
-    most: u64,
-    commands: &[Command],
-    lists: Vec<Vec<Request>>,
-) -> Result<Life, LifeFault> {
-    live_by(rt, alloc, most, commands, lists, &Open)
+/// A gate that lets all pass.
+#[derive(Drop)]
+pub(crate) struct Open;
+
+impl Gate for Open {
+    fn pass(&self, _place: Place, _index: u64) {}
 }
 
-/// The life of a store with a gate of the test's own.
-pub(crate) fn live_by<R: Threads + Wait + Sync, G: Gate + Sync>(
+/// The life of a store with these commands and lists of requests (1 to 16 lists).
+pub(crate) fn live<R: Threads + Wait + Sync, G: Gate + Sync>(
     rt: &R,
     alloc: Global,
     most: u64,

@@ -1,6 +1,11 @@
 //! Random lists of commands and requests. Each outcome and reply is compared with a plain fold over the loads, which
 //! knows of no store, no catalogue and no history.
-use crate::made::{DUPLICATE, TWICE, Way, live, load_text, push_requests, query, translated};
+//!
+//! Nothing of a life is kept: its steps and its queries are made again, from the same numbers, whenever the fold needs
+//! them.
+use crate::made::{Asked, DUPLICATE, Open, PLAIN, TWICE, Way, live, load_command, push_requests};
+use catalogue::Stats;
+use desks::Accepted;
 use life::{Client, Command, Outcome, Reply, Request};
 use live_versions::{StoreFault, Version};
 use std::alloc::{AllocError, Global};
@@ -12,20 +17,9 @@ use std::thread::Threads;
 const LIVES: u64 = 1000;
 
 /// Numbers by a linear congruence; the upper bits of each state count.
-#[derive(Drop)]
+#[derive(Clone, Copy)]
 struct Random {
     state: u64,
-}
-
-impl Random {
-    /// A number below `count`, or 0.
-    fn below(&mut self, count: u64) -> u64 {
-        self.state = self
-            .state
-            .wrapping_mul(6_364_136_223_846_793_005)
-            .wrapping_add(1_442_695_040_888_963_407);
-        (self.state >> 33).checked_rem(count).unwrap_or(0)
-    }
 }
 
 /// What is wrong with a load, if anything is.
@@ -46,21 +40,11 @@ struct Load {
     wrong: Wrong,
 }
 
-/// A load, or a publish.
-type Step = Option<Load>;
-
-/// A query: its locale and its msgid.
+/// What a query looks up: a msgid in a locale.
 #[derive(Clone, Copy)]
-struct Asked {
+struct Lookup {
     locale: u64,
     id: u64,
-}
-
-/// Queries that are looked up in one way: a group, or one after another.
-#[derive(Drop)]
-struct Batch {
-    way: Way,
-    asked: Vec<Asked>,
 }
 
 fn locale_of(number: u64) -> &'static str {
@@ -95,65 +79,50 @@ fn count_of(ids: u64) -> u32 {
     count
 }
 
-fn random_steps(alloc: Global, random: &mut Random) -> Result<Vec<Step>, AllocError> {
-    let mut steps = Vec::new(alloc);
-    let count = random.below(16);
-    for number in 0..count {
+impl Random {
+    /// A number below `count`, or 0.
+    fn below(&mut self, count: u64) -> u64 {
+        self.state = self
+            .state
+            .wrapping_mul(6_364_136_223_846_793_005)
+            .wrapping_add(1_442_695_040_888_963_407);
+        (self.state >> 33).checked_rem(count).unwrap_or(0)
+    }
+
+    /// A load of a text with this number, or a publish.
+    fn step(&mut self, number: u64) -> Option<Load> {
         let load = Load {
-            locale: random.below(2),
-            ids: random.below(8),
+            locale: self.below(2),
+            ids: self.below(8),
             number,
-            wrong: match random.below(6) {
+            wrong: match self.below(6) {
                 0 => Wrong::Name,
                 1 => Wrong::Text,
                 _ => Wrong::Nothing,
             },
         };
-        let step = if random.below(3) == 0 {
-            None
-        } else {
-            Some(load)
-        };
-        steps.push(step)?;
+        if self.below(3) == 0 { None } else { Some(load) }
     }
-    Ok(steps)
-}
 
-fn random_asked(alloc: Global, random: &mut Random) -> Result<Vec<Asked>, AllocError> {
-    let mut asked = Vec::new(alloc);
-    let count = random.below(5);
-    for _ in 0..count {
-        asked.push(Asked {
-            locale: random.below(2),
-            id: random.below(3),
-        })?;
+    fn way(&mut self) -> Way {
+        match self.below(3) {
+            0 => Way::Ask,
+            1 => Way::AskInto,
+            _ => Way::Group,
+        }
     }
-    Ok(asked)
-}
 
-fn random_batches(alloc: Global, random: &mut Random) -> Result<Vec<Batch>, AllocError> {
-    let mut batches = Vec::new(alloc);
-    let count = random.below(5);
-    for _ in 0..count {
-        batches.push(Batch {
-            way: match random.below(3) {
-                0 => Way::Ask,
-                1 => Way::AskInto,
-                _ => Way::Group,
-            },
-            asked: random_asked(alloc, random)?,
-        })?;
+    fn lookup(&mut self) -> Lookup {
+        Lookup {
+            locale: self.below(2),
+            id: self.below(3),
+        }
     }
-    Ok(batches)
 }
 
 /// The text of a load, in which each msgid of it is translated to its number.
 fn text_of(alloc: Global, load: Load) -> Result<Vec<u8>, AllocError> {
     let mut text = Vec::new(alloc);
-    if load.wrong == Wrong::Text {
-        text.extend_from_slice(TWICE)?;
-        return Ok(text);
-    }
     for id in 0..3 {
         if is_among(load.ids, id) {
             let (name, number) = (id_of(id), load.number);
@@ -164,19 +133,26 @@ fn text_of(alloc: Global, load: Load) -> Result<Vec<u8>, AllocError> {
     Ok(text)
 }
 
-fn commands_of(alloc: Global, steps: &[Step]) -> Result<Vec<Command>, AllocError> {
+fn load_of(alloc: Global, given: Load) -> Result<Command, AllocError> {
+    let locale = locale_of(given.locale);
+    if given.wrong == Wrong::Text {
+        return load_command(alloc, "app", locale, TWICE, Some(PLAIN));
+    }
+    let domain = if given.wrong == Wrong::Name {
+        "a b"
+    } else {
+        "app"
+    };
+    let text = text_of(alloc, given)?;
+    load_command(alloc, domain, locale, text.as_slice(), Some(PLAIN))
+}
+
+fn commands_of(alloc: Global, random: &mut Random) -> Result<Vec<Command>, AllocError> {
     let mut commands = Vec::new(alloc);
-    for step in steps {
-        let command = match step {
-            Some(load) => {
-                let domain = if load.wrong == Wrong::Name {
-                    "a b"
-                } else {
-                    "app"
-                };
-                let text = text_of(alloc, *load)?;
-                load_text(alloc, domain, locale_of(load.locale), text.as_slice())?
-            }
+    let count = random.below(16);
+    for number in 0..count {
+        let command = match random.step(number) {
+            Some(load) => load_of(alloc, load)?,
             None => Command::Publish,
         };
         commands.push(command)?;
@@ -184,173 +160,240 @@ fn commands_of(alloc: Global, steps: &[Step]) -> Result<Vec<Command>, AllocError
     Ok(commands)
 }
 
-fn requests_of(alloc: Global, batches: &[Batch]) -> Result<Vec<Request>, AllocError> {
+/// Up to four queries.
+fn asked_of(alloc: Global, random: &mut Random) -> Result<Vec<Asked>, AllocError> {
+    let mut asked = Vec::new(alloc);
+    let count = random.below(5);
+    for _ in 0..count {
+        let lookup = random.lookup();
+        asked.push(Asked::Plain(locale_of(lookup.locale), id_of(lookup.id)))?;
+    }
+    Ok(asked)
+}
+
+/// The requests of a reader: up to four batches of queries, each looked up in one way.
+fn requests_of(alloc: Global, random: &mut Random) -> Result<Vec<Request>, AllocError> {
     let mut requests = Vec::new(alloc);
-    for batch in batches {
-        let mut queries = Vec::new(alloc);
-        for one in batch.asked.as_slice() {
-            queries.push(query(alloc, locale_of(one.locale), id_of(one.id))?)?;
-        }
-        push_requests(&mut requests, batch.way, queries)?;
+    let batches = random.below(5);
+    for _ in 0..batches {
+        let way = random.way();
+        let asked = asked_of(alloc, random)?;
+        push_requests(alloc, &mut requests, way, asked.as_slice())?;
     }
     Ok(requests)
 }
 
-/// What came of some first commands: the loads that were accepted, and the versions that were published.
-#[derive(Drop)]
+fn lists_of(
+    alloc: Global,
+    random: &mut Random,
+    readers: u64,
+) -> Result<Vec<Vec<Request>>, AllocError> {
+    let mut lists = Vec::new(alloc);
+    for _ in 0..readers {
+        lists.push(requests_of(alloc, random)?)?;
+    }
+    Ok(lists)
+}
+
+/// What comes of a step.
+#[derive(Clone, Copy)]
+enum Came {
+    Accepted(Load),
+    Refused(StoreFault),
+    Published(Version),
+}
+
+/// Whether this is the outcome of a step that came to that.
+fn is_outcome(came: Came, outcome: &Outcome) -> bool {
+    match (came, outcome) {
+        (Came::Accepted(load), Outcome::Loaded(counts)) => {
+            *counts
+                == Accepted::Po(Stats {
+                    translated: count_of(load.ids),
+                    fuzzy: 0,
+                    untranslated: 0,
+                })
+        }
+        (Came::Refused(fault), Outcome::Refused(it)) => fault == *it,
+        (Came::Published(version), Outcome::Published(it)) => version == *it,
+        _ => false,
+    }
+}
+
+/// The fold, before the first step or later: the numbers that the next step is made of, how many steps there are in
+/// all and how many were taken, and how many loads were accepted.
+#[derive(Clone, Copy)]
 struct Fold {
     most: u64,
-    accepted: Vec<Load>,
-    published: Vec<Version>,
+    random: Random,
+    steps: u64,
+    taken: u64,
+    accepted: u64,
 }
 
 impl Fold {
+    fn new(most: u64, mut random: Random) -> Fold {
+        let steps = random.below(16);
+        Fold {
+            most,
+            random,
+            steps,
+            taken: 0,
+            accepted: 0,
+        }
+    }
+
     /// Why a load is refused, if it is.
     fn refusal(&self, load: Load) -> Option<StoreFault> {
         match load.wrong {
             Wrong::Name => Some(StoreFault::BadName),
-            _ if self.accepted.len() as u64 >= self.most => Some(StoreFault::VersionsSpent),
+            _ if self.accepted >= self.most => Some(StoreFault::VersionsSpent),
             Wrong::Text => Some(DUPLICATE),
             Wrong::Nothing => None,
         }
     }
 
-    /// Whether the next command is answered so.
-    fn takes(&mut self, step: Step, outcome: &Outcome) -> Result<bool, AllocError> {
-        let right = match (step, outcome) {
-            (None, Outcome::Published(version)) => {
-                self.published.push(*version)?;
-                *version == self.accepted.len() as u64
-            }
-            (Some(load), Outcome::Loaded(counts)) => {
-                let right = self.refusal(load).is_none()
-                    && *counts == translated(count_of(load.ids));
-                self.accepted.push(load)?;
-                right
-            }
-            (Some(load), Outcome::Refused(fault)) => self.refusal(load) == Some(*fault),
-            _ => false,
+    /// Takes the next step.
+    fn take(&mut self) -> Came {
+        let step = self.random.step(self.taken);
+        self.taken = self.taken.saturating_add(1);
+        let Some(load) = step else {
+            return Came::Published(self.accepted);
         };
-        Ok(right)
+        if let Some(fault) = self.refusal(load) {
+            return Came::Refused(fault);
+        }
+        self.accepted = self.accepted.saturating_add(1);
+        Came::Accepted(load)
+    }
+
+    /// Whether the steps have these outcomes.
+    fn came_out(mut self, outcomes: &[Outcome]) -> bool {
+        for outcome in outcomes {
+            if !is_outcome(self.take(), outcome) {
+                return false;
+            }
+        }
+        self.taken == self.steps
+    }
+
+    fn was_published(mut self, version: Version) -> bool {
+        let mut found = version == 0;
+        for _ in 0..self.steps {
+            if let Came::Published(it) = self.take() {
+                found = found || it == version;
+            }
+        }
+        found
     }
 
     /// The number that a msgid is translated to by the last of the first `version` loads for a locale.
-    fn number(&self, version: Version, asked: Asked) -> Option<u64> {
+    fn number(mut self, version: Version, lookup: Lookup) -> Option<u64> {
         let mut found = None;
-        let mut place: u64 = 0;
-        for load in self.accepted.as_slice() {
-            if place < version && load.locale == asked.locale {
-                found = if is_among(load.ids, asked.id) {
-                    Some(load.number)
-                } else {
-                    None
-                };
+        for _ in 0..self.steps {
+            if let Came::Accepted(load) = self.take() {
+                if self.accepted <= version && load.locale == lookup.locale {
+                    found = if is_among(load.ids, lookup.id) {
+                        Some(load.number)
+                    } else {
+                        None
+                    };
+                }
             }
-            place = place.saturating_add(1);
         }
         found
     }
 
     /// Whether this text is the answer to a query at a version.
-    fn gives(&self, version: Version, asked: Asked, text: &str) -> bool {
-        let said: Option<u64> = text.parse().ok();
-        match self.number(version, asked) {
-            Some(number) => said == Some(number),
-            None => text == id_of(asked.id),
+    fn gives(self, version: Version, lookup: Lookup, text: &str) -> bool {
+        match self.number(version, lookup) {
+            Some(number) => text.parse().ok() == Some(number),
+            None => text == id_of(lookup.id),
         }
     }
 
-    /// Whether these are the answers to some queries, all of them at one version that was published, and not below
-    /// `least`.
-    fn answers(&self, asked: &[Asked], reply: &Reply, least: Version) -> bool {
-        let was_published = reply.version == 0 || self.published.contains(&reply.version);
-        if !was_published || reply.version < least || reply.texts.len() != asked.len() {
+    /// Whether this is the reply to the next `count` queries: all of them at one version that was published, and not
+    /// below `least`.
+    fn answers(self, random: &mut Random, count: u64, reply: &Reply, least: Version) -> bool {
+        if reply.version < least
+            || !self.was_published(reply.version)
+            || reply.texts.len() as u64 != count
+        {
             return false;
         }
-        for (one, text) in asked.iter().zip(reply.texts.iter()) {
-            if !self.gives(reply.version, *one, text.as_str()) {
+        for text in reply.texts.as_slice() {
+            if !self.gives(reply.version, random.lookup(), text.as_str()) {
                 return false;
             }
         }
         true
     }
 
-    /// Whether a client has a reply to each request.
-    fn answers_all(&self, asked: &[&[Asked]], client: &Client) -> bool {
-        if client.replies.len() != asked.len() {
-            return false;
-        }
+    /// Whether these are the replies to the next reader's requests.
+    fn answers_all(self, random: &mut Random, replies: &[Reply]) -> bool {
+        let mut rest = replies;
         let mut least = 0;
-        for (group, reply) in asked.iter().zip(client.replies.iter()) {
-            if !self.answers(*group, reply, least) {
+        let batches = random.below(5);
+        for _ in 0..batches {
+            let (way, count) = (random.way(), random.below(5));
+            let (requests, queries) = if way == Way::Group {
+                (1, count)
+            } else {
+                (count, 1)
+            };
+            for _ in 0..requests {
+                let Some((reply, others)) = rest.split_first() else {
+                    return false;
+                };
+                if !self.answers(random, queries, reply, least) {
+                    return false;
+                }
+                least = reply.version;
+                rest = others;
+            }
+        }
+        rest.is_empty()
+    }
+
+    /// Whether these are the clients of so many readers.
+    fn answers_each(self, mut random: Random, readers: u64, clients: &[Client]) -> bool {
+        for client in clients {
+            if !self.answers_all(&mut random, client.replies.as_slice()) {
                 return false;
             }
-            least = reply.version;
         }
-        true
+        clients.len() as u64 == readers
     }
-}
-
-/// The queries of each request.
-fn groups_of(alloc: Global, batches: &[Batch]) -> Result<Vec<&[Asked]>, AllocError> {
-    let mut groups = Vec::new(alloc);
-    for batch in batches {
-        if batch.way == Way::Group {
-            groups.push(batch.asked.as_slice())?;
-        } else {
-            for one in batch.asked.as_slice().chunks(1) {
-                groups.push(one)?;
-            }
-        }
-    }
-    Ok(groups)
 }
 
 /// Whether a random life is as the fold says.
 fn is_right<R: Threads + Wait + Sync>(
     rt: &R,
     alloc: Global,
-    random: &mut Random,
-) -> Result<bool, Fail> {
+    mut random: Random,
+) -> Result<bool, AllocError> {
     let most = random.below(12);
-    let steps = random_steps(alloc, random)?;
+    let fold = Fold::new(most, random);
+    let commands = commands_of(alloc, &mut random)?;
     let readers = random.below(4).saturating_add(1);
-    let mut asked = Vec::new(alloc);
-    let mut lists = Vec::new(alloc);
-    for _ in 0..readers {
-        let one = random_batches(alloc, random)?;
-        lists.push(requests_of(alloc, one.as_slice())?)?;
-        asked.push(one)?;
+    let asked = random;
+    let lists = lists_of(alloc, &mut random, readers)?;
+    match live(rt, alloc, most, commands.as_slice(), lists, &Open) {
+        Ok(life) => Ok(
+            fold.came_out(life.outcomes.as_slice())
+                && fold.answers_each(asked, readers, life.clients.as_slice()),
+        ),
+        Err(_) => Ok(false),
     }
-    let commands = commands_of(alloc, steps.as_slice())?;
-    let life = live(rt, alloc, most, commands.as_slice(), lists)?;
-    let mut fold = Fold {
-        most,
-        accepted: Vec::new(alloc),
-        published: Vec::new(alloc),
-    };
-    if life.outcomes.len() != steps.len() || life.clients.len() != asked.len() {
-        return Ok(false);
-    }
-    for (step, outcome) in steps.iter().zip(life.outcomes.iter()) {
-        if !fold.takes(*step, outcome)? {
-            return Ok(false);
-        }
-    }
-    for (one, client) in asked.iter().zip(life.clients.iter()) {
-        let groups = groups_of(alloc, one.as_slice())?;
-        if !fold.answers_all(groups.as_slice(), client) {
-            return Ok(false);
-        }
-    }
-    Ok(true)
 }
 
 #[test]
 fn a_thousand_random_lives(rt: HostRuntime) -> Result<(), Fail> {
     for life in 0..LIVES {
-        let mut random = Random { state: life };
-        assert!(rt; is_right(&rt, rt.alloc(), &mut random)?, "{life}");
+        assert!(rt;
+            is_right(&rt, rt.alloc(), Random { state: life })?,
+            "{life}"
+        );
     }
     Ok(())
 }

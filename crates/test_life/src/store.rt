@@ -1,25 +1,21 @@
-//! Publishes, entries and what is freed, one after another and at once.
-ghost use Rattle.std.specs.Prelude.{◌≡◌};
+//! Publishes, entries and what is freed of a snapshot store, one after another and at once.
+ghost use Rattle.std.specs.Prelude.{◌≡◌, IfSome};
 
-use catalogue::Options;
+use crate::made::{BONJOUR, PLAIN, SALUT};
 use snapshot_store::{Publisher, Reader, open_store};
-use std::alloc::{AllocError, Global};
-use std::test::Fail;
-use std::thread;
+use std::alloc::Global;
+use std::thread::{self, Threads};
 
-const PLAIN: Options = Options {
-    checked: false,
-    use_fuzzy: false,
-};
-
-const SALUT: &[u8] = b"msgid \"hi\"\nmsgstr \"salut\"\n";
-
-const BONJOUR: &[u8] = b"msgid \"hi\"\nmsgstr \"bonjour\"\n";
-
-fn opened(alloc: Global) -> Result<Publisher, AllocError> {
-    match open_store(alloc) {
-        Ok(publisher) => Ok(publisher),
-        Err(_) => Err(AllocError),
+/// A store with a reader, or `None` if memory runs out.
+fn opened(alloc: Global) -> Option<(Publisher, Reader)>
+    ensures { IfSome result (λ opened. opened.1.book ≡ opened.0.seen.book) }
+{
+    let Ok(publisher) = open_store(alloc) else {
+        return None;
+    };
+    match publisher.reader() {
+        Ok(reader) => Some((publisher, reader)),
+        Err(_) => None,
     }
 }
 
@@ -45,86 +41,146 @@ fn text_of(reader: &Reader) -> &str {
     reader.set().gettext("app", "fr", "hi")
 }
 
-#[test]
-fn an_entry_is_of_the_newest_version(rt: HostRuntime) -> Result<(), Fail> {
-    let alloc = rt.alloc();
-    let mut publisher = opened(alloc)?;
-    let mut reader = publisher.reader()?;
-    reader.enter();
-    assert_eq!(rt; text_of(&reader), "hi");
-    assert!(rt;
-        reader.is_current(),
-        "an entry that found nothing new isn't current"
-    );
-    assert_eq!(rt; publish(alloc, &mut publisher, SALUT), 1);
-    assert_eq!(rt; text_of(&reader), "hi");
-    assert!(rt; !reader.is_current(), "what was replaced is current");
-    reader.enter();
-    assert!(rt; reader.is_current(), "an entry isn't current");
-    assert_eq!(rt; text_of(&reader), "salut");
-    assert_eq!(rt; publish(alloc, &mut publisher, BONJOUR), 2);
-    assert_eq!(rt; text_of(&reader), "salut");
-    reader.enter();
-    assert_eq!(rt; text_of(&reader), "bonjour");
-    assert_eq!(rt; reader.version(), 2);
-    Ok(())
+/// Whether a reader has this text, and its version is still the newest one or not.
+fn shows(reader: &Reader, text: &str, is_current: bool) -> bool {
+    text_of(reader) == text && reader.is_current() == is_current
 }
 
-#[test]
-fn a_publish_shows_all_pending_loads(rt: HostRuntime) -> Result<(), Fail> {
-    let alloc = rt.alloc();
-    let mut publisher = opened(alloc)?;
-    let mut reader = publisher.reader()?;
-    assert!(rt;
-        load(alloc, &mut publisher, SALUT),
-        "the first load was refused"
-    );
-    assert!(rt;
-        load(alloc, &mut publisher, BONJOUR),
-        "the second load was refused"
-    );
-    assert_eq!(rt; publisher.pending(), 2);
+/// Whether a reader shows this text once it has entered.
+fn enters(reader: &mut Reader, text: &str) -> bool {
     reader.enter();
-    assert_eq!(rt; reader.version(), 0);
-    let Ok(version) = publisher.publish(alloc) else {
-        return Err(Fail::from(AllocError));
-    };
-    assert_eq!(rt; version, 2);
-    assert_eq!(rt; publisher.pending(), 0);
-    let notice = publisher.tell();
-    assert_eq!(rt; notice.version(), 2);
-    assert!(rt; reader.enter_after(&notice), "the entry gave up");
-    assert_eq!(rt; text_of(&reader), "bonjour");
-    Ok(())
+    shows(reader, text, true)
 }
 
-#[test]
-fn what_nobody_has_is_freed(rt: HostRuntime) -> Result<(), Fail> {
-    let alloc = rt.alloc();
-    let mut publisher = opened(alloc)?;
-    for n in 0..200u64 {
-        assert_eq!(rt; publish(alloc, &mut publisher, SALUT), n + 1);
-        assert_eq!(rt; publisher.retained(), 0);
+/// Whether a publish has this version, while a reader still shows the text before.
+fn publishes(
+    alloc: Global,
+    publisher: &mut Publisher,
+    reader: &Reader,
+    before: &str,
+    text: &[u8],
+    version: u64,
+) -> bool {
+    publish(alloc, publisher, text) == version && shows(reader, before, false)
+}
+
+/// Whether a reader sees each of two publishes when it enters, and not before.
+fn sees_each(alloc: Global, publisher: &mut Publisher, reader: &mut Reader) -> bool {
+    enters(reader, "hi")
+        && publishes(alloc, publisher, reader, "hi", SALUT, 1)
+        && enters(reader, "salut")
+        && publishes(alloc, publisher, reader, "salut", BONJOUR, 2)
+        && enters(reader, "bonjour")
+        && reader.version() == 2
+}
+
+fn is_newest(alloc: Global) -> bool {
+    match opened(alloc) {
+        Some((mut publisher, mut reader)) => sees_each(alloc, &mut publisher, &mut reader),
+        None => false,
     }
-    let mut early = publisher.reader()?;
-    assert_eq!(rt; publish(alloc, &mut publisher, SALUT), 201);
-    let late = publisher.reader()?;
-    assert_eq!(rt; publish(alloc, &mut publisher, SALUT), 202);
-    assert_eq!(rt; publisher.retained(), 2);
+}
+
+#[test]
+fn an_entry_is_of_the_newest_version(rt: HostRuntime) {
+    assert!(rt; is_newest(rt.alloc()));
+}
+
+/// Whether two loads are pending until they are published, and the publish has this version.
+fn shows_both(alloc: Global, publisher: &mut Publisher, reader: &mut Reader) -> bool
+    requires { reader.old.book ≡ publisher.old.seen.book }
+{
+    if !load(alloc, publisher, SALUT) {
+        return false;
+    }
+    if !load(alloc, publisher, BONJOUR) || publisher.pending() != 2 {
+        return false;
+    }
+    reader.enter();
+    if reader.version() != 0 {
+        return false;
+    }
+    let Ok(version) = publisher.publish(alloc) else {
+        return false;
+    };
+    let notice = publisher.tell();
+    version == 2
+        && publisher.pending() == 0
+        && notice.version() == 2
+        && reader.enter_after(&notice)
+        && text_of(reader) == "bonjour"
+}
+
+fn is_whole_batch(alloc: Global) -> bool {
+    match opened(alloc) {
+        Some((mut publisher, mut reader)) => shows_both(alloc, &mut publisher, &mut reader),
+        None => false,
+    }
+}
+
+#[test]
+fn a_publish_shows_all_pending_loads(rt: HostRuntime) {
+    assert!(rt; is_whole_batch(rt.alloc()));
+}
+
+/// Whether a publish has this version, and so many versions are retained after it.
+fn retains(alloc: Global, publisher: &mut Publisher, version: u64, retained: usize) -> bool {
+    publish(alloc, publisher, SALUT) == version && publisher.retained() == retained
+}
+
+/// Whether nothing is retained of 200 versions that nobody has.
+fn retains_nothing(alloc: Global, publisher: &mut Publisher) -> bool {
+    for version in 1..=200u64 {
+        if !retains(alloc, publisher, version, 0) {
+            return false;
+        }
+    }
+    true
+}
+
+/// Whether the versions of two readers are retained, one of which enters in between. The other one is then dropped.
+fn retains_two(alloc: Global, publisher: &mut Publisher, early: &mut Reader) -> bool {
+    let Ok(_late) = publisher.reader() else {
+        return false;
+    };
+    let first = retains(alloc, publisher, 202, 2);
     early.enter();
-    assert_eq!(rt; publish(alloc, &mut publisher, SALUT), 203);
-    assert_eq!(rt; publisher.retained(), 2);
-    drop(late);
+    first && retains(alloc, publisher, 203, 2)
+}
+
+/// Whether the version of the only reader is retained, and not the one that it had before.
+fn retains_one(alloc: Global, publisher: &mut Publisher, early: &mut Reader) -> bool {
     early.enter();
-    assert_eq!(rt; publish(alloc, &mut publisher, SALUT), 204);
-    assert_eq!(rt; publisher.retained(), 1);
+    let first = retains(alloc, publisher, 204, 1);
     early.enter();
-    assert_eq!(rt; publish(alloc, &mut publisher, SALUT), 205);
-    assert_eq!(rt; publisher.retained(), 1);
-    drop(early);
-    assert_eq!(rt; publish(alloc, &mut publisher, SALUT), 206);
-    assert_eq!(rt; publisher.retained(), 0);
-    Ok(())
+    first && retains(alloc, publisher, 205, 1)
+}
+
+/// Whether just the versions that readers have are retained, after 200 publishes.
+fn retains_what_is_read(alloc: Global, publisher: &mut Publisher) -> bool {
+    let Ok(mut early) = publisher.reader() else {
+        return false;
+    };
+    publish(alloc, publisher, SALUT) == 201
+        && retains_two(alloc, publisher, &mut early)
+        && retains_one(alloc, publisher, &mut early)
+}
+
+/// Whether nothing is retained of what nobody has, at first and once both readers are dropped.
+fn is_freed(alloc: Global) -> bool {
+    match open_store(alloc) {
+        Ok(mut publisher) => {
+            retains_nothing(alloc, &mut publisher)
+                && retains_what_is_read(alloc, &mut publisher)
+                && retains(alloc, &mut publisher, 206, 0)
+        }
+        Err(_) => false,
+    }
+}
+
+#[test]
+fn what_nobody_has_is_freed(rt: HostRuntime) {
+    assert!(rt; is_freed(rt.alloc()));
 }
 
 /// Publishes each text in turn, so that odd versions say `salut` and even ones `bonjour`. Returns the version.
@@ -137,35 +193,56 @@ fn publish_all(alloc: Global, publisher: &mut Publisher) -> u64 {
     publisher.version()
 }
 
+/// Whether a version isn't below the one before it, and its text is the one that was published with it.
+fn is_whole(reader: &Reader, last: u64) -> bool {
+    let version = reader.version();
+    let is_odd = version % 2 == 1;
+    version >= last && (version == 0 || (text_of(reader) == "salut") == is_odd)
+}
+
 /// Whether no entry fell, and each was of a whole version.
 fn read_all(mut reader: Reader) -> bool {
     let mut last = 0;
     for _ in 0..20000u64 {
         reader.enter();
-        let version = reader.version();
-        let text = text_of(&reader);
-        if version < last || version > 0 && (text == "salut") != (version % 2 == 1) {
+        if !is_whole(&reader, last) {
             return false;
         }
-        last = version;
+        last = reader.version();
     }
     true
 }
 
-#[test]
-fn one_publishes_and_one_reads(rt: HostRuntime) -> Result<(), Fail> {
-    let alloc = rt.alloc();
-    let mut publisher = opened(alloc)?;
-    let mut reader = publisher.reader()?;
-    let again = publisher.reader()?;
+/// Whether a reader in a thread of its own sees whole versions while 1000 are published, and another one the last of
+/// them.
+fn reads_while_published<R: Threads>(
+    rt: &R,
+    alloc: Global,
+    publisher: &mut Publisher,
+    reader: &mut Reader,
+) -> bool {
+    let Ok(again) = publisher.reader() else {
+        return false;
+    };
     let (read, published) = thread::join(
-        &rt,
+        rt,
         move || read_all(again),
-        || publish_all(alloc, &mut publisher),
+        || publish_all(alloc, publisher),
     );
-    assert!(rt; read, "an entry fell or had another text");
-    assert_eq!(rt; published, 1000);
     reader.enter();
-    assert_eq!(rt; reader.version(), 1000);
-    Ok(())
+    read && published == 1000 && reader.version() == 1000
+}
+
+fn is_read<R: Threads>(rt: &R, alloc: Global) -> bool {
+    match opened(alloc) {
+        Some((mut publisher, mut reader)) => {
+            reads_while_published(rt, alloc, &mut publisher, &mut reader)
+        }
+        None => false,
+    }
+}
+
+#[test]
+fn one_publishes_and_one_reads(rt: HostRuntime) {
+    assert!(rt; is_read(&rt, rt.alloc()));
 }
