@@ -7,6 +7,8 @@
 #[cfg(test)]
 mod commands;
 #[cfg(test)]
+mod fakes;
+#[cfg(test)]
 mod lines;
 #[cfg(test)]
 mod streams;
