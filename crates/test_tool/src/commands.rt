@@ -23,35 +23,61 @@ const ALL_GOOD: Good = Good {
     file_writes: true,
 };
 
-/// What a run did: its status, what it wrote on standard output, and how many files it wrote; and what it said on the
-/// error output, or was still to say there if not all was said.
+/// Devices of which no file can be read.
+const UNREAD: Good = Good {
+    file_reads: false,
+    ..ALL_GOOD
+};
+
+/// Devices on which neither a file nor standard output can be written.
+const UNWRITTEN: Good = Good {
+    writes: 0,
+    file_writes: false,
+    ..ALL_GOOD
+};
+
+/// Devices whose error output can't be written.
+const UNSAID: Good = Good {
+    error_writes: 0,
+    ..ALL_GOOD
+};
+
+/// What a run did: its status, how many bytes of `SALUT` it wrote on standard output, how many files it wrote, and what
+/// it said on the error output, where there is only a front of that if not all was said.
 #[derive(Clone, Copy)]
-struct Ran<'a> {
+struct Ran {
     status: Status,
-    output: &'a [u8],
+    written: usize,
     files: usize,
-    said: &'a str,
+    said: &'static str,
     is_all_said: bool,
 }
 
-/// Whether a text was said, or just a front of it.
-fn has_said(errors: &[u8], text: &str, is_all_said: bool) -> bool {
-    text.as_bytes().starts_with(errors) && (errors.len() == text.len()) == is_all_said
-}
+const HI: &str = "msgid \"hi\"\nmsgstr \"salut\"\n";
 
-/// The arguments of a line, after the program's name.
-fn words(alloc: Global, line: &str) -> Result<Vec<String>, AllocError> {
+/// The MO file of `hi` and `salut`.
+const SALUT: [u8; 53] = *b"\xde\x12\x04\x95\0\0\0\0\x01\0\0\0\x1c\0\0\0\x24\0\0\0\0\0\0\0\x2c\0\0\0\
+    \x02\0\0\0\x2c\0\0\0\x05\0\0\0\x2f\0\0\0hi\0salut\0";
+
+/// The arguments of the runs.
+fn words(alloc: Global, line: &[&str]) -> Result<Vec<String>, AllocError> {
     let mut words = Vec::new(alloc);
-    words.push("msgfmt".to_string(alloc)?)?;
-    for word in line.split_ascii_whitespace() {
+    for word in line {
         words.push(word.to_string(alloc)?)?;
     }
     Ok(words)
 }
 
+/// Whether the outputs have what a run wrote.
+fn has_written(output: &[u8], errors: &[u8], ran: &Ran) -> bool {
+    SALUT.starts_with(output)
+        && output.len() == ran.written
+        && ran.said.as_bytes().starts_with(errors)
+        && (errors.len() == ran.said.len()) == ran.is_all_said
+}
+
 /// Whether a run of these words did this, where standard input and the file `in.po` have this text.
-fn has_run(alloc: Global, words: Vec<String>, text: &str, good: Good, ran: Ran) -> bool {
-    let text = text.as_bytes();
+fn has_run(alloc: Global, words: Vec<String>, text: &[u8], good: &Good, ran: &Ran) -> bool {
     let mut files = OneFile::new(alloc, text, good.file_reads, good.file_writes);
     let mut slow = SlowReader::new(text, 1, 1);
     slow.failing = (good.reads, u64::MAX);
@@ -67,44 +93,39 @@ fn has_run(alloc: Global, words: Vec<String>, text: &str, good: Good, ran: Ran) 
         &mut errors,
     );
     status == ran.status
-        && writer.inner.held.as_slice() == ran.output
         && files.log.len() == ran.files
-        && has_said(errors.inner.held.as_slice(), ran.said, ran.is_all_said)
+        && has_written(&writer.inner.held, &errors.inner.held, ran)
 }
 
 /// Whether a run of a line's words did this.
-fn ends(alloc: Global, line: &str, text: &str, good: Good, ran: Ran) -> bool {
+fn ends(alloc: Global, line: &[&str], text: &str, good: &Good, ran: &Ran) -> bool {
     match words(alloc, line) {
-        Ok(words) => has_run(alloc, words, text, good, ran),
+        Ok(words) => has_run(alloc, words, text.as_bytes(), good, ran),
         Err(_) => false,
     }
 }
 
-/// A run that failed and wrote nothing but its line on the error output.
-fn failed(cause: Cause, said: &str) -> Ran {
+/// A run that failed, and said just this.
+fn failed(cause: Cause, written: usize, said: &'static str) -> Ran {
     Ran {
         status: Status::Failed(cause),
-        output: b"",
+        written,
         files: 0,
         said,
         is_all_said: true,
     }
 }
 
-/// A run that wrote standard output.
-const DONE: Ran = Ran {
-    status: Status::Done,
-    output: &SALUT,
-    files: 0,
-    said: "",
-    is_all_said: true,
-};
-
-const HI: &str = "msgid \"hi\"\nmsgstr \"salut\"\n";
-
-/// The MO file of `hi` and `salut`.
-const SALUT: [u8; 53] = *b"\xde\x12\x04\x95\0\0\0\0\x01\0\0\0\x1c\0\0\0\x24\0\0\0\0\0\0\0\x2c\0\0\0\
-    \x02\0\0\0\x2c\0\0\0\x05\0\0\0\x2f\0\0\0hi\0salut\0";
+/// A run that wrote all of standard output, and said just this.
+fn done(said: &'static str) -> Ran {
+    Ran {
+        status: Status::Done,
+        written: 53,
+        files: 0,
+        said,
+        is_all_said: true,
+    }
+}
 
 // 26 bytes are read one by one, and the end.
 #[test]
@@ -112,11 +133,12 @@ fn each_read_fails_in_turn(rt: HostRuntime) {
     for reads in 0..28u64 {
         let good = Good { reads, ..ALL_GOOD };
         let ran = if reads < 27 {
-            failed(Cause::CannotRead, "msgfmt: cannot read -\n")
+            failed(Cause::CannotRead, 0, "msgfmt: cannot read -\n")
         } else {
-            DONE
+            done("")
         };
-        assert!(rt; ends(rt.alloc(), "-o - -", HI, good, ran), "{reads}");
+        let line = ["msgfmt", "-o", "-", "-"];
+        assert!(rt; ends(rt.alloc(), &line, HI, &good, &ran), "{reads}");
     }
 }
 
@@ -126,63 +148,49 @@ fn each_write_fails_in_turn(rt: HostRuntime) {
     for writes in 0..5usize {
         let good = Good { writes, ..ALL_GOOD };
         let ran = if writes < 4 {
-            Ran {
-                output: SALUT.get(..16 * writes).unwrap_or(&SALUT),
-                ..failed(Cause::CannotWrite, "msgfmt: cannot write -\n")
-            }
+            failed(Cause::CannotWrite, 16 * writes, "msgfmt: cannot write -\n")
         } else {
-            Ran {
-                said: "1 translated message.\n",
-                ..DONE
-            }
+            done("1 translated message.\n")
         };
-        assert!(rt;
-            ends(rt.alloc(), "--statistics -o - -", HI, good, ran),
-            "{writes}"
-        );
+        let line = ["msgfmt", "--statistics", "-o", "-", "-"];
+        assert!(rt; ends(rt.alloc(), &line, HI, &good, &ran), "{writes}");
     }
 }
 
+/// Arguments, the devices, and why the run fails and what it says then.
+const FIRST_CALLS: [(&[&str], Good, Cause, &str); 5] = [
+    (
+        &["msgfmt", "-h"],
+        UNWRITTEN,
+        Cause::CannotWrite,
+        "msgfmt: cannot write -\n",
+    ),
+    (
+        &["msgfmt", "-o", "out.mo", "in.po"],
+        UNREAD,
+        Cause::CannotRead,
+        "msgfmt: cannot read in.po\n",
+    ),
+    (
+        &["msgfmt", "-o", "out.mo", "in.po"],
+        UNWRITTEN,
+        Cause::CannotWrite,
+        "msgfmt: cannot write out.mo\n",
+    ),
+    (
+        &["msgfmt", "--statistics", "in.po"],
+        UNWRITTEN,
+        Cause::CannotWrite,
+        "msgfmt: cannot write messages.mo\n",
+    ),
+    (&["msgfmt", "-o", "-"], UNSAID, Cause::NoInput, ""),
+];
+
 #[test]
 fn a_device_fails_at_its_first_call(rt: HostRuntime) {
-    let unread = Good {
-        file_reads: false,
-        ..ALL_GOOD
-    };
-    let unwritten = Good {
-        writes: 0,
-        file_writes: false,
-        ..ALL_GOOD
-    };
-    let unsaid = Good {
-        error_writes: 0,
-        ..ALL_GOOD
-    };
-    let no_write = Cause::CannotWrite;
-    for (line, good, cause, said) in [
-        ("-h", unwritten, no_write, "msgfmt: cannot write -\n"),
-        (
-            "-o out.mo in.po",
-            unread,
-            Cause::CannotRead,
-            "msgfmt: cannot read in.po\n",
-        ),
-        (
-            "-o out.mo in.po",
-            unwritten,
-            no_write,
-            "msgfmt: cannot write out.mo\n",
-        ),
-        (
-            "--statistics in.po",
-            unwritten,
-            no_write,
-            "msgfmt: cannot write messages.mo\n",
-        ),
-        ("-o -", unsaid, Cause::NoInput, ""),
-    ] {
-        let ran = failed(cause, said);
-        assert!(rt; ends(rt.alloc(), line, HI, good, ran), "{line}");
+    for (line, good, cause, said) in &FIRST_CALLS {
+        let ran = failed(*cause, 0, said);
+        assert!(rt; ends(rt.alloc(), line, HI, good, &ran), "{said}");
     }
 }
 
@@ -214,13 +222,14 @@ fn each_write_to_the_error_output_fails_in_turn(rt: HostRuntime) {
             } else {
                 Status::Done
             },
-            output: b"",
+            written: 0,
             files: if error_writes < 33 { 0 } else { 1 },
             said: WARNED,
             is_all_said: error_writes == 35,
         };
+        let line = ["msgfmt", "-c", "--statistics", "in.po"];
         assert!(rt;
-            ends(rt.alloc(), "-c --statistics in.po", HEADED, good, ran),
+            ends(rt.alloc(), &line, HEADED, &good, &ran),
             "{error_writes}"
         );
     }

@@ -12,7 +12,7 @@ pub(crate) type Calls = (u64, u64);
 /// No call.
 pub(crate) const NONE: Calls = (0, 0);
 
-/// A reader that gives `first` bytes, and then `step` bytes at a time. Some of its reads are interrupted, and some fail.
+/// A reader that gives `first` bytes, and then `step` bytes at a time. Some reads are interrupted, and some fail.
 #[derive(Drop)]
 pub(crate) struct SlowReader<'a> {
     pub(crate) left: &'a [u8],
@@ -55,8 +55,8 @@ impl Read for SlowReader<'_> {
     }
 }
 
-/// A writer that takes `step` bytes at a time, `room` in all and in `writes` writes, and then fails. What was flushed is
-/// counted.
+/// A writer that takes `step` bytes at a time, `room` in all and in `writes` writes, and then fails. What was flushed
+/// is counted.
 #[derive(Drop)]
 pub(crate) struct SmallWriter {
     pub(crate) held: Vec<u8>,

@@ -30,60 +30,66 @@ fn has_no_line(input: &mut LineInput, reader: &mut Reading<SlowReader>) -> bool 
         && input.has_ended()
 }
 
-/// Whether the lines are taken, each after so many reads if that is given, and then no further line is there.
-fn takes_lines(
-    input: &mut LineInput,
-    reader: &mut Reading<SlowReader>,
-    reads: Option<[u64; 4]>,
-) -> bool {
-    for (place, line) in LINES.into_iter().enumerate() {
+/// Takes the lines, and then finds no further one. Returns the number of reads after each line, or `None` if a line is
+/// wrong, a read fails or more is read for none.
+fn reads_of_lines(input: &mut LineInput, reader: &mut Reading<SlowReader>) -> Option<[u64; 4]> {
+    let mut reads = [0; 4];
+    for (slot, line) in reads.iter_mut().zip(LINES) {
         if !takes_line(input, reader, line) {
-            return false;
+            return None;
         }
-        if reads.is_some_and(|reads| reads.get(place) != Some(&reader.reads)) {
-            return false;
-        }
+        *slot = reader.reads;
     }
-    has_no_line(input, reader)
-        && reader.failures == 0
-        && reads.is_none_or(|reads| reader.reads == reads[3])
+    if has_no_line(input, reader) && reader.failures == 0 && reader.reads == reads[3] {
+        Some(reads)
+    } else {
+        None
+    }
 }
 
-/// Whether a reader gives the lines, each after so many reads if that is given.
-fn gives_lines(alloc: Global, reader: SlowReader, reads: Option<[u64; 4]>) -> bool {
+/// The number of reads after each line of a reader, or `None` if anything is wrong.
+fn reads_of(alloc: Global, reader: SlowReader) -> Option<[u64; 4]> {
     let mut reader = Reading::new(reader);
     match LineInput::new(alloc) {
-        Ok(mut input) => takes_lines(&mut input, &mut reader, reads),
-        Err(_) => false,
+        Ok(mut input) => reads_of_lines(&mut input, &mut reader),
+        Err(_) => None,
     }
+}
+
+/// Whether the lines come from a reader that gives so many bytes first, and one of whose first reads is interrupted.
+fn gives_lines(alloc: Global, first: usize) -> bool {
+    for step in &[1, 2, TEXT.len()] {
+        for interrupted in 0..4u64 {
+            let mut reader = SlowReader::new(TEXT, first, *step);
+            reader.interrupted = (interrupted, interrupted + 1);
+            if reads_of(alloc, reader).is_none() {
+                return false;
+            }
+        }
+    }
+    true
 }
 
 #[test]
 fn lines_come_byte_by_byte_and_in_any_two_parts(rt: HostRuntime) {
     for first in 1..TEXT.len() + 1 {
-        for step in [1, 2, TEXT.len()] {
-            for interrupted in 0..4u64 {
-                let mut reader = SlowReader::new(TEXT, first, step);
-                reader.interrupted = (interrupted, interrupted + 1);
-                assert!(rt;
-                    gives_lines(rt.alloc(), reader, None),
-                    "{first} {step} {interrupted}"
-                );
-            }
-        }
+        assert!(rt; gives_lines(rt.alloc(), first), "{first}");
     }
 }
+
+/// How many bytes come first, how many then at a time, and the reads after each line.
+const READS: [(usize, usize, [u64; 4]); 3] = [
+    (6, 6, [1, 1, 2, 4]),
+    (5, 1, [1, 2, 8, 11]),
+    (14, 1, [1, 1, 1, 2]),
+];
 
 // A line that is there is given before the next read. The read after a line without an LF finds the end.
 #[test]
 fn no_read_is_tried_while_the_line_is_there(rt: HostRuntime) {
-    for (first, step, reads) in [
-        (6, 6, [1, 1, 2, 4]),
-        (5, 1, [1, 2, 8, 11]),
-        (14, 1, [1, 1, 1, 2]),
-    ] {
-        let reader = SlowReader::new(TEXT, first, step);
-        assert!(rt; gives_lines(rt.alloc(), reader, Some(reads)), "{first}");
+    for (first, step, reads) in &READS {
+        let found = reads_of(rt.alloc(), SlowReader::new(TEXT, *first, *step));
+        assert!(rt; found == Some(*reads), "{first}");
     }
 }
 
@@ -101,13 +107,8 @@ fn end_of(
 }
 
 /// Whether so many lines of a text end there, or one if none is given, and only bytes of the text have come.
-fn is_found(
-    alloc: Global,
-    (text, step): (&[u8], usize),
-    count: Option<u64>,
-    most: usize,
-    wanted: Found,
-) -> bool {
+fn is_found(alloc: Global, row: &Row, step: usize) -> bool {
+    let (text, count, most, wanted) = *row;
     let mut reader = Reading::new(SlowReader::new(text, step, step));
     match LineInput::new(alloc) {
         Ok(mut input) => {
@@ -117,46 +118,36 @@ fn is_found(
     }
 }
 
-#[test]
-fn several_lines_end_at_once(rt: HostRuntime) {
-    for (count, most, wanted) in [
-        (0, 0, Ok(Some(0))),
-        (1, 5, Ok(Some(5))),
-        (2, 6, Ok(Some(6))),
-        (3, 12, Ok(Some(12))),
-        (4, 14, Ok(Some(14))),
-        (5, 14, Ok(None)),
-        (u64::MAX, 14, Ok(None)),
-        (1, 4, Err(LineInputFault::TooLong)),
-        (3, 11, Err(LineInputFault::TooLong)),
-        (4, 13, Err(LineInputFault::TooLong)),
-    ] {
-        for step in [1, 3, 20] {
-            assert!(rt;
-                is_found(rt.alloc(), (TEXT, step), Some(count), most, wanted),
-                "{count} {most} {step}"
-            );
-        }
-    }
-}
+/// A text, the number of lines that are looked for, or `None` for one, the most bytes that they may have, and the
+/// answer.
+type Row = (&'static [u8], Option<u64>, usize, Found);
+
+const TOO_LONG: Found = Err(LineInputFault::TooLong);
+
+const ROWS: [Row; 16] = [
+    (TEXT, Some(0), 0, Ok(Some(0))),
+    (TEXT, Some(1), 5, Ok(Some(5))),
+    (TEXT, Some(2), 6, Ok(Some(6))),
+    (TEXT, Some(3), 12, Ok(Some(12))),
+    (TEXT, Some(4), 14, Ok(Some(14))),
+    (TEXT, Some(5), 14, Ok(None)),
+    (TEXT, Some(u64::MAX), 14, Ok(None)),
+    (TEXT, Some(1), 4, TOO_LONG),
+    (TEXT, Some(3), 11, TOO_LONG),
+    (TEXT, Some(4), 13, TOO_LONG),
+    (b"salut\n", None, 6, Ok(Some(6))),
+    (b"salut\n", None, 5, TOO_LONG),
+    (b"salut", None, 5, Ok(Some(5))),
+    (b"salut", None, 4, TOO_LONG),
+    (b"\n", None, 0, TOO_LONG),
+    (b"\n", None, 1, Ok(Some(1))),
+];
 
 #[test]
-fn a_line_is_too_long(rt: HostRuntime) {
-    let too_long = Err(LineInputFault::TooLong);
-    for (text, most, wanted) in [
-        (b"salut\n".as_slice(), 6, Ok(Some(6))),
-        (b"salut\n", 5, too_long),
-        (b"salut", 5, Ok(Some(5))),
-        (b"salut", 4, too_long),
-        (b"\n", 0, too_long),
-        (b"\n", 1, Ok(Some(1))),
-    ] {
-        for step in [1, 9] {
-            assert!(rt;
-                is_found(rt.alloc(), (text, step), None, most, wanted),
-                "{} {most} {step}",
-                text.len()
-            );
+fn lines_end_at_once_or_are_too_long(rt: HostRuntime) {
+    for (place, row) in ROWS.iter().enumerate() {
+        for step in &[1, 3, 9, 20] {
+            assert!(rt; is_found(rt.alloc(), row, *step), "row {place}");
         }
     }
 }

@@ -2,7 +2,7 @@
 ghost use Rattle.std.specs.Prelude.{IfSome, OnOk, codes, take};
 ghost use Rattle.devices.specs.Files.{Logs};
 
-use crate::fakes::{OneFile, SlowReader, SmallWriter};
+use crate::fakes::{Calls, NONE, OneFile, SlowReader, SmallWriter};
 use devices::{FileFault, Files, InputFault, MOST_READS, Reading, Sink, Writing, read_all};
 use std::alloc::Global;
 
@@ -14,15 +14,52 @@ fn has_read(reader: &Reading<SlowReader>, left: u64, reads: u64, failures: u64) 
         && reader.failures == failures
 }
 
-/// Whether this is read of an input up to a limit, or `None` if it can't be read, and what is left then.
-fn is_read(
-    alloc: Global,
-    reader: SlowReader,
-    limit: usize,
-    wanted: Option<&[u8]>,
-    (left, reads, failures): (u64, u64, u64),
-) -> bool {
-    let mut reader = Reading::new(reader);
+/// Readings of a text: how many bytes come at a time, which reads are interrupted and which fail, and up to which limit
+/// it is read; then what is read, or `None` if it can't be read, and the bytes left, the reads and the failures then.
+type Row = (
+    &'static [u8],
+    usize,
+    Calls,
+    Calls,
+    usize,
+    Option<&'static [u8]>,
+    (u64, u64, u64),
+);
+
+const ROWS: [Row; 13] = [
+    // The second read is interrupted.
+    (b"salut", 1, (1, 2), NONE, 9, Some(b"salut"), (0, 7, 0)),
+    (b"salut", 2, (1, 2), NONE, 5, Some(b"salut"), (0, 4, 0)),
+    (b"salut", 9, (1, 2), NONE, 9, Some(b"salut"), (0, 3, 0)),
+    (b"salut", 2, (1, 2), NONE, 3, Some(b"sal"), (2, 3, 0)),
+    (b"salut", 9, (1, 2), NONE, 0, Some(b""), (5, 0, 0)),
+    // A read fails in mid-stream.
+    (b"salut", 1, NONE, (0, 1), 9, None, (5, 1, 1)),
+    (b"salut", 1, NONE, (1, 2), 9, None, (4, 2, 1)),
+    (b"salut", 1, NONE, (2, 3), 9, None, (3, 3, 1)),
+    (b"salut", 1, NONE, (3, 4), 9, None, (2, 4, 1)),
+    (b"salut", 1, NONE, (4, 5), 9, None, (1, 5, 1)),
+    (b"salut", 1, NONE, (5, 6), 9, None, (0, 6, 1)),
+    // The reads are interrupted until the input ends at the last one that is tried, or up to that one.
+    (
+        b"",
+        1,
+        (0, 134_217_727),
+        NONE,
+        9,
+        Some(b""),
+        (0, 134_217_728, 0),
+    ),
+    (b"", 1, (0, 134_217_728), NONE, 9, None, (0, 134_217_728, 0)),
+];
+
+/// Whether an input is read so.
+fn is_read(alloc: Global, row: &Row) -> bool {
+    let (text, step, interrupted, failing, limit, wanted, (left, reads, failures)) = *row;
+    let mut slow = SlowReader::new(text, step, step);
+    slow.interrupted = interrupted;
+    slow.failing = failing;
+    let mut reader = Reading::new(slow);
     let is_right = match read_all(alloc, &mut reader, limit) {
         Ok(bytes) => Some(bytes.as_slice()) == wanted,
         Err(fault) => fault == InputFault::Unreadable && wanted.is_none(),
@@ -30,46 +67,11 @@ fn is_read(
     is_right && has_read(&reader, left, reads, failures)
 }
 
-// The second read is interrupted.
 #[test]
-fn an_input_is_read_whole_or_up_to_the_limit(rt: HostRuntime) {
-    for (step, limit, wanted, after) in [
-        (1, 9, b"salut".as_slice(), (0, 7, 0)),
-        (2, 5, b"salut", (0, 4, 0)),
-        (9, 9, b"salut", (0, 3, 0)),
-        (2, 3, b"sal", (2, 3, 0)),
-        (9, 0, b"", (5, 0, 0)),
-    ] {
-        let mut reader = SlowReader::new(b"salut", step, step);
-        reader.interrupted = (1, 2);
-        assert!(rt;
-            is_read(rt.alloc(), reader, limit, Some(wanted), after),
-            "{step} {limit}"
-        );
-    }
-}
-
-#[test]
-fn a_reader_fails_in_mid_stream(rt: HostRuntime) {
-    for failing in 0..6u64 {
-        let mut reader = SlowReader::new(b"salut", 1, 1);
-        reader.failing = (failing, failing + 1);
-        let after = (5 - failing, failing + 1, 1);
-        assert!(rt; is_read(rt.alloc(), reader, 9, None, after), "{failing}");
-    }
-}
-
-// Its reads are interrupted, and then it is at its end.
-#[test]
-fn an_interrupted_reader_is_given_up(rt: HostRuntime) {
-    for (interrupted, wanted) in [(MOST_READS - 1, Some(b"".as_slice())), (MOST_READS, None)] {
-        let mut reader = SlowReader::new(b"", 1, 1);
-        reader.interrupted = (0, u64::from(interrupted));
-        let after = (0, 134_217_728, 0);
-        assert!(rt;
-            is_read(rt.alloc(), reader, 9, wanted, after),
-            "{interrupted}"
-        );
+fn an_input_is_read_up_to_a_limit_or_a_failure(rt: HostRuntime) {
+    assert!(rt; MOST_READS == 134_217_728);
+    for (place, row) in ROWS.iter().enumerate() {
+        assert!(rt; is_read(rt.alloc(), row), "row {place}");
     }
 }
 
@@ -131,17 +133,18 @@ fn is_copied(
     copy(alloc, &mut files, limit).is_ok() == wanted.is_some() && has_written(&files, wanted)
 }
 
+/// Whether the file can be read and written, the limit, and what is copied.
+const COPIES: [(bool, bool, usize, Option<&[u8]>); 4] = [
+    (true, true, 9, Some(b"salut")),
+    (true, true, 3, Some(b"sal")),
+    (false, true, 9, None),
+    (true, false, 9, None),
+];
+
 #[test]
 fn files_are_read_and_written(rt: HostRuntime) {
-    for (can_read, can_write, limit, wanted) in [
-        (true, true, 9, Some(b"salut".as_slice())),
-        (true, true, 3, Some(b"sal")),
-        (false, true, 9, None),
-        (true, false, 9, None),
-    ] {
-        assert!(rt;
-            is_copied(rt.alloc(), can_read, can_write, limit, wanted),
-            "{can_read} {can_write} {limit}"
-        );
+    for (can_read, can_write, limit, wanted) in &COPIES {
+        let is_right = is_copied(rt.alloc(), *can_read, *can_write, *limit, *wanted);
+        assert!(rt; is_right, "{limit}");
     }
 }
