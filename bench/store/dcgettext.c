@@ -1,4 +1,4 @@
-/* Queries to glibc's dcgettext in 20 text domains, one for each language of crates/bench_store, with the same
+/* Queries to glibc's dcgettext in 20 text domains, one for each language of crates/bench_calls, with the same
    messages in the same order: dcgettext FOLDER MESSAGES ROUNDS [MEMBERS]. Where it is told how many members the list in
    LANGUAGE has, it runs in one thread alone, and prints that number. Run by bench/store/run. */
 #include <libintl.h>

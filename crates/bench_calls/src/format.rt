@@ -2,7 +2,7 @@
 //! standard error has the processor time, as the count doubles.
 ghost use Rattle.std.specs.Prelude.{◌<◌};
 
-use c_signature::signature;
+use c_signature::{FormatFault, signature};
 use std::alloc::{AllocError, Global};
 use std::io;
 use std::time::CpuClock;
@@ -19,6 +19,17 @@ enum Order {
     /// All have the number 1.
     Same,
 }
+
+const ORDERS: [Order; 5] = [
+    Order::Unnumbered,
+    Order::Rising,
+    Order::Falling,
+    Order::Spread,
+    Order::Same,
+];
+
+/// The numbers of directives.
+const COUNTS: [u32; 4] = [250_000, 500_000, 1_000_000, 2_000_000];
 
 impl Order {
     /// The number of the directive at a place, from 1 to the count.
@@ -49,54 +60,71 @@ fn format_of(alloc: Global, order: Order, count: u32) -> Result<String, AllocErr
     Ok(text)
 }
 
+/// Lists the arguments of a text. Returns the microseconds that it took, and how many there are.
+fn time_signature<R: AllocGlobal + CpuClock>(
+    rt: &R,
+    text: &str,
+) -> io::Result<(u128, Result<usize, FormatFault>)> {
+    let start = rt.thread_cpu_time()?;
+    let listed = signature(rt.alloc(), text);
+    let end = rt.thread_cpu_time()?;
+    let micros = end.saturating_sub(start).as_micros();
+    match listed {
+        Ok(kinds) => Ok((micros, Ok(kinds.len()))),
+        Err(fault) => Ok((micros, Err(fault))),
+    }
+}
+
 /// Lists the arguments of one text, and prints how many there are and how long that took.
 fn time_one<R: Print + Eprint + AllocGlobal + CpuClock>(
     rt: &R,
     order: Order,
     count: u32,
+    text: &str,
 ) -> io::Result<()> {
-    let text = format_of(rt.alloc(), order, count)?;
     let bytes = text.len();
-    let start = rt.thread_cpu_time()?;
-    let listed = signature(rt.alloc(), text.as_str());
-    let end = rt.thread_cpu_time()?;
-    let micros = end.saturating_sub(start).as_micros();
+    let (micros, listed) = time_signature(rt, text)?;
     match listed {
-        Ok(kinds) => {
-            let len = kinds.len();
-            println!(rt; "{order:?} {count}: {len} listed")?;
-        }
+        Ok(len) => println!(rt; "{order:?} {count}: {len} listed")?,
         Err(fault) => println!(rt; "{order:?} {count}: {fault}")?,
     }
     eprintln!(rt; "{order:?} {count} directives, {bytes} bytes: {micros} us")
 }
 
+/// Times a text in this order.
+fn time_order<R: Print + Eprint + AllocGlobal + CpuClock>(
+    rt: &R,
+    order: Order,
+    count: u32,
+) -> io::Result<()> {
+    let text = format_of(rt.alloc(), order, count)?;
+    time_one(rt, order, count, &text)
+}
+
 /// Times a text without a directive.
-fn time_plain<R: Print + Eprint + AllocGlobal + CpuClock>(rt: &R, len: usize) -> io::Result<()> {
-    let mut text = String::new(rt.alloc());
+fn time_plain<R: Print + Eprint + AllocGlobal + CpuClock>(rt: &R, text: &str) -> io::Result<()> {
+    let len = text.len();
+    let (micros, listed) = time_signature(rt, text)?;
+    println!(rt; "plain {len}: {}", listed.is_ok())?;
+    eprintln!(rt; "plain, {len} bytes: {micros} us")
+}
+
+/// A text of `len` letters.
+fn plain_of(alloc: Global, len: usize) -> Result<String, AllocError> {
+    let mut text = String::new(alloc);
     for _ in 0..len {
         text.push('a')?;
     }
-    let start = rt.thread_cpu_time()?;
-    let listed = signature(rt.alloc(), text.as_str()).is_ok();
-    let end = rt.thread_cpu_time()?;
-    let micros = end.saturating_sub(start).as_micros();
-    println!(rt; "plain {len}: {listed}")?;
-    eprintln!(rt; "plain, {len} bytes: {micros} us")
+    Ok(text)
 }
 
 /// Times texts in each order, and one without a directive.
 pub fn time_formats<R: Print + Eprint + AllocGlobal + CpuClock>(rt: &R) -> io::Result<()> {
-    for order in [
-        Order::Unnumbered,
-        Order::Rising,
-        Order::Falling,
-        Order::Spread,
-        Order::Same,
-    ] {
-        for count in [250_000, 500_000, 1_000_000, 2_000_000] {
-            time_one(rt, order, count)?;
+    for order in &ORDERS {
+        for count in &COUNTS {
+            time_order(rt, *order, *count)?;
         }
     }
-    time_plain(rt, 16_000_000)
+    let text = plain_of(rt.alloc(), 16_000_000)?;
+    time_plain(rt, &text)
 }

@@ -39,7 +39,35 @@ fn time_all<R: Print + Eprint + Clock>(
     eprintln!(rt; "{} ps", taken.saturating_mul(1000) / turns.max(1))
 }
 
-/// Opens an MO file, makes its index, and times `rounds` look-ups of each line of a file of msgids.
+/// Times the look-ups of each line of a text.
+fn time_lines<R: Print + Eprint + Clock + AllocGlobal>(
+    rt: &R,
+    catalogue: &Catalogue,
+    ids: &str,
+    rounds: u32,
+) -> io::Result<()> {
+    let mut list = Vec::new(rt.alloc());
+    for id in ids.lines() {
+        list.push(id)?;
+    }
+    time_all(rt, catalogue, &list, rounds)
+}
+
+/// Opens the bytes of an MO file, makes its index, and times the look-ups.
+fn time_file<R: Print + Eprint + Clock + AllocGlobal>(
+    rt: &R,
+    file: &[u8],
+    ids: &str,
+    rounds: u32,
+) -> io::Result<()> {
+    let Ok(mut catalogue) = read_mo(rt.alloc(), file) else {
+        return eprintln!(rt; "no MO file");
+    };
+    catalogue.index(rt.alloc())?;
+    time_lines(rt, &catalogue, ids, rounds)
+}
+
+/// Times `rounds` look-ups in an MO file, of each line of a file of msgids.
 pub fn time_lookups<R: Print + Eprint + Clock + Files + AllocGlobal>(
     rt: &R,
     file: &str,
@@ -48,13 +76,5 @@ pub fn time_lookups<R: Print + Eprint + Clock + Files + AllocGlobal>(
 ) -> io::Result<()> {
     let file = fs::read(rt, file)?;
     let ids = fs::read_to_string(rt, ids)?;
-    let Ok(mut catalogue) = read_mo(rt.alloc(), &file) else {
-        return eprintln!(rt; "no MO file");
-    };
-    catalogue.index(rt.alloc())?;
-    let mut list = Vec::new(rt.alloc());
-    for id in ids.lines() {
-        list.push(id)?;
-    }
-    time_all(rt, &catalogue, &list, rounds)
+    time_file(rt, &file, &ids, rounds)
 }

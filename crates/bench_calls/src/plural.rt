@@ -54,6 +54,18 @@ fn time_rule<R: Print + Clock + AllocGlobal>(rt: &R, text: &str, rounds: u64) ->
     println!(rt; "{sum} {number} {reading} {steady}")
 }
 
+/// Times the rule of each line of a text.
+fn time_lines<R: Print + Clock + AllocGlobal>(
+    rt: &R,
+    headers: &str,
+    rounds: u64,
+) -> io::Result<()> {
+    for header in headers.lines() {
+        time_rule(rt, header, rounds)?;
+    }
+    Ok(())
+}
+
 /// Times the rule of each header in a file, one header a line, over the numbers below `TOP`, `rounds` times.
 pub fn time_rules<R: Print + Clock + Files + AllocGlobal>(
     rt: &R,
@@ -61,8 +73,5 @@ pub fn time_rules<R: Print + Clock + Files + AllocGlobal>(
     rounds: u32,
 ) -> io::Result<()> {
     let headers = fs::read_to_string(rt, headers)?;
-    for header in headers.lines() {
-        time_rule(rt, header, u64::from(rounds))?;
-    }
-    Ok(())
+    time_lines(rt, &headers, u64::from(rounds))
 }

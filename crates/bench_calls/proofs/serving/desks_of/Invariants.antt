@@ -1,5 +1,5 @@
 use Rattle.std.proofs.Common.{◌≡◌, ◌+◌, All, vec_len}
-use Rattle.bench_store.proofs.serving.desks_of.Given as goal
+use Rattle.bench_calls.proofs.serving.desks_of.Given as goal
 
 abbrev pub invariant-readers : goal.invariant-readers
 invariant-readers l =

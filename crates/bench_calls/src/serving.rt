@@ -6,19 +6,13 @@ use crate::messages::{Asked, LANGUAGES, PLAIN, locale_of, po_text, queries};
 use crate::readers::is_answer;
 use desks::{Answer, Desk, Gate, Job, Place, Source, serve};
 use live_set::Query;
-use live_versions::{Lookups, Publisher, open_store};
+use live_versions::{Lookups, Publisher};
 use std::alloc::{AllocError, Global};
 use std::io;
 use std::rt::Clock;
 use std::sync::Wait;
 use std::thread::Threads;
 use std::time::Instant;
-
-/// The numbers of desks that are timed.
-const DESKS: [u32; 5] = [1, 2, 4, 8, 16];
-
-/// The number of jobs of the publishing thread.
-const JOBS: u32 = 1_000;
 
 /// The number of messages in a job's text.
 const JOB_MESSAGES: u32 = 10;
@@ -31,19 +25,33 @@ impl Gate for Open {
     fn pass(&self, _place: Place, _index: u64) {}
 }
 
+/// What is served: a number of desks beside a number of jobs, with so many messages in each language.
+#[derive(Clone, Copy)]
+pub struct Serving {
+    pub messages: u32,
+    pub desks: u32,
+    pub jobs: u32,
+}
+
+/// A job that loads a text for a language.
+pub fn job_of(alloc: Global, language: u32, text: String) -> Result<Job, AllocError> {
+    Ok(Job {
+        domain: String::from_str(alloc, "app")?,
+        locale: locale_of(alloc, language)?,
+        source: Source::Po {
+            bytes: text.into_bytes(),
+            options: PLAIN,
+        },
+    })
+}
+
 /// `count` jobs, each a text for one of 20 locales that no query asks for.
 fn jobs_of(alloc: Global, count: u32) -> Result<Vec<Job>, AllocError> {
     let mut jobs = Vec::new(alloc);
     'jobs: for job in 0..count {
         let language = LANGUAGES + job % LANGUAGES;
-        jobs.push(Job {
-            domain: String::from_str(alloc, "app")?,
-            locale: locale_of(alloc, language)?,
-            source: Source::Po {
-                bytes: po_text(alloc, language, JOB_MESSAGES)?.into_bytes(),
-                options: PLAIN,
-            },
-        })?;
+        let text = po_text(alloc, language, JOB_MESSAGES)?;
+        jobs.push(job_of(alloc, language, text)?)?;
     }
     Ok(jobs)
 }
@@ -139,42 +147,27 @@ fn run_desks<R: Print + Eprint + Clock + Threads + Wait + AllocGlobal + Sync>(
     }
 }
 
-/// Opens a store, and times `serve` on its desks.
-fn time_desks<R: Print + Eprint + Clock + Threads + Wait + AllocGlobal + Sync>(
-    rt: &R,
-    messages: u32,
-    count: u32,
-    jobs: u32,
-) -> io::Result<()> {
-    let Ok((mut publisher, readers)) = open_store(rt, rt.alloc(), count, u64::MAX) else {
-        return println!(rt; "no store");
-    };
-    let asked = Asked {
-        languages: LANGUAGES,
-        messages,
-        count: messages.saturating_mul(LANGUAGES) / 10,
-    };
-    let published = publish_languages(rt, &mut publisher, messages);
-    let done = match (published, desks_of(rt.alloc(), &publisher, readers, asked)) {
-        (Ok(true), Ok(mut desks)) => {
-            let all = u64::from(asked.count).saturating_mul(u64::from(count));
-            run_desks(rt, &mut publisher, &mut desks, jobs, all)
-        }
-        _ => println!(rt; "out of memory"),
-    };
-    publisher.end(rt);
-    done
-}
-
-/// Times `serve` on 1 to 16 desks. The queries of a desk are a tenth of the number of messages.
+/// Times `serve` on the desks of a store. The queries of a desk are a tenth of the number of messages.
 pub fn time_serve<R: Print + Eprint + Clock + Threads + Wait + AllocGlobal + Sync>(
     rt: &R,
-    messages: u32,
-) -> io::Result<()> {
-    'desks: for desks in DESKS {
-        'jobs: for jobs in [0, JOBS] {
-            time_desks(rt, messages, desks, jobs)?;
+    publisher: &mut Publisher,
+    readers: Vec<Lookups>,
+    serving: Serving,
+) -> io::Result<()>
+    requires book { All (λ l. l.book ≡ publisher.old.seen.book) readers.items }
+    requires count { (1 ≤ vec_len readers) × (vec_len readers ≤ 16) }
+{
+    let asked = Asked {
+        languages: LANGUAGES,
+        messages: serving.messages,
+        count: serving.messages.saturating_mul(LANGUAGES) / 10,
+    };
+    let published = publish_languages(rt, publisher, serving.messages);
+    match desks_of(rt.alloc(), publisher, readers, asked) {
+        Ok(mut desks) if published == Ok(true) => {
+            let all = u64::from(asked.count).saturating_mul(u64::from(serving.desks));
+            run_desks(rt, publisher, &mut desks, serving.jobs, all)
         }
+        _ => println!(rt; "out of memory"),
     }
-    Ok(())
 }

@@ -2,11 +2,11 @@
 //! an answer shows whether it is of the version that it names.
 ghost use Rattle.std.specs.Prelude.{◌≡◌, ◌≤◌, All, vec_len};
 
-use crate::messages::{Asked, PLAIN, locale_of};
-use crate::serving::{Open, desks_of};
+use crate::messages::Asked;
+use crate::serving::{Open, desks_of, job_of};
 use crate::soak::{text_of, version_in};
-use desks::{Answer, Desk, Job, Served, Source, serve};
-use live_versions::{Publisher, Version, open_store};
+use desks::{Answer, Desk, Job, Served, serve};
+use live_versions::{Lookups, Publisher, Version};
 use std::alloc::{AllocError, Global};
 use std::io;
 use std::rt::Clock;
@@ -41,14 +41,8 @@ fn jobs_of(alloc: Global, version: Version) -> Result<Vec<Job>, AllocError> {
     let mut jobs = Vec::new(alloc);
     'jobs: for job in 0..JOBS {
         let number = version.saturating_add(u64::from(job) + 1);
-        jobs.push(Job {
-            domain: String::from_str(alloc, "app")?,
-            locale: locale_of(alloc, 0)?,
-            source: Source::Po {
-                bytes: text_of(alloc, number)?.into_bytes(),
-                options: PLAIN,
-            },
-        })?;
+        let text = text_of(alloc, number)?;
+        jobs.push(job_of(alloc, 0, text)?)?;
     }
     Ok(jobs)
 }
@@ -119,32 +113,42 @@ fn serve_long<R: Threads + Wait + Clock + AllocGlobal + Sync>(
     Ok(services)
 }
 
+/// Prints what went wrong, and how much was done.
+fn print_counts<R: Print + Eprint>(
+    rt: &R,
+    seconds: u64,
+    services: u64,
+    counts: &Counts,
+) -> io::Result<()> {
+    let Counts {
+        answers,
+        mixed,
+        fallen,
+        lost,
+    } = *counts;
+    println!(rt; "{mixed} mixed texts, {fallen} versions fell, {lost} lost")?;
+    eprintln!(rt; "{seconds} s: {services} services of 8 desks and {JOBS} jobs, {answers} answers")
+}
+
 /// Serves eight desks for `seconds`, and prints what went wrong.
 pub fn soak_serve<R: Print + Eprint + Threads + Wait + Clock + AllocGlobal + Sync>(
     rt: &R,
+    publisher: &mut Publisher,
+    readers: Vec<Lookups>,
     seconds: u64,
-) -> io::Result<()> {
-    let Ok((mut publisher, readers)) = open_store(rt, rt.alloc(), 8, u64::MAX) else {
-        return println!(rt; "no store");
-    };
+) -> io::Result<()>
+    requires book { All (λ l. l.book ≡ publisher.old.seen.book) readers.items }
+    requires count { (1 ≤ vec_len readers) × (vec_len readers ≤ 16) }
+{
     let mut counts = Counts {
         answers: 0,
         mixed: 0,
         fallen: 0,
         lost: 0,
     };
-    let services = match desks_of(rt.alloc(), &publisher, readers, ASKED) {
-        Ok(mut desks) => serve_long(rt, &mut publisher, &mut desks, seconds, &mut counts),
-        Err(_) => Ok(0),
+    let services = match desks_of(rt.alloc(), publisher, readers, ASKED) {
+        Ok(mut desks) => serve_long(rt, publisher, &mut desks, seconds, &mut counts)?,
+        Err(_) => 0,
     };
-    publisher.end(rt);
-    let services = services?;
-    let Counts {
-        answers,
-        mixed,
-        fallen,
-        lost,
-    } = counts;
-    println!(rt; "{mixed} mixed texts, {fallen} versions fell, {lost} lost")?;
-    eprintln!(rt; "{seconds} s: {services} services of 8 desks and {JOBS} jobs, {answers} answers")
+    print_counts(rt, seconds, services, &counts)
 }

@@ -53,6 +53,17 @@ pub struct Asked {
     pub count: u32,
 }
 
+/// A query for a message, by a list of languages.
+fn query_of(alloc: Global, before: &str, language: u64, message: u64) -> Result<Query, AllocError> {
+    Ok(Query {
+        domain: String::from_str(alloc, "app")?,
+        languages: format!(in alloc; "{before}l{language}")?,
+        ask: Ask::Plain {
+            id: format!(in alloc; "message {message}")?,
+        },
+    })
+}
+
 /// Queries for pseudo-random messages. Each has a list of languages that begins with `before` and ends with one of
 /// those asked for.
 pub fn queries(alloc: Global, asked: Asked, before: &str) -> Result<Vec<Query>, AllocError> {
@@ -64,13 +75,7 @@ pub fn queries(alloc: Global, asked: Asked, before: &str) -> Result<Vec<Query>, 
             .wrapping_add(1_442_695_040_888_963_407);
         let message = (state >> 33) % u64::from(asked.messages.max(1));
         let language = (state >> 40) % u64::from(asked.languages.max(1));
-        all.push(Query {
-            domain: String::from_str(alloc, "app")?,
-            languages: format!(in alloc; "{before}l{language}")?,
-            ask: Ask::Plain {
-                id: format!(in alloc; "message {message}")?,
-            },
-        })?;
+        all.push(query_of(alloc, before, language, message)?)?;
     }
     Ok(all)
 }

@@ -2,7 +2,7 @@ use Rattle.std.proofs.Common.{rules, ◌≡◌, ◌++◌, ◌∷◌, [], ap, ◌
 use Rattle.std.proofs.lemmas.List.Elements.{All-pop, All-push, All-same}
 use Rattle.live_versions.specs.declared.reader.Lookups.{Lookups}
 use Rattle.desks.specs.declared.desk.Desk.{Desk}
-use Rattle.bench_store.proofs.serving.desks_of.Goals as goal
+use Rattle.bench_calls.proofs.serving.desks_of.Goals as goal
 
 pub readers-preserved : goal.readers-preserved
 readers-preserved c =

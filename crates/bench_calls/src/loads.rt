@@ -1,8 +1,8 @@
 //! Loading one large catalogue, from its PO text and from its MO file.
 use crate::messages::{PLAIN, po_text};
-use crate::print_time;
+use crate::times::print_time;
 use catalogue::compile;
-use live_versions::{Publisher, open_store};
+use live_versions::Publisher;
 use mo_file::write_mo;
 use std::alloc::Global;
 use std::io;
@@ -52,17 +52,15 @@ fn run_loads<R: Print + Eprint + Clock + Wait + AllocGlobal>(
 }
 
 /// Times loads of one large catalogue from both formats.
-pub fn time_loads<R: Print + Eprint + Clock + Wait + AllocGlobal>(rt: &R) -> io::Result<()> {
-    let Ok((mut publisher, _readers)) = open_store(rt, rt.alloc(), 1, u64::MAX) else {
-        return println!(rt; "no store");
+pub fn time_loads<R: Print + Eprint + Clock + Wait + AllocGlobal>(
+    rt: &R,
+    publisher: &mut Publisher,
+) -> io::Result<()> {
+    let Ok(text) = po_text(rt.alloc(), 0, MESSAGES) else {
+        return println!(rt; "out of memory");
     };
-    let done = match po_text(rt.alloc(), 0, MESSAGES) {
-        Ok(text) => match mo_file_of(rt.alloc(), &text) {
-            Some(file) => run_loads(rt, &mut publisher, &text, &file),
-            None => println!(rt; "no catalogue"),
-        },
-        Err(_) => println!(rt; "out of memory"),
-    };
-    publisher.end(rt);
-    done
+    match mo_file_of(rt.alloc(), &text) {
+        Some(file) => run_loads(rt, publisher, &text, &file),
+        None => println!(rt; "no catalogue"),
+    }
 }

@@ -1,5 +1,5 @@
 use Rattle.std.proofs.Common.{◌≡◌}
-use Rattle.bench_store.proofs.lists.load_others.Given as goal
+use Rattle.bench_calls.proofs.lists.load_others.Given as goal
 
 abbrev pub invariant-others : goal.invariant-others
 invariant-others g l = l.publisher.seen.book ≡ l.fn.publisher.seen.book

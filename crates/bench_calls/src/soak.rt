@@ -1,14 +1,14 @@
 //! Four readers look up in a live store while two catalogues are replaced over and over. Each text is the number of its
 //! version, so that a reader sees whether a text is of the version that it entered, and whether a version went back.
 use crate::messages::PLAIN;
-use live_versions::{Lookups, Publisher, Version, open_store};
+use live_versions::{Lookups, Publisher, Version};
 use std::alloc::{AllocError, Global};
 use std::io;
 use std::rt::Clock;
 use std::sync::Wait;
 use std::sync::atomic::AtomicBool;
 use std::sync::atomic::Ordering::SeqCst;
-use std::thread::{Threads, join};
+use std::thread::{Threads, join, map_vec};
 use std::time::Instant;
 
 /// What a reader counted.
@@ -22,6 +22,14 @@ struct Counts {
     /// Calls that gave no entry.
     closed: u64,
 }
+
+/// What a reader counted before its first entry.
+const NOTHING: Counts = Counts {
+    entries: 0,
+    fallen: 0,
+    mixed: 0,
+    closed: 0,
+};
 
 impl Counts {
     fn and(self, other: Counts) -> Counts {
@@ -47,12 +55,7 @@ pub fn version_in(text: &str) -> Version {
 
 /// Enters until `stop` is set.
 fn read(reader: &mut Lookups, stop: &AtomicBool) -> Counts {
-    let mut counts = Counts {
-        entries: 0,
-        fallen: 0,
-        mixed: 0,
-        closed: 0,
-    };
+    let mut counts = NOTHING;
     let mut last = 0;
     'turns: for _ in 0..u64::MAX {
         if stop.load(SeqCst) {
@@ -114,63 +117,55 @@ fn publish<R: Wait + Clock + AllocGlobal>(
     wrong
 }
 
+/// Publishes beside the readers. Answers how many publishes went wrong, and what each reader counted.
 fn run_all<R: Threads + Wait + Clock + AllocGlobal + Sync>(
     rt: &R,
     publisher: &mut Publisher,
-    pair: (&mut Lookups, &mut Lookups),
-    other: (&mut Lookups, &mut Lookups),
+    readers: Vec<Lookups>,
     seconds: u64,
-) -> (u64, Counts) {
+) -> (u64, Result<Vec<Counts>, AllocError>) {
     let stop = AtomicBool::new(false);
-    let (a, b) = pair;
-    let (c, d) = other;
-    let (wrong, ((a, b), (c, d))) = join(
+    join(
         rt,
         || publish(rt, publisher, seconds, &stop),
-        || {
-            join(
-                rt,
-                || join(rt, || read(a, &stop), || read(b, &stop)),
-                || join(rt, || read(c, &stop), || read(d, &stop)),
-            )
-        },
-    );
-    (wrong, a.and(b).and(c).and(d))
+        || map_vec(rt, readers, &|mut reader: Lookups| read(&mut reader, &stop)),
+    )
+}
+
+/// Prints what went wrong, and how much was done.
+fn print_counts<R: Print + Eprint>(
+    rt: &R,
+    seconds: u64,
+    wrong: u64,
+    publishes: u64,
+    all: &[Counts],
+) -> io::Result<()> {
+    let mut counts = NOTHING;
+    'readers: for one in all {
+        counts = counts.and(*one);
+    }
+    let Counts {
+        entries,
+        fallen,
+        mixed,
+        closed,
+    } = counts;
+    println!(rt;
+        "{wrong} wrong publishes, {fallen} versions fell, {mixed} mixed texts, {closed} without an entry"
+    )?;
+    eprintln!(rt; "{seconds} s: {entries} entries, {publishes} publishes")
 }
 
 /// Publishes and looks up for `seconds`, and prints what went wrong.
 pub fn soak<R: Print + Eprint + Threads + Wait + Clock + AllocGlobal + Sync>(
     rt: &R,
+    publisher: &mut Publisher,
+    readers: Vec<Lookups>,
     seconds: u64,
 ) -> io::Result<()> {
-    let Ok((mut publisher, mut readers)) = open_store(rt, rt.alloc(), 4, u64::MAX) else {
-        return println!(rt; "no store");
-    };
-    let found = match (readers.pop(), readers.pop(), readers.pop(), readers.pop()) {
-        (Some(mut a), Some(mut b), Some(mut c), Some(mut d)) => Some(run_all(
-            rt,
-            &mut publisher,
-            (&mut a, &mut b),
-            (&mut c, &mut d),
-            seconds,
-        )),
-        _ => None,
-    };
-    let version = publisher.version();
-    publisher.end(rt);
+    let (wrong, found) = run_all(rt, publisher, readers, seconds);
     match found {
-        Some((wrong, counts)) => {
-            let Counts {
-                entries,
-                fallen,
-                mixed,
-                closed,
-            } = counts;
-            println!(rt;
-                "{wrong} wrong publishes, {fallen} versions fell, {mixed} mixed texts, {closed} without an entry"
-            )?;
-            eprintln!(rt; "{seconds} s: {entries} entries, {} publishes", version / 2)
-        }
-        None => println!(rt; "no readers"),
+        Ok(counts) => print_counts(rt, seconds, wrong, publisher.version() / 2, &counts),
+        Err(_) => println!(rt; "no readers"),
     }
 }
