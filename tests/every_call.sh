@@ -19,7 +19,10 @@ if cmp -s "$room/all" crates/test_every_call/stdout; then
 else
   failed 'every call' "$(diff crates/test_every_call/stdout "$room/all" | head -n 3 | tr '\n' ' ')"
 fi
-for word in $words; do "$program" "$word" > "$room/$word" && cat "$room/$word"; done > "$room/parts"
+# tests/store.sh and tests/serve.sh look at the last two words
+for word in $words store_rows serve_rows; do
+  "$program" "$word" > "$room/$word" && cat "$room/$word"
+done > "$room/parts"
 if cmp -s "$room/all" "$room/parts"; then
   ok 'every call: the same word by word'
 else

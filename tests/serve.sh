@@ -1,12 +1,12 @@
 #!/usr/bin/env bash
-# Refuses each allocation of `crates/test_rows serve` in turn, which serves two desks while a job is done,
+# Refuses each allocation of `crates/test_every_call serve_rows` in turn, which serves two desks while a job is done,
 # publishes, and serves the desks again, and prints what each call answered and left. A service that is refused memory
 # must leave the store as it was, or with the job's load pending or published; and what comes after it must go on.
 . "$(dirname "$0")/common"
 
-program=${TEST_ROWS:-crates/test_rows/out/test_rows}
+program=${EVERY_CALL:-crates/test_every_call/out/test_every_call}
 if [ ! -x "$program" ]; then
-  failed serve "there is no $program: the gate builds it (make check), and so does 'rt run' in crates/test_rows"
+  failed serve "there is no $program: the gate builds it (make check), and so does 'rt run' in crates/test_every_call"
   exit 0
 fi
 
@@ -57,7 +57,7 @@ def take_state(states):
     return int(words[1]), int(words[3])
 
 
-if may_refuse and lines in (['arguments: out of memory'], ['open: out of memory'], ['open: no place for a reader'],
+if may_refuse and lines in (['words: out of memory'], ['open: out of memory'], ['open: no place for a reader'],
                             ['desks: out of memory'], ['jobs: out of memory']):
     sys.exit(0)
 if is_done('serve: 1', FAULTS):
@@ -94,7 +94,7 @@ serve: 1
   pending 0, version 1
 END
 
-is_as_worked_out serve serve
+is_as_worked_out serve serve_rows
 makes_refuser 'serve, refused' || exit 0
 
 services=0
@@ -105,7 +105,7 @@ told() {
     grep -A 1 '^serve: [MCJ]' "$room/got" | tail -n 1 >> "$room/states"
   fi
 }
-follows_refused 'serve, refused' serve || exit 0
+follows_refused 'serve, refused' serve_rows || exit 0
 states=$(sort -u "$room/states" | wc -l)
 if [ "$services" = 0 ]; then
   failed 'serve, refused' "of $n requests none was told by a service"

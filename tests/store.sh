@@ -1,12 +1,12 @@
 #!/usr/bin/env bash
-# Refuses each allocation of `crates/test_rows store` in turn, which loads, publishes and looks up in a
+# Refuses each allocation of `crates/test_every_call store_rows` in turn, which loads, publishes and looks up in a
 # live store and prints what each call answered and left. A refused load, publish or query must have changed
 # nothing, and what comes after it must go on: each line must follow from those before it.
 . "$(dirname "$0")/common"
 
-program=${TEST_ROWS:-crates/test_rows/out/test_rows}
+program=${EVERY_CALL:-crates/test_every_call/out/test_every_call}
 if [ ! -x "$program" ]; then
-  failed store "there is no $program: the gate builds it (make check), and so does 'rt run' in crates/test_rows"
+  failed store "there is no $program: the gate builds it (make check), and so does 'rt run' in crates/test_every_call"
   exit 0
 fi
 
@@ -51,7 +51,7 @@ def state():
     take(f'  pending {len(pending)}, version {len(published)}', None)
 
 
-if may_refuse and lines in (['arguments: out of memory'], ['open: out of memory'], ['open: no place for a reader']):
+if may_refuse and lines in (['words: out of memory'], ['open: out of memory'], ['open: no place for a reader']):
     sys.exit(0)
 for step in steps:
     if step[0] in OWN:
@@ -104,7 +104,7 @@ publish: 4
 enter: 4 salut hallo hej
 END
 
-is_as_worked_out store store
+is_as_worked_out store store_rows
 makes_refuser 'store, refused' || exit 0
 
 loads=0 files=0 publishes=0
@@ -113,7 +113,7 @@ told() {
   ! grep -q '^load_mo .*: Memory$' "$room/got" || files=$((files + 1))
   ! grep -q '^publish: Memory$' "$room/got" || publishes=$((publishes + 1))
 }
-follows_refused 'store, refused' store || exit 0
+follows_refused 'store, refused' store_rows || exit 0
 if [ "$loads" = 0 ] || [ "$files" = 0 ] || [ "$publishes" = 0 ]; then
   failed 'store, refused' "of $n requests $loads were told by a load of a text, $files by one of a file and $publishes by a publish"
 else

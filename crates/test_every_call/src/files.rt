@@ -1,8 +1,9 @@
-//! Calls of `write_mo`, `read_mo`, `check` and `reread`.
-use crate::printing::{print_entries, print_hex};
-use crate::texts::{PLIK, SALUT};
-use catalogue::{Catalogue, Options, compile};
-use mo_file::{check, read_mo, reread, write_mo};
+//! Calls of `from_file`, `write_mo`, `read_mo`, `check` and `reread`.
+use crate::maps::print_made;
+use crate::printing::{print_entries, print_hex, print_uncalled};
+use crate::texts::{PLAIN, PLIK, SALUT};
+use catalogue::{Catalogue, compile};
+use mo_file::{MoFault, check, read_mo, reread, write_mo};
 use std::io;
 
 /// An MO file that translates `a` to `x` and `ba` to `xx`. It is big-endian, has a hash table, and its strings overlap.
@@ -32,21 +33,30 @@ const CHANGES: [(&str, usize, &[u8]); 6] = [
     ),
 ];
 
-const PLAIN: Options = Options {
-    checked: false,
-    use_fuzzy: false,
-};
-
-/// Reads a file, and prints its entries or why it is refused.
-fn read<R: Print + AllocGlobal>(rt: &R, label: &str, bytes: &[u8]) -> io::Result<()> {
-    print!(rt; "read_mo, {label}, gives ")?;
-    match read_mo(rt.alloc(), bytes) {
+/// Prints what a call returned that reads a catalogue from a file: its entries, or why the file is refused.
+fn print_read<R: Print>(rt: &R, read: &Result<Catalogue, MoFault>) -> io::Result<()> {
+    match read {
         Ok(catalogue) => {
-            print!(rt; "Ok({}", catalogue.len())?;
-            print_entries(rt, &catalogue)?;
+            print!(rt; "gives Ok({}", catalogue.len())?;
+            print_entries(rt, catalogue)?;
             println!(rt; ")")
         }
-        Err(fault) => println!(rt; "Err({fault:?})"),
+        Err(fault) => println!(rt; "gives Err({fault:?})"),
+    }
+}
+
+/// Reads or checks a file, as the word of the group says, and prints the result.
+fn read_one<R: Print + AllocGlobal>(
+    rt: &R,
+    word: &str,
+    label: &str,
+    bytes: &[u8],
+) -> io::Result<()> {
+    print!(rt; "{word}, {label}, ")?;
+    if word == "check" {
+        println!(rt; "gives {:?}", check(rt.alloc(), bytes))
+    } else {
+        print_read(rt, &read_mo(rt.alloc(), bytes))
     }
 }
 
@@ -59,87 +69,69 @@ fn changed(at: usize, bytes: &[u8]) -> [u8; 78] {
     file
 }
 
-/// The group `read_mo`.
-pub fn read_all<R: Print + AllocGlobal>(rt: &R) -> io::Result<()> {
-    read(rt, "two messages", &SWAPPED)?;
-    read(rt, "nothing", EMPTY)?;
-    read(rt, "an unknown charset", KOI8)?;
-    read(rt, "without the last byte", &SWAPPED[..77])?;
-    read(rt, "27 bytes", &SWAPPED[..27])?;
+/// The groups `read_mo` and `check`.
+pub fn read_all<R: Print + AllocGlobal>(rt: &R, word: &str) -> io::Result<()> {
+    read_one(rt, word, "two messages", &SWAPPED)?;
+    if word == "read_mo" {
+        read_one(rt, word, "nothing", EMPTY)?;
+    }
+    read_one(rt, word, "an unknown charset", KOI8)?;
+    if word == "read_mo" {
+        read_one(rt, word, "without the last byte", &SWAPPED[..77])?;
+        read_one(rt, word, "27 bytes", &SWAPPED[..27])?;
+    }
     for (label, at, bytes) in CHANGES {
-        read(rt, label, &changed(at, bytes))?;
+        read_one(rt, word, label, &changed(at, bytes))?;
     }
     Ok(())
 }
 
-/// Prints why a file is refused, if it is.
-fn check_one<R: Print + AllocGlobal>(rt: &R, label: &str, bytes: &[u8]) -> io::Result<()> {
-    let answer = check(rt.alloc(), bytes);
-    println!(rt; "check, {label}, gives {answer:?}")
+/// Prints the bytes of a file, and how many there are.
+fn print_file<R: Print>(rt: &R, bytes: &[u8]) -> io::Result<()> {
+    print!(rt; "gives Ok({} ", bytes.len())?;
+    print_hex(rt, bytes)?;
+    println!(rt; ")")
 }
 
-/// The group `check`.
-pub fn check_all<R: Print + AllocGlobal>(rt: &R) -> io::Result<()> {
-    check_one(rt, "two messages", &SWAPPED)?;
-    check_one(rt, "an unknown charset", KOI8)?;
-    for (label, at, bytes) in CHANGES {
-        check_one(rt, label, &changed(at, bytes))?;
-    }
-    Ok(())
-}
-
-/// Writes a catalogue to a file, and prints the bytes.
+/// Writes a catalogue to a file, and prints the result.
 fn write<R: Print + AllocGlobal>(rt: &R, catalogue: &Catalogue) -> io::Result<()> {
     match write_mo(rt.alloc(), catalogue) {
-        Ok(bytes) => {
-            print!(rt; "gives Ok({} ", bytes.len())?;
-            print_hex(rt, &bytes)?;
-            println!(rt; ")")
-        }
+        Ok(bytes) => print_file(rt, &bytes),
         Err(fault) => println!(rt; "gives Err({fault:?})"),
     }
 }
 
-/// Compiles a text, and prints its MO file.
-fn write_text<R: Print + AllocGlobal>(rt: &R, label: &str, text: &str) -> io::Result<()> {
-    print!(rt; "write_mo, {label}, ")?;
-    match compile(rt.alloc(), text.as_bytes(), PLAIN) {
-        Ok(compiled) => write(rt, &compiled.catalogue),
-        Err(_) => println!(rt; "isn't called: out of memory"),
+/// Makes the call of a group with a catalogue, and prints the result.
+fn call<R: Print + AllocGlobal>(rt: &R, word: &str, catalogue: &Catalogue) -> io::Result<()> {
+    match word {
+        "write_mo" => write(rt, catalogue),
+        "reread" => print_read(rt, &reread(rt.alloc(), catalogue)),
+        _ => print_made(rt, &Catalogue::from_file(rt.alloc(), catalogue.file())),
     }
+}
+
+/// Makes the call of a group with the catalogue of a text, and prints the result.
+fn call_one<R: Print + AllocGlobal>(rt: &R, word: &str, label: &str, text: &str) -> io::Result<()> {
+    print!(rt; "{word}, {label}, ")?;
+    match compile(rt.alloc(), text.as_bytes(), PLAIN) {
+        Ok(compiled) => call(rt, word, &compiled.catalogue),
+        Err(_) => print_uncalled(rt),
+    }
+}
+
+/// The groups `from_file` and `reread`, and calls of `write_mo`.
+pub fn call_all<R: Print + AllocGlobal>(rt: &R, word: &str) -> io::Result<()> {
+    call_one(rt, word, "an entry", SALUT)?;
+    call_one(rt, word, "nothing", "")?;
+    call_one(rt, word, "three forms", PLIK)
 }
 
 /// The group `write_mo`.
 pub fn write_all<R: Print + AllocGlobal>(rt: &R) -> io::Result<()> {
-    write_text(rt, "an entry", SALUT)?;
-    write_text(rt, "nothing", "")?;
-    write_text(rt, "three forms", PLIK)?;
+    call_all(rt, "write_mo")?;
     print!(rt; "write_mo, two messages, ")?;
     match read_mo(rt.alloc(), &SWAPPED) {
         Ok(catalogue) => write(rt, &catalogue),
-        Err(_) => println!(rt; "isn't called: out of memory"),
+        Err(_) => print_uncalled(rt),
     }
-}
-
-/// Compiles a text, writes it, reads the file again, and prints the result.
-fn reread_text<R: Print + AllocGlobal>(rt: &R, label: &str, text: &str) -> io::Result<()> {
-    print!(rt; "reread, {label}, ")?;
-    let Ok(compiled) = compile(rt.alloc(), text.as_bytes(), PLAIN) else {
-        return println!(rt; "isn't called: out of memory");
-    };
-    match reread(rt.alloc(), &compiled.catalogue) {
-        Ok(catalogue) => {
-            print!(rt; "gives Ok({}", catalogue.len())?;
-            print_entries(rt, &catalogue)?;
-            println!(rt; ")")
-        }
-        Err(fault) => println!(rt; "gives Err({fault:?})"),
-    }
-}
-
-/// The group `reread`.
-pub fn reread_all<R: Print + AllocGlobal>(rt: &R) -> io::Result<()> {
-    reread_text(rt, "an entry", SALUT)?;
-    reread_text(rt, "nothing", "")?;
-    reread_text(rt, "three forms", PLIK)
 }

@@ -1,6 +1,6 @@
 //! Calls of `parse_expr` and `read_rule`.
 use crate::printing::word_of;
-use po_header::{parse_expr, read_rule};
+use po_header::{PluralExpr, RuleRead, parse_expr, read_rule};
 use std::{io, str};
 
 const EXPRESSIONS: [&str; 15] = [
@@ -31,16 +31,19 @@ const RULES: [&str; 6] = [
 ];
 
 /// Prints the values of an expression for some numbers.
+fn print_values<R: Print>(rt: &R, expr: &PluralExpr) -> io::Result<()> {
+    print!(rt; "Ok")?;
+    for n in [0, 1, 3, 5] {
+        print!(rt; " {n}:{:?}", expr.eval(n))?;
+    }
+    println!(rt)
+}
+
+/// Parses an expression, and prints the result.
 fn parse<R: Print + AllocGlobal>(rt: &R, label: &str, text: &str) -> io::Result<()> {
     print!(rt; "parse_expr, {label}, gives ")?;
     match parse_expr(rt.alloc(), text) {
-        Ok(expr) => {
-            print!(rt; "Ok")?;
-            for n in [0, 1, 3, 5] {
-                print!(rt; " {n}:{:?}", expr.eval(n))?;
-            }
-            println!(rt)
-        }
+        Ok(expr) => print_values(rt, &expr),
         Err(fault) => println!(rt; "Err({fault:?})"),
     }
 }
@@ -61,17 +64,20 @@ pub fn parse_all<R: Print + AllocGlobal>(rt: &R) -> io::Result<()> {
     Ok(())
 }
 
-/// Prints the plural forms that a header's rule gives some numbers.
+/// Prints the plural forms that a rule gives some numbers.
+fn print_forms<R: Print>(rt: &R, rule: &RuleRead) -> io::Result<()> {
+    print!(rt; "{}", word_of(rule))?;
+    for n in [0, 1, 2, 5, 7, 22, 112] {
+        print!(rt; " {n}:{}", rule.form_index(n))?;
+    }
+    println!(rt)
+}
+
+/// Reads the rule of a header, and prints the result.
 fn read<R: Print + AllocGlobal>(rt: &R, text: &str) -> io::Result<()> {
     print!(rt; "read_rule, {text}, gives ")?;
     match read_rule(rt.alloc(), text) {
-        Ok(rule) => {
-            print!(rt; "{}", word_of(&rule))?;
-            for n in [0, 1, 2, 5, 7, 22, 112] {
-                print!(rt; " {n}:{}", rule.form_index(n))?;
-            }
-            println!(rt)
-        }
+        Ok(rule) => print_forms(rt, &rule),
         Err(fault) => println!(rt; "Err({fault:?})"),
     }
 }

@@ -1,6 +1,8 @@
 //! Makes each call that allocates, and prints its whole result on a line of its own with what it left. Printing doesn't
 //! allocate, so the tests can refuse each of the program's requests for memory in turn.
 //!
+//! The groups `store_rows` and `serve_rows` make many calls of one store, and print in short what each answered.
+//!
 //! An argument names the group of calls to make; without one it makes all of them.
 #![tactic(auto)]
 
@@ -8,7 +10,9 @@ mod files;
 mod formats;
 mod headers;
 mod maps;
+mod opened;
 mod printing;
+mod rows;
 mod serving;
 mod sets;
 mod store;
@@ -19,7 +23,7 @@ use std::thread::Threads;
 use std::{env, io};
 
 /// The arguments, in the order in which all calls are made.
-const WORDS: [&str; 18] = [
+const WORDS: [&str; 20] = [
     "read_po",
     "parse_expr",
     "read_rule",
@@ -38,6 +42,8 @@ const WORDS: [&str; 18] = [
     "publish",
     "ask",
     "serve",
+    "store_rows",
+    "serve_rows",
 ];
 
 /// Makes the calls of one group.
@@ -49,18 +55,16 @@ fn call<R: Threads + Wait + Print + AllocGlobal + Sync>(rt: &R, word: &str) -> i
         "signature" => formats::list_all(rt),
         "compile" => maps::compile_all(rt),
         "from_sorted" => maps::sorted_all(rt),
-        "from_file" => maps::copy_all(rt),
+        "from_file" | "reread" => files::call_all(rt, word),
         "write_mo" => files::write_all(rt),
-        "read_mo" => files::read_all(rt),
-        "check" => files::check_all(rt),
-        "reread" => files::reread_all(rt),
+        "read_mo" | "check" => files::read_all(rt, word),
         "name" => sets::name_all(rt),
         "absorb" => sets::absorb_all(rt),
         "try_clone" => sets::clone_all(rt),
-        "open_store" => store::open_all(rt),
-        "publish" => store::publish_all(rt),
-        "ask" => store::ask_all(rt),
-        "serve" => serving::serve_all(rt),
+        "serve" => opened::serve_all(rt),
+        "open_store" | "publish" | "ask" | "store_rows" | "serve_rows" => {
+            opened::open_all(rt, word)
+        }
         _ => println!(rt; "no calls have this name"),
     }
 }

@@ -1,19 +1,13 @@
-//! Calls of `compile`, `from_sorted` and `from_file`.
-use crate::printing::{print_entries, print_hex};
-use crate::texts::{PLIK, SALUT, TWICE};
-use catalogue::{Catalogue, Message, Options, compile};
+//! Calls of `compile` and `from_sorted`.
+use crate::printing::{print_entries, print_hex, print_uncalled};
+use crate::texts::{PLAIN, PLIK, SALUT, TWICE};
+use catalogue::{Catalogue, Compiled, Message, Options, compile};
 use std::alloc::{AllocError, Global};
 use std::io;
 
 /// The options with the checks of `msgfmt -c`.
 const CHECKED: Options = Options {
     checked: true,
-    use_fuzzy: false,
-};
-
-/// The options without those checks.
-const PLAIN: Options = Options {
-    checked: false,
     use_fuzzy: false,
 };
 
@@ -45,6 +39,23 @@ const TEXTS: [(&str, &str, Options); 13] = [
     ("a missing newline, checked", NEWLINE, CHECKED),
 ];
 
+/// Prints a catalogue's entries and its file, and ends the line.
+fn print_catalogue<R: Print>(rt: &R, catalogue: &Catalogue) -> io::Result<()> {
+    print_entries(rt, catalogue)?;
+    print!(rt; "; ")?;
+    print_hex(rt, catalogue.file())?;
+    println!(rt; ")")
+}
+
+/// Prints what is returned for a text that is compiled.
+fn print_compiled<R: Print>(rt: &R, compiled: &Compiled) -> io::Result<()> {
+    print!(rt;
+        "Ok({:?}, {:?}, {}",
+        compiled.stats, compiled.missing, compiled.header_line
+    )?;
+    print_catalogue(rt, &compiled.catalogue)
+}
+
 /// Compiles a text, and prints the result.
 fn compile_one<R: Print + AllocGlobal>(
     rt: &R,
@@ -54,21 +65,9 @@ fn compile_one<R: Print + AllocGlobal>(
 ) -> io::Result<()> {
     print!(rt; "compile, {label}, gives ")?;
     match compile(rt.alloc(), text.as_bytes(), options) {
-        Ok(compiled) => {
-            print!(rt; "Ok({:?}, {:?}", compiled.stats, compiled.missing)?;
-            print!(rt; ", {}", compiled.header_line)?;
-            print_catalogue(rt, &compiled.catalogue)
-        }
+        Ok(compiled) => print_compiled(rt, &compiled),
         Err(fault) => println!(rt; "Err({fault:?})"),
     }
-}
-
-/// Prints a catalogue's entries and its file, and ends the line.
-fn print_catalogue<R: Print>(rt: &R, catalogue: &Catalogue) -> io::Result<()> {
-    print_entries(rt, catalogue)?;
-    print!(rt; "; ")?;
-    print_hex(rt, catalogue.file())?;
-    println!(rt; ")")
 }
 
 /// The group `compile`.
@@ -79,14 +78,34 @@ pub fn compile_all<R: Print + AllocGlobal>(rt: &R) -> io::Result<()> {
     Ok(())
 }
 
-/// The strings of a message.
-#[derive(Clone, Copy)]
-struct Texts {
-    context: Option<&'static str>,
-    id: &'static str,
-    plural: Option<&'static str>,
-    forms: &'static [&'static str],
-}
+/// The strings of a message: its context, its msgid, its plural and its forms.
+type Strings = (
+    Option<&'static str>,
+    &'static str,
+    Option<&'static str>,
+    &'static [&'static str],
+);
+
+/// The strings of messages in ascending order, with a label.
+const LISTS: [(&str, &[Strings]); 4] = [
+    ("nothing", &[]),
+    (
+        "two messages",
+        &[(None, "a", None, &["x"]), (None, "ba", None, &["xx"])],
+    ),
+    (
+        "contexts",
+        &[
+            (Some(""), "b", None, &["1"]),
+            (None, "b", None, &["2"]),
+            (Some("k"), "b", None, &["3"]),
+        ],
+    ),
+    (
+        "three forms",
+        &[(None, "file", Some("files"), &["plik", "pliki", "plikow"])],
+    ),
+];
 
 /// An owned copy of a string, if there is one.
 fn owned(alloc: Global, text: Option<&str>) -> Result<Option<String>, AllocError> {
@@ -96,111 +115,67 @@ fn owned(alloc: Global, text: Option<&str>) -> Result<Option<String>, AllocError
     }
 }
 
-/// The message with these strings.
-fn message_of(alloc: Global, texts: &Texts) -> Result<Message, AllocError> {
-    let mut forms = Vec::new(alloc);
-    for form in texts.forms {
-        forms.push(String::from_str(alloc, form)?)?;
+/// Owned copies of strings.
+fn owned_all(alloc: Global, texts: &[&str]) -> Result<Vec<String>, AllocError> {
+    let mut copies = Vec::new(alloc);
+    for text in texts {
+        copies.push(String::from_str(alloc, text)?)?;
     }
+    Ok(copies)
+}
+
+/// The message with these strings.
+fn message_of(alloc: Global, strings: &Strings) -> Result<Message, AllocError> {
+    let (context, id, plural, forms) = *strings;
     Ok(Message {
-        context: owned(alloc, texts.context)?,
-        id: String::from_str(alloc, texts.id)?,
-        plural: owned(alloc, texts.plural)?,
-        forms,
+        context: owned(alloc, context)?,
+        id: String::from_str(alloc, id)?,
+        plural: owned(alloc, plural)?,
+        forms: owned_all(alloc, forms)?,
     })
 }
 
 /// The messages with these strings.
-fn messages_of(alloc: Global, texts: &[Texts]) -> Result<Vec<Message>, AllocError> {
+fn messages_of(alloc: Global, list: &[Strings]) -> Result<Vec<Message>, AllocError> {
     let mut messages = Vec::new(alloc);
-    for each in texts {
-        messages.push(message_of(alloc, each)?)?;
+    for strings in list {
+        messages.push(message_of(alloc, strings)?)?;
     }
     Ok(messages)
 }
 
-/// Makes a catalogue of these messages, and prints it.
-fn sort_one<R: Print + AllocGlobal>(rt: &R, label: &str, texts: &[Texts]) -> io::Result<()> {
-    print!(rt; "from_sorted, {label}, ")?;
-    let Ok(messages) = messages_of(rt.alloc(), texts) else {
-        return println!(rt; "isn't called: out of memory");
-    };
-    if !Catalogue::accepts(&messages) {
-        return println!(rt; "isn't called: not accepted");
-    }
-    match Catalogue::from_sorted(rt.alloc(), messages) {
+/// Prints what a call returned that makes a catalogue.
+pub fn print_made<R: Print>(rt: &R, made: &Result<Catalogue, AllocError>) -> io::Result<()> {
+    match made {
         Ok(catalogue) => {
             print!(rt; "gives Ok(")?;
-            print_catalogue(rt, &catalogue)
+            print_catalogue(rt, catalogue)
         }
         Err(fault) => println!(rt; "gives Err({fault:?})"),
     }
 }
 
-/// A message without a context and without a plural.
-fn plain(id: &'static str, forms: &'static [&'static str]) -> Texts {
-    Texts {
-        context: None,
-        id,
-        plural: None,
-        forms,
+/// Makes a catalogue of messages, and prints the result.
+fn sort<R: Print + AllocGlobal>(rt: &R, messages: Vec<Message>) -> io::Result<()> {
+    if !Catalogue::accepts(&messages) {
+        return println!(rt; "isn't called: not accepted");
     }
+    print_made(rt, &Catalogue::from_sorted(rt.alloc(), messages))
 }
 
-/// The message `b` in a context.
-fn in_context(context: &'static str, forms: &'static [&'static str]) -> Texts {
-    Texts {
-        context: Some(context),
-        id: "b",
-        plural: None,
-        forms,
+/// Makes a catalogue of messages with these strings, and prints the result.
+fn sort_one<R: Print + AllocGlobal>(rt: &R, label: &str, list: &[Strings]) -> io::Result<()> {
+    print!(rt; "from_sorted, {label}, ")?;
+    match messages_of(rt.alloc(), list) {
+        Ok(messages) => sort(rt, messages),
+        Err(_) => print_uncalled(rt),
     }
 }
 
 /// The group `from_sorted`.
 pub fn sorted_all<R: Print + AllocGlobal>(rt: &R) -> io::Result<()> {
-    sort_one(rt, "nothing", &[])?;
-    sort_one(
-        rt,
-        "two messages",
-        &[plain("a", &["x"]), plain("ba", &["xx"])],
-    )?;
-    sort_one(
-        rt,
-        "contexts",
-        &[
-            in_context("", &["1"]),
-            plain("b", &["2"]),
-            in_context("k", &["3"]),
-        ],
-    )?;
-    let files = Texts {
-        context: None,
-        id: "file",
-        plural: Some("files"),
-        forms: &["plik", "pliki", "plikow"],
-    };
-    sort_one(rt, "three forms", &[files])
-}
-
-/// Compiles a text, reads its MO file again, and prints that catalogue.
-fn copy_one<R: Print + AllocGlobal>(rt: &R, label: &str, text: &str) -> io::Result<()> {
-    print!(rt; "from_file, {label}, ")?;
-    let Ok(compiled) = compile(rt.alloc(), text.as_bytes(), PLAIN) else {
-        return println!(rt; "isn't called: out of memory");
-    };
-    match Catalogue::from_file(rt.alloc(), compiled.catalogue.file()) {
-        Ok(catalogue) => {
-            print!(rt; "gives Ok(")?;
-            print_catalogue(rt, &catalogue)
-        }
-        Err(fault) => println!(rt; "gives Err({fault:?})"),
+    for (label, list) in LISTS {
+        sort_one(rt, label, list)?;
     }
-}
-
-/// The group `from_file`.
-pub fn copy_all<R: Print + AllocGlobal>(rt: &R) -> io::Result<()> {
-    copy_one(rt, "an entry", SALUT)?;
-    copy_one(rt, "nothing", "")?;
-    copy_one(rt, "three forms", PLIK)
+    Ok(())
 }

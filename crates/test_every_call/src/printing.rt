@@ -3,6 +3,11 @@ use catalogue::Catalogue;
 use po_header::RuleRead;
 use std::io;
 
+/// Prints that a call isn't made, because memory ran out before it.
+pub fn print_uncalled<R: Print>(rt: &R) -> io::Result<()> {
+    println!(rt; "isn't called: out of memory")
+}
+
 /// The name of what was read of a plural rule.
 pub fn word_of(rule: &RuleRead) -> &'static str {
     match rule {

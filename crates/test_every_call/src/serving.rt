@@ -1,12 +1,12 @@
 //! Calls of `serve`.
 ghost use Rattle.std.specs.Prelude.{◌≡◌, ◌≤◌, All, IfOk, vec_len};
 
+use crate::printing::print_uncalled;
 use crate::store::{load, print_state, publish, query};
-use crate::texts::{SALUT, TWICE};
-use catalogue::Options;
-use desks::{Answer, Desk, Gate, Job, Place, Source, serve};
+use crate::texts::{PLAIN, SALUT, TWICE};
+use desks::{Answer, Desk, Gate, Job, Place, Served, Source, serve};
 use live_set::Query;
-use live_versions::{Lookups, Publisher, Version, open_store};
+use live_versions::{Lookups, Publisher, Version};
 use std::alloc::{AllocError, Global};
 use std::io;
 use std::sync::Wait;
@@ -14,7 +14,7 @@ use std::thread::Threads;
 
 /// A gate that holds nobody.
 #[derive(Drop)]
-struct Open;
+pub struct Open;
 
 impl Gate for Open {
     fn pass(&self, _place: Place, _index: u64) {}
@@ -25,11 +25,11 @@ const JOBS: [(&str, &str); 3] = [("app", SALUT), ("app", TWICE), ("a b", SALUT)]
 
 /// A store, and the service that it gets.
 #[derive(Clone, Copy)]
-struct Case {
+pub struct Case {
     /// The label in the output.
     label: &'static str,
     /// The number of loads that the store takes.
-    most: u64,
+    pub most: u64,
     /// Whether a load is pending when the service begins.
     pending: bool,
     /// The number of jobs that are done, from the front of `JOBS`.
@@ -38,7 +38,7 @@ struct Case {
     queries: usize,
 }
 
-const CASES: [Case; 6] = [
+pub const CASES: [Case; 6] = [
     Case {
         label: "nothing",
         most: 9,
@@ -104,7 +104,7 @@ fn desk_of(alloc: Global, reader: Lookups, count: usize) -> Result<Desk, AllocEr
 }
 
 /// A desk for each reader.
-fn desks_of(
+pub fn desks_of(
     alloc: Global,
     publisher: &Publisher,
     mut readers: Vec<Lookups>,
@@ -125,30 +125,37 @@ fn desks_of(
     Ok(desks)
 }
 
+/// A PO text as the source of a job.
+fn source_of(alloc: Global, text: &str) -> Result<Source, AllocError> {
+    let mut bytes = Vec::new(alloc);
+    bytes.extend_from_slice(text.as_bytes())?;
+    Ok(Source::Po {
+        bytes,
+        options: PLAIN,
+    })
+}
+
+/// A French load of a PO text.
+fn job_of(alloc: Global, domain: &str, text: &str) -> Result<Job, AllocError> {
+    Ok(Job {
+        domain: String::from_str(alloc, domain)?,
+        locale: String::from_str(alloc, "fr")?,
+        source: source_of(alloc, text)?,
+    })
+}
+
 /// The first `count` jobs.
-fn jobs_of(alloc: Global, count: usize) -> Result<Vec<Job>, AllocError> {
+pub fn jobs_of(alloc: Global, count: usize) -> Result<Vec<Job>, AllocError> {
     let mut jobs = Vec::new(alloc);
     for (domain, text) in JOBS.iter().take(count) {
-        let mut bytes = Vec::new(alloc);
-        bytes.extend_from_slice(text.as_bytes())?;
-        jobs.push(Job {
-            domain: String::from_str(alloc, domain)?,
-            locale: String::from_str(alloc, "fr")?,
-            source: Source::Po {
-                bytes,
-                options: Options {
-                    checked: false,
-                    use_fuzzy: false,
-                },
-            },
-        })?;
+        jobs.push(job_of(alloc, domain, text)?)?;
     }
     Ok(jobs)
 }
 
 /// The number of right answers of a desk: those with the text of their version, which is from `first` to `last` and not
 /// below the one before.
-fn count_right(answers: &[Answer], first: Version, last: Version) -> u64 {
+pub fn count_right(answers: &[Answer], first: Version, last: Version) -> u64 {
     let mut right: u64 = 0;
     let mut least = first;
     'answers: for answer in answers {
@@ -171,6 +178,18 @@ fn print_desks<R: Print>(rt: &R, desks: &[Desk], first: Version, last: Version) 
     Ok(())
 }
 
+/// Prints the outcomes of a service that began at a version, and what its desks have.
+fn print_served<R: Print>(
+    rt: &R,
+    served: &Served,
+    desks: &[Desk],
+    first: Version,
+) -> io::Result<()> {
+    println!(rt; "gives Ok({:?}, {})", served.outcomes, served.version)?;
+    print_desks(rt, desks, first, served.version)
+}
+
+/// Serves desks, and prints the result.
 fn serve_desks<R: Threads + Wait + Print + AllocGlobal + Sync>(
     rt: &R,
     publisher: &mut Publisher,
@@ -182,18 +201,46 @@ fn serve_desks<R: Threads + Wait + Print + AllocGlobal + Sync>(
 {
     let first = publisher.version();
     match serve(rt, rt.alloc(), publisher, desks, jobs, &Open) {
-        Ok(served) => {
-            println!(rt; "gives Ok({:?}, {})", served.outcomes, served.version)?;
-            print_desks(rt, desks, first, served.version)?;
-        }
-        Err(fault) => println!(rt; "gives Err({fault:?})")?,
+        Ok(served) => print_served(rt, &served, desks, first),
+        Err(fault) => println!(rt; "gives Err({fault:?})"),
     }
+}
+
+/// Serves the desks of a case, and publishes.
+fn serve_case<R: Threads + Wait + Print + AllocGlobal + Sync>(
+    rt: &R,
+    case: Case,
+    publisher: &mut Publisher,
+    desks: &mut Vec<Desk>,
+) -> io::Result<()>
+    requires book { All (λ d. d.reader.book ≡ publisher.old.seen.book) desks.old.items }
+    requires count { (1 ≤ vec_len desks.old) × (vec_len desks.old ≤ 16) }
+{
+    let Ok(jobs) = jobs_of(rt.alloc(), case.jobs) else {
+        return print_uncalled(rt);
+    };
+    serve_desks(rt, publisher, desks, jobs)?;
     print_state(rt, publisher)?;
     publish(rt, publisher)
 }
 
-/// Opens a store, and serves its readers.
-fn serve_store<R: Threads + Wait + Print + AllocGlobal + Sync>(
+/// Makes the load that is pending, if there is one, and prints the label of a case.
+fn begin_case<R: Print + AllocGlobal>(
+    rt: &R,
+    case: Case,
+    publisher: &mut Publisher,
+) -> io::Result<()>
+    ensures { publisher.new.seen.book ≡ publisher.old.seen.book }
+{
+    println!(rt; "gives Ok")?;
+    if case.pending {
+        load(rt, publisher, "app", "fr", SALUT)?;
+    }
+    print!(rt; "serve, {}, ", case.label)
+}
+
+/// Serves the readers of a new store.
+pub fn serve_readers<R: Threads + Wait + Print + AllocGlobal + Sync>(
     rt: &R,
     case: Case,
     publisher: &mut Publisher,
@@ -202,36 +249,9 @@ fn serve_store<R: Threads + Wait + Print + AllocGlobal + Sync>(
     requires book { All (λ l. l.book ≡ publisher.old.seen.book) readers.items }
     requires count { (1 ≤ vec_len readers) × (vec_len readers ≤ 16) }
 {
-    if case.pending {
-        load(rt, publisher, "app", "fr", SALUT)?;
+    begin_case(rt, case, publisher)?;
+    match desks_of(rt.alloc(), publisher, readers, case.queries) {
+        Ok(mut desks) => serve_case(rt, case, publisher, &mut desks),
+        Err(_) => print_uncalled(rt),
     }
-    print!(rt; "serve, {}, ", case.label)?;
-    let Ok(mut desks) = desks_of(rt.alloc(), publisher, readers, case.queries) else {
-        return println!(rt; "isn't called: out of memory");
-    };
-    let Ok(jobs) = jobs_of(rt.alloc(), case.jobs) else {
-        return println!(rt; "isn't called: out of memory");
-    };
-    serve_desks(rt, publisher, &mut desks, jobs)
-}
-
-/// The group `serve`.
-pub fn serve_all<R: Threads + Wait + Print + AllocGlobal + Sync>(rt: &R) -> io::Result<()> {
-    'cases: for case in CASES {
-        print!(rt; "open_store, 2, ")?;
-        let (mut publisher, readers) = match open_store(rt, rt.alloc(), 2, case.most) {
-            Ok(store) => store,
-            Err(fault) => {
-                println!(rt; "gives Err({fault:?})")?;
-                continue;
-            }
-        };
-        let done = match println!(rt; "gives Ok") {
-            Ok(()) => serve_store(rt, case, &mut publisher, readers),
-            Err(fault) => Err(fault),
-        };
-        publisher.end(rt);
-        done?;
-    }
-    Ok(())
 }

@@ -1,8 +1,9 @@
 //! Calls of `Name::new`, of a set's `absorb`, and of `try_clone` on a name, a load and a set.
-use crate::texts::{HALLO, SALUT};
-use catalogue::{Options, compile};
+use crate::printing::print_uncalled;
+use crate::texts::{HALLO, PLAIN, SALUT};
+use catalogue::compile;
 use live_set::{CatalogueSet, Load, Name};
-use std::alloc::Global;
+use std::alloc::{AllocError, Global};
 use std::io;
 use std::sync::Arc;
 
@@ -31,16 +32,17 @@ pub fn name_all<R: Print + AllocGlobal>(rt: &R) -> io::Result<()> {
 
 /// A load of a PO text for a locale, or `None` if memory runs out.
 fn load_of(alloc: Global, locale: &str, text: &str) -> Option<Load> {
-    let options = Options {
-        checked: false,
-        use_fuzzy: false,
-    };
-    let compiled = compile(alloc, text.as_bytes(), options).ok()?;
-    Some(Load {
-        domain: Name::new(alloc, "app").ok()?,
-        locale: Name::new(alloc, locale).ok()?,
-        catalogue: Arc::new(alloc, compiled.catalogue).ok()?,
-    })
+    let domain = Name::new(alloc, "app").ok()?;
+    let locale = Name::new(alloc, locale).ok()?;
+    let compiled = compile(alloc, text.as_bytes(), PLAIN).ok()?;
+    match Arc::new(alloc, compiled.catalogue) {
+        Ok(catalogue) => Some(Load {
+            domain,
+            locale,
+            catalogue,
+        }),
+        Err(_) => None,
+    }
 }
 
 /// Prints the version of a set and the translations of `hi` in three locales.
@@ -60,28 +62,34 @@ fn absorb<R: Print + AllocGlobal>(
     text: &str,
 ) -> io::Result<()> {
     print!(rt; "absorb, {locale}, ")?;
-    match load_of(rt.alloc(), locale, text) {
-        Some(load) => println!(rt; "gives {:?}", set.absorb(&load))?,
-        None => println!(rt; "isn't called: out of memory")?,
-    }
+    let printed = match load_of(rt.alloc(), locale, text) {
+        Some(load) => println!(rt; "gives {:?}", set.absorb(&load)),
+        None => print_uncalled(rt),
+    };
+    printed?;
     print_set(rt, set)
+}
+
+/// Absorbs texts for three locales into a set, one of them twice, and prints it each time.
+fn absorb_rows<R: Print + AllocGlobal>(rt: &R, set: &mut CatalogueSet) -> io::Result<()> {
+    print_set(rt, set)?;
+    absorb(rt, set, "fr", SALUT)?;
+    absorb(rt, set, "de", HALLO)?;
+    absorb(rt, set, "fr", HALLO)?;
+    absorb(rt, set, "sv", SALUT)
 }
 
 /// The group `absorb`.
 pub fn absorb_all<R: Print + AllocGlobal>(rt: &R) -> io::Result<()> {
     let mut set = CatalogueSet::new(rt.alloc());
-    print_set(rt, &set)?;
-    absorb(rt, &mut set, "fr", SALUT)?;
-    absorb(rt, &mut set, "de", HALLO)?;
-    absorb(rt, &mut set, "fr", HALLO)?;
-    absorb(rt, &mut set, "sv", SALUT)
+    absorb_rows(rt, &mut set)
 }
 
 /// Copies a name, and prints the result.
 fn clone_name<R: Print + AllocGlobal>(rt: &R) -> io::Result<()> {
     print!(rt; "try_clone, a name, ")?;
     let Ok(name) = Name::new(rt.alloc(), "app") else {
-        return println!(rt; "isn't called: out of memory");
+        return print_uncalled(rt);
     };
     match name.try_clone() {
         Ok(again) => println!(rt; "gives Ok({}), {}", again.as_str(), name.as_str()),
@@ -89,47 +97,61 @@ fn clone_name<R: Print + AllocGlobal>(rt: &R) -> io::Result<()> {
     }
 }
 
+/// Prints what a copy of a load has, if there is one, and a translation of the original.
+fn print_loads<R: Print>(rt: &R, load: &Load, again: &Result<Load, AllocError>) -> io::Result<()> {
+    let kept = load.catalogue.gettext("hi");
+    match again {
+        Ok(again) => {
+            let (domain, locale) = (again.domain.as_str(), again.locale.as_str());
+            let text = again.catalogue.gettext("hi");
+            println!(rt; "gives Ok({domain} {locale} {text}), {kept}")
+        }
+        Err(fault) => println!(rt; "gives Err({fault:?}), {kept}"),
+    }
+}
+
 /// Copies a load, and prints the result.
 fn clone_load<R: Print + AllocGlobal>(rt: &R) -> io::Result<()> {
     print!(rt; "try_clone, a load, ")?;
-    let Some(load) = load_of(rt.alloc(), "fr", SALUT) else {
-        return println!(rt; "isn't called: out of memory");
-    };
-    match load.try_clone() {
-        Ok(again) => {
-            let (domain, locale) = (again.domain.as_str(), again.locale.as_str());
-            print!(rt;
-                "gives Ok({domain} {locale} {}",
-                again.catalogue.gettext("hi")
-            )?;
-            println!(rt; "), {}", load.catalogue.gettext("hi"))
-        }
-        Err(fault) => println!(rt; "gives Err({fault:?}), {}", load.catalogue.gettext("hi")),
+    match load_of(rt.alloc(), "fr", SALUT) {
+        Some(load) => print_loads(rt, &load, &load.try_clone()),
+        None => print_uncalled(rt),
     }
 }
 
-/// The set of a French and a German text, or `None` if memory runs out.
-fn set_of_two(alloc: Global) -> Option<CatalogueSet> {
-    let mut set = CatalogueSet::new(alloc);
-    set.absorb(&load_of(alloc, "fr", SALUT)?).ok()?;
-    set.absorb(&load_of(alloc, "de", HALLO)?).ok()?;
-    Some(set)
+/// Absorbs a PO text for a locale, or returns `false` if memory runs out.
+fn put(alloc: Global, set: &mut CatalogueSet, locale: &str, text: &str) -> bool {
+    match load_of(alloc, locale, text) {
+        Some(load) => set.absorb(&load).is_ok(),
+        None => false,
+    }
 }
 
-/// Copies a set, and prints the result with the copy and the original.
-fn clone_set<R: Print + AllocGlobal>(rt: &R) -> io::Result<()> {
-    print!(rt; "try_clone, a set, ")?;
-    let Some(set) = set_of_two(rt.alloc()) else {
-        return println!(rt; "isn't called: out of memory");
-    };
-    match set.try_clone(rt.alloc()) {
+/// Prints a copy of a set, if there is one, and the original.
+fn print_sets<R: Print>(
+    rt: &R,
+    set: &CatalogueSet,
+    again: &Result<CatalogueSet, AllocError>,
+) -> io::Result<()> {
+    match again {
         Ok(again) => {
             println!(rt; "gives Ok")?;
-            print_set(rt, &again)?;
+            print_set(rt, again)?;
         }
         Err(fault) => println!(rt; "gives Err({fault:?})")?,
     }
-    print_set(rt, &set)
+    print_set(rt, set)
+}
+
+/// Copies a set of a French and a German text, and prints the result with the copy and the original.
+fn clone_set<R: Print + AllocGlobal>(rt: &R) -> io::Result<()> {
+    print!(rt; "try_clone, a set, ")?;
+    let mut set = CatalogueSet::new(rt.alloc());
+    if put(rt.alloc(), &mut set, "fr", SALUT) && put(rt.alloc(), &mut set, "de", HALLO) {
+        print_sets(rt, &set, &set.try_clone(rt.alloc()))
+    } else {
+        print_uncalled(rt)
+    }
 }
 
 /// The group `try_clone`.

@@ -1,19 +1,14 @@
-//! Calls of a live store: `open_store`, `load`, `load_mo`, `publish` and `ask`.
+//! Calls of a live store: `load`, `load_mo`, `publish`, `enter`, `learn`, `ask` and `ask_into`.
 ghost use Rattle.std.specs.Prelude.{◌≡◌, IfOk};
 
 use crate::files::SWAPPED;
-use crate::texts::{HALLO, SALUT, TWICE};
-use catalogue::Options;
+use crate::printing::print_uncalled;
+use crate::texts::{HALLO, PLAIN, SALUT, TWICE};
 use live_set::{Ask, Query};
-use live_versions::{Lookups, Notice, Publisher, open_store};
+use live_versions::{Lookups, Notice, Publisher};
 use std::alloc::{AllocError, Global};
 use std::io;
 use std::sync::Wait;
-
-const PLAIN: Options = Options {
-    checked: false,
-    use_fuzzy: false,
-};
 
 /// Prints the publisher's pending loads and its version.
 pub fn print_state<R: Print>(rt: &R, publisher: &Publisher) -> io::Result<()> {
@@ -42,9 +37,7 @@ fn load_mo<R: Print + AllocGlobal>(
     publisher: &mut Publisher,
     domain: &str,
     bytes: &[u8],
-) -> io::Result<()>
-    ensures { publisher.new.seen.book ≡ publisher.old.seen.book }
-{
+) -> io::Result<()> {
     let answer = publisher.load_mo(rt.alloc(), domain, "sv", bytes);
     println!(rt; "load_mo, {domain} sv, gives {answer:?}")?;
     print_state(rt, publisher)
@@ -109,11 +102,21 @@ fn ask<R: Print + AllocGlobal>(rt: &R, reader: &mut Lookups) -> io::Result<()>
     ensures { reader.new.book ≡ reader.old.book }
 {
     print!(rt; "ask ")?;
-    match query(rt.alloc()) {
-        Ok(query) => println!(rt; "gives {:?}", reader.ask(rt.alloc(), &query))?,
-        Err(_) => println!(rt; "isn't called: out of memory")?,
-    }
+    let printed = match query(rt.alloc()) {
+        Ok(query) => println!(rt; "gives {:?}", reader.ask(rt.alloc(), &query)),
+        Err(_) => print_uncalled(rt),
+    };
+    printed?;
     println!(rt; "  has seen {}", reader.seen())
+}
+
+/// Asks with `ask_into`, and prints the result.
+fn ask_new<R: Print + AllocGlobal>(rt: &R, reader: &mut Lookups, query: &Query) -> io::Result<()>
+    ensures { reader.new.book ≡ reader.old.book }
+{
+    let mut text = String::new(rt.alloc());
+    let answer = reader.ask_into(query, &mut text);
+    println!(rt; "gives {answer:?}, {:?}", text.as_str())
 }
 
 /// Asks for `hi` in French with `ask_into`, and prints the result.
@@ -121,25 +124,23 @@ fn ask_into<R: Print + AllocGlobal>(rt: &R, reader: &mut Lookups) -> io::Result<
     ensures { reader.new.book ≡ reader.old.book }
 {
     print!(rt; "ask_into ")?;
-    let mut text = String::new(rt.alloc());
-    match query(rt.alloc()) {
-        Ok(query) => {
-            let answer = reader.ask_into(&query, &mut text);
-            println!(rt; "gives {answer:?}, {:?}", text.as_str())?;
-        }
-        Err(_) => println!(rt; "isn't called: out of memory")?,
-    }
+    let printed = match query(rt.alloc()) {
+        Ok(query) => ask_new(rt, reader, &query),
+        Err(_) => print_uncalled(rt),
+    };
+    printed?;
     println!(rt; "  has seen {}", reader.seen())
 }
 
 /// Two loads and a publish, which is called again if it ran out of memory, and a text that is refused.
-fn publish_rows<R: Wait + Print + AllocGlobal>(
+pub fn publish_rows<R: Wait + Print + AllocGlobal>(
     rt: &R,
     publisher: &mut Publisher,
     reader: &mut Lookups,
 ) -> io::Result<()>
     requires { reader.old.book ≡ publisher.old.seen.book }
 {
+    println!(rt; "gives Ok")?;
     load(rt, publisher, "app", "fr", SALUT)?;
     load(rt, publisher, "app", "de", HALLO)?;
     publish(rt, publisher)?;
@@ -152,68 +153,63 @@ fn publish_rows<R: Wait + Print + AllocGlobal>(
     enter(rt, reader)
 }
 
-/// The group `publish`: loads and publishes on a new store.
-pub fn publish_all<R: Wait + Print + AllocGlobal>(rt: &R) -> io::Result<()> {
-    print!(rt; "open_store, 1, ")?;
-    let (mut publisher, mut readers) = match open_store(rt, rt.alloc(), 1, u64::MAX) {
-        Ok(store) => store,
-        Err(fault) => return println!(rt; "gives Err({fault:?})"),
-    };
-    let done = match readers.pop() {
-        Some(mut reader) => match println!(rt; "gives Ok") {
-            Ok(()) => publish_rows(rt, &mut publisher, &mut reader),
-            Err(fault) => Err(fault),
-        },
-        None => Ok(()),
-    };
-    publisher.end(rt);
-    done
-}
-
-/// Queries, notices of two versions, and MO files.
-fn ask_rows<R: Wait + Print + AllocGlobal>(
+/// Queries, and notices of two versions.
+pub fn ask_rows<R: Wait + Print + AllocGlobal>(
     rt: &R,
     publisher: &mut Publisher,
     reader: &mut Lookups,
 ) -> io::Result<()>
     requires { reader.old.book ≡ publisher.old.seen.book }
 {
+    println!(rt; "gives Ok")?;
     enter(rt, reader)?;
     load(rt, publisher, "app", "fr", SALUT)?;
     publish(rt, publisher)?;
     let first = learn(rt, publisher, reader)?;
     enter(rt, reader)?;
+    settle_rows(rt, publisher, reader, &first)?;
+    file_rows(rt, publisher, reader)
+}
+
+/// Prints what settling with a notice gives.
+fn settle<R: Print>(rt: &R, reader: &mut Lookups, first: &Notice) -> io::Result<()>
+    requires { first.now.book ≡ reader.old.book }
+    ensures { reader.new.book ≡ reader.old.book }
+{
+    println!(rt; "settle, first, gives {:?}", reader.settle(first))
+}
+
+/// Queries, and the notice of a version before and after the next one.
+fn settle_rows<R: Wait + Print + AllocGlobal>(
+    rt: &R,
+    publisher: &mut Publisher,
+    reader: &mut Lookups,
+    first: &Notice,
+) -> io::Result<()>
+    requires reader { reader.old.book ≡ publisher.old.seen.book }
+    requires first { first.now.book ≡ publisher.old.seen.book }
+{
     enter(rt, reader)?;
     ask(rt, reader)?;
     ask_into(rt, reader)?;
-    println!(rt; "settle, first, gives {:?}", reader.settle(&first))?;
+    settle(rt, reader, first)?;
     load(rt, publisher, "app", "fr", SALUT)?;
     publish(rt, publisher)?;
     learn(rt, publisher, reader)?;
-    println!(rt; "settle, first, gives {:?}", reader.settle(&first))?;
+    settle(rt, reader, first)
+}
+
+/// MO files, of which one is cut short, and one is for a domain that isn't a name.
+fn file_rows<R: Wait + Print + AllocGlobal>(
+    rt: &R,
+    publisher: &mut Publisher,
+    reader: &mut Lookups,
+) -> io::Result<()> {
     load_mo(rt, publisher, "app", &SWAPPED)?;
     load_mo(rt, publisher, "app", &SWAPPED[..77])?;
     load_mo(rt, publisher, "a b", &SWAPPED)?;
     publish(rt, publisher)?;
     enter(rt, reader)
-}
-
-/// The group `ask`: queries, notices and loads of MO files on a new store.
-pub fn ask_all<R: Wait + Print + AllocGlobal>(rt: &R) -> io::Result<()> {
-    print!(rt; "open_store, 1, ")?;
-    let (mut publisher, mut readers) = match open_store(rt, rt.alloc(), 1, 9) {
-        Ok(store) => store,
-        Err(fault) => return println!(rt; "gives Err({fault:?})"),
-    };
-    let done = match readers.pop() {
-        Some(mut reader) => match println!(rt; "gives Ok") {
-            Ok(()) => ask_rows(rt, &mut publisher, &mut reader),
-            Err(fault) => Err(fault),
-        },
-        None => Ok(()),
-    };
-    publisher.end(rt);
-    done
 }
 
 /// Prints the version of an entry and the translation of `hi` in French.
@@ -228,40 +224,17 @@ fn enter_first<R: Print>(rt: &R, reader: &mut Lookups) -> io::Result<()> {
 }
 
 /// Enters once with each reader of a new store, and loads once more than a small store takes.
-fn first_rows<R: Print + AllocGlobal>(
+pub fn first_rows<R: Print + AllocGlobal>(
     rt: &R,
     publisher: &mut Publisher,
-    mut readers: Vec<Lookups>,
+    readers: &mut [Lookups],
 ) -> io::Result<()> {
     print!(rt; "gives Ok")?;
-    'readers: for _ in 0..readers.len() {
-        if let Some(mut reader) = readers.pop() {
-            enter_first(rt, &mut reader)?;
-        }
+    'readers: for reader in readers.iter_mut() {
+        enter_first(rt, reader)?;
     }
     println!(rt)?;
     load(rt, publisher, "app", "fr", SALUT)?;
     load(rt, publisher, "app", "fr", SALUT)?;
     load(rt, publisher, "a b", "fr", SALUT)
-}
-
-/// Opens a store, and makes the first calls on it.
-fn open<R: Wait + Print + AllocGlobal>(rt: &R, count: u32, most: u64) -> io::Result<()> {
-    print!(rt; "open_store, {count} {most}, ")?;
-    let (mut publisher, readers) = match open_store(rt, rt.alloc(), count, most) {
-        Ok(store) => store,
-        Err(fault) => return println!(rt; "gives Err({fault:?})"),
-    };
-    let done = first_rows(rt, &mut publisher, readers);
-    publisher.end(rt);
-    done
-}
-
-/// The group `open_store`: stores with too few and too many readers, and with allowed numbers of them.
-pub fn open_all<R: Wait + Print + AllocGlobal>(rt: &R) -> io::Result<()> {
-    open(rt, 0, 9)?;
-    open(rt, 17, 9)?;
-    open(rt, 2, 9)?;
-    open(rt, 16, 9)?;
-    open(rt, 1, 1)
 }

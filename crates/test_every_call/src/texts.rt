@@ -1,6 +1,13 @@
-//! Calls of `read_po`.
+//! Calls of `read_po`, and the texts and options of other calls.
+use catalogue::Options;
 use po_text::read_po;
 use std::io;
+
+/// The options without the checks of `msgfmt -c`.
+pub const PLAIN: Options = Options {
+    checked: false,
+    use_fuzzy: false,
+};
 
 /// An entry that translates `hi` to French.
 pub const SALUT: &str = "msgid \"hi\"\nmsgstr \"salut\"\n";
