@@ -1,12 +1,10 @@
 //! The programs of docs/guide/rattle.md, which quotes them.
 ghost use Rattle.std.specs.Prelude.{◌≡◌};
 
-use crate::tests::open_two;
 use catalogue::Options;
 use live_versions::{Lookups, OpenFault, Publisher, StoreFault, Version, open_store};
 use std::alloc::Global;
 use std::sync::Wait;
-use std::test::Fail;
 use std::thread::{Threads, join};
 
 const PLAIN: Options = Options {
@@ -83,21 +81,20 @@ fn greet_twice<R: Threads + Wait + AllocGlobal + Sync>(
     (version, first.is_some() && second.is_some())
 }
 
-#[test]
-fn the_shop_greets(rt: HostRuntime) -> Result<(), Fail> {
-    assert_eq!(rt; run_shop(&rt)?, Some((true, 2)));
-    Ok(())
+/// Greets in threads on a new store, before and after a publish, and loads a file that is refused.
+pub(crate) fn greets_in_threads<R: Threads + Wait + AllocGlobal + Sync>(
+    rt: &R,
+    publisher: &mut Publisher,
+    one: &mut Lookups,
+    other: &mut Lookups,
+) -> bool {
+    let empty = greet(one) == Some((true, 0));
+    let found = greet_twice(rt, publisher, one, other) == (Some(2), true);
+    let refused = load_german(rt.alloc(), publisher, b"").is_err();
+    [empty, found, refused] == [true; 3]
 }
 
 #[test]
-fn the_shop_greets_in_threads(rt: HostRuntime) -> Result<(), Fail> {
-    let (mut publisher, mut one, mut other) = open_two(&rt, 9)?;
-    let empty = greet(&mut one);
-    let found = greet_twice(&rt, &mut publisher, &mut one, &mut other);
-    let refused = load_german(rt.alloc(), &mut publisher, b"");
-    publisher.end(&rt);
-    assert!(rt; empty == Some((true, 0)));
-    assert!(rt; found == (Some(2), true));
-    assert!(rt; refused.is_err());
-    Ok(())
+fn the_shop_greets(rt: HostRuntime) {
+    assert!(rt; run_shop(&rt) == Ok(Some((true, 2))));
 }

@@ -1,54 +1,51 @@
-//! Worked examples, the calls of gates, and threads that overlap. The expected values were written by hand, not copied
-//! from a run.
-ghost use Rattle.std.specs.Prelude.{◌≡◌, All, IfOk, vec_len};
+//! Services, the calls of gates, and threads that overlap. The expected values were written by hand, not copied from a
+//! run.
+ghost use Rattle.std.specs.Prelude.{◌≡◌, ◌≤◌, All, IfOk, vec_len};
 
-use catalogue::{LoadFault, LoadKind, Options, Stats};
-use desks::{Accepted, Desk, Gate, Job, Place, ServeFault, Served, Source, serve};
-use live_set::{Ask, Query};
+use crate::tests::{BOUNDS, DUPLICATE, ONE, PLAIN, SALUT, TURNS, TWICE, loads_hi, query};
+use desks::{Accepted, Answer, Desk, Gate, Job, Place, Source, serve};
+use live_set::Query;
 use live_versions::{Lookups, Publisher, StoreFault, Version, open_store};
-use mo_file::MoFault;
 use std::alloc::{AllocError, Global};
 use std::sync::Wait;
 use std::sync::atomic::{AtomicU64, Ordering};
-use std::test::Fail;
 use std::thread::{Threads, yield_now};
 
-/// How many turns a held thread waits before it gives up.
-const TURNS: u32 = 10_000_000;
-
 /// Three queries on each desk.
-const THREE: &[usize] = &[3; 16];
+pub(crate) const THREE: &[usize] = &[3; 16];
+
+/// Queries on some of sixteen desks, on the sixth alone, and on none.
+const SOME: &[usize] = &[0, 3, 1, 0, 7, 2, 0, 0, 1, 5, 0, 4, 1, 2, 9, 0];
+
+const SIXTH: &[usize] = &[0, 0, 0, 0, 0, 6];
+
+const NONE: &[usize] = &[];
 
 /// The index of the publishing thread among the counts: after all workers.
 const PUBLISHING: u32 = 16;
-
-const PLAIN: Options = Options {
-    checked: false,
-    use_fuzzy: false,
-};
-
-const SALUT: &[u8] = b"msgid \"hi\"\nmsgstr \"salut\"\n";
-
-const TWICE: &[u8] = b"msgid \"a\"\nmsgstr \"x\"\n#, fuzzy\nmsgid \"a\"\nmsgstr \"y\"\n";
 
 /// An MO file that translates `hi` to `salut` and `yes` to `oui`.
 const FILE: &[u8] = b"\xde\x12\x04\x95\0\0\0\0\x02\0\0\0\x1c\0\0\0\x2c\0\0\0\0\0\0\0\x3c\0\0\0\
     \x02\0\0\0\x3c\0\0\0\x03\0\0\0\x3f\0\0\0\x05\0\0\0\x43\0\0\0\x03\0\0\0\x49\0\0\0\
     hi\0yes\0salut\0oui\0";
 
-const ONE: Accepted = Accepted::Po(Stats {
-    translated: 1,
-    fuzzy: 0,
-    untranslated: 0,
-});
+/// `FILE` without its last byte.
+const SHORT: &[u8] = b"\xde\x12\x04\x95\0\0\0\0\x02\0\0\0\x1c\0\0\0\x2c\0\0\0\0\0\0\0\x3c\0\0\0\
+    \x02\0\0\0\x3c\0\0\0\x03\0\0\0\x3f\0\0\0\x05\0\0\0\x43\0\0\0\x03\0\0\0\x49\0\0\0\
+    hi\0yes\0salut\0oui";
 
-const DUPLICATE: StoreFault = StoreFault::Refused(LoadFault {
-    kind: LoadKind::Duplicate,
-    line: 4,
-});
+type Outcome = Result<Accepted, StoreFault>;
+
+const DONE: Outcome = Ok(Accepted::Po(ONE));
+
+/// A job in French: its domain, whether it loads an MO file and not a PO text, the bytes, and what becomes of it.
+type JobRow = (&'static str, bool, &'static [u8], Outcome);
+
+/// The same job many times.
+const SAME: &[JobRow] = &[("app", false, SALUT, DONE); 129];
 
 /// Waits until the word is at least `least`, for at most `TURNS` turns, and returns whether it was.
-fn wait_for(word: &AtomicU64, least: u64) -> bool {
+pub(crate) fn wait_for(word: &AtomicU64, least: u64) -> bool {
     for _ in 0..TURNS {
         if word.load(Ordering::SeqCst) >= least {
             return true;
@@ -56,14 +53,6 @@ fn wait_for(word: &AtomicU64, least: u64) -> bool {
         yield_now();
     }
     false
-}
-
-/// A gate that holds nobody.
-#[derive(Drop)]
-struct Open;
-
-impl Gate for Open {
-    fn pass(&self, _place: Place, _index: u64) {}
 }
 
 /// A gate that holds nobody, and counts the calls at each place.
@@ -179,21 +168,10 @@ impl Gate for Overlap {
     }
 }
 
-/// A query for `hi` in `fr`.
-fn query(alloc: Global) -> Result<Query, AllocError> {
-    Ok(Query {
-        domain: String::from_str(alloc, "app")?,
-        languages: String::from_str(alloc, "fr")?,
-        ask: Ask::Plain {
-            id: String::from_str(alloc, "hi")?,
-        },
-    })
-}
-
 fn queries_of(alloc: Global, count: usize) -> Result<Vec<Query>, AllocError> {
     let mut queries = Vec::new(alloc);
     for _ in 0..count {
-        queries.push(query(alloc)?)?;
+        queries.push(query(alloc, "fr")?)?;
     }
     Ok(queries)
 }
@@ -231,350 +209,328 @@ pub(crate) fn desks_of(
     Ok(desks)
 }
 
-fn job_of(alloc: Global, domain: &str, source: Source) -> Result<Job, AllocError> {
+fn job_of(alloc: Global, domain: &str, is_file: bool, text: &[u8]) -> Result<Job, AllocError> {
+    let mut bytes = Vec::new(alloc);
+    bytes.extend_from_slice(text)?;
     Ok(Job {
         domain: String::from_str(alloc, domain)?,
         locale: String::from_str(alloc, "fr")?,
-        source,
+        source: if is_file {
+            Source::Mo { bytes }
+        } else {
+            Source::Po {
+                bytes,
+                options: PLAIN,
+            }
+        },
     })
 }
 
-/// A job that loads a PO text in French.
-fn job(alloc: Global, domain: &str, text: &[u8]) -> Result<Job, AllocError> {
-    let mut bytes = Vec::new(alloc);
-    bytes.extend_from_slice(text)?;
-    let source = Source::Po {
-        bytes,
-        options: PLAIN,
-    };
-    job_of(alloc, domain, source)
-}
-
-/// A job that loads an MO file in French.
-fn file_job(alloc: Global, domain: &str, file: &[u8]) -> Result<Job, AllocError> {
-    let mut bytes = Vec::new(alloc);
-    bytes.extend_from_slice(file)?;
-    job_of(alloc, domain, Source::Mo { bytes })
-}
-
-/// `count` equal jobs.
-fn same_jobs(alloc: Global, count: usize) -> Result<Vec<Job>, AllocError> {
+fn jobs_of(alloc: Global, rows: &[JobRow]) -> Result<Vec<Job>, AllocError> {
     let mut jobs = Vec::new(alloc);
-    for _ in 0..count {
-        jobs.push(job(alloc, "app", SALUT)?)?;
+    for (domain, is_file, bytes, _) in rows {
+        jobs.push(job_of(alloc, domain, *is_file, bytes)?)?;
     }
     Ok(jobs)
 }
 
-/// The outcome of a service, and the store and desks after it.
-#[derive(Drop)]
-struct Ran {
-    served: Result<Served, ServeFault>,
-    desks: Vec<Desk>,
+/// A new store, what is served on it, and what is wanted of that.
+#[derive(Clone, Copy)]
+pub(crate) struct Service<'a> {
+    readers: u32,
+    /// The number of loads that the store takes.
+    most: u64,
+    /// Whether a load is pending when the service begins.
+    waiting: bool,
+    /// The number of queries on each desk. The desks beyond the end have none.
+    queries: &'a [usize],
+    jobs: &'a [JobRow],
+    /// The version at the end.
     version: Version,
-    pending: u64,
+    /// The desk, if one is named, whose first answer is of version 0 and whose second is of a later one.
+    overlaps: Option<usize>,
 }
 
-/// Runs a service on a new store, with a load pending if asked for.
-fn serve_new<R: Threads + Wait + Sync, G: Gate + Sync>(
-    rt: &R,
-    alloc: Global,
-    readers: u32,
-    most: u64,
-    waiting: bool,
-    queries: &[usize],
-    jobs: Vec<Job>,
-    gate: &G,
-) -> Result<Ran, Fail> {
-    let (mut publisher, lookups) = open_store(rt, alloc, readers, most)?;
-    match desks_of(alloc, &publisher, lookups, queries) {
-        Ok(mut desks) => {
-            if waiting {
-                let _ = publisher.load(alloc, "app", "fr", SALUT, PLAIN);
-            }
-            let served = serve(rt, alloc, &mut publisher, &mut desks, jobs, gate);
-            let (version, pending) = (publisher.version(), publisher.pending());
-            publisher.end(rt);
-            Ok(Ran {
-                served,
-                desks,
-                version,
-                pending,
-            })
-        }
-        Err(fault) => {
-            publisher.end(rt);
-            Err(fault.into())
-        }
+/// A service with `count` equal jobs.
+fn same_jobs<'a>(readers: u32, queries: &'a [usize], count: usize) -> Service<'a> {
+    Service {
+        readers,
+        most: u64::MAX,
+        waiting: false,
+        queries,
+        jobs: SAME.get(..count).unwrap_or(SAME),
+        version: count as u64,
+        overlaps: None,
     }
 }
 
-/// Whether each desk has `answers` answers, no fault, and has seen this version. Each answer has to be `hi` at version
-/// 0 or `salut` at one up to this version, and no version may be below the one before it.
-fn are_right(desks: &[Desk], answers: usize, version: Version) -> bool {
-    for desk in desks {
-        if desk.answers.len() != answers || desk.fault.is_some() || desk.reader.seen() != version {
+fn are_outcomes(outcomes: &[Outcome], jobs: &[JobRow]) -> bool {
+    for (outcome, (_, _, _, wanted)) in outcomes.iter().zip(jobs) {
+        if outcome != wanted {
             return false;
         }
-        let mut last = 0;
-        for answer in desk.answers.as_slice() {
-            let text = if answer.version == 0 { "hi" } else { "salut" };
-            if answer.version < last || answer.version > version || answer.text.as_str() != text {
-                return false;
-            }
-            last = answer.version;
+    }
+    outcomes.len() == jobs.len()
+}
+
+/// Whether each answer is `hi` at version 0 or `salut` at one up to this version, and no version is below the one
+/// before it.
+fn are_in_order(answers: &[Answer], version: Version) -> bool {
+    let mut last = 0;
+    for answer in answers {
+        let text = if answer.version == 0 { "hi" } else { "salut" };
+        if answer.version < last || answer.version > version || answer.text.as_str() != text {
+            return false;
         }
+        last = answer.version;
     }
     true
 }
 
-#[test]
-fn nothing_to_do(rt: HostRuntime) -> Result<(), Fail> {
-    let ran = serve_new(
-        &rt,
-        rt.alloc(),
-        2,
-        9,
-        false,
-        &[],
-        Vec::new(rt.alloc()),
-        &Open,
-    )?;
-    let served = ran.served?;
-    assert_eq!(rt; (served.outcomes.len(), served.version), (0, 0));
-    assert_eq!(rt; (ran.desks.len(), ran.version, ran.pending), (2, 0, 0));
-    assert!(rt; are_right(ran.desks.as_slice(), 0, 0));
-    Ok(())
-}
-
-/// Serves three queries on each desk while one job is done.
-fn one_job<R: Threads + Wait + Sync>(rt: &R, alloc: Global, readers: u32) -> Result<bool, Fail> {
-    let ran = serve_new(
-        rt,
-        alloc,
-        readers,
-        9,
-        false,
-        THREE,
-        same_jobs(alloc, 1)?,
-        &Open,
-    )?;
-    let served = ran.served?;
-    let outcomes = served.outcomes.as_slice();
-    Ok(
-        ran.desks.len() == readers as usize
-            && outcomes.len() == 1
-            && matches!(outcomes.get(0), Some(Ok(ONE)))
-            && (served.version, ran.version, ran.pending) == (1, 1, 0)
-            && are_right(ran.desks.as_slice(), 3, 1),
-    )
-}
-
-#[test]
-fn one_job_beside_one_two_and_sixteen(rt: HostRuntime) -> Result<(), Fail> {
-    assert!(rt; one_job(&rt, rt.alloc(), 1)?);
-    assert!(rt; one_job(&rt, rt.alloc(), 2)?);
-    assert!(rt; one_job(&rt, rt.alloc(), 16)?);
-    Ok(())
-}
-
-/// Serves `count` queries on each of two desks while `count` jobs are done. Returns whether everything is as expected.
-pub fn serves_jobs<R: Threads + Wait + Sync>(
-    rt: &R,
-    alloc: Global,
-    count: usize,
-) -> Result<bool, Fail> {
-    let jobs = same_jobs(alloc, count)?;
-    let ran = serve_new(rt, alloc, 2, u64::MAX, false, &[count, count], jobs, &Open)?;
-    let served = ran.served?;
-    let version = count as u64;
-    Ok(
-        served.outcomes.len() == count
-            && (served.version, ran.version, ran.pending) == (version, version, 0)
-            && are_right(ran.desks.as_slice(), count, version),
-    )
-}
-
-#[test]
-fn jobs_have_their_outcomes(rt: HostRuntime) -> Result<(), Fail> {
-    let mut jobs = Vec::new(rt.alloc());
-    jobs.push(job(rt.alloc(), "app", SALUT)?)?;
-    jobs.push(job(rt.alloc(), "app", TWICE)?)?;
-    jobs.push(job(rt.alloc(), "a b", SALUT)?)?;
-    let ran = serve_new(&rt, rt.alloc(), 2, 9, false, &[], jobs, &Open)?;
-    let served = ran.served?;
-    let outcomes = served.outcomes.as_slice();
-    assert_eq!(rt; outcomes.len(), 3);
-    assert_eq!(rt; outcomes.get(0), Some(&Ok(ONE)));
-    assert_eq!(rt; outcomes.get(1), Some(&Err(DUPLICATE)));
-    assert_eq!(rt; outcomes.get(2), Some(&Err(StoreFault::BadName)));
-    assert_eq!(rt; (served.version, ran.version, ran.pending), (1, 1, 0));
-    Ok(())
-}
-
-/// The bytes without the last one.
-fn cut(bytes: &[u8]) -> &[u8] {
-    match bytes.split_last() {
-        Some((_, front)) => front,
-        None => bytes,
-    }
-}
-
-#[test]
-fn files_have_their_outcomes(rt: HostRuntime) -> Result<(), Fail> {
-    let mut jobs = Vec::new(rt.alloc());
-    jobs.push(file_job(rt.alloc(), "app", FILE)?)?;
-    jobs.push(file_job(rt.alloc(), "app", cut(FILE))?)?;
-    jobs.push(file_job(rt.alloc(), "a b", FILE)?)?;
-    let ran = serve_new(&rt, rt.alloc(), 2, 9, false, THREE, jobs, &Open)?;
-    let served = ran.served?;
-    let outcomes = served.outcomes.as_slice();
-    assert_eq!(rt; outcomes.len(), 3);
-    assert_eq!(rt; outcomes.get(0), Some(&Ok(Accepted::Mo(2))));
-    assert_eq!(rt;
-        outcomes.get(1),
-        Some(&Err(StoreFault::RefusedMo(MoFault::Bounds)))
-    );
-    assert_eq!(rt; outcomes.get(2), Some(&Err(StoreFault::BadName)));
-    assert_eq!(rt; (served.version, ran.version, ran.pending), (1, 1, 0));
-    assert!(rt; are_right(ran.desks.as_slice(), 3, 1));
-    Ok(())
-}
-
-#[test]
-fn no_versions_left(rt: HostRuntime) -> Result<(), Fail> {
-    let ran = serve_new(
-        &rt,
-        rt.alloc(),
-        2,
-        0,
-        false,
-        &[],
-        same_jobs(rt.alloc(), 1)?,
-        &Open,
-    )?;
-    let served = ran.served?;
-    assert_eq!(rt;
-        served.outcomes.as_slice().get(0),
-        Some(&Err(StoreFault::VersionsSpent))
-    );
-    assert_eq!(rt; (served.version, ran.version, ran.pending), (0, 0, 0));
-    Ok(())
-}
-
-#[test]
-fn what_was_pending_is_published(rt: HostRuntime) -> Result<(), Fail> {
-    let ran = serve_new(
-        &rt,
-        rt.alloc(),
-        2,
-        9,
-        true,
-        &[],
-        Vec::new(rt.alloc()),
-        &Open,
-    )?;
-    let served = ran.served?;
-    assert_eq!(rt; (served.version, ran.version, ran.pending), (1, 1, 0));
-    assert!(rt; are_right(ran.desks.as_slice(), 0, 1));
-    Ok(())
-}
-
-#[test]
-fn all_workers_stand_together(rt: HostRuntime) -> Result<(), Fail> {
-    for workers in 2..17 {
-        for jobs in 0..2u32 {
-            let gate = AllStand {
-                workers: (workers + jobs) as u64,
-                stood: AtomicU64::new(0),
-                gave_up: AtomicU64::new(0),
-            };
-            let ran = serve_new(
-                &rt,
-                rt.alloc(),
-                workers,
-                9,
-                false,
-                THREE,
-                same_jobs(rt.alloc(), jobs as usize)?,
-                &gate,
-            )?;
-            let served = ran.served?;
-            assert_eq!(rt; gate.gave_up.load(Ordering::SeqCst), 0);
-            assert_eq!(rt; served.version, jobs as u64);
-            assert!(rt; are_right(ran.desks.as_slice(), 3, jobs as u64));
+/// Whether there is a desk for each reader, each with the answers to its queries, no fault, and the last version seen.
+fn are_right(desks: &[Desk], service: &Service<'_>) -> bool {
+    for (index, desk) in desks.iter().enumerate() {
+        if desk.answers.len() != service.queries.get(index).copied().unwrap_or(0)
+            || desk.fault.is_some()
+            || desk.reader.seen() != service.version
+            || !are_in_order(desk.answers.as_slice(), service.version)
+        {
+            return false;
         }
     }
-    Ok(())
+    desks.len() == service.readers as usize
 }
 
-/// Serves this many queries on each of sixteen desks while `jobs` jobs are done. Returns whether the gate was called
-/// before each query and each job, in order and with the right place and index.
-fn gate_is_called<R: Threads + Wait + Sync>(
+/// Whether the desk's first answer is of version 0, and its second of a later one. True if no desk is named.
+fn is_overlapped(desks: &[Desk], desk: Option<usize>) -> bool {
+    let Some(desk) = desk else {
+        return true;
+    };
+    match desks.get(desk) {
+        Some(desk) => match (desk.answers.get(0), desk.answers.get(1)) {
+            (Some(first), Some(second)) => first.version == 0 && second.version >= 1,
+            _ => false,
+        },
+        None => false,
+    }
+}
+
+/// Serves desks, and returns whether the outcomes, the version and the desks are as wanted.
+fn is_served<R: Threads + Wait + Sync, G: Gate + Sync>(
     rt: &R,
     alloc: Global,
-    queries: &[usize],
-    jobs: usize,
-) -> Result<bool, Fail> {
-    let gate = Counting::new(alloc)?;
-    let ran = serve_new(
-        rt,
-        alloc,
-        16,
-        9,
-        false,
-        queries,
-        same_jobs(alloc, jobs)?,
-        &gate,
-    )?;
-    Ok(ran.served.is_ok() && gate.passed_all(queries, jobs))
-}
-
-#[test]
-fn gates_are_called_in_order(rt: HostRuntime) -> Result<(), Fail> {
-    // With jobs; without jobs; with queries on one desk; without queries.
-    let some = [0, 3, 1, 0, 7, 2, 0, 0, 1, 5, 0, 4, 1, 2, 9, 0];
-    assert!(rt; gate_is_called(&rt, rt.alloc(), &some, 3)?);
-    assert!(rt; gate_is_called(&rt, rt.alloc(), &some, 0)?);
-    assert!(rt; gate_is_called(&rt, rt.alloc(), &[0, 0, 0, 0, 0, 6], 3)?);
-    assert!(rt; gate_is_called(&rt, rt.alloc(), &[0, 0, 0, 0, 0, 6], 0)?);
-    assert!(rt; gate_is_called(&rt, rt.alloc(), &[], 3)?);
-    Ok(())
-}
-
-fn version_at(desks: &[Desk], desk: usize, query: usize) -> Option<Version> {
-    Some(desks.get(desk)?.answers.get(query)?.version)
-}
-
-#[test]
-fn publishing_overlaps_answering(rt: HostRuntime) -> Result<(), Fail> {
-    for held in 0..16u32 {
-        let gate = Overlap {
-            held,
-            worker: AtomicU64::new(0),
-            publishing: AtomicU64::new(0),
-            gave_up: AtomicU64::new(0),
-        };
-        let ran = serve_new(
-            &rt,
-            rt.alloc(),
-            16,
-            9,
-            false,
-            THREE,
-            same_jobs(rt.alloc(), 2)?,
-            &gate,
-        )?;
-        let served = ran.served?;
-        assert_eq!(rt; gate.gave_up.load(Ordering::SeqCst), 0, "{held}");
-        assert_eq!(rt; served.version, 2, "{held}");
-        assert_eq!(rt;
-            version_at(ran.desks.as_slice(), held as usize, 0),
-            Some(0),
-            "{held}"
-        );
-        let later = version_at(ran.desks.as_slice(), held as usize, 1).unwrap_or(0);
-        assert!(rt; later >= 1, "{held}");
+    service: &Service<'_>,
+    publisher: &mut Publisher,
+    desks: &mut Vec<Desk>,
+    gate: &G,
+) -> bool
+    requires book { All (λ d. d.reader.book ≡ publisher.old.seen.book) desks.old.items }
+    requires count { (1 ≤ vec_len desks.old) × (vec_len desks.old ≤ 16) }
+{
+    if service.waiting {
+        let _ = loads_hi(alloc, publisher);
     }
-    Ok(())
+    let Ok(jobs) = jobs_of(alloc, service.jobs) else {
+        return false;
+    };
+    match serve(rt, alloc, publisher, desks, jobs, gate) {
+        Ok(served) => {
+            served.version == service.version
+                && (publisher.version(), publisher.pending()) == (service.version, 0)
+                && are_outcomes(served.outcomes.as_slice(), service.jobs)
+                && are_right(desks.as_slice(), service)
+                && is_overlapped(desks.as_slice(), service.overlaps)
+        }
+        Err(_) => false,
+    }
+}
+
+/// Serves on a new store, and returns whether all is as wanted.
+fn serves<R: Threads + Wait + Sync, G: Gate + Sync>(
+    rt: &R,
+    alloc: Global,
+    service: &Service<'_>,
+    gate: &G,
+) -> bool {
+    let Ok((mut publisher, lookups)) = open_store(rt, alloc, service.readers, service.most) else {
+        return false;
+    };
+    let right = match desks_of(alloc, &publisher, lookups, service.queries) {
+        Ok(mut desks) => is_served(rt, alloc, service, &mut publisher, &mut desks, gate),
+        Err(_) => false,
+    };
+    publisher.end(rt);
+    right
+}
+
+/// Serves, and returns whether all is as wanted, and the gate was called before each query and each job, in order and
+/// with the right place and index.
+fn serves_counted<R: Threads + Wait + Sync>(rt: &R, alloc: Global, service: &Service<'_>) -> bool {
+    match Counting::new(alloc) {
+        Ok(gate) => {
+            let queries = service.queries.get(..service.readers as usize);
+            serves(rt, alloc, service, &gate)
+                && gate.passed_all(queries.unwrap_or(service.queries), service.jobs.len())
+        }
+        Err(_) => false,
+    }
+}
+
+/// Serves `count` equal jobs beside these queries, as `serves_counted` does.
+pub(crate) fn serves_same<R: Threads + Wait + Sync>(
+    rt: &R,
+    alloc: Global,
+    readers: u32,
+    queries: &[usize],
+    count: usize,
+) -> bool {
+    serves_counted(rt, alloc, &same_jobs(readers, queries, count))
+}
+
+/// Services whose jobs are refused, or that have none.
+const SERVICES: &[(Service<'static>, &str)] = &[
+    (
+        Service {
+            readers: 2,
+            most: 9,
+            waiting: false,
+            queries: NONE,
+            jobs: &[],
+            version: 0,
+            overlaps: None,
+        },
+        "nothing to do",
+    ),
+    (
+        Service {
+            readers: 2,
+            most: 9,
+            waiting: true,
+            queries: NONE,
+            jobs: &[],
+            version: 1,
+            overlaps: None,
+        },
+        "what was pending is published",
+    ),
+    (
+        Service {
+            readers: 2,
+            most: 0,
+            waiting: false,
+            queries: NONE,
+            jobs: &[("app", false, SALUT, Err(StoreFault::VersionsSpent))],
+            version: 0,
+            overlaps: None,
+        },
+        "no versions left",
+    ),
+    (
+        Service {
+            readers: 2,
+            most: 9,
+            waiting: false,
+            queries: NONE,
+            jobs: &[
+                ("app", false, SALUT, DONE),
+                ("app", false, TWICE, Err(DUPLICATE)),
+                ("a b", false, SALUT, Err(StoreFault::BadName)),
+            ],
+            version: 1,
+            overlaps: None,
+        },
+        "jobs have their outcomes",
+    ),
+    (
+        Service {
+            readers: 2,
+            most: 9,
+            waiting: false,
+            queries: THREE,
+            jobs: &[
+                ("app", true, FILE, Ok(Accepted::Mo(2))),
+                ("app", true, SHORT, Err(BOUNDS)),
+                ("a b", true, FILE, Err(StoreFault::BadName)),
+            ],
+            version: 1,
+            overlaps: None,
+        },
+        "files have their outcomes",
+    ),
+];
+
+#[test]
+fn services_end_as_wanted(rt: HostRuntime) {
+    for (service, name) in SERVICES {
+        assert!(rt; serves_counted(&rt, rt.alloc(), service), "{name}");
+    }
+}
+
+/// The readers, the queries on each desk, and the number of equal jobs.
+const EQUAL_JOBS: &[(u32, &[usize], usize, &str)] = &[
+    (1, THREE, 1, "one desk"),
+    (2, THREE, 1, "two desks"),
+    (16, THREE, 1, "sixteen desks"),
+    (16, SOME, 3, "some desks with queries"),
+    (16, SOME, 0, "some, and no jobs"),
+    (16, SIXTH, 3, "queries on one desk"),
+    (16, SIXTH, 0, "one, and no jobs"),
+    (16, NONE, 3, "no queries"),
+];
+
+#[test]
+fn equal_jobs_are_served(rt: HostRuntime) {
+    for (readers, queries, count, name) in EQUAL_JOBS {
+        assert!(rt;
+            serves_same(&rt, rt.alloc(), *readers, queries, *count),
+            "{name}"
+        );
+    }
+}
+
+/// Whether all workers, and the publishing thread if there are jobs, stand at the gate together.
+fn stand_together<R: Threads + Wait + Sync>(
+    rt: &R,
+    alloc: Global,
+    workers: u32,
+    jobs: u32,
+) -> bool {
+    let gate = AllStand {
+        workers: workers.saturating_add(jobs) as u64,
+        stood: AtomicU64::new(0),
+        gave_up: AtomicU64::new(0),
+    };
+    serves(rt, alloc, &same_jobs(workers, THREE, jobs as usize), &gate)
+        && gate.gave_up.load(Ordering::SeqCst) == 0
+}
+
+#[test]
+fn all_workers_stand_together(rt: HostRuntime) {
+    for workers in 2..17 {
+        assert!(rt; stand_together(&rt, rt.alloc(), workers, 0), "{workers}");
+        assert!(rt;
+            stand_together(&rt, rt.alloc(), workers, 1),
+            "{workers} with a job"
+        );
+    }
+}
+
+/// Whether a desk's queries are answered while two jobs are done.
+fn overlaps_held<R: Threads + Wait + Sync>(rt: &R, alloc: Global, held: u32) -> bool {
+    let gate = Overlap {
+        held,
+        worker: AtomicU64::new(0),
+        publishing: AtomicU64::new(0),
+        gave_up: AtomicU64::new(0),
+    };
+    let mut service = same_jobs(16, THREE, 2);
+    service.overlaps = Some(held as usize);
+    serves(rt, alloc, &service, &gate) && gate.gave_up.load(Ordering::SeqCst) == 0
+}
+
+#[test]
+fn publishing_overlaps_answering(rt: HostRuntime) {
+    for held in 0..16u32 {
+        assert!(rt; overlaps_held(&rt, rt.alloc(), held), "{held}");
+    }
 }

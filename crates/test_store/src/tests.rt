@@ -1,33 +1,35 @@
 //! Worked examples. The expected values were written by hand, not copied from a run.
-ghost use Rattle.std.specs.Prelude.{◌≡◌, IfOk};
+ghost use Rattle.std.specs.Prelude.{◌≡◌};
 
+use crate::page::greets_in_threads;
+use crate::serving::wait_for;
 use catalogue::{LoadFault, LoadKind, Options, Stats};
 use live_set::{Ask, Query};
 use live_versions::{
-    Ahead, AskFault, Closed, Lookups, Notice, OpenFault, Pinned, Publisher, StoreFault, Version,
-    one_answer, open_store, versions_never_fall,
+    Ahead, AskFault, Closed, Lookups, OpenFault, Publisher, StoreFault, Version, one_answer,
+    open_store, versions_never_fall,
 };
 use mo_file::MoFault;
 use std::alloc::{AllocError, Global};
-use std::sync::atomic::AtomicBool;
+use std::sync::atomic::AtomicU64;
 use std::sync::atomic::Ordering::SeqCst;
 use std::sync::{Arc, Wait};
 use std::test::Fail;
 use std::thread::{Threads, join, spawn, yield_now};
 
 /// How many turns a thread waits for another before it gives up.
-const TURNS: u32 = 10_000_000;
+pub(crate) const TURNS: u32 = 10_000_000;
 
-const PLAIN: Options = Options {
+pub(crate) const PLAIN: Options = Options {
     checked: false,
     use_fuzzy: false,
 };
 
-const SALUT: &[u8] = b"msgid \"hi\"\nmsgstr \"salut\"\n";
+pub(crate) const SALUT: &[u8] = b"msgid \"hi\"\nmsgstr \"salut\"\n";
 
 const HALLO: &[u8] = b"msgid \"hi\"\nmsgstr \"hallo\"\n";
 
-const TWICE: &[u8] = b"msgid \"a\"\nmsgstr \"x\"\n#, fuzzy\nmsgid \"a\"\nmsgstr \"y\"\n";
+pub(crate) const TWICE: &[u8] = b"msgid \"a\"\nmsgstr \"x\"\n#, fuzzy\nmsgid \"a\"\nmsgstr \"y\"\n";
 
 /// An MO file that translates `hi` to `hej` and `yes` to `ja`.
 const HEJ: &[u8] = b"\xde\x12\x04\x95\0\0\0\0\x02\0\0\0\x1c\0\0\0\x2c\0\0\0\0\0\0\0\x3c\0\0\0\
@@ -42,135 +44,102 @@ const BIG: &[u8] = b"\x95\x04\x12\xde\0\0\0\0\0\0\0\x02\0\0\0\x1c\0\0\0\x2c\0\0\
 const COUNTED: &[u8] =
     b"msgctxt \"k\"\nmsgid \"file\"\nmsgid_plural \"files\"\nmsgstr[0] \"fichier\"\nmsgstr[1] \"fichiers\"\n";
 
-const ONE: Stats = Stats {
+pub(crate) const ONE: Stats = Stats {
     translated: 1,
     fuzzy: 0,
     untranslated: 0,
 };
 
-const DUPLICATE: StoreFault = StoreFault::Refused(LoadFault {
+pub(crate) const DUPLICATE: StoreFault = StoreFault::Refused(LoadFault {
     kind: LoadKind::Duplicate,
     line: 4,
 });
 
-/// A new store with one reader, which takes at most `most` loads.
-pub fn open_one<R: Wait + AllocGlobal>(rt: &R, most: u64) -> Result<(Publisher, Lookups), Fail>
-    ensures { IfOk result (λ store. store.1.book ≡ store.0.seen.book) }
+pub(crate) const BOUNDS: StoreFault = StoreFault::RefusedMo(MoFault::Bounds);
+
+/// Loads a PO text for a domain and a locale, and returns whether the result is the wanted one.
+pub(crate) fn loads(
+    alloc: Global,
+    publisher: &mut Publisher,
+    name: (&str, &str),
+    text: &[u8],
+    wanted: Result<Stats, StoreFault>,
+) -> bool
+    ensures { publisher.new.seen ≡ publisher.old.seen }
 {
-    let (publisher, mut readers) = open_store(rt, rt.alloc(), 1, most)?;
-    if let Some(reader) = readers.pop() {
-        return Ok((publisher, reader));
-    }
-    publisher.end(rt);
-    Err(Fail::new("the store has no reader"))
+    publisher.load(alloc, name.0, name.1, text, PLAIN) == wanted
 }
 
-/// A new store with two readers.
-pub fn open_two<R: Wait + AllocGlobal>(
-    rt: &R,
-    most: u64,
-) -> Result<(Publisher, Lookups, Lookups), Fail>
-    ensures first { IfOk result (λ store. store.1.book ≡ store.0.seen.book) }
-    ensures second { IfOk result (λ store. store.2.book ≡ store.0.seen.book) }
+/// Loads `hi`, translated to `salut`, in French. Returns whether the load is accepted.
+pub(crate) fn loads_hi(alloc: Global, publisher: &mut Publisher) -> bool
+    ensures { publisher.new.seen ≡ publisher.old.seen }
 {
-    let (publisher, mut readers) = open_store(rt, rt.alloc(), 2, most)?;
-    if let (Some(second), Some(first)) = (readers.pop(), readers.pop()) {
-        return Ok((publisher, first, second));
-    }
-    publisher.end(rt);
-    Err(Fail::new("the store has not two readers"))
+    loads(alloc, publisher, ("app", "fr"), SALUT, Ok(ONE))
 }
 
-/// The translation of `hi` in a locale.
-fn hi_in<'a>(pinned: &'a Pinned<'_>, locale: &str) -> &'a str {
-    pinned.gettext("app", locale, "hi")
+/// Loads an MO file for a domain and a locale, and returns whether the result is the wanted one.
+fn loads_file(
+    alloc: Global,
+    publisher: &mut Publisher,
+    name: (&str, &str),
+    file: &[u8],
+    wanted: Result<u64, StoreFault>,
+) -> bool {
+    publisher.load_mo(alloc, name.0, name.1, file) == wanted
+}
+
+/// Publishes, and returns whether the version is then this one.
+pub(crate) fn publishes<R: Wait>(rt: &R, publisher: &mut Publisher, wanted: Version) -> bool
+    ensures { publisher.new.seen.book ≡ publisher.old.seen.book }
+{
+    publisher.publish(rt) == Ok(wanted)
 }
 
 /// Enters, and returns whether the entry has this version and translates `hi` to these texts in `fr`, `de` and `sv`. It
 /// can't wait.
-fn shows(reader: &mut Lookups, version: Version, fr: &str, de: &str, sv: &str) -> bool
+fn shows(reader: &mut Lookups, version: Version, texts: [&str; 3]) -> bool
     ensures { reader.new.book ≡ reader.old.book }
 {
     let Ok(pinned) = reader.enter() else {
         return false;
     };
-    let same = pinned.version() == version
-        && hi_in(&pinned, "fr") == fr
-        && hi_in(&pinned, "de") == de
-        && hi_in(&pinned, "sv") == sv;
+    let same = [
+        pinned.version() == version,
+        pinned.gettext("app", "fr", "hi") == texts[0],
+        pinned.gettext("app", "de", "hi") == texts[1],
+        pinned.gettext("app", "sv", "hi") == texts[2],
+    ];
     pinned.leave();
-    same
+    same == [true; 4]
 }
 
-type Loaded = Result<Stats, StoreFault>;
-
-/// Loads `hi`, translated to `salut`, in French.
-pub fn load_hi(alloc: Global, publisher: &mut Publisher) -> Loaded
-    ensures { publisher.new.seen.book ≡ publisher.old.seen.book }
-{
-    publisher.load(alloc, "app", "fr", SALUT, PLAIN)
-}
-
-/// The results of two loads and a publish, followed by a load that is refused.
-#[derive(Drop)]
-struct Published {
-    loads: (Loaded, Loaded),
-    before: (u64, Version),
-    first: Option<Version>,
-    shown: bool,
-    refused: Loaded,
-    pending: u64,
-    second: Option<Version>,
-    still: bool,
-}
-
-fn publish_two<R: Wait>(
+/// Two loads and a publish, followed by a load that is refused.
+fn publishes_two<R: Wait>(
     rt: &R,
     alloc: Global,
     publisher: &mut Publisher,
     reader: &mut Lookups,
-) -> Published
+) -> bool
     requires { reader.old.book ≡ publisher.old.seen.book }
 {
-    let loads = (
-        publisher.load(alloc, "app", "fr", SALUT, PLAIN),
-        publisher.load(alloc, "app", "de", HALLO, PLAIN),
-    );
-    let before = (publisher.pending(), publisher.version());
-    let first = publisher.publish(rt).ok();
+    let french = loads_hi(alloc, publisher);
+    let german = loads(alloc, publisher, ("app", "de"), HALLO, Ok(ONE));
+    let before = (publisher.pending(), publisher.version()) == (2, 0);
+    let first = publishes(rt, publisher, 2);
     let notice = publisher.tell();
     reader.learn(&notice);
-    let shown = shows(reader, 2, "salut", "hallo", "hi");
-    let refused = publisher.load(alloc, "app", "fr", TWICE, PLAIN);
-    let pending = publisher.pending();
-    let second = publisher.publish(rt).ok();
-    let still = shows(reader, 2, "salut", "hallo", "hi");
-    Published {
-        loads,
-        before,
-        first,
-        shown,
-        refused,
-        pending,
-        second,
-        still,
-    }
-}
-
-#[test]
-fn loads_are_published_together(rt: HostRuntime) -> Result<(), Fail> {
-    let (mut publisher, mut reader) = open_one(&rt, u64::MAX)?;
-    let found = publish_two(&rt, rt.alloc(), &mut publisher, &mut reader);
-    publisher.end(&rt);
-    assert!(rt; found.loads == (Ok(ONE), Ok(ONE)));
-    assert!(rt; found.before == (2, 0) && found.first == Some(2) && found.shown);
-    assert!(rt; found.refused == Err(DUPLICATE) && found.pending == 0);
-    assert!(rt; found.second == Some(2) && found.still);
-    Ok(())
+    let shown = shows(reader, 2, ["salut", "hallo", "hi"]);
+    let refused = loads(alloc, publisher, ("app", "fr"), TWICE, Err(DUPLICATE));
+    let none = publisher.pending() == 0;
+    let second = publishes(rt, publisher, 2);
+    let still = shows(reader, 2, ["salut", "hallo", "hi"]);
+    [
+        french, german, before, first, shown, refused, none, second, still,
+    ] == [true; 9]
 }
 
 /// A query for `hi` in a locale.
-fn query(alloc: Global, locale: &str) -> Result<Query, AllocError> {
+pub(crate) fn query(alloc: Global, locale: &str) -> Result<Query, AllocError> {
     Ok(Query {
         domain: String::from_str(alloc, "app")?,
         languages: String::from_str(alloc, locale)?,
@@ -180,102 +149,317 @@ fn query(alloc: Global, locale: &str) -> Result<Query, AllocError> {
     })
 }
 
-/// Asks for `hi` in `fr`, and returns the version and whether the text is this one.
-fn answers(alloc: Global, reader: &mut Lookups, text: &str) -> Option<(Version, bool)>
+/// Asks, and returns whether the answer is `salut` at version 1.
+fn answers(alloc: Global, reader: &mut Lookups, query: &Query) -> bool
     ensures { reader.new.book ≡ reader.old.book }
 {
-    let Ok(query) = query(alloc, "fr") else {
-        return None;
-    };
-    match reader.ask(alloc, &query) {
-        Ok((version, found)) => Some((version, found.as_str() == text)),
-        Err(_) => None,
+    match reader.ask(alloc, query) {
+        Ok((version, text)) => version == 1 && text.as_str() == "salut",
+        Err(_) => false,
     }
 }
 
 /// What is seen before a publish, after it, and with the notices of two publishes.
-#[derive(Drop)]
-struct Told {
-    empty: bool,
-    published: Option<Version>,
-    notice: Version,
-    seen: Version,
-    shown: bool,
-    again: bool,
-    answered: Option<(Version, bool)>,
-    settled: Result<Version, Ahead>,
-    second: Option<Version>,
-    ahead: Result<Version, Ahead>,
-}
-
-fn tell_two<R: Wait>(rt: &R, alloc: Global, publisher: &mut Publisher, reader: &mut Lookups) -> Told
-    requires { reader.old.book ≡ publisher.old.seen.book }
-{
-    let empty = shows(reader, 0, "hi", "hi", "hi");
-    let _ = publisher.load(alloc, "app", "fr", SALUT, PLAIN);
-    let published = publisher.publish(rt).ok();
-    let old = publisher.tell();
-    reader.learn(&old);
-    let seen = reader.seen();
-    let shown = shows(reader, 1, "salut", "hi", "hi");
-    let again = shows(reader, 1, "salut", "hi", "hi");
-    let answered = answers(alloc, reader, "salut");
-    let settled = reader.settle(&old);
-    let _ = publisher.load(alloc, "app", "fr", SALUT, PLAIN);
-    let second = publisher.publish(rt).ok();
-    let new = publisher.tell();
-    reader.learn(&new);
-    let ahead = reader.settle(&old);
-    Told {
-        empty,
-        published,
-        notice: old.version(),
-        seen,
-        shown,
-        again,
-        answered,
-        settled,
-        second,
-        ahead,
-    }
-}
-
-#[test]
-fn notices_are_learnt(rt: HostRuntime) -> Result<(), Fail> {
-    let (mut publisher, mut reader) = open_one(&rt, 9)?;
-    let found = tell_two(&rt, rt.alloc(), &mut publisher, &mut reader);
-    publisher.end(&rt);
-    assert!(rt; found.empty && found.shown && found.again);
-    assert!(rt; found.published == Some(1) && found.notice == 1 && found.seen == 1);
-    assert!(rt; found.answered == Some((1, true)) && found.settled == Ok(1));
-    assert!(rt; found.second == Some(2) && found.ahead == Err(Ahead { seen: 2 }));
-    Ok(())
-}
-
-/// The number of readers that show a publish, each in two entries.
-fn count_shown<R: Wait>(
+fn tells_two<R: Wait>(
     rt: &R,
     alloc: Global,
     publisher: &mut Publisher,
-    readers: Vec<Lookups>,
-) -> u32 {
-    let _ = publisher.load(alloc, "app", "fr", SALUT, PLAIN);
-    let _ = publisher.publish(rt);
-    let mut shown: u32 = 0;
-    for mut reader in readers {
-        if shows(&mut reader, 1, "salut", "hi", "hi")
-            && shows(&mut reader, 1, "salut", "hi", "hi")
-        {
-            shown = shown.saturating_add(1);
-        }
+    reader: &mut Lookups,
+    query: &Query,
+) -> bool
+    requires { reader.old.book ≡ publisher.old.seen.book }
+{
+    let empty = shows(reader, 0, ["hi"; 3]);
+    let loaded = loads_hi(alloc, publisher);
+    let published = publishes(rt, publisher, 1);
+    let old = publisher.tell();
+    reader.learn(&old);
+    let seen = (old.version(), reader.seen()) == (1, 1);
+    let shown = shows(reader, 1, ["salut", "hi", "hi"]);
+    let again = shows(reader, 1, ["salut", "hi", "hi"]);
+    let answered = answers(alloc, reader, query);
+    let settled = reader.settle(&old) == Ok(1);
+    let more = loads_hi(alloc, publisher);
+    let second = publishes(rt, publisher, 2);
+    let new = publisher.tell();
+    reader.learn(&new);
+    let ahead = reader.settle(&old) == Err(Ahead { seen: 2 });
+    [
+        empty, loaded, published, seen, shown, again, answered, settled, more, second, ahead,
+    ] == [true; 11]
+}
+
+/// Loads four times: with a bad name, as the last load that the store takes, as one too many, and with a bad name
+/// again.
+fn refuses_in_order<R: Wait>(
+    rt: &R,
+    alloc: Global,
+    publisher: &mut Publisher,
+    reader: &mut Lookups,
+) -> bool {
+    let name = loads(
+        alloc,
+        publisher,
+        ("a b", "fr"),
+        SALUT,
+        Err(StoreFault::BadName),
+    );
+    let first = loads_hi(alloc, publisher);
+    let second = loads(
+        alloc,
+        publisher,
+        ("app", "fr"),
+        TWICE,
+        Err(StoreFault::VersionsSpent),
+    );
+    let empty = loads(
+        alloc,
+        publisher,
+        ("app", ""),
+        SALUT,
+        Err(StoreFault::BadName),
+    );
+    let pending = publisher.pending() == 1;
+    let published = publishes(rt, publisher, 1);
+    let shown = shows(reader, 1, ["salut", "hi", "hi"]);
+    let again = shows(reader, 1, ["salut", "hi", "hi"]);
+    one_answer();
+    [name, first, second, empty, pending, published, shown, again] == [true; 8]
+}
+
+/// Loads a text and a file into a store that takes no loads.
+fn takes_none<R: Wait>(
+    rt: &R,
+    alloc: Global,
+    publisher: &mut Publisher,
+    reader: &mut Lookups,
+) -> bool {
+    let spent = StoreFault::VersionsSpent;
+    let text = loads(alloc, publisher, ("app", "fr"), SALUT, Err(spent));
+    let file = loads_file(alloc, publisher, ("app", "fr"), HEJ, Err(spent));
+    let none = publisher.pending() == 0;
+    let published = publishes(rt, publisher, 0);
+    let shown = shows(reader, 0, ["hi"; 3]);
+    [text, file, none, published, shown] == [true; 5]
+}
+
+/// Asks into a text of the caller's, in a language that is loaded and in one that isn't.
+fn replaces_text(reader: &mut Lookups, french: &Query, swedish: &Query, text: &mut String) -> bool {
+    let first = reader.ask_into(french, text) == Ok(1);
+    let is_salut = text.as_str() == "salut";
+    let second = reader.ask_into(swedish, text) == Ok(1);
+    let is_msgid = text.as_str() == "hi";
+    [first, is_salut, second, is_msgid] == [true; 4]
+}
+
+/// Publishes, and then asks into a text.
+fn answers_into<R: Wait>(
+    rt: &R,
+    alloc: Global,
+    publisher: &mut Publisher,
+    reader: &mut Lookups,
+    french: &Query,
+) -> bool {
+    let loaded = loads_hi(alloc, publisher);
+    let published = publishes(rt, publisher, 1);
+    let Ok(mut text) = String::from_str(alloc, "a text of the caller's") else {
+        return false;
+    };
+    let answered = match query(alloc, "sv") {
+        Ok(swedish) => replaces_text(reader, french, &swedish, &mut text),
+        Err(_) => false,
+    };
+    [loaded, published, answered] == [true; 3]
+}
+
+/// The bytes without the last one.
+fn cut(bytes: &[u8]) -> &[u8] {
+    match bytes.split_last() {
+        Some((_, front)) => front,
+        None => bytes,
     }
-    shown
+}
+
+/// Loads an MO file, whole and cut short. This many loads are pending after each.
+fn loads_whole(alloc: Global, publisher: &mut Publisher, file: &[u8], pending: u64) -> bool {
+    let whole = loads_file(alloc, publisher, ("app", "sv"), file, Ok(2));
+    let one = publisher.pending() == pending;
+    let short = loads_file(alloc, publisher, ("app", "sv"), cut(file), Err(BOUNDS));
+    let still = publisher.pending() == pending;
+    [whole, one, short, still] == [true; 4]
+}
+
+/// Loads two files for one locale, and publishes them.
+fn loads_files<R: Wait>(
+    rt: &R,
+    alloc: Global,
+    publisher: &mut Publisher,
+    reader: &mut Lookups,
+) -> bool {
+    let big = loads_whole(alloc, publisher, BIG, 1);
+    let little = loads_whole(alloc, publisher, HEJ, 2);
+    let published = publishes(rt, publisher, 2);
+    let shown = shows(reader, 2, ["hi", "hi", "hej"]);
+    [big, little, published, shown] == [true; 4]
+}
+
+/// Loads five times: with a bad name, a file that is refused, the last file that the store takes, one too many, and
+/// with a bad name again.
+fn refuses_files(alloc: Global, publisher: &mut Publisher) -> bool {
+    let short = cut(HEJ);
+    let bad = Err(StoreFault::BadName);
+    let spent = Err(StoreFault::VersionsSpent);
+    let name = loads_file(alloc, publisher, ("a b", "fr"), short, bad);
+    let refused = loads_file(alloc, publisher, ("app", "fr"), short, Err(BOUNDS));
+    let first = loads_file(alloc, publisher, ("app", "fr"), HEJ, Ok(2));
+    let second = loads_file(alloc, publisher, ("app", "fr"), short, spent);
+    let empty = loads_file(alloc, publisher, ("app", ""), short, bad);
+    let pending = publisher.pending() == 1;
+    [name, refused, first, second, empty, pending] == [true; 6]
+}
+
+/// Makes each of an entry's calls on a message with a context and a plural, and one by a query.
+fn looks_all(reader: &mut Lookups, query: &Query) -> bool {
+    let Ok(pinned) = reader.enter() else {
+        return false;
+    };
+    let found = [
+        pinned.look(query) == "hi",
+        pinned.gettext("app", "fr", "file") == "file",
+        pinned.pgettext("app", "fr", "k", "file") == "fichier",
+        pinned.ngettext("app", "fr", "file", "files", 2) == "files",
+        pinned.npgettext("app", "fr", "k", "file", "files", 1) == "fichier",
+        pinned.npgettext("app", "fr", "k", "file", "files", 2) == "fichiers",
+    ];
+    pinned.leave();
+    found == [true; 6]
+}
+
+/// Publishes a message with a context and a plural, and looks it up.
+fn answers_calls<R: Wait>(
+    rt: &R,
+    alloc: Global,
+    publisher: &mut Publisher,
+    reader: &mut Lookups,
+    query: &Query,
+) -> bool {
+    let empty = shows(reader, 0, ["hi"; 3]);
+    let loaded = loads(alloc, publisher, ("app", "fr"), COUNTED, Ok(ONE));
+    let published = publishes(rt, publisher, 1);
+    let found = looks_all(reader, query);
+    [empty, loaded, published, found] == [true; 4]
+}
+
+/// What is done with a new store and its one reader.
+#[derive(Clone, Copy)]
+enum Case {
+    PublishesTwo,
+    TellsTwo,
+    RefusesInOrder,
+    TakesNone,
+    AnswersInto,
+    LoadsFiles,
+    RefusesFiles,
+    AnswersCalls,
+}
+
+/// Each case, with the number of loads that its store takes.
+const CASES: &[(Case, u64, &str)] = &[
+    (Case::PublishesTwo, u64::MAX, "loads are published together"),
+    (Case::TellsTwo, 9, "notices are learnt"),
+    (Case::RefusesInOrder, 1, "loads are refused in order"),
+    (Case::TakesNone, 0, "a store may take no loads"),
+    (Case::AnswersInto, 9, "answers take the place of a text"),
+    (Case::LoadsFiles, 9, "files are loaded"),
+    (Case::RefusesFiles, 1, "files are refused in order"),
+    (Case::AnswersCalls, 9, "entries answer each call"),
+];
+
+fn is_right<R: Wait>(
+    rt: &R,
+    alloc: Global,
+    case: Case,
+    publisher: &mut Publisher,
+    reader: &mut Lookups,
+    query: &Query,
+) -> bool
+    requires { reader.old.book ≡ publisher.old.seen.book }
+{
+    match case {
+        Case::PublishesTwo => publishes_two(rt, alloc, publisher, reader),
+        Case::TellsTwo => tells_two(rt, alloc, publisher, reader, query),
+        Case::RefusesInOrder => refuses_in_order(rt, alloc, publisher, reader),
+        Case::TakesNone => takes_none(rt, alloc, publisher, reader),
+        Case::AnswersInto => answers_into(rt, alloc, publisher, reader, query),
+        Case::LoadsFiles => loads_files(rt, alloc, publisher, reader),
+        Case::RefusesFiles => refuses_files(alloc, publisher),
+        Case::AnswersCalls => answers_calls(rt, alloc, publisher, reader, query),
+    }
+}
+
+/// Whether each call finds the store closed, the reader has still seen this version, and a text isn't changed.
+fn finds_closed(alloc: Global, reader: &mut Lookups, query: &Query, seen: Version) -> bool {
+    let Ok(mut text) = String::from_str(alloc, "hi") else {
+        return false;
+    };
+    let asked = reader.ask(alloc, query) == Err(AskFault::Closed);
+    let still = reader.seen() == seen;
+    let is_closed = match reader.enter() {
+        Ok(pinned) => {
+            pinned.leave();
+            false
+        }
+        Err(closed) => closed == Closed,
+    };
+    let into = reader.ask_into(query, &mut text) == Err(AskFault::Closed);
+    let unchanged = text.as_str() == "hi" && reader.seen() == seen;
+    [asked, still, is_closed, into, unchanged] == [true; 5]
+}
+
+/// Whether a case is right on a new store, and its reader finds the store closed after the end.
+fn holds_with_one<R: Wait + AllocGlobal>(rt: &R, most: u64, case: Case, query: &Query) -> bool {
+    let alloc = rt.alloc();
+    let Ok((mut publisher, mut readers)) = open_store(rt, alloc, 1, most) else {
+        return false;
+    };
+    let Some(mut reader) = readers.pop() else {
+        publisher.end(rt);
+        return false;
+    };
+    let right = is_right(rt, alloc, case, &mut publisher, &mut reader, query);
+    let seen = reader.seen();
+    publisher.end(rt);
+    let closed = finds_closed(alloc, &mut reader, query, seen);
+    let still = finds_closed(alloc, &mut reader, query, seen);
+    right && closed && still
+}
+
+#[test]
+fn stores_with_one_reader(rt: HostRuntime) -> Result<(), Fail> {
+    let query = query(rt.alloc(), "fr")?;
+    for (case, most, name) in CASES {
+        assert!(rt; holds_with_one(&rt, *most, *case, &query), "{name}");
+    }
+    Ok(())
+}
+
+/// The number of readers that show `salut` at version 1, each in two entries.
+fn count_shown(readers: &mut [Lookups]) -> u32 {
+    let Some((reader, rest)) = readers.split_first_mut() else {
+        return 0;
+    };
+    let first = shows(reader, 1, ["salut", "hi", "hi"]);
+    let second = shows(reader, 1, ["salut", "hi", "hi"]);
+    let shown = if first && second { 1 } else { 0 };
+    count_shown(rest).saturating_add(shown)
 }
 
 /// Opens a store with `readers` readers, and returns how many of them show a publish.
 fn open_and_show<R: Wait>(rt: &R, alloc: Global, readers: u32) -> Result<u32, OpenFault> {
-    let (mut publisher, readers) = open_store(rt, alloc, readers, 9)?;
-    let shown = count_shown(rt, alloc, &mut publisher, readers);
+    let (mut publisher, mut readers) = open_store(rt, alloc, readers, 9)?;
+    let _ = loads_hi(alloc, &mut publisher);
+    let _ = publishes(rt, &mut publisher, 1);
+    let shown = count_shown(&mut readers);
     publisher.end(rt);
     Ok(shown)
 }
@@ -288,194 +472,45 @@ fn stores_have_one_to_sixteen_readers(rt: HostRuntime) {
         } else {
             Ok(readers)
         };
-        assert_eq!(rt;
-            open_and_show(&rt, rt.alloc(), readers),
-            wanted,
+        assert!(rt;
+            open_and_show(&rt, rt.alloc(), readers) == wanted,
             "with {readers}"
         );
     }
 }
 
-/// Loads four times: with a bad name, as the last load that the store takes, as one too many, and with a bad name
-/// again.
-fn load_four(alloc: Global, publisher: &mut Publisher) -> [Loaded; 4] {
-    [
-        publisher.load(alloc, "a b", "fr", SALUT, PLAIN),
-        publisher.load(alloc, "app", "fr", SALUT, PLAIN),
-        publisher.load(alloc, "app", "fr", TWICE, PLAIN),
-        publisher.load(alloc, "app", "", SALUT, PLAIN),
-    ]
-}
-
-#[test]
-fn loads_are_refused_in_order(rt: HostRuntime) -> Result<(), Fail> {
-    let (mut publisher, readers) = open_store(&rt, rt.alloc(), 1, 1)?;
-    let [name, first, second, empty] = load_four(rt.alloc(), &mut publisher);
-    let pending = publisher.pending();
-    let shown = count_shown(&rt, rt.alloc(), &mut publisher, readers);
-    publisher.end(&rt);
-    assert!(rt; name == Err(StoreFault::BadName) && first == Ok(ONE));
-    assert!(rt; second == Err(StoreFault::VersionsSpent) && empty == Err(StoreFault::BadName));
-    assert!(rt; pending == 1 && shown == 1);
-    one_answer();
-    Ok(())
-}
-
-#[test]
-fn a_store_may_take_no_loads(rt: HostRuntime) -> Result<(), Fail> {
-    let (mut publisher, mut reader) = open_one(&rt, 0)?;
-    let text = publisher.load(rt.alloc(), "app", "fr", SALUT, PLAIN);
-    let file = publisher.load_mo(rt.alloc(), "app", "fr", HEJ);
-    let pending = publisher.pending();
-    let published = publisher.publish(&rt);
-    let shown = shows(&mut reader, 0, "hi", "hi", "hi");
-    publisher.end(&rt);
-    assert!(rt; text == Err(StoreFault::VersionsSpent));
-    assert!(rt; file == Err(StoreFault::VersionsSpent));
-    assert!(rt; (pending, published, shown) == (0, Ok(0), true));
-    Ok(())
-}
-
-/// Whether both calls find the store closed, and the reader has still seen this version.
-fn finds_closed(reader: &mut Lookups, query: &Query, alloc: Global, seen: Version) -> bool {
-    let asked = reader.ask(alloc, query);
-    let seen_then = reader.seen();
-    let is_closed = match reader.enter() {
-        Ok(pinned) => {
-            pinned.leave();
-            false
-        }
-        Err(closed) => closed == Closed,
-    };
-    asked == Err(AskFault::Closed) && is_closed && (seen_then, reader.seen()) == (seen, seen)
-}
-
-#[test]
-fn a_closed_store_answers_nothing(rt: HostRuntime) -> Result<(), Fail> {
-    let query = query(rt.alloc(), "fr")?;
-    let (mut publisher, mut first, mut second) = open_two(&rt, 9)?;
-    let found = tell_two(&rt, rt.alloc(), &mut publisher, &mut first);
-    publisher.end(&rt);
-    assert!(rt; found.second == Some(2));
-    // The second reader has seen nothing.
-    'turns: for _ in 0..2u32 {
-        assert!(rt; finds_closed(&mut first, &query, rt.alloc(), 2));
-        assert!(rt; finds_closed(&mut second, &query, rt.alloc(), 0));
-    }
-    Ok(())
-}
-
-#[test]
-fn answers_take_the_place_of_a_text(rt: HostRuntime) -> Result<(), Fail> {
-    let french = query(rt.alloc(), "fr")?;
-    let swedish = query(rt.alloc(), "sv")?;
-    let mut text = String::from_str(rt.alloc(), "a text of the caller's")?;
-    let (mut publisher, mut reader) = open_one(&rt, 9)?;
-    let loaded = publisher.load(rt.alloc(), "app", "fr", SALUT, PLAIN);
-    let published = publisher.publish(&rt);
-    let first = reader.ask_into(&french, &mut text);
-    let is_salut = text.as_str() == "salut";
-    let second = reader.ask_into(&swedish, &mut text);
-    let is_msgid = text.as_str() == "hi";
-    publisher.end(&rt);
-    let closed = reader.ask_into(&french, &mut text);
-    assert!(rt; loaded == Ok(ONE) && published == Ok(1));
-    assert!(rt; first == Ok(1) && is_salut);
-    assert!(rt; second == Ok(1) && is_msgid);
-    assert!(rt; closed == Err(AskFault::Closed) && text.as_str() == "hi");
-    Ok(())
-}
-
-type FileLoaded = Result<u64, StoreFault>;
-
-const BOUNDS: StoreFault = StoreFault::RefusedMo(MoFault::Bounds);
-
-/// The bytes without the last one.
-fn cut(bytes: &[u8]) -> &[u8] {
-    match bytes.split_last() {
-        Some((_, front)) => front,
-        None => bytes,
-    }
-}
-
-/// Loads an MO file, whole and cut short. Each result comes with the number of loads pending then.
-fn load_file(alloc: Global, publisher: &mut Publisher, file: &[u8]) -> [(FileLoaded, u64); 2] {
-    let whole = publisher.load_mo(alloc, "app", "sv", file);
-    let one = publisher.pending();
-    let short = publisher.load_mo(alloc, "app", "sv", cut(file));
-    [(whole, one), (short, publisher.pending())]
-}
-
-#[test]
-fn files_are_loaded(rt: HostRuntime) -> Result<(), Fail> {
-    let (mut publisher, mut reader) = open_one(&rt, 9)?;
-    let big = load_file(rt.alloc(), &mut publisher, BIG);
-    let found = load_file(rt.alloc(), &mut publisher, HEJ);
-    let published = publisher.publish(&rt);
-    let shown = shows(&mut reader, 2, "hi", "hi", "hej");
-    publisher.end(&rt);
-    assert!(rt; big == [(Ok(2), 1), (Err(BOUNDS), 1)]);
-    assert!(rt; found == [(Ok(2), 2), (Err(BOUNDS), 2)]);
-    assert!(rt; published == Ok(2) && shown);
-    Ok(())
-}
-
-/// Loads five times: with a bad name, a file that is refused, the last file that the store takes, one too many, and
-/// with a bad name again.
-fn load_five(alloc: Global, publisher: &mut Publisher) -> [FileLoaded; 5] {
-    [
-        publisher.load_mo(alloc, "a b", "fr", cut(HEJ)),
-        publisher.load_mo(alloc, "app", "fr", cut(HEJ)),
-        publisher.load_mo(alloc, "app", "fr", HEJ),
-        publisher.load_mo(alloc, "app", "fr", cut(HEJ)),
-        publisher.load_mo(alloc, "app", "", cut(HEJ)),
-    ]
-}
-
-#[test]
-fn files_are_refused_in_order(rt: HostRuntime) -> Result<(), Fail> {
-    let (mut publisher, _readers) = open_store(&rt, rt.alloc(), 1, 1)?;
-    let [name, short, first, second, empty] = load_five(rt.alloc(), &mut publisher);
-    let pending = publisher.pending();
-    publisher.end(&rt);
-    assert!(rt; name == Err(StoreFault::BadName) && short == Err(BOUNDS) && first == Ok(2));
-    assert!(rt; second == Err(StoreFault::VersionsSpent) && empty == Err(StoreFault::BadName));
-    assert!(rt; pending == 1);
-    Ok(())
-}
-
 #[test]
 fn refusals_are_told(rt: HostRuntime) -> Result<(), Fail> {
     let told = format!(in rt.alloc(); "{BOUNDS}")?;
-    assert_eq!(rt; told.as_str(), "the MO file is refused: out of bounds");
+    assert!(rt; told.as_str() == "the MO file is refused: out of bounds");
     Ok(())
 }
 
 /// Enters, and returns whether the entry has version 1 and answers `salut` to the query. It can't wait.
-fn looks_up(reader: &mut Lookups, query: &Query) -> Result<bool, Closed>
-    ensures { reader.new.book ≡ reader.old.book }
-{
-    let pinned = reader.enter()?;
+fn looks_up(reader: &mut Lookups, query: &Query) -> bool {
+    let Ok(pinned) = reader.enter() else {
+        return false;
+    };
     let found = pinned.version() == 1 && pinned.look(query) == "salut";
     pinned.leave();
-    Ok(found)
+    found
 }
 
 /// Enters and looks up with the second reader while the first one's entry lasts, and then once more with each. Neither
 /// can wait.
-fn side_by_side(
-    first: &mut Lookups,
-    second: &mut Lookups,
-    query: &Query,
-) -> Result<[bool; 4], Closed> {
-    let pinned = first.enter()?;
+fn side_by_side(first: &mut Lookups, second: &mut Lookups, query: &Query) -> bool {
+    let Ok(pinned) = first.enter() else {
+        return false;
+    };
     let other = looks_up(second, query);
     let same = pinned.version() == 1 && pinned.look(query) == "salut";
     pinned.leave();
-    let again = looks_up(first, query)?;
-    Ok([other?, same, again, looks_up(second, query)?])
+    let again = looks_up(first, query);
+    let other_again = looks_up(second, query);
+    [other, same, again, other_again] == [true; 4]
 }
 
+/// Lets both readers learn of a publish, and enter.
 fn both_learn<R: Wait>(
     rt: &R,
     alloc: Global,
@@ -483,81 +518,20 @@ fn both_learn<R: Wait>(
     first: &mut Lookups,
     second: &mut Lookups,
     query: &Query,
-) -> Result<[bool; 4], Closed>
+) -> bool
     requires first { first.old.book ≡ publisher.old.seen.book }
     requires second { second.old.book ≡ publisher.old.seen.book }
 {
-    let _ = publisher.load(alloc, "app", "fr", SALUT, PLAIN);
-    let _ = publisher.publish(rt);
+    let _ = loads_hi(alloc, publisher);
+    let _ = publishes(rt, publisher, 1);
     let notice = publisher.tell();
     first.learn(&notice);
     second.learn(&notice);
     side_by_side(first, second, query)
 }
 
-#[test]
-fn readers_enter_side_by_side(rt: HostRuntime) -> Result<(), Fail> {
-    let query = query(rt.alloc(), "fr")?;
-    let (mut publisher, mut first, mut second) = open_two(&rt, 9)?;
-    let found = both_learn(
-        &rt,
-        rt.alloc(),
-        &mut publisher,
-        &mut first,
-        &mut second,
-        &query,
-    );
-    publisher.end(&rt);
-    assert!(rt; found == Ok([true; 4]));
-    Ok(())
-}
-
-/// Makes each of an entry's calls on a message with a context and a plural, and one by a query.
-fn look_all(alloc: Global, reader: &mut Lookups) -> Result<[bool; 6], AskFault> {
-    let query = query(alloc, "fr").map_err(|_| AskFault::Memory)?;
-    let Ok(pinned) = reader.enter() else {
-        return Err(AskFault::Closed);
-    };
-    let found = [
-        pinned.look(&query) == "hi",
-        pinned.gettext("app", "fr", "file") == "file",
-        pinned.pgettext("app", "fr", "k", "file") == "fichier",
-        pinned.ngettext("app", "fr", "file", "files", 2) == "files",
-        pinned.npgettext("app", "fr", "k", "file", "files", 1) == "fichier",
-        pinned.npgettext("app", "fr", "k", "file", "files", 2) == "fichiers",
-    ];
-    pinned.leave();
-    Ok(found)
-}
-
-#[test]
-fn entries_answer_each_call(rt: HostRuntime) -> Result<(), Fail> {
-    let (mut publisher, mut reader) = open_one(&rt, 9)?;
-    let empty = shows(&mut reader, 0, "hi", "hi", "hi");
-    let loaded = publisher.load(rt.alloc(), "app", "fr", COUNTED, PLAIN);
-    let published = publisher.publish(&rt);
-    let found = look_all(rt.alloc(), &mut reader);
-    publisher.end(&rt);
-    let closed = !shows(&mut reader, 1, "hi", "hi", "hi");
-    assert!(rt; empty && loaded == Ok(ONE) && published == Ok(1));
-    assert!(rt; found == Ok([true; 6]));
-    assert!(rt; closed);
-    Ok(())
-}
-
-/// Compiles if the value may go to another thread.
-fn sent<T: Send>(_: &T) {}
-
-/// Compiles if threads may share the value.
-fn shared<T: Sync>(_: &T) {}
-
-/// The values that callers hand to threads.
-fn hand_over(publisher: &Publisher, reader: &Lookups, notice: &Notice) {
-    sent(publisher);
-    sent(reader);
-    sent(notice);
-    shared(notice);
-}
+/// Compiles if a publisher, a reader and a notice may go to another thread, and threads may share the notice.
+fn hand_over<P: Send, L: Send, N: Send + Sync>(_: &P, _: &L, _: &N) {}
 
 /// Enters `turns` times, and returns whether each entry had the text of its version and no version went back.
 fn enter_many(reader: &mut Lookups, turns: u32) -> bool {
@@ -568,36 +542,34 @@ fn enter_many(reader: &mut Lookups, turns: u32) -> bool {
             return false;
         };
         let version = pinned.version();
-        let text = hi_in(&pinned, "fr");
-        let right = if version == 0 {
-            text == "hi"
-        } else {
-            text == "salut"
-        };
+        let wanted = if version == 0 { "hi" } else { "salut" };
+        let right = pinned.gettext("app", "fr", "hi") == wanted;
         pinned.leave();
-        if version < last || !right {
-            good = false;
-        }
+        good = good && right && version >= last;
         last = version;
     }
     good
 }
 
+/// Loads and publishes `turns` times, and returns the version then.
 fn publish_many<R: Wait>(rt: &R, alloc: Global, publisher: &mut Publisher, turns: u32) -> Version {
     'turns: for _ in 0..turns {
-        let _ = publisher.load(alloc, "app", "fr", SALUT, PLAIN);
+        let _ = loads_hi(alloc, publisher);
         let _ = publisher.publish(rt);
     }
     publisher.version()
 }
 
-fn in_threads<R: Threads + Wait + Sync>(
+/// Publishes in one thread, while both readers enter in threads of their own.
+fn never_go_back<R: Threads + Wait + Sync>(
     rt: &R,
     alloc: Global,
     publisher: &mut Publisher,
     first: &mut Lookups,
     second: &mut Lookups,
-) -> (Version, bool) {
+) -> bool {
+    let notice = publisher.tell();
+    hand_over(publisher, first, &notice);
     let (version, (one, other)) = join(
         rt,
         || publish_many(rt, alloc, publisher, 200),
@@ -607,22 +579,86 @@ fn in_threads<R: Threads + Wait + Sync>(
             || enter_many(second, 20_000),
         ),
     );
-    (version, one && other)
+    let shown = shows(first, 200, ["salut", "hi", "hi"]);
+    let other_shown = shows(second, 200, ["salut", "hi", "hi"]);
+    versions_never_fall();
+    version == 200 && [one, other, shown, other_shown] == [true; 4]
+}
+
+/// What is done with a new store and its two readers.
+#[derive(Clone, Copy)]
+enum Pair {
+    OneLearns,
+    BothLearn,
+    NeverGoBack,
+    Shop,
+}
+
+/// Each case, with the number of loads that its store takes.
+const PAIRS: &[(Pair, u64, &str)] = &[
+    (Pair::OneLearns, 9, "a closed store answers nothing"),
+    (Pair::BothLearn, 9, "readers enter side by side"),
+    (Pair::NeverGoBack, 5000, "readers never go back"),
+    (Pair::Shop, 9, "the shop greets in threads"),
+];
+
+fn is_right_with_both<R: Threads + Wait + AllocGlobal + Sync>(
+    rt: &R,
+    case: Pair,
+    publisher: &mut Publisher,
+    first: &mut Lookups,
+    second: &mut Lookups,
+    query: &Query,
+) -> bool
+    requires first { first.old.book ≡ publisher.old.seen.book }
+    requires second { second.old.book ≡ publisher.old.seen.book }
+{
+    let alloc = rt.alloc();
+    match case {
+        Pair::OneLearns => {
+            let told = tells_two(rt, alloc, publisher, first, query);
+            // The second reader has seen nothing.
+            told && (first.seen(), second.seen()) == (2, 0)
+        }
+        Pair::BothLearn => both_learn(rt, alloc, publisher, first, second, query),
+        Pair::NeverGoBack => never_go_back(rt, alloc, publisher, first, second),
+        Pair::Shop => greets_in_threads(rt, publisher, first, second),
+    }
+}
+
+/// Whether a case is right on a new store, and both readers find the store closed after the end.
+fn holds_with_two<R: Threads + Wait + AllocGlobal + Sync>(
+    rt: &R,
+    most: u64,
+    case: Pair,
+    query: &Query,
+) -> bool {
+    let alloc = rt.alloc();
+    let Ok((mut publisher, mut readers)) = open_store(rt, alloc, 2, most) else {
+        return false;
+    };
+    let (Some(mut second), Some(mut first)) = (readers.pop(), readers.pop()) else {
+        publisher.end(rt);
+        return false;
+    };
+    let right = is_right_with_both(rt, case, &mut publisher, &mut first, &mut second, query);
+    let seen = (first.seen(), second.seen());
+    publisher.end(rt);
+    let closed = [
+        finds_closed(alloc, &mut first, query, seen.0),
+        finds_closed(alloc, &mut second, query, seen.1),
+        finds_closed(alloc, &mut first, query, seen.0),
+        finds_closed(alloc, &mut second, query, seen.1),
+    ];
+    right && closed == [true; 4]
 }
 
 #[test]
-fn readers_never_go_back(rt: HostRuntime) -> Result<(), Fail> {
-    let (mut publisher, mut first, mut second) = open_two(&rt, 5000)?;
-    let notice = publisher.tell();
-    hand_over(&publisher, &first, &notice);
-    let found = in_threads(&rt, rt.alloc(), &mut publisher, &mut first, &mut second);
-    let last = (
-        shows(&mut first, 200, "salut", "hi", "hi"),
-        shows(&mut second, 200, "salut", "hi", "hi"),
-    );
-    publisher.end(&rt);
-    assert!(rt; found == (200, true) && last == (true, true));
-    versions_never_fall();
+fn stores_with_two_readers(rt: HostRuntime) -> Result<(), Fail> {
+    let query = query(rt.alloc(), "fr")?;
+    for (case, most, name) in PAIRS {
+        assert!(rt; holds_with_two(&rt, *most, *case, &query), "{name}");
+    }
     Ok(())
 }
 
@@ -632,11 +668,13 @@ fn shows_until_closed(reader: &mut Lookups) -> bool {
         let Ok(pinned) = reader.enter() else {
             return true;
         };
-        let same = pinned.version() == 1
-            && hi_in(&pinned, "fr") == "salut"
-            && hi_in(&pinned, "de") == "hi";
+        let same = [
+            pinned.version() == 1,
+            pinned.gettext("app", "fr", "hi") == "salut",
+            pinned.gettext("app", "de", "hi") == "hi",
+        ];
         pinned.leave();
-        if !same {
+        if same != [true; 3] {
             return false;
         }
         yield_now();
@@ -646,68 +684,64 @@ fn shows_until_closed(reader: &mut Lookups) -> bool {
 
 /// Enters with the second reader until the store is closed, while the first reader's entry keeps the end from
 /// returning. Afterwards both find the store closed.
-fn stand_and_enter(
-    first: &mut Lookups,
-    second: &mut Lookups,
-    stands: &AtomicBool,
-) -> Result<[bool; 4], Closed> {
-    let open = shows(second, 1, "salut", "hi", "hi") && shows(second, 1, "salut", "hi", "hi");
+fn stand_and_enter(first: &mut Lookups, second: &mut Lookups, stands: &AtomicU64) -> bool {
+    let open = shows(second, 1, ["salut", "hi", "hi"]);
+    let again = shows(second, 1, ["salut", "hi", "hi"]);
     let entered = first.enter();
-    stands.store(true, SeqCst);
-    let pinned = entered?;
+    stands.store(1, SeqCst);
+    let Ok(pinned) = entered else {
+        return false;
+    };
     let shown = shows_until_closed(second);
-    let same = pinned.version() == 1 && hi_in(&pinned, "fr") == "salut";
+    let same = pinned.version() == 1 && pinned.gettext("app", "fr", "hi") == "salut";
     pinned.leave();
-    let closed = !shows(first, 1, "salut", "hi", "hi");
-    Ok([open, shown, same, closed])
+    let closed = !shows(first, 1, ["salut", "hi", "hi"]);
+    [open, again, shown, same, closed] == [true; 5]
 }
 
-/// Waits until a reader is in its entry, for at most `TURNS` turns.
-fn wait_for(stands: &AtomicBool) {
-    'turns: for _ in 0..TURNS {
-        if stands.load(SeqCst) {
-            return;
-        }
-        yield_now();
-    }
-}
-
-/// Ends the publisher once a reader in another thread is in its entry. `None` if the thread couldn't be started.
-fn end_beside<R: Threads + Wait>(
+/// Ends the publisher once the first reader, in another thread, is in its entry. Returns what the readers found.
+fn ends_beside<R: Threads + Wait>(
     rt: &R,
-    alloc: Global,
     publisher: Publisher,
-    first: Lookups,
-    second: Lookups,
-) -> Option<Result<[bool; 4], Closed>> {
-    let (mut first, mut second) = (first, second);
-    let Ok(stands) = Arc::new(alloc, AtomicBool::new(false)) else {
+    readers: (Lookups, Lookups),
+    stands: &AtomicU64,
+    there: Arc<AtomicU64>,
+) -> bool {
+    let (mut first, mut second) = readers;
+    let Ok(entering) = spawn(rt, move || stand_and_enter(&mut first, &mut second, &there)) else {
         publisher.end(rt);
-        return None;
+        return false;
     };
-    let Ok(flag) = Arc::try_clone(&stands) else {
-        publisher.end(rt);
-        return None;
-    };
-    let Ok(readers) = spawn(rt, move || {
-        stand_and_enter(&mut first, &mut second, &flag)
-    }) else {
-        publisher.end(rt);
-        return None;
-    };
-    wait_for(&stands);
+    wait_for(stands, 1);
     publisher.end(rt);
-    Some(readers.join(rt))
+    entering.join(rt)
+}
+
+/// Whether the end of a store with a load pending shows its readers nothing of that load.
+fn ends_unpublished<R: Threads + Wait + AllocGlobal>(
+    rt: &R,
+    stands: &AtomicU64,
+    there: Arc<AtomicU64>,
+) -> bool {
+    let alloc = rt.alloc();
+    let Ok((mut publisher, mut readers)) = open_store(rt, alloc, 2, 9) else {
+        return false;
+    };
+    let (Some(second), Some(first)) = (readers.pop(), readers.pop()) else {
+        publisher.end(rt);
+        return false;
+    };
+    let published = publish_many(rt, alloc, &mut publisher, 1) == 1;
+    let loaded = loads(alloc, &mut publisher, ("app", "de"), HALLO, Ok(ONE));
+    let pending = publisher.pending() == 1;
+    let shown = ends_beside(rt, publisher, (first, second), stands, there);
+    [published, loaded, pending, shown] == [true; 4]
 }
 
 #[test]
 fn the_end_publishes_nothing(rt: HostRuntime) -> Result<(), Fail> {
-    let (mut publisher, first, second) = open_two(&rt, 9)?;
-    let published = publish_many(&rt, rt.alloc(), &mut publisher, 1);
-    let loaded = publisher.load(rt.alloc(), "app", "de", HALLO, PLAIN);
-    let pending = publisher.pending();
-    let found = end_beside(&rt, rt.alloc(), publisher, first, second);
-    assert!(rt; published == 1 && loaded == Ok(ONE) && pending == 1);
-    assert!(rt; found == Some(Ok([true; 4])));
+    let stands = Arc::new(rt.alloc(), AtomicU64::new(0))?;
+    let there = Arc::try_clone(&stands)?;
+    assert!(rt; ends_unpublished(&rt, &stands, there));
     Ok(())
 }
