@@ -1,106 +1,124 @@
-//! Lists of languages that are looked at once. The expected values were written by hand, from the rules of the GNU
-//! manual ("The LANGUAGE variable", "Locale Names").
-use crate::sets::{HALLO, MENU, POLISH, SALUT, loaded, put, set_of};
+//! Every call, and lists of many languages. The expected values were written by hand, from the rules.
+use crate::queries::looks_up;
+use crate::texts::{HALLO, MENU, POLISH, Row, SALUT, put, set_of};
 use live_set::CatalogueSet;
-use std::alloc::{AllocError, Global};
-use std::test::Fail;
+use std::alloc::Global;
 
-/// The answer for `hi` in the domain `app` after `sets::LOADS`: a territory leads to its language, a codeset doesn't,
-/// and `C` and `POSIX` end a list.
-const LISTS: [(&str, &str); 10] = [
-    ("fr", "bonjour"),
-    ("fr_BE", "bonjour"),
-    ("sv:fr_BE:de", "bonjour"),
-    ("fr_CA:fr", "hallo"),
-    ("fr_BE.UTF-8:de", "hallo"),
-    ("::de:", "hallo"),
-    ("C:fr", "hi"),
-    ("sv:POSIX:fr", "hi"),
-    ("sv_SE:da", "hi"),
-    ("", "hi"),
+const POLISH_AND_GERMAN: [Row<'static>; 2] = [("app", "pl", POLISH), ("app", "de", HALLO)];
+
+/// A number, the form for it without a context and in the context `disk`, and the answer without a translation.
+const NUMBERS: [(u64, &str, &str, &str); 4] = [
+    (0, "plikow", "piec", "files"),
+    (1, "plik", "jeden", "file"),
+    (22, "pliki", "dwa", "files"),
+    (u64::MAX, "plikow", "piec", "files"),
 ];
 
-/// A number, the form for it without a context and in the context `disk`.
-const NUMBERS: [(u64, &str, &str); 3] = [
-    (1, "plik", "jeden"),
-    (22, "pliki", "dwa"),
-    (0, "plikow", "piec"),
-];
-
-/// Whether the calls of a list give these forms for a number.
-fn has_forms(set: &CatalogueSet, languages: &str, n: u64, wanted: &str, on_disk: &str) -> bool {
-    let list = set.languages("app", languages);
+/// Whether a number has these forms in Polish, by queries and by the calls of a list.
+fn has_forms(alloc: Global, set: &CatalogueSet, n: u64, wanted: &str, on_disk: &str) -> bool {
+    let list = set.languages("app", "de:pl_PL");
+    let disk = (Some("disk"), "file", Some(n));
     list.ngettext("file", "files", n) == wanted
         && list.npgettext("disk", "file", "files", n) == on_disk
+        && looks_up(alloc, set, "app", "pl", (None, "file", Some(n)), wanted)
+        && looks_up(alloc, set, "app", "pl", disk, on_disk)
 }
 
-/// Whether the C string for a msgid in no context is this one.
-fn has_closed(set: &CatalogueSet, languages: &str, id: &[u8], wanted: Option<&[u8]>) -> bool {
-    set.languages("app", languages)
-        .translated_closed(None, id, None)
-        == wanted
+/// Whether a number has no translation in another language, nor in a context that doesn't have the message.
+fn has_none(set: &CatalogueSet, n: u64, wanted: &str) -> bool {
+    set.ngettext("app", "cs", "file", "files", n) == wanted
+        && set.npgettext("app", "pl", "menu", "file", "files", n) == wanted
+        && set.npgettext("app", "cs", "disk", "file", "files", n) == wanted
 }
 
-/// A set with catalogues for the locales `l1` up to this one, of which only the last has `hi`, and the list of them.
-fn numbered(alloc: Global, last: u64) -> Result<(CatalogueSet, String), Fail> {
-    let mut set = CatalogueSet::new(alloc);
+/// Whether the calls without a number have their texts.
+fn has_texts(alloc: Global, set: &CatalogueSet) -> bool {
+    let (list, again) = (
+        set.languages("app", "de:pl_PL"),
+        set.languages("app", "de:pl"),
+    );
+    list.gettext("hi") == "hallo"
+        && list.pgettext("menu", "open") == "otworz"
+        && again.translated_closed(None, b"file", None) == Some(b"plik\0")
+        && again.translated_closed(None, b"\xff", None).is_none()
+        && looks_up(
+            alloc,
+            set,
+            "app",
+            "pl",
+            (Some("menu"), "open", None),
+            "otworz",
+        )
+        && looks_up(alloc, set, "app", "pl", (None, "open", None), "open")
+        && looks_up(alloc, set, "app", "pl", (None, "file", None), "plik")
+}
+
+/// Whether a number has these answers, and the other calls theirs.
+fn answers(alloc: Global, n: u64, wanted: &str, on_disk: &str, nowhere: &str) -> bool {
+    match set_of(alloc, &POLISH_AND_GERMAN) {
+        Some(set) => {
+            has_forms(alloc, &set, n, wanted, on_disk)
+                && has_none(&set, n, nowhere)
+                && has_texts(alloc, &set)
+        }
+        None => false,
+    }
+}
+
+#[test]
+fn answers_each_call(rt: HostRuntime) {
+    for (n, wanted, on_disk, nowhere) in NUMBERS {
+        assert!(rt; answers(rt.alloc(), n, wanted, on_disk, nowhere), "{n}");
+    }
+}
+
+/// Absorbs `MENU` for a locale with this number, and adds the locale to a list; or returns `false` if memory runs out.
+fn put_numbered(alloc: Global, set: &mut CatalogueSet, list: &mut String, number: u64) -> bool {
+    match format!(in alloc; "l{number}") {
+        Ok(locale) => {
+            put(alloc, set, ("app", locale.as_str(), MENU), false)
+                && list.push_str(locale.as_str()).is_ok()
+                && list.push(':').is_ok()
+        }
+        Err(_) => false,
+    }
+}
+
+/// Absorbs catalogues for the locales `l1` up to this one, of which only the last has `hi`. Returns the list of them.
+fn put_all(alloc: Global, set: &mut CatalogueSet, last: u64) -> Option<String> {
     let mut list = String::new(alloc);
     for number in 1..last {
-        let locale = format!(in alloc; "l{number}")?;
-        put(alloc, &mut set, "app", locale.as_str(), MENU)?;
-        push_member(&mut list, locale.as_str())?;
+        if !put_numbered(alloc, set, &mut list, number) {
+            return None;
+        }
     }
-    put(alloc, &mut set, "app", "last", SALUT)?;
-    push_member(&mut list, "last")?;
-    Ok((set, list))
+    if put(alloc, set, ("app", "last", SALUT), false) && list.push_str("last:").is_ok() {
+        Some(list)
+    } else {
+        None
+    }
 }
 
-fn push_member(list: &mut String, member: &str) -> Result<(), AllocError> {
-    list.push_str(member)?;
-    list.push(':')
+/// Whether `hi` is found in the last language of a list, and `open` in one before, if there is one.
+fn finds_last(set: &CatalogueSet, languages: &str, last: u64) -> bool {
+    let list = set.languages("app", languages);
+    let menu = if last == 1 { "open" } else { "otworz" };
+    list.gettext("hi") == "salut" && list.pgettext("menu", "open") == menu
 }
 
-#[test]
-fn answers_by_lists(rt: HostRuntime) -> Result<(), Fail> {
-    let set = loaded(rt.alloc())?;
-    for (languages, wanted) in LISTS {
-        let list = set.languages("app", languages);
-        assert!(rt; list.gettext("hi") == wanted, "{languages}");
-        assert!(rt;
-            set.gettext("app", languages, "hi") == wanted,
-            "{languages}"
-        );
+/// Whether that is so with this number of languages.
+fn answers_last(alloc: Global, last: u64) -> bool {
+    let mut set = CatalogueSet::new(alloc);
+    match put_all(alloc, &mut set, last) {
+        Some(list) => finds_last(&set, list.as_str(), last),
+        None => false,
     }
-    Ok(())
-}
-
-#[test]
-fn answers_each_call(rt: HostRuntime) -> Result<(), Fail> {
-    let alloc = rt.alloc();
-    let mut set = set_of(alloc, "app", "pl", POLISH)?;
-    put(alloc, &mut set, "app", "de", HALLO)?;
-    for (n, wanted, on_disk) in NUMBERS {
-        assert!(rt; has_forms(&set, "de:pl_PL", n, wanted, on_disk), "{n}");
-    }
-    let list = set.languages("app", "de:pl_PL");
-    assert!(rt; list.pgettext("menu", "open") == "otworz");
-    assert!(rt; list.gettext("hi") == "hallo");
-    assert!(rt; has_closed(&set, "de:pl", b"file", Some(b"plik\0")));
-    assert!(rt; has_closed(&set, "de:pl", b"\xff", None));
-    Ok(())
 }
 
 /// Sixteen catalogues are kept, and more are found by each look-up.
 #[test]
-fn takes_any_number_of_languages(rt: HostRuntime) -> Result<(), Fail> {
+fn takes_any_number_of_languages(rt: HostRuntime) {
     for last in [1u64, 15, 16, 17, 40] {
-        let (set, list) = numbered(rt.alloc(), last)?;
-        let languages = set.languages("app", list.as_str());
-        assert!(rt; languages.gettext("hi") == "salut", "{last}");
-        assert!(rt;
-            languages.pgettext("menu", "open") == if last == 1 { "open" } else { "otworz" },
-            "{last}"
-        );
+        assert!(rt; answers_last(rt.alloc(), last), "{last}");
     }
-    Ok(())
 }

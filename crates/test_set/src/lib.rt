@@ -8,4 +8,8 @@ mod languages;
 #[cfg(test)]
 mod names;
 #[cfg(test)]
+mod queries;
+#[cfg(test)]
 mod sets;
+#[cfg(test)]
+mod texts;

@@ -1,7 +1,6 @@
 //! Which texts are names. The expected values were written by hand, from the rules.
 use live_set::{Name, NameFault};
 use std::alloc::Global;
-use std::test::Fail;
 
 const LETTERS: &str = "abcdefghijklmnopqrstuvwxyzABCDEFGHIJKLMNOPQRSTUVWXYZ0123456789_-";
 
@@ -9,38 +8,44 @@ const ONLY_LETTERS: &str = "abcdefghijklmnopqrstuvwxyzABCDEFGHIJKLMNOPQRSTUVWXYZ
 
 const LONG: &str = "abcdefghijklmnopqrstuvwxyzABCDEFGHIJKLMNOPQRSTUVWXYZabcdefghijklm";
 
-const NAMES: [&str; 6] = [LETTERS, ONLY_LETTERS, "a", "fr_CA.UTF-8@euro", "c++", "0"];
+/// Texts, and whether they are names.
+const TEXTS: [(&str, bool); 14] = [
+    (LETTERS, true),
+    (ONLY_LETTERS, true),
+    ("a", true),
+    ("fr_CA.UTF-8@euro", true),
+    ("c++", true),
+    ("0", true),
+    ("", false),
+    (LONG, false),
+    ("a b", false),
+    ("a/b", false),
+    ("a\n", false),
+    ("a\0", false),
+    ("\u{e9}", false),
+    ("fr:de", false),
+];
 
-const NO_NAMES: [&str; 8] = ["", LONG, "a b", "a/b", "a\n", "a\0", "\u{e9}", "fr:de"];
-
-/// Whether a text is taken as a name, and so is its copy.
-fn is_taken(alloc: Global, text: &str) -> Result<bool, NameFault> {
-    let name = Name::new(alloc, text)?;
-    let again = name.try_clone()?;
-    Ok(name.as_str() == text && again.as_str() == text)
+/// Whether a text is taken as a name, and so is its copy; or, if it isn't one, is refused for that reason.
+fn is_judged(alloc: Global, text: &str, is_name: bool) -> bool {
+    let name = match Name::new(alloc, text) {
+        Ok(name) => name,
+        Err(fault) => return !is_name && fault == NameFault::BadName,
+    };
+    match name.try_clone() {
+        Ok(again) => is_name && name.as_str() == text && again.as_str() == text,
+        Err(_) => false,
+    }
 }
 
 #[test]
-fn takes_names(rt: HostRuntime) -> Result<(), Fail> {
-    assert_eq!(rt; (LETTERS.len(), ONLY_LETTERS.len()), (64, 64));
-    for good in NAMES {
-        assert!(rt; is_taken(rt.alloc(), good)?, "{good}");
+fn takes_names_alone(rt: HostRuntime) {
+    assert!(rt; (LETTERS.len(), ONLY_LETTERS.len(), LONG.len()) == (64, 64, 65));
+    for (text, is_name) in TEXTS {
+        assert!(rt; is_judged(rt.alloc(), text, is_name), "{text}");
     }
     for len in 1..65usize {
-        let front = LETTERS.split_at_checked(len);
-        assert!(rt;
-            is_taken(rt.alloc(), front.map_or("", |(name, _)| name))?,
-            "{len}"
-        );
-    }
-    Ok(())
-}
-
-#[test]
-fn refuses_names(rt: HostRuntime) {
-    assert_eq!(rt; LONG.len(), 65);
-    for bad in NO_NAMES {
-        let refused = matches!(Name::new(rt.alloc(), bad), Err(NameFault::BadName));
-        assert!(rt; refused, "{bad}");
+        let front = LETTERS.get(..len).unwrap_or("");
+        assert!(rt; is_judged(rt.alloc(), front, true), "{len}");
     }
 }
