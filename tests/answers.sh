@@ -50,7 +50,7 @@ if [ -n "$wrong" ]; then
 elif [ -n "$strays" ]; then
   failed 'answers, refused' "with no request refused: '$strays'"
 elif [ "$spoke" = 0 ]; then
-  failed 'answers, refused' "of $n requests none was told as want of memory"
+  failed 'answers, refused' "of $n requests none was reported as out of memory"
 else
-  ok "answers, refused: $n requests in turn, $spoke told as want of memory, $ended by the program's end, the others without effect"
+  ok "answers, refused: $n requests in turn, $spoke reported as out of memory, $ended by the program's end, the others without effect"
 fi

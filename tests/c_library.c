@@ -244,7 +244,7 @@ static void many_answer(const kob_catalogue *c, const kob_set *set) {
             many_answers(c, set, languages[l], counts[i]);
 }
 
-/* The text of `po`, and of so many messages besides. */
+/* The text of `po`, followed by `count` more messages. */
 static char *po_and(size_t count) {
     char *bytes = malloc(sizeof po + 64 * count), *end = stpcpy(bytes, po);
     for (size_t i = 0; i < count; i++)
@@ -281,7 +281,7 @@ static void lists_answer(const kob_set *set) {
     is("a list of NULL", !strcmp(kob_languages_gettext(&nowhere, "file"), "file"));
 }
 
-/* A list of so many of these catalogues, of which each has one message of its own. */
+/* Look up by a list of `count` catalogues. Each of them has one message of its own. */
 static void list_of(const kob_set *set, int count) {
     char languages[200] = "", msgid[20];
     for (int i = 0; i < count; i++)
@@ -414,7 +414,7 @@ static void put(unsigned char *at, uint32_t word) {
         at[i] = (unsigned char)(word >> 8 * i);
 }
 
-/* An MO file of so many entries with these strings. */
+/* An MO file of `count` entries with these strings. */
 struct string {
     const char *at;
     uint32_t len;

@@ -26,7 +26,7 @@ in_one_thread() {
   runs "$name, each request for memory refused, $how" "$@" "$program" memory
 }
 
-# in_threads HOW PUBLISHES WORD..: so many publishes by one thread, and a tenth as many by several
+# in_threads HOW PUBLISHES WORD..: PUBLISHES publishes by one thread, and a tenth of that by several
 in_threads() {
   local how=$1 publishes=$2
   shift 2

@@ -1,8 +1,8 @@
 /* Publishes in a live store of libkobdzila while threads look up in it. It is linked with the wrappers below around
  * malloc and realloc (-Wl,--wrap=malloc and so on), and run by tests/c_store.sh and bench/live/soak.
  *
- *   c_store_threads one PUBLISHES [EACH]       one thread publishes two catalogues at once, so many times; 16 look up
- *   c_store_threads several PUBLISHES [EACH]   four threads publish one catalogue each, so many times; four look up
+ *   c_store_threads one PUBLISHES [EACH]       one thread publishes two catalogues at once, PUBLISHES times; 16 look up
+ *   c_store_threads several PUBLISHES [EACH]   four threads publish one catalogue each, PUBLISHES times; four look up
  *
  * Each request for memory whose number is a multiple of EACH is refused, and what failed is done again. Each catalogue
  * has one text, the number of its publish. What the readers check: a version never falls, both texts are of one

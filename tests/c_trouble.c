@@ -200,7 +200,7 @@ static void write_file(const char *name, const void *bytes, size_t len) {
     is("a file is written", f && fwrite(bytes, 1, len, f) == len && !fclose(f));
 }
 
-/* a PO text with so many messages, so that what grows does it at other requests */
+/* PO texts of several sizes, so that what grows does so at other requests */
 static void sweep_sizes(void) {
     for (size_t n = 0; n <= 40; n++) {
         char bytes[40 * 60], *at = bytes;

@@ -159,5 +159,5 @@ found="$found; left out: $other_charset of other charsets, $without_file of whic
 if [ $equal -ge 10 ] && [ ${#scripts[@]} -ge 3 ] && [ $with_contexts -gt 0 ] && [ $with_three_forms -gt 0 ]; then
   ok "$name: $found"
 elif [ $different = 0 ]; then
-  skipped "$name" "this machine has not so many: $found"
+  skipped "$name" "too few such catalogues are installed: $found"
 fi

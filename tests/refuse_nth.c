@@ -5,7 +5,7 @@
 
    The requests of malloc, calloc, realloc and the aligned ones are counted from 1, once the libraries are loaded.
    The one with the number REFUSE_NTH is answered with a null pointer and ENOMEM, all others as ever. At the refusal
-   the file REFUSED is made, so that its being there tells whether the run made so many requests. */
+   the file REFUSED is made, so it shows whether the run made that many requests. */
 #include <errno.h>
 #include <fcntl.h>
 #include <stdlib.h>

@@ -4,8 +4,8 @@
      REFUSE_FROM=2 REFUSED=/tmp/refused LD_PRELOAD=$PWD/refuse_threads.so PROGRAM WORD..
 
    The calls of pthread_create are counted from 1. The one with the number REFUSE_FROM and all later ones are answered
-   with EAGAIN, as by a system that has no room for a thread. At the first refusal the file REFUSED is made, so that
-   its being there tells whether the run asked for so many threads. */
+   with EAGAIN, as by a system that has no room for a thread. At the first refusal the file REFUSED is made, so it
+   shows whether the run asked for that many threads. */
 #define _GNU_SOURCE
 #include <dlfcn.h>
 #include <errno.h>

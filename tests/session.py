@@ -4,7 +4,7 @@
     tests/session.py PROGRAM rows FOLDER       each folder in FOLDER is a row: its files name, script, out and err say
                                                what the session writes; a line `ok ..` or `FAILED ..` for each
     tests/session.py PROGRAM catserve < SCRIPT as catserve: the output of a script, which has to be the same in each way
-    tests/session.py PROGRAM many ROUNDS       so many rounds, and the memory held behind the first tenth and the last
+    tests/session.py PROGRAM many ROUNDS       ROUNDS rounds, and the memory held after the first tenth and the last
 
 A script is fed whole, line by line, byte by byte, and round by round: there the answers have to come before the next
 line is sent. Behind each piece it waits until the program has taken it.
@@ -68,7 +68,7 @@ class Fed:
             time.sleep(0)
 
     def wait_lines(self, count):
-        """Waits until so many lines have been written in all."""
+        """Waits until `count` lines have been written in all."""
         with self.came:
             if not self.came.wait_for(lambda: self.lines >= count, DEADLINE):
                 raise Late(f"{self.lines} lines were written and not {count}")

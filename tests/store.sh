@@ -26,7 +26,7 @@ pending, published, refused, at = [], [], 0, 0
 
 
 def take(*wanted):
-    """The next line, which has to be one of these. The last one wanted is what want of memory prints, where not None."""
+    """The next line, which has to be one of these. The last one is what running out of memory prints, if it isn't None."""
     global at, refused
     if at == len(lines):
         # printing was refused

@@ -202,7 +202,7 @@ static void *look_up_timed(void *arg) {
     return NULL;
 }
 
-/* What so many threads and a publisher have done; `rate` is how often a second it publishes, or 0 for never, or -1 for
+/* What the threads and a publisher have done; `rate` is how often a second it publishes, or 0 for never, or -1 for
  * all the time. */
 struct done {
     double look_ups, late, publishes; /* the first and the last a second, `late` a share */
@@ -308,7 +308,7 @@ static void late_entries(void) {
            done.publishes, 100 * done.late);
 }
 
-/* A store and a set with so many catalogues. */
+/* A store and a set with `rows` catalogues. */
 static void fill(int rows) {
     char locale[20];
     store = kob_store_new();

@@ -1,7 +1,7 @@
 /* Look-ups by libkobdzila, beside glibc's dcgettext in the same MO file. Run by bench/lookups/run.
  *
  *   bench FOLDER TURNS          the table
- *   bench FOLDER TURNS DOMAIN   the picoseconds of one of our look-ups alone, best of so many turns
+ *   bench FOLDER TURNS DOMAIN   the picoseconds of one of our look-ups alone, the best of TURNS
  */
 #include "kobdzila.h"
 
@@ -81,7 +81,7 @@ static void *ours(void *arg) {
     return NULL;
 }
 
-/* The same, so many texts at once. */
+/* Our look-ups, AT_ONCE texts in one call. */
 static void *ours_at_once(void *arg) {
     struct job *j = arg;
     const struct domain *d = j->domain;
@@ -112,7 +112,7 @@ static void *glibc(void *arg) {
     return NULL;
 }
 
-/* The time of so many threads that each do all rounds. */
+/* The time of `threads` threads that each do all rounds. */
 static double timed(void *(*work)(void *), const struct domain *d, uint64_t rounds, int threads, uint64_t *sum) {
     struct job jobs[MOST_THREADS];
     pthread_t ids[MOST_THREADS];

@@ -14,7 +14,7 @@
 #include <string.h>
 #include <time.h>
 
-#define LOOK_UPS 400000 /* at least so many are timed together */
+#define LOOK_UPS 400000 /* at least this number is timed together */
 
 extern int _nl_msg_cat_cntr; /* glibc: raise it when LANGUAGE changes */
 
@@ -86,7 +86,7 @@ static int compare(const char *list, int turns) {
     return other;
 }
 
-/* Reads at most so many msgids. */
+/* Reads at most `most` msgids. */
 static void read_ids(const char *folder, size_t most) {
     static char line[4096];
     snprintf(line, sizeof line, "%s/%s.ids", folder, name);

@@ -30,7 +30,7 @@ const WAYS: [(Way, &str); 4] = [
 ];
 
 impl Way {
-    /// How often each query is made, of so many rounds.
+    /// How often each query is made in `rounds` rounds.
     fn rounds(self, rounds: u32) -> u32 {
         match self {
             Way::Keep => 1,

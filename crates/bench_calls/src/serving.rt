@@ -25,7 +25,7 @@ impl Gate for Open {
     fn pass(&self, _place: Place, _index: u64) {}
 }
 
-/// What is served: a number of desks beside a number of jobs, with so many messages in each language.
+/// What is served: the number of desks and of jobs, and of messages in each language.
 #[derive(Clone, Copy)]
 pub struct Serving {
     pub messages: u32,

@@ -62,7 +62,7 @@ const JOBS: u32 = 1_000;
 #[derive(Clone, Copy)]
 pub enum Alone {
     Entries,
-    /// Queries by lists of languages, with so many messages in each language.
+    /// Queries by lists of languages, with this number of messages in each language.
     Lists(u32),
     Publishes,
     Loads,
@@ -74,11 +74,11 @@ pub enum Work {
     Alone(Alone),
     /// Entries beside a publisher.
     Beside(Beside),
-    /// Queries among so many messages in each language, in so many rounds.
+    /// Queries: the number of messages in each language, and of rounds.
     Queries(u32, u32),
     /// A call of `serve`.
     Serve(Serving),
-    /// A soak for so many seconds.
+    /// A soak, and how many seconds it takes.
     Soak(u64),
     SoakServe(u64),
 }

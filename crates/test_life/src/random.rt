@@ -355,7 +355,7 @@ impl Fold {
         rest.is_empty()
     }
 
-    /// Whether these are the clients of so many readers.
+    /// Whether these are the clients of `readers` readers.
     fn answers_each(self, mut random: Random, readers: u64, clients: &[Client]) -> bool {
         for client in clients {
             if !self.answers_all(&mut random, client.replies.as_slice()) {

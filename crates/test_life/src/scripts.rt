@@ -15,7 +15,7 @@ use std::sync::Wait;
 use std::test::Fail;
 use std::thread::Threads;
 
-/// Queries that a reader looks up after so many publishes, and before the next one.
+/// Queries that a reader looks up once `after` publishes are done, and before the next one.
 struct Round {
     after: u64,
     asked: &'static [Asked],
@@ -34,7 +34,7 @@ pub(crate) struct Script {
     end: Version,
 }
 
-/// A script with so many readers, who take the script's readers in turn. The first one looks up in the way of the
+/// A script and its number of readers, who take the script's readers in turn. The first one looks up in the way of the
 /// number `first`.
 #[derive(Clone, Copy)]
 pub(crate) struct Play {

@@ -123,7 +123,7 @@ fn a_publish_shows_all_pending_loads(rt: HostRuntime) {
     assert!(rt; is_whole_batch(rt.alloc()));
 }
 
-/// Whether a publish has this version, and so many versions are retained after it.
+/// Whether a publish has this version, and `retained` versions are retained after it.
 fn retains(alloc: Global, publisher: &mut Publisher, version: u64, retained: usize) -> bool {
     publish(alloc, publisher, SALUT) == version && publisher.retained() == retained
 }

@@ -17,7 +17,7 @@ const FILE: &[u8] = b"\xde\x12\x04\x95\0\0\0\0\x02\0\0\0\x1c\0\0\0\x2c\0\0\0\0\0
     \x02\0\0\0\x3c\0\0\0\x03\0\0\0\x3f\0\0\0\x05\0\0\0\x43\0\0\0\x03\0\0\0\x49\0\0\0\
     hi\0yes\0salut\0oui\0";
 
-/// The same without its last byte.
+/// That file without its last byte.
 const CUT: &[u8] = b"\xde\x12\x04\x95\0\0\0\0\x02\0\0\0\x1c\0\0\0\x2c\0\0\0\0\0\0\0\x3c\0\0\0\
     \x02\0\0\0\x3c\0\0\0\x03\0\0\0\x3f\0\0\0\x05\0\0\0\x43\0\0\0\x03\0\0\0\x49\0\0\0\
     hi\0yes\0salut\0oui";

@@ -73,7 +73,7 @@ pub(crate) fn looks_up(
     }
 }
 
-/// So many queries, of `CALLS` in `LANGUAGES`.
+/// Makes `count` queries, of `CALLS` in `LANGUAGES`.
 fn any_queries(alloc: Global, count: usize) -> Result<Vec<Query>, AllocError> {
     let mut queries = Vec::new(alloc);
     for number in 0..count {
@@ -95,7 +95,7 @@ fn are_answers(set: &CatalogueSet, queries: &[Query], answers: &[&str]) -> bool 
     answers.len() == queries.len()
 }
 
-/// Whether so many queries at once have the answers that they have one by one.
+/// Whether `count` queries have the same answers at once as one by one.
 fn looks_all_up(alloc: Global, set: &CatalogueSet, count: usize) -> bool {
     let Ok(queries) = any_queries(alloc, count) else {
         return false;

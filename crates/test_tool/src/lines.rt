@@ -56,7 +56,7 @@ fn reads_of(alloc: Global, reader: SlowReader) -> Option<[u64; 4]> {
     }
 }
 
-/// Whether the lines come from a reader that gives so many bytes first, and one of whose first reads is interrupted.
+/// Whether a reader gives the lines if its first read has `first` bytes, and one of its first reads is interrupted.
 fn gives_lines(alloc: Global, first: usize) -> bool {
     for step in &[1, 2, TEXT.len()] {
         for interrupted in 0..4u64 {
@@ -93,7 +93,7 @@ fn no_read_is_tried_while_the_line_is_there(rt: HostRuntime) {
     }
 }
 
-/// What an input answers for the end of so many lines, or of one if none is given.
+/// What an input answers for the end of `count` lines, or of one line without a count.
 fn end_of(
     input: &mut LineInput,
     reader: &mut Reading<SlowReader>,
@@ -106,7 +106,7 @@ fn end_of(
     }
 }
 
-/// Whether so many lines of a text end there, or one if none is given, and only bytes of the text have come.
+/// Whether the lines of a row end where it says, and only bytes of its text have come.
 fn is_found(alloc: Global, row: &Row, step: usize) -> bool {
     let (text, count, most, wanted) = *row;
     let mut reader = Reading::new(SlowReader::new(text, step, step));
@@ -231,7 +231,7 @@ fn takes_long(input: &mut LineInput, reader: &mut Reading<SlowReader>, text: &[u
     has_no_line(input, reader)
 }
 
-/// Whether a reader of so many bytes at a time gives all lines.
+/// Whether a reader that gives `step` bytes at a time gives all lines.
 fn gives_long(alloc: Global, step: usize) -> bool {
     match (long_text(alloc), LineInput::new(alloc)) {
         (Ok(text), Ok(mut input)) => {

@@ -6,7 +6,7 @@ use crate::fakes::{Calls, NONE, OneFile, SlowReader, SmallWriter};
 use devices::{FileFault, Files, InputFault, MOST_READS, Reading, Sink, Writing, read_all};
 use std::alloc::Global;
 
-/// Whether a reader has these bytes left, after so many reads, of which so many failed.
+/// Whether a reader has `left` bytes left after `reads` reads, and counted this number of failures.
 fn has_read(reader: &Reading<SlowReader>, left: u64, reads: u64, failures: u64) -> bool {
     reader.inner.left.len() as u64 == left
         && reader.inner.reads == reads
