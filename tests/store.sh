@@ -26,7 +26,7 @@ pending, published, refused, at = [], [], 0, 0
 
 
 def take(*wanted):
-    """The next line, which has to be one of these. The last one is what running out of memory prints, if it isn't None."""
+    """The next line, which has to be one of these. The last one is what running out of memory prints, or None."""
     global at, refused
     if at == len(lines):
         # printing was refused

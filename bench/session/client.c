@@ -2,8 +2,9 @@
  *
  *   client session|echo ROUNDS QUESTIONS AT_ONCE PROGRAM [WORD..]
  *
- * Each round has QUESTIONS questions, each for another message than the one before. AT_ONCE rounds are sent at once, and
- * then waited for. Prints the seconds that they took, and the peak of memory of the program after each tenth, in kB.
+ * Each round has QUESTIONS questions, each for another message than the one before. AT_ONCE rounds are sent
+ * before their answers are waited for. Prints the seconds that they took, and the program's peak of memory after each
+ * tenth, in kB.
  */
 #include <signal.h>
 #include <stdarg.h>
