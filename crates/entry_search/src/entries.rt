@@ -13,7 +13,7 @@ use std::alloc::{AllocError, Global};
 use std::marker::Model;
 use std::sync::ledger::Ledger;
 
-/// The hint that says nothing: no index has so many slots.
+/// The hint that says nothing: it is larger than any slot of an index.
 pub const NO_HINT: u64 = u64::MAX;
 
 /// The entries of a catalogue, in rising order of the keys' bytes, with an index once `index` has been called.

@@ -8,11 +8,11 @@ use Rattle.live_set.specs.Loads.{LoadValue, is_for, map_or_empty}
 use Rattle.live_set.specs.Sets.{map_in}
 use Rattle.live_set.specs.declared.places.Places.{Places}
 
--- a list of places has at most so many
+-- the most places that a list has
 abbrev pub most_places : ℕ
 most_places = 16
 
--- a place is below this
+-- every place is below this
 abbrev pub place_limit : ℕ
 place_limit = 4294967296
 

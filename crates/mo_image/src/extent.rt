@@ -41,13 +41,13 @@ pub struct EntryExtents {
 /// Stands in place of the length of a key if the lengths don't fit.
 const NO_LEN: u8 = 255;
 
-/// A key is long if it has so many bytes.
+/// The least length of a long key.
 const LONG_KEY: u32 = 255;
 
-/// What follows a key is long if it has so many bytes.
+/// The least length of a long rest, which is what follows a key.
 const LONG_REST: u32 = 256;
 
-/// A translation is long if it has so many bytes.
+/// The least length of a long translation.
 const LONG_TRANSLATION: u32 = 65_536;
 
 impl EntryExtents {

@@ -135,7 +135,8 @@ impl Versions {
         }
     }
 
-    /// The same with the version before the last one, which lacks two batches.
+    /// Brings the set of the version before the last one up to date, if nobody else has that version. It lacks two
+    /// batches.
     #[tactic(auto, using(crate::proofs::Growing::set_of_before))]
     fn reuse_before(&mut self)
         ensures { self.new ≡ self.old }

@@ -139,7 +139,7 @@ fn refusal(alloc: Global, text: &[u8]) -> Option<LoadFault> {
     }
 }
 
-/// Why so many spaces are refused.
+/// Why a text of this many spaces is refused.
 fn refusal_of_spaces(alloc: Global, count: usize) -> Option<LoadFault> {
     match vec![in alloc; b' '; count] {
         Ok(text) => refusal(alloc, &text),

@@ -41,7 +41,7 @@ const DONE: Outcome = Ok(Accepted::Po(ONE));
 /// A job in French: its domain, whether it loads an MO file and not a PO text, the bytes, and what becomes of it.
 type JobRow = (&'static str, bool, &'static [u8], Outcome);
 
-/// The same job many times.
+/// One job, many times.
 const SAME: &[JobRow] = &[("app", false, SALUT, DONE); 129];
 
 /// Waits until the word is at least `least`, for at most `TURNS` turns, and returns whether it was.
