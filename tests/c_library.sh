@@ -7,16 +7,8 @@ no_program=1
 . "$(dirname "$0")/common"
 catserve=${CATSERVE:-$PWD/bin/catserve}
 
-if ! tests/needs cc gcc libc6-dev; then
-  skipped 'the C library' 'no C compiler, and it could not be installed'
-  exit 0
-fi
-made=()
-[ ! -f crates/kobdzila_c/out/libkobdzila_c.a ] || made=(--made)
-if ! tools/build_library "${made[@]}" > "$room/log" 2>&1; then
-  failed 'the C library' "$(tail -n 2 "$room/log")"
-  exit 1
-fi
+. tests/c_common
+has_library 'the C library' || exit 0
 library=build/lib
 
 # compiles PROGRAM FLAG..: makes $room/PROGRAM of tests/c_library.c
