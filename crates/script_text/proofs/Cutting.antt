@@ -1,16 +1,19 @@
 -- Where a list is cut: its pieces, and the parts of a line.
-use Rattle.std.proofs.Common.{◌≡◌, ◌≢◌, ◌∙◌, refl, sym, ap, ℕ, suc, ◌+◌, ◌-◌, ◌<◌, Bool, true, false, List}
-use Rattle.std.proofs.Common.{[], ◌∷◌, ◌++◌, length, get_or, take, drop, arith, inl, inr, append_assoc, add-one}
+use Rattle.std.proofs.Common.{◌≡◌, ◌≢◌, ◌∙◌, refl, sym, ap, ℕ, suc, ◌+◌, ◌<◌, Bool, true, false, List}
+use Rattle.std.proofs.Common.{[], ◌∷◌, ◌++◌, length, get_or, take, arith, append_assoc}
 use Rattle.std.proofs.Common.{length-append, length-take}
-use Rattle.std.proofs.Math.Seq.{take-length}
-use Rattle.std.proofs.lemmas.List.{append-nil, get_or_append_left, get_or-append_right, take-append-drop}
+use Rattle.std.proofs.Math.Nat.{sub_self}
+use Rattle.std.proofs.Math.Numerals.{one-add}
+use Rattle.std.proofs.Math.Seq.{drop-append-add}
+use Rattle.std.proofs.lemmas.List.{append-nil, get_or-append_right, get_or-take, take_all}
 use Rattle.std.specs.List.{position_or_len, before_first, after_first}
-use Rattle.std.proofs.lemmas.Bool.{cases_Bool, eqb-true, eqb-false}
-use Rattle.std.proofs.lemmas.List.Splits.{slice_split_first, length-slice_split}
+use Rattle.std.proofs.lemmas.Bool.{eqb-true, eqb-false}
+use Rattle.std.proofs.lemmas.List.Splits.{length-slice_split}
 use Rattle.std.proofs.lemmas.List.Sums.{split_at_first, fails_before_first, passes_at_first}
 use Rattle.std.specs.Str.{IsUtf8}
 use Rattle.std.proofs.lemmas.Str.{IsUtf8-drop, IsUtf8-nil, IsCharBoundary-after_ascii}
 use Rattle.devices.specs.Lines.{pieces, is_line_end}
+use Rattle.devices.proofs.Ends.{one_line}
 use Rattle.script_text.specs.LineFields.{is_tab, fields}
 use Rattle.bstr.specs.Find.{is_byte}
 use Rattle.byte_text.specs.Cut.{IsCut}
@@ -27,64 +30,26 @@ pieces-at p (x ∷ front) y rest d fails passes =
     let head : p x ≡ false = fails 0 (omega arith) in
     rw (head, pieces-at p front y rest d (λ k lt. fails (suc k) (omega arith)) passes) refl
 
-position-next : {X : Type 0} (p : X → Bool) (x : X) (xs : List X) → p x ≡ false → position_or_len p (x ∷ xs)
-    ≡ suc (position_or_len p xs)
-position-next p x xs other = rw other (omega arith)
-
-pieces-cons : {X : Type 0} (p : X → Bool) (x : X) (xs : List X) → p x ≡ false → xs ≢ [] → pieces p xs ≡ xs ∷ []
-    → pieces p (x ∷ xs) ≡ (x ∷ xs) ∷ []
-pieces-cons p x xs other some e = rw (other, e) refl
-
--- with no such element the list is one piece
-pub pieces-none : {X : Type 0} (p : X → Bool) (xs : List X) → xs ≢ [] → position_or_len p xs ≡ length xs → pieces p xs
-    ≡ xs ∷ []
-pieces-none p [] some e = absurd (some refl)
-pieces-none p (x ∷ []) some e = elim (cases_Bool (p x)) [
-  | inl end ↦ let zero_len : position_or_len p (x ∷ []) ≡ 0 = rw end refl in absurd (omega arith)
-  | inr other ↦ rw other refl
-]
-pieces-none p (x ∷ y ∷ ys) some e = elim (cases_Bool (p x)) [
-  | inl end ↦ let zero_len : position_or_len p (x ∷ y ∷ ys) ≡ 0 = rw end refl in absurd (omega arith)
-  | inr other ↦ let next = position-next p x (y ∷ ys) other in pieces-cons p x (y ∷ ys) other (λ e. cc)
-      (pieces-none p (y ∷ ys) (λ e. cc) (omega arith))
-]
-
 pub before-at : {X : Type 0} (p : X → Bool) (front : List X) (y : X) (rest : List X) (d : X)
     → ((k : ℕ) → k < length front → p (get_or front k d) ≡ false) → p y ≡ true → before_first p (front ++ y ∷ rest)
     ≡ front
 before-at p [] y rest d fails passes = rw passes refl
 before-at p (x ∷ front) y rest d fails passes =
     let head : p x ≡ false = fails 0 (omega arith) in
-    rw (position-next p x (front ++ y ∷ rest) head) (ap (λ zs. x ∷ zs)
-    (before-at p front y rest d (λ k lt. fails (suc k) (omega arith)) passes))
-
-pub take-all : {X : Type 0} (n : ℕ) (xs : List X) → n ≡ length xs → take n xs ≡ xs
-take-all n xs e = rw e (take-length xs)
+    rw (head, one-add) (ap (λ zs. x ∷ zs) (before-at p front y rest d (λ k lt. fails (suc k) (omega arith)) passes))
 
 -- what follows an ASCII byte of a text is a text
 pub utf8_behind : (c : ℕ) (text front behind : List ℕ) → IsUtf8 text → text ≡ front ++ c ∷ behind → c < 128
     → IsUtf8 behind
 utf8_behind c text front behind utf8 e small =
     let whole : IsUtf8 (front ++ c ∷ behind) = rw e at utf8 in
-    let here : get_or (front ++ c ∷ behind) (length front) 0 ≡ c = get_or-append_right front (c ∷ behind) (length front)
-    (length front) 0 refl (omega arith) ∙ ap (λ k. get_or (c ∷ behind) k 0) (sub_same (length front)) in
-    let rest : drop (length front + 1) (front ++ c ∷ behind) ≡ behind = rw add-one (drop-past front c behind) in
-    rw (← rest) (IsUtf8-drop (front ++ c ∷ behind) (length front + 1) whole
+    let here : get_or (front ++ c ∷ behind) (length front) 0 ≡ c = rw sub_self at
+    (get_or-append_right front (c ∷ behind) (length front) (length front) 0 refl (omega arith)) in
+    rw (drop-append-add front (c ∷ behind) 1) at (IsUtf8-drop (front ++ c ∷ behind) (length front + 1) whole
     (IsCharBoundary-after_ascii (front ++ c ∷ behind) (length front) whole (simp length-append (omega arith))
     (rw here small)))
-  where
-    sub_same : (n : ℕ) → n - n ≡ 0
-    sub_same n = omega arith
-
-    drop-past : (front : List ℕ) (c : ℕ) (behind : List ℕ) → drop (suc (length front)) (front ++ c ∷ behind) ≡ behind
-    drop-past [] c behind = refl
-    drop-past (x ∷ front) c behind = drop-past front c behind
 
 -- ---- bytes
-
-pub cut_get : (n : ℕ) (xs : List ℕ) (k : ℕ) → k < length (take n xs) → get_or (take n xs) k 0 ≡ get_or xs k 0
-cut_get n xs k below = sym (get_or_append_left (take n xs) (drop n xs) 0 k below)
-    ∙ ap (λ zs. get_or zs k 0) (take-append-drop n xs)
 
 -- the byte is between the two parts
 pub cut_whole : {byte : ℕ} {text front behind : List ℕ} → IsCut byte text front behind → text ≡ front ++ byte ∷ behind
@@ -99,9 +64,8 @@ pub cut_lacks : {byte : ℕ} {text front behind : List ℕ} → IsCut byte text 
     → get_or front k 0 ≢ byte
 cut_lacks {byte} {text} cut k below =
     let n = position_or_len (is_byte byte) text in
-    let lt : k < length (take n text) = rw (← cut.front_is) below in
-    rw (cut.front_is, cut_get n text k lt) (eqb-false _ _ (fails_before_first (is_byte byte) text k 0
-    (omega (arith, length-take n text, lt))))
+    let lt : k < n = omega (arith, length-take n text, rw cut.front_is at below) in
+    rw (cut.front_is, get_or-take n text k 0 lt) (eqb-false _ _ (fails_before_first (is_byte byte) text k 0 lt))
 
 pub uncut_lacks : (byte : ℕ) (text : List ℕ) → position_or_len (is_byte byte) text ≡ length text → (k : ℕ)
     → k < length text → get_or text k 0 ≢ byte
@@ -129,8 +93,8 @@ first_line {text} utf8 lt line_is rest_is =
     let whole : text ≡ before_first is_line_end text ++ get_or text n 0
     ∷ after_first is_line_end text = split_at_first is_line_end text 0 lt in
     let fails : (k : ℕ) → k < length (take n text) → is_line_end (get_or (take n text) k 0)
-    ≡ false = λ k below. rw (cut_get n text k below) (fails_before_first is_line_end text k 0
-    (omega (arith, length-take n text))) in
+    ≡ false = λ k below. let lt : k < n = omega (arith, length-take n text) in
+    rw (get_or-take n text k 0 lt) (fails_before_first is_line_end text k 0 lt) in
     rw (line_is, rest_is) (rw (← whole) at (first_line-at (get_or text n 0) (rw whole at utf8) fails
     (passes_at_first is_line_end text 0 lt)))
 
@@ -139,8 +103,8 @@ pub last_line : (text : List ℕ) → text ≢ [] → position_or_len is_line_en
 last_line [] some none = absurd (some refl)
 last_line (b ∷ text) some none = record {
   raw = b ∷ text;
-  cut = pieces-none is_line_end (b ∷ text) some none;
-  said = take-all _ (b ∷ text) none;
+  cut = one_line (b ∷ text) (omega arith) (λ k lt. fails_before_first is_line_end (b ∷ text) k 0 (omega arith));
+  said = take_all _ (b ∷ text) (omega arith);
   whole = sym (append-nil (b ∷ text));
   some = omega arith;
   utf8 = IsUtf8-nil;
@@ -150,14 +114,3 @@ last_line (b ∷ text) some none = record {
 
 pub some_field : (text : List ℕ) → fields text ≢ []
 some_field text e = absurd (omega (arith, length-slice_split is_tab text, ap length e))
-
-pub first_field : (text field rest : List ℕ) → position_or_len is_tab text < length text → field
-    ≡ before_first is_tab text → rest ≡ after_first is_tab text → fields text ≡ field ∷ fields rest
-first_field text field rest lt e f = rw (e, f) (slice_split_first is_tab text 0 lt)
-
-pub last_field : (text : List ℕ) → position_or_len is_tab text ≡ length text → fields text ≡ text ∷ []
-last_field [] e = refl
-last_field (b ∷ text) e = elim (cases_Bool (is_tab b)) [
-  | inl end ↦ let zero_len : position_or_len is_tab (b ∷ text) ≡ 0 = rw end refl in absurd (omega arith)
-  | inr other ↦ let next = position-next is_tab b text other in rw (other, last_field text (omega arith)) refl
-]

@@ -4,6 +4,7 @@ use Rattle.std.proofs.Common.{get_or, Option, Some, None, arith, append_assoc}
 use Rattle.std.specs.Option.{option_map, option_and_then}
 use Rattle.std.proofs.lemmas.Bool.{ne_eqb}
 use Rattle.std.proofs.lemmas.List.{append-nil}
+use Rattle.std.proofs.lemmas.Iterator.Adapters.{option_map_id}
 use Rattle.script_text.specs.ScriptFields.{unescaped, escaped_byte}
 use Rattle.script_text.specs.Scanning.{SplitsEscape}
 
@@ -16,34 +17,6 @@ no_escape text n t b letter rest e =
     let no_b : letter ≢ 92 = λ is. b rest (e ∙ ap (λ l. l ∷ rest) is) in
     rw (ne_eqb letter 110 no_n, ne_eqb letter 116 no_t, ne_eqb letter 92 no_b) refl
 
--- bytes without a backslash mean themselves
-pub unescaped-plain : (plain rest : List ℕ) → ((k : ℕ) → k < length plain → get_or plain k 0 ≢ 92)
-    → unescaped (plain ++ rest) ≡ option_map (λ more. plain ++ more) (unescaped rest)
-unescaped-plain [] rest none = map-same (unescaped rest) where
-  map-same : (o : Option (List ℕ)) → o ≡ option_map (λ more. [] ++ more) o
-  map-same None = refl
-  map-same (Some x) = refl
-unescaped-plain (b ∷ plain) rest none =
-    let other : eqb b 92 ≡ false = ne_eqb b 92 (none 0 (omega arith)) in
-    unescaped-cons b (plain ++ rest) other ∙ ap (λ o. option_map (λ more. b ∷ more) o)
-    (unescaped-plain plain rest (λ k lt. none (suc k) (omega arith))) ∙ map-map (unescaped rest)
-  where
-    unescaped-cons : (b : ℕ) (text : List ℕ) → eqb b 92 ≡ false → unescaped (b ∷ text)
-        ≡ option_map (λ more. b ∷ more) (unescaped text)
-    unescaped-cons b [] other = rw other refl
-    unescaped-cons b (c ∷ text) other = rw other (bind-map (unescaped (c ∷ text)))
-      where
-        bind-map : (o : Option (List ℕ)) → option_and_then (λ rest. Some (b ∷ rest)) o ≡ option_map (λ more. b ∷ more) o
-        bind-map None = refl
-        bind-map (Some x) = refl
-
-    map-map : (o : Option (List ℕ)) → option_map (λ more. b ∷ more) (option_map (λ more. plain ++ more) o)
-        ≡ option_map (λ more. (b ∷ plain) ++ more) o
-    map-map None = refl
-    map-map (Some x) = refl
-
--- ---- one step of reading a text
-
 bind-map : (b : ℕ) (o : Option (List ℕ)) → option_and_then (λ rest. Some (b ∷ rest)) o ≡ option_map (λ more. b ∷ more) o
 bind-map b None = refl
 bind-map b (Some x) = refl
@@ -52,6 +25,25 @@ map-map : (xs ys : List ℕ) (o : Option (List ℕ)) → option_map (λ more. xs
     ≡ option_map (λ more. (xs ++ ys) ++ more) o
 map-map xs ys None = refl
 map-map xs ys (Some x) = ap (λ zs. Some zs) (sym (append_assoc xs ys x))
+
+pub reads_nothing : (field : List ℕ) → unescaped field ≡ option_map (λ more. [] ++ more) (unescaped field)
+reads_nothing field = sym (option_map_id (unescaped field))
+
+-- bytes without a backslash mean themselves
+pub unescaped-plain : (plain rest : List ℕ) → ((k : ℕ) → k < length plain → get_or plain k 0 ≢ 92)
+    → unescaped (plain ++ rest) ≡ option_map (λ more. plain ++ more) (unescaped rest)
+unescaped-plain [] rest none = reads_nothing rest
+unescaped-plain (b ∷ plain) rest none =
+    let other : eqb b 92 ≡ false = ne_eqb b 92 (none 0 (omega arith)) in
+    unescaped-cons (plain ++ rest) other ∙ ap (λ o. option_map (λ more. b ∷ more) o)
+    (unescaped-plain plain rest (λ k lt. none (suc k) (omega arith))) ∙ map-map (b ∷ []) plain (unescaped rest)
+  where
+    unescaped-cons : (text : List ℕ) → eqb b 92 ≡ false → unescaped (b ∷ text)
+        ≡ option_map (λ more. b ∷ more) (unescaped text)
+    unescaped-cons [] other = rw other refl
+    unescaped-cons (c ∷ text) other = rw other (bind-map b (unescaped (c ∷ text)))
+
+-- ---- one step of reading a text
 
 -- a backslash, a letter, and what follows
 unescaped-escape : (letter byte : ℕ) (after : List ℕ) → escaped_byte letter ≡ Some byte
@@ -64,23 +56,15 @@ pub reads_more : (field bytes rest plain behind after : List ℕ) (letter byte :
     → ((k : ℕ) → k < length plain → get_or plain k 0 ≢ 92) → behind ≡ letter ∷ after → escaped_byte letter ≡ Some byte
     → unescaped field ≡ option_map (λ more. ((bytes ++ plain) ++ (byte ∷ [])) ++ more) (unescaped after)
 reads_more field bytes rest plain behind after letter byte h cut none e is =
-    let one : unescaped rest ≡ option_map (λ more. plain ++ more) (unescaped (92 ∷ letter ∷ after)) = rw (cut, e)
-    (unescaped-plain plain (92 ∷ letter ∷ after) none) in
-    h ∙ ap (λ o. option_map (λ more. bytes ++ more) o) (one ∙ ap (λ o. option_map (λ more. plain ++ more) o)
-    (unescaped-escape letter byte after is))
-    ∙ ap (λ o. option_map (λ more. bytes ++ more) o) (map-map plain (byte ∷ []) (unescaped after))
-    ∙ map-map bytes (plain ++ byte ∷ []) (unescaped after)
-    ∙ ap (λ front. option_map (λ more. front ++ more) (unescaped after)) (sym (append_assoc bytes plain (byte ∷ [])))
+    rw (h, cut, e, unescaped-plain plain (92 ∷ letter ∷ after) none, unescaped-escape letter byte after is)
+    (simp (map-map plain (byte ∷ []), map-map bytes (plain ++ byte ∷ [])) (simp append_assoc))
 
 -- a backslash that no letter follows
 pub reads_none : (field bytes rest plain behind : List ℕ) → unescaped field
     ≡ option_map (λ more. bytes ++ more) (unescaped rest) → rest ≡ plain ++ 92 ∷ behind
     → ((k : ℕ) → k < length plain → get_or plain k 0 ≢ 92) → SplitsEscape None behind → unescaped field ≡ None
 reads_none field bytes rest plain behind h cut none bad =
-    let one : unescaped rest ≡ option_map (λ more. plain ++ more) (unescaped (92 ∷ behind)) = rw cut
-    (unescaped-plain plain (92 ∷ behind) none) in
-    h ∙ ap (λ o. option_map (λ more. bytes ++ more) o) (one ∙ ap (λ o. option_map (λ more. plain ++ more) o)
-    (is_none behind bad))
+    rw (h, cut, unescaped-plain plain (92 ∷ behind) none, is_none behind bad) refl
   where
     is_none : (behind : List ℕ) → SplitsEscape None behind → unescaped (92 ∷ behind) ≡ None
     is_none [] bad = refl
@@ -92,9 +76,3 @@ pub reads_all : (field bytes rest : List ℕ) → unescaped field ≡ option_map
 reads_all field bytes rest h none =
     let last : unescaped rest ≡ Some rest = rw (← append-nil rest) (unescaped-plain rest [] none) in
     h ∙ ap (λ o. option_map (λ more. bytes ++ more) o) last
-
-pub reads_nothing : (field : List ℕ) → unescaped field ≡ option_map (λ more. [] ++ more) (unescaped field)
-reads_nothing field = map-none (unescaped field) where
-  map-none : (o : Option (List ℕ)) → o ≡ option_map (λ more. [] ++ more) o
-  map-none None = refl
-  map-none (Some x) = refl

@@ -1,10 +1,11 @@
 -- What `parse` reads of a text of digits.
-use Rattle.std.proofs.Common.{◌≡◌, refl, sym, ap, ℕ, ◌<◌, ◌^◌, true, false, ltb, List, length, Some, None, Result, Ok}
-use Rattle.std.proofs.Common.{Err, rules, inl, inr}
+use Rattle.std.proofs.Common.{◌≡◌, refl, sym, ap, ℕ, ◌<◌, ◌^◌, true, false, List, length, Some, None, Result, Ok, Err}
+use Rattle.std.proofs.Common.{arith, rules}
 use Rattle.std.specs.List.{list_all}
 use Rattle.std.specs.Char.{is_ascii_digit}
 use Rattle.std.specs.Str.Parse.{digits_value, digits_value_after, ParsesUnsigned}
-use Rattle.std.proofs.lemmas.Bool.{cases_Bool, lt-ltb, ltb-true}
+use Rattle.std.proofs.lemmas.Bool.{lt-ltb}
+use Rattle.std.proofs.lemmas.Bool.Decides.{nat_tests}
 use Rattle.std.proofs.lemmas.Str.Parse.{IsNumeralModel, numerals_by_fold, parse_digits}
 use Rattle.script_text.specs.ScriptFields.{number}
 
@@ -29,10 +30,4 @@ pub no_number : {E : Type 0} (text : List ℕ) (r : Result ℕ E) (fault : E) �
 no_number text r fault digits parsed e =
     let h : ¬ ((0 < length text) × (digits_value 10 text < 2 ^ 64)) = rw e at
     (parse_digits own 64 text r parsed digits) in
-    elim (cases_Bool (ltb 0 (length text))) [
-      | inr none ↦ rw (digits, none) refl
-      | inl some ↦ elim (cases_Bool (ltb (digits_value 10 text) (2 ^ 64))) [
-        | inr great ↦ rw (digits, some, great) refl
-        | inl small ↦ absurd (h (ltb-true 0 (length text) some, ltb-true (digits_value 10 text) (2 ^ 64) small))
-      ]
-    ]
+    rw digits (grind (arith, nat_tests, h))

@@ -1,5 +1,5 @@
 -- A script read line by line.
-use Rattle.std.proofs.Common.{◌≡◌, ◌∙◌, refl, sym, ap, subst, ℕ, zero, suc, ◌+◌, ◌<◌, ◌≤◌, Bool, true, false, cond}
+use Rattle.std.proofs.Common.{◌≡◌, ◌∙◌, refl, sym, ap, ℕ, zero, suc, ◌+◌, ◌<◌, ◌≤◌, true, false}
 use Rattle.std.proofs.Common.{List, [], ◌∷◌, ◌++◌, length, map, take, drop, fold, Option, Some, None, Result, Ok, Err}
 use Rattle.std.proofs.Common.{arith, append_assoc, length-append}
 use Rattle.std.specs.List.{concat, flat_map, onto_first}
@@ -8,9 +8,9 @@ use Rattle.std.proofs.lemmas.List.{append-nil}
 use Rattle.std.proofs.lemmas.Grind.{flat_map-append}
 use Rattle.std.proofs.lemmas.List.Sums.{fold-append, sum_by-append}
 use Rattle.std.proofs.lemmas.Bool.{le-leb, lt-leb}
-use Rattle.devices.specs.Lines.{lines, pieces, without_end}
+use Rattle.devices.specs.Lines.{lines, pieces}
 use Rattle.script_text.specs.LineFields.{fields}
-use Rattle.script_text.specs.Commands.{Line, Blank, Loads, LoadsMo, Asks, Goes, is_blank, line_of, workers_line}
+use Rattle.script_text.specs.Commands.{Line, Loads, is_blank, line_of, workers_line}
 use Rattle.script_text.specs.CommandValues.{command_with, listed, text_lines}
 use Rattle.script_text.specs.Script.{Command, Load, Ask, Go, RoundValue, round_of, rounds_of, is_go, Says}
 use Rattle.script_text.specs.Script.{IsBad, saying, and_then, commands_from, load_count, script_of, script_from, script}
@@ -33,7 +33,7 @@ skips workers (suc text) number (l ∷ ls) enough = skips workers text (number +
 both_assoc : (a b c : RoundValue) → both (both a b) c ≡ both a (both b c)
 both_assoc a b c = rw (append_assoc a.loads b.loads c.loads, append_assoc a.questions b.questions c.questions) refl
 
-both_empty : (a : RoundValue) → both a empty_round ≡ a
+pub both_empty : (a : RoundValue) → both a empty_round ≡ a
 both_empty a = rw (append-nil a.loads, append-nil a.questions) refl
 
 -- one command that isn't `go`, followed by others
@@ -49,6 +49,12 @@ onto_round g c cs other is joins = rw (is, other) (by_pieces (pieces is_go cs)) 
   by_pieces (p ∷ ps) = ap (λ r. both g.current r ∷ map round_of ps) (joins p)
       ∙ ap (λ r. r ∷ map round_of ps) (sym (both_assoc g.current (round_of (c ∷ [])) (round_of p)))
 
+-- nothing stands in the open round
+onto_none : (ended rs : List RoundValue)
+    → rs ≡ onto_open (record { ended = ended; current = empty_round; begun = false }) rs
+onto_none ended [] = refl
+onto_none ended (r ∷ rs) = refl
+
 -- one more command
 one_more : (g : Gathered) (c : Command) (cs : List Command) → g.ended ++ onto_open g (rounds_of (c ∷ cs))
     ≡ (gathered g c).ended ++ onto_open (gathered g c) (rounds_of cs)
@@ -56,14 +62,7 @@ one_more g (Load load) cs = ap (λ rs. g.ended ++ rs) (onto_round g (Load load) 
 one_more g (Ask worker query) cs = ap (λ rs. g.ended ++ rs) (onto_round g (Ask worker query) cs refl refl (λ p. refl))
 one_more g Go cs = ap (λ r. g.ended ++ (r ∷ rounds_of cs)) (both_empty g.current)
     ∙ sym (append_assoc g.ended (g.current ∷ []) (rounds_of cs))
-    ∙ ap (λ rs. (g.ended ++ g.current ∷ []) ++ rs) (sym (onto_none (rounds_of cs))) where
-      onto_none : (rs : List RoundValue) → onto_open (record {
-        ended = g.ended ++ g.current ∷ [];
-        current = empty_round;
-        begun = false;
-      }) rs ≡ rs
-      onto_none [] = refl
-      onto_none (r ∷ rs) = refl
+    ∙ ap (λ rs. (g.ended ++ g.current ∷ []) ++ rs) (onto_none (g.ended ++ g.current ∷ []) (rounds_of cs))
 
 more : (commands : List Command) (g : Gathered) (cs : List Command) → g.ended
     ++ onto_open g (rounds_of (commands ++ cs)) ≡ (fold gathered g commands).ended
@@ -71,41 +70,28 @@ more : (commands : List Command) (g : Gathered) (cs : List Command) → g.ended
 more [] g cs = refl
 more (c ∷ commands) g cs = one_more g c (commands ++ cs) ∙ more commands (gathered g c) cs
 
--- with nothing before them
-onto_nothing : (rs : List RoundValue) → rs ≡ onto_open nothing rs
-onto_nothing [] = refl
-onto_nothing (r ∷ rs) = refl
-
 -- all rounds are those of the commands
 pub rounds_are : (cs : List Command) → all_rounds (fold gathered nothing cs) ≡ rounds_of cs
-rounds_are cs = sym (more cs nothing []) ∙ sym (onto_nothing (rounds_of (cs ++ []))) ∙ ap rounds_of (append-nil cs)
+rounds_are cs = sym (more cs nothing []) ∙ sym (onto_none [] (rounds_of (cs ++ []))) ∙ ap rounds_of (append-nil cs)
 
 -- what is gathered with one line more
 pub so_far-snoc : (said : List (Option Command)) (one : Option Command) → so_far (said ++ one ∷ [])
     ≡ fold gathered (so_far said) (listed one)
-so_far-snoc said one = ap (λ cs. fold gathered nothing cs) (flat_map-append listed said (one ∷ []))
-    ∙ fold-append gathered nothing (flat_map listed said) (listed one ++ [])
-    ∙ ap (λ cs. fold gathered (so_far said) cs) (append-nil (listed one))
+so_far-snoc said one = simp (flat_map-append, fold-append, append-nil)
 
 -- ---- one line taken in
 
 -- a line, if all lines of its text are there
 pub says_with : (line : Line) (behind : List (List ℕ)) → text_lines line ≤ length behind → saying (Some line) behind
     ≡ Says (listed (command_with line (concat (take (text_lines line) behind)))) (text_lines line)
-says_with Blank behind enough = refl
 says_with (Loads domain locale options count) behind enough = rw (le-leb count (length behind) enough) refl
-says_with (LoadsMo domain locale bytes) behind enough = refl
-says_with (Asks worker query) behind enough = refl
-says_with Goes behind enough = refl
+says_with _ behind enough = refl
 
 -- a load that counts more lines than are left
 pub too_long : (line : Line) (behind : List (List ℕ)) → length behind < text_lines line
     → saying (Some line) behind ≡ IsBad
-too_long Blank behind few = absurd (omega (arith, few))
 too_long (Loads domain locale options count) behind few = rw (lt-leb count (length behind) few) refl
-too_long (LoadsMo domain locale bytes) behind few = absurd (omega (arith, few))
-too_long (Asks worker query) behind few = absurd (omega (arith, few))
-too_long Goes behind few = absurd (omega (arith, few))
+too_long _ behind few = absurd (omega (arith, few))
 
 -- one command more is at most one load more
 pub few_more : (g : Gathered) (command : Option Command)
@@ -126,10 +112,9 @@ pub takes_in : {old new : Gathered} {saw : Option Line} {line : Line} {behind : 
 takes_in {old} {line} {behind} {text} saw_is taken is = record {
   commands = listed (command_with line text);
   text = text_lines line;
-  says = ap (λ saw. saying saw (lines behind)) saw_is ∙ says_with line (lines behind) taken.enough
-      ∙ ap (λ bytes. Says (listed (command_with line bytes)) (text_lines line)) (sym taken.taken_is);
+  says = rw (saw_is, taken.taken_is) (says_with line (lines behind) taken.enough);
   gathered_are = is;
-  few = subst (λ g. loads_so_far g ≤ loads_so_far old + 1) (sym is) (few_more old (command_with line text));
+  few = rw is (few_more old (command_with line text));
   behind_text = taken.rest_is;
   enough = taken.enough;
   next_is = refl;
@@ -146,7 +131,7 @@ starts small utf8 = record { going = refl; some = omega arith; bounded = omega a
 pub skips_one : {text rest line behind : List ℕ} {number : ℕ} → HasSkipped text rest number
     → IsFirstLine rest line behind → is_blank line ≡ true → HasSkipped text behind (number + 1)
 skips_one {behind} {number} skipped first blank = record {
-  going = skipped.going ∙ ap (λ ls. script_from number ls) first.cut ∙ rw (ap is_blank first.said ∙ blank) refl;
+  going = skipped.going ∙ ap (λ ls. script_from number ls) first.cut ∙ rw (first.said, blank) refl;
   some = omega arith;
   bounded = omega (arith, skipped.bounded, first.some, ap length first.whole, length-append first.raw behind);
   utf8 = first.utf8;
@@ -156,9 +141,8 @@ skips_one {behind} {number} skipped first blank = record {
 pub begins_so : {text rest line behind : List ℕ} {number workers : ℕ} → HasSkipped text rest number
     → IsFirstLine rest line behind → is_blank line ≡ false → workers_line (fields line) ≡ Some workers
     → HasBegun text workers behind (number + 1)
-begins_so {behind} {number} skipped first other is = record {
-  going = skipped.going ∙ ap (λ ls. script_from number ls) first.cut
-      ∙ rw (ap is_blank first.said ∙ other, ap (λ l. workers_line (fields l)) first.said ∙ is) refl;
+begins_so {behind} skipped first other is = record {
+  going = rw (first.said, other, is) at (rw first.cut at skipped.going);
   some = omega arith;
   bounded = omega (arith, skipped.bounded, first.some, ap length first.whole, length-append first.raw behind);
   utf8 = first.utf8;
@@ -168,12 +152,9 @@ begins_so {behind} {number} skipped first other is = record {
 pub begins_else : {text rest line behind : List ℕ} {number : ℕ} → HasSkipped text rest number
     → IsFirstLine rest line behind → is_blank line ≡ false → workers_line (fields line) ≡ None
     → HasBegun text 2 rest number
-begins_else {number} skipped first other none =
-    let said : is_blank (without_end first.raw) ≡ false = ap is_blank first.said ∙ other in
+begins_else skipped first other none =
     record {
-      going = skipped.going ∙ ap (λ ls. script_from number ls) first.cut
-          ∙ rw (said, ap (λ l. workers_line (fields l)) first.said ∙ none, said) refl
-          ∙ ap (λ ls. script_of 2 (commands_from 2 number 0 ls)) (sym first.cut);
+      going = rw first.cut (rw (first.said, other, none) at (rw first.cut at skipped.going));
       some = skipped.some;
       bounded = skipped.bounded;
       utf8 = skipped.utf8;
@@ -182,9 +163,8 @@ begins_else {number} skipped first other none =
 -- no line at all
 pub begins_none : {text rest : List ℕ} {number : ℕ} → HasSkipped text rest number → rest ≡ []
     → HasBegun text 2 rest number
-begins_none {number} skipped none = record {
-  going = skipped.going ∙ ap (λ t. script_from number (lines t)) none
-      ∙ ap (λ t. script_of 2 (commands_from 2 number 0 (lines t))) (sym none);
+begins_none skipped none = record {
+  going = rw none (rw none at skipped.going);
   some = skipped.some;
   bounded = skipped.bounded;
   utf8 = skipped.utf8;
@@ -193,7 +173,7 @@ begins_none {number} skipped none = record {
 -- the commands follow
 pub begins_with : (workers : ℕ) (found : Result (List Command) ℕ) → script_of workers found
     ≡ going_on workers nothing found
-begins_with workers (Ok cs) = ap (λ rs. Ok (record { workers = workers; rounds = rs })) (onto_nothing (rounds_of cs))
+begins_with workers (Ok cs) = ap (λ rs. Ok (record { workers = workers; rounds = rs })) (onto_none [] (rounds_of cs))
 begins_with workers (Err bad) = refl
 
 pub parses_none : {text : List ℕ} {workers : ℕ} {rest : List ℕ} {number : ℕ} → HasBegun text workers rest number
@@ -211,18 +191,12 @@ read_first : {text : List ℕ} {workers : ℕ} {rest line behind : List ℕ} {ro
     → HasParsed text workers rounds rest number → IsFirstLine rest line behind
     → script text ≡ going_on workers rounds (and_then (saying (line_of workers line) (lines behind)) number
     (λ n. commands_from workers (number + 1) n (lines behind)))
-read_first {text} {workers} {behind} {rounds} {number} parsed first =
-    let F : List (List ℕ) → Type 0 = λ ls. script text ≡ going_on workers rounds (commands_from workers number 0 ls) in
-    let G : List ℕ → Type 0 = λ l. script text ≡ going_on workers rounds (and_then
-    (saying (line_of workers l) (lines behind)) number (λ n. commands_from workers (number + 1) n (lines behind))) in
-    subst G first.said (subst F first.cut parsed.going)
+read_first parsed first = rw first.said at (rw first.cut at parsed.going)
 
 pub bad_line : {text : List ℕ} {workers : ℕ} {rest line behind : List ℕ} {rounds : Gathered} {number : ℕ}
     → HasParsed text workers rounds rest number → IsFirstLine rest line behind
     → saying (line_of workers line) (lines behind) ≡ IsBad → script text ≡ Err number
-bad_line {workers} {behind} {rounds} {number} parsed first bad = read_first parsed first
-    ∙ ap (λ s. going_on workers rounds (and_then s number (λ n. commands_from workers (number + 1) n
-    (lines behind)))) bad
+bad_line parsed first bad = rw bad at (read_first parsed first)
 
 -- commands followed by others
 pub gathers : (workers number : ℕ) (g : Gathered) (commands : List Command) (found : Result (List Command) ℕ)
@@ -235,16 +209,10 @@ gathers workers number g commands (Err bad) = refl
 pub goes_on : {text : List ℕ} {workers : ℕ} {rest line behind : List ℕ} {old new : Gathered} {number : ℕ}
     {after : List ℕ} {next : ℕ} → HasParsed text workers old rest number → IsFirstLine rest line behind
     → TakesIn old new (line_of workers line) behind number after next → HasParsed text workers new after next
-goes_on {workers} {behind} {old} {number} {after} {next} parsed first taken = record {
-  going = read_first parsed first
-      ∙ ap (λ s. going_on workers old (and_then s number (λ n. commands_from workers (number + 1) n
-      (lines behind)))) taken.says
-      ∙ ap (λ found. going_on workers old (and_then (Says taken.commands taken.text) number (λ n. found)))
-      (skips workers taken.text (number + 1) (lines behind) taken.enough
-      ∙ ap (λ ls. commands_from workers (number + 1 + taken.text) 0 ls) (sym taken.behind_text)
-      ∙ ap (λ n. commands_from workers n 0 (lines after)) (sym taken.next_is))
-      ∙ gathers workers number old taken.commands (commands_from workers next 0 (lines after))
-      ∙ ap (λ g. going_on workers g (commands_from workers next 0 (lines after))) (sym taken.gathered_are);
+goes_on {workers} {behind} {old} {number} parsed first taken = record {
+  going = rw (taken.gathered_are, taken.next_is, taken.behind_text)
+      (rw (taken.says, skips workers taken.text (number + 1) (lines behind) taken.enough) at (read_first parsed first)
+      ∙ gathers workers number old taken.commands _);
   few = omega (arith, taken.few, taken.next_is, parsed.few);
   bounded = omega (
     arith,
@@ -261,23 +229,14 @@ goes_on {workers} {behind} {old} {number} {after} {next} parsed first taken = re
 pub ends : {text : List ℕ} {workers : ℕ} {rest : List ℕ} (said : List (Option Command)) {number : ℕ}
     → HasParsed text workers (so_far said) rest number → rest ≡ []
     → script text ≡ Ok (record { workers = workers; rounds = rounds_of (flat_map listed said) })
-ends {workers} said {number} parsed none = parsed.going
-    ∙ ap (λ t. going_on workers (so_far said) (commands_from workers number 0 (lines t))) none
-    ∙ ap (λ rs. Ok (record { workers = workers; rounds = rs })) (rounds_are (flat_map listed said))
+ends said parsed none = rw (none, rounds_are (flat_map listed said)) at parsed.going
 
 -- there are fewer loads than lines
 pub ends_few : {text : List ℕ} {workers : ℕ} {rest : List ℕ} (said : List (Option Command)) {number : ℕ}
     → HasParsed text workers (so_far said) rest number → load_count (rounds_of (flat_map listed said)) ≤ most_script
 ends_few said parsed = rw (rounds_are (flat_map listed said)) at few where
   fewer : (g : Gathered) → load_count (all_rounds g) ≤ loads_so_far g
-  fewer g = omega (
-    arith,
-    sum_by-append (λ (round : RoundValue). length round.loads) g.ended (onto_open g []),
-    last g.begun,
-  ) where
-    last : (begun : Bool) → load_count (cond begun (g.current ∷ []) []) ≤ length g.current.loads
-    last true = omega arith
-    last false = omega arith
+  fewer g = grind (arith, sum_by-append (λ (round : RoundValue). length round.loads) g.ended (onto_open g []))
 
   few : load_count (all_rounds (so_far said)) ≤ most_script
   few = omega (arith, parsed.few, parsed.bounded, fewer (so_far said))
