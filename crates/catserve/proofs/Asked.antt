@@ -1,15 +1,15 @@
 -- What desks are asked, and what they have answered.
 use Rattle.std.proofs.Common.{◌≡◌, ◌≢◌, ◌∙◌, refl, sym, ap, ℕ, zero, suc, ◌+◌, ◌<◌, ◌≤◌, max, List, [], ◌∷◌, drop, ◌++◌}
-use Rattle.std.proofs.Common.{length, take, set, All, Some, None, arith, length-append, get_or}
+use Rattle.std.proofs.Common.{length, take, set, All, arith, length-append, get_or}
 use Rattle.std.proofs.Math.Seq.{take-append_seam}
-use Rattle.std.proofs.lemmas.List.{append-nil, length-map}
+use Rattle.std.proofs.lemmas.List.{append-nil, length-map, take_all}
 use Rattle.std.proofs.lemmas.List.Elements.{All-nil, All-cons, filter_map-append}
 use Rattle.std.proofs.lemmas.Bool.{ne_eqb, eq-eqb}
 use Rattle.std.specs.List.{AllZip}
 use Rattle.std.specs.String.{string_bytes}
 use Rattle.live_set.specs.Loads.{LoadValue}
 use Rattle.live_set.specs.Asks.{QueryValue, IsAnswer}
-use Rattle.live_versions.specs.Batches.{joined, version_of, published}
+use Rattle.live_versions.specs.Batches.{joined, version_of}
 use Rattle.live_versions.specs.Seen.{SeenValue}
 use Rattle.live_versions.specs.Store.{StoreValue}
 use Rattle.desks.specs.Jobs.{JobValue, Outcome, HasDone, after_publish}
@@ -22,17 +22,9 @@ use Rattle.catserve.specs.Output.{answer_line}
 use Rattle.catserve.specs.Rounds.{Answers, AnswersInTurn}
 use Rattle.catserve.specs.Asking.{readers_of, AreAsked, GivesOne, answer_lines, desk_lines, IsFreed}
 use Rattle.catserve.specs.Running.{AreReady}
-use Rattle.catserve.proofs.Batching.{joined-append}
-use Rattle.script_text.proofs.Cutting.{take-all}
+use Rattle.live_versions.proofs.Joining.{joined-append}
 
 -- ---- questions
-
-for_it : (worker : ℕ) (query : QueryValue) → query_for worker (record { worker = worker; query = query }) ≡ Some query
-for_it worker query = rw (eq-eqb worker worker refl) refl
-
-for_other : (worker other : ℕ) (query : QueryValue) → other ≢ worker
-    → query_for worker (record { worker = other; query = query }) ≡ None
-for_other worker other query differs = rw (ne_eqb other worker differs) refl
 
 -- a question more to this worker
 queries-more : (worker : ℕ) (questions : List QuestionValue) (query : QueryValue)
@@ -40,14 +32,14 @@ queries-more : (worker : ℕ) (questions : List QuestionValue) (query : QueryVal
     ≡ queries_for worker questions ++ query ∷ []
 queries-more worker questions query =
     filter_map-append (query_for worker) questions (record { worker = worker; query = query } ∷ [])
-    ∙ ap (λ xs. queries_for worker questions ++ xs) (rw (for_it worker query) refl)
+    ∙ ap (λ xs. queries_for worker questions ++ xs) (rw (eq-eqb worker worker refl) refl)
 
 -- a question more to another one
 queries-same : (worker other : ℕ) (questions : List QuestionValue) (query : QueryValue) → other ≢ worker
     → queries_for worker (questions ++ record { worker = other; query = query } ∷ []) ≡ queries_for worker questions
 queries-same worker other questions query differs =
     filter_map-append (query_for worker) questions (record { worker = other; query = query } ∷ [])
-    ∙ ap (λ xs. queries_for worker questions ++ xs) (rw (for_other worker other query differs) refl)
+    ∙ ap (λ xs. queries_for worker questions ++ xs) (rw (ne_eqb other worker differs) refl)
     ∙ append-nil (queries_for worker questions)
 
 -- a question to a worker before these desks
@@ -66,9 +58,6 @@ pub asked_more : (first worker other : ℕ) (questions : List QuestionValue) (qu
     → other ≡ first + worker → AreAsked first questions desks → GivesOne desks worker query after
     → AreAsked first (questions ++ record { worker = other; query = query } ∷ []) after
 asked_more first worker other questions query [] [] at asked given = tt
-asked_more first worker other questions query [] (d ∷ after) at asked given = absurd given
-asked_more first zero other questions query (desk ∷ desks) [] at asked given = absurd given
-asked_more first (suc worker) other questions query (desk ∷ desks) [] at asked given = absurd given
 asked_more first zero other questions query (desk ∷ desks) (d ∷ after) at asked (items, reader, same) =
     let here : other ≡ first = omega arith in
     rw (here, same) (
@@ -80,16 +69,16 @@ asked_more first (suc worker) other questions query (desk ∷ desks) (d ∷ afte
       ∙ sym (queries-same first other questions query (λ e. absurd (omega arith))),
   asked_more (first + 1) worker other questions query desks after (omega arith) asked.1 given,
 )
+asked_more _ _ other questions query _ _ at asked given = absurd given
 
 pub readers-given : (desks after : List Desk) (worker : ℕ) (query : QueryValue) → GivesOne desks worker query after
     → readers_of after ≡ readers_of desks
 readers-given [] [] worker query given = refl
-readers-given [] (d ∷ after) worker query given = absurd given
-readers-given (desk ∷ desks) [] zero query given = absurd given
-readers-given (desk ∷ desks) [] (suc worker) query given = absurd given
 readers-given (desk ∷ desks) (d ∷ after) zero query (items, reader, same) = rw (reader, same) refl
 readers-given (desk ∷ desks) (d ∷ after) (suc worker) query (same, given) =
     rw (same, readers-given desks after worker query given) refl
+readers-given _ _ zero query given = absurd given
+readers-given _ _ (suc worker) query given = absurd given
 
 -- a query was appended to those of the desk with this number
 pub gives_at : (desks : List Desk) (worker : ℕ) (query : QueryValue) (desk d : Desk) → worker < length desks
@@ -117,8 +106,6 @@ answered_all : (batches : List (List LoadValue)) (least : ℕ) (queries : List Q
     (λ (query : QueryValue) (answer : Answer). (answer.version ≡ version_of batches)
     × IsAnswer (joined batches) query (string_bytes answer.text)) queries answers
 answered_all batches least [] [] last h = tt
-answered_all batches least [] (answer ∷ answers) last h = absurd h
-answered_all batches least (query ∷ queries) [] last h = absurd h
 answered_all batches least (query ∷ queries) (answer ∷ answers) last (from, is, more) =
     let (rest, e) = is.begins in
     let whole = ap joined e ∙ joined-append is.front rest in
@@ -130,17 +117,16 @@ answered_all batches least (query ∷ queries) (answer ∷ answers) last (from, 
       ap length whole,
       length-append (joined is.front) (joined rest),
     ) in (
-      (all, rw (take-all answer.version (joined batches) all) at is.text_is),
+      (all, rw (take_all answer.version (joined batches) (omega arith)) at is.text_is),
       answered_all batches answer.version queries answers (omega arith) more,
     )
+answered_all batches least _ _ last h = absurd h
 
 -- their lines are those of a worker
 lines_of : (loads : List LoadValue) (worker : ℕ) (queries : List QueryValue) (answers : List Answer)
     → AllZip (λ (query : QueryValue) (answer : Answer). (answer.version ≡ length loads) × IsAnswer loads query
     (string_bytes answer.text)) queries answers → Answers loads worker queries (answer_lines worker answers)
 lines_of loads worker [] [] h = ([], tt, refl)
-lines_of loads worker [] (answer ∷ answers) h = absurd h
-lines_of loads worker (query ∷ queries) [] h = absurd h
 lines_of loads worker (query ∷ queries) (answer ∷ answers) ((version, is), more) =
     let (texts, each, lines) = lines_of loads worker queries answers more in (
       string_bytes answer.text ∷ texts,
@@ -148,14 +134,13 @@ lines_of loads worker (query ∷ queries) (answer ∷ answers) ((version, is), m
       ap (λ v. answer_line worker v (string_bytes answer.text) ++ answer_lines worker answers) version
           ∙ ap (λ xs. answer_line worker (length loads) (string_bytes answer.text) ++ xs) lines,
     )
+lines_of loads worker _ _ h = absurd h
 
 -- the answers of desks that were served, where nothing was published meanwhile
 pub answers_in_turn : (start end : SeenValue) (questions : List QuestionValue) (worker : ℕ) (asked served : List Desk)
     → end.batches ≡ start.batches → AreAsked worker questions asked → AllZip (IsServed start end) asked served
     → AnswersInTurn (joined end.batches) questions worker (length asked) (desk_lines worker served)
 answers_in_turn start end questions worker [] [] same given all = refl
-answers_in_turn start end questions worker [] (s ∷ served) same given all = absurd all
-answers_in_turn start end questions worker (desk ∷ asked) [] same given all = absurd all
 answers_in_turn start end questions worker (desk ∷ asked) (s ∷ served) same given all = (
   answer_lines worker s.answers.items,
   desk_lines (worker + 1) served,
@@ -165,6 +150,7 @@ answers_in_turn start end questions worker (desk ∷ asked) (s ∷ served) same 
   answers_in_turn start end questions (worker + 1) asked served same given.1 all.1,
   refl,
 )
+answers_in_turn start end questions worker _ _ same given all = absurd all
 
 -- ---- from round to round
 
@@ -177,19 +163,15 @@ ready_again start {end} asked served {freed} all gone = record
     books : (asked served freed : List Desk) → AllZip (IsServed start end) asked served → AllZip IsFreed served freed
         → All (λ (seen : SeenValue). seen.book ≡ end.book) (readers_of freed)
     books [] [] [] h k = All-nil (λ (seen : SeenValue). seen.book ≡ end.book)
-    books [] [] (f ∷ fs) h k = absurd k
-    books [] (s ∷ ss) fs h k = absurd h
-    books (d ∷ ds) [] fs h k = absurd h
-    books (d ∷ ds) (s ∷ ss) [] h k = absurd k
     books (d ∷ ds) (s ∷ ss) (f ∷ fs) h k =
         All-cons (λ (seen : SeenValue). seen.book ≡ end.book) f.reader (readers_of fs)
         (ap (λ (seen : SeenValue). seen.book) (k.0.reader ∙ h.0.reader)) (books ds ss fs h.1 k.1)
+    books _ _ _ h k = absurd (search)
 
     frees : (worker : ℕ) (served freed : List Desk) → AllZip IsFreed served freed → AreAsked worker [] freed
     frees worker [] [] k = tt
-    frees worker [] (f ∷ fs) k = absurd k
-    frees worker (s ∷ ss) [] k = absurd k
     frees worker (s ∷ ss) (f ∷ fs) k = (k.0.queries, frees (worker + 1) ss fs k.1)
+    frees worker _ _ k = absurd k
 
 -- where all readers are of one store, so are those of the desks
 pub books_of : (of : SeenValue) (desks : List Desk) → All (λ (seen : SeenValue). seen.book ≡ of.book) (readers_of desks)
@@ -234,9 +216,7 @@ whole_of new old count e = rw e (take-append_seam new (drop (length new) old))
 pub done_none : (s after : StoreValue) (jobs : List JobValue) (outcomes : List Outcome) → jobs ≡ [] → s.pending ≡ []
     → HasDone s jobs outcomes after → after ≡ s
 done_none s after jobs outcomes none empty done =
-    by_outcomes outcomes (rw none at done) ∙ ap (λ (p : List LoadValue). record s
-    { seen = record s.seen { batches = published s.seen.batches p }; pending = [] }) empty
-    ∙ ap (λ (p : List LoadValue). record s { pending = p }) (sym empty)
+    by_outcomes outcomes (rw none at done) ∙ rw (empty, ← empty) refl
   where
     by_outcomes : (outcomes : List Outcome) → HasDone s [] outcomes after → after ≡ after_publish s
     by_outcomes [] done = done

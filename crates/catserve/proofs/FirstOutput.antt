@@ -5,7 +5,7 @@ use Rattle.script_text.specs.Script.{RoundValue, ScriptValue}
 use Rattle.script_text.specs.Texts.{IsScript}
 use Rattle.catserve.specs.Rounds.{HasOutput, PlaysAll}
 use Rattle.catserve.specs.Laws.{HaveFirstOutput, IsInFront}
-use Rattle.catserve.proofs.OneOutput.{after_one, round_one, ok_or}
+use Rattle.catserve.proofs.OneOutput.{after_one, round_one}
 
 some_first : (workers : ℕ) (before : List LoadValue) (rounds more : List RoundValue) (output : List ℕ)
     → PlaysAll workers before (rounds ++ more) output → (first : List ℕ) × PlaysAll workers before rounds first
@@ -35,7 +35,7 @@ plays_both : {text : List ℕ} (output : List ℕ) {value : ScriptValue} (rounds
     → HasOutput text output
     → IsScript text value → value.rounds ≡ rounds ++ more → PlaysAll value.workers [] (rounds ++ more) output
 plays_both output {value} rounds more (value', script', all) script cut =
-    let same : value' ≡ value = ap (ok_or value') (sym script'.says ∙ script.says) in
+    let same : value' ≡ value = cc (script'.says, script.says) in
     rw cut at (rw same at all)
 
 pub first_some : HaveFirstOutput

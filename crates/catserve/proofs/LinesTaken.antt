@@ -1,14 +1,15 @@
 -- Lines that are taken off an input.
-use Rattle.std.proofs.Common.{◌≡◌, ◌∙◌, refl, sym, ap, subst, ℕ, zero, suc, ◌+◌, ◌-◌, ◌<◌, ◌≤◌, Bool, true, false, List}
+use Rattle.std.proofs.Common.{◌≡◌, ◌∙◌, refl, sym, ap, subst, ℕ, zero, suc, ◌+◌, ◌-◌, ◌<◌, ◌≤◌, true, List}
 use Rattle.std.proofs.Common.{[], ◌∷◌, ◌++◌, length, take, drop, arith, inl, append_assoc, length-append, Option, Some}
 use Rattle.std.proofs.Common.{None, IfSome, IfNone, Result, Err, IsErrOf, length-drop}
-use Rattle.std.specs.List.{concat, onto_first}
+use Rattle.std.specs.List.{concat}
 use Rattle.std.specs.Str.{IsUtf8}
 use Rattle.std.proofs.lemmas.List.{append-nil, nil_from_length, take-append-le, drop-append-le, take-append-drop}
 use Rattle.std.proofs.lemmas.List.{length-take-le}
-use Rattle.std.proofs.Math.Seq.{take-add}
+use Rattle.std.proofs.Math.Nat.{sub-zero}
+use Rattle.std.proofs.Math.Seq.{take-add, take-nil}
 use Rattle.std.proofs.lemmas.List.Folds.{concat-append}
-use Rattle.devices.specs.Lines.{lines, is_line_end}
+use Rattle.devices.specs.Lines.{lines}
 use Rattle.devices.specs.Incoming.{Incoming, MayCome, EndsLine, EndsLines}
 use Rattle.devices.specs.Arrivals.{AddsInput, AddsSome, Comes}
 use Rattle.devices.proofs.Arriving.{consumes_none, consumes_both, rises_none, rises_both}
@@ -114,14 +115,10 @@ taken_then {i} {j} {k} {x} {y} {z} {front} {back} a b = record {
   more = a.more ++ b.more;
   read = consumes_both i.left j.left k.left a.more b.more a.read b.read;
   may = λ text may. subst (MayCome x) (sym (append_assoc a.more b.more text)) (a.may (b.more ++ text) (b.may text may));
-  cut = λ text may. ap lines (ap (λ xs. xs ++ text) (sym (append_assoc x.left a.more b.more))
-      ∙ append_assoc (x.left ++ a.more) b.more text) ∙ a.cut (b.more ++ text) (b.may text may)
-      ∙ ap (λ xs. front ++ lines xs) (sym (append_assoc y.left b.more text)) ∙ ap (λ ls. front ++ ls) (b.cut text may)
-      ∙ sym (append_assoc front back (lines (z.left ++ text)));
-  whole = sym (append_assoc x.left a.more b.more) ∙ ap (λ xs. xs ++ b.more) a.whole
-      ∙ append_assoc (concat front) y.left b.more ∙ ap (λ xs. concat front ++ xs) b.whole
-      ∙ sym (append_assoc (concat front) (concat back) z.left)
-      ∙ ap (λ xs. xs ++ z.left) (sym (concat-append front back));
+  cut = λ text may. simp append_assoc (simp append_assoc at (a.cut (b.more ++ text) (b.may text may))
+      ∙ ap (λ ls. front ++ ls) (simp append_assoc at (b.cut text may)));
+  whole = rw (← append_assoc x.left a.more b.more, a.whole, concat-append, append_assoc (concat front))
+      (ap (λ xs. concat front ++ xs) b.whole ∙ sym (append_assoc (concat front) (concat back) z.left));
   at_end = λ before. b.at_end (a.at_end before);
   counts = counts_both a.counts b.counts;
 }
@@ -149,61 +146,33 @@ drop_zero (x ∷ xs) = refl
 -- one line is taken
 pub line_cut : {y : Incoming} {end : ℕ} → EndsLine y 0 end → (text : List ℕ) → MayCome y text
     → lines (y.left ++ text) ≡ (take end y.left ∷ []) ++ lines (drop end y.left ++ text)
-line_cut {y} {end} ends text may =
-    let none : end - 0 ≡ end = omega arith in
-    ap (λ xs. lines (xs ++ text)) (sym (drop_zero y.left)) ∙ ends.cut text may
-    ∙ ap (λ l. l ∷ lines (drop end y.left ++ text)) (ap (λ n. take n (drop 0 y.left)) none
-    ∙ ap (take end) (drop_zero y.left))
+line_cut ends text may = simp (drop_zero, sub-zero) at (ends.cut text may)
 
 pub line_whole : (y : Incoming) (end : ℕ) → y.left ≡ concat (take end y.left ∷ []) ++ drop end y.left
 line_whole y end = sym (ap (λ xs. xs ++ drop end y.left) (append-nil (take end y.left)) ∙ take-append-drop end y.left)
 
 -- ---- a load with its text
 
-abbrev no_lines : List (List ℕ)
-no_lines = []
-
-take_nothing : (count : ℕ) → take count no_lines ≡ no_lines
-take_nothing zero = refl
-take_nothing (suc count) = refl
-
-again_behind : (b count : ℕ) (ls : List (List ℕ)) → is_line_end b ≡ false
-    → lines (concat (take (suc count) ls)) ≡ take (suc count) ls
-    → lines (concat (take (suc count) (onto_first b ls))) ≡ take (suc count) (onto_first b ls)
-again_behind b count [] other again = rw (take_nothing count, other) refl
-again_behind b count (l ∷ ls) other again = rw (other, again) refl
-
-again_first : (b count : ℕ) (text : List ℕ) (e : Bool) → is_line_end b ≡ e
-    → lines (concat (take count (lines text))) ≡ take count (lines text)
+again_first : (b count : ℕ) (text : List ℕ) → lines (concat (take count (lines text))) ≡ take count (lines text)
     → lines (concat (take (suc count) (lines text))) ≡ take (suc count) (lines text)
     → lines (concat (take (suc count) (lines (b ∷ text)))) ≡ take (suc count) (lines (b ∷ text))
-again_first b count text true is once twice = rw (is, is, once) refl
-again_first b count text false is once twice = rw is (again_behind b count (lines text) is twice)
+again_first b count text once twice = grind (arith, take-nil)
 
 -- the first lines of a text are the lines of what they are together
 pub lines_again : (count : ℕ) (text : List ℕ) → lines (concat (take count (lines text))) ≡ take count (lines text)
 lines_again zero text = refl
 lines_again (suc count) [] = refl
 lines_again (suc count) (b ∷ text) =
-    again_first b count text (is_line_end b) refl (lines_again count text) (lines_again (suc count) text)
+    again_first b count text (lines_again count text) (lines_again (suc count) text)
 
 -- a line that ends goes on to end
 pub line_later : {i j : InputSeen} {x y : Incoming} {end : ℕ} → HasGot i j x y [] → EndsLine x 0 end → EndsLine y 0 end
-line_later {x} {y} {end} got ends =
-    let first : take end x.left ≡ take end y.left = sym (ap (take end) got.behind
-    ∙ take-append-le end x.left got.more ends.within) in
-    let none : end - 0 ≡ end = omega arith in
+line_later {x} got ends =
     record {
       some = ends.some;
       within = omega (arith, ends.within, ap length got.behind, length-append x.left got.more);
-      cut = λ text may. ap (λ xs. lines (xs ++ text)) (drop_zero y.left)
-          ∙ ap lines (ap (λ xs. xs ++ text) got.behind ∙ append_assoc x.left got.more text)
-          ∙ line_cut ends (got.more ++ text) (got.may text may)
-          ∙ ap (λ l. l ∷ lines (drop end x.left ++ (got.more ++ text))) (first ∙ ap (take end) (sym (drop_zero y.left))
-          ∙ ap (λ n. take n (drop 0 y.left)) (sym none))
-          ∙ ap (λ xs. take (end - 0) (drop 0 y.left) ∷ lines xs) (sym (ap (λ xs. xs ++ text)
-          (ap (drop end) got.behind ∙ drop-append-le end x.left got.more ends.within)
-          ∙ append_assoc (drop end x.left) got.more text));
+      cut = λ text may. rw got.behind (simp (sub-zero, take-append-le, drop-append-le, ends.within, append_assoc)
+          (line_cut ends (got.more ++ text) (got.may text may)));
     }
 
 pub first_same : {i j : InputSeen} {x y : Incoming} {end : ℕ} → HasGot i j x y [] → EndsLine x 0 end
@@ -234,20 +203,12 @@ text_heard {x} {y} {end} {count} {place} got first ends =
       counted,
       whole,
       together,
-      (λ more may. line_cut line more may ∙ ap (λ l. l ∷ lines (drop end y.left ++ more)) same
-          ∙ ap (λ ls. take end x.left ∷ ls) (sym (take-append-drop count (lines (drop end y.left ++ more)))
-          ∙ ap (λ ls. ls ++ drop count (lines (drop end y.left ++ more))) (sym (at more may))
-          ∙ ap (λ ls. lines text ++ ls) (sym (ends.cut more may).rest_is))),
+      (λ more may. rw (line_cut line more may, same, at more may, (ends.cut more may).rest_is)
+          (ap (λ ls. take end x.left ∷ ls) (sym (take-append-drop count (lines (drop end y.left ++ more)))))),
     )
 
-few_onto : (b n : ℕ) (ls : List (List ℕ)) → length ls ≤ n → length (onto_first b ls) ≤ suc n
-few_onto b n [] few = omega arith
-few_onto b n (l ∷ ls) few = omega (arith, few)
-
-few_first : (b : ℕ) (text : List ℕ) (e : Bool) → is_line_end b ≡ e → length (lines text) ≤ length text
-    → length (lines (b ∷ text)) ≤ suc (length text)
-few_first b text true is few = rw is (omega (arith, few))
-few_first b text false is few = rw is (few_onto b (length text) (lines text) few)
+few_first : (b : ℕ) (text : List ℕ) → length (lines text) ≤ length text → length (lines (b ∷ text)) ≤ suc (length text)
+few_first b text few = grind arith
 
 -- it isn't UTF-8
 pub text_undecodable : {i j : InputSeen} {x y : HearingValue} {end count place : ℕ} → Stays i j x y []
@@ -289,7 +250,7 @@ text_taken {x} {y} {place} stays line ends utf8 bytes_are =
 -- a text has no more lines than bytes
 pub few_lines : (text : List ℕ) → length (lines text) ≤ length text
 few_lines [] = omega arith
-few_lines (b ∷ text) = few_first b text (is_line_end b) refl (few_lines text)
+few_lines (b ∷ text) = few_first b text (few_lines text)
 
 -- ---- why nothing was heard
 
@@ -311,18 +272,11 @@ nothing_heard x y line_fault.Memory f comes counts number size over failed is = 
 -- whatever a bad line means
 pub no_line : (Bad : ℕ → Type 0) (i j : InputSeen) (x y : HearingValue) (kind : ScriptKind) (line : ℕ)
     → HearsNothing i j x y kind line → HearsNoLine Bad i j x y kind line
-no_line Bad i j x y kind.TooLarge line h = h
-no_line Bad i j x y kind.ReadFault line h = h
-no_line Bad i j x y kind.Memory line h = h
-no_line Bad i j x y _ line h = absurd h
+no_line Bad i j x y kind.NotUtf8 line h = absurd h
+no_line Bad i j x y _ line h = search
 
-some_onto : (b : ℕ) (ls : List (List ℕ)) → length (onto_first b ls) ≡ 0 → ⊥
-some_onto b [] e = omega (arith, e)
-some_onto b (l ∷ ls) e = omega (arith, e)
-
-some_line : (b : ℕ) (text : List ℕ) (e : Bool) → is_line_end b ≡ e → length (lines (b ∷ text)) ≡ 0 → ⊥
-some_line b text true is none = omega (arith, rw is at none)
-some_line b text false is none = some_onto b (lines text) (rw is at none)
+some_line : (b : ℕ) (text : List ℕ) → length (lines (b ∷ text)) ≡ 0 → ⊥
+some_line b text none = grind arith
 
 -- the lines of a text are no more than its bytes, and without lines there are none
 pub text_within : {y : Incoming} {end count place : ℕ} → EndsLines count y end place
@@ -342,7 +296,7 @@ text_within {y} {end} {count} {place} ends =
   where
     no_bytes : (text : List ℕ) → length (lines text) ≡ 0 → text ≡ []
     no_bytes [] e = refl
-    no_bytes (b ∷ text) e = absurd (some_line b text (is_line_end b) refl e)
+    no_bytes (b ∷ text) e = absurd (some_line b text e)
 
 -- so the text ends within the limit that its line ends within
 pub text_ends_within : {y : Incoming} {end : ℕ} (count : ℕ) {place : ℕ} (most : ℕ) → EndsLines count y end place

@@ -1,18 +1,17 @@
 -- A text has one output.
 use Rattle.std.proofs.Common.{◌≡◌, ◌∙◌, refl, sym, ap, ℕ, zero, suc, ◌+◌, List, [], ◌∷◌, ◌++◌, length, Option}
-use Rattle.std.proofs.Common.{Some, None, Result, Ok, Err}
+use Rattle.std.proofs.Common.{Some, None}
 use Rattle.std.specs.List.{AllZip, filter_map, flat_map}
-use Rattle.po_header.specs.Rule.{Rule, place}
+use Rattle.po_header.specs.Rule.{Rule}
 use Rattle.po_header.proofs.RuleLemmas.{HasRule-one}
 use Rattle.catalogue.specs.Entry.{Entry, key_bytes}
 use Rattle.catalogue.specs.Map.{header_text, entry_at}
-use Rattle.catalogue.specs.Value.{IsFirstForm, IsCounted, HasRuleIn, form_or_first, text_by}
+use Rattle.catalogue.specs.Value.{IsFirstForm, IsCounted, HasRuleIn, text_by}
 use Rattle.live_set.specs.Loads.{LoadValue, map_of}
 use Rattle.live_set.specs.Asks.{AskValue, Plain, Context, Number, ContextNumber, QueryValue, HasValue, IsAnswer}
 use Rattle.live_set.specs.Asks.{answering}
-use Rattle.live_versions.specs.declared.fault.StoreFault.TheVariants as store_fault
 use Rattle.script_text.specs.ScriptLoads.{JobValue}
-use Rattle.script_text.specs.Script.{QuestionValue, RoundValue, ScriptValue, queries_for, script}
+use Rattle.script_text.specs.Script.{QuestionValue, RoundValue, queries_for, script}
 use Rattle.catserve.specs.Output.{answer_line, version_line}
 use Rattle.catserve.specs.Rounds.{Outcome, Accepted, Refused, RefusedMo, Unnamed, IsOutcome, outcome_line}
 use Rattle.catserve.specs.Rounds.{accepted_load, Answers, AnswersInTurn, Plays, PlaysAll}
@@ -22,25 +21,15 @@ use Rattle.catserve.proofs.Sources.{brings_one, fault_one, no_fault}
 zip_one : {A B : Type 0} (R : A → B → Type 0) → ((x : A) (y z : B) → R x y → R x z → y ≡ z)
     → (xs : List A) (ys zs : List B) → AllZip R xs ys → AllZip R xs zs → ys ≡ zs
 zip_one R one [] [] [] h k = refl
-zip_one R one [] [] (z ∷ zs) h k = absurd k
-zip_one R one [] (y ∷ ys) zs h k = absurd h
-zip_one R one (x ∷ xs) [] zs h k = absurd h
-zip_one R one (x ∷ xs) (y ∷ ys) [] h k = absurd k
 zip_one R one (x ∷ xs) (y ∷ ys) (z ∷ zs) h k = ap (λ v. v ∷ ys) (one x y z h.0 k.0)
     ∙ ap (λ vs. z ∷ vs) (zip_one R one xs ys zs h.1 k.1)
+zip_one R one _ _ _ h k = absurd (search)
 
 -- ---- answers
 
-abbrev or_else : {X : Type 0} → X → Option X → X
-or_else x None = x
-or_else x (Some y) = y
-
-some_one : {X : Type 0} (o : Option X) (x y : X) → o ≡ Some x → o ≡ Some y → x ≡ y
-some_one o x y h k = ap (or_else x) (sym h ∙ k)
-
 first_one : (e : Option Entry) (id t u : List ℕ) → IsFirstForm e id t → IsFirstForm e id u → t ≡ u
 first_one None id t u h k = h ∙ sym k
-first_one (Some e) id t u h k = some_one _ t u h k
+first_one (Some e) id t u h k = cc
 
 rule_in_one : (o : Option (List ℕ)) (r s : Rule) → HasRuleIn o r → HasRuleIn o s → r ≡ s
 rule_in_one None r s h k = h ∙ sym k
@@ -51,7 +40,7 @@ counted_one : (m : List Entry) (e : Option Entry) (n : ℕ) (other t u : List �
 counted_one m None n other t u h k = h ∙ sym k
 counted_one m (Some e) n other t u (r, has, form) (s, has', form') =
     let same : r ≡ s = rule_in_one (header_text m) r s has has' in
-    some_one (form_or_first e.forms (place r n)) t u form (ap (λ q. form_or_first e.forms (place q n)) same ∙ form')
+    cc (form, form', same)
 
 value_one : (m : List Entry) (a : AskValue) (t u : List ℕ) → HasValue m a t → HasValue m a u → t ≡ u
 value_one m (Plain id) t u h k = first_one (entry_at m (key_bytes None id)) id t u h k
@@ -90,27 +79,15 @@ outcome_one l (Accepted load answer) (Accepted load' answer') h k =
     let same = brings_one l.source answer answer' load.map load'.map h.1 k.1 in
     ap (λ x. Accepted x answer) (same_load load load' (h.2 ∙ sym k.2) (h.3 ∙ sym k.3) same.1)
     ∙ ap (λ x. Accepted load' x) same.0
-outcome_one l (Accepted load answer) (Refused fault) h k = absurd
-    (no_fault l.source answer load.map (store_fault.Refused fault) h.1 k.1)
-outcome_one l (Accepted load answer) (RefusedMo fault) h k = absurd
-    (no_fault l.source answer load.map (store_fault.RefusedMo fault) h.1 k.1)
-outcome_one l (Refused fault) (Accepted load answer) h k = absurd
-    (no_fault l.source answer load.map (store_fault.Refused fault) k.1 h.1)
-outcome_one l (RefusedMo fault) (Accepted load answer) h k = absurd
-    (no_fault l.source answer load.map (store_fault.RefusedMo fault) k.1 h.1)
-outcome_one l (Refused fault) (Refused fault') h k =
-    let same = fault_one l.source (store_fault.Refused fault) (store_fault.Refused fault') h.1 k.1 in
-    let inside : fault ≡ fault' = cc same in ap Refused inside
-outcome_one l (RefusedMo fault) (RefusedMo fault') h k =
-    let same = fault_one l.source (store_fault.RefusedMo fault) (store_fault.RefusedMo fault') h.1 k.1 in
-    let inside : fault ≡ fault' = cc same in ap RefusedMo inside
-outcome_one l (Refused fault) (RefusedMo fault') h k = absurd
-    (cc (fault_one l.source (store_fault.Refused fault) (store_fault.RefusedMo fault') h.1 k.1))
-outcome_one l (RefusedMo fault) (Refused fault') h k = absurd
-    (cc (fault_one l.source (store_fault.RefusedMo fault) (store_fault.Refused fault') h.1 k.1))
+outcome_one l (Refused fault) (Refused fault') h k = cc (fault_one l.source _ _ h.1 k.1)
+outcome_one l (RefusedMo fault) (RefusedMo fault') h k = cc (fault_one l.source _ _ h.1 k.1)
+outcome_one l (Refused fault) (RefusedMo fault') h k = absurd (cc (fault_one l.source _ _ h.1 k.1))
+outcome_one l (RefusedMo fault) (Refused fault') h k = absurd (cc (fault_one l.source _ _ h.1 k.1))
 outcome_one l Unnamed Unnamed h k = refl
 outcome_one l Unnamed _ h k = absurd (h k.0)
 outcome_one l _ Unnamed h k = absurd (k h.0)
+outcome_one l (Accepted load answer) _ h k = absurd (no_fault l.source answer load.map _ h.1 k.1)
+outcome_one l _ (Accepted load answer) h k = absurd (no_fault l.source answer load.map _ k.1 h.1)
 
 -- ---- rounds
 
@@ -140,11 +117,7 @@ rounds_one workers before (round ∷ rounds) output other (after, front, back, p
 
 -- ---- scripts
 
-abbrev pub ok_or : ScriptValue → Result ScriptValue ℕ → ScriptValue
-ok_or d (Ok value) = value
-ok_or d (Err bad) = d
-
 pub output_one : HasOneOutput
 output_one text output other (value, script, all) (value', script', all') =
-    let same : value ≡ value' = ap (ok_or value) (sym script.says ∙ script'.says) in
+    let same : value ≡ value' = cc (script.says, script'.says) in
     rounds_one value.workers [] value.rounds output other all (rw (← same) at all')

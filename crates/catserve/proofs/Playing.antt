@@ -9,7 +9,6 @@ use Rattle.std.specs.List.{AllZip, filter_map, flat_map}
 use Rattle.live_set.specs.Loads.{LoadValue}
 use Rattle.live_versions.specs.Batches.{joined, version_of, published}
 use Rattle.live_versions.specs.Store.{StoreValue}
-use Rattle.live_versions.specs.Seen.{SeenValue}
 use Rattle.live_versions.specs.declared.fault.StoreFault.{StoreFault}
 use Rattle.live_versions.specs.declared.fault.StoreFault.TheVariants as fault
 use Rattle.desks.specs.Jobs as jobs
@@ -21,7 +20,8 @@ use Rattle.catserve.specs.Output.{version_line}
 use Rattle.catserve.specs.Rounds.{Outcome, Accepted, Refused, RefusedMo, Unnamed, IsOutcome, outcome_line}
 use Rattle.catserve.specs.Rounds.{accepted_load, job_source, AnswersInTurn, PlaysAll}
 use Rattle.catserve.specs.Running.{LoadsOne, LoadsAll, PlaysOne, HasPlayed, IsLineOf, load_of, load_source}
-use Rattle.catserve.proofs.Batching.{AllZip-snoc, joined-append}
+use Rattle.live_versions.proofs.Joining.{joined-published}
+use Rattle.catserve.proofs.Batching.{AllZip-snoc}
 
 -- a source of a job, as that of a load
 same_source : (source : jobs.SourceValue) → job_source (load_source source) ≡ source
@@ -80,17 +80,9 @@ pub loads_more : {loads : List JobValue} {load : JobValue} {p q r : List LoadVal
 loads_more {loads} {load} {p} {a} all one = record {
   outcomes = all.outcomes ++ one.outcome ∷ [];
   each = AllZip-snoc IsOutcome loads all.outcomes load one.outcome all.each one.is;
-  pending_are = one.pending_are ∙ ap (λ xs. xs ++ filter_map accepted_load (one.outcome ∷ [])) all.pending_are
-      ∙ append_assoc p (filter_map accepted_load all.outcomes) (filter_map accepted_load (one.outcome ∷ []))
-      ∙ ap (λ xs. p ++ xs) (sym (filter_map-append accepted_load all.outcomes (one.outcome ∷ [])));
-  written = one.written ∙ ap (λ xs. xs ++ outcome_line one.outcome) all.written
-      ∙ flat_map_more outcome_line a all.outcomes one.outcome;
+  pending_are = rw (one.pending_are, all.pending_are, filter_map-append, append_assoc) refl;
+  written = rw (one.written, all.written) (flat_map_more outcome_line a all.outcomes one.outcome);
 }
-
-joined-published : (bs : List (List LoadValue)) (pending : List LoadValue) → joined (published bs pending) ≡ joined bs
-    ++ pending
-joined-published bs [] = sym (append-nil (joined bs))
-joined-published bs (l ∷ ls) = joined-append bs ((l ∷ ls) ∷ []) ∙ ap (λ xs. joined bs ++ xs) (append-nil (l ∷ ls))
 
 -- at most one load more is accepted for each
 few_accepted : (outcomes : List Outcome) → length (filter_map accepted_load outcomes) ≤ length outcomes
@@ -119,19 +111,15 @@ plays_one loaded {now} version {a} {b} c answers none all front shown empty most
       plays = record {
         outcomes = all.outcomes;
         loaded = all.each;
-        after_is = ap joined shown ∙ joined-published loaded.seen.batches loaded.pending
-            ∙ ap (λ xs. joined loaded.seen.batches ++ xs) (all.pending_are
-            ∙ ap (λ xs. xs ++ filter_map accepted_load all.outcomes) none)
-            ∙ ap (λ (f : SeenValue). joined f.batches ++ filter_map accepted_load all.outcomes) front;
+        after_is = rw (shown, joined-published, all.pending_are, none, front) refl;
         answers = answers;
         answered = answered;
         output_is = refl;
       };
       none_pending = empty;
       most = most;
-      written = d_is ∙ ap (λ xs. xs ++ answers)
-          (c_is ∙ ap (λ v. b ++ version_line v) is_version ∙ ap (λ xs. xs ++ version_is) all.written)
-          ∙ ap (λ xs. xs ++ answers) (append_assoc a lines version_is) ∙ append_assoc a (lines ++ version_is) answers;
+      written = rw (d_is, c_is, is_version, all.written) (ap (λ xs. xs ++ answers) (append_assoc a lines version_is)
+          ∙ append_assoc a (lines ++ version_is) answers);
     }
 
 -- one more round

@@ -1,6 +1,6 @@
 -- How a session ends.
 use Rattle.std.proofs.Common.{◌≡◌, ◌∙◌, refl, sym, ap, subst, ℕ, ◌+◌, ◌<◌, ◌≤◌, ◌⊎◌, Bool, true, false, List, [], ◌∷◌}
-use Rattle.std.proofs.Common.{◌++◌, length, arith, inl, inr, append_assoc, length-append, Option, Some, None, Err}
+use Rattle.std.proofs.Common.{◌++◌, length, arith, inl, inr, append_assoc, length-append, Option, Some, None}
 use Rattle.std.specs.List.{concat}
 use Rattle.std.specs.Io.KnownBytes.{Appends, Consumes}
 use Rattle.std.proofs.KnownBytes.{Appends-nil, Appends-trans}
@@ -11,10 +11,10 @@ use Rattle.devices.specs.Devices.{InputSeen, OutputSeen}
 use Rattle.devices.specs.Lines.{lines}
 use Rattle.devices.specs.Incoming.{MayCome}
 use Rattle.devices.proofs.Arriving.{both, consumes_both}
-use Rattle.script_text.specs.ScriptLoads.{JobValue}
-use Rattle.script_text.specs.Script.{QuestionValue, RoundValue, commands_from, script_of}
+use Rattle.script_text.specs.Script.{RoundValue, commands_from, script_of}
 use Rattle.script_text.specs.Texts.{most_script}
-use Rattle.script_text.specs.Gathering.{Gathered, both as bound, empty_round, going_on, onto_open}
+use Rattle.script_text.specs.Gathering.{Gathered, empty_round, going_on, onto_open}
+use Rattle.script_text.proofs.Parsing.{both_empty}
 use Rattle.script_text.specs.declared.fault.ScriptKind.{ScriptKind}
 use Rattle.script_text.specs.declared.fault.ScriptKind.TheVariants as kind
 use Rattle.catserve.specs.Rounds.{PlaysAll}
@@ -59,12 +59,9 @@ stops_so {i} {j} {k} {y} {front} {lost} a s =
       read = rw (append_assoc t.more s.got.more lost)
           (consumes_both i.left j.left k.left t.more (s.got.more ++ lost) t.read s.got.read);
       at_end = s.got.at_end (t.at_end (λ ended. both false ended refl));
-      whole = ap (λ xs. xs ++ s.got.more) t.whole ∙ append_assoc (concat front) y.input.left s.got.more
-          ∙ ap (λ xs. concat front ++ xs) (sym s.got.behind);
-      lines_are = λ more may. ap lines (append_assoc t.more s.got.more more)
-          ∙ t.cut (s.got.more ++ more) (s.got.may more may)
-          ∙ ap (λ xs. front ++ lines xs) (sym (append_assoc y.input.left s.got.more more)
-          ∙ ap (λ xs. xs ++ more) (sym s.got.behind));
+      whole = rw (t.whole, s.got.behind, append_assoc) refl;
+      lines_are = λ more may. rw (append_assoc t.more, t.cut (s.got.more ++ more) (s.got.may more may), s.got.behind)
+          (ap (λ xs. front ++ lines xs) (sym (append_assoc y.input.left s.got.more more)));
       workers = a.workers;
       rounds = a.rounds;
       ended_are = a.ended;
@@ -125,8 +122,7 @@ undecodable {z} {front} a h =
       raw = h.raw;
       behind = h.behind;
       begins = h.begins;
-      cut = λ more may. stops.lines_are more may ∙ ap (λ ls. front ++ ls) (h.cut more may)
-          ∙ sym (append_assoc front h.raw (lines (h.behind ++ more)));
+      cut = λ more may. rw (stops.lines_are more may, h.cut more may, append_assoc) refl;
       undecodable = h.undecodable;
     }
 
@@ -237,11 +233,8 @@ none_ends {given} {j} k {y} z {workers} kind line fresh c h b =
       stops = stops_so a h.stays;
       line_is = h.line_is ∙ a.number;
       bad = λ more may. let got = h.stays.got in
-          ap (λ xs. said given (lines xs)) (append_assoc a.taken.more got.more more)
-          ∙ said_all b c (got.more ++ more) (got.may more may)
-          ∙ ap (λ xs. going_on workers c.g (commands_from workers y.number 0 (lines xs)))
-          (sym (append_assoc y.input.left got.more more) ∙ ap (λ xs. xs ++ more) (sym got.behind))
-          ∙ ap (going_on workers c.g) (h.bad more may) ∙ ap Err (sym h.line_is);
+          rw (append_assoc a.taken.more, said_all b c (got.more ++ more) (got.may more may), h.line_is)
+          (ap (going_on workers c.g) (rw (got.behind, append_assoc) at (h.bad more may)));
     }) h
 
 -- what was read of lines that were taken off
@@ -264,14 +257,6 @@ taken_stays z t = record {
   size = refl;
 }
 
--- the open round, as one more `go` ends it
-open_last : (round : RoundValue) → bound round empty_round ≡ round
-open_last round =
-    let Loads : List JobValue → RoundValue = λ loads. record { loads = loads; questions = round.questions ++ [] } in
-    let Questions : List QuestionValue → RoundValue = λ questions. record
-    { loads = round.loads; questions = questions } in
-    ap Loads (append-nil round.loads) ∙ ap Questions (append-nil round.questions)
-
 -- some first bytes of the open round were written
 breaks_off : {given : Option ℕ} {first i j k : InputSeen} {o o' o'' : OutputSeen} {x y z : HearingValue} {workers : ℕ}
     {start talk : PlayerValue} → IsFresh workers start → (c : Conversing workers i j o o' x y start talk)
@@ -287,7 +272,7 @@ breaks_off {o'} {z} fresh c s h b =
       mid = o';
       stops = stops_so a s;
       lines = h.lines;
-      plays = rw (open_last c.g.current) (rw fresh.none_published at (plays_all played));
+      plays = rw (both_empty c.g.current) (rw fresh.none_published at (plays_all played));
       written = h.front;
     }
 
@@ -303,11 +288,7 @@ fails_so {given} {first} {k} {o} {o'} o'' {talk} why fresh c s h b =
     by_kind : (why : ScriptKind) → FailsToAnswer talk o' o'' why → (o'' ≡ o' → StopsEarly given first k o o'')
         → EndsFor given first k o o'' why 0
     by_kind kind.WriteFault h early = (breaks_off fresh c s h b, rw c.steady at h.failed, refl)
-    by_kind kind.NoPlace h early = (early h, refl)
-    by_kind kind.Closed h early = (early h, refl)
-    by_kind kind.Join h early = (early h, refl)
-    by_kind kind.Memory h early = (early h, refl)
-    by_kind _ h early = absurd h
+    by_kind _ h early = search
 
 -- the input has ended, and these are the rounds
 all_said : {given : Option ℕ} {first i j k : InputSeen} {o o' o'' : OutputSeen} {x y z : HearingValue}
@@ -322,8 +303,7 @@ all_said {first} {k} {y} {z} {workers} written fresh c h b plays appended =
     let text : List ℕ = a.taken.more ++ got.more in
     let none : MayCome z.input [] = λ ended. refl in
     let may : MayCome y.input got.more = subst (MayCome y.input) (append-nil got.more) (got.may [] none) in
-    let whole : text ≡ concat (b.front ++ c.lines) = stops.whole ∙ ap (λ xs. concat (b.front ++ c.lines) ++ xs) h.left
-    ∙ append-nil (concat (b.front ++ c.lines)) in
+    let whole : text ≡ concat (b.front ++ c.lines) = rw (h.left, append-nil) at stops.whole in
     record {
       text = text;
       read = subst (Consumes first.left k.left) (append-nil text) stops.read;
@@ -331,8 +311,7 @@ all_said {first} {k} {y} {z} {workers} written fresh c h b plays appended =
       utf8 = rw (whole, concat-append b.front c.lines) (IsUtf8-append (concat b.front) (concat c.lines) b.utf8
           c.heard.utf8);
       value = record { workers = workers; rounds = c.g.ended ++ onto_open c.g [] };
-      says = said_all b c got.more may
-          ∙ ap (λ xs. going_on workers c.g (commands_from workers y.number 0 (lines xs))) (sym got.behind ∙ h.left);
+      says = rw (← got.behind, h.left) at (said_all b c got.more may);
       output = written;
       plays = plays;
       written = appended;
@@ -376,11 +355,8 @@ stops_begun {x} b = stops_early (none_answered b.taken b.number b.size
 -- no player was opened, for this reason
 pub stops_unopened : {given : Option ℕ} {first i : InputSeen} (o : OutputSeen) {x : HearingValue} {workers : ℕ}
     → Begins given first i x workers → (why : ScriptKind) → IsPlayKind why → EndsFor given first i o o why 0
-stops_unopened o b kind.NoPlace h = (stops_begun b, refl)
-stops_unopened o b kind.Closed h = (stops_begun b, refl)
-stops_unopened o b kind.Join h = (stops_begun b, refl)
-stops_unopened o b kind.Memory h = (stops_begun b, refl)
-stops_unopened o b _ h = absurd h
+stops_unopened o b kind.ReadFault h = absurd h
+stops_unopened o b _ h = search (stops_begun {o = o} b)
 
 -- the number of workers is given
 abbrev pub begins_so : {i : InputSeen} {workers : ℕ} → Begins (Some workers) i i unheard workers

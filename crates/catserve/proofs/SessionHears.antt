@@ -57,15 +57,7 @@ none_then k workers z kind.TooLarge line a h = record {
   line_is = h.line_is ∙ a.number;
   over = rw (← a.number, ← a.size) h.over;
 }
-none_then k workers z kind.NotUtf8 line a h = record {
-  stays = stays_then a h.stays;
-  line_is = h.line_is ∙ a.number;
-  raw = h.raw;
-  behind = h.behind;
-  begins = h.begins;
-  cut = h.cut;
-  undecodable = h.undecodable;
-}
+none_then k workers z kind.NotUtf8 line a h = search (stays_then a h.stays, h.line_is ∙ a.number)
 none_then k workers z kind.BadLine line a h = record {
   stays = stays_then a h.stays;
   line_is = h.line_is ∙ a.number;
@@ -139,21 +131,14 @@ hears_said {x} {end} line {bytes} few is h =
 pub none_text : (i j : InputSeen) (workers : ℕ) (x y : HearingValue) {end : ℕ} (said : Line) (kind : ScriptKind)
     (line : ℕ) → EndsLine x.input 0 end → line_of workers (without_end (take end x.input.left)) ≡ Some said
     → HearsNoText i j x y end (text_lines said) kind line → HearsNone i j workers x y kind line
-none_text i j workers x y said kind.TooLarge line ends is h = h
-none_text i j workers x y said kind.NotUtf8 line ends is h = h
 none_text i j workers x y {end} said kind.BadLine line ends is (lacks, line_is) = record {
   stays = lacks.stays;
   line_is = line_is;
   bad = λ text may.
-      let none : text ≡ [] = may lacks.fewer.ended in
-      let Few : List ℕ → Type 0 = λ t. length (lines t) < text_lines said in
-      let few : Few (drop end y.input.left ++ text) = subst Few
-      (sym (append-nil (drop end y.input.left)) ∙ ap (λ t. drop end y.input.left ++ t) (sym none)) lacks.fewer.fewer in
+      let few : length (lines (drop end y.input.left ++ text)) < text_lines said =
+      rw (may lacks.fewer.ended, append-nil (drop end y.input.left)) lacks.fewer.fewer in
       let later : EndsLine y.input 0 end = line_later lacks.stays.got ends in
-      ap (λ ls. commands_from workers x.number 0 ls) (line_cut later text may
-      ∙ ap (λ l. l ∷ lines (drop end y.input.left ++ text)) (first_same lacks.stays.got ends))
-      ∙ bad_text workers x.number (take end x.input.left) said (drop end y.input.left ++ text) is few;
+      rw (line_cut later text may, first_same lacks.stays.got ends)
+      (bad_text workers x.number (take end x.input.left) said (drop end y.input.left ++ text) is few);
 }
-none_text i j workers x y said kind.ReadFault line ends is h = h
-none_text i j workers x y said kind.Memory line ends is h = h
-none_text i j workers x y said _ line ends is h = absurd h
+none_text i j workers x y said _ line ends is h = search

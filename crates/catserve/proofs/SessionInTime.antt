@@ -1,5 +1,5 @@
 -- What a session has answered when it waits.
-use Rattle.std.proofs.Common.{◌≡◌, ◌∙◌, refl, sym, ap, subst, ℕ, ◌-◌, ◌<◌, true, List, [], ◌∷◌, ◌++◌, length, take}
+use Rattle.std.proofs.Common.{◌≡◌, ◌∙◌, refl, sym, ap, ℕ, ◌-◌, ◌<◌, true, List, [], ◌∷◌, ◌++◌, length, take}
 use Rattle.std.proofs.Common.{drop, arith, inl, inr, append_assoc, Option, Some, None, Result, Ok}
 use Rattle.std.specs.List.{concat}
 use Rattle.std.proofs.Math.Seq.{take-add}
@@ -34,13 +34,7 @@ use Rattle.catserve.proofs.SessionWaits.{open_each, open_line, open_text, open_t
 -- what came is known
 pub open_known : {a b : Log} {workers : ℕ} {x : Incoming} {more : List ℕ} (reads : ReadsWhile a b (StillOpen workers x))
     → came reads.events ≡ more → ReadsOpen a b workers x more
-open_known reads known = record {
-  events = reads.events;
-  logged = reads.logged;
-  came_is = known;
-  silent = reads.silent;
-  each = reads.each;
-}
+open_known reads known = search
 
 abbrev pub reads_open : {a b : Log} {workers : ℕ} {x : Incoming} {more : List ℕ} → ReadsOpen a b workers x more
     → ReadsWhile a b (StillOpen workers x)
@@ -58,9 +52,8 @@ pub open_more : {i j : InputSeen} {workers : ℕ} {a b c : Log} {x y : Incoming}
 open_more {a} {b} {c} {x} {y} got waits reads = record {
   events = waits.events ++ reads.events;
   logged = grows_then a b c waits.events reads.events waits.logged reads.logged;
-  came_is = came_then waits.events reads.events ∙ ap (λ xs. xs ++ came reads.events) first
-      ∙ ap (λ xs. got.more ++ xs) reads.came_is;
-  silent = given_then waits.events reads.events ∙ ap (λ xs. xs ++ gave reads.events) waits.silent ∙ reads.silent;
+  came_is = rw (came_then, first, reads.came_is) refl;
+  silent = rw (given_then, waits.silent) reads.silent;
   each = open_each got.more got.may waits (reads_open reads);
 } where
   first : came waits.events ≡ got.more
@@ -178,25 +171,20 @@ reads_first : {given : Option ℕ} {a b c : Log} {text output : List ℕ} {worke
     (had : InTime given a b text output)
     → ((t g : List ℕ) → StillOpen workers y t g → IsAnswered given (text ++ t) (output ++ g))
     → (reads : ReadsWhile b c (StillOpen workers y)) → AnswersFirst (IsAnswered given) (had.events ++ reads.events)
-reads_first {given} {text} {workers} {y} had here reads =
-    let Here : List ℕ → List ℕ → Type 0 = λ xs ys. (t g : List ℕ) → StillOpen workers y t g
-    → IsAnswered given (xs ++ t) (ys ++ g) in
-    let at : Here (came had.events) (gave had.events) = subst (λ xs. Here xs (gave had.events)) (sym had.came_is)
-    (subst (λ ys. Here text ys) (sym had.given_is) here) in
+reads_first {given} {workers} {y} had here reads =
     answers_then (IsAnswered given) had.events reads.events had.first (answers_so (StillOpen workers y)
-    (λ t g. IsAnswered given (came had.events ++ t) (gave had.events ++ g)) reads.events at reads.each)
+    (λ t g. IsAnswered given (came had.events ++ t) (gave had.events ++ g)) reads.events
+    (rw (had.came_is, had.given_is) here) reads.each)
 
 pub reads_timely : {given : Option ℕ} {a b c : Log} {text output more : List ℕ} {workers : ℕ} {y : Incoming}
     → InTime given a b text output
     → ((t g : List ℕ) → StillOpen workers y t g → IsAnswered given (text ++ t) (output ++ g))
     → ReadsOpen b c workers y more → InTime given a c (text ++ more) output
-reads_timely {a} {b} {c} {text} had here reads = record {
+reads_timely {a} {b} {c} had here reads = record {
   events = had.events ++ reads.events;
   logged = grows_then a b c had.events reads.events had.logged reads.logged;
-  came_is = came_then had.events reads.events ∙ ap (λ xs. xs ++ came reads.events) had.came_is
-      ∙ ap (λ xs. text ++ xs) reads.came_is;
-  given_is = given_then had.events reads.events ∙ ap (λ xs. gave had.events ++ xs) reads.silent
-      ∙ append-nil (gave had.events) ∙ had.given_is;
+  came_is = rw (came_then, had.came_is, reads.came_is) refl;
+  given_is = rw (given_then, reads.silent, append-nil) had.given_is;
   first = reads_first had here (reads_open reads);
 }
 
@@ -206,8 +194,7 @@ gives_timely {given} {a} {b} {c} bytes had logged = record {
   events = had.events ++ Gave bytes ∷ [];
   logged = grows_then a b c had.events (Gave bytes ∷ []) had.logged logged;
   came_is = came_then had.events (Gave bytes ∷ []) ∙ append-nil (came had.events) ∙ had.came_is;
-  given_is = given_then had.events (Gave bytes ∷ []) ∙ ap (λ xs. gave had.events ++ xs) (append-nil bytes)
-      ∙ ap (λ xs. xs ++ bytes) had.given_is;
+  given_is = rw (given_then, had.given_is, append-nil bytes) refl;
   first = answers_then (IsAnswered given) had.events (Gave bytes ∷ []) had.first (answers_write
       (λ t g. IsAnswered given (came had.events ++ t) (gave had.events ++ g)) bytes);
 }
@@ -218,7 +205,7 @@ gives_last : {given : Option ℕ} {a : Log} (b : Log) {c : Log} (events : List E
     → AnswersFirst (IsAnswered given) events → GivesSome b c → AnswersInTime given a c
 gives_last {a} b {c} events logged first (inl none) = record {
   events = events;
-  logged = subst (Grows a c) (append-nil events) (grows_then a b c events [] logged none);
+  logged = rw append-nil at (grows_then a b c events [] logged none);
   first = first;
 }
 gives_last {given} {a} b {c} events logged first (inr (bytes, gave_it)) = record {
@@ -250,7 +237,7 @@ pub talks_none : {workers : ℕ} {i : InputSeen} {o : OutputSeen} {x : HearingVa
     → 0 < x.number → IsFresh workers start → TalksInTime workers i i o o x x start start log log
 talks_none {log} some fresh = (
   converses_none some fresh,
-  λ given first b before begun. subst (λ xs. InTime given before log xs []) (sym (append-nil b.taken.more)) begun,
+  λ given first b before begun. rw append-nil begun,
 )
 
 -- what is read for the next line is read in time
@@ -262,8 +249,7 @@ talks_here begun c fresh = is_answered (answered begun c fresh)
 
 moved : {given : Option ℕ} {a b c : Log} (front mid back : List ℕ) {output : List ℕ}
     → InTime given a b ((front ++ mid) ++ back) output → c ≡ b → InTime given a c (front ++ (mid ++ back)) output
-moved {given} {a} {b} front mid back {output} had same = subst (λ log. InTime given a log (front ++ (mid ++ back))
-    output) (sym same) (subst (λ xs. InTime given a b xs output) (append_assoc front mid back) had)
+moved front mid back had same = rw same (rw append_assoc at had)
 
 pub talks_more : {workers : ℕ} {i j k : InputSeen} {o o' o'' : OutputSeen} {x y z : HearingValue}
     {start old new : PlayerValue} {a b c d : Log} (command : Option Command)
@@ -320,12 +306,12 @@ passes_none = (passed_none, begins_timely)
 
 -- one line more was waited for
 pub passed_timely : {i j k : InputSeen} {y z : HearingValue} {front : List (List ℕ)} {a b c : Log}
-    (passed : HasPassed i j unheard y front) → InTime None a b passed.taken.more [] → (stays : Stays j k y z [])
-    → Waits b c y.input z.input [] (StillWaits y.input 0) → InTime None a c (passed.taken.more ++ stays.got.more) []
-passed_timely passed timely stays waits = reads_timely timely (passed_here passed) (line_reads stays.got waits)
+    (p : PassesInTime i j y front a b) (stays : Stays j k y z [])
+    → Waits b c y.input z.input [] (StillWaits y.input 0) → InTime None a c (p.0.taken.more ++ stays.got.more) []
+passed_timely p stays waits = reads_timely p.1 (passed_here p.0) (line_reads stays.got waits)
 
 -- it didn't come
 pub passed_last : {i j : InputSeen} {y : HearingValue} {z : Incoming} {front : List (List ℕ)} {lost : List ℕ}
-    {a b c : Log} (passed : HasPassed i j unheard y front) → InTime None a b passed.taken.more []
-    → Waits b c y.input z lost (StillWaits y.input 0) → AnswersInTime None a c
-passed_last {c} passed timely waits = ends_timely timely (passed_here passed) (open_line waits) (gives_none c)
+    {a b c : Log} → PassesInTime i j y front a b → Waits b c y.input z lost (StillWaits y.input 0)
+    → AnswersInTime None a c
+passed_last {c} p waits = ends_timely p.1 (passed_here p.0) (open_line waits) (gives_none c)

@@ -77,8 +77,7 @@ passed_more {x} {z} {front} {end} passed stays ends utf8 blank =
     let more = one_more passed stays ends utf8 in
     record {
       taken = more.0;
-      passes = λ behind. ap (λ ls. script_from x.number ls) (append_assoc front (line ∷ []) behind)
-          ∙ passed.passes (line ∷ behind) ∙ rw blank (ap (λ n. script_from (n + 1) behind) (sym stays.number));
+      passes = λ behind. rw (append_assoc front, passed.passes (line ∷ behind), blank, stays.number) refl;
       number = more.1;
       size = more.2;
       utf8 = more.3;
@@ -96,9 +95,7 @@ begins_given {z} {front} {end} {workers} passed stays ends utf8 other is =
     record {
       front = front ++ line ∷ [];
       taken = more.0;
-      going = λ behind follows. ap (λ ls. script_from 1 ls) (append_assoc front (line ∷ []) behind)
-          ∙ passed.passes (line ∷ behind)
-          ∙ rw (other, is) (ap (λ n. script_of workers (commands_from workers (n + 1) 0 behind)) (sym stays.number));
+      going = λ behind follows. rw (append_assoc front, passed.passes (line ∷ behind), other, is, stays.number) refl;
       number = omega (arith, more.1);
       size = omega (arith, more.2);
       utf8 = more.3;
@@ -124,10 +121,7 @@ first_other : (number : ℕ) (line : List ℕ) (behind rest : List (List ℕ)) �
     → script_from number behind ≡ script_of 2 (commands_from 2 number 0 behind)
 first_other number line [] rest other none alike = absurd alike
 first_other number line (l ∷ behind) rest other none alike =
-    let blank : is_blank (without_end l) ≡ false = ap (λ l. is_blank (without_end l)) alike ∙ other in
-    let no : workers_line (fields (without_end l)) ≡ None = ap (λ l. workers_line (fields (without_end l))) alike
-    ∙ none in
-    rw (blank, no, blank) refl
+    rw (alike, other, none, other) refl
 
 pub begins_first : (number : ℕ) {input : Incoming} {end : ℕ} (behind : List (List ℕ)) → EndsLine input 0 end
     → is_blank (without_end (take end input.left)) ≡ false
@@ -149,14 +143,8 @@ begins_other {z} passed stays ends other none = begins_two passed stays
 pub ended_first : (number : ℕ) (input : Incoming) (behind : List (List ℕ)) → input.left ≡ [] → input.ended ≡ true
     → Follows input behind → script_from number behind ≡ script_of 2 (commands_from 2 number 0 behind)
 ended_first number input behind none ended (inl alone) = rw alone refl
-ended_first number input behind none ended (inr (text, may, alike)) =
-    let nothing : input.left ++ text ≡ [] = ap (λ xs. xs ++ text) none ∙ may ended in
-    nothing_follows behind (subst (λ ls. BeginAlike behind (lines ls)) nothing alike)
-  where
-    nothing_follows : (behind : List (List ℕ)) → BeginAlike behind [] → script_from number behind
-        ≡ script_of 2 (commands_from 2 number 0 behind)
-    nothing_follows [] alike = refl
-    nothing_follows (l ∷ ls) alike = absurd alike
+ended_first number input [] none ended (inr follows) = refl
+ended_first number input (l ∷ ls) none ended (inr (text, may, alike)) = absurd (rw (none, may ended) at alike)
 
 abbrev pub begins_ended : {i j k : InputSeen} {y z : HearingValue} {front : List (List ℕ)}
     → HasPassed i j unheard y front → Stays j k y z [] → z.input.left ≡ [] → z.input.ended ≡ true → Begins None i k z 2

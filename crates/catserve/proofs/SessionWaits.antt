@@ -1,5 +1,5 @@
 -- When a session waits.
-use Rattle.std.proofs.Common.{◌≡◌, ◌∙◌, refl, sym, ap, subst, ℕ, false, List, [], ◌∷◌, ◌++◌, length, arith, take, inl}
+use Rattle.std.proofs.Common.{◌≡◌, ◌∙◌, refl, ap, ℕ, false, List, [], ◌∷◌, ◌++◌, length, arith, take, inl}
 use Rattle.std.proofs.Common.{inr, append_assoc, length-append, Some}
 use Rattle.std.proofs.lemmas.Bool.{cases_Bool}
 use Rattle.std.proofs.lemmas.List.{append-nil, take-append-le}
@@ -12,7 +12,7 @@ use Rattle.devices.proofs.Arriving.{both}
 use Rattle.devices.proofs.LineCounting.{ends_grown, ends_more, ends_none}
 use Rattle.script_text.specs.Commands.{Line, Loads, line_of}
 use Rattle.script_text.specs.CommandValues.{text_lines}
-use Rattle.catserve.specs.Session.{IsOpen, coming}
+use Rattle.catserve.specs.Session.{coming}
 use Rattle.catserve.specs.Timing.{StillOpen}
 
 pub reads_none : {log : Log} {Still : List ℕ → List ℕ → Type 0} → ReadsWhile log log Still
@@ -92,8 +92,7 @@ open_each {workers} {x} {y} more may waits reads = answers_then (StillOpen worke
         → StillOpen workers x (came waits.events ++ t) (given waits.events ++ g)
     still t g was = record {
       going = going_before x more (λ text. may text (λ ended. both y.ended ended was.going));
-      is_open = subst (IsOpen workers) (sym (sym (append_assoc x.left (came waits.events) t) ∙ ap (λ xs. xs ++ t) here))
-          was.is_open;
+      is_open = rw (← append_assoc x.left (came waits.events) t, here) was.is_open;
       silent = ap (λ h. h ++ g) waits.silent ∙ was.silent;
     }
 
@@ -103,6 +102,6 @@ pub open_then : {workers : ℕ} {a b c : Log} {x y : Incoming} (more : List ℕ)
 open_then {a} {b} {c} more may waits reads = record {
   events = waits.events ++ reads.events;
   logged = grows_then a b c waits.events reads.events waits.logged reads.logged;
-  silent = given_then waits.events reads.events ∙ ap (λ g. g ++ given reads.events) waits.silent ∙ reads.silent;
+  silent = rw (given_then, waits.silent) reads.silent;
   each = open_each more may waits reads;
 }

@@ -1,6 +1,6 @@
 -- A text has an output or a fault: it leads to ⊥ that it has neither.
-use Rattle.std.proofs.Common.{◌≡◌, ℕ, zero, suc, ◌+◌, ◌<◌, Bool, true, false, cond, List, [], ◌∷◌, ◌++◌, length, Option}
-use Rattle.std.proofs.Common.{Some, map, find, None, Result, Ok, Err, refl, arith, inl, inr}
+use Rattle.std.proofs.Common.{◌≡◌, ℕ, zero, suc, ◌+◌, ◌<◌, Bool, List, [], ◌∷◌, ◌++◌, length, Option}
+use Rattle.std.proofs.Common.{Some, map, None, Result, Ok, Err, refl, arith, inl, inr}
 use Rattle.std.specs.Prelude.{nat_lt}
 use Rattle.std.specs.List.{AllByRecursion, AllZip, filter, filter_map, flat_map, last_or}
 use Rattle.std.proofs.lemmas.Bool.{cases_Bool, cases_lt, ltb-true}
@@ -16,7 +16,6 @@ use Rattle.live_set.specs.Loads.{LoadValue, map_of, map_or_empty, is_for}
 use Rattle.live_set.specs.Asks.{AskValue, Plain, Context, Number, ContextNumber, QueryValue, HasValue, IsAnswer}
 use Rattle.live_set.specs.Asks.{answering, first_with, has_key, key_of}
 use Rattle.live_set.specs.Languages.{named}
-use Rattle.std.specs.Option.{option_map_or}
 use Rattle.script_text.specs.ScriptLoads.{JobValue}
 use Rattle.script_text.specs.Script.{QuestionValue, RoundValue, ScriptValue, queries_for, script}
 use Rattle.catserve.specs.Output.{answer_line, version_line}
@@ -44,14 +43,10 @@ formed_append (x ∷ xs) ys h k = (h.0, formed_append xs ys h.1 k)
 last_formed : (o : Option LoadValue) (p : LoadValue → Bool) (loads : List LoadValue) → IsFormed (map_or_empty o)
     → AreFormed loads → IsFormed (map_or_empty (last_or o (filter p loads)))
 last_formed o p [] h all = h
-last_formed o p (l ∷ loads) h all = step (p l) (last_formed o p loads h all.1)
-    (last_formed (Some l) p loads all.0 all.1)
-  where
-    step : (b : Bool) → IsFormed (map_or_empty (last_or o (filter p loads)))
-        → IsFormed (map_or_empty (last_or (Some l) (filter p loads)))
-        → IsFormed (map_or_empty (last_or o (cond b (l ∷ filter p loads) (filter p loads))))
-    step true without with = with
-    step false without with = without
+last_formed o p (l ∷ loads) h all = elim (cases_Bool (p l)) [
+  | inl with ↦ rw with (last_formed (Some l) p loads all.0 all.1)
+  | inr without ↦ rw without (last_formed o p loads h all.1)
+]
 
 map_formed : (loads : List LoadValue) (domain locale : List ℕ) → AreFormed loads → IsFormed (map_of loads domain locale)
 map_formed loads domain locale all = last_formed None (is_for domain locale) loads
@@ -60,12 +55,10 @@ map_formed loads domain locale all = last_formed None (is_for domain locale) loa
 first_formed : (key : List ℕ) (maps : List ℕ → List Entry) (locales : List (List ℕ))
     → ((locale : List ℕ) → IsFormed (maps locale)) → IsFormed (first_with key (map maps locales))
 first_formed key maps [] each = λ e has. absurd (omega (arith, has.1))
-first_formed key maps (l ∷ ls) each = step (has_key key (maps l)) (first_formed key maps ls each)
-  where
-    step : (b : Bool) → IsFormed (first_with key (map maps ls))
-        → IsFormed (option_map_or (λ m. m) (cond b (Some (maps l)) (find (has_key key) (map maps ls))) [])
-    step true rest = each l
-    step false rest = rest
+first_formed key maps (l ∷ ls) each = elim (cases_Bool (has_key key (maps l))) [
+  | inl has ↦ rw has (each l)
+  | inr lacks ↦ rw lacks (first_formed key maps ls each)
+]
 
 -- ---- answers
 
@@ -134,11 +127,10 @@ outcome_some l none =
 accepted_formed : (ls : List JobValue) (os : List Outcome) → AllZip IsOutcome ls os
     → AreFormed (filter_map accepted_load os)
 accepted_formed [] [] all = tt
-accepted_formed [] (o ∷ os) all = absurd all
-accepted_formed (l ∷ ls) [] all = absurd all
 accepted_formed (l ∷ ls) (Accepted load answer ∷ os) (is, all) =
     (brings_formed l.source answer load.map is.1, accepted_formed ls os all)
 accepted_formed (l ∷ ls) (_ ∷ os) all = accepted_formed ls os all.1
+accepted_formed _ _ all = absurd all
 
 -- ---- rounds
 

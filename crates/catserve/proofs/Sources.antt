@@ -30,12 +30,9 @@ brings_one (Po text options) (accepted.Po stats) (accepted.Po other) m n (c, mea
       ap accepted.Po (is ∙ ap (λ (k : Compiled). k.stats) same ∙ sym is'),
       map_is ∙ ap (λ (k : Compiled). k.catalogue) same ∙ sym map_is',
     )
-brings_one (Po text options) (accepted.Po stats) (accepted.Mo entries) m n h k = absurd k
-brings_one (Po text options) (accepted.Mo entries) b m n h k = absurd h
-brings_one (Mo bytes) (accepted.Po stats) b m n h k = absurd h
-brings_one (Mo bytes) (accepted.Mo entries) (accepted.Po stats) m n h k = absurd k
 brings_one (Mo bytes) (accepted.Mo entries) (accepted.Mo others) m n (mo, is) (also, is') =
     let same : m ≡ n = unique_map bytes m n mo also in (ap accepted.Mo (is ∙ ap length same ∙ sym is'), same)
+brings_one _ _ _ m n h k = absurd (search)
 
 pub fault_one : (s : SourceValue) (f g : StoreFault) → IsSourceFault s f → IsSourceFault s g → f ≡ g
 fault_one (Po text options) = text_fault_one text options
@@ -44,9 +41,8 @@ fault_one (Mo bytes) = file_fault_one bytes
 pub no_fault : (s : SourceValue) (a : job.Accepted) (m : List Entry) (f : StoreFault) → Brings s a m
     → IsSourceFault s f → ⊥
 no_fault (Po text options) (accepted.Po stats) m f (c, means, is, map_is) k = no_text_fault text options c means f k
-no_fault (Po text options) (accepted.Mo entries) m f h k = h
-no_fault (Mo bytes) (accepted.Po stats) m f h k = h
 no_fault (Mo bytes) (accepted.Mo entries) m f h k = no_file_fault bytes m h.0 f k
+no_fault _ _ m f h k = h
 
 -- ---- a map or a fault
 
@@ -74,6 +70,5 @@ lawful_formed (x ∷ m) all e (suc k, within, is) = lawful_formed m all.1 e (k, 
 pub brings_formed : (s : SourceValue) (a : job.Accepted) (m : List Entry) → Brings s a m → IsFormed m
 brings_formed (Po text options) (accepted.Po stats) m (c, means, is, map_is) =
     subst IsFormed (sym map_is) (means_formed text options c means)
-brings_formed (Po text options) (accepted.Mo entries) m h = absurd h
-brings_formed (Mo bytes) (accepted.Po stats) m h = absurd h
 brings_formed (Mo bytes) (accepted.Mo entries) m h = lawful_formed m h.0.lawful.each
+brings_formed _ _ m h = absurd h

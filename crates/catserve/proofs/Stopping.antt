@@ -9,12 +9,5 @@ use Rattle.catserve.specs.Running.{EndsPlaying}
 -- a text that was read whole gave no output
 pub run_fails : {i i' : InputSeen} (o o' : OutputSeen) {text : List ℕ} (k : ScriptKind) (line : ℕ)
     → ReadsText i i' text → EndsPlaying text k line → o' ≡ o → Fails i i' o o' k line
-run_fails o o' {text} kind.TooLarge line read h same =
-    record { text = text; read = read; refused = h; unwritten = same }
-run_fails o o' {text} kind.NotUtf8 line read h same = record { text = text; read = read; refused = h; unwritten = same }
-run_fails o o' {text} kind.BadLine line read h same = record { text = text; read = read; refused = h; unwritten = same }
-run_fails o o' kind.ReadFault line read h same = absurd h
-run_fails o o' kind.WriteFault line read h same = absurd h
 run_fails o o' kind.Memory line read h same = (same, h)
-run_fails o o' {text} _ line read h same =
-    (record { text = text; read = read; value = h.0.0; is = h.0.1; unwritten = same }, h.1)
+run_fails o o' _ line read h same = search

@@ -1,26 +1,18 @@
 -- Texts that are written with escapes.
-use Rattle.std.proofs.Common.{◌≡◌, ◌∙◌, refl, sym, ap, ℕ, suc, ◌+◌, ◌<◌, ◌||◌, if◌then◌else◌, Bool, true, false}
-use Rattle.std.proofs.Common.{eqb, List, [], ◌∷◌, ◌++◌, length, get_or, take, drop, ◌-◌, add-one, drop-cons}
+use Rattle.std.proofs.Common.{◌≡◌, ◌∙◌, refl, sym, ap, ℕ, suc, ◌+◌, ◌<◌, if◌then◌else◌, true}
+use Rattle.std.proofs.Common.{List, [], ◌∷◌, ◌++◌, length, get_or, take, drop, ◌-◌, add-one, drop-cons}
 use Rattle.std.proofs.Common.{length-take, Some, None, Result, Ok, Err, OnOk, arith, append_assoc}
 use Rattle.std.specs.Result.{is_ok}
-use Rattle.std.proofs.lemmas.List.{take_rest, take-append-drop}
+use Rattle.std.proofs.lemmas.List.{get_or-take, take_rest, take-append-drop}
 use Rattle.std.proofs.lemmas.List.Concat.{flat_map-append}
 use Rattle.bstr.specs.Bytes.{is_in}
 use Rattle.bstr.specs.Find.{IsFirstByte}
 use Rattle.catserve.specs.Output.{escape, escaped}
-use Rattle.script_text.proofs.Cutting.{cut_get}
 
 -- a byte that needs no escape
 escape-plain : (b : ℕ) → (is_in (10 ∷ 9 ∷ 92 ∷ []) b ≡ true → ⊥) → escape b ≡ b ∷ []
 unfolding is_in
-escape-plain b none = of_tests (eqb b 10) (eqb b 9) (eqb b 92) none
-  where
-    of_tests : (x y z : Bool) → ((x || (y || (z || false))) ≡ true → ⊥) → if x then 92 ∷ 110 ∷ [] else if y then 92
-        ∷ 116 ∷ [] else if z then 92 ∷ 92 ∷ [] else b ∷ [] ≡ b ∷ []
-    of_tests true y z none = absurd (none refl)
-    of_tests false true z none = absurd (none refl)
-    of_tests false false true none = absurd (none refl)
-    of_tests false false false none = refl
+escape-plain b none = grind (arith, none)
 
 -- bytes that need none are written as they are
 escaped-plain : (run : List ℕ) → ((k : ℕ) → k < length run → is_in (10 ∷ 9 ∷ 92 ∷ []) (get_or run k 0) ≡ true → ⊥)
@@ -37,8 +29,9 @@ escaped-at : (rest : List ℕ) (at : ℕ) → IsFirstByte (is_in (10 ∷ 9 ∷ 9
 escaped-at rest at found =
     let lt : at < length rest = found.0.high in
     let run = take at rest in
-    let plain : escaped run ≡ run = escaped-plain run (λ k below. rw (cut_get at rest k below)
-    (found.0.before k (omega arith) (omega (arith, length-take at rest, below)))) in
+    let plain : escaped run ≡ run = escaped-plain run (λ k below.
+    let before : k < at = omega (arith, length-take at rest) in
+    rw (get_or-take at rest k 0 before) (found.0.before k (omega arith) before)) in
     let next : drop at rest ≡ get_or rest at 0 ∷ drop (at + 1) rest = rw add-one (drop-cons rest at 0 lt) in
     ap escaped (sym (take-append-drop at rest)) ∙ flat_map-append escape run (drop at rest)
     ∙ ap (λ front. front ++ escaped (drop at rest)) plain ∙ ap (λ behind. run ++ escaped behind) next
@@ -58,11 +51,3 @@ pub writes_all : {E : Type 0} (whole out with_run rest : List ℕ) (r : Result (
 writes_all whole out with_run rest (Ok x) h none e = e ∙ ap (λ zs. out ++ zs)
     (sym (escaped-plain rest (λ k lt. none k (omega arith) lt))) ∙ h
 writes_all whole out with_run rest (Err x) h none e = tt
-
--- ---- lines of fields
-
-pub two_fields : (a b : List ℕ) → a ++ 9 ∷ (b ++ 10 ∷ []) ≡ (a ++ 9 ∷ b) ++ 10 ∷ []
-two_fields a b = sym (append_assoc a (9 ∷ b) (10 ∷ []))
-
-pub three_fields : (a b d : List ℕ) → a ++ 9 ∷ (b ++ 9 ∷ (d ++ 10 ∷ [])) ≡ (a ++ 9 ∷ (b ++ 9 ∷ d)) ++ 10 ∷ []
-three_fields a b d = ap (λ xs. a ++ 9 ∷ xs) (two_fields b d) ∙ two_fields a (b ++ 9 ∷ d)

@@ -28,8 +28,7 @@ preamble-preserved g c =
     let is = rw c.in-Blank.is at (rw left at c.read_preamble_line.ensures) in
     let front = c.preamble.invariant.0 in
     let line = take c.in-Some.end c.next_end.new.self.input.left in
-    let timely = passed_timely c.preamble.invariant.1.0 c.preamble.invariant.1.1 c.in_ok-end.ensures.found.stays
-    c.in_ok-end.ensures.waits in (
+    let timely = passed_timely c.preamble.invariant.1 c.in_ok-end.ensures.found.stays c.in_ok-end.ensures.waits in (
       front ++ line ∷ [],
       rw c.take.ensures (passed_more passed c.in_ok-end.ensures.found.stays found.0 is.0 is.1, timely),
       c.in_ok-end.ensures.keeps ∙ c.preamble.invariant.2,
@@ -41,8 +40,7 @@ returns-in-Workers-clause-begins g c =
     let found = rw c.in-Some.is at c.in_ok-end.ensures.found.line in
     let left = c.left.ensures ∙ ap (λ (x : HearingValue). x.input.left) c.self.view_is in
     let is = rw c.in-Workers.is at (rw left at c.read_preamble_line.ensures) in
-    let timely = passed_timely c.preamble.invariant.1.0 c.preamble.invariant.1.1 c.in_ok-end.ensures.found.stays
-    c.in_ok-end.ensures.waits in
+    let timely = passed_timely c.preamble.invariant.1 c.in_ok-end.ensures.found.stays c.in_ok-end.ensures.waits in
     rw c.take-in-Workers.ensures (begins_given passed c.in_ok-end.ensures.found.stays found.0 is.0 is.1 is.2, timely)
 
 pub returns-in-Other-clause-begins : goal.returns-in-Other-clause-begins
@@ -51,30 +49,26 @@ returns-in-Other-clause-begins g c =
     let found = rw c.in-Some.is at c.in_ok-end.ensures.found.line in
     let left = c.left.ensures ∙ ap (λ (x : HearingValue). x.input.left) c.self.view_is in
     let is = rw c.in-Other.is at (rw left at c.read_preamble_line.ensures) in
-    let timely = passed_timely c.preamble.invariant.1.0 c.preamble.invariant.1.1 c.in_ok-end.ensures.found.stays
-    c.in_ok-end.ensures.waits in (begins_other passed c.in_ok-end.ensures.found.stays found.0 is.1 is.2, timely)
+    let timely = passed_timely c.preamble.invariant.1 c.in_ok-end.ensures.found.stays c.in_ok-end.ensures.waits in
+    (begins_other passed c.in_ok-end.ensures.found.stays found.0 is.1 is.2, timely)
 
 pub returns-clause-begins : goal.returns-clause-begins
 returns-clause-begins g c =
     let found = c.in_ok-end.ensures.found in
     let none = rw c.in_default.is at found.none in
-    let timely = passed_timely c.preamble.invariant.1.0 c.preamble.invariant.1.1 c.in_ok-end.ensures.found.stays
-    c.in_ok-end.ensures.waits in (
+    let timely = passed_timely c.preamble.invariant.1 c.in_ok-end.ensures.found.stays c.in_ok-end.ensures.waits in (
       begins_ended c.preamble.invariant.1.0 found.stays (nil_from_length c.next_end.new.self.input.left none.1) none.0,
       timely,
     )
 
 pub returns-in_err-end-clause-in_time : goal.returns-in_err-end-clause-in_time
 returns-in_err-end-clause-in_time g c =
-    let waits = c.in_err-end.ensures.waits in
     let p = err_from_is_err_and c.from_residual.result c.from_residual.ensures.1 in
-    rw (p.1) (passed_last c.preamble.invariant.1.0 c.preamble.invariant.1.1 waits.1)
+    rw (p.1) (passed_last c.preamble.invariant.1 c.in_err-end.ensures.waits.1)
 
 pub returns-in-NotUtf8-clause-in_time : goal.returns-in-NotUtf8-clause-in_time
 returns-in-NotUtf8-clause-in_time g c =
-    let timely = passed_timely c.preamble.invariant.1.0 c.preamble.invariant.1.1 c.in_ok-end.ensures.found.stays
-    c.in_ok-end.ensures.waits in
-    ends_at timely
+    ends_at (passed_timely c.preamble.invariant.1 c.in_ok-end.ensures.found.stays c.in_ok-end.ensures.waits)
 
 pub preamble-init : goal.preamble-init
 preamble-init g c = ([], rw c.requires (passes_none), refl)
