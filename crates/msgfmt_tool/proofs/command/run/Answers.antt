@@ -1,4 +1,4 @@
-use Rattle.std.proofs.Common.{◌∙◌, ap, map, string_bytes, subst}
+use Rattle.std.proofs.Common.{◌∙◌, ap, map, rules, string_bytes, subst}
 use Rattle.msgfmt_tool.specs.Requests.{asked_in}
 use Rattle.msgfmt_tool.specs.Runs.{change, files_seen, input_seen, output_seen}
 use Rattle.msgfmt_tool.specs.Words.{AreTaken, asked}
@@ -18,3 +18,6 @@ returns-in-Ok g c =
     (map string_bytes c.args.words.items) (subst (λ ws. AreTaken ws) words-is c.in-Ok.ensures.taken)
     (asked_in c.in-Ok.request) (c.in-Ok.ensures.asked ∙ ap asked words-is) c.work-done.result c.end.result
     c.work-done.ensures c.end.ensures.tells
+
+pub returns : goal.returns
+returns g c = search rules
