@@ -12,4 +12,5 @@ returns-in_ok-line-in-Err-Refused c =
     let number = decimal c.rank_of-number.result in
     let is = rw c.in-Err-Refused.is at c.in-Err-Refused.field-0-is in
     rw (c.in-Err-Refused.is, is, ← c.rank_of-number.ensures) (c.in_ok-line-in-Err-Refused.ensures.ok
-    ∙ ap (λ xs. codes "refused" ++ 9 ∷ xs) (sym (append_assoc number (9 ∷ decimal c.in-Err-Refused.fault.line) (10 ∷ []))))
+    ∙ ap (λ xs. codes "refused" ++ 9 ∷ xs)
+    (sym (append_assoc number (9 ∷ decimal c.in-Err-Refused.fault.line) (10 ∷ []))))
