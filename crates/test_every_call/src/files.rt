@@ -19,8 +19,17 @@ const EMPTY: &[u8] = b"\xde\x12\x04\x95\0\0\0\0\0\0\0\0\x1c\0\0\0\x1c\0\0\0\0\0\
 const KOI8: &[u8] = b"\xde\x12\x04\x95\0\0\0\0\x01\0\0\0\x1c\0\0\0\x24\0\0\0\0\0\0\0\x2c\0\0\0\
     \0\0\0\0\x2c\0\0\0\x0e\0\0\0\x2d\0\0\0\0charset=KOI8-R\0";
 
+/// Files: a label, whether `check` is called with it, too, the bytes, and how many of these are the file.
+const FILES: &[(&str, bool, &[u8], usize)] = &[
+    ("two messages", true, &SWAPPED, 78),
+    ("nothing", false, EMPTY, 28),
+    ("an unknown charset", true, KOI8, 60),
+    ("without the last byte", false, &SWAPPED, 77),
+    ("27 bytes", false, &SWAPPED, 27),
+];
+
 /// Changes to `SWAPPED`: a label, the offset, and the bytes to put there.
-const CHANGES: [(&str, usize, &[u8]); 6] = [
+const CHANGES: &[(&str, usize, &[u8])] = &[
     ("a wrong revision", 7, b"\x01"),
     ("no magic number", 0, b"\xff"),
     ("a string that isn't closed", 74, b"c"),
@@ -71,17 +80,13 @@ fn changed(at: usize, bytes: &[u8]) -> [u8; 78] {
 
 /// The groups `read_mo` and `check`.
 pub fn read_all<R: Print + AllocGlobal>(rt: &R, word: &str) -> io::Result<()> {
-    read_one(rt, word, "two messages", &SWAPPED)?;
-    if word == "read_mo" {
-        read_one(rt, word, "nothing", EMPTY)?;
-    }
-    read_one(rt, word, "an unknown charset", KOI8)?;
-    if word == "read_mo" {
-        read_one(rt, word, "without the last byte", &SWAPPED[..77])?;
-        read_one(rt, word, "27 bytes", &SWAPPED[..27])?;
+    for (label, checked, bytes, len) in FILES {
+        if *checked || word == "read_mo" {
+            read_one(rt, word, label, bytes.get(..*len).unwrap_or(bytes))?;
+        }
     }
     for (label, at, bytes) in CHANGES {
-        read_one(rt, word, label, &changed(at, bytes))?;
+        read_one(rt, word, label, &changed(*at, bytes))?;
     }
     Ok(())
 }

@@ -2,7 +2,7 @@
 use c_signature::signature;
 use std::io;
 
-const FORMATS: [&str; 12] = [
+const FORMATS: &[&str] = &[
     "%d of %s",
     "%2$s / %1$d",
     "%u of %s",
@@ -17,11 +17,16 @@ const FORMATS: [&str; 12] = [
     "%<b>",
 ];
 
+/// Lists the arguments of a format, and prints the result.
+fn list<R: Print + AllocGlobal>(rt: &R, text: &str) -> io::Result<()> {
+    let answer = signature(rt.alloc(), text);
+    println!(rt; "signature, {text}, gives {answer:?}")
+}
+
 /// The group `signature`.
 pub fn list_all<R: Print + AllocGlobal>(rt: &R) -> io::Result<()> {
     for text in FORMATS {
-        let answer = signature(rt.alloc(), text);
-        println!(rt; "signature, {text}, gives {answer:?}")?;
+        list(rt, text)?;
     }
     Ok(())
 }

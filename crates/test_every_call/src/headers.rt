@@ -3,7 +3,7 @@ use crate::printing::word_of;
 use po_header::{PluralExpr, RuleRead, parse_expr, read_rule};
 use std::{io, str};
 
-const EXPRESSIONS: [&str; 15] = [
+const EXPRESSIONS: &[&str] = &[
     "n==",
     "18446744073709551615",
     "18446744073709551616",
@@ -21,7 +21,7 @@ const EXPRESSIONS: [&str; 15] = [
     "n==1 ? 0 : n%10>=2 && n%10<=4 && (n%100<10 || n%100>=20) ? 1 : 2;",
 ];
 
-const RULES: [&str; 6] = [
+const RULES: &[&str] = &[
     "nplurals=2 plural=n>1",
     "Plural-Forms: nplurals=2;",
     "nplurals=;plural=n",
@@ -48,6 +48,11 @@ fn parse<R: Print + AllocGlobal>(rt: &R, label: &str, text: &str) -> io::Result<
     }
 }
 
+/// Parses an expression that is given as bytes.
+fn parse_bytes<R: Print + AllocGlobal>(rt: &R, label: &str, bytes: &[u8]) -> io::Result<()> {
+    parse(rt, label, str::from_utf8(bytes).unwrap_or(""))
+}
+
 /// The group `parse_expr`.
 pub fn parse_all<R: Print + AllocGlobal>(rt: &R) -> io::Result<()> {
     for text in EXPRESSIONS {
@@ -55,13 +60,8 @@ pub fn parse_all<R: Print + AllocGlobal>(rt: &R) -> io::Result<()> {
     }
     let mut spaces = [b' '; 1001];
     spaces[0] = b'n';
-    if let Ok(text) = str::from_utf8(&spaces[..1000]) {
-        parse(rt, "n and 999 spaces", text)?;
-    }
-    if let Ok(text) = str::from_utf8(&spaces) {
-        parse(rt, "n and 1000 spaces", text)?;
-    }
-    Ok(())
+    parse_bytes(rt, "n and 999 spaces", &spaces[..1000])?;
+    parse_bytes(rt, "n and 1000 spaces", &spaces)
 }
 
 /// Prints the plural forms that a rule gives some numbers.

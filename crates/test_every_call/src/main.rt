@@ -6,6 +6,7 @@
 //! An argument names the group of calls to make; without one it makes all of them.
 #![tactic(auto)]
 
+mod calls;
 mod files;
 mod formats;
 mod headers;
@@ -23,7 +24,7 @@ use std::thread::Threads;
 use std::{env, io};
 
 /// The arguments, in the order in which all calls are made.
-const WORDS: [&str; 20] = [
+const WORDS: &[&str] = &[
     "read_po",
     "parse_expr",
     "read_rule",
@@ -61,23 +62,27 @@ fn call<R: Threads + Wait + Print + AllocGlobal + Sync>(rt: &R, word: &str) -> i
         "name" => sets::name_all(rt),
         "absorb" => sets::absorb_all(rt),
         "try_clone" => sets::clone_all(rt),
-        "serve" => opened::serve_all(rt),
-        "open_store" | "publish" | "ask" | "store_rows" | "serve_rows" => {
+        "open_store" | "publish" | "ask" | "serve" | "store_rows" | "serve_rows" => {
             opened::open_all(rt, word)
         }
         _ => println!(rt; "no calls have this name"),
     }
 }
 
+/// Makes the calls of all groups.
+fn call_all<R: Threads + Wait + Print + AllocGlobal + Sync>(rt: &R) -> io::Result<()> {
+    for word in WORDS {
+        call(rt, word)?;
+    }
+    Ok(())
+}
+
 fn main(rt: HostRuntime) -> io::Result<()> {
     let Ok(mut words) = env::args(&rt) else {
         return println!(rt; "words: out of memory");
     };
-    if let Some(word) = words.nth(1) {
-        return call(&rt, word.as_str());
+    match words.nth(1) {
+        Some(word) => call(&rt, word.as_str()),
+        None => call_all(&rt),
     }
-    for word in WORDS {
-        call(&rt, word)?;
-    }
-    Ok(())
 }

@@ -23,7 +23,7 @@ const PRI: &str = "#, c-format\nmsgid \"%<PRId64>\"\nmsgstr \"x\"\n";
 const NEWLINE: &str = "msgid \"a\\n\"\nmsgstr \"b\"\n";
 
 /// PO texts, each with its label and its options.
-const TEXTS: [(&str, &str, Options); 13] = [
+const TEXTS: &[(&str, &str, Options)] = &[
     ("an entry", SALUT, PLAIN),
     ("an entry, checked", SALUT, CHECKED),
     ("nothing", "", PLAIN),
@@ -73,7 +73,7 @@ fn compile_one<R: Print + AllocGlobal>(
 /// The group `compile`.
 pub fn compile_all<R: Print + AllocGlobal>(rt: &R) -> io::Result<()> {
     for (label, text, options) in TEXTS {
-        compile_one(rt, label, text, options)?;
+        compile_one(rt, label, text, *options)?;
     }
     Ok(())
 }
@@ -87,7 +87,7 @@ type Strings = (
 );
 
 /// The strings of messages in ascending order, with a label.
-const LISTS: [(&str, &[Strings]); 4] = [
+const LISTS: &[(&str, &[Strings])] = &[
     ("nothing", &[]),
     (
         "two messages",

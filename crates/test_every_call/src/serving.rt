@@ -1,12 +1,11 @@
 //! Calls of `serve`.
 ghost use Rattle.std.specs.Prelude.{◌≡◌, ◌≤◌, All, IfOk, vec_len};
 
-use crate::printing::print_uncalled;
-use crate::store::{load, print_state, publish, query};
+use crate::store::{Words, load, print_short, print_state, publish, query};
 use crate::texts::{PLAIN, SALUT, TWICE};
-use desks::{Answer, Desk, Gate, Job, Place, Served, Source, serve};
+use desks::{Accepted, Answer, Desk, Gate, Job, Place, ServeFault, Served, Source, serve};
 use live_set::Query;
-use live_versions::{Lookups, Publisher, Version};
+use live_versions::{Lookups, Publisher, StoreFault, Version};
 use std::alloc::{AllocError, Global};
 use std::io;
 use std::sync::Wait;
@@ -14,74 +13,30 @@ use std::thread::Threads;
 
 /// A gate that holds nobody.
 #[derive(Drop)]
-pub struct Open;
+struct Open;
 
 impl Gate for Open {
     fn pass(&self, _place: Place, _index: u64) {}
 }
 
 /// The jobs: the domain and the PO text of each French load.
-const JOBS: [(&str, &str); 3] = [("app", SALUT), ("app", TWICE), ("a b", SALUT)];
+const JOBS: &[(&str, &str)] = &[("app", SALUT), ("app", TWICE), ("a b", SALUT)];
 
-/// A store, and the service that it gets.
-#[derive(Clone, Copy)]
+/// A service of two desks.
 pub struct Case {
     /// The label in the output.
-    label: &'static str,
-    /// The number of loads that the store takes.
-    pub most: u64,
+    pub label: &'static str,
+    /// How its results are printed.
+    pub words: Words,
     /// Whether a load is pending when the service begins.
-    pending: bool,
+    pub pending: bool,
     /// The number of jobs that are done, from the front of `JOBS`.
-    jobs: usize,
+    pub jobs: usize,
     /// The number of queries on each of the two desks.
-    queries: usize,
+    pub queries: usize,
+    /// Whether the desks are served once more in the end, without jobs.
+    pub again: bool,
 }
-
-pub const CASES: [Case; 6] = [
-    Case {
-        label: "nothing",
-        most: 9,
-        pending: false,
-        jobs: 0,
-        queries: 0,
-    },
-    Case {
-        label: "a job and three queries",
-        most: 9,
-        pending: false,
-        jobs: 1,
-        queries: 3,
-    },
-    Case {
-        label: "three jobs",
-        most: 9,
-        pending: false,
-        jobs: 3,
-        queries: 0,
-    },
-    Case {
-        label: "a job too many",
-        most: 0,
-        pending: false,
-        jobs: 1,
-        queries: 0,
-    },
-    Case {
-        label: "a pending load",
-        most: 9,
-        pending: true,
-        jobs: 0,
-        queries: 0,
-    },
-    Case {
-        label: "three queries",
-        most: 9,
-        pending: false,
-        jobs: 0,
-        queries: 3,
-    },
-];
 
 /// `count` queries for `hi` in French.
 fn queries_of(alloc: Global, count: usize) -> Result<Vec<Query>, AllocError> {
@@ -104,7 +59,7 @@ fn desk_of(alloc: Global, reader: Lookups, count: usize) -> Result<Desk, AllocEr
 }
 
 /// A desk for each reader.
-pub fn desks_of(
+fn desks_of(
     alloc: Global,
     publisher: &Publisher,
     mut readers: Vec<Lookups>,
@@ -145,7 +100,7 @@ fn job_of(alloc: Global, domain: &str, text: &str) -> Result<Job, AllocError> {
 }
 
 /// The first `count` jobs.
-pub fn jobs_of(alloc: Global, count: usize) -> Result<Vec<Job>, AllocError> {
+fn jobs_of(alloc: Global, count: usize) -> Result<Vec<Job>, AllocError> {
     let mut jobs = Vec::new(alloc);
     for (domain, text) in JOBS.iter().take(count) {
         jobs.push(job_of(alloc, domain, text)?)?;
@@ -155,7 +110,7 @@ pub fn jobs_of(alloc: Global, count: usize) -> Result<Vec<Job>, AllocError> {
 
 /// The number of right answers of a desk: those with the text of their version, which is from `first` to `last` and not
 /// below the one before.
-pub fn count_right(answers: &[Answer], first: Version, last: Version) -> u64 {
+fn count_right(answers: &[Answer], first: Version, last: Version) -> u64 {
     let mut right: u64 = 0;
     let mut least = first;
     'answers: for answer in answers {
@@ -178,38 +133,97 @@ fn print_desks<R: Print>(rt: &R, desks: &[Desk], first: Version, last: Version) 
     Ok(())
 }
 
-/// Prints the outcomes of a service that began at a version, and what its desks have.
-fn print_served<R: Print>(
+/// Prints each outcome in short.
+fn print_outcomes<R: Print>(rt: &R, outcomes: &[Result<Accepted, StoreFault>]) -> io::Result<()> {
+    'outcomes: for outcome in outcomes {
+        print!(rt; "  job: ")?;
+        print_short(rt, *outcome)?;
+    }
+    Ok(())
+}
+
+/// The number of right answers of all desks.
+fn count_all(desks: &[Desk], first: Version, last: Version) -> u64 {
+    let mut right: u64 = 0;
+    'desks: for desk in desks {
+        right = right.saturating_add(count_right(&desk.answers, first, last));
+    }
+    right
+}
+
+/// Prints in short the outcomes of a service that began at a version, and how many answers are right.
+fn print_in_short<R: Print>(
     rt: &R,
     served: &Served,
     desks: &[Desk],
     first: Version,
 ) -> io::Result<()> {
-    println!(rt; "gives Ok({:?}, {})", served.outcomes, served.version)?;
-    print_desks(rt, desks, first, served.version)
+    println!(rt; "serve: {}", served.version)?;
+    print_outcomes(rt, &served.outcomes)?;
+    println!(rt;
+        "  {} right answers",
+        count_all(desks, first, served.version)
+    )
 }
 
-/// Serves desks, and prints the result.
+/// Prints the outcomes of a service that began at a version, and what its desks have.
+fn print_served<R: Print>(
+    rt: &R,
+    words: Words,
+    served: &Served,
+    desks: &[Desk],
+    first: Version,
+) -> io::Result<()> {
+    if let Words::Whole = words {
+        println!(rt; "gives Ok({:?}, {})", served.outcomes, served.version)?;
+        return print_desks(rt, desks, first, served.version);
+    }
+    print_in_short(rt, served, desks, first)
+}
+
+/// Prints why desks weren't served.
+fn print_unserved<R: Print>(rt: &R, words: Words, fault: ServeFault) -> io::Result<()> {
+    match words {
+        Words::Whole => println!(rt; "gives Err({fault:?})"),
+        _ => println!(rt; "serve: {fault:?}"),
+    }
+}
+
+/// Serves desks, and prints the result and what the publisher has then.
 fn serve_desks<R: Threads + Wait + Print + AllocGlobal + Sync>(
     rt: &R,
+    words: Words,
     publisher: &mut Publisher,
     desks: &mut Vec<Desk>,
     jobs: Vec<Job>,
 ) -> io::Result<()>
     requires book { All (λ d. d.reader.book ≡ publisher.old.seen.book) desks.old.items }
     requires count { (1 ≤ vec_len desks.old) × (vec_len desks.old ≤ 16) }
+    ensures book { publisher.new.seen.book ≡ publisher.old.seen.book }
+    ensures kept { All (λ d. d.reader.book ≡ publisher.old.seen.book) desks.new.items }
+    ensures count { vec_len desks.new ≡ vec_len desks.old }
 {
     let first = publisher.version();
-    match serve(rt, rt.alloc(), publisher, desks, jobs, &Open) {
-        Ok(served) => print_served(rt, &served, desks, first),
-        Err(fault) => println!(rt; "gives Err({fault:?})"),
+    let printed = match serve(rt, rt.alloc(), publisher, desks, jobs, &Open) {
+        Ok(served) => print_served(rt, words, &served, desks, first),
+        Err(fault) => print_unserved(rt, words, fault),
+    };
+    printed?;
+    print_state(rt, publisher)
+}
+
+/// Prints that memory ran out for what is served.
+fn print_unmade<R: Print>(rt: &R, words: Words, what: &str) -> io::Result<()> {
+    match words {
+        Words::Whole => println!(rt; "isn't called: out of memory"),
+        _ => println!(rt; "{what}: out of memory"),
     }
 }
 
-/// Serves the desks of a case, and publishes.
+/// Serves the desks of a case, publishes, and serves them again if the case says so.
 fn serve_case<R: Threads + Wait + Print + AllocGlobal + Sync>(
     rt: &R,
-    case: Case,
+    case: &Case,
     publisher: &mut Publisher,
     desks: &mut Vec<Desk>,
 ) -> io::Result<()>
@@ -217,32 +231,34 @@ fn serve_case<R: Threads + Wait + Print + AllocGlobal + Sync>(
     requires count { (1 ≤ vec_len desks.old) × (vec_len desks.old ≤ 16) }
 {
     let Ok(jobs) = jobs_of(rt.alloc(), case.jobs) else {
-        return print_uncalled(rt);
+        return print_unmade(rt, case.words, "jobs");
     };
-    serve_desks(rt, publisher, desks, jobs)?;
-    print_state(rt, publisher)?;
-    publish(rt, publisher)
+    serve_desks(rt, case.words, publisher, desks, jobs)?;
+    publish(rt, case.words, publisher)?;
+    if case.again {
+        return serve_desks(rt, case.words, publisher, desks, Vec::new(rt.alloc()));
+    }
+    Ok(())
 }
 
 /// Makes the load that is pending, if there is one, and prints the label of a case.
 fn begin_case<R: Print + AllocGlobal>(
     rt: &R,
-    case: Case,
+    case: &Case,
     publisher: &mut Publisher,
 ) -> io::Result<()>
     ensures { publisher.new.seen.book ≡ publisher.old.seen.book }
 {
-    println!(rt; "gives Ok")?;
     if case.pending {
-        load(rt, publisher, "app", "fr", SALUT)?;
+        load(rt, case.words, publisher, "app", "fr", SALUT)?;
     }
-    print!(rt; "serve, {}, ", case.label)
+    print!(rt; "{}", case.label)
 }
 
 /// Serves the readers of a new store.
 pub fn serve_readers<R: Threads + Wait + Print + AllocGlobal + Sync>(
     rt: &R,
-    case: Case,
+    case: &Case,
     publisher: &mut Publisher,
     readers: Vec<Lookups>,
 ) -> io::Result<()>
@@ -252,6 +268,6 @@ pub fn serve_readers<R: Threads + Wait + Print + AllocGlobal + Sync>(
     begin_case(rt, case, publisher)?;
     match desks_of(rt.alloc(), publisher, readers, case.queries) {
         Ok(mut desks) => serve_case(rt, case, publisher, &mut desks),
-        Err(_) => print_uncalled(rt),
+        Err(_) => print_unmade(rt, case.words, "desks"),
     }
 }

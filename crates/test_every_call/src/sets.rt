@@ -54,6 +54,19 @@ fn print_set<R: Print>(rt: &R, set: &CatalogueSet) -> io::Result<()> {
     println!(rt)
 }
 
+/// Absorbs a load, or returns `None` if memory for it ran out.
+fn absorb_one(
+    alloc: Global,
+    set: &mut CatalogueSet,
+    locale: &str,
+    text: &str,
+) -> Option<Result<(), AllocError>> {
+    match load_of(alloc, locale, text) {
+        Some(load) => Some(set.absorb(&load)),
+        None => None,
+    }
+}
+
 /// Absorbs a PO text for a locale, and prints the result.
 fn absorb<R: Print + AllocGlobal>(
     rt: &R,
@@ -61,22 +74,24 @@ fn absorb<R: Print + AllocGlobal>(
     locale: &str,
     text: &str,
 ) -> io::Result<()> {
-    print!(rt; "absorb, {locale}, ")?;
-    let printed = match load_of(rt.alloc(), locale, text) {
-        Some(load) => println!(rt; "gives {:?}", set.absorb(&load)),
-        None => print_uncalled(rt),
+    let printed = match absorb_one(rt.alloc(), set, locale, text) {
+        Some(answer) => println!(rt; "absorb, {locale}, gives {answer:?}"),
+        None => println!(rt; "absorb, {locale}, isn't called: out of memory"),
     };
     printed?;
     print_set(rt, set)
 }
 
-/// Absorbs texts for three locales into a set, one of them twice, and prints it each time.
+/// Loads for three locales, one of them twice.
+const LOADS: &[(&str, &str)] = &[("fr", SALUT), ("de", HALLO), ("fr", HALLO), ("sv", SALUT)];
+
+/// Absorbs the loads into a set, and prints it each time.
 fn absorb_rows<R: Print + AllocGlobal>(rt: &R, set: &mut CatalogueSet) -> io::Result<()> {
     print_set(rt, set)?;
-    absorb(rt, set, "fr", SALUT)?;
-    absorb(rt, set, "de", HALLO)?;
-    absorb(rt, set, "fr", HALLO)?;
-    absorb(rt, set, "sv", SALUT)
+    for (locale, text) in LOADS {
+        absorb(rt, set, locale, text)?;
+    }
+    Ok(())
 }
 
 /// The group `absorb`.
@@ -121,10 +136,7 @@ fn clone_load<R: Print + AllocGlobal>(rt: &R) -> io::Result<()> {
 
 /// Absorbs a PO text for a locale, or returns `false` if memory runs out.
 fn put(alloc: Global, set: &mut CatalogueSet, locale: &str, text: &str) -> bool {
-    match load_of(alloc, locale, text) {
-        Some(load) => set.absorb(&load).is_ok(),
-        None => false,
-    }
+    matches!(absorb_one(alloc, set, locale, text), Some(Ok(())))
 }
 
 /// Prints a copy of a set, if there is one, and the original.

@@ -1,14 +1,37 @@
-//! Calls of a live store: `load`, `load_mo`, `publish`, `enter`, `learn`, `ask` and `ask_into`.
-ghost use Rattle.std.specs.Prelude.{◌≡◌, IfOk};
+//! Single calls of a live store, each of which prints its result: `load`, `load_mo`, `publish`, `enter`, `learn`,
+//! `settle`, `ask` and `ask_into`.
+ghost use Rattle.std.specs.Prelude.{◌≡◌};
 
-use crate::files::SWAPPED;
-use crate::printing::print_uncalled;
-use crate::texts::{HALLO, PLAIN, SALUT, TWICE};
+use crate::texts::PLAIN;
+use catalogue::{LoadFault, Stats};
+use desks::Accepted;
 use live_set::{Ask, Query};
-use live_versions::{Lookups, Notice, Publisher};
+use live_versions::{
+    AskFault, Lookups, Notice, Pinned, PublishFault, Publisher, StoreFault, Version,
+};
 use std::alloc::{AllocError, Global};
 use std::io;
 use std::sync::Wait;
+
+/// How much is printed of a result.
+#[derive(Clone, Copy)]
+pub enum Words {
+    /// All of it, as the value is.
+    Whole,
+    /// What the groups `store_rows` and `serve_rows` print.
+    Short,
+    /// What is printed of an entry in the line of `open_store`.
+    Least,
+}
+
+/// How a reader asks.
+#[derive(Clone, Copy)]
+pub enum Way {
+    Ask,
+    AskInto,
+    /// With `ask`, whose answer is printed in short.
+    Short,
+}
 
 /// Prints the publisher's pending loads and its version.
 pub fn print_state<R: Print>(rt: &R, publisher: &Publisher) -> io::Result<()> {
@@ -16,9 +39,39 @@ pub fn print_state<R: Print>(rt: &R, publisher: &Publisher) -> io::Result<()> {
     println!(rt; "  pending {pending}, version {version}")
 }
 
+/// Prints in short what came of a load or a job, and ends the line.
+pub fn print_short<R: Print>(rt: &R, answer: Result<Accepted, StoreFault>) -> io::Result<()> {
+    match answer {
+        Ok(Accepted::Po(stats)) => println!(rt; "{} translated", stats.translated),
+        Ok(Accepted::Mo(entries)) => println!(rt; "{entries} entries"),
+        Err(StoreFault::Refused(LoadFault { kind, line })) => println!(rt; "{kind:?} at {line}"),
+        Err(StoreFault::RefusedMo(fault)) => println!(rt; "{fault:?}"),
+        Err(fault) => println!(rt; "{fault:?}"),
+    }
+}
+
+/// Prints what came of a load of a PO text.
+fn print_loaded<R: Print>(
+    rt: &R,
+    words: Words,
+    domain: &str,
+    locale: &str,
+    answer: Result<Stats, StoreFault>,
+) -> io::Result<()> {
+    if let Words::Whole = words {
+        return println!(rt; "load, {domain} {locale}, gives {answer:?}");
+    }
+    print!(rt; "load {locale}: ")?;
+    match answer {
+        Ok(stats) => print_short(rt, Ok(Accepted::Po(stats))),
+        Err(fault) => print_short(rt, Err(fault)),
+    }
+}
+
 /// Loads a PO text, and prints the result.
 pub fn load<R: Print + AllocGlobal>(
     rt: &R,
+    words: Words,
     publisher: &mut Publisher,
     domain: &str,
     locale: &str,
@@ -27,63 +80,159 @@ pub fn load<R: Print + AllocGlobal>(
     ensures { publisher.new.seen.book ≡ publisher.old.seen.book }
 {
     let answer = publisher.load(rt.alloc(), domain, locale, text.as_bytes(), PLAIN);
-    println!(rt; "load, {domain} {locale}, gives {answer:?}")?;
+    print_loaded(rt, words, domain, locale, answer)?;
     print_state(rt, publisher)
 }
 
-/// Loads an MO file, and prints the result.
-fn load_mo<R: Print + AllocGlobal>(
+/// Prints what came of a load of an MO file for Swedish.
+fn print_loaded_mo<R: Print>(
     rt: &R,
+    words: Words,
+    domain: &str,
+    answer: Result<u64, StoreFault>,
+) -> io::Result<()> {
+    if let Words::Whole = words {
+        return println!(rt; "load_mo, {domain} sv, gives {answer:?}");
+    }
+    print!(rt; "load_mo sv: ")?;
+    match answer {
+        Ok(entries) => print_short(rt, Ok(Accepted::Mo(entries))),
+        Err(fault) => print_short(rt, Err(fault)),
+    }
+}
+
+/// Loads an MO file for Swedish, without its last `cut` bytes, and prints the result.
+pub fn load_mo<R: Print + AllocGlobal>(
+    rt: &R,
+    words: Words,
     publisher: &mut Publisher,
     domain: &str,
-    bytes: &[u8],
-) -> io::Result<()> {
+    file: &[u8],
+    cut: usize,
+) -> io::Result<()>
+    ensures { publisher.new.seen.book ≡ publisher.old.seen.book }
+{
+    let bytes = &file[..file.len().saturating_sub(cut)];
     let answer = publisher.load_mo(rt.alloc(), domain, "sv", bytes);
-    println!(rt; "load_mo, {domain} sv, gives {answer:?}")?;
+    print_loaded_mo(rt, words, domain, answer)?;
     print_state(rt, publisher)
+}
+
+/// Prints what came of a publish.
+fn print_published<R: Print>(
+    rt: &R,
+    words: Words,
+    answer: Result<Version, PublishFault>,
+) -> io::Result<()> {
+    match (words, answer) {
+        (Words::Whole, _) => println!(rt; "publish gives {answer:?}"),
+        (_, Ok(version)) => println!(rt; "publish: {version}"),
+        (_, Err(fault)) => println!(rt; "publish: {fault:?}"),
+    }
 }
 
 /// Publishes what is pending, and prints the result.
-pub fn publish<R: Wait + Print>(rt: &R, publisher: &mut Publisher) -> io::Result<()>
+pub fn publish<R: Wait + Print>(rt: &R, words: Words, publisher: &mut Publisher) -> io::Result<()>
     ensures { publisher.new.seen.book ≡ publisher.old.seen.book }
 {
     let answer = publisher.publish(rt);
-    println!(rt; "publish gives {answer:?}")?;
+    print_published(rt, words, answer)?;
     print_state(rt, publisher)
 }
 
-/// Enters, and prints the version and the translations of two msgids in three locales.
-fn enter<R: Print>(rt: &R, reader: &mut Lookups) -> io::Result<()>
+/// What is printed of an entry.
+struct Shown {
+    /// What stands before its version.
+    before: &'static str,
+    /// Its texts: what stands before each, its locale and its msgid.
+    texts: &'static [(&'static str, &'static str, &'static str)],
+    /// What stands after the last one.
+    after: &'static str,
+    /// What is printed if there is no entry.
+    closed: &'static str,
+}
+
+const WHOLE: &Shown = &Shown {
+    before: "enter gives ",
+    texts: &[
+        (", fr ", "fr", "hi"),
+        (", de ", "de", "hi"),
+        (", sv ", "sv", "hi"),
+        (" ", "sv", "ba"),
+    ],
+    after: "\n",
+    closed: "enter gives Closed\n",
+};
+
+const SHORT: &Shown = &Shown {
+    before: "enter: ",
+    texts: &[(" ", "fr", "hi"), (" ", "de", "hi"), (" ", "sv", "hi")],
+    after: "\n",
+    closed: "enter: Closed\n",
+};
+
+const LEAST: &Shown = &Shown {
+    before: " ",
+    texts: &[(":", "fr", "hi")],
+    after: "",
+    closed: " Closed",
+};
+
+/// What these words say of an entry.
+fn shown_in(words: Words) -> &'static Shown {
+    match words {
+        Words::Whole => WHOLE,
+        Words::Short => SHORT,
+        Words::Least => LEAST,
+    }
+}
+
+/// Prints the version of an entry and its texts.
+fn print_entry<R: Print>(rt: &R, shown: &Shown, pinned: &Pinned<'_>) -> io::Result<()> {
+    print!(rt; "{}{}", shown.before, pinned.version())?;
+    for (before, locale, id) in shown.texts {
+        print!(rt; "{before}{}", pinned.gettext("app", locale, id))?;
+    }
+    print!(rt; "{}", shown.after)
+}
+
+/// Enters, and prints what is found there.
+pub fn enter<R: Print>(rt: &R, words: Words, reader: &mut Lookups) -> io::Result<()>
     ensures { reader.new.book ≡ reader.old.book }
 {
+    let shown = shown_in(words);
     let Ok(pinned) = reader.enter() else {
-        return println!(rt; "enter gives Closed");
+        return print!(rt; "{}", shown.closed);
     };
-    let (fr, de, sv) = (
-        pinned.gettext("app", "fr", "hi"),
-        pinned.gettext("app", "de", "hi"),
-        pinned.gettext("app", "sv", "hi"),
-    );
-    let ba = pinned.gettext("app", "sv", "ba");
-    let printed = println!(rt;
-        "enter gives {}, fr {fr}, de {de}, sv {sv} {ba}",
-        pinned.version()
-    );
+    let printed = print_entry(rt, shown, &pinned);
     pinned.leave();
     printed
 }
 
-/// Lets a reader learn what is published, and returns the notice.
-fn learn<R: Print>(rt: &R, publisher: &mut Publisher, reader: &mut Lookups) -> io::Result<Notice>
-    requires { reader.old.book ≡ publisher.old.seen.book }
-    ensures book { publisher.new.seen.book ≡ publisher.old.seen.book }
-    ensures reader { reader.new.book ≡ publisher.old.seen.book }
-    ensures notice { IfOk result (λ notice. notice.book ≡ publisher.old.seen.book) }
+/// Lets a reader learn of a notice, and prints what it has seen then, unless words are short.
+pub fn learn<R: Print>(
+    rt: &R,
+    words: Words,
+    reader: &mut Lookups,
+    notice: &Notice,
+) -> io::Result<()>
+    requires { notice.now.book ≡ reader.old.book }
+    ensures { reader.new.book ≡ reader.old.book }
 {
-    let notice = publisher.tell();
-    reader.learn(&notice);
-    println!(rt; "learn, {}, has seen {}", notice.version(), reader.seen())?;
-    Ok(notice)
+    reader.learn(notice);
+    match words {
+        Words::Whole => println!(rt; "learn, {}, has seen {}", notice.version(), reader.seen()),
+        _ => Ok(()),
+    }
+}
+
+/// Settles with a notice, and prints the result.
+pub fn settle<R: Print>(rt: &R, reader: &mut Lookups, notice: &Notice) -> io::Result<()>
+    requires { notice.now.book ≡ reader.old.book }
+    ensures { reader.new.book ≡ reader.old.book }
+{
+    let answer = reader.settle(notice);
+    println!(rt; "settle, first, gives {answer:?}")
 }
 
 /// A query for `hi` in French.
@@ -97,17 +246,12 @@ pub fn query(alloc: Global) -> Result<Query, AllocError> {
     })
 }
 
-/// Asks for `hi` in French, and prints the result.
-fn ask<R: Print + AllocGlobal>(rt: &R, reader: &mut Lookups) -> io::Result<()>
-    ensures { reader.new.book ≡ reader.old.book }
-{
-    print!(rt; "ask ")?;
-    let printed = match query(rt.alloc()) {
-        Ok(query) => println!(rt; "gives {:?}", reader.ask(rt.alloc(), &query)),
-        Err(_) => print_uncalled(rt),
-    };
-    printed?;
-    println!(rt; "  has seen {}", reader.seen())
+/// Prints an answer in short.
+fn print_answer<R: Print>(rt: &R, answer: &Result<(Version, String), AskFault>) -> io::Result<()> {
+    match answer {
+        Ok((version, text)) => println!(rt; "ask: {version} {text}"),
+        Err(fault) => println!(rt; "ask: {fault:?}"),
+    }
 }
 
 /// Asks with `ask_into`, and prints the result.
@@ -116,125 +260,40 @@ fn ask_new<R: Print + AllocGlobal>(rt: &R, reader: &mut Lookups, query: &Query) 
 {
     let mut text = String::new(rt.alloc());
     let answer = reader.ask_into(query, &mut text);
-    println!(rt; "gives {answer:?}, {:?}", text.as_str())
+    println!(rt; "ask_into gives {answer:?}, {:?}", text.as_str())
 }
 
-/// Asks for `hi` in French with `ask_into`, and prints the result.
-fn ask_into<R: Print + AllocGlobal>(rt: &R, reader: &mut Lookups) -> io::Result<()>
+/// Asks in this way, and prints the result.
+fn ask_with<R: Print + AllocGlobal>(
+    rt: &R,
+    way: Way,
+    reader: &mut Lookups,
+    query: &Query,
+) -> io::Result<()>
     ensures { reader.new.book ≡ reader.old.book }
 {
-    print!(rt; "ask_into ")?;
-    let printed = match query(rt.alloc()) {
-        Ok(query) => ask_new(rt, reader, &query),
-        Err(_) => print_uncalled(rt),
-    };
-    printed?;
-    println!(rt; "  has seen {}", reader.seen())
-}
-
-/// Two loads and a publish, which is called again if it ran out of memory, and a text that is refused.
-pub fn publish_rows<R: Wait + Print + AllocGlobal>(
-    rt: &R,
-    publisher: &mut Publisher,
-    reader: &mut Lookups,
-) -> io::Result<()>
-    requires { reader.old.book ≡ publisher.old.seen.book }
-{
-    println!(rt; "gives Ok")?;
-    load(rt, publisher, "app", "fr", SALUT)?;
-    load(rt, publisher, "app", "de", HALLO)?;
-    publish(rt, publisher)?;
-    enter(rt, reader)?;
-    publish(rt, publisher)?;
-    learn(rt, publisher, reader)?;
-    enter(rt, reader)?;
-    load(rt, publisher, "app", "fr", TWICE)?;
-    publish(rt, publisher)?;
-    enter(rt, reader)
-}
-
-/// Queries, and notices of two versions.
-pub fn ask_rows<R: Wait + Print + AllocGlobal>(
-    rt: &R,
-    publisher: &mut Publisher,
-    reader: &mut Lookups,
-) -> io::Result<()>
-    requires { reader.old.book ≡ publisher.old.seen.book }
-{
-    println!(rt; "gives Ok")?;
-    enter(rt, reader)?;
-    load(rt, publisher, "app", "fr", SALUT)?;
-    publish(rt, publisher)?;
-    let first = learn(rt, publisher, reader)?;
-    enter(rt, reader)?;
-    settle_rows(rt, publisher, reader, &first)?;
-    file_rows(rt, publisher, reader)
-}
-
-/// Prints what settling with a notice gives.
-fn settle<R: Print>(rt: &R, reader: &mut Lookups, first: &Notice) -> io::Result<()>
-    requires { first.now.book ≡ reader.old.book }
-    ensures { reader.new.book ≡ reader.old.book }
-{
-    println!(rt; "settle, first, gives {:?}", reader.settle(first))
-}
-
-/// Queries, and the notice of a version before and after the next one.
-fn settle_rows<R: Wait + Print + AllocGlobal>(
-    rt: &R,
-    publisher: &mut Publisher,
-    reader: &mut Lookups,
-    first: &Notice,
-) -> io::Result<()>
-    requires reader { reader.old.book ≡ publisher.old.seen.book }
-    requires first { first.now.book ≡ publisher.old.seen.book }
-{
-    enter(rt, reader)?;
-    ask(rt, reader)?;
-    ask_into(rt, reader)?;
-    settle(rt, reader, first)?;
-    load(rt, publisher, "app", "fr", SALUT)?;
-    publish(rt, publisher)?;
-    learn(rt, publisher, reader)?;
-    settle(rt, reader, first)
-}
-
-/// MO files, of which one is cut short, and one is for a domain that isn't a name.
-fn file_rows<R: Wait + Print + AllocGlobal>(
-    rt: &R,
-    publisher: &mut Publisher,
-    reader: &mut Lookups,
-) -> io::Result<()> {
-    load_mo(rt, publisher, "app", &SWAPPED)?;
-    load_mo(rt, publisher, "app", &SWAPPED[..77])?;
-    load_mo(rt, publisher, "a b", &SWAPPED)?;
-    publish(rt, publisher)?;
-    enter(rt, reader)
-}
-
-/// Prints the version of an entry and the translation of `hi` in French.
-fn enter_first<R: Print>(rt: &R, reader: &mut Lookups) -> io::Result<()> {
-    let Ok(pinned) = reader.enter() else {
-        return print!(rt; " Closed");
-    };
-    let text = pinned.gettext("app", "fr", "hi");
-    let printed = print!(rt; " {}:{text}", pinned.version());
-    pinned.leave();
-    printed
-}
-
-/// Enters once with each reader of a new store, and loads once more than a small store takes.
-pub fn first_rows<R: Print + AllocGlobal>(
-    rt: &R,
-    publisher: &mut Publisher,
-    readers: &mut [Lookups],
-) -> io::Result<()> {
-    print!(rt; "gives Ok")?;
-    'readers: for reader in readers.iter_mut() {
-        enter_first(rt, reader)?;
+    match way {
+        Way::Ask => println!(rt; "ask gives {:?}", reader.ask(rt.alloc(), query)),
+        Way::AskInto => ask_new(rt, reader, query),
+        Way::Short => print_answer(rt, &reader.ask(rt.alloc(), query)),
     }
-    println!(rt)?;
-    load(rt, publisher, "app", "fr", SALUT)?;
-    load(rt, publisher, "app", "fr", SALUT)?;
-    load(rt, publisher, "a b", "fr", SALUT)
+}
+
+/// Asks for `hi` in French, and prints the result.
+pub fn ask<R: Print + AllocGlobal>(rt: &R, way: Way, reader: &mut Lookups) -> io::Result<()>
+    ensures { reader.new.book ≡ reader.old.book }
+{
+    match query(rt.alloc()) {
+        Ok(query) => ask_with(rt, way, reader, &query),
+        Err(_) => print_unasked(rt, way),
+    }
+}
+
+/// Prints that memory ran out before a reader could ask.
+fn print_unasked<R: Print>(rt: &R, way: Way) -> io::Result<()> {
+    match way {
+        Way::Ask => println!(rt; "ask isn't called: out of memory"),
+        Way::AskInto => println!(rt; "ask_into isn't called: out of memory"),
+        Way::Short => println!(rt; "ask: Memory"),
+    }
 }

@@ -29,7 +29,7 @@ pub const PLIK: &str = "msgid \"\"\n\
     msgstr[2] \"plikow\"\n";
 
 /// PO texts, each with its label.
-const TEXTS: [(&str, &str); 9] = [
+const TEXTS: &[(&str, &str)] = &[
     (
         "three strings",
         "msgid \"\"\n\"caf\\303\\251\"\n\"\\n\"\nmsgstr \"x\\n\"\n",
@@ -60,11 +60,16 @@ const TEXTS: [(&str, &str); 9] = [
     ("an open string", "msgid \"a\nmsgstr \"b\"\n"),
 ];
 
+/// Reads a PO text, and prints the result.
+fn read<R: Print + AllocGlobal>(rt: &R, label: &str, text: &str) -> io::Result<()> {
+    let answer = read_po(rt.alloc(), text.as_bytes());
+    println!(rt; "read_po, {label}, gives {answer:?}")
+}
+
 /// The group `read_po`.
 pub fn read_all<R: Print + AllocGlobal>(rt: &R) -> io::Result<()> {
     for (label, text) in TEXTS {
-        let answer = read_po(rt.alloc(), text.as_bytes());
-        println!(rt; "read_po, {label}, gives {answer:?}")?;
+        read(rt, label, text)?;
     }
     Ok(())
 }
