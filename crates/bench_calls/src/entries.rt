@@ -1,7 +1,7 @@
 //! Entries, of one reader, and of many while a publisher publishes or does nothing.
 use crate::messages::{PLAIN, po_text};
 use crate::readers::{enter_many, enter_until};
-use crate::times::print_time;
+use crate::times::{now, print_time, since};
 use live_versions::{Lookups, Publisher};
 use std::io;
 use std::rt::Clock;
@@ -26,73 +26,50 @@ pub struct Beside {
     pub turns: u32,
 }
 
-/// Loads a text for a locale, and publishes it.
-fn replace<R: Wait + AllocGlobal>(
-    rt: &R,
-    publisher: &mut Publisher,
-    locale: &str,
-    text: &str,
-) -> bool {
-    let loaded = publisher.load(rt.alloc(), "app", locale, text.as_bytes(), PLAIN);
+/// Loads a French text, if there is one, and publishes it.
+fn replace<R: Wait + AllocGlobal>(rt: &R, publisher: &mut Publisher, text: Option<&str>) -> bool {
+    let Some(text) = text else {
+        return true;
+    };
+    let loaded = publisher.load(rt.alloc(), "app", "fr", text.as_bytes(), PLAIN);
     let published = publisher.publish(rt);
     loaded.is_ok() && published.is_ok()
 }
 
 /// Sleeps until `due` has passed since `start`.
-fn sleep_until<R: Wait + Clock>(rt: &R, start: &Instant, due: Duration) -> io::Result<()> {
-    if let Some(left) = due.checked_sub(start.elapsed(rt)?) {
+fn sleep_until<R: Wait + Clock>(rt: &R, start: Option<Instant>, due: Duration) {
+    if let Some(left) = due.checked_sub(since(rt, start).unwrap_or(due)) {
         std::thread::sleep(rt, left);
     }
-    Ok(())
 }
 
 /// Publishes `turns` times, once in each millisecond, or only waits for that long if there is no text. A late publish
-/// doesn't delay those after it. Returns how many publishes failed, and the time that all of it took.
-fn publish_on_time<R: Wait + Clock + AllocGlobal>(
-    rt: &R,
-    publisher: &mut Publisher,
-    text: Option<&str>,
-    turns: u32,
-) -> io::Result<(u64, Duration)> {
-    let start = Instant::now(rt)?;
-    let mut wrong: u64 = 0;
-    'turns: for turn in 0..turns {
-        let failed = match text {
-            Some(text) => !replace(rt, publisher, "fr", text),
-            None => false,
-        };
-        if failed {
-            wrong = wrong.saturating_add(1);
-        }
-        sleep_until(rt, &start, Duration::from_millis(u64::from(turn) + 1))?;
-    }
-    Ok((wrong, start.elapsed(rt)?))
-}
-
-/// Like `publish_on_time`, and then sets `done`. Without a clock, all publishes count as failed.
+/// doesn't delay those after it. Then sets `done`. Returns how many publishes failed, and the time that all of it took.
 fn publish_many<R: Wait + Clock + AllocGlobal>(
     rt: &R,
     publisher: &mut Publisher,
     text: Option<&str>,
     turns: u32,
     done: &AtomicBool,
-) -> (u64, Duration) {
-    let published = publish_on_time(rt, publisher, text, turns);
+) -> (u64, Option<Duration>) {
+    let start = now(rt);
+    let mut wrong: u64 = 0;
+    'turns: for turn in 0..turns {
+        if !replace(rt, publisher, text) {
+            wrong = wrong.saturating_add(1);
+        }
+        sleep_until(rt, start, Duration::from_millis(u64::from(turn) + 1));
+    }
     done.store(true, SeqCst);
-    published.unwrap_or((u64::MAX, Duration::from_millis(0)))
+    (wrong, since(rt, start))
 }
 
 /// Times one reader that enters and leaves.
 pub fn time_reader<R: Print + Eprint + Clock>(rt: &R, reader: &mut Lookups) -> io::Result<()> {
-    let start = Instant::now(rt)?;
+    let start = now(rt);
     let wrong = enter_many(reader, ENTRIES, 0);
-    print_time(
-        rt,
-        "entries, one reader",
-        start.elapsed(rt)?,
-        u64::from(ENTRIES),
-        wrong,
-    )
+    let taken = since(rt, start);
+    print_time(rt, "entries, one reader", taken, u64::from(ENTRIES), wrong)
 }
 
 /// What readers and a publisher did beside one another.
@@ -100,18 +77,28 @@ pub fn time_reader<R: Print + Eprint + Clock>(rt: &R, reader: &mut Lookups) -> i
 struct Done {
     entries: u64,
     wrong: u64,
-    publishing: Duration,
-    taken: Duration,
+    publishing: Option<Duration>,
+    taken: Option<Duration>,
 }
 
-/// Adds up what each reader counted.
-fn add_all(found: &[(u64, u64)], unpublished: u64) -> (u64, u64) {
+/// What was done, of what each reader counted.
+fn done_by(
+    found: &[(u64, u64)],
+    unpublished: u64,
+    publishing: Option<Duration>,
+    taken: Option<Duration>,
+) -> Done {
     let (mut entries, mut wrong) = (0_u64, unpublished);
     'readers: for (entered, fallen) in found {
         entries = entries.saturating_add(*entered);
         wrong = wrong.saturating_add(*fallen);
     }
-    (entries, wrong)
+    Done {
+        entries,
+        wrong,
+        publishing,
+        taken,
+    }
 }
 
 /// Times readers that enter and leave, while a publisher publishes or does nothing.
@@ -136,7 +123,7 @@ fn run_beside<R: Print + Eprint + Clock + Threads + Wait + AllocGlobal + Sync>(
 ) -> io::Result<()> {
     let text = if beside.publishing { Some(text) } else { None };
     let done = AtomicBool::new(false);
-    let start = Instant::now(rt)?;
+    let start = now(rt);
     let (found, (unpublished, publishing)) = join(
         rt,
         || map_vec(
@@ -146,29 +133,22 @@ fn run_beside<R: Print + Eprint + Clock + Threads + Wait + AllocGlobal + Sync>(
         ),
         || publish_many(rt, publisher, text, beside.turns, &done),
     );
-    let taken = start.elapsed(rt)?;
-    let Ok(found) = found else {
-        return println!(rt; "out of memory");
-    };
-    let (entries, wrong) = add_all(&found, unpublished);
-    let done = Done {
-        entries,
-        wrong,
-        publishing,
-        taken,
-    };
-    print_beside(rt, beside, done)
+    let taken = since(rt, start);
+    match found {
+        Ok(found) => print_beside(rt, beside, done_by(&found, unpublished, publishing, taken)),
+        Err(_) => println!(rt; "out of memory"),
+    }
 }
 
+/// Prints how many entries went wrong, and how many each reader made in a millisecond.
 fn print_beside<R: Print + Eprint>(rt: &R, beside: Beside, done: Done) -> io::Result<()> {
+    let (Some(spent), Some(taken)) = (done.publishing, done.taken) else {
+        return println!(rt; "entries: no clock");
+    };
     let count = beside.readers;
     let busy = if beside.work == 0 { "" } else { " busy" };
     let publishes = if beside.publishing { beside.turns } else { 0 };
-    let (wrong, spent, taken) = (
-        done.wrong,
-        done.publishing.as_millis(),
-        done.taken.as_millis(),
-    );
+    let (wrong, spent, taken) = (done.wrong, spent.as_millis(), taken.as_millis());
     let each = u128::from(done.entries) / taken.max(1) / u128::from(count.max(1));
     println!(rt; "entries, {count}{busy} readers: {wrong} wrong")?;
     eprintln!(rt;

@@ -20,7 +20,7 @@ enum Order {
     Same,
 }
 
-const ORDERS: [Order; 5] = [
+const ORDERS: &[Order] = &[
     Order::Unnumbered,
     Order::Rising,
     Order::Falling,
@@ -29,7 +29,7 @@ const ORDERS: [Order; 5] = [
 ];
 
 /// The numbers of directives.
-const COUNTS: [u32; 4] = [250_000, 500_000, 1_000_000, 2_000_000];
+const COUNTS: &[u32] = &[250_000, 500_000, 1_000_000, 2_000_000];
 
 impl Order {
     /// The number of the directive at a place, from 1 to the count.
@@ -45,17 +45,25 @@ impl Order {
     }
 }
 
+/// Adds the directive of a number to a text.
+fn push_directive(
+    alloc: Global,
+    text: &mut String,
+    order: Order,
+    number: u32,
+) -> Result<(), AllocError> {
+    if let Order::Unnumbered = order {
+        return text.push_str("argument %d ");
+    }
+    let directive = format!(in alloc; "%{number}$d ")?;
+    text.push_str(directive.as_str())
+}
+
 /// A text of `count` directives in this order.
 fn format_of(alloc: Global, order: Order, count: u32) -> Result<String, AllocError> {
     let mut text = String::new(alloc);
     for place in 0..count {
-        if let Order::Unnumbered = order {
-            text.push_str("argument %d ")?;
-        } else {
-            let number = order.number_at(place, count);
-            let directive = format!(in alloc; "%{number}$d ")?;
-            text.push_str(directive.as_str())?;
-        }
+        push_directive(alloc, &mut text, order, order.number_at(place, count))?;
     }
     Ok(text)
 }
@@ -67,12 +75,12 @@ fn time_signature<R: AllocGlobal + CpuClock>(
 ) -> io::Result<(u128, Result<usize, FormatFault>)> {
     let start = rt.thread_cpu_time()?;
     let listed = signature(rt.alloc(), text);
-    let end = rt.thread_cpu_time()?;
-    let micros = end.saturating_sub(start).as_micros();
-    match listed {
-        Ok(kinds) => Ok((micros, Ok(kinds.len()))),
-        Err(fault) => Ok((micros, Err(fault))),
-    }
+    let end = rt.thread_cpu_time();
+    let listed = match listed {
+        Ok(kinds) => Ok(kinds.len()),
+        Err(fault) => Err(fault),
+    };
+    Ok((end?.saturating_sub(start).as_micros(), listed))
 }
 
 /// Lists the arguments of one text, and prints how many there are and how long that took.
@@ -120,8 +128,8 @@ fn plain_of(alloc: Global, len: usize) -> Result<String, AllocError> {
 
 /// Times texts in each order, and one without a directive.
 pub fn time_formats<R: Print + Eprint + AllocGlobal + CpuClock>(rt: &R) -> io::Result<()> {
-    for order in &ORDERS {
-        for count in &COUNTS {
+    for order in ORDERS {
+        for count in COUNTS {
             time_order(rt, *order, *count)?;
         }
     }

@@ -3,8 +3,23 @@ ghost use Rattle.std.specs.Prelude.{◌≡◌};
 
 use crate::messages::{LANGUAGES, PLAIN, locale_of, po_text};
 use live_versions::Publisher;
-use std::alloc::AllocError;
+use std::alloc::{AllocError, Global};
 use std::sync::Wait;
+
+/// Loads a catalogue of `messages` messages for a language, and returns whether it was accepted.
+fn load_language(
+    alloc: Global,
+    publisher: &mut Publisher,
+    language: u32,
+    messages: u32,
+) -> Result<bool, AllocError>
+    ensures { publisher.new.seen.book ≡ publisher.old.seen.book }
+{
+    let text = po_text(alloc, language, messages)?;
+    let locale = locale_of(alloc, language)?;
+    let loaded = publisher.load(alloc, "app", &locale, text.as_bytes(), PLAIN);
+    Ok(loaded.is_ok())
+}
 
 /// Publishes a catalogue of `messages` messages for each language, all in one step.
 pub fn publish_languages<R: Wait + AllocGlobal>(
@@ -16,10 +31,7 @@ pub fn publish_languages<R: Wait + AllocGlobal>(
 {
     let mut all = true;
     'languages: for language in 0..LANGUAGES {
-        let text = po_text(rt.alloc(), language, messages)?;
-        let locale = locale_of(rt.alloc(), language)?;
-        let loaded = publisher.load(rt.alloc(), "app", &locale, text.as_bytes(), PLAIN);
-        all = all && loaded.is_ok();
+        all = load_language(rt.alloc(), publisher, language, messages)? && all;
     }
     let published = publisher.publish(rt);
     Ok(all && published.is_ok())

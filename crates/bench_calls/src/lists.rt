@@ -4,25 +4,24 @@ ghost use Rattle.std.specs.Prelude.{◌≡◌};
 use crate::languages::publish_languages;
 use crate::messages::{Asked, LANGUAGES, PLAIN, other_text, queries};
 use crate::readers::{ask_all, ask_each};
-use crate::times::print_time;
+use crate::times::{now, print_time, since};
 use live_set::Query;
 use live_versions::{Lookups, Publisher};
 use std::alloc::AllocError;
 use std::io;
 use std::rt::Clock;
 use std::sync::Wait;
-use std::time::Instant;
 
 /// The number of members of a list, what precedes its last member (locales without a catalogue, and those of `OTHERS`,
 /// whose catalogues have other messages), and what is printed of it.
-const LISTS: [(u32, &str, &str); 3] = [
+const LISTS: &[(u32, &str, &str)] = &[
     (1, "", "queries by lists of 1, one reader"),
     (3, "aa:x0:", "queries by lists of 3, one reader"),
     (6, "aa:x0:bb:x1:cc:", "queries by lists of 6, one reader"),
 ];
 
 /// The locales whose catalogues have other messages.
-const OTHERS: [&str; 2] = ["x0", "x1"];
+const OTHERS: &[&str] = &["x0", "x1"];
 
 /// How often each query is made.
 const ROUNDS: u32 = 10;
@@ -54,11 +53,26 @@ fn time_list<R: Print + Eprint + Clock + AllocGlobal>(
 ) -> io::Result<()> {
     let wrong = ask_each(rt.alloc(), reader, queries);
     println!(rt; "lists of {members}: {wrong} wrong")?;
-    let start = Instant::now(rt)?;
+    let start = now(rt);
     let lost = ask_all(rt.alloc(), reader, queries, ROUNDS);
-    let taken = start.elapsed(rt)?;
+    let taken = since(rt, start);
     let turns = u64::from(ROUNDS).saturating_mul(queries.len() as u64);
     print_time(rt, what, taken, turns, lost)
+}
+
+/// Times one reader's queries with lists that begin with `before`.
+fn run_list<R: Print + Eprint + Clock + AllocGlobal>(
+    rt: &R,
+    reader: &mut Lookups,
+    asked: Asked,
+    members: u32,
+    before: &str,
+    what: &str,
+) -> io::Result<()> {
+    match queries(rt.alloc(), asked, before) {
+        Ok(queries) => time_list(rt, reader, &queries, members, what),
+        Err(_) => println!(rt; "out of memory"),
+    }
 }
 
 /// Times one reader's queries with a list of each length.
@@ -72,11 +86,8 @@ fn run_lists<R: Print + Eprint + Clock + AllocGlobal>(
         messages,
         count: messages.saturating_mul(LANGUAGES) / ROUNDS,
     };
-    'lists: for (members, before, what) in &LISTS {
-        match queries(rt.alloc(), asked, before) {
-            Ok(queries) => time_list(rt, reader, &queries, *members, what)?,
-            Err(_) => return println!(rt; "out of memory"),
-        }
+    'lists: for (members, before, what) in LISTS {
+        run_list(rt, reader, asked, *members, before, what)?;
     }
     Ok(())
 }

@@ -22,27 +22,45 @@ pub fn translation_of(alloc: Global, language: &str, id: &str) -> Result<String,
     format!(in alloc; "{id} in {language}")
 }
 
-/// A PO text for a language, with `messages` messages.
-pub fn po_text(alloc: Global, language: u32, messages: u32) -> Result<String, AllocError> {
-    let locale = locale_of(alloc, language)?;
+/// The entry of a message for a locale or, without a locale, of one of the other messages.
+fn entry_of(alloc: Global, locale: Option<&str>, message: u32) -> Result<String, AllocError> {
+    match locale {
+        Some(locale) => format!(in alloc;
+            "msgid \"message {message}\"\nmsgstr \"message {message} in {locale}\"\n"
+        ),
+        None => format!(in alloc; "msgid \"other {message}\"\nmsgstr \"other\"\n"),
+    }
+}
+
+/// Adds an entry to a text.
+fn push_entry(
+    alloc: Global,
+    text: &mut String,
+    locale: Option<&str>,
+    message: u32,
+) -> Result<(), AllocError> {
+    let entry = entry_of(alloc, locale, message)?;
+    text.push_str(&entry)
+}
+
+/// A PO text of `messages` entries.
+fn text_of(alloc: Global, locale: Option<&str>, messages: u32) -> Result<String, AllocError> {
     let mut text = String::new(alloc);
     'messages: for message in 0..messages {
-        let entry = format!(in alloc;
-            "msgid \"message {message}\"\nmsgstr \"message {message} in {locale}\"\n"
-        )?;
-        text.push_str(&entry)?;
+        push_entry(alloc, &mut text, locale, message)?;
     }
     Ok(text)
 }
 
+/// A PO text for a language, with `messages` messages.
+pub fn po_text(alloc: Global, language: u32, messages: u32) -> Result<String, AllocError> {
+    let locale = locale_of(alloc, language)?;
+    text_of(alloc, Some(locale.as_str()), messages)
+}
+
 /// A PO text with `messages` other messages.
 pub fn other_text(alloc: Global, messages: u32) -> Result<String, AllocError> {
-    let mut text = String::new(alloc);
-    'messages: for message in 0..messages {
-        let entry = format!(in alloc; "msgid \"other {message}\"\nmsgstr \"other\"\n")?;
-        text.push_str(&entry)?;
-    }
-    Ok(text)
+    text_of(alloc, None, messages)
 }
 
 /// What is asked for: `count` queries, each for one of the messages in one of the languages.

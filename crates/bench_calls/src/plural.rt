@@ -38,18 +38,29 @@ fn read_often(alloc: Global, text: &str) -> Result<u64, AllocError> {
     Ok(sum)
 }
 
+/// Sums the forms of the numbers below `TOP`. Returns the sum, and the picoseconds of a number.
+fn time_sum<R: Clock + AllocGlobal>(rt: &R, text: &str, rounds: u64) -> io::Result<(u64, u128)> {
+    let start = Instant::now(rt)?;
+    let sum = sum_forms(rt.alloc(), text, TOP, rounds)?;
+    let taken = start.elapsed(rt)?.as_nanos().saturating_mul(1000);
+    Ok((sum, taken / u128::from(TOP.saturating_mul(rounds).max(1))))
+}
+
+/// Reads a rule often. Returns the sum of the forms of 2, and the picoseconds of a reading.
+fn time_reads<R: Clock + AllocGlobal>(rt: &R, text: &str) -> io::Result<(u64, u128)> {
+    let start = Instant::now(rt)?;
+    let sum = read_often(rt.alloc(), text)?;
+    let taken = start.elapsed(rt)?.as_nanos().saturating_mul(1000);
+    Ok((sum, taken / u128::from(READS)))
+}
+
 /// Times one rule, after a first time that isn't timed. Prints the sum of its forms, the picoseconds of a number and of
 /// a reading, and whether both times gave the same.
 fn time_rule<R: Print + Clock + AllocGlobal>(rt: &R, text: &str, rounds: u64) -> io::Result<()> {
     let first_sum = sum_forms(rt.alloc(), text, TOP, rounds)?;
     let first_read = read_often(rt.alloc(), text)?;
-    let start = Instant::now(rt)?;
-    let sum = sum_forms(rt.alloc(), text, TOP, rounds)?;
-    let number = start.elapsed(rt)?.as_nanos().saturating_mul(1000)
-        / u128::from(TOP.saturating_mul(rounds).max(1));
-    let start = Instant::now(rt)?;
-    let read = read_often(rt.alloc(), text)?;
-    let reading = start.elapsed(rt)?.as_nanos().saturating_mul(1000) / u128::from(READS);
+    let (sum, number) = time_sum(rt, text, rounds)?;
+    let (read, reading) = time_reads(rt, text)?;
     let steady = sum == first_sum && read == first_read;
     println!(rt; "{sum} {number} {reading} {steady}")
 }

@@ -1,12 +1,12 @@
 //! Publishes of one catalogue with many others in the store.
 use crate::messages::{PLAIN, locale_of, po_text};
-use crate::times::print_time;
+use crate::times::{now, print_time, since, sum_of};
 use live_versions::Publisher;
 use std::alloc::Global;
 use std::io;
 use std::rt::Clock;
 use std::sync::Wait;
-use std::time::{Duration, Instant};
+use std::time::Duration;
 
 /// The number of timed publishes of one catalogue.
 const PUBLISHES: u32 = 1_000;
@@ -41,23 +41,18 @@ fn run_publishes<R: Print + Eprint + Clock + Wait + AllocGlobal>(
     text: &str,
 ) -> io::Result<()> {
     let mut wrong = load_others(rt.alloc(), publisher, text);
-    let mut taken = Duration::from_millis(0);
+    let mut taken = Some(Duration::from_millis(0));
     'turns: for _ in 0..PUBLISHES {
         let loaded = publisher.load(rt.alloc(), "app", "fr", text.as_bytes(), PLAIN);
-        let start = Instant::now(rt)?;
+        let start = now(rt);
         let published = publisher.publish(rt);
-        taken = taken.saturating_add(start.elapsed(rt)?);
+        taken = sum_of(taken, since(rt, start));
         if loaded.is_err() || published.is_err() {
             wrong = wrong.saturating_add(1);
         }
     }
-    print_time(
-        rt,
-        "publishes of one catalogue",
-        taken,
-        u64::from(PUBLISHES),
-        wrong,
-    )
+    let turns = u64::from(PUBLISHES);
+    print_time(rt, "publishes of one catalogue", taken, turns, wrong)
 }
 
 /// Times publishes of one catalogue with many others in the store.

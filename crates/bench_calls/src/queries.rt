@@ -2,7 +2,7 @@
 use crate::languages::publish_languages;
 use crate::messages::{Asked, LANGUAGES, queries};
 use crate::readers::{ask_all, ask_all_into, ask_each, keep_all, look_all};
-use crate::times::print_time;
+use crate::times::{now, print_time, since};
 use live_set::Query;
 use live_versions::{Lookups, Publisher};
 use std::alloc::Global;
@@ -10,7 +10,6 @@ use std::io;
 use std::rt::Clock;
 use std::sync::Wait;
 use std::thread::{Threads, map_vec};
-use std::time::Instant;
 
 /// How one reader makes its queries.
 #[derive(Clone, Copy)]
@@ -22,7 +21,7 @@ enum Way {
 }
 
 /// The ways, each with what is printed of it.
-const WAYS: [(Way, &str); 4] = [
+const WAYS: &[(Way, &str)] = &[
     (Way::Look, "look-ups without a copy, one reader"),
     (Way::Ask, "queries, one reader"),
     (Way::AskInto, "queries into one text, one reader"),
@@ -59,10 +58,10 @@ fn time_one<R: Print + Eprint + Clock + AllocGlobal>(
     let count = queries.len();
     let wrong = ask_each(rt.alloc(), reader, queries);
     println!(rt; "{count} answers: {wrong} wrong")?;
-    'ways: for (way, what) in &WAYS {
-        let start = Instant::now(rt)?;
+    'ways: for (way, what) in WAYS {
+        let start = now(rt);
         let wrong = way.make_all(rt.alloc(), reader, queries, rounds);
-        let taken = start.elapsed(rt)?;
+        let taken = since(rt, start);
         let turns = u64::from(way.rounds(rounds)).saturating_mul(count as u64);
         print_time(rt, what, taken, turns, wrong)?;
     }
@@ -70,7 +69,7 @@ fn time_one<R: Print + Eprint + Clock + AllocGlobal>(
 }
 
 /// The sum of what the readers lost.
-fn sum_of(found: &[u64]) -> u64 {
+fn total(found: &[u64]) -> u64 {
     let mut sum: u64 = 0;
     'readers: for lost in found {
         sum = sum.saturating_add(*lost);
@@ -86,20 +85,20 @@ fn time_four<R: Print + Eprint + Clock + Threads + AllocGlobal + Sync>(
     rounds: u32,
 ) -> io::Result<()> {
     let alloc = rt.alloc();
-    let start = Instant::now(rt)?;
+    let start = now(rt);
     let found = map_vec(
         rt,
         readers,
         &|mut reader: Lookups| ask_all(alloc, &mut reader, queries, rounds),
     );
-    let taken = start.elapsed(rt)?;
-    let Ok(found) = found else {
-        return println!(rt; "out of memory");
-    };
+    let taken = since(rt, start);
     let turns = u64::from(rounds)
         .saturating_mul(queries.len() as u64)
         .saturating_mul(4);
-    print_time(rt, "queries, four readers", taken, turns, sum_of(&found))
+    match found {
+        Ok(found) => print_time(rt, "queries, four readers", taken, turns, total(&found)),
+        Err(_) => println!(rt; "out of memory"),
+    }
 }
 
 fn run_queries<R: Print + Eprint + Clock + Threads + AllocGlobal + Sync>(

@@ -4,6 +4,7 @@ ghost use Rattle.std.specs.Prelude.{◌≡◌, ◌≤◌, All, IfOk, vec_len};
 use crate::languages::publish_languages;
 use crate::messages::{Asked, LANGUAGES, PLAIN, locale_of, po_text, queries};
 use crate::readers::is_answer;
+use crate::times::{now, since};
 use desks::{Answer, Desk, Gate, Job, Place, Source, serve};
 use live_set::Query;
 use live_versions::{Lookups, Publisher};
@@ -12,7 +13,7 @@ use std::io;
 use std::rt::Clock;
 use std::sync::Wait;
 use std::thread::Threads;
-use std::time::Instant;
+use std::time::Duration;
 
 /// The number of messages in a job's text.
 const JOB_MESSAGES: u32 = 10;
@@ -110,17 +111,21 @@ fn all_wrong_answers(alloc: Global, desks: &[Desk]) -> u64 {
     wrong
 }
 
+/// Prints how many answers went wrong, and how long each query took.
 fn print_serve<R: Print + Eprint + AllocGlobal>(
     rt: &R,
     desks: &[Desk],
     jobs: u32,
-    nanos: u128,
+    taken: Option<Duration>,
     queries: u64,
 ) -> io::Result<()> {
+    let Some(taken) = taken else {
+        return println!(rt; "serve: no clock");
+    };
     let count = desks.len();
     let wrong = all_wrong_answers(rt.alloc(), desks);
     println!(rt; "serve, {count} desks, {jobs} jobs: {wrong} wrong")?;
-    let each = nanos / u128::from(queries.max(1));
+    let each = taken.as_nanos() / u128::from(queries.max(1));
     eprintln!(rt; "serve, {count} desks beside {jobs} jobs: {each} ns each, {queries} times")
 }
 
@@ -138,11 +143,11 @@ fn run_desks<R: Print + Eprint + Clock + Threads + Wait + AllocGlobal + Sync>(
     let Ok(texts) = jobs_of(rt.alloc(), jobs) else {
         return println!(rt; "out of memory");
     };
-    let start = Instant::now(rt)?;
+    let start = now(rt);
     let served = serve(rt, rt.alloc(), publisher, desks, texts, &Open);
-    let taken = start.elapsed(rt)?;
+    let taken = since(rt, start);
     match served {
-        Ok(_) => print_serve(rt, desks, jobs, taken.as_nanos(), queries),
+        Ok(_) => print_serve(rt, desks, jobs, taken, queries),
         Err(fault) => println!(rt; "serve: {fault}"),
     }
 }

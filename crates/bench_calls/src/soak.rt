@@ -1,6 +1,7 @@
 //! Four readers look up in a live store while two catalogues are replaced over and over. Each text is the number of its
 //! version, so that a reader sees whether a text is of the version that it entered, and whether a version went back.
 use crate::messages::PLAIN;
+use crate::times::{is_within, now};
 use live_versions::{Lookups, Publisher, Version};
 use std::alloc::{AllocError, Global};
 use std::io;
@@ -9,7 +10,6 @@ use std::sync::Wait;
 use std::sync::atomic::AtomicBool;
 use std::sync::atomic::Ordering::SeqCst;
 use std::thread::{Threads, join, map_vec};
-use std::time::Instant;
 
 /// What a reader counted.
 #[derive(Clone, Copy)]
@@ -101,16 +101,14 @@ fn publish<R: Wait + Clock + AllocGlobal>(
     seconds: u64,
     stop: &AtomicBool,
 ) -> u64 {
+    let start = now(rt);
     let mut wrong: u64 = 0;
-    if let Ok(start) = Instant::now(rt) {
-        'turns: for turn in 1..1_000_000_000_u64 {
-            if replace_both(rt, publisher, 2 * turn) != Ok(true) {
-                wrong = wrong.saturating_add(1);
-            }
-            match start.elapsed(rt) {
-                Ok(elapsed) if elapsed.as_secs() < seconds => {}
-                _ => break,
-            }
+    'turns: for turn in 1..1_000_000_000_u64 {
+        if replace_both(rt, publisher, 2 * turn) != Ok(true) {
+            wrong = wrong.saturating_add(1);
+        }
+        if !is_within(rt, start, seconds) {
+            break;
         }
     }
     stop.store(true, SeqCst);

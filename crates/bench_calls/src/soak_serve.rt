@@ -5,6 +5,7 @@ ghost use Rattle.std.specs.Prelude.{◌≡◌, ◌≤◌, All, vec_len};
 use crate::messages::Asked;
 use crate::serving::{Open, desks_of, job_of};
 use crate::soak::{text_of, version_in};
+use crate::times::{is_within, now};
 use desks::{Answer, Desk, Job, Served, serve};
 use live_versions::{Lookups, Publisher, Version};
 use std::alloc::{AllocError, Global};
@@ -12,7 +13,6 @@ use std::io;
 use std::rt::Clock;
 use std::sync::Wait;
 use std::thread::Threads;
-use std::time::Instant;
 
 /// How many jobs a service has.
 const JOBS: u32 = 100;
@@ -82,6 +82,31 @@ fn count_all(counts: &mut Counts, served: &Served, desks: &[Desk], version: Vers
     }
 }
 
+/// Serves the desks once, and counts what was answered. Answers whether there was memory for the jobs.
+fn serve_once<R: Threads + Wait + AllocGlobal + Sync>(
+    rt: &R,
+    publisher: &mut Publisher,
+    desks: &mut Vec<Desk>,
+    counts: &mut Counts,
+) -> bool
+    requires book { All (λ d. d.reader.book ≡ publisher.old.seen.book) desks.old.items }
+    requires count { (1 ≤ vec_len desks.old) × (vec_len desks.old ≤ 16) }
+    ensures book { publisher.new.seen.book ≡ publisher.old.seen.book }
+    ensures kept { All (λ d. d.reader.book ≡ publisher.old.seen.book) desks.new.items }
+    ensures count { vec_len desks.new ≡ vec_len desks.old }
+{
+    let version = publisher.version();
+    let Ok(texts) = jobs_of(rt.alloc(), version) else {
+        counts.lost = counts.lost.saturating_add(1);
+        return false;
+    };
+    match serve(rt, rt.alloc(), publisher, desks, texts, &Open) {
+        Ok(served) => count_all(counts, &served, desks, version),
+        Err(_) => counts.lost = counts.lost.saturating_add(1),
+    }
+    true
+}
+
 /// Serves the desks over and over for `seconds`. Answers how many services there were.
 fn serve_long<R: Threads + Wait + Clock + AllocGlobal + Sync>(
     rt: &R,
@@ -89,28 +114,22 @@ fn serve_long<R: Threads + Wait + Clock + AllocGlobal + Sync>(
     desks: &mut Vec<Desk>,
     seconds: u64,
     counts: &mut Counts,
-) -> io::Result<u64>
+) -> u64
     requires book { All (λ d. d.reader.book ≡ publisher.old.seen.book) desks.old.items }
     requires count { (1 ≤ vec_len desks.old) × (vec_len desks.old ≤ 16) }
 {
-    let start = Instant::now(rt)?;
+    let start = now(rt);
     let mut services: u64 = 0;
     'services: for service in 0..1_000_000_u64 {
-        let version = publisher.version();
-        let Ok(texts) = jobs_of(rt.alloc(), version) else {
-            counts.lost = counts.lost.saturating_add(1);
+        if !serve_once(rt, publisher, desks, counts) {
             break;
-        };
-        match serve(rt, rt.alloc(), publisher, desks, texts, &Open) {
-            Ok(served) => count_all(counts, &served, desks, version),
-            Err(_) => counts.lost = counts.lost.saturating_add(1),
         }
         services = service + 1;
-        if start.elapsed(rt)?.as_secs() >= seconds {
+        if !is_within(rt, start, seconds) {
             break;
         }
     }
-    Ok(services)
+    services
 }
 
 /// Prints what went wrong, and how much was done.
@@ -147,7 +166,7 @@ pub fn soak_serve<R: Print + Eprint + Threads + Wait + Clock + AllocGlobal + Syn
         lost: 0,
     };
     let services = match desks_of(rt.alloc(), publisher, readers, ASKED) {
-        Ok(mut desks) => serve_long(rt, publisher, &mut desks, seconds, &mut counts)?,
+        Ok(mut desks) => serve_long(rt, publisher, &mut desks, seconds, &mut counts),
         Err(_) => 0,
     };
     print_counts(rt, seconds, services, &counts)

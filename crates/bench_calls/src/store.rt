@@ -27,7 +27,7 @@ pub const TURNS: u32 = 100;
 const WORK: u32 = 30_000;
 
 /// The number of readers beside a publisher, the turns of other work after each entry, and whether it publishes.
-const BESIDES: [(u32, u32, bool); 8] = [
+const BESIDES: &[(u32, u32, bool)] = &[
     (4, 0, false),
     (4, 0, true),
     (4, WORK, false),
@@ -39,10 +39,10 @@ const BESIDES: [(u32, u32, bool); 8] = [
 ];
 
 /// How often each query is made: often if they are few, once if they are many.
-const ROUNDS: [u32; 2] = [10, 1];
+const ROUNDS: &[u32] = &[10, 1];
 
 /// The numbers of desks that are timed, and of the jobs of the publishing thread.
-const DESKS: [(u32, u32); 10] = [
+const DESKS: &[(u32, u32)] = &[
     (1, 0),
     (1, JOBS),
     (2, 0),
@@ -151,7 +151,7 @@ fn time_entries<R: Print + Eprint + Clock + Threads + Wait + AllocGlobal + Sync>
     turns: u32,
 ) -> io::Result<()> {
     with_store(rt, Work::Alone(Alone::Entries))?;
-    'besides: for (readers, work, publishing) in &BESIDES {
+    'besides: for (readers, work, publishing) in BESIDES {
         let beside = Beside {
             readers: *readers,
             work: *work,
@@ -168,7 +168,7 @@ fn time_desks<R: Print + Eprint + Clock + Threads + Wait + AllocGlobal + Sync>(
     rt: &R,
     messages: u32,
 ) -> io::Result<()> {
-    'desks: for (desks, jobs) in &DESKS {
+    'desks: for (desks, jobs) in DESKS {
         let serving = Serving {
             messages,
             desks: *desks,
@@ -186,7 +186,7 @@ pub fn time_store<R: Print + Eprint + Clock + Threads + Wait + AllocGlobal + Syn
     publishes: u32,
 ) -> io::Result<()> {
     time_entries(rt, publishes)?;
-    'rounds: for rounds in &ROUNDS {
+    'rounds: for rounds in ROUNDS {
         with_store(rt, Work::Queries(messages, *rounds))?;
     }
     with_store(rt, Work::Alone(Alone::Lists(messages)))?;
