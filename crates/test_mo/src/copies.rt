@@ -62,21 +62,30 @@ struct Copies {
     starts: Vec<u32>,
 }
 
-/// Makes the copies, with letters between them, and a NUL at the end.
+/// Appends copies of a text, with letters between them, and a NUL at the end.
+fn push_copies(copies: &mut Copies, letters: &mut Letters, text: &[u8]) -> Result<(), AllocError> {
+    for copy in 0..COPIES {
+        copies
+            .starts
+            .push((copies.strings.len() % 4_294_967_296) as u32)?;
+        copies.strings.extend_from_slice(text)?;
+        push_mark(&mut copies.strings, copy)?;
+        let gap = letters.below(1000).wrapping_add(1);
+        letters.push(&mut copies.strings, gap)?;
+    }
+    Ok(copies.strings.push(0)?)
+}
+
+/// Makes the copies.
 fn make_copies(alloc: Global) -> Result<Copies, AllocError> {
     let mut letters = Letters { state: 5 };
     let text = copied(alloc, &mut letters)?;
-    let mut strings = Vec::new(alloc);
-    let mut starts = Vec::new(alloc);
-    for copy in 0..COPIES {
-        starts.push((strings.len() % 4_294_967_296) as u32)?;
-        strings.extend_from_slice(&text)?;
-        push_mark(&mut strings, copy)?;
-        let gap = letters.below(1000).wrapping_add(1);
-        letters.push(&mut strings, gap)?;
-    }
-    strings.push(0)?;
-    Ok(Copies { strings, starts })
+    let mut copies = Copies {
+        strings: Vec::new(alloc),
+        starts: Vec::new(alloc),
+    };
+    push_copies(&mut copies, &mut letters, &text)?;
+    Ok(copies)
 }
 
 /// Returns rows whose originals go from a copy to the end of all. Those that begin at one mark are in every `step`-th
@@ -107,36 +116,59 @@ fn pairs(alloc: Global, copies: &Copies) -> Result<Vec<Pair>, AllocError> {
     Ok(pairs)
 }
 
-/// Why the file of all pairs is refused, once a byte of this copy has been changed.
-fn refusal_of(
-    alloc: Global,
-    copy: usize,
-    place: u32,
-    byte: Option<u8>,
-) -> Result<Option<MoFault>, AllocError> {
-    let mut copies = make_copies(alloc)?;
-    let pairs = pairs(alloc, &copies)?;
+/// Changes a byte of a copy.
+fn change(copies: &mut Copies, copy: usize, place: u32, byte: u8) {
     let begin = copies.starts.get(copy).copied().unwrap_or(0);
-    let place = begin.wrapping_add(place) as usize;
-    if let (Some(old), Some(new)) = (copies.strings.get_mut(place), byte) {
-        *old = new;
+    if let Some(old) = copies.strings.get_mut(begin.wrapping_add(place) as usize) {
+        *old = byte;
     }
-    refusal_of_rows(alloc, &pairs, &copies.strings)
+}
+
+/// Why the file of all pairs is refused.
+fn refusal_of(alloc: Global, copies: &Copies) -> Option<MoFault> {
+    match pairs(alloc, copies) {
+        Ok(pairs) => refusal_of_rows(alloc, &pairs, &copies.strings, true),
+        Err(_) => Some(MoFault::Memory),
+    }
+}
+
+/// Whether it is refused so, once a byte of this copy has been changed.
+fn is_refused(alloc: Global, copy: usize, place: u32, byte: Option<u8>, wanted: MoFault) -> bool {
+    match make_copies(alloc) {
+        Ok(mut copies) => {
+            if let Some(byte) = byte {
+                change(&mut copies, copy, place, byte);
+            }
+            refusal_of(alloc, &copies) == Some(wanted)
+        }
+        Err(_) => false,
+    }
+}
+
+/// A copy, the place in it of a byte that is changed, the new byte, and why the file is refused then.
+const CHANGES: &[(usize, u32, Option<u8>, MoFault)] = &[
+    (0, 0, None, MoFault::Swollen),
+    // A copy that differs before its end, and is still above those before it or no longer.
+    (35, 19_000, Some(b'~'), MoFault::Swollen),
+    (35, 19_000, Some(b'!'), MoFault::Order),
+    (17, 19_000, Some(b'~'), MoFault::Order),
+    // The last two bytes of a copy.
+    (35, COPIED, Some(b'A'), MoFault::Order),
+    (35, COPIED, Some(b'C'), MoFault::Swollen),
+];
+
+/// The copy, the place and the byte of the first row that isn't refused so.
+fn wrong_change(alloc: Global) -> Option<(usize, u32, Option<u8>)> {
+    for (copy, place, byte, wanted) in CHANGES {
+        if !is_refused(alloc, *copy, *place, *byte, *wanted) {
+            return Some((*copy, *place, *byte));
+        }
+    }
+    None
 }
 
 #[test]
 fn copies_of_one_text(rt: HostRuntime) {
-    for (copy, place, byte, wanted) in [
-        (0, 0, None, MoFault::Swollen),
-        // A copy that differs before its end, and is still above those before it or no longer.
-        (35, 19_000, Some(b'~'), MoFault::Swollen),
-        (35, 19_000, Some(b'!'), MoFault::Order),
-        (17, 19_000, Some(b'~'), MoFault::Order),
-        // The last two bytes of a copy.
-        (35, COPIED, Some(b'A'), MoFault::Order),
-        (35, COPIED, Some(b'C'), MoFault::Swollen),
-    ] {
-        let found = refusal_of(rt.alloc(), copy, place, byte);
-        assert!(rt; found == Ok(Some(wanted)), "{copy} {place}");
-    }
+    let wrong = wrong_change(rt.alloc());
+    assert!(rt; wrong.is_none(), "{wrong:?}");
 }
