@@ -7,48 +7,49 @@ use catalogue::{Catalogue, Message};
 use std::alloc::{AllocError, Global};
 use std::str;
 
-const LAWFUL: [&str; 12] = [
-    "",
-    "-|a|-|x/-|ba|-|xx",
-    "-|a|-|",
+/// Lists, and whether they are accepted.
+const LISTS: &[(&str, bool)] = &[
+    ("", true),
+    ("-|a|-|x/-|ba|-|xx", true),
+    ("-|a|-|", true),
     // Forms: any number with a plural, and byte 4 in plurals and forms.
-    "-|a|b\u{4}|x\u{4}",
-    "-|a|b|x|y||z",
+    ("-|a|b\u{4}|x\u{4}", true),
+    ("-|a|b|x|y||z", true),
     // Headers.
-    "-||-|charset=utf-8\n",
-    "-||-|charset=CHARSET/-|a|-|x",
-    "-||-|",
+    ("-||-|charset=utf-8\n", true),
+    ("-||-|charset=CHARSET/-|a|-|x", true),
+    ("-||-|", true),
     // A charset outside the header.
-    "-|a|-|charset=KOI8-R",
-    "||-|charset=KOI8-R",
+    ("-|a|-|charset=KOI8-R", true),
+    ("||-|charset=KOI8-R", true),
     // Byte 4 follows a context, so these keys rise.
-    "|b|-|x/-|b|-|2/k|b|-|x",
-    "a\u{1}|z|-|x/a|a|-|x/a|b|-|x/a\u{5}|a|-|x/-|a\u{5}a|-|x",
-];
-
-const UNLAWFUL: [&str; 18] = [
+    ("|b|-|x/-|b|-|2/k|b|-|x", true),
+    (
+        "a\u{1}|z|-|x/a|a|-|x/a|b|-|x/a\u{5}|a|-|x/-|a\u{5}a|-|x",
+        true,
+    ),
     // The order of the keys.
-    "-|b|-|x/-|a|-|x",
-    "-|a|-|x/-|a|-|y",
-    "-|a|-|x/-|c|-|x/-|b|-|x",
-    "k|b|-|x/k|b|-|x",
-    "-|b|-|x/|b|-|x",
-    "a|z|-|x/a\u{1}|a|-|x",
-    "a\u{5}|a|-|x/a|z|-|x",
-    "-|ab|-|x/a|z|-|x",
+    ("-|b|-|x/-|a|-|x", false),
+    ("-|a|-|x/-|a|-|y", false),
+    ("-|a|-|x/-|c|-|x/-|b|-|x", false),
+    ("k|b|-|x/k|b|-|x", false),
+    ("-|b|-|x/|b|-|x", false),
+    ("a|z|-|x/a\u{1}|a|-|x", false),
+    ("a\u{5}|a|-|x/a|z|-|x", false),
+    ("-|ab|-|x/a|z|-|x", false),
     // The number of forms.
-    "-|a|-|x|y",
-    "-|a|-",
-    "-|a|b",
+    ("-|a|-|x|y", false),
+    ("-|a|-", false),
+    ("-|a|b", false),
     // Bytes.
-    "-|a|-|x\0",
-    "-|\0|-|x",
-    "-|a|\0|x",
-    "k\0|a|-|x",
-    "-|a\u{4}b|-|x",
-    "k\u{4}|a|-|x",
+    ("-|a|-|x\0", false),
+    ("-|\0|-|x", false),
+    ("-|a|\0|x", false),
+    ("k\0|a|-|x", false),
+    ("-|a\u{4}b|-|x", false),
+    ("k\u{4}|a|-|x", false),
     // The charset.
-    "-||-|charset=KOI8-R",
+    ("-||-|charset=KOI8-R", false),
 ];
 
 fn owned(alloc: Global, text: Option<&str>) -> Result<Option<String>, AllocError> {
@@ -96,34 +97,51 @@ fn accepts(alloc: Global, list: &str) -> Option<bool> {
     }
 }
 
-#[test]
-fn accepts_lawful_messages(rt: HostRuntime) {
-    for list in LAWFUL {
-        assert!(rt; accepts(rt.alloc(), list) == Some(true), "{list}");
+/// The first list that is judged otherwise.
+fn wrong_list(alloc: Global) -> Option<&'static str> {
+    for (list, wanted) in LISTS {
+        if accepts(alloc, list) != Some(*wanted) {
+            return Some(*list);
+        }
     }
+    None
 }
 
 #[test]
-fn refuses_unlawful_messages(rt: HostRuntime) {
-    for list in UNLAWFUL {
-        assert!(rt; accepts(rt.alloc(), list) == Some(false), "{list}");
+fn accepts_lawful_messages_alone(rt: HostRuntime) {
+    let wrong = wrong_list(rt.alloc());
+    assert!(rt; wrong.is_none(), "{wrong:?}");
+}
+
+/// A text of `len` bytes, or `None` if memory runs out.
+fn long_text(alloc: Global, len: usize) -> Option<String> {
+    match vec![in alloc; b'x'; len] {
+        Ok(bytes) => String::from_utf8(bytes).ok(),
+        Err(_) => None,
     }
 }
 
-/// Makes a message `a` with one form of `len` bytes.
-fn long_message(alloc: Global, len: usize) -> Result<Vec<Message>, AllocError> {
-    let mut list = messages(alloc, "-|a|-")?;
-    let bytes = vec![in alloc; b'x'; len]?;
-    if let (Some(message), Ok(text)) = (list.first_mut(), String::from_utf8(bytes)) {
-        message.forms.push(text)?;
+/// Gives the first message one more form of `len` bytes, or returns `false` if memory runs out.
+fn push_long(alloc: Global, list: &mut [Message], len: usize) -> bool {
+    let Some(message) = list.first_mut() else {
+        return false;
+    };
+    match long_text(alloc, len) {
+        Some(text) => message.forms.push(text).is_ok(),
+        None => false,
     }
-    Ok(list)
 }
 
-/// Whether a message with a form of `len` bytes is accepted, or `None` if memory runs out.
+/// Whether a message `a` with one form of `len` bytes is accepted, or `None` if memory runs out.
 fn accepts_long(alloc: Global, len: usize) -> Option<bool> {
-    match long_message(alloc, len) {
-        Ok(messages) => Some(Catalogue::accepts(messages.as_slice())),
+    match messages(alloc, "-|a|-") {
+        Ok(mut list) => {
+            if push_long(alloc, &mut list, len) {
+                Some(Catalogue::accepts(&list))
+            } else {
+                None
+            }
+        }
         Err(_) => None,
     }
 }

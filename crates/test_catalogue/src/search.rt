@@ -14,30 +14,33 @@ const PLAIN: Options = Options {
 /// Appends the last `places` digits of a number, which has at most six.
 fn push_digits(text: &mut String, n: u32, places: usize) -> Result<(), AllocError> {
     let digits = [n / 100_000, n / 10_000, n / 1_000, n / 100, n / 10, n];
-    for digit in digits.into_iter().skip(6usize.saturating_sub(places)) {
-        text.push(char::from(b'0' + (digit % 10) as u8))?;
+    for digit in digits.iter().skip(6usize.saturating_sub(places)) {
+        text.push(char::from(b'0' + (*digit % 10) as u8))?;
     }
     Ok(())
 }
 
-/// The key of a number: `k` and its last digits.
-fn key_of(alloc: Global, n: u32, places: usize) -> Result<String, AllocError> {
-    let mut key = String::from_str(alloc, "k")?;
-    push_digits(&mut key, n, places)?;
-    Ok(key)
+/// Appends the key of a number: `k` and its last digits.
+fn push_key(text: &mut String, n: u32, places: usize) -> Result<(), AllocError> {
+    text.push('k')?;
+    push_digits(text, n, places)
 }
 
-/// Returns a PO text of `count` messages: `k` and the digits of a number, translated as the digits.
-fn numbered(alloc: Global, count: u32, places: usize) -> Result<String, AllocError> {
-    let mut text = String::new(alloc);
+/// Appends a message: the key of a number, translated as its digits.
+fn push_message(text: &mut String, n: u32, places: usize) -> Result<(), AllocError> {
+    text.push_str("msgid \"")?;
+    push_key(text, n, places)?;
+    text.push_str("\"\nmsgstr \"")?;
+    push_digits(text, n, places)?;
+    text.push_str("\"\n")
+}
+
+/// Appends a PO text of `count` such messages.
+fn push_numbered(text: &mut String, count: u32, places: usize) -> Result<(), AllocError> {
     for n in 0..count {
-        text.push_str("msgid \"k")?;
-        push_digits(&mut text, n, places)?;
-        text.push_str("\"\nmsgstr \"")?;
-        push_digits(&mut text, n, places)?;
-        text.push_str("\"\n")?;
+        push_message(text, n, places)?;
     }
-    Ok(text)
+    Ok(())
 }
 
 /// Compiles a PO text, or returns `None` if memory runs out.
@@ -48,10 +51,11 @@ fn catalogue_of(alloc: Global, text: &[u8]) -> Option<Catalogue> {
     }
 }
 
-/// The catalogue of `numbered`.
+/// The catalogue of `push_numbered`, or `None` if memory runs out.
 fn numbered_catalogue(alloc: Global, count: u32, places: usize) -> Option<Catalogue> {
-    match numbered(alloc, count, places) {
-        Ok(text) => catalogue_of(alloc, text.as_bytes()),
+    let mut text = String::new(alloc);
+    match push_numbered(&mut text, count, places) {
+        Ok(()) => catalogue_of(alloc, text.as_bytes()),
         Err(_) => None,
     }
 }
@@ -101,14 +105,16 @@ fn finds_number<L: Ledger>(
 ) -> bool
     requires { length catalogue.now ≤ 1000 }
 {
-    match key_of(alloc, n, 3) {
-        Ok(key) => {
-            let key = key.as_str();
-            is_found_by_both(catalogue, key, key.strip_prefix('k'), steps)
-        }
-        Err(_) => false,
+    let mut text = String::new(alloc);
+    if push_key(&mut text, n, 3).is_err() {
+        return false;
     }
+    let key = text.as_str();
+    is_found_by_both(catalogue, key, key.strip_prefix('k'), steps)
 }
+
+/// Keys that aren't among the thousand.
+const OTHERS: &[&str] = &["k", "k0005", "k9999", "", "j", "l"];
 
 /// Whether all of a thousand keys are found in ten steps each, and other keys aren't.
 fn finds_thousand<L: Ledger>(alloc: Global, catalogue: &Catalogue, blank: Blank) -> bool
@@ -122,7 +128,7 @@ fn finds_thousand<L: Ledger>(alloc: Global, catalogue: &Catalogue, blank: Blank)
     for n in 0..1000 {
         found = found && finds_number(alloc, catalogue, n, &mut steps);
     }
-    for other in ["k", "k0005", "k9999", "", "j", "l"] {
+    for other in OTHERS {
         found = found && is_found_by_both(catalogue, other, None, &mut steps);
     }
     found
@@ -150,58 +156,66 @@ fn finds_among_a_thousand(rt: HostRuntime) {
     assert!(rt; has_thousand_by_both(rt.alloc()));
 }
 
-/// Whether a look-up of a msgid, in a context or in none, gives this text.
-fn gives(catalogue: &Catalogue, context: Option<&str>, id: &str, wanted: &str) -> bool {
-    match context {
-        Some(context) => catalogue.pgettext(context, id) == wanted,
-        None => catalogue.gettext(id) == wanted,
-    }
+/// A look-up, and the text that it gives: its context and its number, which may be missing, and its msgid, whose plural
+/// is `as`.
+type Row = (
+    Option<&'static str>,
+    &'static str,
+    Option<u64>,
+    &'static str,
+);
+
+/// Whether a look-up gives its text.
+fn gives(catalogue: &Catalogue, row: Row) -> bool {
+    let (context, id, n, wanted) = row;
+    let found = match (context, n) {
+        (Some(context), _) => catalogue.pgettext(context, id),
+        (None, Some(n)) => catalogue.ngettext(id, "as", n),
+        (None, None) => catalogue.gettext(id),
+    };
+    found == wanted
 }
 
 /// Whether each of these look-ups gives its text.
-fn gives_each(catalogue: &Catalogue, texts: &[(Option<&str>, &str, &str)]) -> bool {
-    for (context, id, wanted) in texts {
-        if !gives(catalogue, *context, id, wanted) {
+fn gives_each(catalogue: &Catalogue, rows: &[Row]) -> bool {
+    for row in rows {
+        if !gives(catalogue, *row) {
             return false;
         }
     }
     true
 }
 
-/// Keys are equal only if their bytes are.
-const CONTEXT_TEXTS: [(Option<&str>, &str, &str); 10] = [
-    (Some("c"), "a", "x"),
-    (Some(""), "a", "y"),
-    (None, "a", "z"),
-    (None, "c\u{4}a", "x"),
-    (None, "\u{4}a", "y"),
-    (Some("c\u{4}a"), "a", "a"),
-    (Some(""), "\u{4}a", "\u{4}a"),
-    (None, "a\0as", "a\0as"),
-    (None, "as", "as"),
-    (None, "", ""),
-];
-
-const IN_CONTEXTS: &[u8] = b"msgctxt \"c\"\nmsgid \"a\"\nmsgstr \"x\"\n\
-    msgctxt \"\"\nmsgid \"a\"\nmsgstr \"y\"\n\
-    msgid \"a\"\nmsgid_plural \"as\"\nmsgstr[0] \"z\"\nmsgstr[1] \"w\"\n";
-
-/// Whether these messages are told apart by an index.
-fn tells_contexts_by_index(alloc: Global) -> bool {
-    match catalogue_of(alloc, IN_CONTEXTS) {
+/// Whether that is so in the catalogue of a text, with an index and without one.
+fn gives_each_by_both(alloc: Global, text: &[u8], rows: &[Row]) -> bool {
+    match catalogue_of(alloc, text) {
         Some(mut catalogue) => {
-            catalogue.index(alloc).is_ok()
-                && gives_each(&catalogue, &CONTEXT_TEXTS)
-                && catalogue.ngettext("a", "as", 2) == "w"
+            gives_each(&catalogue, rows)
+                && catalogue.index(alloc).is_ok()
+                && gives_each(&catalogue, rows)
         }
         None => false,
     }
 }
 
-#[test]
-fn finds_contexts_by_an_index(rt: HostRuntime) {
-    assert!(rt; tells_contexts_by_index(rt.alloc()));
-}
+/// Keys are equal only if their bytes are.
+const CONTEXT_TEXTS: &[Row] = &[
+    (Some("c"), "a", None, "x"),
+    (Some(""), "a", None, "y"),
+    (None, "a", None, "z"),
+    (None, "a", Some(2), "w"),
+    (None, "c\u{4}a", None, "x"),
+    (None, "\u{4}a", None, "y"),
+    (Some("c\u{4}a"), "a", None, "a"),
+    (Some(""), "\u{4}a", None, "\u{4}a"),
+    (None, "a\0as", None, "a\0as"),
+    (None, "as", None, "as"),
+    (None, "", None, ""),
+];
+
+const IN_CONTEXTS: &[u8] = b"msgctxt \"c\"\nmsgid \"a\"\nmsgstr \"x\"\n\
+    msgctxt \"\"\nmsgid \"a\"\nmsgstr \"y\"\n\
+    msgid \"a\"\nmsgid_plural \"as\"\nmsgstr[0] \"z\"\nmsgstr[1] \"w\"\n";
 
 /// The hash function has a fixed seed, so keys can be chosen that share a hash: in the context `euf`, the first eight
 /// bytes of these msgids make a factor of the hasher's product zero, so the next eight don't count, and their last
@@ -216,16 +230,16 @@ const HASH_D: &str = "EZ1T{u9^ddddddddthe same end of.";
 
 /// The first three of these keys are found and the fourth isn't, and so are keys that differ only in where the context
 /// ends, or in whether there is one.
-const HASH_TEXTS: [(Option<&str>, &str, &str); 9] = [
-    (Some("euf"), HASH_A, "1"),
-    (Some("euf"), HASH_B, "2"),
-    (Some("euf"), HASH_C, "3"),
-    (Some("euf"), HASH_D, HASH_D),
-    (None, HASH_A, HASH_A),
-    (Some("ab"), "c", "4"),
-    (Some("a"), "bc", "5"),
-    (Some(""), "abc", "6"),
-    (None, "abc", "7"),
+const HASH_TEXTS: &[Row] = &[
+    (Some("euf"), HASH_A, None, "1"),
+    (Some("euf"), HASH_B, None, "2"),
+    (Some("euf"), HASH_C, None, "3"),
+    (Some("euf"), HASH_D, None, HASH_D),
+    (None, HASH_A, None, HASH_A),
+    (Some("ab"), "c", None, "4"),
+    (Some("a"), "bc", None, "5"),
+    (Some(""), "abc", None, "6"),
+    (None, "abc", None, "7"),
 ];
 
 const HASHED: &[u8] = b"msgctxt \"euf\"\nmsgid \"EZ1T{u9^aaaaaaaathe same end of.\"\nmsgstr \"1\"\n\
@@ -236,21 +250,10 @@ const HASHED: &[u8] = b"msgctxt \"euf\"\nmsgid \"EZ1T{u9^aaaaaaaathe same end of
     msgctxt \"\"\nmsgid \"abc\"\nmsgstr \"6\"\n\
     msgid \"abc\"\nmsgstr \"7\"\n";
 
-/// Whether these messages are told apart with an index and without one.
-fn tells_hashes_by_both(alloc: Global) -> bool {
-    match catalogue_of(alloc, HASHED) {
-        Some(mut catalogue) => {
-            gives_each(&catalogue, &HASH_TEXTS)
-                && catalogue.index(alloc).is_ok()
-                && gives_each(&catalogue, &HASH_TEXTS)
-        }
-        None => false,
-    }
-}
-
 #[test]
-fn finds_keys_of_one_hash(rt: HostRuntime) {
-    assert!(rt; tells_hashes_by_both(rt.alloc()));
+fn tells_keys_apart(rt: HostRuntime) {
+    assert!(rt; gives_each_by_both(rt.alloc(), IN_CONTEXTS, CONTEXT_TEXTS));
+    assert!(rt; gives_each_by_both(rt.alloc(), HASHED, HASH_TEXTS));
 }
 
 fn finds_nothing(catalogue: &Catalogue) -> bool {
@@ -286,10 +289,8 @@ fn looks_up(catalogue: &Catalogue, key: &str) -> bool {
 
 /// Whether the key of a number is looked up correctly.
 fn looks_up_number(alloc: Global, catalogue: &Catalogue, n: u32) -> bool {
-    match key_of(alloc, n, 6) {
-        Ok(key) => looks_up(catalogue, key.as_str()),
-        Err(_) => false,
-    }
+    let mut key = String::new(alloc);
+    push_key(&mut key, n, 6).is_ok() && looks_up(catalogue, key.as_str())
 }
 
 /// Whether a catalogue has half a million entries, and all are looked up correctly.

@@ -36,23 +36,22 @@ fn push_optional(line: &mut String, text: Option<&str>) -> Result<(), AllocError
 /// Appends a line with the entry's key, context, msgid, msgid_plural, translation and forms.
 fn push_entry(line: &mut String, entry: &EntryRef) -> Result<(), AllocError> {
     line.push_str(entry.key())?;
-    push_optional(line, entry.context())?;
-    push_optional(line, Some(entry.id()))?;
-    push_optional(line, entry.plural())?;
-    push_optional(line, Some(entry.translation()))?;
+    let (id, translation) = (Some(entry.id()), Some(entry.translation()));
+    for text in &[entry.context(), id, entry.plural(), translation] {
+        push_optional(line, *text)?;
+    }
     for form in entry.forms() {
         push_optional(line, Some(form))?;
     }
     line.push('\n')
 }
 
-/// Returns a line for each entry.
-fn entries(alloc: Global, catalogue: &Catalogue) -> Result<String, AllocError> {
-    let mut lines = String::new(alloc);
+/// Appends a line for each entry.
+fn push_entries(lines: &mut String, catalogue: &Catalogue) -> Result<(), AllocError> {
     for i in 0..catalogue.len() {
-        push_entry(&mut lines, &catalogue.entry(i))?;
+        push_entry(lines, &catalogue.entry(i))?;
     }
-    Ok(lines)
+    Ok(())
 }
 
 /// Whether the iterator yields the forms that `form` returns for each index, and then ends.
@@ -97,10 +96,8 @@ fn counts(compiled: &Compiled, numbers: (u32, u32, u32), header_line: u32) -> bo
 
 /// Whether a catalogue has these entries, a line for each.
 fn has_entries(alloc: Global, catalogue: &Catalogue, lines: &str) -> bool {
-    match entries(alloc, catalogue) {
-        Ok(found) => found.as_str() == lines,
-        Err(_) => false,
-    }
+    let mut found = String::new(alloc);
+    push_entries(&mut found, catalogue).is_ok() && found.as_str() == lines
 }
 
 /// Whether the text compiles to these entries, with these counts and the header on this line.
@@ -131,18 +128,10 @@ fn lists_entries(rt: HostRuntime) {
     assert!(rt; lists(rt.alloc(), text, "b|-|b|c|x\u{0}|x|\n", (1, 0, 0), 0));
 }
 
-/// Why a text is refused, or `None` if it isn't.
-fn refusal(alloc: Global, text: &[u8]) -> Option<LoadFault> {
-    match compile(alloc, text, PLAIN) {
-        Ok(_) => None,
-        Err(fault) => Some(fault),
-    }
-}
-
 /// Why a text of this many spaces is refused.
 fn refusal_of_spaces(alloc: Global, count: usize) -> Option<LoadFault> {
     match vec![in alloc; b' '; count] {
-        Ok(text) => refusal(alloc, &text),
+        Ok(text) => compile(alloc, &text, PLAIN).err(),
         Err(_) => None,
     }
 }
@@ -157,10 +146,23 @@ fn refuses_large_texts(rt: HostRuntime) {
     assert!(rt; refusal_of_spaces(rt.alloc(), 67_108_865) == Some(wanted));
 }
 
-/// Whether no entry is found for any of these msgids in this context.
-fn finds_none(catalogue: &Catalogue, context: Option<&str>, ids: &[&str]) -> bool {
-    for id in ids {
-        if catalogue.find(context, id).is_some() {
+/// Contexts and msgids of which `CONTEXTS` has no message.
+const ABSENT: &[(Option<&str>, &str)] = &[
+    (None, ""),
+    (None, "\u{4}"),
+    (None, "a"),
+    (None, "bb"),
+    (None, "k"),
+    (None, "z"),
+    (Some(""), ""),
+    (Some("k"), "bb"),
+    (Some("k\u{4}"), "b"),
+];
+
+/// Whether no entry is found for any of these contexts and msgids.
+fn finds_none(catalogue: &Catalogue, absent: &[(Option<&str>, &str)]) -> bool {
+    for (context, id) in absent {
+        if catalogue.find(*context, id).is_some() {
             return false;
         }
     }
@@ -168,22 +170,20 @@ fn finds_none(catalogue: &Catalogue, context: Option<&str>, ids: &[&str]) -> boo
 }
 
 /// Whether exactly the keys of `CONTEXTS` are found. A msgid that holds byte 4 is a key with a context.
-fn finds_contexts(catalogue: &Catalogue) -> bool {
-    finds_none(catalogue, None, &["", "\u{4}", "a", "bb", "k", "z"])
-        && finds_none(catalogue, Some(""), &[""])
-        && finds_none(catalogue, Some("k"), &["bb"])
-        && finds_none(catalogue, Some("k\u{4}"), &["b"])
-        && catalogue.find(Some("k"), "b").is_some()
-        && catalogue.find(None, "k\u{4}b").is_some()
+fn finds_contexts(alloc: Global) -> bool {
+    match compile(alloc, CONTEXTS, PLAIN) {
+        Ok(compiled) => {
+            finds_none(&compiled.catalogue, ABSENT)
+                && compiled.catalogue.find(Some("k"), "b").is_some()
+                && compiled.catalogue.find(None, "k\u{4}b").is_some()
+        }
+        Err(_) => false,
+    }
 }
 
 #[test]
 fn finds_in_contexts(rt: HostRuntime) {
-    let found = match compile(rt.alloc(), CONTEXTS, PLAIN) {
-        Ok(compiled) => finds_contexts(&compiled.catalogue),
-        Err(_) => false,
-    };
-    assert!(rt; found);
+    assert!(rt; finds_contexts(rt.alloc()));
 }
 
 /// Whether the look-ups in `POLISH` return the right forms.
@@ -202,15 +202,17 @@ fn has_copy(alloc: Global, catalogue: &Catalogue) -> bool {
     }
 }
 
+/// Whether the catalogue of `POLISH` and its copy have the look-ups.
+fn looks_up_by_both(alloc: Global) -> bool {
+    match compile(alloc, POLISH, CHECKED) {
+        Ok(compiled) => { looks_up(&compiled.catalogue) && has_copy(alloc, &compiled.catalogue) }
+        Err(_) => false,
+    }
+}
+
 #[test]
 fn looks_up_in_a_copy(rt: HostRuntime) {
-    let found = match compile(rt.alloc(), POLISH, CHECKED) {
-        Ok(compiled) => {
-            looks_up(&compiled.catalogue) && has_copy(rt.alloc(), &compiled.catalogue)
-        }
-        Err(_) => false,
-    };
-    assert!(rt; found);
+    assert!(rt; looks_up_by_both(rt.alloc()));
     one_meaning();
 }
 
@@ -227,18 +229,49 @@ fn lacks_checked(alloc: Global, text: &[u8], missing: [bool; 8], line: u32) -> b
     lacks(alloc, text, CHECKED, missing, line) && lacks(alloc, text, PLAIN, [false; 8], line)
 }
 
+/// A header with some of the fields.
+const SOME: &[u8] =
+    b"msgid \"\"\nmsgstr \"Language: fr\\nContent-Type: text/plain; charset=UTF-8\\nLast-Translator: x\\n\"\n";
+
+/// A name, a text, the fields that its header lacks, and the header's line.
+const MISSING: &[(&str, &[u8], [bool; 8], u32)] = &[
+    ("a rule alone", POLISH, [true; 8], 1),
+    (
+        "three fields",
+        SOME,
+        [true, true, false, true, true, false, true, false],
+        1,
+    ),
+    ("no header", b"msgid \"a\"\nmsgstr \"b\"\n", [false; 8], 0),
+    // A header that isn't kept lacks nothing, and a fuzzy header is kept.
+    (
+        "an empty header",
+        b"msgid \"\"\nmsgstr \"\"\n",
+        [false; 8],
+        0,
+    ),
+    (
+        "a fuzzy header",
+        b"#, fuzzy\nmsgid \"\"\nmsgstr \"x\"\n",
+        [true; 8],
+        2,
+    ),
+];
+
+/// The name of the first text that lacks other fields.
+fn wrong_missing(alloc: Global) -> Option<&'static str> {
+    for (name, text, missing, line) in MISSING {
+        if !lacks_checked(alloc, text, *missing, *line) {
+            return Some(*name);
+        }
+    }
+    None
+}
+
 #[test]
 fn names_missing_fields(rt: HostRuntime) {
-    let alloc = rt.alloc();
-    let some =
-        b"msgid \"\"\nmsgstr \"Language: fr\\nContent-Type: text/plain; charset=UTF-8\\nLast-Translator: x\\n\"\n";
-    let without = [true, true, false, true, true, false, true, false];
-    assert!(rt; lacks_checked(alloc, POLISH, [true; 8], 1));
-    assert!(rt; lacks_checked(alloc, some, without, 1));
-    assert!(rt; lacks_checked(alloc, b"msgid \"a\"\nmsgstr \"b\"\n", [false; 8], 0));
-    // A header that isn't kept lacks nothing, and a fuzzy header is kept.
-    assert!(rt; lacks_checked(alloc, b"msgid \"\"\nmsgstr \"\"\n", [false; 8], 0));
-    assert!(rt; lacks_checked(alloc, b"#, fuzzy\nmsgid \"\"\nmsgstr \"x\"\n", [true; 8], 2));
+    let wrong = wrong_missing(rt.alloc());
+    assert!(rt; wrong.is_none(), "{wrong:?}");
 }
 
 /// Whether a catalogue has no entry, and gives the texts that it is asked for.
