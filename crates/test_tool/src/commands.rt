@@ -56,7 +56,7 @@ struct Ran {
 const HI: &str = "msgid \"hi\"\nmsgstr \"salut\"\n";
 
 /// The MO file of `hi` and `salut`.
-const SALUT: [u8; 53] = *b"\xde\x12\x04\x95\0\0\0\0\x01\0\0\0\x1c\0\0\0\x24\0\0\0\0\0\0\0\x2c\0\0\0\
+const SALUT: &[u8] = b"\xde\x12\x04\x95\0\0\0\0\x01\0\0\0\x1c\0\0\0\x24\0\0\0\0\0\0\0\x2c\0\0\0\
     \x02\0\0\0\x2c\0\0\0\x05\0\0\0\x2f\0\0\0hi\0salut\0";
 
 /// The arguments of the runs.
@@ -68,9 +68,11 @@ fn words(alloc: Global, line: &[&str]) -> Result<Vec<String>, AllocError> {
     Ok(words)
 }
 
-/// Whether the outputs have what a run wrote.
-fn has_written(output: &[u8], errors: &[u8], ran: &Ran) -> bool {
-    SALUT.starts_with(output)
+/// Whether a run did this, with what is in its log and its outputs then.
+fn is_done(status: Status, files: &OneFile, output: &[u8], errors: &[u8], ran: &Ran) -> bool {
+    status == ran.status
+        && files.log.len() == ran.files
+        && SALUT.starts_with(output)
         && output.len() == ran.written
         && ran.said.as_bytes().starts_with(errors)
         && (errors.len() == ran.said.len()) == ran.is_all_said
@@ -92,9 +94,7 @@ fn has_run(alloc: Global, words: Vec<String>, text: &[u8], good: &Good, ran: &Ra
         &mut writer,
         &mut errors,
     );
-    status == ran.status
-        && files.log.len() == ran.files
-        && has_written(&writer.inner.held, &errors.inner.held, ran)
+    is_done(status, &files, &writer.inner.held, &errors.inner.held, ran)
 }
 
 /// Whether a run of a line's words did this.
@@ -127,9 +127,9 @@ fn done(said: &'static str) -> Ran {
     }
 }
 
-// 26 bytes are read one by one, and the end.
-#[test]
-fn each_read_fails_in_turn(rt: HostRuntime) {
+/// The first number of good reads after which a run doesn't do what it should. 26 bytes are read one by one, and the
+/// end.
+fn wrong_reads(alloc: Global) -> Option<u64> {
     for reads in 0..28u64 {
         let good = Good { reads, ..ALL_GOOD };
         let ran = if reads < 27 {
@@ -137,14 +137,15 @@ fn each_read_fails_in_turn(rt: HostRuntime) {
         } else {
             done("")
         };
-        let line = ["msgfmt", "-o", "-", "-"];
-        assert!(rt; ends(rt.alloc(), &line, HI, &good, &ran), "{reads}");
+        if !ends(alloc, &["msgfmt", "-o", "-", "-"], HI, &good, &ran) {
+            return Some(reads);
+        }
     }
+    None
 }
 
-// 53 bytes are written in four pieces.
-#[test]
-fn each_write_fails_in_turn(rt: HostRuntime) {
+/// The first number of good writes after which a run doesn't do what it should. 53 bytes are written in four pieces.
+fn wrong_writes(alloc: Global) -> Option<usize> {
     for writes in 0..5usize {
         let good = Good { writes, ..ALL_GOOD };
         let ran = if writes < 4 {
@@ -152,13 +153,25 @@ fn each_write_fails_in_turn(rt: HostRuntime) {
         } else {
             done("1 translated message.\n")
         };
-        let line = ["msgfmt", "--statistics", "-o", "-", "-"];
-        assert!(rt; ends(rt.alloc(), &line, HI, &good, &ran), "{writes}");
+        let line = &["msgfmt", "--statistics", "-o", "-", "-"];
+        if !ends(alloc, line, HI, &good, &ran) {
+            return Some(writes);
+        }
     }
+    None
+}
+
+#[test]
+fn each_read_and_write_fails_in_turn(rt: HostRuntime) {
+    let (reads, writes) = (wrong_reads(rt.alloc()), wrong_writes(rt.alloc()));
+    assert!(rt;
+        reads.is_none() && writes.is_none(),
+        "{reads:?} reads, {writes:?} writes"
+    );
 }
 
 /// Arguments, the devices, and why the run fails and what it says then.
-const FIRST_CALLS: [(&[&str], Good, Cause, &str); 5] = [
+const FIRST_CALLS: &[(&[&str], Good, Cause, &str)] = &[
     (
         &["msgfmt", "-h"],
         UNWRITTEN,
@@ -186,12 +199,20 @@ const FIRST_CALLS: [(&[&str], Good, Cause, &str); 5] = [
     (&["msgfmt", "-o", "-"], UNSAID, Cause::NoInput, ""),
 ];
 
+/// What the first run says that doesn't fail so.
+fn wrong_first_call(alloc: Global) -> Option<&'static str> {
+    for (line, good, cause, said) in FIRST_CALLS {
+        if !ends(alloc, line, HI, good, &failed(*cause, 0, said)) {
+            return Some(*said);
+        }
+    }
+    None
+}
+
 #[test]
 fn a_device_fails_at_its_first_call(rt: HostRuntime) {
-    for (line, good, cause, said) in &FIRST_CALLS {
-        let ran = failed(*cause, 0, said);
-        assert!(rt; ends(rt.alloc(), line, HI, good, &ran), "{said}");
-    }
+    let wrong = wrong_first_call(rt.alloc());
+    assert!(rt; wrong.is_none(), "{wrong:?}");
 }
 
 /// Its header has none of the fields that are looked for.
@@ -208,29 +229,39 @@ in.po:1: warning: header field 'Language' missing
 1 translated message.
 ";
 
-// The warnings are written in 4, 4, 4, 4, 4, 4, 5 and 4 pieces, then FILE, then the statistics in 2.
-#[test]
-fn each_write_to_the_error_output_fails_in_turn(rt: HostRuntime) {
+/// What a run does after this number of good writes to the error output. The warnings are written in 4, 4, 4, 4, 4, 4,
+/// 5 and 4 pieces, then FILE, then the statistics in 2.
+fn warned(error_writes: usize) -> Ran {
+    Ran {
+        status: if error_writes < 35 {
+            Status::Failed(Cause::ErrorOutput)
+        } else {
+            Status::Done
+        },
+        written: 0,
+        files: if error_writes < 33 { 0 } else { 1 },
+        said: WARNED,
+        is_all_said: error_writes == 35,
+    }
+}
+
+/// The first number of them after which a run doesn't do that.
+fn wrong_error_writes(alloc: Global) -> Option<usize> {
     for error_writes in 0..36usize {
         let good = Good {
             error_writes,
             ..ALL_GOOD
         };
-        let ran = Ran {
-            status: if error_writes < 35 {
-                Status::Failed(Cause::ErrorOutput)
-            } else {
-                Status::Done
-            },
-            written: 0,
-            files: if error_writes < 33 { 0 } else { 1 },
-            said: WARNED,
-            is_all_said: error_writes == 35,
-        };
-        let line = ["msgfmt", "-c", "--statistics", "in.po"];
-        assert!(rt;
-            ends(rt.alloc(), &line, HEADED, &good, &ran),
-            "{error_writes}"
-        );
+        let line = &["msgfmt", "-c", "--statistics", "in.po"];
+        if !ends(alloc, line, HEADED, &good, &warned(error_writes)) {
+            return Some(error_writes);
+        }
     }
+    None
+}
+
+#[test]
+fn each_write_to_the_error_output_fails_in_turn(rt: HostRuntime) {
+    let wrong = wrong_error_writes(rt.alloc());
+    assert!(rt; wrong.is_none(), "{wrong:?}");
 }

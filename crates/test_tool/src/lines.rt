@@ -7,7 +7,7 @@ use std::alloc::{AllocError, Global};
 const TEXT: &[u8] = b"load\n\nask a\ngo";
 
 /// Its lines.
-const LINES: [&[u8]; 4] = [b"load\n", b"\n", b"ask a\n", b"go"];
+const LINES: &[&[u8]] = &[b"load\n", b"\n", b"ask a\n", b"go"];
 
 /// The answer of an input for the end of lines.
 type Found = Result<Option<usize>, LineInputFault>;
@@ -70,27 +70,44 @@ fn gives_lines(alloc: Global, first: usize) -> bool {
     true
 }
 
+/// The first number of bytes in a first read with which a reader doesn't give the lines.
+fn lost_first(alloc: Global) -> Option<usize> {
+    for first in 1..TEXT.len() + 1 {
+        if !gives_lines(alloc, first) {
+            return Some(first);
+        }
+    }
+    None
+}
+
 #[test]
 fn lines_come_byte_by_byte_and_in_any_two_parts(rt: HostRuntime) {
-    for first in 1..TEXT.len() + 1 {
-        assert!(rt; gives_lines(rt.alloc(), first), "{first}");
-    }
+    let lost = lost_first(rt.alloc());
+    assert!(rt; lost.is_none(), "{lost:?}");
 }
 
 /// How many bytes come first, how many then at a time, and the reads after each line.
-const READS: [(usize, usize, [u64; 4]); 3] = [
+const READS: &[(usize, usize, [u64; 4])] = &[
     (6, 6, [1, 1, 2, 4]),
     (5, 1, [1, 2, 8, 11]),
     (14, 1, [1, 1, 1, 2]),
 ];
 
+/// How many bytes come first in the first row with other reads.
+fn wrong_reads(alloc: Global) -> Option<usize> {
+    for (first, step, reads) in READS {
+        if reads_of(alloc, SlowReader::new(TEXT, *first, *step)) != Some(*reads) {
+            return Some(*first);
+        }
+    }
+    None
+}
+
 // A line that is there is given before the next read. The read after a line without an LF finds the end.
 #[test]
 fn no_read_is_tried_while_the_line_is_there(rt: HostRuntime) {
-    for (first, step, reads) in &READS {
-        let found = reads_of(rt.alloc(), SlowReader::new(TEXT, *first, *step));
-        assert!(rt; found == Some(*reads), "{first}");
-    }
+    let wrong = wrong_reads(rt.alloc());
+    assert!(rt; wrong.is_none(), "{wrong:?}");
 }
 
 /// What an input answers for the end of `count` lines, or of one line without a count.
@@ -124,7 +141,7 @@ type Row = (&'static [u8], Option<u64>, usize, Found);
 
 const TOO_LONG: Found = Err(LineInputFault::TooLong);
 
-const ROWS: [Row; 16] = [
+const ROWS: &[Row] = &[
     (TEXT, Some(0), 0, Ok(Some(0))),
     (TEXT, Some(1), 5, Ok(Some(5))),
     (TEXT, Some(2), 6, Ok(Some(6))),
@@ -143,13 +160,28 @@ const ROWS: [Row; 16] = [
     (b"\n", None, 1, Ok(Some(1))),
 ];
 
-#[test]
-fn lines_end_at_once_or_are_too_long(rt: HostRuntime) {
+/// Whether they do with 1, 3, 9 or 20 bytes at a time.
+fn is_found_in_steps(alloc: Global, row: &Row) -> bool {
+    is_found(alloc, row, 1)
+        && is_found(alloc, row, 3)
+        && is_found(alloc, row, 9)
+        && is_found(alloc, row, 20)
+}
+
+/// The place of the first row whose lines don't.
+fn wrong_row(alloc: Global) -> Option<usize> {
     for (place, row) in ROWS.iter().enumerate() {
-        for step in &[1, 3, 9, 20] {
-            assert!(rt; is_found(rt.alloc(), row, *step), "row {place}");
+        if !is_found_in_steps(alloc, row) {
+            return Some(place);
         }
     }
+    None
+}
+
+#[test]
+fn lines_end_at_once_or_are_too_long(rt: HostRuntime) {
+    let wrong = wrong_row(rt.alloc());
+    assert!(rt; wrong.is_none(), "row {wrong:?}");
 }
 
 /// Whether the second and the third line are found behind the first one, byte by byte, and bytes can be taken that are
@@ -184,35 +216,41 @@ fn goes_by_bytes(alloc: Global, failing: Option<u64>) -> bool {
         slow.failing = (failing, failing.saturating_add(1));
     }
     let mut reader = Reading::new(slow);
-    match (LineInput::new(alloc), failing) {
-        (Ok(mut input), Some(failing)) => goes_on(&mut input, &mut reader, failing),
-        (Ok(mut input), None) => finds_behind(&mut input, &mut reader),
-        (Err(_), _) => false,
+    match LineInput::new(alloc) {
+        Ok(mut input) => match failing {
+            Some(failing) => goes_on(&mut input, &mut reader, failing),
+            None => finds_behind(&mut input, &mut reader),
+        },
+        Err(_) => false,
     }
 }
 
-#[test]
-fn a_line_behind_a_line_is_found(rt: HostRuntime) {
-    assert!(rt; goes_by_bytes(rt.alloc(), None));
-}
-
-#[test]
-fn a_reader_fails_in_mid_stream(rt: HostRuntime) {
+/// The first read whose failure isn't told, or after which the next call doesn't continue.
+fn wrong_failure(alloc: Global) -> Option<u64> {
     for failing in 0..15u64 {
-        assert!(rt; goes_by_bytes(rt.alloc(), Some(failing)), "{failing}");
+        if !goes_by_bytes(alloc, Some(failing)) {
+            return Some(failing);
+        }
     }
+    None
 }
 
-/// Lines of 1, 2, 3 .. bytes, over the ends of the chunks that are read.
-fn long_text(alloc: Global) -> Result<Vec<u8>, AllocError> {
-    let mut text = Vec::new(alloc);
+#[test]
+fn an_input_goes_on_behind_a_line_and_a_failure(rt: HostRuntime) {
+    assert!(rt; goes_by_bytes(rt.alloc(), None));
+    let wrong = wrong_failure(rt.alloc());
+    assert!(rt; wrong.is_none(), "{wrong:?}");
+}
+
+/// Appends lines of 1, 2, 3 .. bytes, over the ends of the chunks that are read.
+fn push_lines(text: &mut Vec<u8>) -> Result<(), AllocError> {
     for length in 0..700usize {
         for place in 0..length {
             text.push(b'a' + (place % 26) as u8)?;
         }
         text.push(b'\n')?;
     }
-    Ok(text)
+    Ok(())
 }
 
 /// Whether all these lines are taken.
@@ -231,20 +269,24 @@ fn takes_long(input: &mut LineInput, reader: &mut Reading<SlowReader>, text: &[u
     has_no_line(input, reader)
 }
 
-/// Whether a reader that gives `step` bytes at a time gives all lines.
-fn gives_long(alloc: Global, step: usize) -> bool {
-    match (long_text(alloc), LineInput::new(alloc)) {
-        (Ok(text), Ok(mut input)) => {
-            let mut reader = Reading::new(SlowReader::new(&text, step, step));
-            takes_long(&mut input, &mut reader, &text)
-        }
-        _ => false,
+/// Whether a reader that gives `step` bytes at a time gives all lines of a text.
+fn gives_all(alloc: Global, text: &[u8], step: usize) -> bool {
+    let mut reader = Reading::new(SlowReader::new(text, step, step));
+    match LineInput::new(alloc) {
+        Ok(mut input) => takes_long(&mut input, &mut reader, text),
+        Err(_) => false,
     }
+}
+
+/// Whether it gives all lines of the long text.
+fn gives_long(alloc: Global, step: usize) -> bool {
+    let mut text = Vec::new(alloc);
+    push_lines(&mut text).is_ok() && gives_all(alloc, &text, step)
 }
 
 #[test]
 fn long_inputs_lose_nothing(rt: HostRuntime) {
-    for step in [1_000, 65_536, 1_000_000] {
-        assert!(rt; gives_long(rt.alloc(), step), "{step}");
-    }
+    assert!(rt; gives_long(rt.alloc(), 1_000));
+    assert!(rt; gives_long(rt.alloc(), 65_536));
+    assert!(rt; gives_long(rt.alloc(), 1_000_000));
 }

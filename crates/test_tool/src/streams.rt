@@ -26,7 +26,7 @@ type Row = (
     (u64, u64, u64),
 );
 
-const ROWS: [Row; 13] = [
+const ROWS: &[Row] = &[
     // The second read is interrupted.
     (b"salut", 1, (1, 2), NONE, 9, Some(b"salut"), (0, 7, 0)),
     (b"salut", 2, (1, 2), NONE, 5, Some(b"salut"), (0, 4, 0)),
@@ -67,12 +67,21 @@ fn is_read(alloc: Global, row: &Row) -> bool {
     is_right && has_read(&reader, left, reads, failures)
 }
 
+/// The place of the first row that isn't read so.
+fn wrong_row(alloc: Global) -> Option<usize> {
+    for (place, row) in ROWS.iter().enumerate() {
+        if !is_read(alloc, row) {
+            return Some(place);
+        }
+    }
+    None
+}
+
 #[test]
 fn an_input_is_read_up_to_a_limit_or_a_failure(rt: HostRuntime) {
     assert!(rt; MOST_READS == 134_217_728);
-    for (place, row) in ROWS.iter().enumerate() {
-        assert!(rt; is_read(rt.alloc(), row), "row {place}");
-    }
+    let wrong = wrong_row(rt.alloc());
+    assert!(rt; wrong.is_none(), "row {wrong:?}");
 }
 
 /// Whether a writer has taken `salut`, or failed once for lack of room.
@@ -91,11 +100,14 @@ fn is_written(alloc: Global, room: usize) -> bool {
     writer.write_all(b"salut").is_ok() == fits && has_taken(&writer, fits)
 }
 
-#[test]
-fn a_writer_fails_in_mid_stream(rt: HostRuntime) {
+/// The first room with which that isn't so.
+fn wrong_room(alloc: Global) -> Option<usize> {
     for room in 0..7usize {
-        assert!(rt; is_written(rt.alloc(), room), "{room}");
+        if !is_written(alloc, room) {
+            return Some(room);
+        }
     }
+    None
 }
 
 // Reads and writes by the trait alone, as a program over it does.
@@ -134,17 +146,28 @@ fn is_copied(
 }
 
 /// Whether the file can be read and written, the limit, and what is copied.
-const COPIES: [(bool, bool, usize, Option<&[u8]>); 4] = [
+const COPIES: &[(bool, bool, usize, Option<&[u8]>)] = &[
     (true, true, 9, Some(b"salut")),
     (true, true, 3, Some(b"sal")),
     (false, true, 9, None),
     (true, false, 9, None),
 ];
 
-#[test]
-fn files_are_read_and_written(rt: HostRuntime) {
-    for (can_read, can_write, limit, wanted) in &COPIES {
-        let is_right = is_copied(rt.alloc(), *can_read, *can_write, *limit, *wanted);
-        assert!(rt; is_right, "{limit}");
+/// The place of the first row that isn't copied so.
+fn wrong_copy(alloc: Global) -> Option<usize> {
+    for (place, (can_read, can_write, limit, wanted)) in COPIES.iter().enumerate() {
+        if !is_copied(alloc, *can_read, *can_write, *limit, *wanted) {
+            return Some(place);
+        }
     }
+    None
+}
+
+#[test]
+fn a_writer_fails_and_files_are_copied(rt: HostRuntime) {
+    let (room, copy) = (wrong_room(rt.alloc()), wrong_copy(rt.alloc()));
+    assert!(rt;
+        room.is_none() && copy.is_none(),
+        "room {room:?}, row {copy:?}"
+    );
 }
