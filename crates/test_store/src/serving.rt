@@ -315,6 +315,21 @@ fn is_overlapped(desks: &[Desk], desk: Option<usize>) -> bool {
     }
 }
 
+/// Whether the outcomes, the version and the desks are as wanted.
+fn came_out(
+    outcomes: &[Outcome],
+    version: Version,
+    publisher: &Publisher,
+    desks: &[Desk],
+    service: &Service<'_>,
+) -> bool {
+    version == service.version
+        && (publisher.version(), publisher.pending()) == (service.version, 0)
+        && are_outcomes(outcomes, service.jobs)
+        && are_right(desks, service)
+        && is_overlapped(desks, service.overlaps)
+}
+
 /// Serves desks, and returns whether the outcomes, the version and the desks are as wanted.
 fn is_served<R: Threads + Wait + Sync, G: Gate + Sync>(
     rt: &R,
@@ -334,13 +349,13 @@ fn is_served<R: Threads + Wait + Sync, G: Gate + Sync>(
         return false;
     };
     match serve(rt, alloc, publisher, desks, jobs, gate) {
-        Ok(served) => {
-            served.version == service.version
-                && (publisher.version(), publisher.pending()) == (service.version, 0)
-                && are_outcomes(served.outcomes.as_slice(), service.jobs)
-                && are_right(desks.as_slice(), service)
-                && is_overlapped(desks.as_slice(), service.overlaps)
-        }
+        Ok(served) => came_out(
+            served.outcomes.as_slice(),
+            served.version,
+            publisher,
+            desks.as_slice(),
+            service,
+        ),
         Err(_) => false,
     }
 }
@@ -459,11 +474,14 @@ const SERVICES: &[(Service<'static>, &str)] = &[
     ),
 ];
 
-#[test]
-fn services_end_as_wanted(rt: HostRuntime) {
+/// The name of the first service that isn't as wanted.
+fn wrong_service<R: Threads + Wait + Sync>(rt: &R, alloc: Global) -> Option<&'static str> {
     for (service, name) in SERVICES {
-        assert!(rt; serves_counted(&rt, rt.alloc(), service), "{name}");
+        if !serves_counted(rt, alloc, service) {
+            return Some(*name);
+        }
     }
+    None
 }
 
 /// The readers, the queries on each desk, and the number of equal jobs.
@@ -478,14 +496,22 @@ const EQUAL_JOBS: &[(u32, &[usize], usize, &str)] = &[
     (16, NONE, 3, "no queries"),
 ];
 
-#[test]
-fn equal_jobs_are_served(rt: HostRuntime) {
+/// The name of the first row that isn't served.
+fn wrong_equal<R: Threads + Wait + Sync>(rt: &R, alloc: Global) -> Option<&'static str> {
     for (readers, queries, count, name) in EQUAL_JOBS {
-        assert!(rt;
-            serves_same(&rt, rt.alloc(), *readers, queries, *count),
-            "{name}"
-        );
+        if !serves_same(rt, alloc, *readers, queries, *count) {
+            return Some(*name);
+        }
     }
+    None
+}
+
+#[test]
+fn services_end_as_wanted(rt: HostRuntime) {
+    let service = wrong_service(&rt, rt.alloc());
+    assert!(rt; service.is_none(), "{service:?}");
+    let equal = wrong_equal(&rt, rt.alloc());
+    assert!(rt; equal.is_none(), "{equal:?}");
 }
 
 /// Whether all workers, and the publishing thread if there are jobs, stand at the gate together.
@@ -504,15 +530,22 @@ fn stand_together<R: Threads + Wait + Sync>(
         && gate.gave_up.load(Ordering::SeqCst) == 0
 }
 
+/// The first number of workers that don't stand together, with this many jobs.
+fn apart<R: Threads + Wait + Sync>(rt: &R, alloc: Global, jobs: u32) -> Option<u32> {
+    for workers in 2..17 {
+        if !stand_together(rt, alloc, workers, jobs) {
+            return Some(workers);
+        }
+    }
+    None
+}
+
 #[test]
 fn all_workers_stand_together(rt: HostRuntime) {
-    for workers in 2..17 {
-        assert!(rt; stand_together(&rt, rt.alloc(), workers, 0), "{workers}");
-        assert!(rt;
-            stand_together(&rt, rt.alloc(), workers, 1),
-            "{workers} with a job"
-        );
-    }
+    let alone = apart(&rt, rt.alloc(), 0);
+    assert!(rt; alone.is_none(), "{alone:?}");
+    let beside = apart(&rt, rt.alloc(), 1);
+    assert!(rt; beside.is_none(), "{beside:?} with a job");
 }
 
 /// Whether a desk's queries are answered while two jobs are done.
@@ -528,9 +561,18 @@ fn overlaps_held<R: Threads + Wait + Sync>(rt: &R, alloc: Global, held: u32) -> 
     serves(rt, alloc, &service, &gate) && gate.gave_up.load(Ordering::SeqCst) == 0
 }
 
+/// The first desk whose queries aren't.
+fn lost_overlap<R: Threads + Wait + Sync>(rt: &R, alloc: Global) -> Option<u32> {
+    for held in 0..16u32 {
+        if !overlaps_held(rt, alloc, held) {
+            return Some(held);
+        }
+    }
+    None
+}
+
 #[test]
 fn publishing_overlaps_answering(rt: HostRuntime) {
-    for held in 0..16u32 {
-        assert!(rt; overlaps_held(&rt, rt.alloc(), held), "{held}");
-    }
+    let lost = lost_overlap(&rt, rt.alloc());
+    assert!(rt; lost.is_none(), "{lost:?}");
 }

@@ -14,7 +14,6 @@ use std::alloc::{AllocError, Global};
 use std::sync::atomic::AtomicU64;
 use std::sync::atomic::Ordering::SeqCst;
 use std::sync::{Arc, Wait};
-use std::test::Fail;
 use std::thread::{Threads, join, spawn, yield_now};
 
 /// How many turns a thread waits for another before it gives up.
@@ -434,13 +433,14 @@ fn holds_with_one<R: Wait + AllocGlobal>(rt: &R, most: u64, case: Case, query: &
     right && closed && still
 }
 
-#[test]
-fn stores_with_one_reader(rt: HostRuntime) -> Result<(), Fail> {
-    let query = query(rt.alloc(), "fr")?;
+/// The name of the first case that isn't right.
+fn wrong_case<R: Wait + AllocGlobal>(rt: &R, query: &Query) -> Option<&'static str> {
     for (case, most, name) in CASES {
-        assert!(rt; holds_with_one(&rt, *most, *case, &query), "{name}");
+        if !holds_with_one(rt, *most, *case, query) {
+            return Some(*name);
+        }
     }
-    Ok(())
+    None
 }
 
 /// The number of readers that show `salut` at version 1, each in two entries.
@@ -464,26 +464,38 @@ fn open_and_show<R: Wait>(rt: &R, alloc: Global, readers: u32) -> Result<u32, Op
     Ok(shown)
 }
 
-#[test]
-fn stores_have_one_to_sixteen_readers(rt: HostRuntime) {
+/// The first number of readers with which that isn't so.
+fn wrong_count<R: Wait>(rt: &R, alloc: Global) -> Option<u32> {
     for readers in 0..40u32 {
         let wanted = if readers == 0 || readers > 16 {
             Err(OpenFault::BadCount)
         } else {
             Ok(readers)
         };
-        assert!(rt;
-            open_and_show(&rt, rt.alloc(), readers) == wanted,
-            "with {readers}"
-        );
+        if open_and_show(rt, alloc, readers) != wanted {
+            return Some(readers);
+        }
+    }
+    None
+}
+
+#[test]
+fn stores_have_one_to_sixteen_readers(rt: HostRuntime) {
+    let wrong = wrong_count(&rt, rt.alloc());
+    assert!(rt; wrong.is_none(), "with {wrong:?}");
+}
+
+/// Whether the refusal of a file is told.
+fn is_told(alloc: Global) -> bool {
+    match format!(in alloc; "{BOUNDS}") {
+        Ok(told) => told.as_str() == "the MO file is refused: out of bounds",
+        Err(_) => false,
     }
 }
 
 #[test]
-fn refusals_are_told(rt: HostRuntime) -> Result<(), Fail> {
-    let told = format!(in rt.alloc(); "{BOUNDS}")?;
-    assert!(rt; told.as_str() == "the MO file is refused: out of bounds");
-    Ok(())
+fn refusals_are_told(rt: HostRuntime) {
+    assert!(rt; is_told(rt.alloc()));
 }
 
 /// Enters, and returns whether the entry has version 1 and answers `salut` to the query. It can't wait.
@@ -653,13 +665,33 @@ fn holds_with_two<R: Threads + Wait + AllocGlobal + Sync>(
     right && closed == [true; 4]
 }
 
-#[test]
-fn stores_with_two_readers(rt: HostRuntime) -> Result<(), Fail> {
-    let query = query(rt.alloc(), "fr")?;
+/// The name of the first pair that isn't right.
+fn wrong_pair<R: Threads + Wait + AllocGlobal + Sync>(
+    rt: &R,
+    query: &Query,
+) -> Option<&'static str> {
     for (case, most, name) in PAIRS {
-        assert!(rt; holds_with_two(&rt, *most, *case, &query), "{name}");
+        if !holds_with_two(rt, *most, *case, query) {
+            return Some(*name);
+        }
     }
-    Ok(())
+    None
+}
+
+/// The names of the first case and of the first pair that aren't right.
+fn wrong_ones<R: Threads + Wait + AllocGlobal + Sync>(
+    rt: &R,
+) -> (Option<&'static str>, Option<&'static str>) {
+    match query(rt.alloc(), "fr") {
+        Ok(query) => (wrong_case(rt, &query), wrong_pair(rt, &query)),
+        Err(_) => (Some("no memory"), None),
+    }
+}
+
+#[test]
+fn stores_with_one_and_two_readers(rt: HostRuntime) {
+    let (case, pair) = wrong_ones(&rt);
+    assert!(rt; case.is_none() && pair.is_none(), "{case:?} {pair:?}");
 }
 
 /// Enters until the store is closed, and returns whether each entry showed `salut` at version 1 and nothing else.
@@ -738,10 +770,18 @@ fn ends_unpublished<R: Threads + Wait + AllocGlobal>(
     [published, loaded, pending, shown] == [true; 4]
 }
 
+/// Whether that is so in a new store.
+fn ends_in_threads<R: Threads + Wait + AllocGlobal>(rt: &R) -> bool {
+    let Ok(stands) = Arc::new(rt.alloc(), AtomicU64::new(0)) else {
+        return false;
+    };
+    match Arc::try_clone(&stands) {
+        Ok(there) => ends_unpublished(rt, &stands, there),
+        Err(_) => false,
+    }
+}
+
 #[test]
-fn the_end_publishes_nothing(rt: HostRuntime) -> Result<(), Fail> {
-    let stands = Arc::new(rt.alloc(), AtomicU64::new(0))?;
-    let there = Arc::try_clone(&stands)?;
-    assert!(rt; ends_unpublished(&rt, &stands, there));
-    Ok(())
+fn the_end_publishes_nothing(rt: HostRuntime) {
+    assert!(rt; ends_in_threads(&rt));
 }
