@@ -6,8 +6,8 @@ use crate::serving::wait_for;
 use catalogue::{LoadFault, LoadKind, Options, Stats};
 use live_set::{Ask, Query};
 use live_versions::{
-    Ahead, AskFault, Closed, Lookups, OpenFault, Publisher, StoreFault, Version, one_answer,
-    open_store, versions_never_fall,
+    Ahead, AskFault, Closed, Lookups, OpenFault, Pinned, Publisher, StoreFault, Version,
+    one_answer, open_store, versions_never_fall,
 };
 use mo_file::MoFault;
 use std::alloc::{AllocError, Global};
@@ -94,22 +94,25 @@ pub(crate) fn publishes<R: Wait>(rt: &R, publisher: &mut Publisher, wanted: Vers
     publisher.publish(rt) == Ok(wanted)
 }
 
-/// Enters, and returns whether the entry has this version and translates `hi` to these texts in `fr`, `de` and `sv`. It
-/// can't wait.
+/// Whether an entry has this version, and translates `hi` to these texts in `fr`, `de` and `sv`.
+fn is_shown(pinned: &Pinned<'_>, version: Version, texts: [&str; 3]) -> bool {
+    let [french, german, swedish] = texts;
+    pinned.version() == version
+        && pinned.gettext("app", "fr", "hi") == french
+        && pinned.gettext("app", "de", "hi") == german
+        && pinned.gettext("app", "sv", "hi") == swedish
+}
+
+/// Enters, and returns whether the entry shows that. It can't wait.
 fn shows(reader: &mut Lookups, version: Version, texts: [&str; 3]) -> bool
     ensures { reader.new.book ≡ reader.old.book }
 {
     let Ok(pinned) = reader.enter() else {
         return false;
     };
-    let same = [
-        pinned.version() == version,
-        pinned.gettext("app", "fr", "hi") == texts[0],
-        pinned.gettext("app", "de", "hi") == texts[1],
-        pinned.gettext("app", "sv", "hi") == texts[2],
-    ];
+    let same = is_shown(&pinned, version, texts);
     pinned.leave();
-    same == [true; 4]
+    same
 }
 
 /// Two loads and a publish, followed by a load that is refused.
@@ -317,21 +320,24 @@ fn refuses_files(alloc: Global, publisher: &mut Publisher) -> bool {
     [name, refused, first, second, empty, pending] == [true; 6]
 }
 
-/// Makes each of an entry's calls on a message with a context and a plural, and one by a query.
+/// Whether each of an entry's calls on a message with a context and a plural has its text, and one by a query.
+fn finds_all(pinned: &Pinned<'_>, query: &Query) -> bool {
+    pinned.look(query) == "hi"
+        && pinned.gettext("app", "fr", "file") == "file"
+        && pinned.pgettext("app", "fr", "k", "file") == "fichier"
+        && pinned.ngettext("app", "fr", "file", "files", 2) == "files"
+        && pinned.npgettext("app", "fr", "k", "file", "files", 1) == "fichier"
+        && pinned.npgettext("app", "fr", "k", "file", "files", 2) == "fichiers"
+}
+
+/// Enters, and makes these calls.
 fn looks_all(reader: &mut Lookups, query: &Query) -> bool {
     let Ok(pinned) = reader.enter() else {
         return false;
     };
-    let found = [
-        pinned.look(query) == "hi",
-        pinned.gettext("app", "fr", "file") == "file",
-        pinned.pgettext("app", "fr", "k", "file") == "fichier",
-        pinned.ngettext("app", "fr", "file", "files", 2) == "files",
-        pinned.npgettext("app", "fr", "k", "file", "files", 1) == "fichier",
-        pinned.npgettext("app", "fr", "k", "file", "files", 2) == "fichiers",
-    ];
+    let found = finds_all(&pinned, query);
     pinned.leave();
-    found == [true; 6]
+    found
 }
 
 /// Publishes a message with a context and a plural, and looks it up.
