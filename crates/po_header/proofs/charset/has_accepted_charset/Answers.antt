@@ -1,4 +1,4 @@
-use Rattle.std.proofs.Common.{◌≡◌, ℕ, List, Some, sym, ap, ◌∙◌, subst}
+use Rattle.std.proofs.Common.{rules, ◌≡◌, ℕ, List, Some, sym, ap, ◌∙◌, subst}
 use Rattle.message.specs.Charset.{up_to_white, NamesCharset, IsAcceptedCharset}
 use Rattle.po_header.proofs.TextLemmas.{Follows-one}
 use Rattle.po_header.proofs.charset.has_accepted_charset.Goals as goal
@@ -18,3 +18,6 @@ returns-in-Some c =
       }),
       (λ h. c.charset_accepted.ensures.1 (h.accepted name names)),
     )
+
+pub returns-in-None : goal.returns-in-None
+returns-in-None c = search rules

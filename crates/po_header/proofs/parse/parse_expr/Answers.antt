@@ -1,4 +1,4 @@
-use Rattle.std.proofs.Common.{◌≡◌}
+use Rattle.std.proofs.Common.{rules, ◌≡◌}
 use Rattle.std.proofs.lemmas.Result.{err_from_is_err_and}
 use Rattle.po_header.specs.declared.ExprFault.TheVariants.{Malformed}
 use Rattle.po_header.proofs.FaultLemmas.{malformed_says}
@@ -12,3 +12,6 @@ returns-in_err-node-clause-malformed c e =
     let same : c.in_err-node.field-0.0 ≡ Malformed = cc (e, x, y) in
     rw (c.expression_at-front.ensures, c.as_bytes.ensures.value) at
     (malformed_says c.in_err-node.field-0.0 same c.in_err-node.ensures.err)
+
+pub returns-then-front-gt-EXPRESSION_LIMIT-clause-too_long : goal.returns-then-front-gt-EXPRESSION_LIMIT-clause-too_long
+returns-then-front-gt-EXPRESSION_LIMIT-clause-too_long c = search rules
