@@ -1,3 +1,4 @@
+use Rattle.std.proofs.Common.{rules}
 use Rattle.catalogue.proofs.Lending.{cut_at, cut_kept, cut_plural}
 use Rattle.catalogue.proofs.spans.lend_entry.Goals as goal
 
@@ -12,3 +13,6 @@ pub new-requires-2 : goal.new-requires-2
 new-requires-2 c =
     rw (c.split_at-2.ensures.front, c.split_at.ensures.back)
     (cut_plural c.args.texts.now c.args.span.now c.requires.holds)
+
+pub returns-clause-draft : goal.returns-clause-draft
+returns-clause-draft c = search rules

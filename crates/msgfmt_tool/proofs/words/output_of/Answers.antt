@@ -1,0 +1,5 @@
+use Rattle.std.proofs.Common.{rules}
+use Rattle.msgfmt_tool.proofs.words.output_of.Goals as goal
+
+pub returns : goal.returns
+returns c = search rules

@@ -1,0 +1,5 @@
+use Rattle.std.proofs.Common.{rules}
+use Rattle.snapshot_store.proofs.reader.Reader.version.Goals as goal
+
+pub returns : goal.returns
+returns c = search rules
