@@ -30,7 +30,7 @@ pub const PUBLISH: Calls = Calls {
     ],
 };
 
-/// Queries, notices of two versions, and MO files, of which one is cut short, and one is for a domain that isn't a name.
+/// Queries, notices of two versions, and MO files. One file is cut short, and one is for a domain that isn't a name.
 pub const ASK: Calls = Calls {
     words: Words::Whole,
     steps: [
