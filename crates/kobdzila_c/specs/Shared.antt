@@ -70,7 +70,7 @@ abbrev pub made_at : Ptr → (MadeSet → Type 0) → Fml
 made_at out Is = fex MadeSet (λ s. fex (Is s) (λ _. holds_set out s))
 
 -- the right to look up: s is shared at p for the lifetime κ, and a share q of κ's token shows that κ lasts
-abbrev pub reads_set : Lft → Share → Ptr → MadeSet → Fml
+unfoldable pub reads_set : Lft → Share → Ptr → MadeSet → Fml
 reads_set κ q p s = fsep (lent_at set_row p s κ) (flft κ q)
 
 -- at out is the answer to a question in a text domain and a list of languages, shared for as long as κ
