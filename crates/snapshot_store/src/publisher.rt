@@ -272,9 +272,20 @@ impl Publisher {
         // It stays the publisher of the same store.
         ensures book { self.new.seen.book ≡ self.old.seen.book }
     {
-        if self.pending.is_empty() {
-            return Ok(self.versions.current().version());
+        if !self.pending.is_empty() {
+            self.publish_pending(alloc)?;
         }
+        Ok(self.versions.current().version())
+    }
+
+    /// Publishes what is pending as one batch.
+    fn publish_pending(&mut self, alloc: Global) -> Result<(), PublishFault>
+        ensures ok { OnOk result (self.new ≡ holding record {
+          book = self.old.seen.book;
+          batches = self.old.seen.batches ++ self.old.pending ∷ [];
+        } []) }
+        ensures err { OnErr result (self.new ≡ self.old) }
+    {
         let number = self.versions.current().number() + 1;
         if number >= LAST {
             return Err(PublishFault::Spent);
@@ -307,7 +318,7 @@ impl Publisher {
         }
         self.at = at;
         self.turn(mine, number * SLOTS + at, known);
-        Ok(self.versions.current().version())
+        Ok(())
     }
 
     /// From now on this version is the one that is shown, and nothing is pending.
