@@ -1,7 +1,7 @@
 //! A snapshot store's life from its opening to its end.
 ghost use Rattle.std.specs.List.{AllZip, AllByRecursion};
 ghost use Rattle.std.specs.Thread.{IsSync};
-ghost use Rattle.std.specs.Prelude.{◌≡◌, ◌<◌, ◌^◌, ◌++◌, IfOk, OnOk, length, map, vec_len};
+ghost use Rattle.std.specs.Prelude.{◌≡◌, ◌<◌, ◌^◌, ◌++◌, [], IfOk, OnOk, length, map, vec_len};
 ghost use Rattle.snapshot_store.specs.Holding.{most_loads};
 ghost use Rattle.life.specs.Clients.{KeepsClient, HasAnswered, IsServed};
 ghost use Rattle.life.specs.Promise.{IsRun};
@@ -109,6 +109,24 @@ fn run_clients<R: Threads + Sync, G: Gate + Sync>(
     Ok(())
 }
 
+/// Opens a store, with a client for each list of requests.
+fn open_clients(
+    alloc: Global,
+    mut lists: Vec<Vec<Request>>,
+) -> Result<(Publisher, Vec<Client>), LifeFault>
+    ensures empty { IfOk result (λ opened. (opened.0.seen.batches ≡ []) × (opened.0.pending ≡ [])) }
+    ensures most { IfOk result (λ opened. opened.0.most ≡ most_loads) }
+    ensures requests { IfOk result (λ opened. map (λ c. c.requests) opened.1.items ≡ lists.items) }
+    ensures readers { IfOk result (λ opened. AllByRecursion (λ c. c.reader ≡ opened.0.seen) opened.1.items) }
+{
+    let Ok(publisher) = open_store(alloc) else {
+        return Err(LifeFault::Unopened);
+    };
+    let mut clients = Vec::new(alloc);
+    seat_all(alloc, &publisher, &mut lists, &mut clients)?;
+    Ok((publisher, clients))
+}
+
 /// Opens a store, with a reader for each list of requests. Does the commands in one thread while each list is answered
 /// in a thread of its own. Then each reader enters what is published, and the store ends.
 ///
@@ -119,18 +137,14 @@ pub fn run_snapshots<R: Threads + Sync, G: Gate + Sync>(
     rt: &R,
     alloc: Global,
     commands: &[Command],
-    mut lists: Vec<Vec<Request>>,
+    lists: Vec<Vec<Request>>,
     gate: &G,
 ) -> Result<Run, LifeFault>
     requires count { vec_len lists < 2 ^ 32 }
     ensures requests { IfOk result (λ run. map (λ c. c.requests) run.clients.items ≡ lists.items) }
     ensures promise { IfOk result (λ run. IsRun most_loads commands.now run.outcomes.items run.clients.items) }
 {
-    let Ok(mut publisher) = open_store(alloc) else {
-        return Err(LifeFault::Unopened);
-    };
-    let mut clients = Vec::new(alloc);
-    seat_all(alloc, &publisher, &mut lists, &mut clients)?;
+    let (mut publisher, mut clients) = open_clients(alloc, lists)?;
     let mut outcomes = Vec::new(alloc);
     match run_clients(
         rt,
