@@ -1,7 +1,8 @@
 #!/usr/bin/env bash
 # Calls the live store of libkobdzila: each function and each refusal, and with each request for memory refused
-# (tests/c_store.c); from 16 threads while two catalogues are published over and over, and from four threads that
-# publish (tests/c_store_threads.c). All of it by itself, under valgrind and with the sanitizers.
+# (tests/c_store.c); from 16 threads while two catalogues are published over and over, also by a thread that is stopped
+# anywhere, and from four threads that publish (tests/c_store_threads.c). All of it by itself, under valgrind and with
+# the sanitizers.
 no_program=1
 . "$(dirname "$0")/common"
 . tests/c_common
@@ -26,13 +27,15 @@ in_one_thread() {
   runs "$name, each request for memory refused, $how" "$@" "$program" memory
 }
 
-# in_threads HOW PUBLISHES WORD..: PUBLISHES publishes by one thread, and a tenth of that by several
+# in_threads HOW PUBLISHES WORD..: PUBLISHES publishes by one thread, a tenth of that by each of several, and a thread
+# that publishes until it was stopped as often as that
 in_threads() {
   local how=$1 publishes=$2
   shift 2
   runs "$name, $publishes publishes and 16 threads, $how" "$@" "$room/threads_$how" one "$publishes"
   runs "$name, the same with memory refused, $how" "$@" "$room/threads_$how" one $((publishes / 5)) 97
   runs "$name, four threads that publish, $how" "$@" "$room/threads_$how" several $((publishes / 10))
+  runs "$name, a publisher that is stopped, $how" "$@" "$room/threads_$how" stopped $((publishes / 10))
 }
 
 if builds plain "$library"; then

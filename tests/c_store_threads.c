@@ -3,12 +3,14 @@
  *
  *   c_store_threads one PUBLISHES [EACH]       one thread publishes two catalogues at once, PUBLISHES times; 16 look up
  *   c_store_threads several PUBLISHES [EACH]   four threads publish one catalogue each, PUBLISHES times; four look up
+ *   c_store_threads stopped STOPS [EACH]       as `one`, until its publisher was stopped STOPS times, wherever it is
  *
  * Each request for memory whose number is a multiple of EACH is refused, and what failed is done again. Each catalogue
  * has one text, the number of its publish. What the readers check: a version never falls, both texts are of one
  * publish, it is the publish that the version says, and it isn't older than one that they know of. A quarter of them
  * makes readers anew all the time, a quarter stays in its entries, and a quarter is given notices. Signals stop all of
- * them for some milliseconds, wherever they are.
+ * them for some milliseconds, wherever they are. A publisher that is stopped goes on once each reader has entered: none
+ * may wait for it.
  *
  * It prints what is wrong, and nothing else; with VERBOSE=1 also what was done. */
 #define _GNU_SOURCE
@@ -391,6 +393,83 @@ static void several(unsigned long publishes) {
     end(stopping);
 }
 
+/* ---- one thread publishes, and is stopped where it is */
+
+#define PATIENCE 30 /* seconds: how long the readers may take to enter */
+
+static pthread_t publisher;
+static unsigned long wanted_stops;
+static atomic_ulong stops, past; /* how often the publisher was stopped, and how many of these stops are over */
+static atomic_ulong entered;     /* the readers that entered since it was stopped last */
+static atomic_int hindered;      /* whether some didn't */
+
+static time_t second(void) {
+    struct timespec now;
+    clock_gettime(CLOCK_MONOTONIC, &now);
+    return now.tv_sec;
+}
+
+/* In the publisher's thread, whatever it was doing. */
+static void wait_for_entries(int signal) {
+    int cause = errno;
+    time_t last = second() + PATIENCE;
+    (void)signal;
+    atomic_store(&entered, 0);
+    atomic_fetch_add(&stops, 1);
+    while (second() <= last && atomic_load(&entered) < READERS && !atomic_load(&ended))
+        pause_for(100000);
+    if (atomic_load(&entered) < READERS && !atomic_exchange(&ended, 1))
+        atomic_store(&hindered, 1);
+    atomic_fetch_add(&past, 1);
+    errno = cause;
+}
+
+static void *stop_publisher(void *none) {
+    for (unsigned long i = 0; i < wanted_stops && !atomic_load(&ended); i++) {
+        pause_for((long)(i * 7919 % 100000));
+        pthread_kill(publisher, SIGUSR1);
+        while (atomic_load(&past) <= i && !atomic_load(&ended))
+            pause_for(20000);
+    }
+    atomic_store(&ended, 1);
+    return none;
+}
+
+static void *ask_at_each_stop(void *arg) {
+    struct asking *me = arg;
+    if (me->kind == ANEW)
+        me->kind = PLAIN; /* (a new reader takes the lock, which the publisher may have) */
+    for (unsigned long seen = 0; !atomic_load(&ended);) {
+        unsigned long now = atomic_load(&stops);
+        if (now == seen) {
+            pause_for(20000);
+            continue;
+        }
+        seen = now;
+        ask_once(me);
+        atomic_fetch_add(&entered, 1);
+    }
+    return NULL;
+}
+
+static void stopped(unsigned long times) {
+    pthread_t stopping;
+    publisher = pthread_self();
+    wanted_stops = times;
+    start(READERS, ask_at_each_stop);
+    struct sigaction action = { .sa_handler = wait_for_entries, .sa_flags = SA_RESTART };
+    sigaction(SIGUSR1, &action, NULL);
+    pthread_create(&stopping, NULL, stop_publisher, NULL);
+    unsigned long number = 0;
+    while (!atomic_load(&ended))
+        publish_two(++number);
+    if (atomic_load(&hindered))
+        fault("readers that entered while a publisher is stopped", atomic_load(&entered), READERS);
+    end(stopping);
+    if (getenv("VERBOSE"))
+        printf("%lu publishes, stopped %lu times\n", number, atomic_load(&stops));
+}
+
 int main(int argc, char **argv) {
     if (argc < 3)
         return 2;
@@ -399,8 +478,10 @@ int main(int argc, char **argv) {
     each = argc > 3 ? strtoul(argv[3], NULL, 10) : 0;
     if (!strcmp(argv[1], "one"))
         one(publishes);
-    else
+    else if (!strcmp(argv[1], "several"))
         several(publishes);
+    else
+        stopped(publishes);
     each = 0;
     kob_store_free(store);
     for (int i = 0; i < count_of_readers; i++)
