@@ -28,8 +28,8 @@
 #define ASKING 8
 #define PATIENCE 20 /* seconds */
 
-/* GCC's AddressSanitizer doesn't hold the locks of its allocator in a fork, so a child that takes memory may hang. */
-#ifdef __SANITIZE_ADDRESS__
+/* GCC's sanitizers don't hold the locks of their allocator in a fork, so a child that takes memory may hang. */
+#if defined(__SANITIZE_ADDRESS__) || defined(__SANITIZE_THREAD__)
 #define FORKS 0
 #else
 #define FORKS times

@@ -1,7 +1,7 @@
 #!/usr/bin/env bash
 # Asks gettext by libkobdzila-intl.so from 8 threads while two others bind text domains, one replaces a catalogue, one
 # changes the locale, one forks and one is cancelled, 200 times each (tests/gettext_threads.c): as it is, with
-# AddressSanitizer, but for the forks, and with ThreadSanitizer. bench/intl_threads does it for a minute.
+# AddressSanitizer and with ThreadSanitizer, these two without forks. bench/intl_threads does it for a minute.
 no_program=1
 . "$(dirname "$0")/common"
 . tests/c_common
