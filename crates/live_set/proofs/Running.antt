@@ -178,6 +178,13 @@ module _ {R : Type 0} (of : R → List LoadValue) where
   joined_set (r ∷ rs) (suc i) s lt = ap (λ t. of r ++ t) (joined_set rs i s (omega arith))
       ∙ sym (append_assoc (of r) (joined (take i rs)) (of s ++ joined (drop (suc i) rs)))
 
+  -- a run in the place of one of the same loads
+  joined_alike : (runs : List R) (i : ℕ) (s d : R) → i < length runs → of s ≡ of (get_or runs i d)
+      → joined (set runs i s) ≡ joined runs
+  joined_alike [] i s d lt is = absurd (omega arith)
+  joined_alike (r ∷ rs) zero s d lt is = ap (λ t. t ++ joined rs) is
+  joined_alike (r ∷ rs) (suc i) s d lt is = ap (λ t. of r ++ t) (joined_alike rs i s d (omega arith) is)
+
   -- a run that is split
   split_at : (runs : List R) (i : ℕ) (low up d : R) → i < length runs → of low ++ of up ≡ of (get_or runs i d)
       → joined (insert (set runs i low) (suc i) up) ≡ joined runs
@@ -442,6 +449,28 @@ module _ {R : Type 0} (of : R → List LoadValue) (first : List LoadValue) (runs
         same = same;
         rises = subst Rises (sym same) rises;
         has = subst (HasEach of) (sym is_new) (some, has);
+      }
+
+  -- a run has a copy of itself in its place
+  pub kept_later : (i : ℕ) (run new : R) (grown : List R) → i < length runs → grown ≡ runs → run ≡ get_or grown i run
+      → of new ≡ of run → record {
+        same : first ++ flat_map of (set grown i new) ≡ first ++ flat_map of runs;
+        rises : Rises (first ++ flat_map of (set grown i new));
+        has : HasEach of (set grown i new);
+      }
+  kept_later i run new grown inside is_grown read is =
+      let at : run ≡ get_or runs i run = read ∙ ap (λ (rs : List R). get_or rs i run) is_grown in
+      let alike : of new ≡ of (get_or runs i run) = is ∙ ap of at in
+      let same : first ++ flat_map of (set grown i new) ≡ first ++ flat_map of runs =
+      ap (λ (rs : List R). first ++ flat_map of (set rs i new)) is_grown
+      ∙ ap (λ l. first ++ l) (joined_alike of runs i new run inside alike) in
+      let some : 0 < length (of new) = subst (λ l. 0 < length l) (sym alike)
+      (all_get (λ s. 0 < length (of s)) runs i run has inside) in
+      record {
+        same = same;
+        rises = subst Rises (sym same) rises;
+        has = subst (λ (rs : List R). HasEach of (set rs i new)) (sym is_grown)
+            (all_set (λ s. 0 < length (of s)) runs i new some has);
       }
 
   -- `here` is the run as it was looked at, and `run` the one that was cut

@@ -1,5 +1,8 @@
 -- Private: consecutive runs of loads.
-use Rattle.std.specs.Prelude.{ℕ, ◌+◌, Bool, false, List, [], ◌∷◌, Option, Some, None}
+use Rattle.std.specs.Prelude.{ℕ, ◌+◌, Bool, false, List, [], ◌∷◌, Option, Some, None, Vec}
+use Rattle.std.specs.Arc.{arc_value}
+use Rattle.std.specs.declared.alloc.Global.{Global}
+use Rattle.std.specs.declared.sync.Arc.{Arc}
 use Rattle.std.specs.Ordering.{is_le}
 use Rattle.live_set.specs.Loads.{LoadValue}
 use Rattle.live_set.specs.Slots.{compared, asked}
@@ -13,3 +16,7 @@ begins_by domain locale (l ∷ ls) = is_le (compared l (asked domain locale))
 abbrev pub begun : Option ℕ → ℕ
 begun None = 0
 begun (Some at) = at + 1
+
+-- the loads of a run that copies share
+abbrev pub loads_in : Arc (Vec LoadValue Global) Global → List LoadValue
+loads_in run = (arc_value run).items

@@ -1,10 +1,11 @@
 //! Loads in ascending order, kept in runs of bounded length so that inserting one moves few others.
 ghost use Rattle.std.specs.Prelude.{◌≡◌, ◌<◌, true, false, [], ◌++◌, length, find, flat_map, option_map};
 ghost use Rattle.std.specs.Prelude.{MatchResult, MatchOption, None, IfOk, IfErr, IfSome, min, slice_get};
+ghost use Rattle.std.specs.Prelude.{◌≤◌, take, drop};
 ghost use Rattle.std.specs.List.Sorted.{IsPartitionedBy, IsPartitionPoint};
 ghost use Rattle.live_set.specs.Loads.{is_for};
 ghost use Rattle.live_set.specs.Slots.{slotted, Rises, IsAt, IsGapFor};
-ghost use Rattle.live_set.specs.LoadRuns.{begins_by, begun};
+ghost use Rattle.live_set.specs.LoadRuns.{begins_by, begun, loads_in};
 ghost use Rattle.live_set.specs.Placing.{IsPlaceFor};
 
 use crate::Load;
@@ -21,8 +22,8 @@ const RUN_LIMIT: usize = 128;
 #[derive(Drop)]
 pub(crate) struct LoadRuns {
     first: Vec<Load>,
-    /// The runs after the first one; none of them is empty.
-    later: Vec<Vec<Load>>,
+    /// The runs after the first one; none of them is empty. Copies share them.
+    later: Vec<Arc<Vec<Load>>>,
 }
 
 impl Model for LoadRuns {
@@ -30,13 +31,14 @@ impl Model for LoadRuns {
     ghost use Rattle.std.specs.List.{AllByRecursion};
     ghost use Rattle.live_set.specs.Loads.{LoadValue};
     ghost use Rattle.live_set.specs.Slots.{Rises};
+    ghost use Rattle.live_set.specs.LoadRuns.{loads_in};
 
     ghost Value = { List LoadValue };
 
-    ghost view = { λ runs. runs.first.items ++ flat_map (λ run. run.items) runs.later.items };
+    ghost view = { λ runs. runs.first.items ++ flat_map loads_in runs.later.items };
 
-    ghost invariant = { λ runs. Rises (runs.first.items ++ flat_map (λ run. run.items) runs.later.items)
-        × AllByRecursion (λ run. 0 < length run.items) runs.later.items };
+    ghost invariant = { λ runs. Rises (runs.first.items ++ flat_map loads_in runs.later.items)
+        × AllByRecursion (λ run. 0 < length (loads_in run)) runs.later.items };
 }
 
 /// Whether the run begins at or before the place of a load for this domain and locale.
@@ -51,11 +53,11 @@ fn begins_by(run: &[Load], domain: &TextKey<'_>, locale: &TextKey<'_>) -> bool
 
 /// The index in `later` of the run where a load for this domain and locale belongs, or `None` if that is the first run.
 #[inline(always)]
-fn run_for(later: &[Vec<Load>], domain: &TextKey<'_>, locale: &TextKey<'_>) -> Option<usize>
+fn run_for(later: &[Arc<Vec<Load>>], domain: &TextKey<'_>, locale: &TextKey<'_>) -> Option<usize>
     ensures bound { IfSome result (λ at. at < length later.now) }
-    ensures parted { IsPartitionedBy (λ run. begins_by domain.now locale.now run.items) later.now
-        → IsPartitionPoint (λ run. begins_by domain.now locale.now run.items ≡ true)
-        (λ run. begins_by domain.now locale.now run.items ≡ false) later.now (begun result) }
+    ensures parted { IsPartitionedBy (λ run. begins_by domain.now locale.now (loads_in run)) later.now
+        → IsPartitionPoint (λ run. begins_by domain.now locale.now (loads_in run) ≡ true)
+        (λ run. begins_by domain.now locale.now (loads_in run) ≡ false) later.now (begun result) }
 {
     later
         .partition_point(|run| begins_by(run, domain, locale))
@@ -94,9 +96,17 @@ fn index_in(run: &[Load], domain: &TextKey<'_>, locale: &TextKey<'_>) -> Option<
     }
 }
 
+/// The loads of a run that copies share.
+#[inline(always)]
+fn loads_of(run: &Arc<Vec<Load>>) -> &[Load]
+    ensures { result.now ≡ loads_in run.now }
+{
+    run.as_slice()
+}
+
 /// How many loads there are in these runs, or 2^64 - 1 if there are more.
-fn count_in(runs: &[Vec<Load>]) -> usize
-    ensures { result ≡ min (length (flat_map (λ run. run.items) runs.now)) 18446744073709551615 }
+fn count_in(runs: &[Arc<Vec<Load>>]) -> usize
+    ensures { result ≡ min (length (flat_map loads_in runs.now)) 18446744073709551615 }
 {
     let mut count = 0usize;
     'runs: for run in runs {
@@ -106,15 +116,16 @@ fn count_in(runs: &[Vec<Load>]) -> usize
 }
 
 /// The load with this index in runs.
-fn load_at(runs: &[Vec<Load>], place: usize) -> Option<&Load>
-    ensures { option_map (λ load. load.now) result ≡ slice_get (flat_map (λ run. run.items) runs.now) place }
+fn load_at(runs: &[Arc<Vec<Load>>], place: usize) -> Option<&Load>
+    ensures { option_map (λ load. load.now) result ≡ slice_get (flat_map loads_in runs.now) place }
 {
     let mut left = place;
     'runs: for run in runs {
-        if left < run.len() {
-            return Some(&run[left]);
+        let loads = loads_of(run);
+        if left < loads.len() {
+            return Some(&loads[left]);
         }
-        left -= run.len();
+        left -= loads.len();
     }
     None
 }
@@ -147,6 +158,62 @@ fn copied(alloc: Global, run: &[Load]) -> Result<Vec<Load>, AllocError>
     Ok(copy)
 }
 
+/// Copies the run if anybody else has it, so that it can be written to.
+fn unshare(run: &mut Arc<Vec<Load>>) -> Result<(), AllocError>
+    ensures { loads_in run.new ≡ loads_in run.old }
+{
+    if Arc::strong_count(run) > 1 {
+        let alloc = *run.allocator();
+        let copy = copied(alloc, run)?;
+        *run = Arc::new(alloc, copy)?;
+    }
+    Ok(())
+}
+
+/// Like `put_in`, for a run that others may have: they keep it as it is.
+fn put_in_shared(run: &mut Arc<Vec<Load>>, load: &Load) -> Result<(), AllocError>
+    requires { Rises (loads_in run.old) }
+    ensures { MatchResult result (λ _. loads_in run.new ≡ slotted (loads_in run.old) load.now)
+        (λ _. loads_in run.new ≡ loads_in run.old) }
+{
+    unshare(run)?;
+    match Arc::get_mut(run) {
+        Some(run) => put_in(run, load),
+        None => Err(AllocError),
+    }
+}
+
+/// Moves the loads from the 65th on to a run of their own.
+fn split(run: &mut Vec<Load>) -> Result<Arc<Vec<Load>>, AllocError>
+    requires { 64 ≤ length run.old.items }
+    ensures { MatchResult result (λ upper. (run.new.items ≡ take 64 run.old.items)
+        × (loads_in upper ≡ drop 64 run.old.items)) (λ _. run.new.items ≡ run.old.items) }
+{
+    let alloc = *run.allocator();
+    let mut upper = Arc::new(alloc, Vec::new(alloc))?;
+    match Arc::get_mut(&mut upper) {
+        Some(place) => {
+            *place = run.split_off(RUN_LIMIT / 2)?;
+            Ok(upper)
+        }
+        None => Err(AllocError),
+    }
+}
+
+/// Like `split`, for a run that others may have: they keep it as it is.
+fn split_shared(run: &mut Arc<Vec<Load>>) -> Result<Arc<Vec<Load>>, AllocError>
+    requires { 64 ≤ length (loads_in run.old) }
+    ensures { MatchResult result (λ upper. (loads_in run.new ≡ take 64 (loads_in run.old))
+        × (loads_in upper ≡ drop 64 (loads_in run.old)))
+        (λ _. loads_in run.new ≡ loads_in run.old) }
+{
+    unshare(run)?;
+    match Arc::get_mut(run) {
+        Some(run) => split(run),
+        None => Err(AllocError),
+    }
+}
+
 impl LoadRuns {
     /// No loads.
     pub(crate) fn new(alloc: Global) -> LoadRuns
@@ -164,7 +231,7 @@ impl LoadRuns {
     {
         match run_for(&self.later, domain, locale) {
             None => load_in(&self.first, domain, locale),
-            Some(at) => load_in(&self.later[at], domain, locale),
+            Some(at) => load_in(loads_of(&self.later[at]), domain, locale),
         }
     }
 
@@ -176,7 +243,7 @@ impl LoadRuns {
         match run_for(&self.later, domain, locale) {
             None => index_in(&self.first, domain, locale),
             Some(at) => {
-                let inside = index_in(&self.later[at], domain, locale)?;
+                let inside = index_in(loads_of(&self.later[at]), domain, locale)?;
                 let before = self.first.len().saturating_add(count_in(&self.later[..at]));
                 Some(before.saturating_add(inside))
             }
@@ -202,14 +269,14 @@ impl LoadRuns {
             None => {
                 if self.first.len() >= RUN_LIMIT {
                     self.later.reserve(1)?;
-                    let upper = self.first.split_off(RUN_LIMIT / 2)?;
+                    let upper = split(&mut self.first)?;
                     self.later.insert(0, upper)?;
                 }
             }
             Some(at) => {
-                if self.later[at].len() >= RUN_LIMIT {
+                if loads_of(&self.later[at]).len() >= RUN_LIMIT {
                     self.later.reserve(1)?;
-                    let upper = self.later[at].split_off(RUN_LIMIT / 2)?;
+                    let upper = split_shared(&mut self.later[at])?;
                     self.later.insert(at + 1, upper)?;
                 }
             }
@@ -225,17 +292,17 @@ impl LoadRuns {
         self.make_room(load)?;
         match run_for(&self.later, &load.domain(), &load.locale()) {
             None => put_in(&mut self.first, load),
-            Some(at) => put_in(&mut self.later[at], load),
+            Some(at) => put_in_shared(&mut self.later[at], load),
         }
     }
 
-    /// A copy that shares the catalogues. Fails if memory runs out.
+    /// A copy that shares the runs but the first one. Fails if memory runs out.
     pub(crate) fn try_clone(&self, alloc: Global) -> Result<LoadRuns, AllocError>
         ensures { IfOk result (λ runs. runs ≡ self.now) }
     {
         let mut later = Vec::with_capacity(alloc, self.later.len())?;
         'runs: for run in &self.later {
-            later.push(copied(alloc, run)?)?;
+            later.push(Arc::try_clone(run)?)?;
         }
         Ok(LoadRuns {
             first: copied(alloc, &self.first)?,

@@ -7,9 +7,9 @@ use mathlib.Core.List.{IsPrefix}
 use prog.Atomic.{either}
 use Rattle.logbook.specs.Pages.{Cell, cell, keeps, no_nib, step, Moves, Goes}
 use Rattle.live_set.specs.Loads.{LoadValue}
-use Rattle.live_versions.specs.Batches.{version_of, NoneEmpty}
+use Rattle.live_loads.specs.Batches.{version_of, NoneEmpty}
 use Rattle.live_versions.specs.Book.{KeepsBatches, AddsBatch}
-use Rattle.live_versions.proofs.Joining.{whole, full_add, version-add}
+use Rattle.live_loads.proofs.Joining.{whole, full_add, version-add}
 
 abbrev Batches : Type 0
 Batches = List (List LoadValue)

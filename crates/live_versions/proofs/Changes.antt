@@ -7,7 +7,7 @@ use Rattle.live_versions.specs.declared.rule.Change.{Change}
 use Rattle.live_versions.specs.declared.rule.Change.TheVariants.{Load, Seal}
 use Rattle.live_set.specs.Loads.{LoadValue}
 use Rattle.live_set.specs.Sets.{SetValue, absorbed}
-use Rattle.live_versions.specs.Seen.{SeenValue}
+use Rattle.live_loads.specs.Seen.{SeenValue}
 use Rattle.live_versions.specs.StoreRule.{applied_to}
 use Rattle.live_versions.specs.Changes.{loads_of, EndsIn}
 

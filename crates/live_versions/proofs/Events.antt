@@ -7,11 +7,11 @@ use Rattle.std.proofs.lemmas.List.{append-nil}
 use Rattle.std.proofs.lemmas.List.Sums.{fold-append}
 use Rattle.std.proofs.lemmas.Bool.Decides.{nat_tests}
 use lib.Dec.{leb}
-use Rattle.live_versions.specs.Batches.{joined, version_of, StartsWith}
+use Rattle.live_loads.specs.Batches.{joined, version_of, StartsWith}
 use Rattle.live_versions.specs.History.{Event, State, Accept, Refuse, Publish, Enter, Learn, opened, after, state_of}
 use Rattle.live_versions.specs.History.{WasPublished, MayFollow, IsLegal, IsWhole, NeverFalls, EntersNoLess}
 use Rattle.live_versions.specs.History.{SeesWholeBatches, EntersWholeBatches}
-use Rattle.live_versions.proofs.Joining.{joined-append, begins_refl, begins_trans, begins-published}
+use Rattle.live_loads.proofs.Joining.{joined-append, begins_refl, begins_trans, begins-published}
 
 -- one more event
 state_of-snoc : (first : List Event) (e : Event) → state_of (first ++ e ∷ []) ≡ after (state_of first) e

@@ -1,9 +1,4 @@
 pub mod Adding
-pub mod BytesFaults
 pub mod Changes
 pub mod Events
-pub mod Joining
-pub mod Looking
-pub mod OneAnswer
-pub mod Refusals
 pub mod Steps

@@ -11,11 +11,11 @@ use Rattle.live_versions.specs.declared.rule.Shown.{Shown}
 use Rattle.live_set.specs.Loads.{LoadValue}
 use Rattle.live_set.specs.Sets.{absorbed, no_loads}
 use Rattle.live_set.specs.Sets.{fold as fold_of}
-use Rattle.live_versions.specs.Seen.{SeenValue}
+use Rattle.live_loads.specs.Seen.{SeenValue}
 use Rattle.live_versions.specs.SeatViews.{ViewValue, fresh}
-use Rattle.live_versions.specs.Batches.{joined, version_of, StartsWith, NoneEmpty}
+use Rattle.live_loads.specs.Batches.{joined, version_of, StartsWith, NoneEmpty}
 use Rattle.live_versions.specs.StoreRule.{Keeps, Sees, Only}
-use Rattle.live_versions.proofs.Joining.{full_add, joined-append, begins_refl, begins_trans, begins_nil, fold-append_of}
+use Rattle.live_loads.proofs.Joining.{full_add, joined-append, begins_refl, begins_trans, begins_nil, fold-append_of}
 
 abbrev holds : Shown → List ViewValue → Type 0
 holds x views = Keeps x.set x.seen views

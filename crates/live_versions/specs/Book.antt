@@ -2,8 +2,8 @@
 use Rattle.std.specs.Prelude.{◌≡◌, ⊤, ℕ, ◌^◌, ◌<◌, List, [], ◌∷◌, ◌++◌, true, Option, Some, None}
 use Rattle.logbook.specs.Pages.{Cell, Book, Named, Step, View}
 use Rattle.live_set.specs.Loads.{LoadValue}
-use Rattle.live_versions.specs.Batches.{version_of, NoneEmpty}
-use Rattle.live_versions.specs.Seen.{SeenValue}
+use Rattle.live_loads.specs.Batches.{version_of, NoneEmpty}
+use Rattle.live_loads.specs.Seen.{SeenValue}
 
 -- the first word of a book is the version; a book has two words, and the second one stays 0
 pub record KeepsBatches (cells : List Cell) (log : List (List LoadValue)) : Type 0 where

@@ -3,7 +3,7 @@ use Rattle.std.specs.Prelude.{◌≡◌, List, [], ◌∷◌, ◌++◌}
 use Rattle.live_set.specs.Loads.{LoadValue}
 use Rattle.live_versions.specs.declared.rule.Change.{Change}
 use Rattle.live_versions.specs.declared.rule.Change.TheVariants.{Load, Seal}
-use Rattle.live_versions.specs.Seen.{SeenValue}
+use Rattle.live_loads.specs.Seen.{SeenValue}
 
 -- the loads among some changes
 abbrev pub loads_of : List Change → List LoadValue

@@ -1,7 +1,7 @@
 -- The history of a store as a list of events: which may happen, and what each does.
 use Rattle.std.specs.Prelude.{◌≡◌, ⊤, ℕ, ◌+◌, ◌<◌, ◌≤◌, ◌==◌, max, if◌then◌else◌, List, [], ◌∷◌, ◌++◌, length, fold}
 use Rattle.live_set.specs.Loads.{LoadValue}
-use Rattle.live_versions.specs.Batches.{version_of, StartsWith, published}
+use Rattle.live_loads.specs.Batches.{version_of, StartsWith, published}
 
 -- a load is accepted or refused; the pending loads are published; a reader enters the version that is published; a
 -- reader learns of a version that was published

@@ -3,7 +3,7 @@ use Rattle.std.specs.Prelude.{◌≡◌, ⊤, [], ◌∷◌, Option, Some, None,
 use Rattle.std.specs.declared.alloc.Global.{Global}
 use Rattle.left_right.specs.Sides.{view}
 use Rattle.left_right.specs.declared.reader.Reader.{Reader}
-use Rattle.live_versions.specs.Seen.{SeenValue}
+use Rattle.live_loads.specs.Seen.{SeenValue}
 use Rattle.live_versions.specs.declared.rule.Shown.{Shown}
 use Rattle.live_versions.specs.declared.rule.View.{View}
 use Rattle.live_versions.specs.declared.rule.Versions.{Versions}

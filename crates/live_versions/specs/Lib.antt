@@ -1,10 +1,10 @@
-pub mod Batches
+pub use Rattle.live_loads.specs.Batches
+pub use Rattle.live_loads.specs.Seen
+pub use Rattle.live_loads.specs.Store
+pub use Rattle.live_loads.specs.LoadAnswers
+pub use Rattle.live_loads.specs.Loading
 pub mod History
-pub mod Seen
-pub mod Store
-pub mod LoadAnswers
 pub mod Entering
-pub mod Loading
 pub mod Book
 pub mod Changes
 pub mod StoreRule

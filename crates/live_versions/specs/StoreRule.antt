@@ -7,9 +7,9 @@ use Rattle.live_set.specs.Sets.{SetValue, absorbed, fold}
 use Rattle.live_versions.specs.declared.rule.Common.{Common}
 use Rattle.live_versions.specs.declared.rule.Change.{Change}
 use Rattle.live_versions.specs.declared.rule.Change.TheVariants.{Load, Seal}
-use Rattle.live_versions.specs.Seen.{SeenValue}
+use Rattle.live_loads.specs.Seen.{SeenValue}
 use Rattle.live_versions.specs.SeatViews.{ViewValue}
-use Rattle.live_versions.specs.Batches.{joined, version_of, StartsWith, NoneEmpty}
+use Rattle.live_loads.specs.Batches.{joined, version_of, StartsWith, NoneEmpty}
 
 -- what a change does to a copy
 abbrev pub applied_to : Common → Change → Common

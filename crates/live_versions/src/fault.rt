@@ -1,10 +1,4 @@
-//! The errors of the store.
-ghost use Rattle.std.specs.Prelude.{◌≡◌};
-ghost use Rattle.live_versions.specs.declared.fault.StoreFault.TheVariants.{Memory};
-
-use catalogue::LoadFault;
-use mo_file::MoFault;
-use std::alloc::{AllocError, AllocFailed};
+//! The errors of the store. Loads are refused with `live_loads::StoreFault`.
 use thiserror::Error;
 
 /// Why a store couldn't be opened.
@@ -17,27 +11,6 @@ pub enum OpenFault {
     #[error("no place for a reader")]
     NoPlace,
     /// Out of memory.
-    #[error("out of memory")]
-    Memory,
-}
-
-/// Why a load was refused: if several reasons hold, the first of this list.
-#[derive(Clone, Copy, Debug, PartialEq, Eq, Error)]
-pub enum StoreFault {
-    /// The domain or the locale isn't a name.
-    #[error("not a name")]
-    BadName,
-    /// The store has accepted as many loads as it takes.
-    #[error("as many loads as the store takes")]
-    VersionsSpent,
-    /// The PO text is refused for this reason.
-    #[error("the text is refused")]
-    Refused(LoadFault),
-    /// The MO file is refused for this reason, which is never `MoFault::Memory`.
-    #[error("the MO file is refused: {0}")]
-    RefusedMo(MoFault),
-    /// Out of memory, which may be returned in place of any result that comes after the checks of the names and the
-    /// room.
     #[error("out of memory")]
     Memory,
 }
@@ -72,20 +45,4 @@ pub enum AskFault {
 pub struct Ahead {
     /// The greatest version that the reader has entered or learnt of.
     pub seen: u64,
-}
-
-impl From<AllocError> for StoreFault {
-    ghost from_gives = { λ _ fault. fault ≡ Memory };
-
-    fn from(_: AllocError) -> StoreFault {
-        StoreFault::Memory
-    }
-}
-
-impl<T: Drop> From<AllocFailed<T>> for StoreFault {
-    ghost from_gives = { λ _ fault. fault ≡ Memory };
-
-    fn from(_: AllocFailed<T>) -> StoreFault {
-        StoreFault::Memory
-    }
 }

@@ -47,11 +47,9 @@
 //! - `Adding`, `Offered`, `Nothing`, `Pages`, `Same`: what single calls of `logbook` and `left_right` prove.
 #![tactic(auto)]
 
-mod answers;
 mod fault;
 mod law;
-mod load_mo;
-mod load_po;
+mod load;
 mod notice;
 mod pinned;
 mod publisher;
@@ -62,9 +60,9 @@ mod seen;
 mod store;
 mod writer;
 
-pub use answers::one_answer;
-pub use fault::{Ahead, AskFault, Closed, OpenFault, PublishFault, StoreFault};
+pub use fault::{Ahead, AskFault, Closed, OpenFault, PublishFault};
 pub use law::versions_never_fall;
+pub use live_loads::{StoreFault, mo_number, one_answer, po_number};
 pub use notice::Notice;
 pub use pinned::{Entry, Pinned};
 pub use publisher::Publisher;

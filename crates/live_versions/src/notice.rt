@@ -1,6 +1,6 @@
 //! Notices of what is published.
 ghost use Rattle.std.specs.Prelude.{◌≡◌};
-ghost use Rattle.live_versions.specs.Batches.{version_of};
+ghost use Rattle.live_loads.specs.Batches.{version_of};
 
 use crate::Version;
 use crate::seen::Seen;
@@ -14,7 +14,7 @@ pub struct Notice {
 }
 
 impl Model for Notice {
-    ghost use Rattle.live_versions.specs.Seen.{SeenValue};
+    ghost use Rattle.live_loads.specs.Seen.{SeenValue};
 
     ghost Value = { SeenValue };
 

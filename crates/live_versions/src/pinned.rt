@@ -5,7 +5,7 @@ ghost use Rattle.live_set.specs.Asks.{AreAnswers, IsAnswer, maps_named, query_of
 ghost use Rattle.live_set.specs.Asks.{Plain, Context, Number, ContextNumber};
 ghost use Rattle.live_set.specs.Loads.{map_of};
 ghost use Rattle.live_set.specs.Sets.{fold};
-ghost use Rattle.live_versions.specs.Batches.{joined, version_of};
+ghost use Rattle.live_loads.specs.Batches.{joined, version_of};
 ghost use Rattle.live_versions.specs.Entering.{entry_of};
 
 use crate::Version;
@@ -29,8 +29,8 @@ impl Model for Entry {
     ghost use Rattle.std.specs.Prelude.{◌≡◌, [], ◌∷◌};
     ghost use Rattle.left_right.specs.Sides.{view as known};
     ghost use Rattle.live_set.specs.Sets.{fold};
-    ghost use Rattle.live_versions.specs.Batches.{joined};
-    ghost use Rattle.live_versions.specs.Seen.{SeenValue};
+    ghost use Rattle.live_loads.specs.Batches.{joined};
+    ghost use Rattle.live_loads.specs.Seen.{SeenValue};
 
     ghost Value = { SeenValue };
 
@@ -75,7 +75,7 @@ impl Pinned<'_> {
     }
 
     /// The answer to a query (`live_set::CatalogueSet::look`).
-    #[tactic(auto, using(crate::proofs::Looking::searched))]
+    #[tactic(auto, using(live_loads::proofs::Looking::searched))]
     pub fn look<'a>(&'a self, query: &'a Query) -> &'a str
         ensures { IsAnswer (joined (entry_of self.now).batches) query.now result.now }
     {
@@ -96,7 +96,7 @@ impl Pinned<'_> {
 
     /// The translation of a msgid in a domain, from the first catalogue named by the list of languages that has it
     /// (`live_set::Query`), or the msgid if none has it.
-    #[tactic(auto, using(crate::proofs::Looking::searched))]
+    #[tactic(auto, using(live_loads::proofs::Looking::searched))]
     pub fn gettext<'a>(&'a self, domain: &str, languages: &str, id: &'a str) -> &'a str
         ensures { IsAnswer (joined (entry_of self.now).batches) (query_of domain.now languages.now (Plain id.now))
             result.now }
@@ -105,7 +105,7 @@ impl Pinned<'_> {
     }
 
     /// Like `gettext`, for a msgid in a context (`pgettext`).
-    #[tactic(auto, using(crate::proofs::Looking::searched))]
+    #[tactic(auto, using(live_loads::proofs::Looking::searched))]
     pub fn pgettext<'a>(
         &'a self,
         domain: &str,
@@ -121,7 +121,7 @@ impl Pinned<'_> {
 
     /// The plural form for a number, from the first catalogue named by the list of languages that has the message. If
     /// none has it, the msgid for 1 and the plural for other numbers (`ngettext`).
-    #[tactic(auto, using(crate::proofs::Looking::searched))]
+    #[tactic(auto, using(live_loads::proofs::Looking::searched))]
     pub fn ngettext<'a>(
         &'a self,
         domain: &str,
@@ -137,7 +137,7 @@ impl Pinned<'_> {
     }
 
     /// Like `ngettext`, for a message in a context (`npgettext`).
-    #[tactic(auto, using(crate::proofs::Looking::searched))]
+    #[tactic(auto, using(live_loads::proofs::Looking::searched))]
     pub fn npgettext<'a>(
         &'a self,
         domain: &str,

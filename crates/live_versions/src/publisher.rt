@@ -1,20 +1,19 @@
 //! The publisher: what it loads is pending until it publishes.
-ghost use Rattle.std.specs.Prelude.{◌≡◌, ◌≢◌, ◌↔◌, [], length, drop, IsTrue, IfOk, IfErr, OnOk, OnErr};
+ghost use Rattle.std.specs.Prelude.{◌≡◌, ◌≢◌, [], length, drop, IfOk, OnOk, OnErr};
 ghost use Rattle.std.specs.Arc.{arc_value};
-ghost use Rattle.live_versions.specs.Batches.{version_of, published};
-ghost use Rattle.live_versions.specs.Loading.{IsUnread};
-ghost use Rattle.live_versions.specs.Store.{AreNames, HasRoom, IsWithin, AddsLoad, IsRefusedFor};
+ghost use Rattle.live_loads.specs.Batches.{version_of, published};
+ghost use Rattle.live_loads.specs.Store.{AreNames, HasRoom, IsWithin, AddsLoad, room_of};
 
 use crate::Version;
-use crate::fault::{PublishFault, StoreFault};
+use crate::fault::PublishFault;
 use crate::notice::Notice;
 use crate::rule::Shown;
 use crate::seal::{Seal, Sealing, bundle_of};
 use crate::seen::Seen;
 use crate::writer::{StoreWriter, append_load, append_seal, just_shown, publish_at};
-use catalogue::Catalogue;
-use live_set::{Load, Name, is_name};
-use std::alloc::{AllocError, Global};
+use live_loads::Room;
+use live_set::Load;
+use std::alloc::AllocError;
 use std::marker::Model;
 use std::snapshot::Snapshot;
 use std::sync::{Arc, Wait};
@@ -34,8 +33,8 @@ pub struct Publisher {
 impl Model for Publisher {
     ghost use Rattle.std.specs.Prelude.{◌≡◌, ◌+◌, ◌≤◌, ◌<◌, ◌^◌, drop, length};
     ghost use Rattle.std.specs.Arc.{arc_value};
-    ghost use Rattle.live_versions.specs.Store.{StoreValue};
-    ghost use Rattle.live_versions.specs.Batches.{version_of};
+    ghost use Rattle.live_loads.specs.Store.{StoreValue};
+    ghost use Rattle.live_loads.specs.Batches.{version_of};
     ghost use Rattle.live_versions.specs.Changes.{loads_of};
 
     ghost Value = { StoreValue };
@@ -47,23 +46,6 @@ impl Model for Publisher {
         × ((arc_value p.sealing).head.word.book ≡ p.seen.book)
         × (p.pending ≡ length (loads_of (drop p.writer.behind p.writer.log.items)))
         × (version_of p.seen.batches + p.pending ≤ p.most) × (p.most < 2 ^ 64) };
-}
-
-/// Whether both are names. It doesn't allocate.
-fn are_names(domain: &str, locale: &str) -> bool
-    ensures { IsTrue result ↔ AreNames domain.now locale.now }
-{
-    is_name(domain) && is_name(locale)
-}
-
-/// Copies a text that is known to be a name.
-fn name_of(alloc: Global, text: &str) -> Result<Name, AllocError>
-    ensures { IfOk result (λ name. name ≡ text.now) }
-{
-    match Name::new(alloc, text) {
-        Ok(name) => Ok(name),
-        Err(_) => Err(AllocError),
-    }
 }
 
 impl Publisher {
@@ -115,46 +97,25 @@ impl Publisher {
         Notice::new(&self.seen)
     }
 
-    /// Checks that both are names and that the store takes one more load, and only then allocates the two names.
-    pub(crate) fn admit(
-        &self,
-        alloc: Global,
-        domain: &str,
-        locale: &str,
-    ) -> Result<(Name, Name), StoreFault>
-        ensures names { IfOk result (λ names. (names.0 ≡ domain.now) × (names.1 ≡ locale.now)) }
-        ensures ok { IfOk result (λ _. AreNames domain.now locale.now × HasRoom self.now) }
-        ensures err { IfErr result (IsRefusedFor IsUnread self.now domain.now locale.now) }
+    /// How many loads are accepted, of how many.
+    pub(crate) fn room(&self) -> Room
+        ensures is { result ≡ room_of self.now }
+        ensures within { IsWithin self.now }
     {
-        if !are_names(domain, locale) {
-            return Err(StoreFault::BadName);
+        Room {
+            accepted: self.seen.version() + self.pending,
+            most: self.most,
         }
-        if self.most - self.seen.version() <= self.pending {
-            return Err(StoreFault::VersionsSpent);
-        }
-        Ok((name_of(alloc, domain)?, name_of(alloc, locale)?))
     }
 
-    /// Builds the catalogue's index, and appends the load to the pending ones.
-    pub(crate) fn append(
-        &mut self,
-        alloc: Global,
-        domain: Name,
-        locale: Name,
-        mut catalogue: Catalogue,
-    ) -> Result<(), AllocError>
-        requires names { AreNames domain locale }
+    /// Appends a load to the pending ones.
+    pub(crate) fn append(&mut self, load: Load) -> Result<(), AllocError>
+        requires names { AreNames load.domain load.locale }
         requires room { HasRoom self.old }
-        ensures ok { OnOk result (AddsLoad self.old domain locale catalogue self.new) }
+        ensures ok { OnOk result (AddsLoad self.old load.domain load.locale load.map self.new) }
         ensures err { OnErr result (self.new ≡ self.old) }
         ensures seen { self.new.seen ≡ self.old.seen }
     {
-        catalogue.index(alloc)?;
-        let load = Load {
-            domain,
-            locale,
-            catalogue: Arc::new(alloc, catalogue)?,
-        };
         append_load(&mut self.writer, load)?;
         self.pending += 1;
         Ok(())

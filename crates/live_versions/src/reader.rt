@@ -4,7 +4,7 @@ ghost use Rattle.std.specs.String.{string_capacity};
 ghost use Rattle.std.specs.Borrow.{sem, RestsIfErr};
 ghost use Rattle.left_right.specs.Sides.{view};
 ghost use Rattle.live_set.specs.Asks.{IsAnswer};
-ghost use Rattle.live_versions.specs.Batches.{joined, version_of, StartsWith};
+ghost use Rattle.live_loads.specs.Batches.{joined, version_of, StartsWith};
 ghost use Rattle.live_versions.specs.AnswerRoom.{IsLonger};
 ghost use Rattle.live_versions.specs.Entering.{entry_of, home_name};
 ghost use Rattle.live_versions.specs.contracts.reader.Lookups.{the_row};
@@ -34,7 +34,7 @@ pub struct Lookups {
 }
 
 impl Model for Lookups {
-    ghost use Rattle.live_versions.specs.Seen.{SeenValue};
+    ghost use Rattle.live_loads.specs.Seen.{SeenValue};
 
     ghost Value = { SeenValue };
 

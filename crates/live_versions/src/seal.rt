@@ -4,7 +4,7 @@
 //! copies are swapped right after it, so a publish that runs out of memory leaves the book as it was.
 ghost use Rattle.std.specs.Prelude.{◌≡◌, ◌+◌, ◌<◌, ◌^◌, ◌++◌, ◌∷◌, [], length, drop, IfSome};
 ghost use Rattle.std.specs.Arc.{arc_value};
-ghost use Rattle.live_versions.specs.Batches.{version_of};
+ghost use Rattle.live_loads.specs.Batches.{version_of};
 ghost use Rattle.live_versions.specs.Changes.{loads_of};
 
 use crate::seen::{Head, Seen, add_batch};
@@ -135,8 +135,8 @@ pub(crate) struct Seal {
 impl Model for Seal {
     ghost use Rattle.std.specs.Prelude.{◌≡◌, ◌<◌, ◌+◌, ◌^◌, ◌++◌, ◌∷◌, [], length};
     ghost use Rattle.std.specs.Arc.{arc_value};
-    ghost use Rattle.live_versions.specs.Batches.{version_of};
-    ghost use Rattle.live_versions.specs.Seen.{SeenValue};
+    ghost use Rattle.live_loads.specs.Batches.{version_of};
+    ghost use Rattle.live_loads.specs.Seen.{SeenValue};
 
     ghost Value = { SeenValue };
 
@@ -196,7 +196,7 @@ pub(crate) struct Cover {
 }
 
 impl Model for Cover {
-    ghost use Rattle.live_versions.specs.Seen.{SeenValue};
+    ghost use Rattle.live_loads.specs.Seen.{SeenValue};
     ghost use Rattle.live_versions.specs.Book.{claimed, IsTokenOf};
 
     ghost Value = { SeenValue };

@@ -3,7 +3,7 @@
 //! A book is a history that exists in proofs alone (`logbook`). At run time threads share only its word, which is the
 //! version; a `Seen` is a beginning of the history.
 ghost use Rattle.std.specs.Prelude.{◌≡◌, ◌+◌, ◌<◌, ◌^◌, ◌++◌, ◌∷◌, [], length, MatchBool, IfSome};
-ghost use Rattle.live_versions.specs.Batches.{version_of, StartsWith, NoneEmpty};
+ghost use Rattle.live_loads.specs.Batches.{version_of, StartsWith, NoneEmpty};
 ghost use Rattle.live_versions.specs.Book.{head_of};
 
 use crate::Version;
@@ -84,8 +84,8 @@ pub(crate) struct Seen {
 
 impl Model for Seen {
     ghost use Rattle.std.specs.Prelude.{◌≡◌};
-    ghost use Rattle.live_versions.specs.Batches.{version_of, NoneEmpty};
-    ghost use Rattle.live_versions.specs.Seen.{SeenValue};
+    ghost use Rattle.live_loads.specs.Batches.{version_of, NoneEmpty};
+    ghost use Rattle.live_loads.specs.Seen.{SeenValue};
 
     ghost Value = { SeenValue };
 

@@ -1,7 +1,7 @@
 //! The writer of the two copies, whose log holds the pending loads.
 ghost use Rattle.std.specs.Prelude.{◌≡◌, ◌+◌, ◌^◌, ◌<◌, [], ◌∷◌, ◌++◌, length, drop, OnOk, OnErr};
 ghost use Rattle.left_right.specs.Sides.{view};
-ghost use Rattle.live_versions.specs.Batches.{version_of};
+ghost use Rattle.live_loads.specs.Batches.{version_of};
 ghost use Rattle.live_versions.specs.Changes.{loads_of, EndsIn};
 
 use crate::rule::{Change, Shown, Versions, View};

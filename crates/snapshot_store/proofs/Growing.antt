@@ -1,14 +1,13 @@
 -- The set and the version after one more batch.
 use Rattle.std.proofs.Common.{◌≡◌, ◌≢◌, ◌+◌, ◌∷◌, ◌++◌, [], List, length, fold, sym, refl, ap, ◌∙◌}
-use Rattle.std.proofs.lemmas.List.{append-nil, append_assoc}
+use Rattle.std.proofs.lemmas.List.{append-nil}
 use Rattle.live_set.specs.Loads.{LoadValue}
 use Rattle.live_set.specs.Sets.{SetValue, absorbed}
 use Rattle.live_set.specs.Sets.{fold as fold_of}
 use Rattle.live_set.proofs.Folding.{map_in-fold}
-use Rattle.live_versions.specs.Batches.{joined, version_of, published}
-use Rattle.live_versions.proofs.Joining.{joined-append, fold-append_of, version-add}
+use Rattle.live_loads.specs.Batches.{joined, version_of, published}
+use Rattle.live_loads.proofs.Joining.{joined-append, fold-append_of, version-add}
 use Rattle.snapshot_store.specs.Holding.{IsSetOf}
-use Rattle.snapshot_store.specs.Lacking.{Lacks}
 
 -- the loads of one more batch
 pub joined_add : (v : List (List LoadValue)) (batch : List LoadValue) → joined (v ++ batch ∷ []) ≡ joined v ++ batch
@@ -36,23 +35,3 @@ published_some v (x ∷ xs) some = refl
 pub version_added : (v : List (List LoadValue)) (batch : List LoadValue) → version_of (v ++ batch ∷ [])
     ≡ version_of v + length batch
 version_added = version-add
-
--- the version so far lacks the batch of the next one
-pub lacks_batch : (v : List (List LoadValue)) (batch : List LoadValue) → Lacks v batch (v ++ batch ∷ [])
-lacks_batch v batch = joined_add v batch
-
--- a version before it lacks that batch, too
-pub lacks_both : (u v : List (List LoadValue)) (older batch : List LoadValue) → Lacks u older v
-    → Lacks u (older ++ batch) (v ++ batch ∷ [])
-lacks_both u v older batch is = joined_add v batch ∙ (ap (λ l. l ++ batch) is
-    ∙ append_assoc (joined u) older batch)
-
--- the set of a version with all the loads that it lacks
-pub set_of_last : (u v : List (List LoadValue)) (loads : List LoadValue) → Lacks u loads v
-    → fold absorbed (fold_of (joined u)) loads ≡ fold_of (joined v)
-set_of_last u v loads is = sym (fold-append_of (joined u) loads) ∙ ap fold_of (sym is)
-
-pub set_of_before : (u v : List (List LoadValue)) (older newest : List LoadValue) → Lacks u (older ++ newest) v
-    → fold absorbed (fold absorbed (fold_of (joined u)) older) newest ≡ fold_of (joined v)
-set_of_before u v older newest is = ap (λ s. fold absorbed s newest) (sym (fold-append_of (joined u) older))
-    ∙ (sym (fold-append_of (joined u ++ older) newest) ∙ ap fold_of (append_assoc (joined u) older newest ∙ sym is))

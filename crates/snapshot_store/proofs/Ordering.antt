@@ -6,8 +6,8 @@ use lib.Dec.{leb}
 use Rattle.std.proofs.lemmas.Bool.Decides.{nat_tests}
 use mathlib.Core.List.{IsPrefix}
 use Rattle.live_set.specs.Loads.{LoadValue}
-use Rattle.live_versions.specs.Batches.{StartsWith}
-use Rattle.live_versions.specs.Seen.{SeenValue}
+use Rattle.live_loads.specs.Batches.{StartsWith}
+use Rattle.live_loads.specs.Seen.{SeenValue}
 
 -- a beginning that is as long is the whole list
 pub whole : (log v : List (List LoadValue)) → StartsWith log v → length log ≡ length v → log ≡ v

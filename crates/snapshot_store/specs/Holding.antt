@@ -2,10 +2,10 @@
 use Rattle.std.specs.Prelude.{◌≡◌, ℕ, List}
 use Rattle.live_set.specs.Loads.{LoadValue, map_of}
 use Rattle.live_set.specs.Sets.{SetValue, fold, map_in}
-use Rattle.live_versions.specs.Batches.{joined}
-use Rattle.live_versions.specs.Seen.{SeenValue}
-use Rattle.live_versions.specs.Store.{StoreValue, IsRefusedFor}
-use Rattle.live_versions.specs.declared.fault.StoreFault.{StoreFault}
+use Rattle.live_loads.specs.Batches.{joined}
+use Rattle.live_loads.specs.Seen.{SeenValue}
+use Rattle.live_loads.specs.Store.{StoreValue, IsRefusedFor}
+use Rattle.live_loads.specs.declared.fault.StoreFault.{StoreFault}
 
 -- the number of loads that a store takes
 abbrev pub most_loads : ℕ

@@ -1,3 +1,2 @@
 pub mod SlotBook
 pub mod Holding
-pub mod Lacking

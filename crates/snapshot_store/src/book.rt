@@ -2,9 +2,10 @@
 //!
 //! A book is a history that exists in proofs alone (`logbook`). Its words are two numbers at run time: how many batches
 //! were made, and how many are shown. A `Seen` is a beginning of the history.
-ghost use Rattle.std.specs.Prelude.{◌≡◌, ◌≢◌, ◌+◌, ◌*◌, ◌/◌, ◌<◌, ◌≤◌, ◌^◌, ◌++◌, ◌∷◌, [], length, MatchBool, IfSome};
-ghost use Rattle.live_versions.specs.Batches.{StartsWith};
-ghost use Rattle.snapshot_store.specs.SlotBook.{head_of, shown_word};
+ghost use Rattle.std.specs.Prelude.{◌≡◌, ◌≢◌, ◌+◌, ◌*◌, ◌/◌, ◌%◌, ◌<◌, ◌≤◌, ◌^◌, ◌++◌, ◌∷◌, []};
+ghost use Rattle.std.specs.Prelude.{length, MatchBool, IfSome};
+ghost use Rattle.live_loads.specs.Batches.{StartsWith};
+ghost use Rattle.snapshot_store.specs.SlotBook.{head_of, shown_word, shown_of};
 
 use live_set::Load;
 use logbook::{Gain, Offer, Plain, Play, Rule, Start, Word};
@@ -110,7 +111,7 @@ pub(crate) struct Seen {
 
 impl Model for Seen {
     ghost use Rattle.std.specs.Prelude.{◌≡◌, length};
-    ghost use Rattle.live_versions.specs.Seen.{SeenValue};
+    ghost use Rattle.live_loads.specs.Seen.{SeenValue};
     ghost use Rattle.snapshot_store.specs.SlotBook.{batches_of};
 
     ghost Value = { SeenValue };
@@ -134,6 +135,12 @@ pub(crate) struct Shown {
     pub ghost book: { word ≡ shown_word word.book },
 }
 
+/// How many batches were shown at one moment. It has no bytes.
+#[derive(Drop)]
+pub(crate) struct Sight {
+    pub(crate) beginning: logbook::Seen<Event, u64, BookRule>,
+}
+
 /// That a version was shown. It has no bytes. Contracts see it as the batches of the version.
 #[derive(Drop)]
 pub(crate) struct Known {
@@ -143,7 +150,7 @@ pub(crate) struct Known {
 
 impl Model for Known {
     ghost use Rattle.std.specs.Prelude.{◌≡◌, ◌≤◌, length};
-    ghost use Rattle.live_versions.specs.Seen.{SeenValue};
+    ghost use Rattle.live_loads.specs.Seen.{SeenValue};
     ghost use Rattle.snapshot_store.specs.SlotBook.{batches_of, shown_of};
 
     ghost Value = { SeenValue };
@@ -251,6 +258,18 @@ impl Known {
         }
     }
 
+    /// The version that was found to be shown.
+    pub(crate) fn found(version: &Seen, sight: Sight) -> Known
+        requires book { sight.beginning.book ≡ version.now.book }
+        requires shown { length version.now.batches ≤ shown_of sight.beginning.log }
+        ensures { result ≡ version.now }
+    {
+        Known {
+            version: version.beginning.again(),
+            shown: sight.beginning,
+        }
+    }
+
     pub(crate) fn again(&self) -> Known
         ensures { result ≡ self.now }
     {
@@ -261,10 +280,12 @@ impl Known {
     }
 }
 
-/// Shows a version, which is in slot `at`. Returns `None` if the word isn't `old`.
+/// Shows a version, which is in slot `at`, in place of the one that `old` names, which is in another slot. Returns
+/// `None` if the word isn't `old`.
 pub(crate) fn show(shown: &Shown, version: &Seen, old: u64, at: u64) -> Option<Known>
     requires book { shown.now.word.book ≡ version.now.book }
     requires slot { at < 64 }
+    requires other { at ≢ old % 64 }
     requires next { (old / 64 ≤ length version.now.batches) × (0 < length version.now.batches) }
     requires room { length version.now.batches < 2 ^ 58 }
     ensures { IfSome result (λ known. known ≡ version.now) }
@@ -288,19 +309,22 @@ pub(crate) fn show(shown: &Shown, version: &Seen, old: u64, at: u64) -> Option<K
     })
 }
 
-/// The word of what is shown, which is no older than what is known to have been.
-pub(crate) fn shown_after(shown: &Shown, known: &Known) -> u64
+/// The word of what is shown, which is no older than what is known to have been, and the sight of it.
+pub(crate) fn shown_after(shown: &Shown, known: &Known) -> (u64, Sight)
     requires { shown.now.word.book ≡ known.now.book }
-    ensures { length known.now.batches ≤ result / 64 }
+    ensures later { length known.now.batches ≤ result.0 / 64 }
+    ensures book { result.1.beginning.book ≡ known.now.book }
+    ensures sight { shown_of result.1.beginning.log ≡ result.0 / 64 }
 {
     let mut beginning = known.shown.again();
     let none = 0u64;
     let mut offer: Offer<Event, u64, BookRule, Nothing> = beginning.plain::<Nothing, u64, Offered>(
         &none,
     );
-    shown
+    let word = shown
         .word
-        .load::<Looking, Nothing>(&mut beginning, &mut offer)
+        .load::<Looking, Nothing>(&mut beginning, &mut offer);
+    (word, Sight { beginning })
 }
 
 /// A version of at least as many batches as what is known begins with it. It does nothing at run time.

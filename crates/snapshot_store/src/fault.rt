@@ -1,4 +1,7 @@
-//! Why a store isn't opened, and why nothing is published. Loads are refused with `live_versions::StoreFault`.
+//! Why a store isn't opened, and why nothing is published. Loads are refused with `live_loads::StoreFault`.
+ghost use Rattle.std.specs.Prelude.{◌≡◌};
+ghost use Rattle.snapshot_store.specs.declared.fault.PublishFault.TheVariants.{Memory};
+
 use std::alloc::{AllocError, AllocFailed};
 use thiserror::Error;
 
@@ -37,12 +40,16 @@ impl<T: Drop> From<AllocFailed<T>> for OpenFault {
 }
 
 impl From<AllocError> for PublishFault {
+    ghost from_gives = { λ _ fault. fault ≡ Memory };
+
     fn from(_: AllocError) -> PublishFault {
         PublishFault::Memory
     }
 }
 
 impl<T: Drop> From<AllocFailed<T>> for PublishFault {
+    ghost from_gives = { λ _ fault. fault ≡ Memory };
+
     fn from(_: AllocFailed<T>) -> PublishFault {
         PublishFault::Memory
     }

@@ -5,14 +5,14 @@
 //! published in it. A reader enters the newest version and looks up in it for as long as it likes, while others are
 //! published. A version is freed when neither a reader nor a slot has it.
 //!
-//! The contracts are in the words of `live_versions`, whose publisher waits for readers. No call here takes a handle,
-//! so that a static library may have a store.
+//! The contracts are in the words of `live_loads`, as those of `live_versions` are, whose publisher waits for readers.
+//! No call here takes a handle, so that a static library may have a store.
 #![tactic(auto)]
 
 mod book;
+mod entrance;
 mod fault;
-mod load_mo;
-mod load_po;
+mod load;
 mod notice;
 mod publisher;
 mod reader;
@@ -20,6 +20,7 @@ mod shared;
 mod version;
 mod versions;
 
+pub use entrance::Entrance;
 pub use fault::{OpenFault, PublishFault};
 pub use notice::Notice;
 pub use publisher::{Publisher, open_store};

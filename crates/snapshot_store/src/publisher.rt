@@ -1,23 +1,23 @@
 //! The publisher: what it loads is pending until it publishes.
-ghost use Rattle.std.specs.Prelude.{◌≡◌, ◌≢◌, ◌↔◌, ◌/◌, ◌++◌, ◌∷◌, [], length, MatchBool, IsTrue};
+ghost use Rattle.std.specs.Prelude.{◌≡◌, ◌≢◌, ◌≤◌, ◌↔◌, ◌++◌, ◌∷◌, [], length, MatchBool, IsTrue};
 ghost use Rattle.std.specs.Prelude.{IfOk, IfErr, OnOk, OnErr};
 ghost use Rattle.std.specs.Arc.{arc_value};
-ghost use Rattle.live_versions.specs.Batches.{version_of, published};
-ghost use Rattle.live_versions.specs.Loading.{IsUnread};
-ghost use Rattle.live_versions.specs.Store.{AreNames, HasRoom, IsWithin, AddsLoad, IsRefusedFor};
-ghost use Rattle.snapshot_store.specs.Holding.{holding, IsRefusedShared};
+ghost use Rattle.live_loads.specs.Batches.{version_of, published};
+ghost use Rattle.live_loads.specs.Store.{AreNames, HasRoom, IsWithin, AddsLoad, room_of};
+ghost use Rattle.snapshot_store.specs.Holding.{holding, most_loads};
+ghost use Rattle.snapshot_store.specs.declared.fault.PublishFault.TheVariants.{Spent};
 
-use crate::book::{Head, Known, Seen, open_book, show};
+use crate::book::{Head, Known, Seen, open_book, show, shown_after};
+use crate::entrance::Entrance;
 use crate::fault::{OpenFault, PublishFault};
 use crate::notice::Notice;
 use crate::reader::Reader;
-use crate::shared::{Held, LAST, SLOTS, Shared, bit_of};
+use crate::shared::{Held, LAST, SLOTS, Shared};
 use crate::version::Version;
 use crate::versions::Versions;
-use catalogue::Catalogue;
 use counted_slot::{FREE, PRESENT};
-use live_set::{Load, Name, is_name};
-use live_versions::StoreFault;
+use live_loads::Room;
+use live_set::Load;
 use std::alloc::{AllocError, Global};
 use std::marker::Model;
 use std::sync::Arc;
@@ -35,21 +35,15 @@ pub struct Publisher {
     versions: Versions,
     /// The empty beginning of the store's book.
     beginning: Seen,
-    /// The slot of the version that is shown.
-    at: u64,
-    /// The bits of other slots that have a version, since someone was copying it when it was replaced.
-    full: u64,
-    /// The word of what is shown.
-    word: u64,
     known: Known,
     pending: Vec<Load>,
 }
 
 impl Model for Publisher {
-    ghost use Rattle.std.specs.Prelude.{◌≡◌, ◌+◌, ◌≤◌, ◌/◌, [], length};
+    ghost use Rattle.std.specs.Prelude.{◌≡◌, ◌+◌, ◌≤◌, [], length};
     ghost use Rattle.std.specs.Arc.{arc_value};
-    ghost use Rattle.live_versions.specs.Batches.{version_of};
-    ghost use Rattle.live_versions.specs.Store.{StoreValue};
+    ghost use Rattle.live_loads.specs.Batches.{version_of};
+    ghost use Rattle.live_loads.specs.Store.{StoreValue};
     ghost use Rattle.snapshot_store.specs.Holding.{holding, most_loads};
 
     ghost Value = { StoreValue };
@@ -59,7 +53,7 @@ impl Model for Publisher {
     ghost invariant = { λ p. (p.head.word.book ≡ p.versions.book)
         × ((arc_value p.shared).shown.word.book ≡ p.versions.book)
         × (p.beginning.batches ≡ []) × (p.beginning.book ≡ p.versions.book)
-        × (p.word / 64 ≡ length p.versions.batches) × (p.known ≡ p.versions)
+        × (p.known ≡ p.versions)
         × (version_of p.versions.batches + length p.pending.items ≤ most_loads) };
 }
 
@@ -79,29 +73,9 @@ pub fn open_store(alloc: Global) -> Result<Publisher, OpenFault>
         shared,
         versions,
         beginning,
-        at: 0,
-        full: 0,
-        word: 0,
         known,
         pending: Vec::new(alloc),
     })
-}
-
-/// Whether both are names. It doesn't allocate.
-fn are_names(domain: &str, locale: &str) -> bool
-    ensures { IsTrue result ↔ AreNames domain.now locale.now }
-{
-    is_name(domain) && is_name(locale)
-}
-
-/// Copies a text that is known to be a name.
-fn name_of(alloc: Global, text: &str) -> Result<Name, AllocError>
-    ensures { IfOk result (λ name. name ≡ text.now) }
-{
-    match Name::new(alloc, text) {
-        Ok(name) => Ok(name),
-        Err(_) => Err(AllocError),
-    }
 }
 
 /// Puts the version into its place, which nobody else has. Returns whether it did.
@@ -158,6 +132,15 @@ impl Publisher {
         Ok(Reader::new(shared, version, self.known.again()))
     }
 
+    /// An entrance to this store: readers can be made there while this publisher publishes. Fails if there are 2^31
+    /// readers already.
+    pub fn entrance(&self) -> Result<Entrance, AllocError>
+        ensures { IfOk result (λ entrance. entrance ≡ self.now.seen) }
+    {
+        let shared = Arc::try_clone(&self.shared)?;
+        Ok(Entrance::new(shared, self.known.again()))
+    }
+
     /// Whether a reader of this store is in the version that is published now.
     pub fn is_entered_by(&self, reader: &Reader) -> bool
         requires { reader.now.book ≡ self.now.seen.book }
@@ -166,24 +149,15 @@ impl Publisher {
         self.versions.current().seen().is_same(reader.seen())
     }
 
-    /// Checks that both are names and that the store takes one more load, and only then allocates the two names.
-    pub(crate) fn admit(
-        &self,
-        alloc: Global,
-        domain: &str,
-        locale: &str,
-    ) -> Result<(Name, Name), StoreFault>
-        ensures names { IfOk result (λ names. (names.0 ≡ domain.now) × (names.1 ≡ locale.now)) }
-        ensures ok { IfOk result (λ _. AreNames domain.now locale.now × HasRoom self.now) }
-        ensures err { IfErr result (IsRefusedFor IsUnread self.now domain.now locale.now) }
+    /// How many loads are accepted, of how many.
+    pub(crate) fn room(&self) -> Room
+        ensures is { result ≡ room_of self.now }
+        ensures within { IsWithin self.now }
     {
-        if !are_names(domain, locale) {
-            return Err(StoreFault::BadName);
+        Room {
+            accepted: self.versions.current().version() + self.pending.len() as u64,
+            most: MOST,
         }
-        if MOST - self.versions.current().version() <= self.pending.len() as u64 {
-            return Err(StoreFault::VersionsSpent);
-        }
-        Ok((name_of(alloc, domain)?, name_of(alloc, locale)?))
     }
 
     /// Appends a load to the pending ones.
@@ -195,59 +169,6 @@ impl Publisher {
         ensures seen { self.new.seen ≡ self.old.seen }
     {
         Ok(self.pending.push(load)?)
-    }
-
-    /// Appends a load of this catalogue, with its index, to the pending ones.
-    pub(crate) fn append_indexed(
-        &mut self,
-        alloc: Global,
-        domain: Name,
-        locale: Name,
-        mut catalogue: Catalogue,
-    ) -> Result<(), AllocError>
-        requires names { AreNames domain locale }
-        requires room { HasRoom self.old }
-        ensures ok { OnOk result (AddsLoad self.old domain locale catalogue self.new) }
-        ensures err { OnErr result (self.new ≡ self.old) }
-        ensures seen { self.new.seen ≡ self.old.seen }
-    {
-        catalogue.index(alloc)?;
-        let catalogue = Arc::new(alloc, catalogue)?;
-        self.append(Load {
-            domain,
-            locale,
-            catalogue,
-        })
-    }
-
-    /// Appends a load of a catalogue that was opened before, for a domain and a locale, to the pending ones. The store
-    /// shares the catalogue.
-    ///
-    /// Returns `BadName` if the domain or the locale isn't a name, `VersionsSpent` if as many loads are published or
-    /// pending as the store takes, and `Memory` if memory runs out, checked in this order. A refused load changes
-    /// nothing.
-    pub fn load_shared(
-        &mut self,
-        alloc: Global,
-        domain: &str,
-        locale: &str,
-        catalogue: &Arc<Catalogue>,
-    ) -> Result<(), StoreFault>
-        ensures ok { OnOk result (AddsLoad self.old domain.now locale.now (arc_value catalogue.now) self.new) }
-        ensures err { IfErr result (IsRefusedShared self.old domain.now locale.now) }
-        ensures unchanged { OnErr result (self.new ≡ self.old) }
-
-        // A load never changes the published batches.
-        ensures seen { self.new.seen ≡ self.old.seen }
-    {
-        let (domain, locale) = self.admit(alloc, domain, locale)?;
-        let catalogue = Arc::try_clone(catalogue)?;
-        self.append(Load {
-            domain,
-            locale,
-            catalogue,
-        })?;
-        Ok(())
     }
 
     /// Publishes all pending loads in one step, as one batch, and returns the new version. If nothing is pending, the
@@ -267,6 +188,9 @@ impl Publisher {
 
         // With nothing pending it doesn't allocate, and can't fail.
         ensures memory { OnErr result (self.old.pending ≢ []) }
+
+        // It is `Spent` only where as many batches are published as have numbers.
+        ensures spent { IfErr result (λ fault. fault ≡ Spent → most_loads ≤ length self.old.seen.batches) }
         ensures most { self.new.most ≡ self.old.most }
 
         // It stays the publisher of the same store.
@@ -285,53 +209,54 @@ impl Publisher {
           batches = self.old.seen.batches ++ self.old.pending ∷ [];
         } []) }
         ensures err { OnErr result (self.new ≡ self.old) }
+        ensures spent { IfErr result (λ fault. fault ≡ Spent → most_loads ≤ length self.old.seen.batches) }
     {
-        let number = self.versions.current().number() + 1;
-        if number >= LAST {
+        let last = self.versions.current().number();
+        if last >= LAST {
             return Err(PublishFault::Spent);
         }
         // Once the batch is in the book nothing may fail, so all memory is taken before.
         let set = self.versions.next_set(alloc, &self.pending)?;
         let mut place = Arc::new(alloc, Version::first(alloc, &self.beginning))?;
-        let Some((at, claim)) = self.shared.any_room(self.at) else {
+        let (word, _) = shown_after(&self.shared.shown, &self.known);
+        if word / SLOTS > last {
+            return Err(PublishFault::Memory);
+        }
+        let Some((at, claim)) = self.shared.any_room(word) else {
             return Err(PublishFault::Busy);
         };
+        // Nothing below fails, since a store has one publisher; but no proof knows that.
         let Some(version) = self.versions.current().next(&self.head, &self.pending, set) else {
             drop(claim.put(None, FREE));
-            return Err(PublishFault::Spent);
+            return Err(PublishFault::Memory);
         };
         if !fill(&mut place, version) {
             drop(claim.put(None, FREE));
-            return Err(PublishFault::Spent);
+            return Err(PublishFault::Memory);
         }
         let Ok(mine) = Arc::try_clone(&place) else {
             drop(claim.put(None, FREE));
-            return Err(PublishFault::Spent);
+            return Err(PublishFault::Memory);
         };
         drop(claim.put(Some(Held { version: place }), PRESENT));
-        let Some(known) = show(&self.shared.shown, mine.seen(), self.word, at) else {
-            return Err(PublishFault::Spent);
+        let Some(known) = show(&self.shared.shown, mine.seen(), word, at) else {
+            return Err(PublishFault::Memory);
         };
-        self.full = self.shared.empty_each(self.full & !bit_of(at));
-        if !self.shared.empty(self.at) {
-            self.full |= bit_of(self.at);
-        }
-        self.at = at;
-        self.turn(mine, number * SLOTS + at, known);
+        self.shared.empty_others(at);
+        self.turn(mine, known);
         Ok(())
     }
 
     /// From now on this version is the one that is shown, and nothing is pending.
     #[tactic(auto, using(crate::proofs::Growing::version_added))]
-    fn turn(&mut self, version: Arc<Version>, word: u64, known: Known)
+    fn turn(&mut self, version: Arc<Version>, known: Known)
         requires version { arc_value version ≡ record {
           book = self.old.seen.book;
           batches = self.old.seen.batches ++ self.old.pending ∷ [];
         } }
-        requires known { (known ≡ arc_value version) × (word / 64 ≡ length (arc_value version).batches) }
+        requires known { known ≡ arc_value version }
         ensures { self.new ≡ holding (arc_value version) [] }
     {
-        self.word = word;
         self.known = known;
         self.versions.advance(version, &mut self.pending);
     }

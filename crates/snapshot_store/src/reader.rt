@@ -1,7 +1,7 @@
 //! Readers.
-ghost use Rattle.std.specs.Prelude.{◌≡◌, ◌≤◌, ◌/◌, length, IsTrue};
+ghost use Rattle.std.specs.Prelude.{◌≡◌, ◌≤◌, ◌/◌, length, IsTrue, IsFalse};
 ghost use Rattle.std.specs.Arc.{arc_value};
-ghost use Rattle.live_versions.specs.Batches.{StartsWith, version_of};
+ghost use Rattle.live_loads.specs.Batches.{StartsWith, version_of};
 ghost use Rattle.snapshot_store.specs.Holding.{IsSetOf};
 
 use crate::book::{Known, Seen, shown_after, tie};
@@ -24,20 +24,20 @@ pub struct Reader {
 impl Model for Reader {
     ghost use Rattle.std.specs.Prelude.{◌≡◌};
     ghost use Rattle.std.specs.Arc.{arc_value};
-    ghost use Rattle.live_versions.specs.Seen.{SeenValue};
+    ghost use Rattle.live_loads.specs.Seen.{SeenValue};
 
     ghost Value = { SeenValue };
 
     ghost view = { λ r. arc_value r.version };
 
+    // The version that a reader is in was shown.
     ghost invariant = { λ r. ((arc_value r.shared).shown.word.book ≡ (arc_value r.version).book)
-        × (r.known.book ≡ (arc_value r.version).book) };
+        × (r.known ≡ arc_value r.version) };
 }
 
 impl Reader {
     pub(crate) fn new(shared: Arc<Shared>, version: Arc<Version>, known: Known) -> Reader
-        requires { ((arc_value shared).shown.word.book ≡ (arc_value version).book)
-            × (known.book ≡ (arc_value version).book) }
+        requires { ((arc_value shared).shown.word.book ≡ (arc_value version).book) × (known ≡ arc_value version) }
         ensures { result ≡ arc_value version }
     {
         Reader {
@@ -57,7 +57,8 @@ impl Reader {
     /// Whether an entry would find nothing new. It costs one load, as such an entry does, and moves nothing. What it
     /// returns depends on other threads, so no clause says it.
     pub fn is_current(&self) -> bool {
-        shown_after(&self.shared.shown, &self.known) / SLOTS == self.version.number()
+        let (word, _) = shown_after(&self.shared.shown, &self.known);
+        word / SLOTS == self.version.number()
     }
 
     /// Enters the newest version. It is never older than the one that was entered before. If nothing new is published,
@@ -75,6 +76,7 @@ impl Reader {
     pub fn enter_after(&mut self, notice: &Notice) -> bool
         requires { notice.now.book ≡ self.old.book }
         ensures sees { IsTrue result → StartsWith self.new.batches notice.now.batches }
+        ensures stays { IsFalse result → self.new ≡ self.old }
         ensures later { StartsWith self.new.batches self.old.batches }
         ensures book { self.new.book ≡ self.old.book }
     {
@@ -84,15 +86,16 @@ impl Reader {
     fn enter_after_known(&mut self, known: &Known) -> bool
         requires { known.now.book ≡ self.old.book }
         ensures sees { IsTrue result → StartsWith self.new.batches known.now.batches }
+        ensures stays { IsFalse result → self.new ≡ self.old }
         ensures later { StartsWith self.new.batches self.old.batches }
         ensures book { self.new.book ≡ self.old.book }
     {
-        let word = shown_after(&self.shared.shown, known);
+        let (word, _) = shown_after(&self.shared.shown, known);
         if word / SLOTS == self.version.number() {
             tie(self.version.seen(), known);
             return true;
         }
-        let Some(version) = self.shared.newest(known) else {
+        let Some((version, found)) = self.shared.newest(known) else {
             return false;
         };
         // It is never older than what was entered, though no contract says so.
@@ -101,6 +104,7 @@ impl Reader {
         }
         tie(version.seen(), known);
         self.version = version;
+        self.known = found;
         true
     }
 

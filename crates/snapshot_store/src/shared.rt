@@ -2,7 +2,7 @@
 //!
 //! A slot has the `Arc` of a version, and counts who is just copying it. The publisher changes only a slot in which no
 //! one is, and never the one of the version that is shown.
-ghost use Rattle.std.specs.Prelude.{◌≡◌, ◌<◌, ◌≤◌, length, ◌*◌, ◌/◌, ◌%◌, ◌^◌, ◌+◌, All, IfSome, IfOk};
+ghost use Rattle.std.specs.Prelude.{◌≡◌, ◌≢◌, ◌<◌, length, ◌≤◌, ◌*◌, ◌/◌, ◌%◌, ◌^◌, ◌+◌, All, IfSome, IfOk};
 ghost use Rattle.std.specs.Arc.{arc_value};
 ghost use Rattle.counted_slot.specs.Counting.{readers};
 
@@ -45,16 +45,20 @@ pub(crate) struct Shared {
     pub ghost one_book: { All (λ tag. tag.book ≡ shown.word.book) slots.items },
 }
 
-/// The bit of a slot, in a word that has one for each.
-pub(crate) fn bit_of(at: u64) -> u64 {
-    1 << (at % SLOTS)
-}
-
 /// How far from a slot its 63 neighbours are, in the order in which a publish tries them: 4, 8, .., 60, 1, 5, .., 63.
 fn distance(turn: u64) -> u64
-    ensures { result < 64 }
+    ensures range { result < 64 }
+    ensures some { 0 < turn % 64 → 0 < result }
 {
     turn % LINES * IN_A_LINE + turn % SLOTS / LINES
+}
+
+/// The slot that is `distance` places after slot `at`, in a ring.
+fn slot_after(at: u64, distance: u64) -> u64
+    ensures slot { result < 64 }
+    ensures other { 0 < distance → distance < 64 → result ≢ at % 64 }
+{
+    (at % SLOTS + distance % SLOTS) % SLOTS
 }
 
 fn readers_of(word: u64) -> u64
@@ -119,13 +123,14 @@ impl Shared {
         Some(claim)
     }
 
-    /// The right to write any slot but this one. Slots of other cache lines come first, so that who copies what is in
-    /// this slot isn't disturbed.
-    pub(crate) fn any_room(&self, but: u64) -> Option<(u64, Claim<'_, Option<Held>>)>
-        ensures { IfSome result (λ r. (r.0 < 64) × (r.1.right ≡ 2) × (r.1.tag.book ≡ self.now.shown.word.book)) }
+    /// The right to write any slot but that of this word. Slots of other cache lines come first, so that who copies
+    /// what is in that slot isn't disturbed.
+    pub(crate) fn any_room(&self, word: u64) -> Option<(u64, Claim<'_, Option<Held>>)>
+        ensures { IfSome result (λ r. (r.0 < 64) × (r.0 ≢ word % 64) × (r.1.right ≡ 2)
+            × (r.1.tag.book ≡ self.now.shown.word.book)) }
     {
         for turn in 1..SLOTS {
-            let at = (but % SLOTS + distance(turn)) % SLOTS;
+            let at = slot_after(word, distance(turn));
             if let Some(claim) = self.room(at) {
                 return Some((at, claim));
             }
@@ -152,47 +157,41 @@ impl Shared {
         None
     }
 
-    /// The version that is shown, which is not behind what is known. It gives up only where it failed very often.
-    pub(crate) fn newest(&self, known: &Known) -> Option<Arc<Version>>
+    /// The version that is shown, which is not behind what is known, and that it was shown. It gives up only where it
+    /// failed very often.
+    pub(crate) fn newest(&self, known: &Known) -> Option<(Arc<Version>, Known)>
         requires { known.now.book ≡ self.now.shown.word.book }
-        ensures { IfSome result (λ version. ((arc_value version).book ≡ self.now.shown.word.book)
-            × (length known.now.batches ≤ length (arc_value version).batches)) }
+        ensures { IfSome result (λ r. (r.1 ≡ arc_value r.0) × ((arc_value r.0).book ≡ self.now.shown.word.book)
+            × (length known.now.batches ≤ length (arc_value r.0).batches)) }
     {
         for _ in 0..u64::MAX {
-            let word = shown_after(&self.shown, known);
+            let (word, sight) = shown_after(&self.shown, known);
             if let Some(version) = self.copy(word) {
                 // The slot may have a later version already, which is not shown yet.
                 if version.number() == word / SLOTS {
-                    return Some(version);
+                    let found = Known::found(version.seen(), sight);
+                    return Some((version, found));
                 }
             }
         }
         None
     }
 
-    /// Empties the slots of these bits, and returns the bits of those in which someone is copying. Such a slot keeps
-    /// its version until a later publish.
-    pub(crate) fn empty_each(&self, slots: u64) -> u64 {
-        if slots == 0 {
-            return 0;
+    /// Empties all slots but this one. One in which someone is copying keeps its version until a later publish.
+    pub(crate) fn empty_others(&self, but: u64) {
+        for turn in 1..SLOTS {
+            self.empty(slot_after(but, turn));
         }
-        let mut left = slots;
-        for at in 0..SLOTS {
-            if slots & bit_of(at) != 0 && self.empty(at) {
-                left ^= bit_of(at);
-            }
-        }
-        left
     }
 
-    /// Empties a slot, unless someone is copying what is in it. Returns whether it did.
-    pub(crate) fn empty(&self, at: u64) -> bool {
-        match self.room(at) {
-            Some(claim) => {
-                drop(claim.put(None, FREE));
-                true
-            }
-            None => false,
+    /// Empties a slot, unless nothing is in it or someone is copying what is.
+    fn empty(&self, at: u64) {
+        match self.slot(at) {
+            Some(slot) if slot.load() % 4 != FREE => {}
+            _ => return,
+        }
+        if let Some(claim) = self.room(at) {
+            drop(claim.put(None, FREE));
         }
     }
 }

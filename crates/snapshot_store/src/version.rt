@@ -1,7 +1,7 @@
 //! Versions: the set of catalogues after some batches.
 ghost use Rattle.std.specs.Prelude.{◌≡◌, ◌+◌, ◌<◌, ◌^◌, ◌++◌, ◌∷◌, [], length, fold, MatchBool, IfOk, IfSome};
 ghost use Rattle.live_set.specs.Sets.{absorbed, fold as fold_of};
-ghost use Rattle.live_versions.specs.Batches.{StartsWith, joined, version_of};
+ghost use Rattle.live_loads.specs.Batches.{StartsWith, joined, version_of};
 ghost use Rattle.snapshot_store.specs.Holding.{IsSetOf};
 
 use crate::book::{Head, Seen, add_batch};
@@ -21,8 +21,8 @@ pub(crate) struct Version {
 impl Model for Version {
     ghost use Rattle.std.specs.Prelude.{◌≡◌};
     ghost use Rattle.live_set.specs.Sets.{fold};
-    ghost use Rattle.live_versions.specs.Batches.{joined, version_of};
-    ghost use Rattle.live_versions.specs.Seen.{SeenValue};
+    ghost use Rattle.live_loads.specs.Batches.{joined, version_of};
+    ghost use Rattle.live_loads.specs.Seen.{SeenValue};
 
     ghost Value = { SeenValue };
 
@@ -97,13 +97,6 @@ impl Version {
         ensures { IfOk result (λ set. set ≡ fold_of (joined self.now.batches)) }
     {
         self.set.try_clone(alloc)
-    }
-
-    /// The set of a version that is needed no more.
-    pub(crate) fn into_set(self) -> CatalogueSet
-        ensures { result ≡ fold_of (joined self.batches) }
-    {
-        self.set
     }
 
     /// The next version, which has the batch and this set. Returns `None` if the book has moved on.

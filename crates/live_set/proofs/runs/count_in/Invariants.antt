@@ -1,5 +1,6 @@
 use Rattle.std.proofs.Common.{◌≡◌, length, flat_map, min, take}
+use Rattle.live_set.specs.LoadRuns.{loads_in}
 use Rattle.live_set.proofs.runs.count_in.Given as goal
 
 abbrev pub invariant-runs : goal.invariant-runs
-invariant-runs l = l.count ≡ min (length (flat_map (λ run. run.items) (take l.run-index l.runs))) 18446744073709551615
+invariant-runs l = l.count ≡ min (length (flat_map loads_in (take l.run-index l.runs))) 18446744073709551615

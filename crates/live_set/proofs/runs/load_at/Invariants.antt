@@ -1,6 +1,7 @@
 use Rattle.std.proofs.Common.{◌≡◌, flat_map, drop, slice_get}
+use Rattle.live_set.specs.LoadRuns.{loads_in}
 use Rattle.live_set.proofs.runs.load_at.Given as goal
 
 abbrev pub invariant-runs : goal.invariant-runs
-invariant-runs l = slice_get (flat_map (λ run. run.items) l.runs) l.place
-    ≡ slice_get (flat_map (λ run. run.items) (drop l.run-index l.runs)) l.left
+invariant-runs l = slice_get (flat_map loads_in l.runs) l.place
+    ≡ slice_get (flat_map loads_in (drop l.run-index l.runs)) l.left

@@ -1,8 +1,8 @@
 use Rattle.std.proofs.Common.{sym, ◌∙◌, ap, ◌≡◌, ◌<◌, ◌+◌, ◌^◌, ◌++◌, ◌∷◌, [], length, arith, List, subst}
 use Rattle.live_set.specs.Loads.{LoadValue}
 use Rattle.live_versions.proofs.Adding.{adds_moves}
-use Rattle.live_versions.proofs.Joining.{full_add, version-add}
-use Rattle.live_versions.specs.Batches.{version_of, NoneEmpty}
+use Rattle.live_loads.proofs.Joining.{full_add, version-add}
+use Rattle.live_loads.specs.Batches.{version_of, NoneEmpty}
 use Rattle.live_versions.proofs.seen.add_batch.Goals as goal
 
 pub compare_exchange-found-requires : goal.compare_exchange-found-requires

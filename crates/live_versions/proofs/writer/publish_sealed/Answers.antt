@@ -1,10 +1,10 @@
 use Rattle.std.proofs.Common.{◌≡◌, ap, ◌∙◌, drop, fold, ◌∷◌, [], ◌++◌, length, arith, ◌+◌}
 use Rattle.live_set.specs.Sets.{absorbed}
-use Rattle.live_versions.specs.Batches.{version_of}
+use Rattle.live_loads.specs.Batches.{version_of}
 use Rattle.live_versions.specs.Changes.{loads_of}
 use Rattle.live_versions.proofs.Changes.{fold-sealed}
 use Rattle.live_versions.proofs.Steps.{publishes}
-use Rattle.live_versions.proofs.Joining.{version-add}
+use Rattle.live_loads.proofs.Joining.{version-add}
 use Rattle.live_versions.proofs.writer.publish_sealed.Goals as goal
 
 pub publish_as-requires : goal.publish_as-requires

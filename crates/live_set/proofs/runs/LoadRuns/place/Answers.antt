@@ -1,16 +1,14 @@
-use Rattle.std.proofs.Common.{◌≡◌, ℕ, List, flat_map, take, length, get_or, min, Vec, Global, Option, find, None, Some}
+use Rattle.std.proofs.Common.{◌≡◌, ℕ, List, flat_map, take, length, get_or, min, Option, find, None, Some}
 use Rattle.std.proofs.Common.{MatchOption, sym, ap, subst, ◌∙◌, arith}
 use Rattle.std.proofs.lemmas.List.{length-append}
 use Rattle.live_set.specs.Loads.{LoadValue, is_for}
 use Rattle.live_set.specs.Placing.{IsPlaceFor}
 use Rattle.live_set.specs.Slots.{Rises, IsAt}
+use Rattle.live_set.specs.LoadRuns.{loads_in}
 use Rattle.live_set.proofs.Indexing.{placed_first, place_behind}
 use Rattle.live_set.proofs.Running.{IsParted, about, below, above, within, rises_front, found_first, later_rises}
 use Rattle.live_set.proofs.Running.{found_later}
 use Rattle.live_set.proofs.runs.LoadRuns.place.Goals as goal
-
-abbrev items : Vec LoadValue Global → List LoadValue
-items run = run.items
 
 -- in the first run
 pub index_in-requires : goal.index_in-requires
@@ -22,15 +20,15 @@ returns-in-None c =
     let domain = c.args.domain.now in
     let locale = c.args.locale.now in
     let p = is_for domain locale in
-    let parted = subst (λ runs. IsParted items domain locale runs None) c.deref.ensures.value
+    let parted = subst (λ runs. IsParted loads_in domain locale runs None) c.deref.ensures.value
     c.in-None.ensures.parted in
     let found = subst (λ (run : List LoadValue). MatchOption c.index_in.result (find p run ≡ None)
     (IsAt run domain locale)) c.deref-in-None.ensures.value c.index_in.ensures in
     subst (λ (held : List LoadValue). MatchOption c.index_in.result (find p held ≡ None)
     (IsPlaceFor held domain locale)) c.self.view_is
-    (placed_first domain locale now.first.items (flat_map items now.later.items) c.index_in.result
+    (placed_first domain locale now.first.items (flat_map loads_in now.later.items) c.index_in.result
     (rises_front _ _ c.self.invariant.0)
-    (found_first items domain locale now.first.items now.later.items c.self.invariant.0 c.self.invariant.1 parted)
+    (found_first loads_in domain locale now.first.items now.later.items c.self.invariant.0 c.self.invariant.1 parted)
     found)
 
 -- in a later one
@@ -40,11 +38,11 @@ index_in-requires-in-Some c =
     let domain = c.args.domain.now in
     let locale = c.args.locale.now in
     let at = c.in-Some.at in
-    let parted = subst (λ runs. IsParted items domain locale runs (Some at)) c.deref.ensures.value
+    let parted = subst (λ runs. IsParted loads_in domain locale runs (Some at)) c.deref.ensures.value
     c.in-Some.ensures.parted in
     let inside = within at _ now.later.items c.deref.ensures.value c.in-Some.ensures.bound in
-    rw c.deref-in-Some.ensures.value (subst (λ (run : Vec LoadValue Global). Rises run.items) (sym c.index.ensures)
-    (later_rises items domain locale now.first.items now.later.items c.self.invariant.0 c.self.invariant.1 at inside
+    rw c.loads_of.ensures (subst (λ run. Rises (loads_in run)) (sym c.index.ensures)
+    (later_rises loads_in domain locale now.first.items now.later.items c.self.invariant.0 c.self.invariant.1 at inside
     parted c.index.result.now))
 
 pub returns-in_err-inside-in-Some : goal.returns-in_err-inside-in-Some
@@ -54,15 +52,15 @@ returns-in_err-inside-in-Some c =
     let locale = c.args.locale.now in
     let at = c.in-Some.at in
     let p = is_for domain locale in
-    let parted = subst (λ runs. IsParted items domain locale runs (Some at)) c.deref.ensures.value
+    let parted = subst (λ runs. IsParted loads_in domain locale runs (Some at)) c.deref.ensures.value
     c.in-Some.ensures.parted in
     let inside = within at _ now.later.items c.deref.ensures.value c.in-Some.ensures.bound in
     let P : Option ℕ → Type 0 = λ o. MatchOption o (find p c.args.self.now ≡ None)
     (IsPlaceFor c.args.self.now domain locale) in
     subst P (sym c.from_residual.ensures) (ap (find p) (sym c.self.view_is)
-    ∙ found_later items domain locale now.first.items now.later.items c.self.invariant.0 c.self.invariant.1 at inside
+    ∙ found_later loads_in domain locale now.first.items now.later.items c.self.invariant.0 c.self.invariant.1 at inside
     parted c.index.result.now
-    ∙ sym (ap (find p) (c.deref-in-Some.ensures.value ∙ ap (λ (run : Vec LoadValue Global). run.items) c.index.ensures))
+    ∙ sym (ap (find p) (c.loads_of.ensures ∙ ap loads_in c.index.ensures))
     ∙ c.in_err-inside-in-Some.ensures)
 
 pub returns-in_ok-inside-in-Some : goal.returns-in_ok-inside-in-Some
@@ -72,25 +70,25 @@ returns-in_ok-inside-in-Some c =
     let locale = c.args.locale.now in
     let at = c.in-Some.at in
     let d = c.index.result.now in
-    let parted = subst (λ runs. IsParted items domain locale runs (Some at)) c.deref.ensures.value
+    let parted = subst (λ runs. IsParted loads_in domain locale runs (Some at)) c.deref.ensures.value
     c.in-Some.ensures.parted in
     let inside = within at _ now.later.items c.deref.ensures.value c.in-Some.ensures.bound in
-    let lower = below items now.first.items now.later.items at in
-    let upper = above items now.later.items at in
-    let whole = about items domain locale now.first.items now.later.items c.self.invariant.0 c.self.invariant.1 at
-    inside parted d in
-    let run = items (get_or now.later.items at d) in
-    let is_run = c.deref-in-Some.ensures.value ∙ ap (λ (run : Vec LoadValue Global). run.items) c.index.ensures in
+    let lower = below loads_in now.first.items now.later.items at in
+    let upper = above loads_in now.later.items at in
+    let whole = about loads_in domain locale now.first.items now.later.items c.self.invariant.0 c.self.invariant.1
+    at inside parted d in
+    let run = loads_in (get_or now.later.items at d) in
+    let is_run = c.loads_of.ensures ∙ ap loads_in c.index.ensures in
     let here = subst (λ (r : List LoadValue). IsAt r domain locale c.in_ok-inside-in-Some.inside) is_run
     c.in_ok-inside-in-Some.ensures in
-    let rises = later_rises items domain locale now.first.items now.later.items c.self.invariant.0 c.self.invariant.1 at
-    inside parted d in
-    let same = sym (ap (find (is_for domain locale)) whole) ∙ found_later items domain locale now.first.items
+    let rises = later_rises loads_in domain locale now.first.items now.later.items c.self.invariant.0 c.self.invariant.1
+    at inside parted d in
+    let same = sym (ap (find (is_for domain locale)) whole) ∙ found_later loads_in domain locale now.first.items
     now.later.items c.self.invariant.0 c.self.invariant.1 at inside parted d in
-    let before : c.count_in.result ≡ min (length (flat_map items (take at now.later.items))) 18446744073709551615 =
-    c.count_in.ensures ∙ ap (λ runs. min (length (flat_map items (take at runs))) 18446744073709551615)
-    c.deref-in-Some-2.ensures.value in
-    let long = length-append now.first.items (flat_map items (take at now.later.items)) in
+    let before : c.count_in.result ≡ min (length (flat_map loads_in (take at now.later.items))) 18446744073709551615 =
+    c.count_in.ensures ∙ ap (λ runs. min (length (flat_map loads_in (take at runs))) 18446744073709551615)
+    c.deref-in-Some.ensures.value in
+    let long = length-append now.first.items (flat_map loads_in (take at now.later.items)) in
     subst (λ (held : List LoadValue). IsPlaceFor held domain locale c.saturating_add.result)
     (sym whole ∙ c.self.view_is) (place_behind domain locale run c.in_ok-inside-in-Some.inside rises here lower upper
     c.saturating_add.result same (omega (

@@ -2,9 +2,9 @@ use Rattle.std.proofs.Common.{ap, ◌∙◌}
 use Rattle.live_set.specs.Asks.{maps_named}
 use Rattle.live_set.specs.Languages.{named}
 use Rattle.live_set.specs.Sets.{map_in}
-use Rattle.live_versions.specs.Batches.{joined}
+use Rattle.live_loads.specs.Batches.{joined}
 use Rattle.live_versions.specs.Entering.{entry_of}
-use Rattle.live_versions.proofs.Looking.{same_maps}
+use Rattle.live_loads.proofs.Looking.{same_maps}
 use Rattle.live_versions.proofs.pinned.Pinned.languages.Goals as goal
 
 pub returns : goal.returns

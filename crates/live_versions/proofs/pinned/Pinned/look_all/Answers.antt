@@ -1,11 +1,11 @@
-use Rattle.std.proofs.Common.{Bor, ℕ, List, subst}
+use Rattle.std.proofs.Common.{subst}
 use Rattle.std.specs.Prelude.{IfOk}
 use Rattle.std.proofs.lemmas.Result.{IfOk-weaker}
 use Rattle.live_set.specs.Asks.{HaveAnswers}
 use Rattle.live_set.specs.Sets.{SetValue, map_in}
-use Rattle.live_versions.specs.Batches.{joined}
+use Rattle.live_loads.specs.Batches.{joined}
 use Rattle.live_versions.specs.Entering.{entry_of}
-use Rattle.live_versions.proofs.Looking.{searched_all}
+use Rattle.live_loads.proofs.Looking.{searched_all}
 use Rattle.live_versions.proofs.pinned.Pinned.look_all.Goals as goal
 
 pub returns : goal.returns

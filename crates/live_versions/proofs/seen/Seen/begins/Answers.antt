@@ -1,7 +1,7 @@
 use Rattle.std.proofs.Common.{ap, subst, List}
 use mathlib.Core.List.{IsPrefix}
 use Rattle.live_set.specs.Loads.{LoadValue}
-use Rattle.live_versions.proofs.Joining.{compared}
+use Rattle.live_loads.proofs.Joining.{compared}
 use Rattle.live_versions.proofs.seen.Seen.begins.Goals as goal
 
 pub returns : goal.returns

@@ -1,6 +1,6 @@
 use Rattle.std.proofs.Common.{ap, arith}
-use Rattle.live_versions.specs.Batches.{version_of}
-use Rattle.live_versions.proofs.Joining.{version-add}
+use Rattle.live_loads.specs.Batches.{version_of}
+use Rattle.live_loads.proofs.Joining.{version-add}
 use Rattle.snapshot_store.proofs.version.Version.next.Goals as goal
 
 pub invariant_of-result : goal.invariant_of-result

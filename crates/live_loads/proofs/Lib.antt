@@ -1,0 +1,5 @@
+pub mod Joining
+pub mod Looking
+pub mod Refusals
+pub mod BytesFaults
+pub mod OneAnswer
