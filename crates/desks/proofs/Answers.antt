@@ -6,7 +6,7 @@ use Rattle.live_set.specs.Loads.{LoadValue}
 use Rattle.live_set.specs.Asks.{QueryValue}
 use Rattle.live_set.specs.Asks.{IsAnswer as HasText}
 use Rattle.live_versions.specs.Batches.{joined, version_of, StartsWith}
-use Rattle.live_versions.proofs.Joining.{joined-append, begins_trans, begins_refl}
+use Rattle.live_loads.proofs.Joining.{joined-append, begins_trans, begins_refl}
 use Rattle.desks.specs.declared.desk.Answer.{Answer}
 use Rattle.desks.specs.Answers.{IsVersionedAnswer, Answered}
 

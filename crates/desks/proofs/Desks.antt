@@ -1,11 +1,11 @@
 -- Lists of desks, member by member.
 use Rattle.std.specs.Prelude.{IfSome}
 use Rattle.std.specs.List.{AllZip, AllByRecursion}
-use Rattle.std.proofs.Common.{◌≡◌, ◌≤◌, max, List, [], ◌∷◌, None, Some, sym, refl, ap, ◌∙◌, subst}
+use Rattle.std.proofs.Common.{◌≡◌, ◌≤◌, max, List, [], ◌∷◌, None, sym, refl, ap, ◌∙◌, subst}
 use Rattle.std.proofs.Common.{arith}
 use Rattle.live_versions.specs.Seen.{SeenValue}
 use Rattle.live_versions.specs.Batches.{version_of}
-use Rattle.live_versions.proofs.Joining.{begins_refl, begins_trans}
+use Rattle.live_loads.proofs.Joining.{begins_refl, begins_trans}
 use Rattle.desks.specs.declared.desk.Desk.{Desk}
 use Rattle.desks.specs.declared.desk.ServeFault.{ServeFault}
 use Rattle.desks.specs.declared.desk.ServeFault.TheVariants as fault

@@ -6,8 +6,8 @@ use Rattle.std.specs.Prelude.{get_or}
 use Rattle.catalogue.specs.Entry.{Entry}
 use Rattle.catalogue.specs.declared.Options.{Options}
 use Rattle.catalogue.specs.declared.Stats.{Stats}
-use Rattle.live_versions.specs.declared.fault.StoreFault.{StoreFault}
-use Rattle.live_versions.specs.declared.fault.StoreFault.TheVariants as fault
+use Rattle.live_loads.specs.declared.fault.StoreFault.{StoreFault}
+use Rattle.live_loads.specs.declared.fault.StoreFault.TheVariants as fault
 use Rattle.live_versions.specs.Batches.{published}
 use Rattle.live_versions.specs.Seen.{SeenValue}
 use Rattle.live_versions.specs.Store.{StoreValue, AddsLoad, Accepts, IsFileFault, IsRefusedFor, IsRefusedMo}

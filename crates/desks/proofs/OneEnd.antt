@@ -4,11 +4,11 @@ use Rattle.catalogue.specs.Entry.{Entry}
 use Rattle.catalogue.specs.declared.Compiled.{Compiled}
 use Rattle.catalogue.proofs.OneMeaning.{meaning_one}
 use Rattle.mo_file.proofs.OneMap.{unique_map}
-use Rattle.live_versions.specs.declared.fault.StoreFault.{StoreFault}
-use Rattle.live_versions.specs.declared.fault.StoreFault.TheVariants as fault
+use Rattle.live_loads.specs.declared.fault.StoreFault.{StoreFault}
+use Rattle.live_loads.specs.declared.fault.StoreFault.TheVariants as fault
 use Rattle.live_versions.specs.Store.{StoreValue}
-use Rattle.live_versions.proofs.Refusals.{adds_one, reason_one, added_or_refused}
-use Rattle.live_versions.proofs.BytesFaults.{text_fault_one, no_text_fault, file_fault_one, no_file_fault}
+use Rattle.live_loads.proofs.Refusals.{adds_one, reason_one, added_or_refused}
+use Rattle.live_loads.proofs.BytesFaults.{text_fault_one, no_text_fault, file_fault_one, no_file_fault}
 use Rattle.desks.specs.declared.job.Accepted.{Accepted}
 use Rattle.desks.specs.declared.job.Accepted.TheVariants as accepted
 use Rattle.desks.specs.Jobs.{SourceValue, Po, Mo, JobValue, Outcome, after_publish, Brings, IsSourceFault, IsAccepted}

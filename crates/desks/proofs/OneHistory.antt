@@ -9,8 +9,8 @@ use Rattle.live_versions.specs.Seen.{SeenValue}
 use Rattle.live_versions.specs.Batches.{version_of}
 use Rattle.live_versions.specs.Store.{StoreValue}
 use Rattle.live_versions.specs.History.{Event, State, Accept, Refuse, Publish, state_from}
-use Rattle.live_versions.specs.declared.fault.StoreFault.{StoreFault}
-use Rattle.live_versions.specs.declared.fault.StoreFault.TheVariants as fault
+use Rattle.live_loads.specs.declared.fault.StoreFault.{StoreFault}
+use Rattle.live_loads.specs.declared.fault.StoreFault.TheVariants as fault
 use Rattle.desks.specs.declared.desk.Desk.{Desk}
 use Rattle.desks.specs.Jobs.{JobValue, Outcome, Does, DoesAll, after_publish}
 use Rattle.desks.specs.Desks.{IsServed}

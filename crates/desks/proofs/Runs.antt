@@ -7,7 +7,7 @@ use Rattle.std.proofs.lemmas.List.{append-nil}
 use Rattle.live_versions.specs.Batches.{version_of, StartsWith, published}
 use Rattle.live_versions.specs.History.{Event, State, Accept, Refuse, Publish, Enter, Learn, after, state_from}
 use Rattle.live_versions.specs.History.{MayFollow, IsLegalFrom}
-use Rattle.live_versions.proofs.Joining.{begins_refl, begins_trans, begins-published}
+use Rattle.live_loads.proofs.Joining.{begins_refl, begins_trans, begins-published}
 use Rattle.desks.specs.ServedHistory.{entry_in, entries, without_entries}
 
 -- ---- what an event needs if readers learn only what is published

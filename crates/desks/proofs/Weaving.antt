@@ -11,7 +11,7 @@ use Rattle.live_set.specs.Asks.{IsAnswer as HasText}
 use Rattle.live_versions.specs.Batches.{joined, version_of, StartsWith, published}
 use Rattle.live_versions.specs.History.{Event, State, Accept, Refuse, Publish, Enter, Learn, after, state_from}
 use Rattle.live_versions.specs.History.{with_seen}
-use Rattle.live_versions.proofs.Joining.{joined-append}
+use Rattle.live_loads.proofs.Joining.{joined-append}
 use Rattle.desks.specs.declared.desk.Answer.{Answer}
 use Rattle.desks.specs.Answers.{IsVersionedAnswer, Answered}
 use Rattle.desks.specs.ServedHistory.{Entry, IsAnswerOf, AreAnswersOf, entry_in, entries, without_entries}

@@ -5,8 +5,8 @@ use Rattle.catalogue.specs.Meaning.{Means}
 use Rattle.catalogue.specs.declared.Options.{Options}
 use Rattle.catalogue.specs.declared.Compiled.{Compiled}
 use Rattle.mo_file.specs.MoReading.{Mo as IsFileOf}
-use Rattle.live_versions.specs.declared.fault.StoreFault.{StoreFault}
-use Rattle.live_versions.specs.declared.fault.StoreFault.TheVariants.{Memory}
+use Rattle.live_loads.specs.declared.fault.StoreFault.{StoreFault}
+use Rattle.live_loads.specs.declared.fault.StoreFault.TheVariants.{Memory}
 use Rattle.live_versions.specs.Batches.{published}
 use Rattle.live_versions.specs.Store.{StoreValue, AddsLoad, IsTextFault, IsFileFault, IsRefusedFor}
 use Rattle.desks.specs.declared.job.Source.{Source}

@@ -4,3 +4,4 @@ pub mod Desks
 pub mod Working
 pub mod Laws
 pub mod ServedHistory
+pub mod AskFaults

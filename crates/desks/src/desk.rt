@@ -1,6 +1,6 @@
 //! Desks: a reader with its queries and answers.
 use live_set::Query;
-use live_versions::{Lookups, Version};
+use live_versions::{AskFault, Lookups, Version};
 use thiserror::Error;
 
 /// The answer to a query: the version of the entry that it comes from, and its text.
@@ -25,6 +25,20 @@ pub enum ServeFault {
     /// A reader found the store closed.
     #[error("the store is closed")]
     Closed,
+}
+
+impl From<AskFault> for ServeFault {
+    ghost use Rattle.std.specs.Prelude.{◌≡◌};
+    ghost use Rattle.desks.specs.AskFaults.{of_ask};
+
+    ghost from_gives = { λ ask fault. fault ≡ of_ask ask };
+
+    fn from(fault: AskFault) -> ServeFault {
+        match fault {
+            AskFault::Closed => ServeFault::Closed,
+            AskFault::Memory => ServeFault::Memory,
+        }
+    }
 }
 
 /// A reader with its queries, and their answers once `serve` has run.

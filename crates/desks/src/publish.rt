@@ -1,7 +1,8 @@
 //! The publishing thread.
 ghost use Rattle.std.specs.Prelude.{◌≡◌, [], IfOk, OnErr, IfErr};
 ghost use Rattle.desks.specs.Jobs.{IsAccepted, IsRefused, Does, HasDone, Stops};
-ghost use Rattle.desks.specs.Working.{LeavesOne, OfWork};
+ghost use Rattle.desks.specs.Working.{LeavesOne};
+ghost use Rattle.desks.specs.declared.desk.ServeFault.TheVariants.{Memory};
 
 use crate::desk::ServeFault;
 use crate::gate::{Gate, Place};
@@ -43,7 +44,7 @@ fn do_job<R: Wait>(
     ensures most { publisher.new.most ≡ publisher.old.most }
     ensures ok { IfOk result (λ outcome. Does publisher.old job.now outcome publisher.new) }
     ensures err { OnErr result (LeavesOne publisher.old job.now publisher.new) }
-    ensures fault { IfErr result OfWork }
+    ensures fault { IfErr result (λ fault. fault ≡ Memory) }
 {
     match load_job(alloc, publisher, job) {
         Ok(counts) => {
@@ -72,7 +73,7 @@ pub(crate) fn do_jobs<R: Wait, G: Gate>(
     ensures most { publisher.new.most ≡ publisher.old.most }
     ensures ok { IfOk result (λ _. HasDone publisher.old jobs.now outcomes.new.items publisher.new) }
     ensures stops { Stops publisher.old jobs.now publisher.new }
-    ensures fault { IfErr result OfWork }
+    ensures fault { IfErr result (λ fault. fault ≡ Memory) }
 {
     outcomes.clear();
     if publisher.publish(rt).is_err() {

@@ -5,7 +5,8 @@ ghost use Rattle.std.specs.Prelude.{◌≡◌, ◌≤◌, All, IfOk, IfErr, vec_
 ghost use Rattle.live_versions.specs.Batches.{version_of};
 ghost use Rattle.desks.specs.Desks.{EndsAhead, KeepsDesk, IsServed};
 ghost use Rattle.desks.specs.Jobs.{HasDone, Stops};
-ghost use Rattle.desks.specs.Working.{Worked, OfWork};
+ghost use Rattle.desks.specs.Working.{Worked};
+ghost use Rattle.desks.specs.declared.desk.ServeFault.TheVariants.{Memory};
 
 use crate::desk::{Desk, ServeFault};
 use crate::gate::Gate;
@@ -40,7 +41,7 @@ fn run_all<R: Threads + Wait + Sync, G: Gate + Sync>(
     ensures most { publisher.new.most ≡ publisher.old.most }
     ensures done { IfOk result (λ _. HasDone publisher.old jobs.now outcomes.new.items publisher.new) }
     ensures stops { Stops publisher.old jobs.now publisher.new }
-    ensures fault { IfErr result OfWork }
+    ensures fault { IfErr result (λ fault. fault ≡ Memory) }
     ensures worked { AllZip Worked desks.old desks.new }
 {
     // If there is nothing to publish or no query, one of the two does nothing: it calls no gate, and nothing waits for

@@ -1,6 +1,5 @@
 //! The workers, which answer the queries of the desks.
 ghost use Rattle.std.specs.List.{AllZip};
-ghost use Rattle.std.specs.Thread.{IsSync};
 ghost use Rattle.std.specs.Prelude.{◌≡◌, ◌+◌, ◌<◌, ◌≤◌, ◌^◌, length, OnOk, IfErr};
 ghost use Rattle.live_versions.specs.Batches.{version_of, StartsWith};
 ghost use Rattle.desks.specs.Answers.{Answered};
@@ -9,10 +8,11 @@ ghost use Rattle.desks.specs.Working.{Worked, OfWork};
 use crate::desk::{Answer, Desk, ServeFault};
 use crate::gate::{Gate, Place};
 use live_set::Query;
-use live_versions::{AskFault, Lookups};
+use live_versions::Lookups;
 use std::alloc::Global;
 use std::mem;
-use std::thread::{Threads, join_mut};
+use std::thread::Threads;
+use thread_tree::Work;
 
 /// Answers the queries one after another, each from an entry of its own.
 fn answer_all<G: Gate>(
@@ -41,28 +41,49 @@ fn answer_all<G: Gate>(
                     return Err(ServeFault::Memory);
                 }
             }
-            Err(AskFault::Closed) => return Err(ServeFault::Closed),
-            Err(AskFault::Memory) => return Err(ServeFault::Memory),
+            Err(fault) => return Err(ServeFault::from(fault)),
         }
     }
     Ok(())
 }
 
-/// Works one desk. What every answer changes is kept on the thread's own stack, since desks are neighbours in memory.
-fn work<G: Gate>(gate: &G, alloc: Global, worker: u32, desk: &mut Desk)
-    ensures { Worked desk.old desk.new }
-{
-    let mut answers = mem::replace(&mut desk.answers, Vec::new(alloc));
-    let answered = answer_all(
-        gate,
-        alloc,
-        worker,
-        &mut desk.reader,
-        desk.queries.as_slice(),
-        &mut answers,
-    );
-    desk.answers = answers;
-    desk.fault = answered.err();
+/// What all workers have.
+#[derive(Drop)]
+struct Answering<'a, G> {
+    gate: &'a G,
+    alloc: Global,
+}
+
+impl<'a, G: Gate> Work<Desk, ServeFault> for Answering<'a, G> {
+    ghost use Rattle.std.specs.Prelude.{⊤};
+    ghost use Rattle.desks.specs.Working.{Worked};
+
+    ghost fits = { λ w desk. ⊤ };
+
+    ghost keeps = { Worked };
+
+    ghost does = { λ desk after. ⊤ };
+
+    /// Works one desk. What every answer changes is kept on the thread's own stack, since desks are neighbours in
+    /// memory.
+    fn work(&self, worker: u32, desk: &mut Desk) -> Result<(), ServeFault> {
+        let mut answers = mem::replace(&mut desk.answers, Vec::new(self.alloc));
+        let answered = answer_all(
+            self.gate,
+            self.alloc,
+            worker,
+            &mut desk.reader,
+            desk.queries.as_slice(),
+            &mut answers,
+        );
+        desk.answers = answers;
+        desk.fault = answered.err();
+        Ok(())
+    }
+
+    fn is_idle(&self, desk: &Desk) -> bool {
+        desk.queries.is_empty()
+    }
 }
 
 /// Whether no desk has queries.
@@ -71,9 +92,10 @@ pub(crate) fn are_idle(desks: &[Desk]) -> bool {
 }
 
 /// Answers the queries of all desks; the worker of the first one is number `first`. Each desk takes a thread of its
-/// own, except those without queries and the last one that has some.
+/// own, except those without queries and one that has some.
 ///
 /// A desk's fault is `Closed` or `Memory`; after one don't rely on its answers.
+#[tactic(auto, using(thread_tree::proofs::Fitting::all_fit))]
 pub fn work_all<R: Threads + Sync, G: Gate + Sync>(
     rt: &R,
     gate: &G,
@@ -84,22 +106,6 @@ pub fn work_all<R: Threads + Sync, G: Gate + Sync>(
     requires { first + length desks.old < 2 ^ 32 }
     ensures { AllZip Worked desks.old desks.new }
 {
-    let Some((desk, rest)) = desks.split_first_mut() else {
-        return;
-    };
-    if desk.queries.is_empty() || are_idle(rest) {
-        work(gate, alloc, first, desk);
-        work_all(rt, gate, alloc, first + 1, rest);
-        return;
-    }
-    join_mut(
-        rt,
-        &mut ||
-            ensures { Worked desk.entry.now desk.exit.now }
-        { work(gate, alloc, first, desk) },
-        &mut ||
-            requires { IsSync R.row × IsSync G.row × (first + 1 + length rest.now < 2 ^ 32) }
-            ensures { AllZip Worked rest.entry.now rest.exit.now }
-        { work_all(rt, gate, alloc, first + 1, rest) },
-    );
+    // A desk keeps its fault.
+    let _ = thread_tree::work_all(rt, &Answering { gate, alloc }, first, desks);
 }

@@ -8,7 +8,7 @@ use Rattle.live_versions.specs.Seen.{SeenValue}
 use Rattle.live_versions.specs.Store.{StoreValue}
 use Rattle.live_versions.specs.History.{Event, State, Accept, Refuse, Publish, Enter, Learn, opened, after, state_of}
 use Rattle.live_versions.specs.History.{MayFollow, IsLegal}
-use Rattle.live_versions.proofs.Joining.{begins_refl}
+use Rattle.live_loads.proofs.Joining.{begins_refl}
 use Rattle.desks.proofs.Runs.{May, Runs, runs_legal, AreBelow}
 use Rattle.desks.proofs.Learning.{runs_append, state_append}
 use Rattle.life.specs.Acts.{Act, Enters, Learns, IsEntry, IsLearning, Leads, LeadsAll}

@@ -1,9 +1,10 @@
 -- Lists of clients, member by member.
 use Rattle.std.specs.List.{AllZip, AllByRecursion}
-use Rattle.std.proofs.Common.{◌≡◌, List, [], ◌∷◌, ◌++◌, refl, sym, ◌∙◌, subst, inr}
+use Rattle.std.proofs.Common.{◌≡◌, ◌<◌, List, [], ◌∷◌, ◌++◌, length, refl, sym, ◌∙◌, subst, inr, arith}
 use Rattle.live_versions.specs.Batches.{version_of, StartsWith}
 use Rattle.live_versions.specs.Seen.{SeenValue}
-use Rattle.live_versions.proofs.Joining.{begins_refl, begins_trans}
+use Rattle.live_loads.proofs.Joining.{begins_refl, begins_trans}
+use Rattle.thread_tree.proofs.Halves.{halves_of}
 use Rattle.life.specs.declared.client.Client.{Client}
 use Rattle.life.specs.declared.client.Reply.{Reply}
 use Rattle.life.specs.declared.client.Request.{Request}
@@ -53,6 +54,29 @@ kept_book f g [] [] same all h = tt
 kept_book f g [] (d ∷ ds) same all h = absurd h
 kept_book f g (c ∷ cs) [] same all h = absurd h
 kept_book f g (c ∷ cs) (d ∷ ds) same all h = (h.0.book ∙ all.0 ∙ sym same, kept_book f g cs ds same all.1 h.1)
+
+-- ---- halves
+
+pub settled_halves : (end : SeenValue) (all xs ys cs ds : List Client) → all ≡ xs ++ ys
+    → AllZip (HasSettled end) xs cs → AllZip (HasSettled end) ys ds → AllZip (HasSettled end) all (cs ++ ds)
+settled_halves end = halves_of (HasSettled end)
+
+-- a client without others
+alone : (R : Client → Client → Type 0) (c d : Client) (rest : List Client) → length (c ∷ rest) < 2 → R c d
+    → AllZip R (c ∷ rest) (d ∷ rest)
+alone R c d [] short one = (one, tt)
+alone R c d (r ∷ rest) short one = absurd (omega (arith, short))
+
+alone_of : (R : Client → Client → Type 0) (all new : List Client) (c d : Client) (rest : List Client)
+    → all ≡ c ∷ rest → new ≡ d ∷ rest → length all < 2 → R c d → AllZip R all new
+alone_of R all new c d rest is becomes short one =
+    let few : length (c ∷ rest) < 2 = subst (λ (l : List Client). length l < 2) is short in
+    subst (λ (l : List Client). AllZip R l new) (sym is)
+    (subst (λ (l : List Client). AllZip R (c ∷ rest) l) (sym becomes) (alone R c d rest few one))
+
+pub settled_alone : (end : SeenValue) (all new : List Client) (c d : Client) (rest : List Client) → all ≡ c ∷ rest
+    → new ≡ d ∷ rest → length all < 2 → HasSettled end c d → AllZip (HasSettled end) all new
+settled_alone end = alone_of (HasSettled end)
 
 -- ---- a run
 

@@ -8,7 +8,7 @@ use Rattle.live_set.specs.Loads.{LoadValue}
 use Rattle.live_versions.specs.Batches.{version_of, StartsWith, published}
 use Rattle.live_versions.specs.History.{Event, State, Accept, Refuse, Publish, Enter, Learn, opened, after, state_from}
 use Rattle.live_versions.specs.History.{state_of, WasPublished, MayFollow, IsLegal, IsWhole}
-use Rattle.live_versions.proofs.Joining.{begins_refl, begins_nil}
+use Rattle.live_loads.proofs.Joining.{begins_refl, begins_nil}
 use Rattle.desks.proofs.Answers.{version_grows}
 use Rattle.desks.proofs.Runs.{May, Runs, Level, level_after, grows}
 use Rattle.life.specs.Life.{Met, Entry, Notice, met_in, met}

@@ -6,7 +6,7 @@ use Rattle.live_set.specs.Languages.{named}
 use Rattle.live_set.specs.Loads.{LoadValue, map_of}
 use Rattle.live_set.specs.Sets.{SetValue, fold, map_in}
 use Rattle.live_versions.specs.Batches.{joined}
-use Rattle.live_versions.proofs.Looking.{searched}
+use Rattle.live_loads.proofs.Looking.{searched}
 use Rattle.snapshot_store.specs.Holding.{IsSetOf}
 
 same_map : (loads : List LoadValue) (set : SetValue) (query : QueryValue) → set ≡ fold loads

@@ -7,8 +7,8 @@ use Rattle.live_set.specs.Loads.{LoadValue}
 use Rattle.live_versions.specs.Batches.{version_of}
 use Rattle.live_versions.specs.Seen.{SeenValue}
 use Rattle.live_versions.specs.Store.{StoreValue}
-use Rattle.live_versions.specs.declared.fault.StoreFault.{StoreFault}
-use Rattle.live_versions.specs.declared.fault.StoreFault.TheVariants as fault
+use Rattle.live_loads.specs.declared.fault.StoreFault.{StoreFault}
+use Rattle.live_loads.specs.declared.fault.StoreFault.TheVariants as fault
 use Rattle.live_versions.specs.History.{Event, State, Accept, Refuse, opened, state_from, state_of}
 use Rattle.live_versions.specs.History.{Publish as Publishes}
 use Rattle.desks.specs.Jobs.{JobValue, IsRefused, after_publish}
@@ -131,7 +131,7 @@ done_all seen (Publish ∷ commands) (Published version ∷ outcomes) t s (betwe
       most = rest.most;
       are = (version_is ∙ ap (λ (x : StoreValue). version_of x.seen.batches) is, rest.are);
     }
-done_all seen (Publish ∷ commands) (Unpublished ∷ outcomes) t s (between, same, all) =
+done_all seen (Publish ∷ commands) (Unpublished ∷ outcomes) t s (between, (some, same), all) =
     let rest : Done seen commands outcomes t s = subst (λ (x : StoreValue). Done seen commands outcomes t x) same
     (done_all seen commands outcomes t between all) in
     record {
@@ -140,7 +140,7 @@ done_all seen (Publish ∷ commands) (Unpublished ∷ outcomes) t s (between, sa
       own = rest.own;
       level = rest.level;
       most = rest.most;
-      are = rest.are;
+      are = (some, rest.are);
     }
 
 -- what commands that were done add to the publisher's events

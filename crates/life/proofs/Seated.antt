@@ -3,7 +3,7 @@ use Rattle.std.specs.List.{AllZip, AllByRecursion}
 use Rattle.std.proofs.Common.{◌≡◌, List, [], ◌∷◌, refl, ap, inl, subst}
 use Rattle.live_versions.specs.Batches.{StartsWith}
 use Rattle.live_versions.specs.Seen.{SeenValue}
-use Rattle.live_versions.proofs.Joining.{begins_refl}
+use Rattle.live_loads.proofs.Joining.{begins_refl}
 use Rattle.life.specs.declared.client.Client.{Client}
 use Rattle.life.specs.Clients.{HasLearnt}
 

@@ -10,9 +10,9 @@ use Rattle.live_versions.specs.Batches.{joined, version_of, StartsWith}
 use Rattle.live_versions.specs.Seen.{SeenValue}
 use Rattle.live_versions.specs.Store.{StoreValue}
 use Rattle.live_versions.specs.History.{Event, State, Accept, Refuse, Publish, opened, state_from, state_of}
-use Rattle.live_versions.specs.declared.fault.StoreFault.{StoreFault}
-use Rattle.live_versions.specs.declared.fault.StoreFault.TheVariants as fault
-use Rattle.live_versions.proofs.Joining.{begins_refl}
+use Rattle.live_loads.specs.declared.fault.StoreFault.{StoreFault}
+use Rattle.live_loads.specs.declared.fault.StoreFault.TheVariants as fault
+use Rattle.live_loads.proofs.Joining.{begins_refl}
 use Rattle.desks.specs.declared.desk.Answer.{Answer}
 use Rattle.desks.specs.declared.desk.Desk.{Desk}
 use Rattle.desks.specs.Answers.{IsVersionedAnswer, Answered}

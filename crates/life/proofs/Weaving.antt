@@ -8,7 +8,7 @@ use Rattle.live_set.specs.Loads.{LoadValue}
 use Rattle.live_versions.specs.Batches.{joined, version_of, StartsWith}
 use Rattle.live_versions.specs.History.{Event, State, Enter, Learn, after, with_seen, state_from}
 use Rattle.live_versions.specs.History.{IsWhole}
-use Rattle.live_versions.proofs.Joining.{begins_refl, begins_trans}
+use Rattle.live_loads.proofs.Joining.{begins_refl, begins_trans}
 use Rattle.desks.specs.ServedHistory.{without_entries}
 use Rattle.desks.proofs.Answers.{version_grows}
 use Rattle.desks.proofs.Runs.{Level, level_from, level_trans, grows, work_more}

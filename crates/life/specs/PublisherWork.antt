@@ -1,11 +1,11 @@
 -- What becomes of a publisher's commands, and which events of a history they are.
-use Rattle.std.specs.Prelude.{◌≡◌, ⊤, ℕ, List, [], ◌∷◌, ◌++◌}
+use Rattle.std.specs.Prelude.{◌≡◌, ◌≢◌, ⊤, ℕ, List, [], ◌∷◌, ◌++◌}
 use Rattle.live_versions.specs.Batches.{version_of}
 use Rattle.live_versions.specs.Seen.{SeenValue}
 use Rattle.live_versions.specs.Store.{StoreValue, AreNames}
 use Rattle.live_versions.specs.History.{Event, State, Accept, Refuse, after}
 use Rattle.live_versions.specs.History.{Publish as Publishes}
-use Rattle.live_versions.specs.declared.fault.StoreFault.{StoreFault}
+use Rattle.live_loads.specs.declared.fault.StoreFault.{StoreFault}
 use Rattle.desks.specs.Jobs.{JobValue, IsAccepted, IsRefused, after_publish}
 use Rattle.desks.specs.ServedHistory.{IsLoadOf}
 use Rattle.life.specs.declared.command.Command.{Command}
@@ -15,12 +15,12 @@ use Rattle.life.specs.declared.command.Outcome.TheVariants.{Loaded, Refused, Pub
 
 -- ---- in a store
 
--- a command is done, with this outcome
+-- a command is done, with this outcome; a publish is only refused where something is pending
 abbrev pub Does : StoreValue → Command → Outcome → StoreValue → Type 0
 Does s (Load job) (Loaded counts) t = IsAccepted s job counts t
 Does s (Load job) (Refused fault) t = IsRefused s job fault × (t ≡ s)
 Does s Publish (Published version) t = (t ≡ after_publish s) × (version ≡ version_of t.seen.batches)
-Does s Publish Unpublished t = t ≡ s
+Does s Publish Unpublished t = (s.pending ≢ []) × (t ≡ s)
 Does s _ _ t = ⊥
 
 -- commands are done one after another, each with its outcome
@@ -50,7 +50,7 @@ IsRefusedIn most s job fault = (store : SeenValue) → IsRefused (store_in most 
 
 -- From this state on the commands with their outcomes are these events, in order. A load is accepted under the names
 -- of its job, as the map that the job's source brings, or it is refused for its reason. A publish is answered the
--- length of the list that is then published; one that was refused memory is no event.
+-- length of the list that is then published; one that failed is no event, and something was pending.
 abbrev pub AreCommands : ℕ → State → List Command → List Outcome → List Event → Type 0
 AreCommands most s [] [] [] = ⊤
 AreCommands most s (Load job ∷ commands) (Loaded counts ∷ outcomes) (Accept load ∷ events) =
@@ -60,5 +60,6 @@ AreCommands most s (Load job ∷ commands) (Refused fault ∷ outcomes) (Refuse 
     × AreCommands most s commands outcomes events
 AreCommands most s (Publish ∷ commands) (Published version ∷ outcomes) (Publishes ∷ events) =
     (version ≡ version_of (after s Publishes).batches) × AreCommands most (after s Publishes) commands outcomes events
-AreCommands most s (Publish ∷ commands) (Unpublished ∷ outcomes) events = AreCommands most s commands outcomes events
+AreCommands most s (Publish ∷ commands) (Unpublished ∷ outcomes) events = (s.pending ≢ [])
+    × AreCommands most s commands outcomes events
 AreCommands most s _ _ _ = ⊥

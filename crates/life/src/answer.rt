@@ -1,20 +1,17 @@
 //! The reading threads: each client's requests.
-ghost use Rattle.std.specs.List.{AllZip};
-ghost use Rattle.std.specs.Thread.{IsSync};
-ghost use Rattle.std.specs.Prelude.{◌≡◌, ◌+◌, ◌<◌, ◌^◌, [], ◌∷◌, length, IfOk, OnOk};
+ghost use Rattle.std.specs.Prelude.{◌≡◌, [], ◌∷◌, IfOk, OnOk};
 ghost use Rattle.live_versions.specs.Batches.{joined, version_of, StartsWith};
 ghost use Rattle.live_versions.specs.Entering.{entry_of};
 ghost use Rattle.life.specs.Acts.{LeadsAll};
 ghost use Rattle.life.specs.Replies.{AreTextsOf, AreReplies, queries_in, acts_for};
-ghost use Rattle.life.specs.Clients.{KeepsClient, HasAnswered};
 
 use crate::client::{Client, Reply, Request};
 use desks::{Gate, Place, ServeFault};
 use live_set::Query;
-use live_versions::{AskFault, Lookups, Pinned, Version};
+use live_versions::{Lookups, Pinned, Version};
 use std::alloc::{AllocError, Global};
 use std::mem;
-use std::thread::{Threads, join_mut};
+use thread_tree::Work;
 
 #[tactic(auto, using(crate::proofs::Entries::texts_more))]
 /// A copy of each query's text in one entry.
@@ -72,8 +69,7 @@ fn answer_ask(alloc: Global, reader: &mut Lookups, query: &Query) -> Result<Repl
 {
     match reader.ask(alloc, query) {
         Ok((version, text)) => reply_of(alloc, version, text),
-        Err(AskFault::Closed) => Err(ServeFault::Closed),
-        Err(AskFault::Memory) => Err(ServeFault::Memory),
+        Err(fault) => Err(ServeFault::from(fault)),
     }
 }
 
@@ -94,8 +90,7 @@ fn answer_into(
             Ok(text) => reply_of(alloc, version, text),
             Err(_) => Err(ServeFault::Memory),
         },
-        Err(AskFault::Closed) => Err(ServeFault::Closed),
-        Err(AskFault::Memory) => Err(ServeFault::Memory),
+        Err(fault) => Err(ServeFault::from(fault)),
     }
 }
 
@@ -146,61 +141,41 @@ fn answer_all<G: Gate>(
     Ok(())
 }
 
-/// Answers one client's requests. The replies are collected on the thread's own stack, since the clients are
-/// neighbours in memory.
-fn answer_client<G: Gate>(
-    gate: &G,
-    alloc: Global,
-    worker: u32,
-    client: &mut Client,
-) -> Result<(), ServeFault>
-    ensures kept { KeepsClient client.old client.new }
-    ensures answered { OnOk result (HasAnswered client.old client.new) }
-{
-    let mut replies = mem::replace(&mut client.replies, Vec::new(alloc));
-    let answered = answer_all(
-        gate,
-        alloc,
-        worker,
-        &mut client.reader,
-        client.requests.as_slice(),
-        &mut replies,
-    );
-    client.replies = replies;
-    answered
+/// What the reading threads share. Each client with requests takes a thread of its own, but one of them takes that of
+/// the caller.
+#[derive(Drop)]
+pub(crate) struct Answering<'a, G> {
+    pub(crate) gate: &'a G,
+    pub(crate) alloc: Global,
 }
 
-/// Answers the requests of all clients, whose workers are counted from `first`. Each client but the last takes a thread
-/// of its own.
-pub(crate) fn answer_each<R: Threads + Sync, G: Gate + Sync>(
-    rt: &R,
-    gate: &G,
-    alloc: Global,
-    first: u32,
-    clients: &mut [Client],
-) -> Result<(), ServeFault>
-    requires { first + length clients.old < 2 ^ 32 }
-    ensures kept { AllZip KeepsClient clients.old clients.new }
-    ensures answered { OnOk result (AllZip HasAnswered clients.old clients.new) }
-{
-    let Some((client, rest)) = clients.split_first_mut() else {
-        return Ok(());
-    };
-    if rest.is_empty() {
-        return answer_client(gate, alloc, first, client);
+impl<'a, G: Gate> Work<Client, ServeFault> for Answering<'a, G> {
+    ghost use Rattle.std.specs.Prelude.{⊤};
+    ghost use Rattle.life.specs.Clients.{KeepsClient, HasAnswered};
+
+    ghost fits = { λ w client. ⊤ };
+
+    ghost keeps = { KeepsClient };
+
+    ghost does = { HasAnswered };
+
+    /// Answers one client's requests. The replies are collected on the thread's own stack, since the clients are
+    /// neighbours in memory.
+    fn work(&self, worker: u32, client: &mut Client) -> Result<(), ServeFault> {
+        let mut replies = mem::replace(&mut client.replies, Vec::new(self.alloc));
+        let answered = answer_all(
+            self.gate,
+            self.alloc,
+            worker,
+            &mut client.reader,
+            client.requests.as_slice(),
+            &mut replies,
+        );
+        client.replies = replies;
+        answered
     }
-    let (mine, theirs) = join_mut(
-        rt,
-        &mut ||
-            ensures kept { KeepsClient client.entry.now client.exit.now }
-            ensures answered { OnOk result (HasAnswered client.entry.now client.exit.now) }
-        { answer_client(gate, alloc, first, client) },
-        &mut ||
-            requires { IsSync R.row × IsSync G.row × (first + 1 + length rest.now < 2 ^ 32) }
-            ensures kept { AllZip KeepsClient rest.entry.now rest.exit.now }
-            ensures answered { OnOk result (AllZip HasAnswered rest.entry.now rest.exit.now) }
-        { answer_each(rt, gate, alloc, first + 1, rest) },
-    );
-    mine?;
-    theirs
+
+    fn is_idle(&self, client: &Client) -> bool {
+        client.requests.is_empty()
+    }
 }

@@ -20,6 +20,6 @@ pub enum Outcome {
     Refused(StoreFault),
     /// This many loads are published now.
     Published(Version),
-    /// The publish was refused memory. The loads stay pending.
+    /// The publish failed, for lack of memory or of a free slot. Something was pending, and stays so.
     Unpublished,
 }

@@ -6,7 +6,7 @@ ghost use Rattle.life.specs.Clients.{KeepsClient, HasAnswered, IsServed};
 ghost use Rattle.life.specs.PublisherWork.{DoesAll, StopsAfter};
 ghost use Rattle.life.specs.Continuing.{HasLife};
 
-use crate::answer::answer_each;
+use crate::answer::Answering;
 use crate::client::Client;
 use crate::command::{Command, Outcome};
 use crate::publish::do_commands;
@@ -16,8 +16,10 @@ use live_versions::Publisher;
 use std::alloc::Global;
 use std::sync::Wait;
 use std::thread::{Threads, join_mut};
+use thread_tree::work_all;
 
 /// The commands and the requests of all clients, at the same time.
+#[tactic(auto, using(thread_tree::proofs::Fitting::all_fit))]
 fn run_all<R: Threads + Wait + Sync, G: Gate + Sync>(
     rt: &R,
     alloc: Global,
@@ -34,6 +36,7 @@ fn run_all<R: Threads + Wait + Sync, G: Gate + Sync>(
     ensures kept { AllZip KeepsClient clients.old clients.new }
     ensures answered { OnOk result (AllZip HasAnswered clients.old clients.new) }
 {
+    let answering = Answering { gate, alloc };
     let (published, answered) = join_mut(
         rt,
         &mut || do_commands(rt, gate, alloc, publisher, commands, outcomes),
@@ -41,7 +44,7 @@ fn run_all<R: Threads + Wait + Sync, G: Gate + Sync>(
             requires { IsSync R.row × IsSync G.row × (length clients.now ≤ 16) }
             ensures kept { AllZip KeepsClient clients.entry.now clients.exit.now }
             ensures answered { OnOk result (AllZip HasAnswered clients.entry.now clients.exit.now) }
-        { answer_each(rt, gate, alloc, 0, clients) },
+        { work_all(rt, &answering, 0, clients) },
     );
     if published.is_err() {
         return Err(ServeFault::Memory);

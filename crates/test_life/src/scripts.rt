@@ -220,7 +220,7 @@ const SALUT_FILE: &[u8] =
     b"\xde\x12\x04\x95\0\0\0\0\x01\0\0\0\x1c\0\0\0\x24\0\0\0\0\0\0\0\x2c\0\0\0\
     \x02\0\0\0\x2c\0\0\0\x05\0\0\0\x2f\0\0\0hi\0salut\0";
 
-/// `tests/stored/rounds_with_file.script`, whose answers are stored next to it.
+/// `tests/scripts/stored/rounds_with_file.script`, whose answers are stored next to it.
 const STORED: &Script = &Script {
     rows: &[
         (Step::Po("fr", SALUT), Outcome::Loaded(ONE)),

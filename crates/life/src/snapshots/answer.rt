@@ -1,21 +1,18 @@
 //! The reading threads: each client's requests.
-ghost use Rattle.std.specs.List.{AllZip};
-ghost use Rattle.std.specs.Thread.{IsSync};
-ghost use Rattle.std.specs.Prelude.{◌≡◌, ◌+◌, ◌<◌, ◌^◌, [], ◌∷◌, length, IfOk, OnOk};
+ghost use Rattle.std.specs.Prelude.{◌≡◌, [], ◌∷◌, IfOk, OnOk};
 ghost use Rattle.live_set.specs.Asks.{IsAnswer};
 ghost use Rattle.live_versions.specs.Batches.{joined, version_of, StartsWith};
 ghost use Rattle.life.specs.Acts.{LeadsAll};
 ghost use Rattle.life.specs.Replies.{AreTextsOf, AreReplies, queries_in, acts_for};
-ghost use Rattle.life.specs.Clients.{KeepsClient, HasAnswered};
 
 use crate::client::{Reply, Request};
 use crate::snapshots::client::Client;
 use desks::{Gate, Place};
 use live_set::Query;
-use snapshot_store::Reader;
+use snapshot_store::{Notice, Reader};
 use std::alloc::{AllocError, Global};
 use std::mem;
-use std::thread::{Threads, join_mut};
+use thread_tree::Work;
 
 /// The answer to a query in the version that the reader entered last.
 #[tactic(auto, using(crate::proofs::Looking::asked))]
@@ -47,15 +44,24 @@ fn look_one(alloc: Global, reader: &Reader, query: &Query) -> Result<Vec<String>
     Ok(texts)
 }
 
-/// Answers a request by one entry.
-fn answer(alloc: Global, reader: &mut Reader, request: &Request) -> Result<Reply, AllocError>
+/// Answers a request by one entry, which is not older than the notice.
+fn answer(
+    alloc: Global,
+    reader: &mut Reader,
+    opening: &Notice,
+    request: &Request,
+) -> Result<Reply, AllocError>
+    requires { opening.now.book ≡ reader.old.book }
+    ensures entered { OnOk result (StartsWith reader.new.batches opening.now.batches) }
     ensures book { reader.new.book ≡ reader.old.book }
     ensures later { StartsWith reader.new.batches reader.old.batches }
     ensures version { IfOk result (λ reply. reply.version ≡ version_of reader.new.batches) }
     ensures texts { IfOk result (λ reply.
         AreTextsOf (joined reader.new.batches) (queries_in request.now) reply.texts.items) }
 {
-    reader.enter();
+    if !reader.enter_after(opening) {
+        return Err(AllocError);
+    }
     let texts = match request {
         Request::Ask(query) => look_one(alloc, reader, query),
         Request::AskInto(query) => look_one(alloc, reader, query),
@@ -73,9 +79,11 @@ fn answer_all<G: Gate>(
     alloc: Global,
     worker: u32,
     reader: &mut Reader,
+    opening: &Notice,
     requests: &[Request],
     replies: &mut Vec<Reply>,
 ) -> Result<(), AllocError>
+    requires { opening.now.book ≡ reader.old.book }
     ensures book { reader.new.book ≡ reader.old.book }
     ensures later { StartsWith reader.new.batches reader.old.batches }
     ensures each { OnOk result (AreReplies requests.now replies.new.items) }
@@ -85,66 +93,48 @@ fn answer_all<G: Gate>(
     replies.clear();
     for index in 0..requests.len() {
         gate.pass(Place::Worker(worker), index as u64);
-        let reply = answer(alloc, reader, &requests[index])?;
+        let reply = answer(alloc, reader, opening, &requests[index])?;
         replies.push(reply)?;
     }
     Ok(())
 }
 
-/// Answers one client's requests.
-fn answer_client<G: Gate>(
-    gate: &G,
-    alloc: Global,
-    worker: u32,
-    client: &mut Client,
-) -> Result<(), AllocError>
-    ensures kept { KeepsClient client.old client.new }
-    ensures answered { OnOk result (HasAnswered client.old client.new) }
-{
-    let mut replies = mem::replace(&mut client.replies, Vec::new(alloc));
-    let answered = answer_all(
-        gate,
-        alloc,
-        worker,
-        &mut client.reader,
-        client.requests.as_slice(),
-        &mut replies,
-    );
-    client.replies = replies;
-    answered
+/// What the reading threads share. Each client with requests takes a thread of its own, but one of them takes that of
+/// the caller.
+#[derive(Drop)]
+pub(crate) struct Answering<'a, G> {
+    pub(crate) gate: &'a G,
+    pub(crate) alloc: Global,
+    pub(crate) opening: &'a Notice,
 }
 
-/// Answers the requests of all clients, whose workers are counted from `first`. Each client but the last takes a thread
-/// of its own.
-pub(crate) fn answer_each<R: Threads + Sync, G: Gate + Sync>(
-    rt: &R,
-    gate: &G,
-    alloc: Global,
-    first: u32,
-    clients: &mut [Client],
-) -> Result<(), AllocError>
-    requires { first + length clients.old < 2 ^ 32 }
-    ensures kept { AllZip KeepsClient clients.old clients.new }
-    ensures answered { OnOk result (AllZip HasAnswered clients.old clients.new) }
-{
-    let Some((client, rest)) = clients.split_first_mut() else {
-        return Ok(());
-    };
-    if rest.is_empty() {
-        return answer_client(gate, alloc, first, client);
+impl<'a, G: Gate> Work<Client, AllocError> for Answering<'a, G> {
+    ghost use Rattle.std.specs.Prelude.{◌≡◌};
+    ghost use Rattle.life.specs.Clients.{KeepsClient, HasAnswered};
+
+    ghost fits = { λ w client. client.reader.book ≡ w.opening.now.book };
+
+    ghost keeps = { KeepsClient };
+
+    ghost does = { HasAnswered };
+
+    /// Answers one client's requests.
+    fn work(&self, worker: u32, client: &mut Client) -> Result<(), AllocError> {
+        let mut replies = mem::replace(&mut client.replies, Vec::new(self.alloc));
+        let answered = answer_all(
+            self.gate,
+            self.alloc,
+            worker,
+            &mut client.reader,
+            self.opening,
+            client.requests.as_slice(),
+            &mut replies,
+        );
+        client.replies = replies;
+        answered
     }
-    let (mine, theirs) = join_mut(
-        rt,
-        &mut ||
-            ensures kept { KeepsClient client.entry.now client.exit.now }
-            ensures answered { OnOk result (HasAnswered client.entry.now client.exit.now) }
-        { answer_client(gate, alloc, first, client) },
-        &mut ||
-            requires { IsSync R.row × IsSync G.row × (first + 1 + length rest.now < 2 ^ 32) }
-            ensures kept { AllZip KeepsClient rest.entry.now rest.exit.now }
-            ensures answered { OnOk result (AllZip HasAnswered rest.entry.now rest.exit.now) }
-        { answer_each(rt, gate, alloc, first + 1, rest) },
-    );
-    mine?;
-    theirs
+
+    fn is_idle(&self, client: &Client) -> bool {
+        client.requests.is_empty()
+    }
 }

@@ -1,7 +1,7 @@
 //! A snapshot store's life from its opening to its end.
 ghost use Rattle.std.specs.List.{AllZip, AllByRecursion};
 ghost use Rattle.std.specs.Thread.{IsSync};
-ghost use Rattle.std.specs.Prelude.{◌≡◌, ◌<◌, ◌^◌, ◌++◌, [], IfOk, OnOk, length, map, vec_len};
+ghost use Rattle.std.specs.Prelude.{◌≡◌, ◌<◌, ◌^◌, [], IfOk, OnOk, length, map, vec_len};
 ghost use Rattle.snapshot_store.specs.Holding.{most_loads};
 ghost use Rattle.life.specs.Clients.{KeepsClient, HasAnswered, IsServed};
 ghost use Rattle.life.specs.Promise.{IsRun};
@@ -10,14 +10,15 @@ ghost use Rattle.life.specs.PublisherWork.{DoesAll};
 use crate::client::Request;
 use crate::command::{Command, Outcome};
 use crate::life::LifeFault;
-use crate::snapshots::answer::answer_each;
+use crate::snapshots::answer::Answering;
 use crate::snapshots::client::Client;
 use crate::snapshots::publish::do_commands;
 use crate::snapshots::settle::settle_all;
 use desks::{Gate, ServeFault};
 use snapshot_store::{Publisher, open_store};
-use std::alloc::Global;
+use std::alloc::{AllocError, Global};
 use std::thread::{Threads, join_mut};
+use thread_tree::work_all;
 
 /// The outcome of each command, in order, and each reader with its requests and replies.
 #[derive(Drop)]
@@ -30,30 +31,21 @@ pub struct Run {
 fn seat_all(
     alloc: Global,
     publisher: &Publisher,
-    lists: &mut Vec<Vec<Request>>,
-    clients: &mut Vec<Client>,
-) -> Result<(), LifeFault>
-    requires clients { AllByRecursion (λ c. c.reader ≡ publisher.now.seen) clients.old.items }
-    ensures requests { OnOk result
-        (map (λ c. c.requests) clients.new.items ≡ map (λ c. c.requests) clients.old.items ++ lists.old.items) }
-    ensures seated { OnOk result (AllByRecursion (λ c. c.reader ≡ publisher.now.seen) clients.new.items) }
+    lists: Vec<Vec<Request>>,
+) -> Result<Vec<Client>, AllocError>
+    ensures requests { IfOk result (λ clients. map (λ c. c.requests) clients.items ≡ lists.items) }
+    ensures seated { IfOk result (λ clients. AllByRecursion (λ c. c.reader ≡ publisher.now.seen) clients.items) }
 {
-    let Some(requests) = lists.pop() else {
-        return Ok(());
-    };
-    seat_all(alloc, publisher, lists, clients)?;
-    let Ok(reader) = publisher.reader() else {
-        return Err(LifeFault::Unopened);
-    };
-    let client = Client {
-        reader,
-        requests,
-        replies: Vec::new(alloc),
-    };
-    match clients.push(client) {
-        Ok(()) => Ok(()),
-        Err(_) => Err(LifeFault::Unopened),
+    let mut clients = Vec::new(alloc);
+    'lists: for requests in lists {
+        let reader = publisher.reader()?;
+        clients.push(Client {
+            reader,
+            requests,
+            replies: Vec::new(alloc),
+        })?;
     }
+    Ok(clients)
 }
 
 /// The commands and the requests of all clients, at the same time.
@@ -67,19 +59,27 @@ fn run_both<R: Threads + Sync, G: Gate + Sync>(
     clients: &mut [Client],
 ) -> Result<(), ServeFault>
     requires count { length clients.old < 2 ^ 32 }
+    requires book { AllByRecursion (λ c. c.reader.book ≡ publisher.old.seen.book) clients.old }
     ensures book { publisher.new.seen.book ≡ publisher.old.seen.book }
     ensures does { OnOk result (DoesAll publisher.old commands.now outcomes.new.items publisher.new) }
     ensures kept { AllZip KeepsClient clients.old clients.new }
     ensures answered { OnOk result (AllZip HasAnswered clients.old clients.new) }
 {
+    let opening = publisher.tell();
+    let answering = Answering {
+        gate,
+        alloc,
+        opening: &opening,
+    };
     let (published, answered) = join_mut(
         rt,
         &mut || do_commands(gate, alloc, publisher, commands, outcomes),
         &mut ||
-            requires { IsSync R.row × IsSync G.row × (length clients.now < 2 ^ 32) }
+            requires { IsSync R.row × IsSync G.row × (length clients.now < 2 ^ 32)
+                × AllByRecursion (λ c. c.reader.book ≡ answering.opening.now.book) clients.now }
             ensures kept { AllZip KeepsClient clients.entry.now clients.exit.now }
             ensures answered { OnOk result (AllZip HasAnswered clients.entry.now clients.exit.now) }
-        { answer_each(rt, gate, alloc, 0, clients) },
+        { work_all(rt, &answering, 0, clients) },
     );
     if published.is_err() || answered.is_err() {
         return Err(ServeFault::Memory);
@@ -112,7 +112,7 @@ fn run_clients<R: Threads + Sync, G: Gate + Sync>(
 /// Opens a store, with a client for each list of requests.
 fn open_clients(
     alloc: Global,
-    mut lists: Vec<Vec<Request>>,
+    lists: Vec<Vec<Request>>,
 ) -> Result<(Publisher, Vec<Client>), LifeFault>
     ensures empty { IfOk result (λ opened. (opened.0.seen.batches ≡ []) × (opened.0.pending ≡ [])) }
     ensures most { IfOk result (λ opened. opened.0.most ≡ most_loads) }
@@ -122,9 +122,10 @@ fn open_clients(
     let Ok(publisher) = open_store(alloc) else {
         return Err(LifeFault::Unopened);
     };
-    let mut clients = Vec::new(alloc);
-    seat_all(alloc, &publisher, &mut lists, &mut clients)?;
-    Ok((publisher, clients))
+    match seat_all(alloc, &publisher, lists) {
+        Ok(clients) => Ok((publisher, clients)),
+        Err(_) => Err(LifeFault::Unopened),
+    }
 }
 
 /// Opens a store, with a reader for each list of requests. Does the commands in one thread while each list is answered

@@ -2,7 +2,7 @@ use Rattle.std.proofs.Common.{rules, ◌≡◌, ◌+◌, List, [], ◌∷◌, �
 use Rattle.std.proofs.lemmas.List.{take_more}
 use Rattle.live_set.specs.Asks.{QueryValue}
 use Rattle.live_versions.specs.Batches.{version_of, StartsWith}
-use Rattle.live_versions.proofs.Joining.{begins_trans}
+use Rattle.live_loads.proofs.Joining.{begins_trans}
 use Rattle.desks.specs.Answers.{Answered}
 use Rattle.desks.specs.declared.desk.Answer.{Answer}
 use Rattle.desks.proofs.Answers.{answered_more, version_grows}

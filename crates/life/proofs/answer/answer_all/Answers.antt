@@ -1,5 +1,5 @@
 use Rattle.std.proofs.Common.{rules, ◌≡◌, ◌+◌, List, [], ◌∷◌, ◌++◌, take, sym, subst, ◌∙◌}
-use Rattle.live_versions.proofs.Joining.{begins_trans}
+use Rattle.live_loads.proofs.Joining.{begins_trans}
 use Rattle.life.specs.declared.client.Reply.{Reply}
 use Rattle.life.proofs.Entries.{Replied, replied_more}
 use Rattle.life.proofs.answer.answer_all.Goals as goal
