@@ -1,0 +1,6 @@
+pub mod Tables
+pub mod Table
+pub mod CharsetNames
+pub mod Every
+pub mod Naming
+pub mod Decoding

@@ -1,0 +1,14 @@
+//! Single-byte charsets, decoded to UTF-8.
+#![tactic(auto)]
+
+mod kinds;
+mod names;
+mod naming;
+mod reading;
+mod tables;
+#[cfg(test)]
+mod tests;
+
+pub use kinds::Charset;
+pub use naming::charset_of;
+pub use reading::{DecodeFault, char_of, decode};
