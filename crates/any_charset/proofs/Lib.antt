@@ -1,0 +1,3 @@
+mod LineParts
+mod Placing
+pub mod Failing

@@ -1,0 +1,65 @@
+-- The charset that a PO text declares, looked up in its bytes (GNU gettext manual, "Header Entry": Content-Type).
+
+-- The header is looked for where PO files have it, at the front of the text: comments and empty lines, a line
+-- `msgid ""`, and the lines of its msgstr, each with one string. A header in another form declares nothing (ours).
+use Rattle.std.specs.Prelude.{◌≡◌, ℕ, ◌+◌, ◌==◌, ◌||◌, not, nat_eq, Bool, if◌then◌else◌, List, [], ◌∷◌, ◌++◌}
+use Rattle.std.specs.Prelude.{Some, None, Option, length, take, drop, codes}
+use Rattle.std.specs.List.{starts_with, slice_split, prefix_len}
+use Rattle.std.specs.Str.{bytes_eq}
+use Rattle.memchr.specs.Find.{FindsNeedle}
+use Rattle.charsets.specs.Naming.{IsNameOf}
+use Rattle.charsets.specs.declared.kinds.Charset.{Charset}
+use Rattle.any_charset.specs.declared.front.Place.{Place}
+use Rattle.any_charset.specs.declared.front.Place.TheVariants.{Before, AfterMsgid, InHeader, Elsewhere}
+
+-- ---- the header at the front
+
+-- LF separates lines
+abbrev pub lines : List ℕ → List (List ℕ)
+lines text = slice_split (λ b. b == 10) text
+
+-- an empty line or a comment
+abbrev pub is_gap : List ℕ → Bool
+is_gap line = bytes_eq line [] || starts_with nat_eq line (codes "#")
+
+-- where a line leads from a place: before the header's msgid, after it, in the header's msgstr, or elsewhere
+abbrev pub place_behind : Place → List ℕ → Place
+place_behind Before line =
+    if is_gap line then Before else (if bytes_eq line (codes "msgid \"\"") then AfterMsgid else Elsewhere)
+place_behind AfterMsgid line = if starts_with nat_eq line (codes "msgstr \"") then InHeader else Elsewhere
+place_behind InHeader line = if starts_with nat_eq line (codes "\"") then InHeader else Elsewhere
+place_behind Elsewhere line = Elsewhere
+
+-- where these lines lead
+abbrev pub place_after : Place → List (List ℕ) → Place
+place_after place [] = place
+place_after place (line ∷ more) = place_after (place_behind place line) more
+
+-- ---- the charset
+
+abbrev pub charset_mark : List ℕ
+charset_mark = codes "charset="
+
+-- a byte of a charset's name: no white space, and neither a backslash nor a quote, which end it in a string
+abbrev pub is_name_byte : ℕ → Bool
+is_name_byte b = not (b == 32 || b == 9 || b == 10 || b == 92 || b == 34)
+
+-- the length of the name that a text begins with
+abbrev pub name_len : List ℕ → ℕ
+name_len text = prefix_len is_name_byte text
+
+-- the first `charset=` of the text is in its header and is followed by a name of the charset; renamed is the text with
+-- `UTF-8` in place of the name
+pub record Declares (text : List ℕ) (charset : Charset) (renamed : List ℕ) : Type 0 where
+  pub at : ℕ
+  pub first : FindsNeedle text charset_mark 0 (Some at)
+  pub header : place_after Before (lines (take at text)) ≡ InHeader
+  pub after : List ℕ
+  pub after_is : after ≡ drop (at + length charset_mark) text
+  pub named : IsNameOf charset (take (name_len after) after)
+  pub renamed_is : renamed
+      ≡ take (at + length charset_mark) text ++ codes "UTF-8" ++ drop (name_len after) after
+
+-- the text declares no charset that is known here
+abbrev pub DeclaresNone : List ℕ → Type 0
+DeclaresNone text = (charset : Charset) (renamed : List ℕ) → ¬ Declares text charset renamed

@@ -1,0 +1,4 @@
+pub mod Declaring
+pub mod LineRest
+pub mod Recoding
+pub mod Renaming

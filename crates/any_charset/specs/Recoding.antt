@@ -1,0 +1,69 @@
+-- What a PO text in any charset means to the compiler: a catalogue with its counts, or a refusal.
+
+-- GNU msgfmt converts a text in another charset to UTF-8, since its version 0.22.
+use Rattle.std.specs.Prelude.{◌≡◌, ◌⊎◌, ℕ, ◌+◌, List, take}
+use Rattle.po_text.specs.Spelling.{newlines}
+use Rattle.po_checks.specs.Refusal.{out_of_memory}
+use Rattle.po_checks.specs.declared.options.Options.{Options}
+use Rattle.po_checks.specs.declared.fault.LoadFault.{LoadFault}
+use Rattle.po_checks.specs.declared.fault.LoadKind.{LoadKind}
+use Rattle.po_checks.specs.declared.fault.LoadKind.TheVariants.{NotUtf8, Charset as UnknownCharset}
+use Rattle.catalogue.specs.Meaning.{Means, Refuses}
+use Rattle.catalogue.specs.declared.compiler.Compiled.{Compiled}
+use Rattle.charsets.specs.declared.kinds.Charset.{Charset}
+use Rattle.charsets.specs.Decoding.{IsDecoded, IsFirstWithNone}
+use Rattle.any_charset.specs.Declaring.{Declares, DeclaresNone}
+use Rattle.any_charset.specs.declared.fault.TextFault.{TextFault}
+use Rattle.any_charset.specs.declared.fault.TextFault.TheVariants.{Load, NoCharacter}
+
+-- the refusals that a text in another charset can have
+abbrev pub IsForCharset : LoadKind → Type 0
+IsForCharset kind = (kind ≡ NotUtf8) ⊎ (kind ≡ UnknownCharset)
+
+-- as UTF-8 the text is refused for its charset
+abbrev pub IsForeign : List ℕ → Options → Type 0
+IsForeign text options = (kind : LoadKind) × (line : ℕ) × Refuses text options kind line × IsForCharset kind
+
+-- the text declares a charset, and recoded is its decoding, with UTF-8 as the header's charset
+abbrev pub IsRecoded : List ℕ → List ℕ → Type 0
+IsRecoded text recoded =
+    (charset : Charset) × (renamed : List ℕ) × Declares text charset renamed × IsDecoded charset renamed recoded
+
+-- a text in another charset, which compiles to this once it is recoded
+pub record MeansRecoded (text : List ℕ) (options : Options) (compiled : Compiled) : Type 0 where
+  pub foreign : IsForeign text options
+  pub recoded : List ℕ
+  pub recodes : IsRecoded text recoded
+  pub means : Means recoded options compiled
+
+-- the text compiles to this, as it is or recoded
+abbrev pub MeansAny : List ℕ → Options → Compiled → Type 0
+MeansAny text options compiled = Means text options compiled ⊎ MeansRecoded text options compiled
+
+-- the text is refused as it is, and declares no other charset if that is why
+pub record RefusesPlain (text : List ℕ) (options : Options) (fault : LoadFault) : Type 0 where
+  pub refuses : Refuses text options fault.kind fault.line
+  pub no_other : IsForCharset fault.kind → DeclaresNone text
+
+-- the text is in another charset, and is refused once it is recoded
+pub record RefusesRecoded (text : List ℕ) (options : Options) (fault : LoadFault) : Type 0 where
+  pub foreign : IsForeign text options
+  pub recoded : List ℕ
+  pub recodes : IsRecoded text recoded
+  pub refuses : Refuses recoded options fault.kind fault.line
+
+-- the text is in another charset, which has no character for a byte; the line is that of the first such byte
+pub record HasNoCharacter (text : List ℕ) (options : Options) (line : ℕ) : Type 0 where
+  pub foreign : IsForeign text options
+  pub charset : Charset
+  pub renamed : List ℕ
+  pub declares : Declares text charset renamed
+  pub at : ℕ
+  pub first : IsFirstWithNone charset renamed at
+  pub line_is : line ≡ newlines (take at renamed) + 1
+
+-- why a text in any charset is refused
+abbrev pub RefusesAny : List ℕ → Options → TextFault → Type 0
+RefusesAny text options (Load fault) =
+    (fault ≡ out_of_memory) ⊎ RefusesPlain text options fault ⊎ RefusesRecoded text options fault
+RefusesAny text options (NoCharacter line) = HasNoCharacter text options line

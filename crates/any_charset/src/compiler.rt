@@ -1,0 +1,109 @@
+//! Compiling.
+ghost use Rattle.std.specs.Prelude.{◌≡◌, ◌+◌, ◌<◌, ◌≤◌, ◌^◌, ◌↔◌, IfOk, IfErr, IsTrue, MatchResult, length, take};
+ghost use Rattle.po_text.specs.Spelling.{newlines};
+ghost use Rattle.catalogue.specs.Meaning.{Refuses};
+ghost use Rattle.charsets.specs.Decoding.{IsDecoded};
+ghost use Rattle.any_charset.specs.Recoding.{IsForCharset, MeansAny, MeansRecoded, RefusesAny};
+ghost use Rattle.any_charset.specs.Renaming.{FailsToDecode, renamed_of};
+
+use crate::declared::{Declaration, declared};
+use crate::fault::TextFault;
+use catalogue::{Compiled, LoadFault, LoadKind, Options, compile, compile_owned};
+use charsets::{DecodeFault, decode};
+use std::alloc::{AllocError, Global};
+
+/// The name that takes the place of a header's charset.
+const UTF8: &[u8] = b"UTF-8";
+
+/// Whether a text that is refused as UTF-8 with this kind may be in another charset.
+pub fn is_for_charset(kind: LoadKind) -> bool
+    ensures { IsTrue result ↔ IsForCharset kind }
+{
+    matches!(kind, LoadKind::NotUtf8 | LoadKind::Charset)
+}
+
+/// The line of the byte at an index.
+fn line_at(text: &[u8], at: usize) -> u32
+    requires within { at ≤ length text.now }
+    requires short { length text.now < 2 ^ 31 }
+    ensures { result ≡ newlines (take at text.now) + 1 }
+{
+    let before = &text[..at];
+    before.iter().filter(|byte| **byte == b'\n').count() as u32 + 1
+}
+
+/// The text with `UTF-8` in place of the charset's name.
+fn renamed(alloc: Global, declared: &Declaration<'_>) -> Result<Vec<u8>, AllocError>
+    ensures { IfOk result (λ renamed. renamed.items ≡ renamed_of declared.now) }
+{
+    let mut text = Vec::new(alloc);
+    text.extend_from_slice(declared.before)?;
+    text.extend_from_slice(UTF8)?;
+    text.extend_from_slice(declared.after)?;
+    Ok(text)
+}
+
+/// Decodes a text, which is UTF-8 then, and says so.
+fn recode(alloc: Global, declared: &Declaration<'_>) -> Result<Vec<u8>, TextFault>
+    requires { length (renamed_of declared.now) < 2 ^ 31 }
+    ensures { MatchResult result (λ text. IsDecoded declared.now.charset (renamed_of declared.now) text.items)
+        (λ fault. FailsToDecode declared.now.charset (renamed_of declared.now) fault) }
+{
+    let text = renamed(alloc, declared)?;
+    match decode(alloc, declared.charset, text.as_slice()) {
+        Ok(text) => Ok(text.into_bytes()),
+        Err(DecodeFault::NoCharacter(at)) => Err(TextFault::NoCharacter(line_at(
+            text.as_slice(),
+            at,
+        ))),
+        Err(DecodeFault::Memory) => Err(TextFault::Load(LoadFault {
+            kind: LoadKind::Memory,
+            line: 0,
+        })),
+    }
+}
+
+/// Compiles a PO text in another charset, which was refused as UTF-8 with `strict`.
+///
+/// The text is decoded and its header then says `charset=UTF-8`, as GNU msgfmt does since 0.22; the result is what
+/// `catalogue::compile` makes of that. The decoded text may have 67,108,864 bytes, as any other. If the text doesn't
+/// declare a charset of `charsets` in a header at its front, it is refused with `strict`. The lines of refusals are
+/// those of `text`.
+#[tactic(auto, using(crate::proofs::Failing::failed))]
+pub fn compile_recoded(
+    alloc: Global,
+    text: &[u8],
+    options: Options,
+    strict: LoadFault,
+) -> Result<Compiled, TextFault>
+    requires { IsForCharset strict.kind × Refuses text.now options strict.kind strict.line }
+    ensures ok { IfOk result (MeansRecoded text.now options) }
+    ensures err { IfErr result (RefusesAny text.now options) }
+{
+    let Some(declared) = declared(text) else {
+        return Err(TextFault::Load(strict))
+    };
+    let recoded = match recode(alloc, &declared) {
+        Ok(recoded) => recoded,
+        Err(fault) => return Err(fault),
+    };
+    match compile_owned(alloc, recoded, options) {
+        Ok(compiled) => Ok(compiled),
+        Err(fault) => Err(TextFault::Load(fault)),
+    }
+}
+
+/// Compiles a PO text in UTF-8 or in any charset of `charsets`.
+///
+/// A text that `catalogue::compile` compiles is compiled as there. One that it refuses for another reason than its
+/// charset is refused. Otherwise the header at the front of the text names the charset ([`compile_recoded`]).
+pub fn compile_any(alloc: Global, text: &[u8], options: Options) -> Result<Compiled, TextFault>
+    ensures ok { IfOk result (MeansAny text.now options) }
+    ensures err { IfErr result (RefusesAny text.now options) }
+{
+    match compile(alloc, text, options) {
+        Ok(compiled) => Ok(compiled),
+        Err(fault) if is_for_charset(fault.kind) => compile_recoded(alloc, text, options, fault),
+        Err(fault) => Err(TextFault::Load(fault)),
+    }
+}
