@@ -1,0 +1,4 @@
+pub mod Parts
+pub mod Keeping
+pub mod Rows
+pub mod Reading
