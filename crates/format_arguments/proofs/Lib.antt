@@ -1,0 +1,4 @@
+pub mod Lists
+pub mod TextLemmas
+pub mod AgreementLemmas
+pub mod IndexLemmas

@@ -1,0 +1,4 @@
+pub mod Arguments
+pub mod Text
+pub mod ArgumentViews
+pub mod Indexing

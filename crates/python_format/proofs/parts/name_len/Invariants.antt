@@ -1,0 +1,14 @@
+use Rattle.std.proofs.Common.{◌≡◌, ◌≤◌, ◌-◌, length, take, Some}
+use Rattle.std.specs.List.{fold}
+use Rattle.python_format.specs.PythonPieces.{open_after}
+use Rattle.python_format.proofs.parts.name_len.Given as goal
+
+abbrev pub invariant-bytes : goal.invariant-bytes
+invariant-bytes l = record {
+  within : l.place ≤ length l.text;
+  small : l.depth ≤ l.place;
+  depth : fold open_after (Some 0) (take l.place l.text) ≡ Some l.depth;
+}
+
+abbrev pub decreases-bytes : goal.decreases-bytes
+decreases-bytes l = length l.text - l.place

@@ -1,0 +1,4 @@
+pub mod PythonPieces
+pub mod PythonDirectives
+pub mod Format
+pub mod PythonScanning

@@ -1,0 +1,7 @@
+//! Public-API tests of the crates of formats.
+//!
+//! They are a crate of their own because a crate with tests is proved twice, with them and without.
+#![tactic(auto)]
+
+#[cfg(test)]
+mod python;
