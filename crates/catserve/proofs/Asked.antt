@@ -22,7 +22,7 @@ use Rattle.catserve.specs.Output.{answer_line}
 use Rattle.catserve.specs.Rounds.{Answers, AnswersInTurn}
 use Rattle.catserve.specs.Asking.{readers_of, AreAsked, GivesOne, answer_lines, desk_lines, IsFreed}
 use Rattle.catserve.specs.Running.{AreReady}
-use Rattle.live_versions.proofs.Joining.{joined-append}
+use Rattle.live_loads.proofs.Joining.{joined-append}
 
 -- ---- questions
 

@@ -9,8 +9,8 @@ use Rattle.std.specs.List.{AllZip, filter_map, flat_map}
 use Rattle.live_set.specs.Loads.{LoadValue}
 use Rattle.live_versions.specs.Batches.{joined, version_of, published}
 use Rattle.live_versions.specs.Store.{StoreValue}
-use Rattle.live_versions.specs.declared.fault.StoreFault.{StoreFault}
-use Rattle.live_versions.specs.declared.fault.StoreFault.TheVariants as fault
+use Rattle.live_loads.specs.declared.fault.StoreFault.{StoreFault}
+use Rattle.live_loads.specs.declared.fault.StoreFault.TheVariants as fault
 use Rattle.desks.specs.Jobs as jobs
 use Rattle.desks.specs.declared.job.Accepted as job
 use Rattle.desks.specs.declared.job.Accepted.TheVariants as accepted
@@ -20,7 +20,7 @@ use Rattle.catserve.specs.Output.{version_line}
 use Rattle.catserve.specs.Rounds.{Outcome, Accepted, Refused, RefusedMo, Unnamed, IsOutcome, outcome_line}
 use Rattle.catserve.specs.Rounds.{accepted_load, job_source, AnswersInTurn, PlaysAll}
 use Rattle.catserve.specs.Running.{LoadsOne, LoadsAll, PlaysOne, HasPlayed, IsLineOf, load_of, load_source}
-use Rattle.live_versions.proofs.Joining.{joined-published}
+use Rattle.live_loads.proofs.Joining.{joined-published}
 use Rattle.catserve.proofs.Batching.{AllZip-snoc}
 
 -- a source of a job, as that of a load

@@ -12,9 +12,9 @@ use Rattle.mo_file.specs.declared.fault.MoFault.{MoFault}
 use Rattle.mo_file.specs.declared.fault.MoFault.TheVariants.{Memory}
 use Rattle.mo_file.proofs.OneMap.{unique_map}
 use Rattle.mo_file.proofs.SomeMap.{some_map}
-use Rattle.live_versions.specs.declared.fault.StoreFault.{StoreFault}
-use Rattle.live_versions.specs.declared.fault.StoreFault.TheVariants as store_fault
-use Rattle.live_versions.proofs.BytesFaults.{text_fault_one, no_text_fault, file_fault_one, no_file_fault}
+use Rattle.live_loads.specs.declared.fault.StoreFault.{StoreFault}
+use Rattle.live_loads.specs.declared.fault.StoreFault.TheVariants as store_fault
+use Rattle.live_loads.proofs.BytesFaults.{text_fault_one, no_text_fault, file_fault_one, no_file_fault}
 use Rattle.script_text.specs.ScriptLoads.{SourceValue, Po, Mo}
 use Rattle.desks.specs.declared.job.Accepted as job
 use Rattle.desks.specs.declared.job.Accepted.TheVariants as accepted

@@ -7,8 +7,8 @@ use Rattle.mo_file.specs.declared.fault.MoFault.{MoFault}
 use Rattle.live_set.specs.Loads.{LoadValue}
 use Rattle.live_set.specs.Asks.{QueryValue, IsAnswer}
 use Rattle.live_versions.specs.Store.{AreNames}
-use Rattle.live_versions.specs.declared.fault.StoreFault.{StoreFault}
-use Rattle.live_versions.specs.declared.fault.StoreFault.TheVariants as store_fault
+use Rattle.live_loads.specs.declared.fault.StoreFault.{StoreFault}
+use Rattle.live_loads.specs.declared.fault.StoreFault.TheVariants as store_fault
 use Rattle.desks.specs.Jobs as jobs
 use Rattle.desks.specs.declared.job.Accepted as job
 use Rattle.desks.specs.declared.job.Accepted.TheVariants as accepted

@@ -9,8 +9,8 @@ use Rattle.script_text.specs.declared.fault.ScriptKind.TheVariants.{Memory}
 use Rattle.live_versions.specs.Batches.{joined, version_of}
 use Rattle.live_versions.specs.Seen.{SeenValue}
 use Rattle.live_versions.specs.Store.{StoreValue}
-use Rattle.live_versions.specs.declared.fault.StoreFault.{StoreFault}
-use Rattle.live_versions.specs.declared.fault.StoreFault.TheVariants as store_fault
+use Rattle.live_loads.specs.declared.fault.StoreFault.{StoreFault}
+use Rattle.live_loads.specs.declared.fault.StoreFault.TheVariants as store_fault
 use Rattle.desks.specs.declared.job.Accepted as job
 use Rattle.desks.specs.declared.job.Accepted.TheVariants as accepted
 use Rattle.desks.specs.declared.desk.Desk.{Desk}

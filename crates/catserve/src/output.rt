@@ -1,15 +1,11 @@
 //! The lines that a run writes.
 ghost use Rattle.std.specs.Prelude.{◌≡◌, ◌≢◌, ◌++◌, Err, IfOk, OnOk, string_bytes};
-ghost use Rattle.catalogue.specs.Meaning.{rank};
-ghost use Rattle.mo_file.specs.MoReading.{rank as mo_rank};
 ghost use Rattle.catserve.specs.Output.{escape, escaped, version_line, answer_line};
 ghost use Rattle.catserve.specs.Running.{IsLineOf};
 
 use bstr::ByteSlice;
-use catalogue::LoadKind;
 use desks::Accepted;
-use live_versions::StoreFault;
-use mo_file::MoFault;
+use live_versions::{StoreFault, mo_number, po_number};
 use std::alloc::{AllocError, Global};
 
 /// Writes a byte of a text with escapes.
@@ -44,52 +40,6 @@ fn write_text(output: &mut Vec<u8>, text: &str) -> Result<(), AllocError>
     output.extend_from_slice(text.as_bytes())
 }
 
-/// The number of a refusal of a PO text in the output.
-fn rank_of(kind: LoadKind) -> u32
-    ensures { result ≡ rank kind }
-{
-    match kind {
-        LoadKind::TooLarge => 1,
-        LoadKind::NotUtf8 => 2,
-        LoadKind::BadEscape => 3,
-        LoadKind::OpenString => 4,
-        LoadKind::BadWord => 5,
-        LoadKind::BadText => 6,
-        LoadKind::BadOrder => 7,
-        LoadKind::BadIndex => 8,
-        LoadKind::Duplicate => 9,
-        LoadKind::Charset => 10,
-        LoadKind::SystemDependent => 11,
-        LoadKind::NoRule => 12,
-        LoadKind::BadRule => 13,
-        LoadKind::FormCount => 14,
-        LoadKind::PluralRange(_) => 15,
-        LoadKind::FormatMismatch => 16,
-        LoadKind::NewlineMismatch => 17,
-        LoadKind::Memory => 18,
-    }
-}
-
-/// The number of an MO file's refusal.
-fn mo_rank_of(fault: MoFault) -> u32
-    ensures { result ≡ mo_rank fault }
-{
-    match fault {
-        MoFault::TooLarge => 1,
-        MoFault::Short => 2,
-        MoFault::Magic => 3,
-        MoFault::Revision => 4,
-        MoFault::Bounds => 5,
-        MoFault::NoNul => 6,
-        MoFault::BadText => 7,
-        MoFault::Forms => 8,
-        MoFault::Order => 9,
-        MoFault::Charset => 10,
-        MoFault::Swollen => 11,
-        MoFault::Memory => 12,
-    }
-}
-
 /// The line of a load. Memory may have run out in the load, too.
 pub(crate) fn load_line(
     alloc: Global,
@@ -108,12 +58,12 @@ pub(crate) fn load_line(
         Ok(Accepted::Mo(entries)) => format!(in alloc; "accepted-mo\t{entries}\n"),
         Err(StoreFault::BadName) => String::from_str(alloc, "refused\tname\n"),
         Err(StoreFault::Refused(fault)) => {
-            let (number, at) = (rank_of(fault.kind), fault.line);
+            let (number, at) = (po_number(fault.kind), fault.line);
             let line = format!(in alloc; "refused\t{number}\t{at}\n")?;
             Ok(line)
         }
         Err(StoreFault::RefusedMo(fault)) => {
-            let number = mo_rank_of(fault);
+            let number = mo_number(fault);
             format!(in alloc; "refused-mo\t{number}\n")
         }
         Err(StoreFault::VersionsSpent) => unreachable!(),

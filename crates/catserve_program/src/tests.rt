@@ -1,5 +1,5 @@
 //! Runs of a script over devices that fail in mid-stream. What is wanted was written by hand, and not taken from
-//! a run. More scripts are run by the program itself (`tests/scripts.sh`).
+//! a run. More scripts are run by the program itself (`tests/scripts/scripts.sh`).
 use crate::tell;
 use catserve::{ScriptFault, ScriptKind, run_script};
 use devices::{Reading, Writing};

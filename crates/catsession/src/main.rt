@@ -26,7 +26,7 @@ output of a round is written before the next line is waited for.
 The lines of a script are described in catserve(1) and in scripts.md.
 ";
 
-/// What `--version` prints. `tests/release.sh` compares it with the file VERSION.
+/// What `--version` prints. `tests/project/release.sh` compares it with the file VERSION.
 const VERSION: &str = "catsession (Kobdzila) 0.2.0\n";
 
 fn main(rt: HostRuntime) -> ExitCode {

@@ -1,5 +1,6 @@
 //! Tests of `catalogue` through its public functions: compiled PO texts, searches, and what `accepts` takes. PO texts
-//! with the expected catalogues and look-ups are in tests/texts.txt, on which tests/texts.sh runs the programs.
+//! with the expected catalogues and look-ups are in tests/msgfmt/texts.txt, on which tests/msgfmt/texts.sh runs the
+//! programs.
 //!
 //! The tests have a crate of their own, so that the mutations of `catalogue` don't wait for them.
 #![tactic(auto)]

@@ -1,4 +1,4 @@
-//! What a caller sees of compiled PO texts. Many more texts, with the expected look-ups, are in tests/texts.txt.
+//! What a caller sees of compiled PO texts. Many more texts, with the expected look-ups, are in tests/msgfmt/texts.txt.
 use catalogue::{
     Catalogue, Compiled, EntryRef, LoadFault, LoadKind, Options, Stats, compile, one_meaning,
 };

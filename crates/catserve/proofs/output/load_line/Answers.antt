@@ -9,8 +9,8 @@ returns-in_ok-line-in-Ok-Po c =
 
 pub returns-in_ok-line-in-Err-Refused : goal.returns-in_ok-line-in-Err-Refused
 returns-in_ok-line-in-Err-Refused c =
-    let number = decimal c.rank_of-number.result in
+    let number = decimal c.po_number-number.result in
     let is = rw c.in-Err-Refused.is at c.in-Err-Refused.field-0-is in
-    rw (c.in-Err-Refused.is, is, ← c.rank_of-number.ensures) (c.in_ok-line-in-Err-Refused.ensures.ok
+    rw (c.in-Err-Refused.is, is, ← c.po_number-number.ensures.number) (c.in_ok-line-in-Err-Refused.ensures.ok
     ∙ ap (λ xs. codes "refused" ++ 9 ∷ xs)
     (sym (append_assoc number (9 ∷ decimal c.in-Err-Refused.fault.line) (10 ∷ []))))
