@@ -1,35 +1,48 @@
 -- What is kept of a catalogue that was opened.
-use Rattle.std.proofs.Common.{◌≡◌, ℕ, List, Option, Some, None, refl, sym, subst, arith, inl, inr}
+use Rattle.std.proofs.Common.{◌≡◌, ℕ, Bool, true, false, List, Option, Some, None, refl, arith, inl, inr}
 use Rattle.std.specs.Prelude.{MatchOption}
 use Rattle.std.specs.Arc.{arc_value}
 use Rattle.mo_image.specs.Entry.{Entry}
 use Rattle.mo_file.specs.MoReading.{Mo}
 use Rattle.mo_file.specs.declared.fault.MoFault.TheVariants as mo
-use Rattle.catalogue.specs.Meaning.{Means}
 use Rattle.catalogue.specs.declared.compiler.Compiled.{Compiled}
+use Rattle.catalogue.specs.declared.compiler.Stats.{Stats}
+use Rattle.any_charset.specs.declared.fault.TextFault.TheVariants.{Load}
 use Rattle.po_checks.specs.Refusal.{out_of_memory}
 use Rattle.po_checks.specs.declared.options.Options.{Options}
 use Rattle.kobdzila_c.specs.declared.opened.Opened.{Opened}
-use Rattle.kobdzila_c.specs.Opening.{IsOpenedAs, IsOpenedMap, IsOpenedMo, IsOpenedPo, MeansMap}
+use Rattle.kobdzila_c.specs.Opening.{IsOpenedAs, IsOpenedMap, IsOpenedMo, IsOpenedPo, MeansMap, MeansText}
+use Rattle.kobdzila_c.specs.Opening.{RefusesText, no_stats}
 
-through : {A : Type 0} (value : A → List Entry) (P : List Entry → Type 0) (m : List Entry) (o : Option A) → P m
-    → MatchOption o ⊥ (λ s. value s ≡ m) → MatchOption o ⊥ (λ s. P (value s))
-through value P m None so h = h
-through value P m (Some s) so h = subst P (sym h) so
+through : {A : Type 0} (value : A → List Entry) (P : List Entry → Stats → Type 0) (m : List Entry)
+    (stats counts : Stats) (o : Option A) → P m stats
+    → MatchOption o ⊥ (λ s. (value s ≡ m) × (counts ≡ stats)) → MatchOption o ⊥ (λ s. P (value s) counts)
+through value P m stats counts None so h = h
+through value P m stats counts (Some s) so h = rw (h.0, h.1) so
 
-held : (P : List Entry → Type 0) (m : List Entry) (c : Opened) → P m → IsOpenedAs (λ map. map ≡ m) c → IsOpenedAs P c
-held P m c so h = record {
-  map = through (λ s. arc_value s) P m c.catalogue so h.map;
+held : (P : List Entry → Stats → Type 0) (m : List Entry) (stats : Stats) (c : Opened) → P m stats
+    → IsOpenedAs (λ map counts. (map ≡ m) × (counts ≡ stats)) c → IsOpenedAs P c
+held P m stats c so h = record {
+  map = through (λ s. arc_value s) P m stats c.stats c.catalogue so h.map;
   fault_is = h.fault_is;
   line_is = h.line_is;
 }
 
-pub kept_mo : (bytes : List ℕ) (m : List Entry) (c : Opened) → Mo bytes m → IsOpenedMap m c → IsOpenedMo bytes c
-kept_mo bytes m c so (inl h) = inl (held (Mo bytes) m c so h)
+pub kept_mo : (bytes : List ℕ) (m : List Entry) (c : Opened) → Mo bytes m → IsOpenedMap m no_stats c
+    → IsOpenedMo bytes c
+kept_mo bytes m c so (inl h) = inl (held (λ map counts. Mo bytes map × (counts ≡ no_stats)) m no_stats c (so, refl) h)
 kept_mo bytes m c so (inr refused) = inr (mo.Memory, (λ lt. absurd (omega (arith, lt))), refused)
 
-pub kept_po : (text : List ℕ) (options : Options) (compiled : Compiled) (c : Opened) → Means text options compiled
-    → IsOpenedMap compiled.catalogue c → IsOpenedPo text options c
-kept_po text options compiled c so (inl h) =
-    inl (held (MeansMap text options) compiled.catalogue c (compiled, so, refl) h)
-kept_po text options compiled c so (inr refused) = inr (out_of_memory, inl refl, refused)
+-- out of memory may stand for any refusal
+memory : (text : List ℕ) (options : Options) (is_strict : Bool)
+    → RefusesText text options is_strict (Load out_of_memory)
+memory text options true = inl refl
+memory text options false = inl refl
+
+pub kept_po : (text : List ℕ) (options : Options) (is_strict : Bool) (compiled : Compiled) (c : Opened)
+    → MeansText text options is_strict compiled → IsOpenedMap compiled.catalogue compiled.stats c
+    → IsOpenedPo text options is_strict c
+kept_po text options is_strict compiled c so (inl h) =
+    inl (held (MeansMap text options is_strict) compiled.catalogue compiled.stats c (compiled, so, refl, refl) h)
+kept_po text options is_strict compiled c so (inr refused) =
+    inr (Load out_of_memory, memory text options is_strict, refused)

@@ -2,7 +2,7 @@
 use Rattle.std.proofs.Common.{ℕ, List}
 use Rattle.std.specs.Str.{IsUtf8}
 use Rattle.live_set.proofs.Ascii.{name_is_text}
-use Rattle.live_versions.specs.Store.{AreNames}
+use Rattle.live_loads.specs.Store.{AreNames}
 
 pub domain_is_text : (domain locale : List ℕ) → ¬ IsUtf8 domain → ¬ AreNames domain locale
 domain_is_text domain locale other names = other (name_is_text domain names.domain_is)

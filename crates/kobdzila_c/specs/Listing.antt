@@ -7,6 +7,7 @@ use Rattle.mo_image.specs.MoFile.{spelling}
 use Rattle.kobdzila_c.specs.declared.opened.Opened.{Opened}
 use Rattle.kobdzila_c.specs.Answering.{map_of}
 use Rattle.kobdzila_c.specs.Numbers.{the_fault, the_line, the_count, the_forms, has_context, has_plural}
+use Rattle.kobdzila_c.specs.Numbers.{the_translated, the_fuzzy, the_untranslated}
 use Rattle.kobdzila_c.specs.Numbers.{file_bytes, context_part, msgid_part, plural_part, form_part}
 
 -- 1 for yes, 0 for no
@@ -34,7 +35,10 @@ number c which i =
     if which == the_fault then c.fault
     else (if which == the_line then c.line
     else (if which == the_count then length (map_of c)
-    else option_map_or (λ e. entry_number e which) (slice_get (map_of c) i) 0))
+    else (if which == the_translated then c.stats.translated
+    else (if which == the_fuzzy then c.stats.fuzzy
+    else (if which == the_untranslated then c.stats.untranslated
+    else option_map_or (λ e. entry_number e which) (slice_get (map_of c) i) 0)))))
 
 -- a string of an entry: for form_part its form k
 abbrev pub entry_text : Entry → ℕ → ℕ → List ℕ

@@ -1,16 +1,20 @@
 -- Sets of catalogues as C holds them: how one is made from another, and what it answers.
-use Rattle.std.specs.Prelude.{◌≡◌, ◌⊎◌, ℕ, ◌==◌, if◌then◌else◌, List, [], MatchOption}
+use Rattle.std.specs.Prelude.{◌≡◌, ◌⊎◌, ℕ, ◌==◌, if◌then◌else◌, List, [], Option, Some, None, MatchOption}
 use Rattle.std.specs.Str.{IsUtf8}
 use Rattle.std.specs.Arc.{arc_value}
 use Rattle.mo_image.specs.Entry.{Entry}
 use Rattle.live_set.specs.Asks.{map_with}
-use Rattle.live_set.specs.Loads.{LoadValue}
+use Rattle.live_set.specs.Loads.{LoadValue, map_of}
 use Rattle.live_set.specs.Names.{IsName}
-use Rattle.live_set.specs.Sets.{SetValue, HasAbsorbed, map_in, no_loads}
+use Rattle.live_set.specs.Sets.{SetValue, HasAbsorbed, fold, map_in, no_loads}
 use Rattle.live_set.specs.declared.name.NameFault.{NameFault}
 use Rattle.live_set.specs.declared.name.NameFault.TheVariants.{BadName, Memory}
+use Rattle.live_loads.specs.Batches.{joined, version_of}
+use Rattle.live_loads.specs.Seen.{SeenValue}
 use Rattle.kobdzila_c.specs.declared.opened.Opened.{Opened}
-use Rattle.kobdzila_c.specs.declared.sets.MadeSet.{MadeSet}
+use Rattle.kobdzila_c.specs.declared.sets.HeldSet.{HeldSet}
+use Rattle.kobdzila_c.specs.declared.sets.Origin.{Origin}
+use Rattle.kobdzila_c.specs.declared.sets.Origin.TheVariants.{Made, Lent, Refused}
 use Rattle.kobdzila_c.specs.Answering.{IsClosedAnswer, Question, key_of}
 use Rattle.kobdzila_c.specs.Numbers.{no_fault, memory_fault, name_fault, the_fault, the_version}
 
@@ -19,19 +23,35 @@ abbrev pub name_number : NameFault → ℕ
 name_number BadName = name_fault
 name_number Memory = memory_fault
 
+-- the set that was made, or that of the version that the reader entered last; none if it was refused
+abbrev pub set_in : Origin → Option SetValue
+set_in (Made set) = Some set
+set_in (Lent reader) = Some (fold (joined reader.batches))
+set_in Refused = None
+
+-- the reader that lends the set
+abbrev pub reader_in : Origin → Option SeenValue
+reader_in (Lent reader) = Some reader
+reader_in _ = None
+
 -- no set, for this reason
-pub record IsWithout (fault : ℕ) (s : MadeSet) : Type 0 where
-  pub set_is : s.set ≡ no_loads
+pub record IsWithout (fault : ℕ) (s : HeldSet) : Type 0 where
+  pub refused : s.origin ≡ Refused
   pub fault_is : s.fault ≡ fault
 
--- the empty set
-abbrev pub IsEmpty : MadeSet → Type 0
-IsEmpty s = IsWithout no_fault s
+-- a set that C made, with this property
+abbrev pub IsMadeAs : (SetValue → Type 0) → Origin → Type 0
+IsMadeAs Is (Made set) = Is set
+IsMadeAs Is _ = ⊥
 
--- a set with this property, and no fault
-pub record IsMade (Is : SetValue → Type 0) (s : MadeSet) : Type 0 where
-  pub set_is : Is s.set
+-- a set that C made, with this property, and no fault
+pub record IsMade (Is : SetValue → Type 0) (s : HeldSet) : Type 0 where
+  pub set_is : IsMadeAs Is s.origin
   pub fault_is : s.fault ≡ no_fault
+
+-- the empty set
+abbrev pub IsEmpty : HeldSet → Type 0
+IsEmpty s = IsMade (λ set. set ≡ no_loads) s
 
 -- a map for a text domain and a locale
 abbrev pub load_of : List ℕ → List ℕ → List Entry → LoadValue
@@ -42,25 +62,32 @@ abbrev pub AreNames : List ℕ → List ℕ → Type 0
 AreNames domain locale = IsName domain × IsName locale
 
 -- the set with one more map, or out of memory, if both are names; otherwise the fault of a name
-abbrev pub IsMore : SetValue → List ℕ → List ℕ → List Entry → MadeSet → Type 0
+abbrev pub IsMore : SetValue → List ℕ → List ℕ → List Entry → HeldSet → Type 0
 IsMore old domain locale map new =
     (AreNames domain locale
     × (IsMade (HasAbsorbed (load_of domain locale map) old) new ⊎ IsWithout (name_number Memory) new))
     ⊎ (¬ AreNames domain locale × IsWithout (name_number BadName) new)
 
 -- like IsMore, with the map of what was opened; if that was refused, no set, for the same reason
-abbrev pub IsWithSet : SetValue → List ℕ → List ℕ → Opened → MadeSet → Type 0
+abbrev pub IsWithSet : SetValue → List ℕ → List ℕ → Opened → HeldSet → Type 0
 IsWithSet old domain locale opened new = MatchOption opened.catalogue (IsWithout opened.fault new)
     (λ shared. IsMore old domain locale (arc_value shared) new)
 
--- what is made of a set that C holds
-abbrev pub IsWith : MadeSet → List ℕ → List ℕ → Opened → MadeSet → Type 0
-IsWith old = IsWithSet old.set
+-- what is made of a set that C holds; if that was refused, no set, for the same reason
+abbrev pub IsWith : HeldSet → List ℕ → List ℕ → Opened → HeldSet → Type 0
+IsWith old domain locale opened new = MatchOption (set_in old.origin) (IsWithout old.fault new)
+    (λ set. IsWithSet set domain locale opened new)
 
--- a number of a set; its version is the number of maps that were added to it
-abbrev pub set_number : MadeSet → ℕ → ℕ
+-- how many maps were added to a set that was made, or how many loads are published in the reader's version
+abbrev pub version_in : Origin → ℕ
+version_in (Made set) = set.version
+version_in (Lent reader) = version_of reader.batches
+version_in Refused = 0
+
+-- a number of a set: why it was refused, or why its reader's last call failed, and its version
+abbrev pub set_number : HeldSet → ℕ → ℕ
 set_number s which =
-    if which == the_fault then s.fault else (if which == the_version then s.set.version else 0)
+    if which == the_fault then s.fault else (if which == the_version then version_in s.origin else 0)
 
 -- the map that answers a question in a text domain and a list of languages
 abbrev pub answering : SetValue → List ℕ → List ℕ → Question → List Entry
@@ -72,6 +99,23 @@ pub record IsAnswerIn (set : SetValue) (domain languages : List ℕ) (q : Questi
   pub no_domain : ¬ IsUtf8 domain → text ≡ []
   pub no_languages : ¬ IsUtf8 languages → text ≡ []
 
+-- the map that answers it, given the loads that are published
+abbrev pub answering_over : List LoadValue → List ℕ → List ℕ → Question → List Entry
+answering_over loads domain languages q = map_with (map_of loads) domain languages (key_of q)
+
+-- the answer to a question over these loads; no bytes if the domain or the list isn't UTF-8
+pub record IsAnswerOver (loads : List LoadValue) (domain languages : List ℕ) (q : Question) (text : List ℕ)
+    : Type 0 where
+  pub asked : IsUtf8 domain → IsUtf8 languages → IsClosedAnswer (answering_over loads domain languages q) q text
+  pub no_domain : ¬ IsUtf8 domain → text ≡ []
+  pub no_languages : ¬ IsUtf8 languages → text ≡ []
+
+-- the answer in a set that was made, or over the loads that are published in the reader's version
+abbrev pub IsAnswerFrom : Origin → List ℕ → List ℕ → Question → List ℕ → Type 0
+IsAnswerFrom (Made set) domain languages q text = IsAnswerIn set domain languages q text
+IsAnswerFrom (Lent reader) domain languages q text = IsAnswerOver (joined reader.batches) domain languages q text
+IsAnswerFrom Refused domain languages q text = text ≡ []
+
 -- the answer to a question to a set that C holds
-abbrev pub IsSetAnswer : MadeSet → List ℕ → List ℕ → Question → List ℕ → Type 0
-IsSetAnswer s = IsAnswerIn s.set
+abbrev pub IsSetAnswer : HeldSet → List ℕ → List ℕ → Question → List ℕ → Type 0
+IsSetAnswer s = IsAnswerFrom s.origin

@@ -13,8 +13,16 @@ memory_fault = 12
 abbrev pub po_faults : ℕ
 po_faults = 100
 
+-- a byte of a PO text has no character in the charset that the header names
+abbrev pub no_character_fault : ℕ
+no_character_fault = 119
+
 abbrev pub name_fault : ℕ
 name_fault = 202
+
+-- C's functions return 0 or NULL for it
+abbrev pub busy_fault : ℕ
+busy_fault = 203
 
 abbrev pub spent_fault : ℕ
 spent_fault = 204
@@ -38,6 +46,17 @@ has_context = 4
 
 abbrev pub has_plural : ℕ
 has_plural = 5
+
+-- ---- and of the PO text that it was compiled from
+
+abbrev pub the_translated : ℕ
+the_translated = 6
+
+abbrev pub the_fuzzy : ℕ
+the_fuzzy = 7
+
+abbrev pub the_untranslated : ℕ
+the_untranslated = 8
 
 -- ---- and of a set, a store or a reader, which also have the_fault
 

@@ -1,5 +1,5 @@
 -- Which memory belongs to C and which to this library, for how long, and what is in it.
-use Rattle.std.specs.Prelude.{◌≡◌, ℕ, List}
+use Rattle.std.specs.Prelude.{◌≡◌, ℕ, List, Bool}
 use base.Fraction.{full_share}
 use base.Fml.{Lft, Share, Fml, fsep, fex, flft}
 use mir.Syntax.{erased}
@@ -12,22 +12,21 @@ use denote.Struct.Lending.{lent_at}
 use Rattle.po_checks.specs.declared.options.Options.{Options}
 use Rattle.kobdzila_c.specs.declared.opened.Opened.{Opened}
 use Rattle.kobdzila_c.specs.contracts.opened.Opened.{the_row}
-use Rattle.kobdzila_c.specs.declared.sets.MadeSet.{MadeSet}
-use Rattle.kobdzila_c.specs.contracts.sets.MadeSet.{the_row as set_row}
+use Rattle.kobdzila_c.specs.declared.sets.HeldSet.{HeldSet}
+use Rattle.kobdzila_c.specs.contracts.sets.HeldSet.{the_row as set_row}
 use Rattle.kobdzila_c.specs.declared.stores.HeldStore.{HeldStore}
 use Rattle.kobdzila_c.specs.contracts.stores.HeldStore.{the_row as store_row}
-use Rattle.kobdzila_c.specs.declared.stores.HeldReader.{HeldReader}
-use Rattle.kobdzila_c.specs.contracts.stores.HeldReader.{the_row as reader_row}
 use Rattle.kobdzila_c.specs.declared.stores.HeldNotice.{HeldNotice}
 use Rattle.kobdzila_c.specs.contracts.stores.HeldNotice.{the_row as notice_row}
+use Rattle.kobdzila_c.specs.declared.stores.HeldEntrance.{HeldEntrance}
+use Rattle.kobdzila_c.specs.contracts.stores.HeldEntrance.{the_row as entrance_row}
 use Rattle.live_set.specs.declared.places.Places.{Places}
 use Rattle.live_set.specs.contracts.places.Places.{the_row as places_row}
 use Rattle.kobdzila_c.specs.Answering.{IsClosedAnswer, Question, map_of}
 use Rattle.kobdzila_c.specs.Listing.{text}
 use Rattle.kobdzila_c.specs.Making.{IsSetAnswer}
 use Rattle.kobdzila_c.specs.Opening.{IsOpenedMo, IsOpenedPo}
-use Rattle.kobdzila_c.specs.NamedPlaces.{IsReaderAnswerAt, IsSetAnswerAt}
-use Rattle.kobdzila_c.specs.Storing.{IsReaderAnswer}
+use Rattle.kobdzila_c.specs.NamedPlaces.{IsSetAnswerAt}
 
 -- what was opened is at p, and its holder alone may use it
 abbrev pub holds : Ptr → Opened → Fml
@@ -38,8 +37,9 @@ abbrev pub mo_opened_at : Ptr → List ℕ → Fml
 mo_opened_at out bytes = fex Opened (λ c. fex (IsOpenedMo bytes c) (λ _. holds out c))
 
 -- at out is the catalogue of a PO text, or why it is refused
-abbrev pub po_opened_at : Ptr → List ℕ → Options → Fml
-po_opened_at out bytes options = fex Opened (λ c. fex (IsOpenedPo bytes options c) (λ _. holds out c))
+abbrev pub po_opened_at : Ptr → List ℕ → Options → Bool → Fml
+po_opened_at out bytes options is_strict =
+    fex Opened (λ c. fex (IsOpenedPo bytes options is_strict c) (λ _. holds out c))
 
 -- the right to look up: c is shared at p for the lifetime κ, and a share q of κ's token shows that κ lasts
 abbrev pub reads : Lft → Share → Ptr → Opened → Fml
@@ -59,26 +59,26 @@ abbrev pub listed : Lft → Ptr → Opened → ℕ → ℕ → ℕ → Fml
 listed κ out c part i k = fex (Bor (List ℕ)) (λ r. fex (r.now ≡ text c part i k)
     (λ _. lies_at (Text κ) full_share out r))
 
--- ---- sets of catalogues
+-- ---- sets of catalogues, and readers, which lend one
 
 -- a set is at p, and its holder alone may use it
-abbrev pub holds_set : Ptr → MadeSet → Fml
+abbrev pub holds_set : Ptr → HeldSet → Fml
 holds_set p s = lies_at set_row full_share p s
 
 -- at out is a set with this property
-abbrev pub made_at : Ptr → (MadeSet → Type 0) → Fml
-made_at out Is = fex MadeSet (λ s. fex (Is s) (λ _. holds_set out s))
+abbrev pub set_at : Ptr → (HeldSet → Type 0) → Fml
+set_at out Is = fex HeldSet (λ s. fex (Is s) (λ _. holds_set out s))
 
 -- the right to look up: s is shared at p for the lifetime κ, and a share q of κ's token shows that κ lasts
-unfoldable pub reads_set : Lft → Share → Ptr → MadeSet → Fml
+unfoldable pub reads_set : Lft → Share → Ptr → HeldSet → Fml
 reads_set κ q p s = fsep (lent_at set_row p s κ) (flft κ q)
 
 -- at out is the answer to a question in a text domain and a list of languages, shared for as long as κ
-abbrev pub set_answered : Lft → Ptr → MadeSet → List ℕ → List ℕ → Question → Fml
+abbrev pub set_answered : Lft → Ptr → HeldSet → List ℕ → List ℕ → Question → Fml
 set_answered κ out s domain languages q = fex (Bor (List ℕ)) (λ r. fex (IsSetAnswer s domain languages q r.now)
     (λ _. lies_at (Text κ) full_share out r))
 
--- ---- live stores, readers and notices
+-- ---- live stores, notices and entrances
 
 -- a store is at p, and its holder alone may use it
 abbrev pub holds_store : Ptr → HeldStore → Fml
@@ -92,18 +92,6 @@ store_at p Is = fex HeldStore (λ s. fex (Is s) (λ _. holds_store p s))
 abbrev pub reads_store : Lft → Share → Ptr → HeldStore → Fml
 reads_store κ q p s = fsep (lent_at store_row p s κ) (flft κ q)
 
--- a reader is at p, and its holder alone may use it
-abbrev pub holds_reader : Ptr → HeldReader → Fml
-holds_reader p r = lies_at reader_row full_share p r
-
--- at p is a reader with this property
-abbrev pub reader_at : Ptr → (HeldReader → Type 0) → Fml
-reader_at p Is = fex HeldReader (λ r. fex (Is r) (λ _. holds_reader p r))
-
--- the right to use a shared reader: it is shared at p for the lifetime κ, and a share q of κ's token shows that κ lasts
-abbrev pub reads_reader : Lft → Share → Ptr → HeldReader → Fml
-reads_reader κ q p r = fsep (lent_at reader_row p r κ) (flft κ q)
-
 -- a notice is at p, and its holder alone may use it
 abbrev pub holds_notice : Ptr → HeldNotice → Fml
 holds_notice p n = lies_at notice_row full_share p n
@@ -116,10 +104,18 @@ notice_at p Is = fex HeldNotice (λ n. fex (Is n) (λ _. holds_notice p n))
 abbrev pub reads_notice : Lft → Share → Ptr → HeldNotice → Fml
 reads_notice κ q p n = fsep (lent_at notice_row p n κ) (flft κ q)
 
--- at out is the answer to a question in the version that the reader entered last, shared for as long as κ
-abbrev pub reader_answered : Lft → Ptr → HeldReader → List ℕ → List ℕ → Question → Fml
-reader_answered κ out r domain languages q = fex (Bor (List ℕ)) (λ t. fex (IsReaderAnswer r domain languages q t.now)
-    (λ _. lies_at (Text κ) full_share out t))
+-- an entrance is at p, and its holder alone may use it
+abbrev pub holds_entrance : Ptr → HeldEntrance → Fml
+holds_entrance p e = lies_at entrance_row full_share p e
+
+-- at p is an entrance with this property
+abbrev pub entrance_at : Ptr → (HeldEntrance → Type 0) → Fml
+entrance_at p Is = fex HeldEntrance (λ e. fex (Is e) (λ _. holds_entrance p e))
+
+-- the right to use a shared entrance: it is shared at p for the lifetime κ, and a share q of κ's token shows that κ
+-- lasts
+abbrev pub reads_entrance : Lft → Share → Ptr → HeldEntrance → Fml
+reads_entrance κ q p e = fsep (lent_at entrance_row p e κ) (flft κ q)
 
 -- ---- lists of languages that are looked at once
 
@@ -128,11 +124,6 @@ abbrev pub places_at : Ptr → (Places → Type 0) → Fml
 places_at out Are = fex Places (λ p. fex (Are p) (λ _. lies_at places_row full_share out p))
 
 -- at out is the answer to a question at these places of a set, shared for as long as κ
-abbrev pub set_answered_at : Lft → Ptr → MadeSet → List ℕ → Question → Fml
+abbrev pub set_answered_at : Lft → Ptr → HeldSet → List ℕ → Question → Fml
 set_answered_at κ out s places q = fex (Bor (List ℕ)) (λ r. fex (IsSetAnswerAt s places q r.now)
     (λ _. lies_at (Text κ) full_share out r))
-
--- and at these places in the version that the reader entered last
-abbrev pub reader_answered_at : Lft → Ptr → HeldReader → List ℕ → Question → Fml
-reader_answered_at κ out r places q = fex (Bor (List ℕ)) (λ t. fex (IsReaderAnswerAt r places q t.now)
-    (λ _. lies_at (Text κ) full_share out t))

@@ -1,27 +1,23 @@
 -- Live stores, readers and notices as C holds them: what a call makes of them, and what they answer.
-use Rattle.std.specs.Prelude.{◌≡◌, ◌⊎◌, ⊤, ℕ, ◌<◌, ◌==◌, if◌then◌else◌, List, [], length, Option, None}
-use Rattle.std.specs.Prelude.{MatchOption}
+use Rattle.std.specs.Prelude.{◌≡◌, ◌≢◌, ◌⊎◌, ⊤, ℕ, List, [], length, Option, None, MatchOption}
 use Rattle.std.specs.Option.{option_map, option_map_or}
-use Rattle.std.specs.Str.{IsUtf8}
 use Rattle.std.specs.Arc.{arc_value}
 use Rattle.mo_image.specs.Entry.{Entry}
-use Rattle.live_set.specs.Asks.{map_with}
-use Rattle.live_set.specs.Loads.{LoadValue, map_of}
-use Rattle.live_set.specs.Sets.{fold}
-use Rattle.live_versions.specs.Batches.{StartsWith, joined, published, version_of}
-use Rattle.live_versions.specs.Seen.{SeenValue}
-use Rattle.live_versions.specs.Store.{StoreValue, AddsLoad}
-use Rattle.live_versions.specs.declared.fault.StoreFault.{StoreFault}
-use Rattle.live_versions.specs.declared.fault.StoreFault.TheVariants.{BadName, VersionsSpent}
+use Rattle.live_loads.specs.Batches.{StartsWith, published, version_of}
+use Rattle.live_loads.specs.Seen.{SeenValue}
+use Rattle.live_loads.specs.Store.{StoreValue, AddsLoad}
+use Rattle.live_loads.specs.declared.fault.StoreFault.{StoreFault}
+use Rattle.live_loads.specs.declared.fault.StoreFault.TheVariants.{BadName, VersionsSpent}
 use Rattle.snapshot_store.specs.Holding.{IsRefusedShared}
+use Rattle.snapshot_store.specs.declared.fault.PublishFault.{PublishFault}
+use Rattle.snapshot_store.specs.declared.fault.PublishFault.TheVariants as publish
 use Rattle.kobdzila_c.specs.declared.opened.Opened.{Opened}
-use Rattle.kobdzila_c.specs.declared.sets.MadeSet.{MadeSet}
+use Rattle.kobdzila_c.specs.declared.sets.HeldSet.{HeldSet}
 use Rattle.kobdzila_c.specs.declared.stores.HeldStore.{HeldStore}
-use Rattle.kobdzila_c.specs.declared.stores.HeldReader.{HeldReader}
 use Rattle.kobdzila_c.specs.declared.stores.HeldNotice.{HeldNotice}
-use Rattle.kobdzila_c.specs.Answering.{IsClosedAnswer, Question, key_of}
-use Rattle.kobdzila_c.specs.Making.{IsWithSet, IsWithout}
-use Rattle.kobdzila_c.specs.Numbers.{no_fault, memory_fault, name_fault, spent_fault}
+use Rattle.kobdzila_c.specs.declared.stores.HeldEntrance.{HeldEntrance}
+use Rattle.kobdzila_c.specs.Making.{IsWithout, reader_in}
+use Rattle.kobdzila_c.specs.Numbers.{no_fault, memory_fault, name_fault, busy_fault, spent_fault}
 use Rattle.kobdzila_c.specs.Numbers.{the_fault, the_version, the_pending}
 
 -- ---- the store
@@ -60,10 +56,20 @@ pub record HasPublished (old new : StoreValue) : Type 0 where
   pub pending : new.pending ≡ []
   pub most : new.most ≡ old.most
 
+-- the number of why nothing is published
+abbrev pub publish_number : PublishFault → ℕ
+publish_number publish.Memory = memory_fault
+publish_number publish.Busy = busy_fault
+publish_number publish.Spent = spent_fault
+
+-- there were pending loads, and they weren't published; nothing changes
+abbrev pub IsUnpublished : StoreValue → StoreValue → ℕ → Type 0
+IsUnpublished old new fault = (new ≡ old) × (old.pending ≢ []) × (why : PublishFault) × (fault ≡ publish_number why)
+
 -- all pending loads are published, or nothing changes
 abbrev pub IsPublishedIn : StoreValue → HeldStore → Type 0
 IsPublishedIn old after = MatchOption after.publisher ⊥ (λ new. (HasPublished old new × (after.fault ≡ no_fault))
-    ⊎ ((new ≡ old) × (no_fault < after.fault)))
+    ⊎ IsUnpublished old new after.fault)
 
 -- what a publish does to the store
 abbrev pub IsPublished : HeldStore → HeldStore → Type 0
@@ -89,54 +95,36 @@ pub record IsStoreNumber (s : HeldStore) (which n : ℕ) : Type 0 where
 abbrev pub IsNoticeOf : HeldStore → HeldNotice → Type 0
 IsNoticeOf store notice = notice.notice ≡ option_map (λ p. p.seen) store.publisher
 
--- a reader in what is published, or out of memory
-abbrev pub IsReaderOf : HeldStore → HeldReader → Type 0
-IsReaderOf store reader = MatchOption reader.reader (reader.fault ≡ memory_fault)
-    (λ r. (reader.fault ≡ no_fault) × MatchOption store.publisher ⊥ (λ p. r ≡ p.seen))
+-- an entrance to the store, made when this was published
+abbrev pub IsEntranceOf : HeldStore → HeldEntrance → Type 0
+IsEntranceOf store entrance = MatchOption entrance.entrance ⊤ (λ e. MatchOption store.publisher ⊥ (λ p. e ≡ p.seen))
+
+-- a reader of the entrance's store, in what was published then or in a later version, or out of memory
+abbrev pub IsReaderFrom : HeldEntrance → HeldSet → Type 0
+IsReaderFrom entrance reader = MatchOption (reader_in reader.origin) (IsWithout memory_fault reader)
+    (λ r. (reader.fault ≡ no_fault)
+    × MatchOption entrance.entrance ⊥ (λ e. (r.book ≡ e.book) × StartsWith r.batches e.batches))
 
 -- the reader is in the same version or in a later one of the same store
-abbrev pub IsLater : SeenValue → HeldReader → Type 0
-IsLater r after = MatchOption after.reader ⊥ (λ r'. (r'.book ≡ r.book) × StartsWith r'.batches r.batches)
+abbrev pub IsLater : SeenValue → HeldSet → Type 0
+IsLater r after = MatchOption (reader_in after.origin) ⊥ (λ r'. (r'.book ≡ r.book) × StartsWith r'.batches r.batches)
 
--- what an entry does to the reader
-abbrev pub IsEntered : HeldReader → HeldReader → Type 0
-IsEntered before after = MatchOption before.reader ⊤ (λ r. IsLater r after × (after.fault ≡ no_fault))
+-- what an entry does to the reader; without a reader, nothing
+abbrev pub IsEntered : HeldSet → HeldSet → Type 0
+IsEntered before after = MatchOption (reader_in before.origin) (after ≡ before)
+    (λ r. IsLater r after × (after.fault ≡ no_fault))
 
 -- the reader and the notice are of one store
-abbrev pub AreOfOne : HeldReader → HeldNotice → Type 0
-AreOfOne reader notice = MatchOption reader.reader ⊤ (λ r. MatchOption notice.notice ⊤ (λ n. n.book ≡ r.book))
+abbrev pub AreOfOne : HeldSet → HeldNotice → Type 0
+AreOfOne reader notice = MatchOption (reader_in reader.origin) ⊤
+    (λ r. MatchOption notice.notice ⊤ (λ n. n.book ≡ r.book))
 
--- unless there is a fault, the reader is in a version that isn't older than the notice
-abbrev pub IsAfter : SeenValue → HeldReader → Type 0
-IsAfter n after = MatchOption after.reader ⊥ (λ r'. after.fault ≡ no_fault → StartsWith r'.batches n.batches)
+-- the reader is in a version that isn't older than the notice; if it is told to be busy, it is where it was
+abbrev pub IsAfter : SeenValue → SeenValue → HeldSet → Type 0
+IsAfter r n after = MatchOption (reader_in after.origin) ⊥
+    (λ r'. ((after.fault ≡ no_fault) × StartsWith r'.batches n.batches) ⊎ ((after.fault ≡ busy_fault) × (r' ≡ r)))
 
--- what an entry after a notice does to the reader
-abbrev pub IsEnteredAfter : HeldReader → HeldNotice → HeldReader → Type 0
-IsEnteredAfter before notice after = MatchOption before.reader ⊤ (λ r. IsLater r after
-    × MatchOption notice.notice ⊤ (λ n. IsAfter n after))
-
--- a number of a reader: the fault of the last call, or how many loads are published in its version
-abbrev pub reader_number : HeldReader → ℕ → ℕ
-reader_number r which = if which == the_fault then r.fault
-    else (if which == the_version then option_map_or (λ v. version_of v.batches) r.reader 0 else 0)
-
--- the map that answers a question in a text domain and a list of languages, given the loads that are published
-abbrev pub answering : List LoadValue → List ℕ → List ℕ → Question → List Entry
-answering loads domain languages q = map_with (map_of loads) domain languages (key_of q)
-
--- the answer to a question there; no bytes if the domain or the list isn't UTF-8
-pub record IsAnswerOver (loads : List LoadValue) (domain languages : List ℕ) (q : Question) (text : List ℕ)
-    : Type 0 where
-  pub asked : IsUtf8 domain → IsUtf8 languages → IsClosedAnswer (answering loads domain languages q) q text
-  pub no_domain : ¬ IsUtf8 domain → text ≡ []
-  pub no_languages : ¬ IsUtf8 languages → text ≡ []
-
--- the answer to a question to a reader: over the loads that are published in its version
-abbrev pub IsReaderAnswer : HeldReader → List ℕ → List ℕ → Question → List ℕ → Type 0
-IsReaderAnswer r domain languages q text = MatchOption r.reader (text ≡ [])
-    (λ v. IsAnswerOver (joined v.batches) domain languages q text)
-
--- a set of C's own: that of the reader's version with one more map
-abbrev pub IsReaderWith : HeldReader → List ℕ → List ℕ → Opened → MadeSet → Type 0
-IsReaderWith r domain locale opened made = MatchOption r.reader (IsWithout memory_fault made)
-    (λ v. IsWithSet (fold (joined v.batches)) domain locale opened made)
+-- what an entry after a notice does to the reader; without a reader, nothing
+abbrev pub IsEnteredAfter : HeldSet → HeldNotice → HeldSet → Type 0
+IsEnteredAfter before notice after = MatchOption (reader_in before.origin) (after ≡ before) (λ r. IsLater r after
+    × MatchOption notice.notice (after.fault ≡ no_fault) (λ n. IsAfter r n after))

@@ -7,8 +7,8 @@ ghost use Rattle.kobdzila_c.specs.Numbers.{gettext};
 
 use crate::Opened;
 use crate::numbers::{
-    CONTEXT, COUNT, FAULT, FILE_BYTES, FORM, FORMS, GETTEXT, HAS_CONTEXT, HAS_PLURAL, LINE, MSGID,
-    NGETTEXT, NPGETTEXT, PGETTEXT, PLURAL,
+    CONTEXT, COUNT, FAULT, FILE_BYTES, FORM, FORMS, FUZZY, GETTEXT, HAS_CONTEXT, HAS_PLURAL, LINE,
+    MSGID, NGETTEXT, NPGETTEXT, PGETTEXT, PLURAL, TRANSLATED, UNTRANSLATED,
 };
 use catalogue::{AskedKey, Catalogue, EntryRef, NO_HINT};
 
@@ -122,8 +122,8 @@ fn entry_number(entry: &EntryRef<'_>, which: u32) -> u64
     }
 }
 
-/// A number of what was opened: its `FAULT`, the fault's `LINE`, or the `COUNT` of its entries. Other numbers are those
-/// of entry `i` (`entry_number`).
+/// A number of what was opened: its `FAULT`, the fault's `LINE`, the `COUNT` of its entries, or how many entries of its
+/// PO text are `TRANSLATED`, `FUZZY` or `UNTRANSLATED`. Other numbers are those of entry `i` (`entry_number`).
 pub(crate) fn number(opened: &Opened, which: u32, i: u64) -> u64
     ensures { result ≡ number opened.now which i }
 {
@@ -131,6 +131,9 @@ pub(crate) fn number(opened: &Opened, which: u32, i: u64) -> u64
         FAULT => u64::from(opened.fault),
         LINE => u64::from(opened.line),
         COUNT => count(opened),
+        TRANSLATED => u64::from(opened.stats.translated),
+        FUZZY => u64::from(opened.stats.fuzzy),
+        UNTRANSLATED => u64::from(opened.stats.untranslated),
         _ => match entry_at(opened, i) {
             Some(entry) => entry_number(&entry, which),
             None => 0,

@@ -4,7 +4,7 @@
 //! `kobdzila.h` are built on; programs call the functions of that header.
 #![tactic(auto)]
 
-ghost use Rattle.std.specs.Prelude.{◌≡◌, ◌≤◌, ◌↔◌, [], IsTrue};
+ghost use Rattle.std.specs.Prelude.{◌≡◌, ◌≤◌, ◌↔◌, [], IsTrue, nat_lt};
 ghost use base.Fml.{Lft, Share, flft};
 ghost use denote.Param.{layout};
 ghost use denote.RawPtr.{room_at};
@@ -14,26 +14,26 @@ ghost use Rattle.live_set.specs.Names.{IsName};
 ghost use Rattle.kobdzila_c.specs.contracts.opened.Opened.{the_row};
 ghost use Rattle.kobdzila_c.specs.declared.opened.Opened.{Opened as Held};
 ghost use Rattle.kobdzila_c.specs.Answering.{question};
-ghost use Rattle.kobdzila_c.specs.contracts.sets.MadeSet.{the_row as set_row};
-ghost use Rattle.kobdzila_c.specs.declared.sets.MadeSet.{MadeSet as HeldSet};
+ghost use Rattle.kobdzila_c.specs.contracts.sets.HeldSet.{the_row as set_row};
+ghost use Rattle.kobdzila_c.specs.declared.sets.HeldSet.{HeldSet as ASet};
 ghost use Rattle.kobdzila_c.specs.Listing.{number};
 ghost use Rattle.kobdzila_c.specs.Making.{IsEmpty, IsWith, set_number};
 ghost use Rattle.kobdzila_c.specs.Opening.{options_of};
 ghost use Rattle.kobdzila_c.specs.Shared.{Text, answered, holds, listed, mo_opened_at, po_opened_at, reads};
-ghost use Rattle.kobdzila_c.specs.Shared.{holds_set, made_at, reads_set, set_answered};
+ghost use Rattle.kobdzila_c.specs.Shared.{holds_set, reads_set, set_answered, set_at};
 ghost use Rattle.kobdzila_c.specs.contracts.stores.HeldStore.{the_row as store_row};
 ghost use Rattle.kobdzila_c.specs.declared.stores.HeldStore.{HeldStore as AStore};
-ghost use Rattle.kobdzila_c.specs.contracts.stores.HeldReader.{the_row as reader_row};
-ghost use Rattle.kobdzila_c.specs.declared.stores.HeldReader.{HeldReader as AReader};
 ghost use Rattle.kobdzila_c.specs.contracts.stores.HeldNotice.{the_row as notice_row};
 ghost use Rattle.kobdzila_c.specs.declared.stores.HeldNotice.{HeldNotice as ANotice};
 ghost use Rattle.kobdzila_c.specs.Storing.{AreOfOne, IsEntered, IsEnteredAfter, IsLoaded, IsNewStore, IsNoticeOf};
-ghost use Rattle.kobdzila_c.specs.Storing.{IsPublished, IsReaderOf, IsReaderWith, IsStoreNumber, reader_number};
+ghost use Rattle.kobdzila_c.specs.contracts.stores.HeldEntrance.{the_row as entrance_row};
+ghost use Rattle.kobdzila_c.specs.declared.stores.HeldEntrance.{HeldEntrance as AnEntrance};
+ghost use Rattle.kobdzila_c.specs.Storing.{IsEntranceOf, IsPublished, IsReaderFrom, IsStoreNumber};
 ghost use Rattle.live_set.specs.contracts.places.Places.{the_row as places_row};
-ghost use Rattle.kobdzila_c.specs.NamedPlaces.{AreReaderPlaces, AreSetPlaces};
-ghost use Rattle.kobdzila_c.specs.Shared.{places_at, reader_answered_at, set_answered_at};
-ghost use Rattle.kobdzila_c.specs.Shared.{holds_notice, holds_reader, holds_store, notice_at, reader_answered};
-ghost use Rattle.kobdzila_c.specs.Shared.{reader_at, reads_notice, reads_reader, reads_store, store_at};
+ghost use Rattle.kobdzila_c.specs.NamedPlaces.{AreSetPlaces};
+ghost use Rattle.kobdzila_c.specs.Shared.{places_at, set_answered_at};
+ghost use Rattle.kobdzila_c.specs.Shared.{entrance_at, holds_entrance, reads_entrance};
+ghost use Rattle.kobdzila_c.specs.Shared.{holds_notice, holds_store, notice_at, reads_notice, reads_store, store_at};
 
 mod answers;
 mod numbers;
@@ -44,9 +44,9 @@ mod stores;
 
 use live_set::Places;
 pub use opened::Opened;
-pub use sets::MadeSet;
+pub use sets::{HeldSet, Origin};
 use std::alloc::Global;
-pub use stores::{HeldNotice, HeldReader, HeldStore};
+pub use stores::{HeldEntrance, HeldNotice, HeldStore};
 
 /// The type that C's pointers to a catalogue have. C must not read or write its bytes.
 pub struct Opaque {
@@ -72,19 +72,20 @@ pub unsafe extern "C" fn kobdzila_open_mo(alloc: Global, bytes: &[u8], out: *mut
 }
 
 /// Compiles a PO text, and writes its catalogue, or why it is refused, to `out`. An option is on if its argument isn't
-/// 0.
+/// 0. With `strict` the text must be UTF-8; otherwise it may be in any charset of `charsets`.
 #[unsafe(no_mangle)]
 pub unsafe extern "C" fn kobdzila_open_po(
     alloc: Global,
     bytes: &[u8],
     checked: u32,
     use_fuzzy: u32,
+    strict: u32,
     out: *mut Opaque,
 )
     requires* { sem 𝓛 (room_at the_row out) }
-    ensures* { sem 𝓛 (po_opened_at out bytes.now (options_of checked use_fuzzy)) }
+    ensures* { sem 𝓛 (po_opened_at out bytes.now (options_of checked use_fuzzy) (nat_lt 0 strict)) }
 {
-    (out as *mut Opened).write(opened::open_po(alloc, bytes, checked, use_fuzzy));
+    (out as *mut Opened).write(opened::open_po(alloc, bytes, checked, use_fuzzy, strict));
 }
 
 /// Drops the catalogue at `held`, and gives its memory back to C.
@@ -97,9 +98,10 @@ pub unsafe extern "C" fn kobdzila_close(held: *mut Opaque)
     opened::close((held as *mut Opened).read());
 }
 
-/// A number (`numbers`) of what is at `held`: its `FAULT`, the fault's `LINE`, or the `COUNT` of its entries. For entry
-/// `i` it is the number of `FORMS`, or 1 if it `HAS_CONTEXT` or `HAS_PLURAL`. Any other number is 0, and so is one of
-/// an entry that isn't there.
+/// A number (`numbers`) of what is at `held`: its `FAULT`, the fault's `LINE`, the `COUNT` of its entries, or how many
+/// entries of its PO text, the header aside, are `TRANSLATED`, `FUZZY` or `UNTRANSLATED`; those three are 0 for an MO
+/// file. For entry `i` it is the number of `FORMS`, or 1 if it `HAS_CONTEXT` or `HAS_PLURAL`. Any other number is 0,
+/// and so is one of an entry that isn't there.
 #[unsafe(no_mangle)]
 pub unsafe extern "C" fn kobdzila_number(held: *const Opaque, which: u32, i: u64) -> u64
     ghost g: { Lft × Share × Held }
@@ -192,16 +194,16 @@ pub extern "C" fn kobdzila_set_size() -> usize
     ensures size { result ≡ size (layout set_row) }
     ensures alignment { align (layout set_row) ≤ 16 }
 {
-    std::mem::size_of::<MadeSet>()
+    std::mem::size_of::<HeldSet>()
 }
 
 /// Writes the empty set to `out`.
 #[unsafe(no_mangle)]
 pub unsafe extern "C" fn kobdzila_set_new(alloc: Global, out: *mut OpaqueSet)
     requires* { sem 𝓛 (room_at set_row out) }
-    ensures* { sem 𝓛 (made_at out IsEmpty) }
+    ensures* { sem 𝓛 (set_at out IsEmpty) }
 {
-    (out as *mut MadeSet).write(sets::new_set(alloc));
+    (out as *mut HeldSet).write(sets::new_set(alloc));
 }
 
 /// Writes to `out` the set at `held` with one more catalogue, that at `catalogue`, or why there is none. The catalogue
@@ -215,15 +217,15 @@ pub unsafe extern "C" fn kobdzila_set_with(
     catalogue: *const Opaque,
     out: *mut OpaqueSet,
 )
-    ghost g: { Lft × Share × HeldSet × Lft × Share × Held }
+    ghost g: { Lft × Share × ASet × Lft × Share × Held }
     requires* { (sem 𝓛 (reads_set g.0 g.1 held g.2) ∗ sem 𝓛 (reads g.3 g.4 catalogue g.5))
         ∗ sem 𝓛 (room_at set_row out) }
     ensures* { (sem 𝓛 (flft g.0 g.1) ∗ sem 𝓛 (flft g.3 g.4))
-        ∗ sem 𝓛 (made_at out (IsWith g.2 domain.now locale.now g.5)) }
+        ∗ sem 𝓛 (set_at out (IsWith g.2 domain.now locale.now g.5)) }
 {
-    (out as *mut MadeSet).write(sets::with_one(
+    (out as *mut HeldSet).write(sets::with_one(
         alloc,
-        &*(held as *const MadeSet),
+        &*(held as *const HeldSet),
         domain,
         locale,
         &*(catalogue as *const Opened),
@@ -233,22 +235,22 @@ pub unsafe extern "C" fn kobdzila_set_with(
 /// Drops the set at `held`, and gives its memory back to C.
 #[unsafe(no_mangle)]
 pub unsafe extern "C" fn kobdzila_set_close(held: *mut OpaqueSet)
-    ghost value: { HeldSet }
+    ghost value: { ASet }
     requires* { sem 𝓛 (holds_set held value) }
     ensures* { sem 𝓛 (room_at set_row held) }
 {
-    sets::close_set((held as *mut MadeSet).read());
+    sets::close_set((held as *mut HeldSet).read());
 }
 
 /// A number (`numbers`) of the set at `held`: its `FAULT`, or its `VERSION`, which is how many catalogues were added to
 /// it, replaced ones included.
 #[unsafe(no_mangle)]
 pub unsafe extern "C" fn kobdzila_set_number(held: *const OpaqueSet, which: u32) -> u64
-    ghost g: { Lft × Share × HeldSet }
+    ghost g: { Lft × Share × ASet }
     requires* { sem 𝓛 (reads_set g.0 g.1 held g.2) }
     ensures* { sem 𝓛 (flft g.0 g.1) ∗ ⌜ result ≡ set_number g.2 which ⌝ }
 {
-    sets::set_number(&*(held as *const MadeSet), which)
+    sets::set_number(&*(held as *const HeldSet), which)
 }
 
 /// Writes the answer to a call in a text domain and a list of languages to `out`, with its terminating NUL, or no bytes
@@ -264,13 +266,13 @@ pub unsafe extern "C" fn kobdzila_set_answer(
     n: u64,
     out: *mut &[u8],
 )
-    ghost g: { Lft × Share × HeldSet }
+    ghost g: { Lft × Share × ASet }
     requires* { sem 𝓛 (reads_set g.0 g.1 held g.2) ∗ sem 𝓛 (room_at (Text g.0) out) }
     ensures* { sem 𝓛 (flft g.0 g.1) ∗ sem 𝓛 (set_answered g.0 out g.2 domain.now languages.now
         (question call context.now id.now n)) }
 {
     *out = sets::set_answer(
-        &*(held as *const MadeSet),
+        &*(held as *const HeldSet),
         domain,
         languages,
         context,
@@ -289,11 +291,11 @@ pub unsafe extern "C" fn kobdzila_set_languages(
     languages: &[u8],
     out: *mut Places,
 )
-    ghost g: { Lft × Share × HeldSet }
+    ghost g: { Lft × Share × ASet }
     requires* { sem 𝓛 (reads_set g.0 g.1 held g.2) ∗ sem 𝓛 (room_at places_row out) }
     ensures* { sem 𝓛 (flft g.0 g.1) ∗ sem 𝓛 (places_at out (AreSetPlaces g.2 domain.now languages.now)) }
 {
-    out.write(places::set_places(&*(held as *const MadeSet), domain, languages));
+    out.write(places::set_places(&*(held as *const HeldSet), domain, languages));
 }
 
 /// Returns a hint for `kobdzila_set_answer_at`, as `kobdzila_hint` does for `kobdzila_answer`.
@@ -305,11 +307,11 @@ pub unsafe extern "C" fn kobdzila_set_hint(
     id: &[u8],
     call: u32,
 ) -> u64
-    ghost g: { Lft × Share × HeldSet }
+    ghost g: { Lft × Share × ASet }
     requires* { sem 𝓛 (reads_set g.0 g.1 held g.2) }
     ensures* { sem 𝓛 (flft g.0 g.1) }
 {
-    places::set_hint(&*(held as *const MadeSet), places, context, id, call)
+    places::set_hint(&*(held as *const HeldSet), places, context, id, call)
 }
 
 /// Like `kobdzila_set_answer`, from the first of these places that has such an entry. A place where there is no
@@ -325,13 +327,13 @@ pub unsafe extern "C" fn kobdzila_set_answer_at(
     hint: u64,
     out: *mut &[u8],
 )
-    ghost g: { Lft × Share × HeldSet }
+    ghost g: { Lft × Share × ASet }
     requires* { sem 𝓛 (reads_set g.0 g.1 held g.2) ∗ sem 𝓛 (room_at (Text g.0) out) }
     ensures* { sem 𝓛 (flft g.0 g.1) ∗ sem 𝓛 (set_answered_at g.0 out g.2 places.now
         (question call context.now id.now n)) }
 {
     *out = places::set_answer_at(
-        &*(held as *const MadeSet),
+        &*(held as *const HeldSet),
         places,
         context,
         id,
@@ -346,13 +348,13 @@ pub struct OpaqueStore {
     byte: u8,
 }
 
-/// The type that C's pointers to a reader of a live store have. C must not read or write its bytes.
-pub struct OpaqueReader {
+/// The type that C's pointers to a notice of a live store have. C must not read or write its bytes.
+pub struct OpaqueNotice {
     byte: u8,
 }
 
-/// The type that C's pointers to a notice of a live store have. C must not read or write its bytes.
-pub struct OpaqueNotice {
+/// The type that C's pointers to an entrance to a live store have. C must not read or write its bytes.
+pub struct OpaqueEntrance {
     byte: u8,
 }
 
@@ -365,15 +367,6 @@ pub extern "C" fn kobdzila_store_size() -> usize
     std::mem::size_of::<HeldStore>()
 }
 
-/// The number of bytes that C allocates for a reader. `malloc` aligns them well enough.
-#[unsafe(no_mangle)]
-pub extern "C" fn kobdzila_reader_size() -> usize
-    ensures size { result ≡ size (layout reader_row) }
-    ensures alignment { align (layout reader_row) ≤ 16 }
-{
-    std::mem::size_of::<HeldReader>()
-}
-
 /// The number of bytes that C allocates for a notice. `malloc` aligns them well enough.
 #[unsafe(no_mangle)]
 pub extern "C" fn kobdzila_notice_size() -> usize
@@ -381,6 +374,15 @@ pub extern "C" fn kobdzila_notice_size() -> usize
     ensures alignment { align (layout notice_row) ≤ 16 }
 {
     std::mem::size_of::<HeldNotice>()
+}
+
+/// The number of bytes that C allocates for an entrance. `malloc` aligns them well enough.
+#[unsafe(no_mangle)]
+pub extern "C" fn kobdzila_entrance_size() -> usize
+    ensures size { result ≡ size (layout entrance_row) }
+    ensures alignment { align (layout entrance_row) ≤ 16 }
+{
+    std::mem::size_of::<HeldEntrance>()
 }
 
 /// Writes a store in which nothing is published to `out`, or none if memory runs out.
@@ -466,185 +468,71 @@ pub unsafe extern "C" fn kobdzila_notice_close(held: *mut OpaqueNotice)
     stores::close_notice((held as *mut HeldNotice).read());
 }
 
-/// Writes a reader of the store at `held`, in what is published, to `out`, or none if memory runs out.
+/// Writes an entrance to the store at `held` to `out`, or none if memory runs out. Readers are made there while the
+/// store is in another call.
 #[unsafe(no_mangle)]
-pub unsafe extern "C" fn kobdzila_store_reader(held: *const OpaqueStore, out: *mut OpaqueReader)
+pub unsafe extern "C" fn kobdzila_store_entrance(held: *const OpaqueStore, out: *mut OpaqueEntrance)
     ghost g: { Lft × Share × AStore }
-    requires* { sem 𝓛 (reads_store g.0 g.1 held g.2) ∗ sem 𝓛 (room_at reader_row out) }
-    ensures* { sem 𝓛 (flft g.0 g.1) ∗ sem 𝓛 (reader_at out (IsReaderOf g.2)) }
+    requires* { sem 𝓛 (reads_store g.0 g.1 held g.2) ∗ sem 𝓛 (room_at entrance_row out) }
+    ensures* { sem 𝓛 (flft g.0 g.1) ∗ sem 𝓛 (entrance_at out (IsEntranceOf g.2)) }
 {
-    (out as *mut HeldReader).write(stores::reader(&*(held as *const HeldStore)));
+    (out as *mut HeldEntrance).write(stores::entrance(&*(held as *const HeldStore)));
+}
+
+/// Writes a reader of the store of the entrance at `held`, in the newest version, to `out`, or none if memory runs out.
+#[unsafe(no_mangle)]
+pub unsafe extern "C" fn kobdzila_entrance_reader(held: *const OpaqueEntrance, out: *mut OpaqueSet)
+    ghost g: { Lft × Share × AnEntrance }
+    requires* { sem 𝓛 (reads_entrance g.0 g.1 held g.2) ∗ sem 𝓛 (room_at set_row out) }
+    ensures* { sem 𝓛 (flft g.0 g.1) ∗ sem 𝓛 (set_at out (IsReaderFrom g.2)) }
+{
+    (out as *mut HeldSet).write(stores::reader_from(&*(held as *const HeldEntrance)));
+}
+
+/// Drops the entrance at `held`, and gives its memory back to C.
+#[unsafe(no_mangle)]
+pub unsafe extern "C" fn kobdzila_entrance_close(held: *mut OpaqueEntrance)
+    ghost value: { AnEntrance }
+    requires* { sem 𝓛 (holds_entrance held value) }
+    ensures* { sem 𝓛 (room_at entrance_row held) }
+{
+    stores::close_entrance((held as *mut HeldEntrance).read());
 }
 
 /// Whether an entry of the reader at `held` would find nothing new, as 1 or 0. It moves nothing, so it costs less than
 /// an entry.
 #[unsafe(no_mangle)]
-pub unsafe extern "C" fn kobdzila_reader_is_current(held: *const OpaqueReader) -> u32
-    ghost g: { Lft × Share × AReader }
-    requires* { sem 𝓛 (reads_reader g.0 g.1 held g.2) }
+pub unsafe extern "C" fn kobdzila_reader_is_current(held: *const OpaqueSet) -> u32
+    ghost g: { Lft × Share × ASet }
+    requires* { sem 𝓛 (reads_set g.0 g.1 held g.2) }
     ensures* { sem 𝓛 (flft g.0 g.1) ∗ ⌜ result ≤ 1 ⌝ }
 {
-    stores::is_current(&*(held as *const HeldReader))
+    stores::is_current(&*(held as *const HeldSet))
 }
 
 /// The reader at `held` enters the newest version of its store.
 #[unsafe(no_mangle)]
-pub unsafe extern "C" fn kobdzila_reader_enter(held: *mut OpaqueReader)
-    ghost value: { AReader }
-    requires* { sem 𝓛 (holds_reader held value) }
-    ensures* { sem 𝓛 (reader_at held (IsEntered value)) }
+pub unsafe extern "C" fn kobdzila_reader_enter(held: *mut OpaqueSet)
+    ghost value: { ASet }
+    requires* { sem 𝓛 (holds_set held value) }
+    ensures* { sem 𝓛 (set_at held (IsEntered value)) }
 {
-    (held as *mut HeldReader).write(stores::enter((held as *mut HeldReader).read()));
+    (held as *mut HeldSet).write(stores::enter((held as *mut HeldSet).read()));
 }
 
 /// The reader at `held` enters the newest version of its store, which isn't older than the notice at `notice`. Both
 /// must be of one store.
 #[unsafe(no_mangle)]
 pub unsafe extern "C" fn kobdzila_reader_enter_after(
-    held: *mut OpaqueReader,
+    held: *mut OpaqueSet,
     notice: *const OpaqueNotice,
 )
-    ghost g: { AReader × Lft × Share × ANotice }
-    requires* { (sem 𝓛 (holds_reader held g.0) ∗ sem 𝓛 (reads_notice g.1 g.2 notice g.3)) ∗ ⌜ AreOfOne g.0 g.3 ⌝ }
-    ensures* { sem 𝓛 (flft g.1 g.2) ∗ sem 𝓛 (reader_at held (IsEnteredAfter g.0 g.3)) }
+    ghost g: { ASet × Lft × Share × ANotice }
+    requires* { (sem 𝓛 (holds_set held g.0) ∗ sem 𝓛 (reads_notice g.1 g.2 notice g.3)) ∗ ⌜ AreOfOne g.0 g.3 ⌝ }
+    ensures* { sem 𝓛 (flft g.1 g.2) ∗ sem 𝓛 (set_at held (IsEnteredAfter g.0 g.3)) }
 {
-    (held as *mut HeldReader).write(stores::enter_after(
-        (held as *mut HeldReader).read(),
+    (held as *mut HeldSet).write(stores::enter_after(
+        (held as *mut HeldSet).read(),
         &*(notice as *const HeldNotice),
     ));
-}
-
-/// A number (`numbers`) of the reader at `held`: the `FAULT` of the last call, or the `VERSION` that it entered last,
-/// which is how many loads are published in it.
-#[unsafe(no_mangle)]
-pub unsafe extern "C" fn kobdzila_reader_number(held: *const OpaqueReader, which: u32) -> u64
-    ghost g: { Lft × Share × AReader }
-    requires* { sem 𝓛 (reads_reader g.0 g.1 held g.2) }
-    ensures* { sem 𝓛 (flft g.0 g.1) ∗ ⌜ result ≡ reader_number g.2 which ⌝ }
-{
-    stores::reader_number(&*(held as *const HeldReader), which)
-}
-
-/// Like `kobdzila_set_answer`, in the version that the reader at `held` entered last.
-#[unsafe(no_mangle)]
-pub unsafe extern "C" fn kobdzila_reader_answer(
-    held: *const OpaqueReader,
-    domain: &[u8],
-    languages: &[u8],
-    context: &[u8],
-    id: &[u8],
-    call: u32,
-    n: u64,
-    out: *mut &[u8],
-)
-    ghost g: { Lft × Share × AReader }
-    requires* { sem 𝓛 (reads_reader g.0 g.1 held g.2) ∗ sem 𝓛 (room_at (Text g.0) out) }
-    ensures* { sem 𝓛 (flft g.0 g.1) ∗ sem 𝓛 (reader_answered g.0 out g.2 domain.now languages.now
-        (question call context.now id.now n)) }
-{
-    *out = stores::reader_answer(
-        &*(held as *const HeldReader),
-        domain,
-        languages,
-        context,
-        id,
-        call,
-        n,
-    );
-}
-
-/// Like `kobdzila_set_languages`, in the version that the reader at `held` entered last. The places are good until it
-/// enters another one.
-#[unsafe(no_mangle)]
-pub unsafe extern "C" fn kobdzila_reader_languages(
-    held: *const OpaqueReader,
-    domain: &[u8],
-    languages: &[u8],
-    out: *mut Places,
-)
-    ghost g: { Lft × Share × AReader }
-    requires* { sem 𝓛 (reads_reader g.0 g.1 held g.2) ∗ sem 𝓛 (room_at places_row out) }
-    ensures* { sem 𝓛 (flft g.0 g.1) ∗ sem 𝓛 (places_at out (AreReaderPlaces g.2 domain.now languages.now)) }
-{
-    out.write(places::reader_places(&*(held as *const HeldReader), domain, languages));
-}
-
-/// Like `kobdzila_set_hint`, in the version that the reader at `held` entered last.
-#[unsafe(no_mangle)]
-pub unsafe extern "C" fn kobdzila_reader_hint(
-    held: *const OpaqueReader,
-    places: &[u32],
-    context: &[u8],
-    id: &[u8],
-    call: u32,
-) -> u64
-    ghost g: { Lft × Share × AReader }
-    requires* { sem 𝓛 (reads_reader g.0 g.1 held g.2) }
-    ensures* { sem 𝓛 (flft g.0 g.1) }
-{
-    places::reader_hint(&*(held as *const HeldReader), places, context, id, call)
-}
-
-/// Like `kobdzila_set_answer_at`, in the version that the reader at `held` entered last.
-#[unsafe(no_mangle)]
-pub unsafe extern "C" fn kobdzila_reader_answer_at(
-    held: *const OpaqueReader,
-    places: &[u32],
-    context: &[u8],
-    id: &[u8],
-    call: u32,
-    n: u64,
-    hint: u64,
-    out: *mut &[u8],
-)
-    ghost g: { Lft × Share × AReader }
-    requires* { sem 𝓛 (reads_reader g.0 g.1 held g.2) ∗ sem 𝓛 (room_at (Text g.0) out) }
-    ensures* { sem 𝓛 (flft g.0 g.1) ∗ sem 𝓛 (reader_answered_at g.0 out g.2 places.now
-        (question call context.now id.now n)) }
-{
-    *out = places::reader_answer_at(
-        &*(held as *const HeldReader),
-        places,
-        context,
-        id,
-        call,
-        n,
-        hint,
-    );
-}
-
-/// Like `kobdzila_set_with`, for the set of the version that the reader at `held` entered last. The set that is made is
-/// C's own.
-#[unsafe(no_mangle)]
-pub unsafe extern "C" fn kobdzila_reader_with(
-    alloc: Global,
-    held: *const OpaqueReader,
-    domain: &[u8],
-    locale: &[u8],
-    catalogue: *const Opaque,
-    out: *mut OpaqueSet,
-)
-    ghost g: { Lft × Share × AReader × Lft × Share × Held }
-    requires* { (sem 𝓛 (reads_reader g.0 g.1 held g.2) ∗ sem 𝓛 (reads g.3 g.4 catalogue g.5))
-        ∗ sem 𝓛 (room_at set_row out) }
-    ensures* { (sem 𝓛 (flft g.0 g.1) ∗ sem 𝓛 (flft g.3 g.4))
-        ∗ sem 𝓛 (made_at out (IsReaderWith g.2 domain.now locale.now g.5)) }
-{
-    (out as *mut MadeSet).write(stores::reader_with(
-        alloc,
-        &*(held as *const HeldReader),
-        domain,
-        locale,
-        &*(catalogue as *const Opened),
-    ));
-}
-
-/// Drops the reader at `held`, and gives its memory back to C.
-#[unsafe(no_mangle)]
-pub unsafe extern "C" fn kobdzila_reader_close(held: *mut OpaqueReader)
-    ghost value: { AReader }
-    requires* { sem 𝓛 (holds_reader held value) }
-    ensures* { sem 𝓛 (room_at reader_row held) }
-{
-    stores::close_reader((held as *mut HeldReader).read());
 }

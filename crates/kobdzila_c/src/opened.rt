@@ -1,18 +1,16 @@
 //! Catalogues as C holds them: the outcome of opening bytes.
-ghost use Rattle.std.specs.Prelude.{◌≡◌, IfOk};
+ghost use Rattle.std.specs.Prelude.{◌≡◌, ◌⊎◌, IfOk, IfErr, nat_lt};
 ghost use Rattle.std.specs.Arc.{arc_value};
-ghost use Rattle.mo_file.specs.MoReading.{rank};
-ghost use Rattle.kobdzila_c.specs.Opening.{IsOpenedMo, IsOpenedPo, IsOpenedMap, IsRefused, options_of, po_number};
+ghost use Rattle.catalogue.specs.Meaning.{Means, Refuses};
+ghost use Rattle.po_checks.specs.Refusal.{out_of_memory};
+ghost use Rattle.kobdzila_c.specs.Opening.{IsOpenedMo, IsOpenedPo, IsOpenedMap, IsRefused, fault_number, no_stats};
+ghost use Rattle.kobdzila_c.specs.Opening.{MeansText, RefusesText, line_of, options_of, text_fault_number};
 
-use crate::numbers::{
-    MEMORY, MO_BAD_TEXT, MO_BOUNDS, MO_CHARSET, MO_FORMS, MO_MAGIC, MO_NO_NUL, MO_ORDER,
-    MO_REVISION, MO_SHORT, MO_SWOLLEN, MO_TOO_LARGE, NO_FAULT, PO_BAD_ESCAPE, PO_BAD_INDEX,
-    PO_BAD_ORDER, PO_BAD_RULE, PO_BAD_TEXT, PO_BAD_WORD, PO_CHARSET, PO_DUPLICATE, PO_FORM_COUNT,
-    PO_FORMAT_MISMATCH, PO_NEWLINE_MISMATCH, PO_NO_RULE, PO_NOT_UTF8, PO_OPEN_STRING,
-    PO_PLURAL_RANGE, PO_SYSTEM_DEPENDENT, PO_TOO_LARGE,
-};
-use catalogue::{Catalogue, LoadFault, LoadKind, Options, compile};
-use mo_file::{MoFault, read_mo};
+use crate::numbers::{MEMORY, NO_CHARACTER, NO_FAULT, PO_FAULTS, PO_MEMORY};
+use any_charset::{TextFault, compile_recoded, is_for_charset};
+use catalogue::{Catalogue, Compiled, LoadFault, LoadKind, Options, Stats, compile_owned};
+use live_loads::{mo_number, po_number};
+use mo_file::read_mo;
 use std::alloc::{AllocError, Global};
 use std::sync::Arc;
 
@@ -24,51 +22,24 @@ pub struct Opened {
     pub fault: u32,
     /// The fault's line in a PO text; 0 if it has none.
     pub line: u32,
+    /// The counts of the PO text's entries; all 0 for an MO file, and if there is no catalogue.
+    pub stats: Stats,
 }
 
-/// The number in `kobdzila.h` of a fault of an MO file.
-fn mo_number(fault: MoFault) -> u32
-    ensures { result ≡ rank fault }
-{
-    match fault {
-        MoFault::TooLarge => MO_TOO_LARGE,
-        MoFault::Short => MO_SHORT,
-        MoFault::Magic => MO_MAGIC,
-        MoFault::Revision => MO_REVISION,
-        MoFault::Bounds => MO_BOUNDS,
-        MoFault::NoNul => MO_NO_NUL,
-        MoFault::BadText => MO_BAD_TEXT,
-        MoFault::Forms => MO_FORMS,
-        MoFault::Order => MO_ORDER,
-        MoFault::Charset => MO_CHARSET,
-        MoFault::Swollen => MO_SWOLLEN,
-        MoFault::Memory => MEMORY,
-    }
-}
+/// The counts of what isn't a PO text.
+const NO_STATS: Stats = Stats {
+    translated: 0,
+    fuzzy: 0,
+    untranslated: 0,
+};
 
 /// The number in `kobdzila.h` of a fault of a PO text.
-fn po_number(kind: LoadKind) -> u32
-    ensures { result ≡ po_number kind }
+fn fault_number(kind: LoadKind) -> u32
+    ensures { result ≡ fault_number kind }
 {
-    match kind {
-        LoadKind::TooLarge => PO_TOO_LARGE,
-        LoadKind::NotUtf8 => PO_NOT_UTF8,
-        LoadKind::BadEscape => PO_BAD_ESCAPE,
-        LoadKind::OpenString => PO_OPEN_STRING,
-        LoadKind::BadWord => PO_BAD_WORD,
-        LoadKind::BadText => PO_BAD_TEXT,
-        LoadKind::BadOrder => PO_BAD_ORDER,
-        LoadKind::BadIndex => PO_BAD_INDEX,
-        LoadKind::Duplicate => PO_DUPLICATE,
-        LoadKind::Charset => PO_CHARSET,
-        LoadKind::SystemDependent => PO_SYSTEM_DEPENDENT,
-        LoadKind::NoRule => PO_NO_RULE,
-        LoadKind::BadRule => PO_BAD_RULE,
-        LoadKind::FormCount => PO_FORM_COUNT,
-        LoadKind::PluralRange(_) => PO_PLURAL_RANGE,
-        LoadKind::FormatMismatch => PO_FORMAT_MISMATCH,
-        LoadKind::NewlineMismatch => PO_NEWLINE_MISMATCH,
-        LoadKind::Memory => MEMORY,
+    match po_number(kind) {
+        PO_MEMORY => MEMORY,
+        number => PO_FAULTS + number,
     }
 }
 
@@ -80,6 +51,7 @@ fn refused(fault: u32, line: u32) -> Opened
         catalogue: None,
         fault,
         line,
+        stats: NO_STATS,
     }
 }
 
@@ -92,14 +64,15 @@ fn shared(alloc: Global, mut catalogue: Catalogue) -> Result<Arc<Catalogue>, All
 }
 
 /// A catalogue as C holds it, or out of memory.
-fn kept(alloc: Global, catalogue: Catalogue) -> Opened
-    ensures { IsOpenedMap catalogue result }
+fn kept(alloc: Global, catalogue: Catalogue, stats: Stats) -> Opened
+    ensures { IsOpenedMap catalogue stats result }
 {
     match shared(alloc, catalogue) {
         Ok(catalogue) => Opened {
             catalogue: Some(catalogue),
             fault: NO_FAULT,
             line: 0,
+            stats,
         },
         Err(_) => refused(MEMORY, 0),
     }
@@ -110,22 +83,74 @@ pub(crate) fn open_mo(alloc: Global, bytes: &[u8]) -> Opened
     ensures { IsOpenedMo bytes.now result }
 {
     match read_mo(alloc, bytes) {
-        Ok(catalogue) => kept(alloc, catalogue),
+        Ok(catalogue) => kept(alloc, catalogue, NO_STATS),
         Err(fault) => refused(mo_number(fault), 0),
     }
 }
 
+/// Copies bytes that C lent.
+fn copied(alloc: Global, bytes: &[u8]) -> Result<Vec<u8>, AllocError>
+    ensures { IfOk result (λ copy. copy.items ≡ bytes.now) }
+{
+    let mut copy = Vec::with_capacity(alloc, bytes.len())?;
+    copy.extend_from_slice(bytes)?;
+    Ok(copy)
+}
+
+/// Compiles a copy of a PO text, which C's threads can't write to meanwhile. The MO file is written over the copy.
+fn compile_copy(alloc: Global, bytes: &[u8], options: Options) -> Result<Compiled, LoadFault>
+    ensures ok { IfOk result (Means bytes.now options) }
+    ensures err { IfErr result (λ fault. (fault ≡ out_of_memory) ⊎ Refuses bytes.now options fault.kind fault.line) }
+{
+    compile_owned(alloc, copied(alloc, bytes)?, options)
+}
+
+/// Compiles a PO text in any charset, or if `is_strict` in UTF-8 alone.
+fn compile_text(
+    alloc: Global,
+    bytes: &[u8],
+    options: Options,
+    is_strict: bool,
+) -> Result<Compiled, TextFault>
+    ensures ok { IfOk result (MeansText bytes.now options is_strict) }
+    ensures err { IfErr result (RefusesText bytes.now options is_strict) }
+{
+    match compile_copy(alloc, bytes, options) {
+        Ok(compiled) => Ok(compiled),
+        Err(fault) if !is_strict && is_for_charset(fault.kind) => compile_recoded(
+            alloc, bytes, options, fault,
+        ),
+        Err(fault) => Err(TextFault::Load(fault)),
+    }
+}
+
+/// No catalogue, for the fault of a PO text.
+fn refused_text(fault: TextFault) -> Opened
+    ensures { IsRefused result (text_fault_number fault) (line_of fault) }
+{
+    match fault {
+        TextFault::Load(LoadFault { kind, line }) => refused(fault_number(kind), line),
+        TextFault::NoCharacter(line) => refused(NO_CHARACTER, line),
+    }
+}
+
 /// The catalogue of a PO text, or the first reason why it is refused. An option is on if its number isn't 0.
-pub(crate) fn open_po(alloc: Global, bytes: &[u8], checked: u32, use_fuzzy: u32) -> Opened
-    ensures { IsOpenedPo bytes.now (options_of checked use_fuzzy) result }
+pub(crate) fn open_po(
+    alloc: Global,
+    bytes: &[u8],
+    checked: u32,
+    use_fuzzy: u32,
+    strict: u32,
+) -> Opened
+    ensures { IsOpenedPo bytes.now (options_of checked use_fuzzy) (nat_lt 0 strict) result }
 {
     let options = Options {
         checked: checked > 0,
         use_fuzzy: use_fuzzy > 0,
     };
-    match compile(alloc, bytes, options) {
-        Ok(compiled) => kept(alloc, compiled.catalogue),
-        Err(LoadFault { kind, line }) => refused(po_number(kind), line),
+    match compile_text(alloc, bytes, options, strict > 0) {
+        Ok(compiled) => kept(alloc, compiled.catalogue, compiled.stats),
+        Err(fault) => refused_text(fault),
     }
 }
 

@@ -1,11 +1,9 @@
 //! Lists of languages that C looks at once, and look-ups at the places that they name.
 ghost use Rattle.kobdzila_c.specs.Answering.{question};
-ghost use Rattle.kobdzila_c.specs.NamedPlaces.{AreNamed, AreReaderPlaces, AreSetPlaces, IsAnswerAt, IsReaderAnswerAt};
-ghost use Rattle.kobdzila_c.specs.NamedPlaces.{IsSetAnswerAt};
+ghost use Rattle.kobdzila_c.specs.NamedPlaces.{AreNamed, AreSetPlaces, IsAnswerAt, IsSetAnswerAt};
 
 use crate::answers::{context_in, number_in};
-use crate::sets::MadeSet;
-use crate::stores::HeldReader;
+use crate::sets::{HeldSet, set_of};
 use catalogue::NO_HINT;
 use live_set::{CatalogueSet, Places};
 use std::str::from_utf8;
@@ -21,49 +19,25 @@ fn places_in(set: &CatalogueSet, domain: &[u8], languages: &[u8]) -> Places
 }
 
 /// Like `places_in`, for a set that C holds.
-pub(crate) fn set_places(made: &MadeSet, domain: &[u8], languages: &[u8]) -> Places
-    ensures { AreSetPlaces made.now domain.now languages.now result }
+pub(crate) fn set_places(held: &HeldSet, domain: &[u8], languages: &[u8]) -> Places
+    ensures { AreSetPlaces held.now domain.now languages.now result }
 {
-    places_in(&made.set, domain, languages)
-}
-
-/// Like `places_in`, in a reader's version.
-pub(crate) fn reader_places(held: &HeldReader, domain: &[u8], languages: &[u8]) -> Places
-    ensures { AreReaderPlaces held.now domain.now languages.now result }
-{
-    match &held.reader {
-        Some(reader) => places_in(reader.set(), domain, languages),
+    match set_of(held) {
+        Some(set) => places_in(set, domain, languages),
         None => Places::new(),
     }
 }
 
-/// Returns a hint for `answer_at`: where the index of the catalogue at the first place should have the entry.
-#[inline(always)]
-fn hint_in(set: &CatalogueSet, places: &[u32], context: &[u8], id: &[u8], call: u32) -> u64 {
-    set.hint_at(places, context_in(call, context), id)
-}
-
-/// Like `hint_in`, for a set that C holds.
+/// Returns a hint for `set_answer_at`: where the index of the catalogue at the first place should have the entry.
 pub(crate) fn set_hint(
-    made: &MadeSet,
+    held: &HeldSet,
     places: &[u32],
     context: &[u8],
     id: &[u8],
     call: u32,
 ) -> u64 {
-    hint_in(&made.set, places, context, id, call)
-}
-
-/// Like `hint_in`, in a reader's version.
-pub(crate) fn reader_hint(
-    held: &HeldReader,
-    places: &[u32],
-    context: &[u8],
-    id: &[u8],
-    call: u32,
-) -> u64 {
-    match &held.reader {
-        Some(reader) => hint_in(reader.set(), places, context, id, call),
+    match set_of(held) {
+        Some(set) => set.hint_at(places, context_in(call, context), id),
         None => NO_HINT,
     }
 }
@@ -97,7 +71,7 @@ fn answer_at<'k>(
 
 /// Like `answer_at`, for a set that C holds.
 pub(crate) fn set_answer_at<'k>(
-    made: &'k MadeSet,
+    held: &'k HeldSet,
     places: &[u32],
     context: &[u8],
     id: &[u8],
@@ -105,25 +79,10 @@ pub(crate) fn set_answer_at<'k>(
     n: u64,
     hint: u64,
 ) -> &'k [u8]
-    ensures { IsSetAnswerAt made.now places.now (question call context.now id.now n) result.now }
+    ensures { IsSetAnswerAt held.now places.now (question call context.now id.now n) result.now }
 {
-    answer_at(&made.set, places, context, id, call, n, hint)
-}
-
-/// Like `answer_at`, in a reader's version.
-pub(crate) fn reader_answer_at<'k>(
-    held: &'k HeldReader,
-    places: &[u32],
-    context: &[u8],
-    id: &[u8],
-    call: u32,
-    n: u64,
-    hint: u64,
-) -> &'k [u8]
-    ensures { IsReaderAnswerAt held.now places.now (question call context.now id.now n) result.now }
-{
-    match &held.reader {
-        Some(reader) => answer_at(reader.set(), places, context, id, call, n, hint),
+    match set_of(held) {
+        Some(set) => answer_at(set, places, context, id, call, n, hint),
         None => &[],
     }
 }

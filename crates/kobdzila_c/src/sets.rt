@@ -1,27 +1,52 @@
-//! Sets of catalogues as C holds them. A set never changes: adding a catalogue makes a new set.
-ghost use Rattle.std.specs.Prelude.{◌≡◌, ◌↔◌, IfOk, IsTrue};
+//! Sets of catalogues as C holds them. A set never changes: adding a catalogue makes a new set. A reader of a live
+//! store is the set of the version that it entered last.
+ghost use Rattle.std.specs.Prelude.{◌≡◌, ◌↔◌, IfOk, IsTrue, option_map};
 ghost use Rattle.std.specs.Arc.{arc_value};
 ghost use Rattle.live_set.specs.Names.{IsName};
-ghost use Rattle.live_set.specs.Sets.{no_loads, HasAbsorbed};
+ghost use Rattle.live_set.specs.Sets.{HasAbsorbed, no_loads};
 ghost use Rattle.kobdzila_c.specs.Answering.{question};
 ghost use Rattle.kobdzila_c.specs.Making.{AreNames, IsAnswerIn, IsEmpty, IsMade, IsWith, IsWithSet, IsWithout, load_of};
-ghost use Rattle.kobdzila_c.specs.Making.{IsSetAnswer, name_number, set_number};
+ghost use Rattle.kobdzila_c.specs.Making.{IsSetAnswer, name_number, set_in, set_number, version_in};
 
 use crate::Opened;
 use crate::answers::{context_in, number_in};
 use crate::numbers::{BAD_NAME, FAULT, MEMORY, NO_FAULT, VERSION};
 use catalogue::Catalogue;
 use live_set::{CatalogueSet, Load, Name, NameFault, is_name};
+use snapshot_store::Reader;
 use std::alloc::Global;
 use std::str::from_utf8;
 use std::sync::Arc;
 
-/// The set that was made, or an empty one and why there is none.
+/// Where a set comes from.
 #[derive(Drop)]
-pub struct MadeSet {
-    pub set: CatalogueSet,
-    /// The number of the fault (`numbers`); `NO_FAULT` if there is a set.
+pub enum Origin {
+    /// C made it.
+    Made(CatalogueSet),
+    /// It is that of the version that this reader entered last.
+    Lent(Reader),
+    /// There is none.
+    Refused,
+}
+
+/// A set, or a reader that lends one, or why there is none.
+#[derive(Drop)]
+pub struct HeldSet {
+    pub origin: Origin,
+    /// The number of why there is no set, or of why the reader's last call failed (`numbers`); otherwise `NO_FAULT`.
     pub fault: u32,
+}
+
+/// The set, unless it was refused.
+#[inline(always)]
+pub(crate) fn set_of(held: &HeldSet) -> Option<&CatalogueSet>
+    ensures { option_map (λ set. set.now) result ≡ set_in held.now.origin }
+{
+    match &held.origin {
+        Origin::Made(set) => Some(set),
+        Origin::Lent(reader) => Some(reader.set()),
+        Origin::Refused => None,
+    }
 }
 
 /// The number in `kobdzila.h` of what is wrong with a name.
@@ -35,20 +60,30 @@ fn name_number(fault: NameFault) -> u32
 }
 
 /// No set, for this reason.
-pub(crate) fn without(alloc: Global, fault: u32) -> MadeSet
+pub(crate) fn without(fault: u32) -> HeldSet
     ensures { IsWithout fault result }
 {
-    MadeSet {
-        set: CatalogueSet::new(alloc),
+    HeldSet {
+        origin: Origin::Refused,
         fault,
     }
 }
 
+/// A set that C made.
+fn made(set: CatalogueSet) -> HeldSet
+    ensures { IsMade (λ value. value ≡ set) result }
+{
+    HeldSet {
+        origin: Origin::Made(set),
+        fault: NO_FAULT,
+    }
+}
+
 /// The set of no catalogues.
-pub(crate) fn new_set(alloc: Global) -> MadeSet
+pub(crate) fn new_set(alloc: Global) -> HeldSet
     ensures { IsEmpty result }
 {
-    without(alloc, NO_FAULT)
+    made(CatalogueSet::new(alloc))
 }
 
 /// Whether these bytes are a name.
@@ -112,62 +147,77 @@ fn more(
 
 /// The set with one more catalogue, which replaces the one for its text domain and locale. Memory is taken only if the
 /// catalogue was opened and both are names.
-pub(crate) fn with_one_in(
+fn with_one_in(
     alloc: Global,
     set: &CatalogueSet,
     domain: &[u8],
     locale: &[u8],
     opened: &Opened,
-) -> MadeSet
+) -> HeldSet
     ensures { IsWithSet set.now domain.now locale.now opened.now result }
 {
     let Some(catalogue) = &opened.catalogue else {
-        return without(alloc, opened.fault);
+        return without(opened.fault);
     };
     if !are_names(domain, locale) {
-        return without(alloc, name_number(NameFault::BadName));
+        return without(name_number(NameFault::BadName));
     }
     match more(alloc, set, domain, locale, catalogue) {
-        Ok(set) => MadeSet {
-            set,
+        Ok(set) => HeldSet {
+            origin: Origin::Made(set),
             fault: NO_FAULT,
         },
-        Err(_) => without(alloc, name_number(NameFault::Memory)),
+        Err(_) => without(name_number(NameFault::Memory)),
     }
 }
 
 /// Like `with_one_in`, for a set that C holds.
 pub(crate) fn with_one(
     alloc: Global,
-    made: &MadeSet,
+    held: &HeldSet,
     domain: &[u8],
     locale: &[u8],
     opened: &Opened,
-) -> MadeSet
-    ensures { IsWith made.now domain.now locale.now opened.now result }
+) -> HeldSet
+    ensures { IsWith held.now domain.now locale.now opened.now result }
 {
-    with_one_in(alloc, &made.set, domain, locale, opened)
+    match set_of(held) {
+        Some(set) => with_one_in(alloc, set, domain, locale, opened),
+        None => without(held.fault),
+    }
 }
 
-/// Drops a set.
-pub(crate) fn close_set(made: MadeSet) {
-    drop(made);
+/// Drops a set or a reader.
+pub(crate) fn close_set(held: HeldSet) {
+    drop(held);
 }
 
-/// A number of a set: its `FAULT`, or its `VERSION`, how many catalogues were added to it, replaced ones included.
-pub(crate) fn set_number(made: &MadeSet, which: u32) -> u64
-    ensures { result ≡ set_number made.now which }
+/// How many catalogues were added to the set, replaced ones included: in a reader's version, how many loads are
+/// published.
+fn version(held: &HeldSet) -> u64
+    ensures { result ≡ version_in held.now.origin }
+{
+    match &held.origin {
+        Origin::Made(set) => set.version(),
+        Origin::Lent(reader) => reader.version(),
+        Origin::Refused => 0,
+    }
+}
+
+/// A number of a set or a reader: its `FAULT`, or its `VERSION`.
+pub(crate) fn set_number(held: &HeldSet, which: u32) -> u64
+    ensures { result ≡ set_number held.now which }
 {
     match which {
-        FAULT => u64::from(made.fault),
-        VERSION => made.set.version(),
+        FAULT => u64::from(held.fault),
+        VERSION => version(held),
         _ => 0,
     }
 }
 
 /// The string that answers a question to a set, with its terminating NUL, or no bytes if there is none.
 #[inline(always)]
-pub(crate) fn answer_in<'k>(
+fn answer_in<'k>(
     set: &'k CatalogueSet,
     domain: &[u8],
     languages: &[u8],
@@ -190,8 +240,9 @@ pub(crate) fn answer_in<'k>(
 }
 
 /// Like `answer_in`, for a set that C holds.
+#[tactic(auto, using(crate::proofs::Reading::answered_from))]
 pub(crate) fn set_answer<'k>(
-    made: &'k MadeSet,
+    held: &'k HeldSet,
     domain: &[u8],
     languages: &[u8],
     context: &[u8],
@@ -199,7 +250,10 @@ pub(crate) fn set_answer<'k>(
     call: u32,
     n: u64,
 ) -> &'k [u8]
-    ensures { IsSetAnswer made.now domain.now languages.now (question call context.now id.now n) result.now }
+    ensures { IsSetAnswer held.now domain.now languages.now (question call context.now id.now n) result.now }
 {
-    answer_in(&made.set, domain, languages, context, id, call, n)
+    match set_of(held) {
+        Some(set) => answer_in(set, domain, languages, context, id, call, n),
+        None => &[],
+    }
 }

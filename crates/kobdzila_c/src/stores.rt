@@ -1,24 +1,23 @@
-//! Live stores, readers and notices as C holds them.
+//! Live stores, readers and notices as C holds them. A reader is a set (`sets`), that of its version.
 ghost use Rattle.std.specs.Prelude.{◌≡◌, ◌≤◌, Some, None, IfErr, OnErr, OnOk};
 ghost use Rattle.std.specs.Arc.{arc_value};
-ghost use Rattle.live_versions.specs.Store.{AddsLoad};
+ghost use Rattle.live_loads.specs.Store.{AddsLoad};
 ghost use Rattle.snapshot_store.specs.Holding.{IsRefusedShared};
-ghost use Rattle.kobdzila_c.specs.Answering.{question};
-ghost use Rattle.kobdzila_c.specs.Making.{IsWithSet, IsWithout};
 ghost use Rattle.kobdzila_c.specs.Numbers.{memory_fault, no_fault};
 ghost use Rattle.kobdzila_c.specs.Storing.{AreOfOne, IsAfter, IsEntered, IsEnteredAfter, IsLater, IsLoadIn, IsLoaded};
-ghost use Rattle.kobdzila_c.specs.Storing.{IsNewStore, IsNoticeOf, IsPublished, IsPublishedIn, IsReaderAnswer};
-ghost use Rattle.kobdzila_c.specs.Storing.{IsReaderOf, IsReaderWith, IsStoreNumber, load_number, reader_number};
+ghost use Rattle.kobdzila_c.specs.Storing.{IsEntranceOf, IsNewStore, IsNoticeOf, IsPublished, IsPublishedIn};
+ghost use Rattle.kobdzila_c.specs.Storing.{IsReaderFrom, IsStoreNumber, load_number, publish_number};
 ghost use Rattle.kobdzila_c.specs.Storing.{store_pending, store_version};
+ghost use Rattle.kobdzila_c.specs.declared.sets.Origin.TheVariants.{Lent};
 
 use crate::Opened;
 use crate::numbers::{
     BAD_NAME, BUSY, FAULT, MEMORY, NO_FAULT, PENDING, RETAINED, VERSION, VERSIONS_SPENT,
 };
-use crate::sets::{MadeSet, answer_in, with_one_in, without};
+use crate::sets::{HeldSet, Origin, without};
 use catalogue::Catalogue;
-use live_versions::StoreFault;
-use snapshot_store::{Notice, PublishFault, Publisher, Reader, open_store};
+use live_loads::StoreFault;
+use snapshot_store::{Entrance, Notice, PublishFault, Publisher, Reader, open_store};
 use std::alloc::Global;
 use std::str::from_utf8;
 use std::sync::Arc;
@@ -31,18 +30,16 @@ pub struct HeldStore {
     pub fault: u32,
 }
 
-/// A reader, or none if it couldn't be made.
-#[derive(Drop)]
-pub struct HeldReader {
-    pub reader: Option<Reader>,
-    /// The number of why the last call failed (`numbers`); `NO_FAULT` if it didn't.
-    pub fault: u32,
-}
-
 /// A notice, or none if its store wasn't opened.
 #[derive(Drop)]
 pub struct HeldNotice {
     pub notice: Option<Notice>,
+}
+
+/// An entrance to a store, or none if it couldn't be made.
+#[derive(Drop)]
+pub struct HeldEntrance {
+    pub entrance: Option<Entrance>,
 }
 
 fn store_of(publisher: Publisher, fault: u32) -> HeldStore
@@ -63,21 +60,12 @@ fn no_store() -> HeldStore
     }
 }
 
-fn reader_of(reader: Reader, fault: u32) -> HeldReader
-    ensures { (result.reader ≡ Some reader) × (result.fault ≡ fault) }
+fn reader_of(reader: Reader, fault: u32) -> HeldSet
+    ensures { (result.origin ≡ Lent reader) × (result.fault ≡ fault) }
 {
-    HeldReader {
-        reader: Some(reader),
+    HeldSet {
+        origin: Origin::Lent(reader),
         fault,
-    }
-}
-
-fn no_reader() -> HeldReader
-    ensures { (result.reader ≡ None) × (result.fault ≡ memory_fault) }
-{
-    HeldReader {
-        reader: None,
-        fault: MEMORY,
     }
 }
 
@@ -162,14 +150,23 @@ pub(crate) fn load(
     }
 }
 
+/// The number of why nothing is published.
+fn publish_number(fault: PublishFault) -> u32
+    ensures { result ≡ publish_number fault }
+{
+    match fault {
+        PublishFault::Memory => MEMORY,
+        PublishFault::Busy => BUSY,
+        PublishFault::Spent => VERSIONS_SPENT,
+    }
+}
+
 fn published(alloc: Global, mut publisher: Publisher) -> HeldStore
     ensures { IsPublishedIn publisher result }
 {
     let fault = match publisher.publish(alloc) {
         Ok(_) => NO_FAULT,
-        Err(PublishFault::Memory) => MEMORY,
-        Err(PublishFault::Busy) => BUSY,
-        Err(PublishFault::Spent) => VERSIONS_SPENT,
+        Err(fault) => publish_number(fault),
     };
     store_of(publisher, fault)
 }
@@ -248,31 +245,48 @@ pub(crate) fn close_notice(notice: HeldNotice) {
     drop(notice);
 }
 
-/// A reader of a store, in what is published.
-pub(crate) fn reader(store: &HeldStore) -> HeldReader
-    ensures { IsReaderOf store.now result }
+/// An entrance to a store.
+pub(crate) fn entrance(store: &HeldStore) -> HeldEntrance
+    ensures { IsEntranceOf store.now result }
 {
-    let reader = match &store.publisher {
-        Some(publisher) => publisher.reader().ok(),
+    HeldEntrance {
+        entrance: match &store.publisher {
+            Some(publisher) => publisher.entrance().ok(),
+            None => None,
+        },
+    }
+}
+
+/// A reader of an entrance's store, in the newest version.
+pub(crate) fn reader_from(entrance: &HeldEntrance) -> HeldSet
+    ensures { IsReaderFrom entrance.now result }
+{
+    let reader = match &entrance.entrance {
+        Some(entrance) => entrance.reader().ok(),
         None => None,
     };
     match reader {
         Some(reader) => reader_of(reader, NO_FAULT),
-        None => no_reader(),
+        None => without(MEMORY),
     }
+}
+
+/// Drops an entrance.
+pub(crate) fn close_entrance(entrance: HeldEntrance) {
+    drop(entrance);
 }
 
 /// Whether an entry of the reader would find nothing new, as 1 or 0.
-pub(crate) fn is_current(held: &HeldReader) -> u32
+pub(crate) fn is_current(held: &HeldSet) -> u32
     ensures { result ≤ 1 }
 {
-    match &held.reader {
-        Some(reader) => u32::from(reader.is_current()),
-        None => 0,
+    match &held.origin {
+        Origin::Lent(reader) => u32::from(reader.is_current()),
+        _ => 0,
     }
 }
 
-fn entered(mut reader: Reader) -> HeldReader
+fn entered(mut reader: Reader) -> HeldSet
     ensures later { IsLater reader result }
     ensures fault { result.fault ≡ no_fault }
 {
@@ -281,94 +295,41 @@ fn entered(mut reader: Reader) -> HeldReader
 }
 
 /// Enters the newest version.
-pub(crate) fn enter(held: HeldReader) -> HeldReader
+pub(crate) fn enter(held: HeldSet) -> HeldSet
     ensures { IsEntered held result }
 {
-    match held.reader {
-        Some(reader) => entered(reader),
-        None => no_reader(),
+    let HeldSet { origin, fault } = held;
+    match origin {
+        Origin::Lent(reader) => entered(reader),
+        origin => HeldSet { origin, fault },
     }
 }
 
-fn entered_after(mut reader: Reader, notice: &Notice) -> HeldReader
+fn entered_after(mut reader: Reader, notice: &Notice) -> HeldSet
     requires { notice.now.book ≡ reader.book }
     ensures later { IsLater reader result }
-    ensures after { IsAfter notice.now result }
+    ensures after { IsAfter reader notice.now result }
 {
-    let fault = if reader.enter_after(notice) {
-        NO_FAULT
+    if reader.enter_after(notice) {
+        reader_of(reader, NO_FAULT)
     } else {
-        BUSY
-    };
-    reader_of(reader, fault)
+        reader_of(reader, BUSY)
+    }
 }
 
 /// Enters the newest version, which isn't older than the notice.
-pub(crate) fn enter_after(held: HeldReader, notice: &HeldNotice) -> HeldReader
+pub(crate) fn enter_after(held: HeldSet, notice: &HeldNotice) -> HeldSet
     requires { AreOfOne held notice.now }
     ensures { IsEnteredAfter held notice.now result }
 {
-    match held.reader {
-        Some(reader) => match &notice.notice {
+    let HeldSet { origin, fault } = held;
+    match origin {
+        Origin::Lent(reader) => match &notice.notice {
             Some(notice) => entered_after(reader, notice),
             None => entered(reader),
         },
-        None => no_reader(),
+        origin => HeldSet { origin, fault },
     }
-}
-
-/// A number of a reader: the `FAULT` of the last call, or its `VERSION`, which is how many loads are published in it.
-pub(crate) fn reader_number(held: &HeldReader, which: u32) -> u64
-    ensures { result ≡ reader_number held.now which }
-{
-    match which {
-        FAULT => u64::from(held.fault),
-        VERSION => match &held.reader {
-            Some(reader) => reader.version(),
-            None => 0,
-        },
-        _ => 0,
-    }
-}
-
-/// The string that answers a question in a reader's version, with its terminating NUL, or no bytes if there is none.
-#[tactic(auto, using(crate::proofs::Reading::answered_over))]
-pub(crate) fn reader_answer<'k>(
-    held: &'k HeldReader,
-    domain: &[u8],
-    languages: &[u8],
-    context: &[u8],
-    id: &[u8],
-    call: u32,
-    n: u64,
-) -> &'k [u8]
-    ensures { IsReaderAnswer held.now domain.now languages.now (question call context.now id.now n) result.now }
-{
-    match &held.reader {
-        Some(reader) => answer_in(reader.set(), domain, languages, context, id, call, n),
-        None => &[],
-    }
-}
-
-/// A set of C's own: that of a reader's version with one more catalogue.
-pub(crate) fn reader_with(
-    alloc: Global,
-    held: &HeldReader,
-    domain: &[u8],
-    locale: &[u8],
-    opened: &Opened,
-) -> MadeSet
-    ensures { IsReaderWith held.now domain.now locale.now opened.now result }
-{
-    match &held.reader {
-        Some(reader) => with_one_in(alloc, reader.set(), domain, locale, opened),
-        None => without(alloc, MEMORY),
-    }
-}
-
-/// Drops a reader.
-pub(crate) fn close_reader(held: HeldReader) {
-    drop(held);
 }
 
 /// A value that may go to another thread.
@@ -377,10 +338,18 @@ fn may_go<T: Send>(_: &T) {}
 /// A value that threads may share.
 fn may_be_shared<T: Sync>(_: &T) {}
 
-/// That stores, readers and notices may go to other threads, and that threads may share a notice. It does nothing.
-pub(crate) fn all_may_go(store: &HeldStore, reader: &HeldReader, notice: &HeldNotice) {
+/// That all of these may go to other threads, and that threads may share each but a store. It does nothing.
+pub(crate) fn all_may_go(
+    store: &HeldStore,
+    set: &HeldSet,
+    notice: &HeldNotice,
+    entrance: &HeldEntrance,
+) {
     may_go(store);
-    may_go(reader);
+    may_go(set);
     may_go(notice);
+    may_go(entrance);
+    may_be_shared(set);
     may_be_shared(notice);
+    may_be_shared(entrance);
 }

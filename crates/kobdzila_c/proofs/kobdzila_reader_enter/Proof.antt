@@ -27,11 +27,11 @@ use denote.Triple.Spec.{triple_of}
 use denote.Triple.Table.{framed}
 use denote.Triple.Walked.{Stays, walk_of, stay_dropped, Goes-dropped, ends_at}
 use Rattle.std.proofs.raw_atomic.Walks.{proved}
-use Rattle.kobdzila_c.specs.declared.stores.HeldReader.{HeldReader}
-use Rattle.kobdzila_c.specs.contracts.stores.HeldReader.{the_row as R}
-use Rattle.kobdzila_c.proofs.stores.HeldReader.TheLaws.{the_row_laws}
+use Rattle.kobdzila_c.specs.declared.sets.HeldSet.{HeldSet}
+use Rattle.kobdzila_c.specs.contracts.sets.HeldSet.{the_row as R}
+use Rattle.kobdzila_c.proofs.sets.HeldSet.TheLaws.{the_row_laws}
 use Rattle.kobdzila_c.specs.Storing.{IsEntered}
-use Rattle.kobdzila_c.specs.Shared.{holds_reader}
+use Rattle.kobdzila_c.specs.Shared.{holds_set}
 use Rattle.kobdzila_c.specs.contracts.kobdzila_reader_enter as f
 use Rattle.kobdzila_c.proofs.kobdzila_reader_enter.Statement.{statement}
 use Rattle.kobdzila_c.proofs.kobdzila_reader_enter.Code as code
@@ -48,8 +48,8 @@ kobdzila_reader_enter_spec 𝓤 𝓛 𝓜 𝓡 wired =
     f.Key.name code.function (code.unfolded 𝓤 𝓛.H 𝓜 𝓡 wired)
     (λ κs. (rawptr_vals, tt)) (λ κs. (rawptr_Tells, tt)) (λ κs qs bounds a x are.
     let y : Ptr → W.Ghost = λ r. ((κs, qs, bounds, (r, tt), (rawptr_vals r, tt)), x) in
-    qed 𝓛 (raw (on_entry 𝓛 f.signature κs qs a (y a.0).0.4) ∷ ‵ (holds_reader a.0 x) ∷ []) ∵ drop ! $
-    in_a_block ! a.0 (λ r. holds_reader r x) (id⊢ 𝓤 _) (λ b o e.
+    qed 𝓛 (raw (on_entry 𝓛 f.signature κs qs a (y a.0).0.4) ∷ ‵ (holds_set a.0 x) ∷ []) ∵ drop ! $
+    in_a_block ! a.0 (λ r. holds_set r x) (id⊢ 𝓤 _) (λ b o e.
     regoal ! (λ r. prop (WpFn 𝓤 𝓛.H 𝓣.C 𝓣.Λ code.function (rawptr_vals r) (W.post (y r)))) e refl $
     use1 𝓛 (some (λ (v : Val). ‵ (fat full_share (lone R.mir) b o v) ⊛ ‵ (R.own_val x (v ∷ [])))) (part_out 𝓛 R refl
     full_share x b o) $ pick ! (λ v. split ! $ move ! (1 ∷ []) $
@@ -64,7 +64,7 @@ kobdzila_reader_enter_spec 𝓤 𝓛 𝓜 𝓡 wired =
     use1 𝓛 (raw (G.pre z)) (id⊢ 𝓤 _) $
     calls_at ! (framed 𝓤 𝓛.H 𝓜 𝓣) G (met 𝓤 𝓛 𝓜 𝓡 (code.calls-kobdzila_c::stores::enter 𝓡.env wired)) z (and_then !
     (get ! refl) (no_more !)) (λ w.
-    use1 𝓛 (later (some (λ (r : HeldReader). (‵ ftrue ⊛ ‵ (R.own_val r (w ∷ []))) ⊛ some (λ (ws : Lasts g.ended
+    use1 𝓛 (later (some (λ (r : HeldSet). (‵ ftrue ⊛ ‵ (R.own_val r (w ∷ []))) ⊛ some (λ (ws : Lasts g.ended
     z.0.0 z.0.3). ‵ (lasts g.ended z.0.0 z.0.3 ws) ⊛ raw (fact 𝓤 (IsEntered x r)))))) (id⊢ 𝓤 _) $
     await ! tt $ pick ! (λ r. split ! $ split ! $ move ! (2 ∷ []) $ pick ! (λ ws. split ! $ drop ! $
     heard ! (IsEntered x r) (λ ok. move ! (2 ∷ []) $
@@ -77,8 +77,8 @@ kobdzila_reader_enter_spec 𝓤 𝓛 𝓜 𝓡 wired =
     sets ! (of_opd ! (unit_lit !)) refl (tt, tt) $
     returns ! (look_at ! 0 refl) $ free_all ! refl $
     move ! (2 ∷ 0 ∷ []) $ use2 𝓛 (‵ (part_at R full_share r b o)) (part_in 𝓛 R refl full_share r b o w) $
-    fpack ! (IsEntered x r) (λ _. holds_reader (block_ptr b o) r) ok $
-    fpack ! HeldReader (λ r'. fex (IsEntered x r') (λ _. holds_reader (block_ptr b o) r')) r $
+    fpack ! (IsEntered x r) (λ _. holds_set (block_ptr b o) r) ok $
+    fpack ! HeldSet (λ r'. fex (IsEntered x r') (λ _. holds_set (block_ptr b o) r')) r $
     suffices ! _ (ends_at 𝓛 f.ended stayed c (y (block_ptr b o)) vunit tt (tt, tt) (tt, tt)) $
     feq_i ! (List Val) (vunit ∷ []) (vunit ∷ []) refl $ nothing ! $ nothing ! $ join ! $
     move ! (3 ∷ []) $ group ! 3 $ done !))))))))))

@@ -29,11 +29,11 @@ use denote.Triple.Spec.{triple_of}
 use denote.Triple.Table.{framed}
 use denote.Triple.Walked.{Stays, walk_of, stay_dropped, Goes-dropped, ends_at}
 use Rattle.std.proofs.raw_atomic.Walks.{proved}
-use Rattle.kobdzila_c.specs.declared.stores.HeldReader.{HeldReader}
-use Rattle.kobdzila_c.specs.contracts.stores.HeldReader.{the_row as R}
-use Rattle.kobdzila_c.proofs.stores.HeldReader.TheLaws.{the_row_laws}
+use Rattle.kobdzila_c.specs.declared.sets.HeldSet.{HeldSet}
+use Rattle.kobdzila_c.specs.contracts.sets.HeldSet.{the_row as R}
+use Rattle.kobdzila_c.proofs.sets.HeldSet.TheLaws.{the_row_laws}
 use Rattle.kobdzila_c.specs.Storing.{AreOfOne, IsEnteredAfter}
-use Rattle.kobdzila_c.specs.Shared.{holds_reader, reads_notice}
+use Rattle.kobdzila_c.specs.Shared.{holds_set, reads_notice}
 use Rattle.kobdzila_c.specs.contracts.kobdzila_reader_enter_after as f
 use Rattle.kobdzila_c.proofs.kobdzila_reader_enter_after.Statement.{statement}
 use Rattle.kobdzila_c.proofs.kobdzila_reader_enter_after.Code as code
@@ -54,14 +54,14 @@ kobdzila_reader_enter_after_spec 𝓤 𝓛 𝓜 𝓡 wired =
     (λ κs. (rawptr_vals, (rawptr_vals, tt))) (λ κs. (rawptr_Tells, (rawptr_Tells, tt))) (λ κs qs bounds a gh are.
     let q : Ptr = a.1.0 in let x = gh.0 in let μ : Lft = gh.1 in let s : Share = gh.2 in let t = gh.3 in
     let y : Ptr → W.Ghost = λ r. ((κs, qs, bounds, (r, (q, tt)), (rawptr_vals r, (rawptr_vals q, tt))), gh) in
-    qed 𝓛 ((‵ ftrue ⊛ ‵ (owns (RawPtr ∷ RawPtr ∷ []) a (y a.0).0.4)) ∷ ((‵ (holds_reader a.0 x) ⊛ ‵ (reads_notice μ s q
+    qed 𝓛 ((‵ ftrue ⊛ ‵ (owns (RawPtr ∷ RawPtr ∷ []) a (y a.0).0.4)) ∷ ((‵ (holds_set a.0 x) ⊛ ‵ (reads_notice μ s q
     t)) ⊛ raw (fact 𝓤 (AreOfOne x t))) ∷ []) ∵
     drop ! $ split ! $ split ! $ move ! (1 ∷ []) $
     -- [the notice; the reader; that both are of one store]
     fsplit ! $ fsplit ! $ use1 𝓛 (raw (fact 𝓤 (InBlock q))) (in_block_says 𝓛 q) $
     heard ! (InBlock q) (λ inb. hide ! $
     -- [the notice; the token of μ; the reader; that both are of one store]
-    move ! (2 ∷ []) $ in_a_block ! a.0 (λ r. holds_reader r x) (id⊢ 𝓤 _) (λ b o e.
+    move ! (2 ∷ []) $ in_a_block ! a.0 (λ r. holds_set r x) (id⊢ 𝓤 _) (λ b o e.
     regoal ! (λ r. prop (WpFn 𝓤 𝓛.H 𝓣.C 𝓣.Λ code.function (rawptr_vals r ++ (rawptr_vals q ++ [])) (W.post (y r)))) e
     refl $
     use1 𝓛 (some (λ (v : Val). ‵ (fat full_share (lone R.mir) b o v) ⊛ ‵ (R.own_val x (v ∷ [])))) (part_out 𝓛 R refl
@@ -91,7 +91,7 @@ kobdzila_reader_enter_after_spec 𝓤 𝓛 𝓜 𝓡 wired =
     use1 𝓛 (raw (G.pre z)) (id⊢ 𝓤 _) $
     calls_at ! (framed 𝓤 𝓛.H 𝓜 𝓣) G (met 𝓤 𝓛 𝓜 𝓡 (code.calls-kobdzila_c::stores::enter_after 𝓡.env wired)) z
     (and_then ! (get ! refl) (and_then ! (get ! refl) (no_more !))) (λ w.
-    use1 𝓛 (later (some (λ (r : HeldReader). ((‵ (flft μ s) ⊛ ‵ ftrue) ⊛ ‵ (R.own_val r (w ∷ []))) ⊛ some (λ (ws : Lasts
+    use1 𝓛 (later (some (λ (r : HeldSet). ((‵ (flft μ s) ⊛ ‵ ftrue) ⊛ ‵ (R.own_val r (w ∷ []))) ⊛ some (λ (ws : Lasts
     g.ended z.0.0 z.0.3). ‵ (lasts g.ended z.0.0 z.0.3 ws) ⊛ raw (fact 𝓤 (IsEnteredAfter x t r)))))) (id⊢ 𝓤 _) $
     await ! tt $ pick ! (λ r. split ! $ split ! $ move ! (2 ∷ []) $ pick ! (λ ws. split ! $ drop ! $
     heard ! (IsEnteredAfter x t r) (λ ok. move ! (2 ∷ []) $
@@ -104,8 +104,8 @@ kobdzila_reader_enter_after_spec 𝓤 𝓛 𝓜 𝓡 wired =
     sets ! (of_opd ! (unit_lit !)) refl (tt, tt) $
     returns ! (look_at ! 0 refl) $ free_all ! refl $
     move ! (2 ∷ 0 ∷ []) $ use2 𝓛 (‵ (part_at R full_share r b o)) (part_in 𝓛 R refl full_share r b o w) $
-    fpack ! (IsEnteredAfter x t r) (λ _. holds_reader (block_ptr b o) r) ok $
-    fpack ! HeldReader (λ r'. fex (IsEnteredAfter x t r') (λ _. holds_reader (block_ptr b o) r')) r $
+    fpack ! (IsEnteredAfter x t r) (λ _. holds_set (block_ptr b o) r) ok $
+    fpack ! HeldSet (λ r'. fex (IsEnteredAfter x t r') (λ _. holds_set (block_ptr b o) r')) r $
     move ! (1 ∷ []) $ split ! $ move ! (1 ∷ []) $ drop ! $
     -- [the token of μ; what was made]
     suffices ! _ (ends_at 𝓛 f.ended stayed c (y (block_ptr b o)) vunit tt (tt, (tt, tt)) (tt, (tt, tt))) $

@@ -27,7 +27,7 @@ use denote.Triple.Spec.{triple_of}
 use denote.Triple.Table.{framed}
 use denote.Triple.Walked.{Stays, walk_of, stay_dropped, Goes-dropped, ends_at, says}
 use Rattle.std.proofs.raw_atomic.Walks.{proved}
-use Rattle.kobdzila_c.specs.Shared.{reads_reader}
+use Rattle.kobdzila_c.specs.Shared.{reads_set}
 use Rattle.kobdzila_c.specs.contracts.kobdzila_reader_is_current as f
 use Rattle.kobdzila_c.proofs.kobdzila_reader_is_current.Statement.{statement}
 use Rattle.kobdzila_c.proofs.kobdzila_reader_is_current.Code as code
@@ -38,6 +38,7 @@ abbrev stayed : Stays f.ended.signature.params f.ended.kept
 stayed = (stay_dropped _ yes, tt)
 
 pub kobdzila_reader_is_current_spec : {M : Type 1} → statement M
+unfolding reads_set
 kobdzila_reader_is_current_spec 𝓤 𝓛 𝓜 𝓡 wired =
     let c = f.clauses 𝓛 𝓜.mem 𝓡.returns in let W = walk_of 𝓛 f.ended stayed c in let 𝓣 = tables 𝓤 𝓛.H 𝓜 𝓡 𝓡.env in
     proved 𝓛 f.ended stayed c 𝓜 𝓡 (Goes-dropped 𝓛 0 (plain (λ _. RawPtr)) yes (λ κs x w. refl), tt)
@@ -45,7 +46,7 @@ kobdzila_reader_is_current_spec 𝓤 𝓛 𝓜 𝓡 wired =
     (λ κs. (rawptr_vals, tt)) (λ κs. (rawptr_Tells, tt)) (λ κs qs bounds a gh are.
     let p : Ptr = a.0 in let μ : Lft = gh.0 in let s : Share = gh.1 in let x = gh.2 in
     let y : W.Ghost = ((κs, qs, bounds, a, (rawptr_vals p, tt)), gh) in
-    qed 𝓛 ((‵ ftrue ⊛ ‵ (owns (RawPtr ∷ []) a y.0.4)) ∷ ‵ (reads_reader μ s p x) ∷ []) ∵ drop ! $
+    qed 𝓛 ((‵ ftrue ⊛ ‵ (owns (RawPtr ∷ []) a y.0.4)) ∷ ‵ (reads_set μ s p x) ∷ []) ∵ drop ! $
     fsplit ! $ fsplit ! $ use1 𝓛 (raw (fact 𝓤 (InBlock p))) (in_block_says 𝓛 p) $
     heard ! (InBlock p) (λ inb. hide ! $
     -- [the reader; the token of μ]

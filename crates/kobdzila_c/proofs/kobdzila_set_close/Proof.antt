@@ -25,8 +25,8 @@ use denote.Triple.Spec.{triple_of}
 use denote.Triple.Table.{framed}
 use denote.Triple.Walked.{Stays, walk_of, stay_dropped, Goes-dropped, ends_at}
 use Rattle.std.proofs.raw_atomic.Walks.{proved}
-use Rattle.kobdzila_c.specs.contracts.sets.MadeSet.{the_row as R}
-use Rattle.kobdzila_c.proofs.sets.MadeSet.TheLaws.{the_row_laws}
+use Rattle.kobdzila_c.specs.contracts.sets.HeldSet.{the_row as R}
+use Rattle.kobdzila_c.proofs.sets.HeldSet.TheLaws.{the_row_laws}
 use Rattle.kobdzila_c.specs.Shared.{holds_set}
 use Rattle.kobdzila_c.specs.contracts.kobdzila_set_close as f
 use Rattle.kobdzila_c.proofs.kobdzila_set_close.Statement.{statement}

@@ -25,9 +25,9 @@ use denote.Triple.Spec.{triple_of}
 use denote.Triple.Table.{framed}
 use denote.Triple.Walked.{Stays, walk_of, stay_dropped, Goes-dropped, ends_at}
 use Rattle.std.proofs.raw_atomic.Walks.{proved}
-use Rattle.kobdzila_c.specs.declared.sets.MadeSet.{MadeSet}
-use Rattle.kobdzila_c.specs.contracts.sets.MadeSet.{the_row as R}
-use Rattle.kobdzila_c.proofs.sets.MadeSet.TheLaws.{the_row_laws}
+use Rattle.kobdzila_c.specs.declared.sets.HeldSet.{HeldSet}
+use Rattle.kobdzila_c.specs.contracts.sets.HeldSet.{the_row as R}
+use Rattle.kobdzila_c.proofs.sets.HeldSet.TheLaws.{the_row_laws}
 use Rattle.std_heap.specs.contracts.Global as Heap
 use Rattle.std_heap.proofs.Handle.{heap_val, heap_Tells}
 use Rattle.kobdzila_c.specs.Making.{IsEmpty}
@@ -80,7 +80,7 @@ kobdzila_set_new_spec 𝓤 𝓛 𝓜 𝓡 wired =
     nothing ! $ move ! (1 ∷ 0 ∷ []) $ join ! $ use1 𝓛 (raw (G.pre z)) (id⊢ 𝓤 _) $
     calls_at ! (framed 𝓤 𝓛.H 𝓜 𝓣) G (met 𝓤 𝓛 𝓜 𝓡 (code.calls-kobdzila_c::sets::new_set 𝓡.env wired)) z (and_then !
     (get ! refl) (no_more !)) (λ v.
-    use1 𝓛 (later (some (λ (r : MadeSet). (‵ ftrue ⊛ ‵ (R.own_val r (v ∷ []))) ⊛ some (λ (ws : Lasts g.ended z.0.0
+    use1 𝓛 (later (some (λ (r : HeldSet). (‵ ftrue ⊛ ‵ (R.own_val r (v ∷ []))) ⊛ some (λ (ws : Lasts g.ended z.0.0
     z.0.3). ‵ (lasts g.ended z.0.0 z.0.3 ws) ⊛ raw (fact 𝓤 (IsEmpty r)))))) (id⊢ 𝓤 _) $
     await ! tt $ pick ! (λ r. split ! $ split ! $ move ! (2 ∷ []) $ pick ! (λ ws. split ! $ drop ! $
     heard ! (IsEmpty r) (λ ok. move ! (1 ∷ []) $
@@ -92,7 +92,7 @@ kobdzila_set_new_spec 𝓤 𝓛 𝓜 𝓡 wired =
     returns ! (look_at ! 0 refl) $ free_all ! refl $
     move ! (2 ∷ 0 ∷ []) $ use2 𝓛 (‵ (part_at R full_share r b o)) (part_in 𝓛 R refl full_share r b o v) $
     fpack ! (IsEmpty r) (λ _. holds_set (block_ptr b o) r) ok $
-    fpack ! MadeSet (λ r'. fex (IsEmpty r') (λ _. holds_set (block_ptr b o) r')) r $
+    fpack ! HeldSet (λ r'. fex (IsEmpty r') (λ _. holds_set (block_ptr b o) r')) r $
     suffices ! _ (ends_at 𝓛 f.ended stayed c (y (block_ptr b o)) vunit tt (tt, (tt, tt)) (tt, (tt, tt))) $
     feq_i ! (List Val) (vunit ∷ []) (vunit ∷ []) refl $ nothing ! $ nothing ! $ join ! $ nothing ! $ join ! $
     move ! (3 ∷ []) $ group ! 3 $ done !))))))))

@@ -35,9 +35,9 @@ use denote.Triple.Walked.{Stays, walk_of, stay_dropped, Goes-dropped, ends_at}
 use Rattle.std.proofs.raw_atomic.Walks.{proved}
 use Rattle.std_heap.specs.contracts.Global as Heap
 use Rattle.std_heap.proofs.Handle.{heap_val, heap_Tells}
-use Rattle.kobdzila_c.specs.declared.sets.MadeSet.{MadeSet}
-use Rattle.kobdzila_c.specs.contracts.sets.MadeSet.{the_row as R}
-use Rattle.kobdzila_c.proofs.sets.MadeSet.TheLaws.{the_row_laws}
+use Rattle.kobdzila_c.specs.declared.sets.HeldSet.{HeldSet}
+use Rattle.kobdzila_c.specs.contracts.sets.HeldSet.{the_row as R}
+use Rattle.kobdzila_c.proofs.sets.HeldSet.TheLaws.{the_row_laws}
 use Rattle.kobdzila_c.specs.Making.{IsWith}
 use Rattle.kobdzila_c.specs.Shared.{holds_set, reads, reads_set}
 use Rattle.kobdzila_c.specs.contracts.kobdzila_set_with as f
@@ -153,7 +153,7 @@ kobdzila_set_with_spec 𝓤 𝓛 𝓜 𝓡 wired =
       ),
       gh,
     ) in
-    let Is = λ (r : MadeSet). IsWith x domain.now locale.now u r in
+    let Is = λ (r : HeldSet). IsWith x domain.now locale.now u r in
     let k0 = ‵ (flft κs.0 qs.0) in let k1 = ‵ (flft κs.1.0 qs.1.0) in
     qed 𝓛 (((k0 ⊛ (k1 ⊛ ‵ ftrue)) ⊛ ‵ (owns (Heap.the_row ∷ RawPtr ∷ ShrSlice (named 0) κs.0 u8
     ∷ ShrSlice (named 1) κs.1.0 u8 ∷ RawPtr ∷ RawPtr ∷ []) a (y dest).0.4))
@@ -225,7 +225,7 @@ kobdzila_set_with_spec 𝓤 𝓛 𝓜 𝓡 wired =
     calls_at ! (framed 𝓤 𝓛.H 𝓜 𝓣) G (met 𝓤 𝓛 𝓜 𝓡 (code.calls-kobdzila_c::sets::with_one 𝓡.env wired)) z (and_then !
     (get ! refl) (and_then ! (get ! refl) (and_then ! (get ! refl) (and_then ! (get ! refl) (and_then ! (get ! refl)
     (no_more !)))))) (λ v.
-    use1 𝓛 (later (some (λ (r : MadeSet). ((‵ (flft μ s) ⊛ (k0 ⊛ (k1 ⊛ (‵ (flft ν t) ⊛ ‵ ftrue)))) ⊛ ‵ (R.own_val r
+    use1 𝓛 (later (some (λ (r : HeldSet). ((‵ (flft μ s) ⊛ (k0 ⊛ (k1 ⊛ (‵ (flft ν t) ⊛ ‵ ftrue)))) ⊛ ‵ (R.own_val r
     (v ∷ []))) ⊛ some (λ (ws : Lasts g.ended z.0.0 z.0.3). ‵ (lasts g.ended z.0.0 z.0.3 ws) ⊛ raw (fact 𝓤 (Is
     r)))))) (id⊢ 𝓤 _) $
     await ! tt $ pick ! (λ r. split ! $ split ! $ move ! (2 ∷ []) $ pick ! (λ ws. split ! $ drop ! $
@@ -238,7 +238,7 @@ kobdzila_set_with_spec 𝓤 𝓛 𝓜 𝓡 wired =
     returns ! (look_at ! 0 refl) $ free_all ! refl $
     move ! (2 ∷ 0 ∷ []) $ use2 𝓛 (‵ (part_at R full_share r b o)) (part_in 𝓛 R refl full_share r b o v) $
     fpack ! (Is r) (λ _. holds_set (block_ptr b o) r) ok $
-    fpack ! MadeSet (λ r'. fex (Is r') (λ _. holds_set (block_ptr b o) r')) r $
+    fpack ! HeldSet (λ r'. fex (Is r') (λ _. holds_set (block_ptr b o) r')) r $
     move ! (1 ∷ []) $ split ! $ move ! (1 ∷ []) $ split ! $ move ! (1 ∷ []) $ split ! $ move ! (1 ∷ []) $ split ! $
     -- [the token of ν; nothing; the two tokens; the token of μ; the set]
     move ! (2 ∷ 1 ∷ []) $ join ! $ move ! (2 ∷ []) $ join ! $ move ! (2 ∷ 1 ∷ []) $ join ! $

@@ -1,5 +1,5 @@
 use Rattle.std.proofs.Common.{rules}
 use Rattle.kobdzila_c.proofs.stores.enter_after.Goals as goal
 
-pub returns-in-Some-notice : goal.returns-in-Some-notice
-returns-in-Some-notice c = search rules
+pub returns-in-Some : goal.returns-in-Some
+returns-in-Some c = search rules

@@ -1,4 +1,4 @@
--- `kobdzila_store_reader`: the pointer becomes a `&` for the lifetime for which the store is shared, and the reader
+-- `kobdzila_store_entrance`: the pointer becomes a `&` for the lifetime for which the store is shared, and the entrance
 -- is stored.
 use Rattle.std.proofs.Common.{List, [], ◌∷◌, ◌++◌, refl, ap}
 use base.Fraction.{full_share}
@@ -29,22 +29,22 @@ use denote.Triple.Spec.{triple_of}
 use denote.Triple.Table.{framed}
 use denote.Triple.Walked.{Stays, walk_of, stay_dropped, Goes-dropped, ends_at}
 use Rattle.std.proofs.raw_atomic.Walks.{proved}
-use Rattle.kobdzila_c.specs.declared.stores.HeldReader.{HeldReader}
-use Rattle.kobdzila_c.specs.contracts.stores.HeldReader.{the_row as R}
-use Rattle.kobdzila_c.proofs.stores.HeldReader.TheLaws.{the_row_laws}
-use Rattle.kobdzila_c.specs.Storing.{IsReaderOf}
-use Rattle.kobdzila_c.specs.Shared.{reads_store, holds_reader}
-use Rattle.kobdzila_c.specs.contracts.kobdzila_store_reader as f
-use Rattle.kobdzila_c.proofs.kobdzila_store_reader.Statement.{statement}
-use Rattle.kobdzila_c.proofs.kobdzila_store_reader.Code as code
-use Rattle.kobdzila_c.specs.contracts.stores.reader as g
-use Rattle.kobdzila_c.proofs.stores.reader.Met.{met}
+use Rattle.kobdzila_c.specs.declared.stores.HeldEntrance.{HeldEntrance}
+use Rattle.kobdzila_c.specs.contracts.stores.HeldEntrance.{the_row as R}
+use Rattle.kobdzila_c.proofs.stores.HeldEntrance.TheLaws.{the_row_laws}
+use Rattle.kobdzila_c.specs.Storing.{IsEntranceOf}
+use Rattle.kobdzila_c.specs.Shared.{reads_store, holds_entrance}
+use Rattle.kobdzila_c.specs.contracts.kobdzila_store_entrance as f
+use Rattle.kobdzila_c.proofs.kobdzila_store_entrance.Statement.{statement}
+use Rattle.kobdzila_c.proofs.kobdzila_store_entrance.Code as code
+use Rattle.kobdzila_c.specs.contracts.stores.entrance as g
+use Rattle.kobdzila_c.proofs.stores.entrance.Met.{met}
 
 abbrev stayed : Stays f.ended.signature.params f.ended.kept
 stayed = (stay_dropped _ yes, (stay_dropped _ yes, tt))
 
-pub kobdzila_store_reader_spec : {M : Type 1} → statement M
-kobdzila_store_reader_spec 𝓤 𝓛 𝓜 𝓡 wired =
+pub kobdzila_store_entrance_spec : {M : Type 1} → statement M
+kobdzila_store_entrance_spec 𝓤 𝓛 𝓜 𝓡 wired =
     let c = f.clauses 𝓛 𝓜.mem 𝓡.returns in let W = walk_of 𝓛 f.ended stayed c in let 𝓣 = tables 𝓤 𝓛.H 𝓜 𝓡 𝓡.env in
     proved 𝓛 f.ended stayed c 𝓜 𝓡 (
       Goes-dropped 𝓛 0 (plain (λ _. RawPtr)) yes (λ κs x w. refl),
@@ -81,13 +81,13 @@ kobdzila_store_reader_spec 𝓤 𝓛 𝓜 𝓡 wired =
     move ! (1 ∷ []) $ feq_i ! (List Val) (at ∷ []) (at ∷ []) refl $ fjoin ! $ nothing ! $ move ! (1 ∷ 0 ∷ []) $
     fjoin ! $ nothing ! $ move ! (3 ∷ 0 ∷ []) $ join ! $ join ! $ nothing ! $ move ! (1 ∷ 0 ∷ []) $ join ! $
     use1 𝓛 (raw (G.pre z)) (id⊢ 𝓤 _) $
-    calls_at ! (framed 𝓤 𝓛.H 𝓜 𝓣) G (met 𝓤 𝓛 𝓜 𝓡 (code.calls-kobdzila_c::stores::reader 𝓡.env wired)) z (and_then !
+    calls_at ! (framed 𝓤 𝓛.H 𝓜 𝓣) G (met 𝓤 𝓛 𝓜 𝓡 (code.calls-kobdzila_c::stores::entrance 𝓡.env wired)) z (and_then !
     (get ! refl) (no_more !)) (λ v.
-    use1 𝓛 (later (some (λ (r : HeldReader). ((‵ (flft μ s) ⊛ ‵ ftrue) ⊛ ‵ (R.own_val r (v ∷ []))) ⊛ some (λ (ws :
-    Lasts g.ended z.0.0 z.0.3). ‵ (lasts g.ended z.0.0 z.0.3 ws) ⊛ raw (fact 𝓤 (IsReaderOf x r)))))) (id⊢ 𝓤
+    use1 𝓛 (later (some (λ (r : HeldEntrance). ((‵ (flft μ s) ⊛ ‵ ftrue) ⊛ ‵ (R.own_val r (v ∷ []))) ⊛ some (λ (ws :
+    Lasts g.ended z.0.0 z.0.3). ‵ (lasts g.ended z.0.0 z.0.3 ws) ⊛ raw (fact 𝓤 (IsEntranceOf x r)))))) (id⊢ 𝓤
     _) $
     await ! tt $ pick ! (λ r. split ! $ split ! $ move ! (2 ∷ []) $ pick ! (λ ws. split ! $ drop ! $
-    heard ! (IsReaderOf x r) (λ ok. move ! (1 ∷ []) $
+    heard ! (IsEntranceOf x r) (λ ok. move ! (1 ∷ []) $
     -- [the answer; the tokens; the room]
     peeks ! R (Is R) (shows 𝓛 R) r (v ∷ []) (λ so. let typed = (((the_row_laws).lawful 𝓛).typed r (v ∷ [])
     so).0 in lands_as ! refl refl typed $
@@ -95,8 +95,8 @@ kobdzila_store_reader_spec 𝓤 𝓛 𝓜 𝓡 wired =
     sets ! (of_opd ! (unit_lit !)) refl (tt, tt) $
     returns ! (look_at ! 0 refl) $ free_all ! refl $
     move ! (2 ∷ 0 ∷ []) $ use2 𝓛 (‵ (part_at R full_share r b o)) (part_in 𝓛 R refl full_share r b o v) $
-    fpack ! (IsReaderOf x r) (λ _. holds_reader (block_ptr b o) r) ok $
-    fpack ! (HeldReader) (λ r'. fex (IsReaderOf x r') (λ _. holds_reader (block_ptr b o) r')) r $
+    fpack ! (IsEntranceOf x r) (λ _. holds_entrance (block_ptr b o) r) ok $
+    fpack ! (HeldEntrance) (λ r'. fex (IsEntranceOf x r') (λ _. holds_entrance (block_ptr b o) r')) r $
     move ! (1 ∷ []) $ split ! $ move ! (1 ∷ []) $ drop ! $
     -- [the token of μ; what was answered]
     suffices ! _ (ends_at 𝓛 f.ended stayed c (y (block_ptr b o)) vunit tt (tt, (tt, tt)) (tt, (tt, tt))) $

@@ -1,4 +1,4 @@
--- `kobdzila_reader_close`: the reader is moved out of the caller's memory, and `close_reader` drops it.
+-- `kobdzila_entrance_close`: the entrance is moved out of the caller's memory, and `close_entrance` drops it.
 use Rattle.std.proofs.Common.{List, [], ◌∷◌, refl, ap}
 use base.Fraction.{full_share}
 use base.Logic.{id⊢}
@@ -25,31 +25,31 @@ use denote.Triple.Spec.{triple_of}
 use denote.Triple.Table.{framed}
 use denote.Triple.Walked.{Stays, walk_of, stay_dropped, Goes-dropped, ends_at}
 use Rattle.std.proofs.raw_atomic.Walks.{proved}
-use Rattle.kobdzila_c.specs.contracts.stores.HeldReader.{the_row as R}
-use Rattle.kobdzila_c.proofs.stores.HeldReader.TheLaws.{the_row_laws}
-use Rattle.kobdzila_c.specs.Shared.{holds_reader}
-use Rattle.kobdzila_c.specs.contracts.kobdzila_reader_close as f
-use Rattle.kobdzila_c.proofs.kobdzila_reader_close.Statement.{statement}
-use Rattle.kobdzila_c.proofs.kobdzila_reader_close.Code as code
-use Rattle.kobdzila_c.specs.contracts.stores.close_reader as g
-use Rattle.kobdzila_c.proofs.stores.close_reader.Met.{met}
+use Rattle.kobdzila_c.specs.contracts.stores.HeldEntrance.{the_row as R}
+use Rattle.kobdzila_c.proofs.stores.HeldEntrance.TheLaws.{the_row_laws}
+use Rattle.kobdzila_c.specs.Shared.{holds_entrance}
+use Rattle.kobdzila_c.specs.contracts.kobdzila_entrance_close as f
+use Rattle.kobdzila_c.proofs.kobdzila_entrance_close.Statement.{statement}
+use Rattle.kobdzila_c.proofs.kobdzila_entrance_close.Code as code
+use Rattle.kobdzila_c.specs.contracts.stores.close_entrance as g
+use Rattle.kobdzila_c.proofs.stores.close_entrance.Met.{met}
 
 abbrev stayed : Stays f.ended.signature.params f.ended.kept
 stayed = (stay_dropped _ yes, tt)
 
-pub kobdzila_reader_close_spec : {M : Type 1} → statement M
-kobdzila_reader_close_spec 𝓤 𝓛 𝓜 𝓡 wired =
+pub kobdzila_entrance_close_spec : {M : Type 1} → statement M
+kobdzila_entrance_close_spec 𝓤 𝓛 𝓜 𝓡 wired =
     let c = f.clauses 𝓛 𝓜.mem 𝓡.returns in let W = walk_of 𝓛 f.ended stayed c in let 𝓣 = tables 𝓤 𝓛.H 𝓜 𝓡 𝓡.env in
     proved 𝓛 f.ended stayed c 𝓜 𝓡 (Goes-dropped 𝓛 0 (plain (λ _. RawPtr)) yes (λ κs x w. refl), tt)
     f.Key.name code.function (code.unfolded 𝓤 𝓛.H 𝓜 𝓡 wired)
     (λ κs. (rawptr_vals, tt)) (λ κs. (rawptr_Tells, tt)) (λ κs qs bounds a x are.
     let y : Ptr → W.Ghost = λ r. ((κs, qs, bounds, (r, tt), (rawptr_vals r, tt)), x) in
-    qed 𝓛 (raw (on_entry 𝓛 f.signature κs qs a (y a.0).0.4) ∷ ‵ (holds_reader a.0 x) ∷ []) ∵ drop ! $
-    in_a_block ! a.0 (λ r. holds_reader r x) (id⊢ 𝓤 _) (λ b o e.
+    qed 𝓛 (raw (on_entry 𝓛 f.signature κs qs a (y a.0).0.4) ∷ ‵ (holds_entrance a.0 x) ∷ []) ∵ drop ! $
+    in_a_block ! a.0 (λ r. holds_entrance r x) (id⊢ 𝓤 _) (λ b o e.
     regoal ! (λ r. prop (WpFn 𝓤 𝓛.H 𝓣.C 𝓣.Λ code.function (rawptr_vals r) (W.post (y r)))) e refl $
     use1 𝓛 (some (λ (v : Val). ‵ (fat full_share (lone R.mir) b o v) ⊛ ‵ (R.own_val x (v ∷ [])))) (part_out 𝓛 R refl
     full_share x b o) $ pick ! (λ v. split ! $ move ! (1 ∷ []) $
-    -- [the reader; its memory]
+    -- [the entrance; its memory]
     peeks ! R (Is R) (shows 𝓛 R) x (v ∷ []) (λ so. let typed = (((the_row_laws).lawful 𝓛).typed x (v ∷ []) so).0 in
     enter ! _ _ _ _ _ $ alloc_all ! (λ l. pass_all ! refl ((tt, tt), tt) $
     sets ! (of_opd ! (get ! refl)) refl (tt, tt) $ sets ! (of_opd ! (load ! (through ! refl (stop !)) (look ! 1
@@ -58,7 +58,7 @@ kobdzila_reader_close_spec 𝓤 𝓛 𝓜 𝓡 wired =
     let z : G.Ghost = ((tt, tt, tt, (x, tt), (v ∷ [], tt)), tt) in
     nothing ! $ move ! (1 ∷ 0 ∷ []) $ fjoin ! $ nothing ! $ join ! $ nothing ! $ move ! (1 ∷ 0 ∷ []) $ join ! $
     use1 𝓛 (raw (G.pre z)) (id⊢ 𝓤 _) $
-    calls_at ! (framed 𝓤 𝓛.H 𝓜 𝓣) G (met 𝓤 𝓛 𝓜 𝓡 (code.calls-kobdzila_c::stores::close_reader 𝓡.env wired)) z
+    calls_at ! (framed 𝓤 𝓛.H 𝓜 𝓣) G (met 𝓤 𝓛 𝓜 𝓡 (code.calls-kobdzila_c::stores::close_entrance 𝓡.env wired)) z
     (and_then ! (get ! refl) (no_more !)) (λ w.
     use1 𝓛 (later (some (λ (u : Unit {0}). (‵ ftrue ⊛ ‵ (unit.own_val u (w ∷ []))) ⊛ some (λ (ws : Lasts g.ended
     z.0.0 z.0.3). ‵ (lasts g.ended z.0.0 z.0.3 ws) ⊛ ‵ ftrue)))) (id⊢ 𝓤 _) $
