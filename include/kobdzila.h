@@ -1,9 +1,9 @@
 /* libkobdzila: looks up translations in message catalogues of GNU gettext. See kobdzila(3).
  *
- * Strings are UTF-8. A string that a look-up returns belongs to the catalogue or set, unless it is the caller's own
- * `msgid` or `plural`: it is valid until the catalogue or set is freed, and must not be written to. Any number of
- * threads may use one catalogue at once. Don't call these functions from a signal handler, nor in the forked child of a
- * process that had several threads.
+ * Strings are UTF-8. A look-up returns a string that is borrowed from the catalogue or set, or the caller's own `msgid`
+ * or `plural`. A borrowed string is valid until the catalogue or set is freed, and must not be written to. Any number
+ * of threads may use one catalogue or set at once. Don't call these functions from a signal handler, nor in the forked
+ * child of a process that had several threads.
  *
  * NULL is allowed only where this header says so, and for these arguments:
  *   - a `msgid`: the look-up returns NULL;
@@ -15,12 +15,16 @@
  *   - `version`: the caller doesn't want the number;
  *   - the argument of kob_release, kob_set_release and the functions whose name ends in _free, which do nothing then.
  *
- * These functions leave errno as it was.
+ * The functions that release or free something preserve errno. After KOB_UNREADABLE it says why.
  */
 #ifndef KOBDZILA_H
 #define KOBDZILA_H
 
 #include <stddef.h>
+
+#if defined __SIZEOF_POINTER__ && __SIZEOF_POINTER__ != 8
+#error "libkobdzila is for 64-bit Linux: compile without -m32 or -mx32"
+#endif
 
 /* The version of this header, as "0.2.0". */
 #define KOB_VERSION "0.2.0"
@@ -52,7 +56,7 @@ enum kob_fault {
     KOB_MO_CHARSET = 10,    /* the header names a charset other than UTF-8 and US-ASCII */
     KOB_MO_SWOLLEN = 11,    /* the MO file that kob_mo_file would return is too large */
     KOB_MEMORY = 12,        /* out of memory, which says nothing about the input */
-    /* PO texts, with the line */
+    /* PO files, with the line */
     KOB_PO_TOO_LARGE = 101, /* more than 67,108,864 bytes */
     KOB_PO_NOT_UTF8 = 102,
     KOB_PO_BAD_ESCAPE = 103,
@@ -70,21 +74,23 @@ enum kob_fault {
     KOB_PO_PLURAL_RANGE = 115,
     KOB_PO_FORMAT_MISMATCH = 116,
     KOB_PO_NEWLINE_MISMATCH = 117,
+    KOB_PO_NO_CHARACTER = 119, /* the charset that the header names has no character for a byte */
     KOB_UNREADABLE = 201,   /* kob_open_file, kob_set_open: can't read the file; see errno */
     KOB_BAD_NAME = 202,     /* a text domain or locale isn't 1 to 64 letters, digits and _ - . @ + */
-    KOB_VERSIONS_SPENT = 204 /* kob_store_load: the store has taken 2^58 - 1 loads, and takes no more */
+    KOB_VERSIONS_SPENT = 204 /* kob_store_load: the store has accepted 2^58 - 1 loads, its limit */
 };
 
-/* Why there is no catalogue or set, and the line of a PO text. */
+/* Why there is no catalogue or set, and the line of a PO file. */
 typedef struct {
     enum kob_fault fault;
-    unsigned line; /* in a PO text; 0 if the fault has no line */
+    unsigned line; /* in a PO file; 0 if the fault has no line */
 } kob_refusal;
 
-/* How to compile a PO text: 0, or any of these combined with `|`. */
+/* How to compile a PO file: 0, or any of these combined with `|`. */
 enum kob_options {
-    KOB_CHECKED = 1,  /* run the checks of `msgfmt -c` */
-    KOB_USE_FUZZY = 2 /* keep fuzzy messages too */
+    KOB_CHECKED = 1,   /* run the checks of `msgfmt -c` */
+    KOB_USE_FUZZY = 2, /* include fuzzy messages */
+    KOB_STRICT = 4     /* refuse a charset other than UTF-8 and US-ASCII, as `msgfmt` does */
 };
 
 /* The format of a file. */
@@ -94,21 +100,27 @@ enum kob_kind { KOB_MO, KOB_PO };
 const char *kob_fault_text(enum kob_fault fault);
 
 /* Open the MO file in `bytes` and return its catalogue, with one reference, which the caller releases with kob_release.
- * On failure, return NULL and store the reason in *why, unless `why` is NULL. The bytes are copied: the caller may free
- * them as soon as the call returns. */
+ * On failure, return NULL and store the reason in *why, unless `why` is NULL. The bytes are copied before they are
+ * checked, so the caller may free them as soon as the call returns. If another thread writes to them meanwhile, the
+ * copy is some mixture of old and new bytes, which is opened or refused as a whole. */
 kob_catalogue *kob_open_mo(const void *bytes, size_t len, kob_refusal *why);
 
-/* Compile the PO text in `bytes` and return its catalogue. `options` is 0 or a combination of enum kob_options.
+/* Compile the PO file in `bytes` and return its catalogue. `options` is 0 or a combination of enum kob_options.
+ *
+ * If the file isn't UTF-8, or its header names another charset, it is decoded from the charset that its header names,
+ * one of the single-byte charsets that kobdzila(3) lists, and the catalogue's header says `charset=UTF-8`. The header
+ * must be at the front of the file. The file may have 67,108,864 bytes before and after it is decoded.
  * References, failures and the bytes are treated as by kob_open_mo. */
 kob_catalogue *kob_open_po(const void *bytes, size_t len, unsigned options, kob_refusal *why);
 
-/* Open the file `name`, an MO file (KOB_MO) or a PO text (KOB_PO, compiled with `options`), and return its catalogue.
+/* Open the file `name`, an MO file (KOB_MO) or a PO file (KOB_PO, compiled with `options`), and return its catalogue.
  * References and failures are treated as by kob_open_mo; after KOB_UNREADABLE errno says why, for example ENOENT, or
  * EMFILE if no file descriptor is left.
  *
  * A regular file is read up to the size that it has when it is opened. A FIFO, a device and the like are read to their
  * end, up to the size limit of the format; a FIFO that nobody has open for writing counts as empty. The file is opened
- * with O_CLOEXEC. */
+ * with O_CLOEXEC. This function and kob_set_open aren't cancellation points: a thread that is cancelled meanwhile
+ * finishes the call first. */
 kob_catalogue *kob_open_file(const char *name, enum kob_kind kind, unsigned options, kob_refusal *why);
 
 /* Take another reference to `catalogue` and return it. */
@@ -128,7 +140,7 @@ const char *kob_ngettext(const kob_catalogue *catalogue, const char *msgid, cons
 const char *kob_npgettext(const kob_catalogue *catalogue, const char *context, const char *msgid, const char *plural,
                           unsigned long long n);
 
-/* A string given by its address and length, which need not be terminated by NUL. `at` is NULL if there is no string. */
+/* A string by its address and its length in bytes. It need not end in NUL. `at` is NULL if there is no string. */
 typedef struct {
     const char *at;
     size_t len;
@@ -139,21 +151,22 @@ typedef struct {
  * count. */
 kob_text kob_find(const kob_catalogue *catalogue, kob_text context, kob_text msgid, const unsigned long long *n);
 
-/* What kob_find is asked: `context.at` is NULL if there is no context, and `n` is NULL if there is no number. */
+/* One look-up, with the arguments of kob_find: `context.at` is NULL if there is no context, and `n` if there is no
+ * number. */
 typedef struct {
     kob_text context, msgid;
     const unsigned long long *n;
 } kob_question;
 
-/* Store the answers to `count` questions in `answers`, in the same order, each as kob_find returns it. In a catalogue
- * of tens of thousands of messages it takes less time than as many calls of kob_find, since the processor waits for the
- * memory of several messages at once. In a small one it calls kob_find for each. */
+/* Do `count` look-ups and store their results in `answers`, in order, each as kob_find returns it. In a catalogue of
+ * tens of thousands of messages this is faster than `count` calls of kob_find, because the waits for memory overlap. In
+ * a small one it calls kob_find for each. */
 void kob_find_many(const kob_catalogue *catalogue, const kob_question *questions, size_t count, kob_text *answers);
 
 /* Return the number of entries of `catalogue`, including the header. */
 size_t kob_count(const kob_catalogue *catalogue);
 
-/* The strings of an entry, not terminated by NUL. `at` is NULL if the entry has no context, or no plural. */
+/* The strings of an entry, which don't end in NUL. `at` is NULL if the entry has no context, or no plural. */
 typedef struct {
     kob_text context, msgid, plural;
     size_t forms; /* number of forms, at least 1 */
@@ -163,11 +176,21 @@ typedef struct {
  * from 0, in ascending order of their keys' bytes. */
 int kob_entry_at(const kob_catalogue *catalogue, size_t place, kob_entry *entry);
 
-/* Return form number `form` of entry number `place`, both from 0. It is not terminated by NUL; `at` is NULL if there is
- * no such form. */
+/* Return form number `form` of entry number `place`, both counted from 0. It doesn't end in NUL; `at` is NULL if there
+ * is no such form. */
 kob_text kob_form_at(const kob_catalogue *catalogue, size_t place, size_t form);
 
-/* Return `catalogue` as the bytes of an MO file, whichever format it was opened from. The bytes belong to the
+/* How many messages of a PO file are translated, fuzzy and untranslated. The header is none of them. */
+typedef struct {
+    size_t translated, fuzzy, untranslated;
+} kob_counts;
+
+/* Store the statistics of the PO file that `catalogue` was compiled from in *counts, as `msgfmt --statistics` prints
+ * them: fuzzy messages and untranslated ones count whether or not they are entries of the catalogue. For a catalogue
+ * from an MO file, which has no statistics, all three are 0. */
+void kob_statistics(const kob_catalogue *catalogue, kob_counts *counts);
+
+/* Return the bytes of the MO file of `catalogue`, whichever format it was opened from. They are borrowed from the
  * catalogue. */
 kob_text kob_mo_file(const kob_catalogue *catalogue);
 
@@ -188,7 +211,9 @@ kob_set *kob_set_with(const kob_set *set, const char *domain, const char *locale
  * catalogues are installed. Fails as kob_open_file does, too; `.` and `..` are KOB_BAD_NAME here. */
 kob_set *kob_set_open(const kob_set *set, const char *folder, const char *domain, const char *locale, kob_refusal *why);
 
-/* Take another reference to `set` and return it, and drop a reference, as for a catalogue. */
+/* Take another reference to `set` and return it, and drop a reference, as for a catalogue. A set that is borrowed from
+ * a reader has no reference count: for it, kob_set_retain returns the set and kob_set_release does nothing, and it
+ * becomes invalid when the reader enters again. */
 kob_set *kob_set_retain(kob_set *set);
 void kob_set_release(kob_set *set);
 
@@ -210,25 +235,26 @@ const char *kob_set_npgettext(const kob_set *set, const char *domain, const char
 kob_text kob_set_find(const kob_set *set, kob_text domain, kob_text languages, kob_text context, kob_text msgid,
                       const unsigned long long *n);
 
-/* Like kob_find_many, for the catalogues of a text domain. The list of languages is looked at once. */
+/* Like kob_find_many, for the catalogues of a text domain. The list of languages is resolved once. */
 void kob_set_find_many(const kob_set *set, kob_text domain, kob_text languages, const kob_question *questions,
                        size_t count, kob_text *answers);
 
-/* A list of languages in a text domain of a set, looked at once for many look-ups. Its members are the library's own.
- * It is a plain value: copy it as you like; there is nothing to free. */
+/* A list of languages that was resolved in a text domain of a set, for many look-ups. Its members are private. It is a
+ * plain value: copy it as you like; there is nothing to free. */
 typedef struct kob_languages {
     const kob_set *set;
     kob_text domain, languages;
     unsigned count, places[16];
 } kob_languages;
 
-/* Look at a list of languages once. The result is valid as long as `set` is (if a reader lends it, until the reader's
- * next entry), and as long as the bytes of `domain` and `languages` are: a list that names more than 16 catalogues of
- * the set is looked at again in each look-up. It needs no memory and can't fail. */
+/* Resolve a list of languages: find the catalogues that it names. The result is valid as long as `set` is (if it is
+ * borrowed from a reader, until the reader enters again), and as long as the bytes of `domain` and `languages` are: a
+ * list that names more than 16 catalogues of the set is resolved again at each look-up. This allocates nothing and
+ * can't fail. */
 kob_languages kob_set_languages(const kob_set *set, kob_text domain, kob_text languages);
 
-/* Like the functions for a set, with its text domain and its list of languages: the answers are the same. Each takes
- * less time, since it doesn't search for the catalogues. */
+/* Return what the functions for a set return for its text domain and list of languages. They are faster, since they
+ * don't search for the catalogues. */
 const char *kob_languages_gettext(const kob_languages *list, const char *msgid);
 const char *kob_languages_pgettext(const kob_languages *list, const char *context, const char *msgid);
 const char *kob_languages_ngettext(const kob_languages *list, const char *msgid, const char *plural,
@@ -239,33 +265,36 @@ kob_text kob_languages_find(const kob_languages *list, kob_text context, kob_tex
 void kob_languages_find_many(const kob_languages *list, const kob_question *questions, size_t count,
                              kob_text *answers);
 
-/* A live store: a set of catalogues that is replaced while threads look up in it. Readers never wait, neither for a
- * publish nor for each other, and a publish never waits for readers.
+/* A live store: a set of catalogues that is replaced while threads look up in it. A *load* is a catalogue for a text
+ * domain and a locale. A *publish* shows all loads since the last one, in one step. A *version* is the number of loads
+ * that were published so far. Readers never block, neither on a publish nor on each other, and a publish never waits
+ * for readers.
  *
- * Any number of threads may use one store at once. Loads and publishes of several threads are put in order by a lock,
- * which readers don't take. */
+ * Any number of threads may use one store at once. Loads and publishes of several threads take turns by a lock, which
+ * readers don't take. */
 typedef struct kob_store kob_store;
 
-/* A reader of a store: what one thread looks up with. It is in one call at a time, but may move between threads. */
+/* A reader of a store: the handle through which one thread looks up. It may move between threads, but only one thread
+ * may use it at a time. */
 typedef struct kob_reader kob_reader;
 
-/* A notice: proof that a version was published, to be passed to another thread. It is in one call at a time, too. */
+/* A notice: proof that a version was published, to pass to another thread. Only one thread may use it at a time. */
 typedef struct kob_notice kob_notice;
 
 /* Return a store that has published the empty set, at version 0, or NULL if memory runs out. */
 kob_store *kob_store_new(void);
 
-/* Add a load to those that are pending: from the next publish on, `catalogue` is the one for `domain` and `locale`.
- * Return 1, or 0 and store the reason (KOB_BAD_NAME, KOB_MEMORY or KOB_VERSIONS_SPENT) in *why. A refused load leaves
- * the store, and the loads that are pending, as they were. The caller keeps its reference to `catalogue`. */
+/* Add a pending load: from the next publish on, `catalogue` is the one for `domain` and `locale`. Return 1, or return 0
+ * and store the reason (KOB_BAD_NAME, KOB_MEMORY or KOB_VERSIONS_SPENT) in *why. A refused load changes neither the
+ * store nor the pending loads. The caller keeps its reference to `catalogue`. */
 int kob_store_load(kob_store *store, const char *domain, const char *locale, const kob_catalogue *catalogue,
                    kob_refusal *why);
 
 /* Publish all pending loads in one step: a reader sees all of them or none. Return 1 and store the new version in
  * *version, or return 0 if memory ran out or the store was busy. Then nothing has changed, the loads are still pending,
- * and you can publish again. With no load pending, it publishes nothing and stores the version that there is.
+ * and you can publish again. If no load is pending, nothing is published, and the current version is stored.
  *
- * A store is busy if some 60 readers were all interrupted at the same point of an entry, a few instructions long. */
+ * A store is busy if some 60 readers were all interrupted within the same few instructions of kob_reader_enter. */
 int kob_store_publish(kob_store *store, unsigned long long *version);
 
 /* Return the version that is published: the number of loads published so far. */
@@ -274,26 +303,26 @@ unsigned long long kob_store_version(const kob_store *store);
 /* Return the number of loads that the next publish will show. */
 unsigned long long kob_store_pending(const kob_store *store);
 
-/* Return how many replaced sets are kept, since a reader still has them or no publish has freed them yet. */
+/* Return how many replaced sets are still in memory, because a reader uses them or no publish has freed them yet. */
 size_t kob_store_retained(const kob_store *store);
 
 /* Return a notice of the version that is published now, or NULL if memory runs out. */
 kob_notice *kob_store_notice(const kob_store *store);
 
-/* Return a new reader, which has entered the version that is published now, or NULL if memory runs out. Make one for
- * each thread, as many as you want. */
+/* Return a new reader, which has entered the version that is published now, or NULL if memory runs out. This doesn't
+ * wait for a publish that is running. Make one for each thread, as many as you want. */
 kob_reader *kob_store_reader(const kob_store *store);
 
-/* Enter the newest version, and return its set. Look-ups in the set, and their answers, are valid until this reader's
- * next entry or its end, whatever is published meanwhile; the set is lent, so don't retain or release it. An entry
- * allocates nothing and can't fail. A reader's versions never fall. */
+/* Enter the newest version, and return its set. The set is borrowed: it and every string from it are valid until this
+ * reader enters again or is freed, whatever is published meanwhile. kob_set_retain doesn't keep it longer. Entering
+ * allocates nothing and can't fail. A reader's versions never decrease. */
 const kob_set *kob_reader_enter(kob_reader *reader);
 
-/* Like kob_reader_enter, but the set is never older than the version that `notice` tells of. Return NULL if the
- * notice is of another store; the reader then keeps its entry. */
+/* Like kob_reader_enter, but the set is never older than the version of `notice`. Return NULL if the notice is of
+ * another store; the set that was entered before then stays valid. */
 const kob_set *kob_reader_enter_after(kob_reader *reader, const kob_notice *notice);
 
-/* Return the version that the reader entered last. It is that of kob_set_version for its set. */
+/* Return the version that the reader entered last, which is also kob_set_version of its set. */
 unsigned long long kob_reader_version(const kob_reader *reader);
 
 /* Free a notice, a reader or a store, in any order: readers keep working after their store was freed. No other call

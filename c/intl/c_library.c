@@ -9,8 +9,6 @@ static struct c_library found;
 static pthread_once_t once = PTHREAD_ONCE_INIT;
 
 static void find(void) {
-    *(void **)&found.dcgettext = dlsym(RTLD_NEXT, "dcgettext");
-    *(void **)&found.dcngettext = dlsym(RTLD_NEXT, "dcngettext");
     *(void **)&found.textdomain = dlsym(RTLD_NEXT, "textdomain");
     *(void **)&found.bindtextdomain = dlsym(RTLD_NEXT, "bindtextdomain");
     *(void **)&found.bind_textdomain_codeset = dlsym(RTLD_NEXT, "bind_textdomain_codeset");

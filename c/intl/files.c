@@ -8,17 +8,7 @@
 #include <errno.h>
 #include <fcntl.h>
 #include <stdlib.h>
-#include <string.h>
-#include <strings.h>
 #include <sys/stat.h>
-
-#define MOST_MO 268435456
-#define LEAST_MO 48 /* the C library refuses shorter files */
-
-struct earlier {
-    struct earlier *next;
-    kob_catalogue *catalogue;
-};
 
 static struct named *files;
 
@@ -26,44 +16,11 @@ struct file *file_of(const char *name) {
     return (struct file *)find_or_add_named(&files, name, sizeof(struct file));
 }
 
-/* Whether the header says ASCII. The C library then refuses other characters, and libkobdzila doesn't. */
-static int says_ascii(const kob_catalogue *catalogue) {
-    const kob_text none = { NULL, 0 }, header = { "", 0 };
-    const char *text = kob_find(catalogue, none, header, NULL).at;
-    const char *charset = text ? strstr(text, "charset=") : NULL;
-    return charset && strncasecmp(charset + strlen("charset="), "UTF", 3);
-}
-
-/* Make it the file's catalogue. False if memory ran out. */
-static int take(struct file *f, kob_catalogue *catalogue) {
-    if (f->catalogue) {
-        struct earlier *earlier = malloc(sizeof *earlier);
-        if (!earlier)
-            return 0;
-        *earlier = (struct earlier){ f->earlier, f->catalogue };
-        f->earlier = earlier;
-    }
+/* Make it the file's catalogue. */
+static void take(struct file *f, struct catalogue *catalogue) {
+    catalogue->earlier = f->catalogue;
     f->catalogue = catalogue;
     f->is_shown = 0;
-    return 1;
-}
-
-static enum standing standing_of_bytes(struct file *f, const unsigned char *bytes, size_t len) {
-    if (len < LEAST_MO)
-        return MISSING;
-    kob_refusal why;
-    kob_catalogue *catalogue = kob_open_mo(bytes, len, &why);
-    if (catalogue && !says_ascii(catalogue)) {
-        if (take(f, catalogue))
-            return TAKEN;
-        why.fault = KOB_MEMORY;
-    }
-    kob_release(catalogue);
-    if (why.fault == KOB_MEMORY)
-        return UNREAD;
-    if (why.fault == KOB_MO_MAGIC)
-        return MISSING;
-    return is_read_well(bytes, len, why.fault) ? THEIRS : REFUSED;
 }
 
 /* Whether a call failed because it ran out of something that may be available the next time. */
@@ -85,13 +42,16 @@ static int is_same(struct stamp a, struct stamp b) {
 /* Open the file. UNREAD if that can be done at another time. */
 static enum standing standing_now(struct file *f) {
     size_t len;
+    struct catalogue *catalogue;
     enum standing standing = MISSING;
     unsigned char *bytes = file_bytes(f->named.name, REGULAR_FILES, MOST_MO, &len);
     if (bytes)
-        standing = standing_of_bytes(f, bytes, len);
+        standing = opened(bytes, len, &catalogue);
     else if (may_pass(errno))
         standing = UNREAD;
     free(bytes);
+    if (standing == TAKEN)
+        take(f, catalogue);
     return standing;
 }
 

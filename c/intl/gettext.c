@@ -1,5 +1,5 @@
-/* gettext and its relatives on top of libkobdzila, for programs that run with LD_PRELOAD=libkobdzila-intl.so. A call is
- * passed on to the C library if the answer isn't wanted in UTF-8, or may be in a file that only the C library reads. */
+/* gettext and its relatives on top of libkobdzila, for programs that run with LD_PRELOAD=libkobdzila-intl.so. The C
+ * library's own functions for look-ups aren't called, so that it is shown no catalogue. */
 #define _POSIX_C_SOURCE 200809L
 #include "intl.h"
 
@@ -9,39 +9,63 @@
 #include <string.h>
 #include <unistd.h>
 
-/* The result of a search: a string, or that the C library has to be asked. Otherwise the program's own string is
- * used. */
+/* The result of a search: a text, or the catalogue whose text has to be converted first. Otherwise the program's own
+ * string is used. */
 struct found {
     const char *text;
-    int is_theirs;
+    const struct catalogue *unconverted;
+    struct codeset *to;
 };
 
-static const char *text_of(const struct file *file, const struct question *q) {
-    const kob_text none = { NULL, 0 }, msgid = { q->msgid, strlen(q->msgid) };
-    unsigned long long n = q->n ? *q->n : 0;
-    return kob_find(file->catalogue, none, msgid, q->n ? &n : NULL).at;
+/* The catalogues whose text for a question can't be converted: the next one is searched. */
+struct refused {
+    const struct catalogue **at;
+    size_t count;
+};
+
+static int is_refused(const struct refused *refused, const struct catalogue *c) {
+    for (size_t i = 0; i < refused->count; i++)
+        if (refused->at[i] == c)
+            return 1;
+    return 0;
 }
 
-/* Search the files up to the first that has an answer. If the C library is asked, it reads these files too, and later
- * ones if it can't convert a string to the codeset wanted. So it isn't asked if one of them is hostile. */
-static struct found found_in(const struct list *list, const struct question *q, int utf8) {
-    struct found found = { NULL, 0 };
-    int has_theirs = 0, has_refused = 0;
+/* False if memory ran out. */
+static int refuse(struct refused *refused, const struct catalogue *c) {
+    const struct catalogue **more = realloc(refused->at, (refused->count + 1) * sizeof *more);
+    if (!more)
+        return 0;
+    more[refused->count++] = c;
+    refused->at = more;
+    return 1;
+}
+
+/* Answer by one catalogue. False if it has no answer. */
+static int is_found_in(const struct catalogue *c, const struct question *q, const char *codeset, struct found *found) {
+    const char *text = text_of(c, q);
+    if (!text)
+        return 0;
+    *found = (struct found){ text, NULL, NULL };
+    if (!c->is_coded && is_as_wanted(c, codeset))
+        return 1;
+    found->to = codeset_named(codeset);
+    found->text = found->to ? converted(found->to, text) : NULL;
+    found->unconverted = found->text ? NULL : c;
+    return found->to != NULL;
+}
+
+/* Search the files up to the first that has an answer. */
+static struct found found_in(const struct list *list, const struct question *q, const struct refused *refused) {
+    struct found found = { NULL, NULL, NULL };
+    const char *codeset = wanted_codeset(list->domain);
     unsigned long bindings = bindings_of(list->domain);
-    for (size_t i = 0; i < list->count && !(found.text && utf8 && !has_theirs); i++) {
+    for (size_t i = 0; i < list->count; i++) {
         struct file *file = list->files[i];
-        enum standing standing = standing_of(file, bindings);
-        if (standing == TAKEN && !found.text)
-            found.text = text_of(file, q);
-        has_refused |= standing == REFUSED;
-        has_theirs |= standing == THEIRS && !found.text;
+        if (standing_of(file, bindings) == TAKEN && !is_refused(refused, file->catalogue) &&
+            is_found_in(file->catalogue, q, codeset, &found))
+            return found;
     }
-    if (has_theirs || (found.text && !utf8)) {
-        found.is_theirs = !has_refused;
-        if (!utf8)
-            found.text = NULL;
-    }
-    return found;
+    return (struct found){ NULL, NULL, NULL };
 }
 
 /* Return a relative folder with the working directory in front; NULL if memory runs out or there is none. */
@@ -58,8 +82,9 @@ static char *absolute(const char *folder) {
     return whole;
 }
 
-static struct found find(const struct question *q, const char *category) {
-    struct found found = { NULL, 0 };
+/* Under the lock. */
+static struct found find(const struct question *q, const char *category, const struct refused *refused) {
+    struct found found = { NULL, NULL, NULL };
     const char *domain = q->domain ? q->domain : current_domain(), *languages = languages_for(q->category);
     const char *folder = languages ? folder_of(domain) : NULL;
     char *made = NULL;
@@ -67,39 +92,49 @@ static struct found find(const struct question *q, const char *category) {
         folder = made = absolute(folder);
     const struct list *list = folder ? list_for(folder, category, domain, languages) : NULL;
     if (list)
-        found = found_in(list, q, wants_utf8(domain));
+        found = found_in(list, q, refused);
     /* the working directory may change */
-    if (!made && (list || !languages))
+    if (!made && (list || !languages) && !found.unconverted)
         remember(q, list);
     free(made);
     return found;
 }
 
-static const char *theirs(const struct question *q) {
-    if (q->n)
-        return c_library()->dcngettext(q->domain, q->msgid, q->plural, *q->n, q->category);
-    return c_library()->dcgettext(q->domain, q->msgid, q->category);
+/* Whether to search again, since a text was converted or can't be. */
+static int is_converted_or_refused(const struct question *q, const struct found *found, struct refused *refused) {
+    enum conversion conversion = convert(found->unconverted, q->msgid, found->to);
+    return conversion == CONVERTED || (conversion == NOT_CONVERTED && refuse(refused, found->unconverted));
 }
 
-/* The C library is called under the lock too: with its own locks alone, a forked child could wait for a thread that
- * isn't there. An unknown category and a NULL msgid are left to the C library. */
-static const char *text_under_the_lock(const struct question *q) {
+/* Answer a question by state that is shared. No lock is held while a text is converted, so the search begins again. */
+static const char *shared_text(const struct question *q) {
     const char *category = category_name(q->category);
+    if (!category)
+        return NULL;
+    struct refused refused = { NULL, 0 };
+    struct found found;
+    struct quiet before;
     int cause = errno;
-    take_lock();
-    struct found found = { NULL, 1 };
-    if (q->msgid && category)
-        found = find(q, category);
-    const char *text = found.is_theirs ? theirs(q) : found.text;
-    leave_lock();
+    begin_quiet(&before);
+    know_default_folder();
+    know_locale();
+    do {
+        take_lock();
+        found = find(q, category, &refused);
+        leave_lock();
+    } while (found.unconverted && is_converted_or_refused(q, &found, &refused));
+    free(refused.at);
+    end_quiet(&before);
     errno = cause;
-    return text;
+    return found.text;
 }
 
 static char *answer(const struct question *q) {
     const char *text;
-    if (!q->msgid || !recall(q, &text))
-        text = text_under_the_lock(q);
+    if (!q->msgid)
+        return NULL;
+    if (!recall(q, &text))
+        text = shared_text(q);
     if (!text)
         text = !q->n || *q->n == 1 ? q->msgid : q->plural;
     return (char *)text;

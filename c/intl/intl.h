@@ -5,10 +5,13 @@
 
 #include "kobdzila.h"
 
+#include <signal.h>
 #include <stddef.h>
 #include <stdint.h>
 
 #define SHOWN __attribute__((visibility("default")))
+
+#define MOST_MO 268435456 /* bytes of an MO file that libkobdzila opens */
 
 struct question {
     const char *domain, *msgid, *plural; /* the program's arguments; `domain` may be NULL, and `plural` goes with `n` */
@@ -16,11 +19,32 @@ struct question {
     int category;
 };
 
-/* ---- lock.c: one lock for all state kept here, and for every call of the C library's gettext and its relatives.
+/* ---- lock.c: locks, signals and forks.
  *
- * The thread that holds it isn't cancelled, and may take it once more. fork waits for it. */
+ * A thread is quiet while it uses the locks or runs code of the C library that isn't safe in a signal handler: it isn't
+ * cancelled, and signals wait, except for those that report a fault of the thread itself. So no handler of a signal that
+ * calls gettext finds its own thread with a lock. */
+struct quiet {
+    sigset_t signals; /* as they were */
+    int cancel_state;
+};
+void begin_quiet(struct quiet *before);
+void end_quiet(const struct quiet *before);
+
+/* The lock over all state kept here. It is held for moments: never while the C library is called for something that may
+ * load a module or wait for a thread that does. */
 void take_lock(void);
 void leave_lock(void);
+
+/* A lock over the calls that change a locale or a text domain in the C library and then here. It is taken before the
+ * other one, and gettext doesn't take it. */
+void begin_change(void);
+void end_change(void);
+
+/* Around iconv_open, which may load a module: a fork waits for it, since the C library's own locks would stay taken in the
+ * child. After begin_opening returned 0 nothing may be opened, in a child that was forked without waiting. */
+int begin_opening(void);
+void end_opening(void);
 
 /* Note that a locale or a text domain has changed: what threads have remembered isn't used any more. */
 void note_change(void);
@@ -30,8 +54,6 @@ unsigned long long changes(void);
 
 /* ---- c_library.c: the functions of the C library that this library overrides. */
 struct c_library {
-    char *(*dcgettext)(const char *, const char *, int);
-    char *(*dcngettext)(const char *, const char *, const char *, unsigned long, int);
     char *(*textdomain)(const char *);
     char *(*bindtextdomain)(const char *, const char *);
     char *(*bind_textdomain_codeset)(const char *, const char *);
@@ -52,18 +74,20 @@ struct named *find_named(struct named *list, const char *name);
  * runs out. */
 struct named *find_or_add_named(struct named **list, const char *name, size_t size);
 
-/* ---- domains.c, under the lock: the current text domain, a domain's folder, and whether its strings are wanted in
- * UTF-8. A domain without a name has no folder. */
+/* ---- domains.c, under the lock: the current text domain, a domain's folder, and the codeset that its strings are
+ * wanted in. A domain without a name has no folder. */
 const char *current_domain(void);
 const char *folder_of(const char *domain);
-int wants_utf8(const char *domain);
+const char *wanted_codeset(const char *domain);
 
 /* Return the domain's own codeset; NULL if it has none. */
 const char *codeset_of(const char *domain);
-int is_utf8(const char *codeset);
 
 /* Return how often a folder was bound to the domain. */
 unsigned long bindings_of(const char *domain);
+
+/* Without the lock: look up the folder of domains that aren't bound, if that wasn't done yet. */
+void know_default_folder(void);
 
 /* ---- locales.c, under the lock: the thread's locale. */
 
@@ -74,8 +98,15 @@ const char *category_name(int category);
  * messages aren't translated. */
 const char *languages_for(int category);
 
+/* Return the codeset of the thread's locale, and that of the process's locale. */
+const char *locale_codeset(void);
+const char *process_codeset(void);
+
 /* Whether the program has more privileges than its caller (getauxval(3), AT_SECURE). */
 int is_secure(void);
+
+/* Without the lock: copy what the process's locale is called, if that wasn't done yet. */
+void know_locale(void);
 
 /* ---- aliases.c, under the lock: the locale that a name is an alias for in locale.alias; NULL if it isn't an alias. */
 const char *alias_value(const char *name);
@@ -110,19 +141,27 @@ char *put_name(char *to, const struct name *name, int parts);
 
 enum standing {
     UNREAD,  /* not opened yet (0, as in a new structure), or memory or file descriptors ran out: try again */
-    MISSING, /* there is no such file, or the C library skips it too */
-    TAKEN,   /* a catalogue */
-    REFUSED, /* no catalogue, and unsafe for the C library: it would read outside of the file, or loop forever */
-    THEIRS   /* only the C library reads it: another charset, or system-dependent strings */
+    MISSING, /* there is no such file, or it is no catalogue */
+    TAKEN    /* a catalogue */
 };
 /* Which file it was; all 0 if there was none. */
 struct stamp {
     uint64_t device, inode, size, seconds, nanoseconds;
 };
+
+#define MOST_CHARSET 64
+
+/* The texts of a file. They are never freed, since the program may keep any string that it was given. */
+struct catalogue {
+    struct catalogue *earlier; /* of the same file, before that changed */
+    kob_catalogue *held;
+    int is_coded;    /* its strings are coded byte by byte (image.c), since they aren't UTF-8 */
+    int has_charset; /* its header names one; otherwise its texts are as they are wanted, in whatever codeset */
+    char charset[MOST_CHARSET + 1];
+};
 struct file {
     struct named named;
-    kob_catalogue *catalogue; /* if it is TAKEN */
-    struct earlier *earlier;  /* its earlier catalogues, whose strings the program may still have */
+    struct catalogue *catalogue; /* if it is TAKEN */
     enum standing standing;
     struct stamp stamp;
     unsigned long bindings; /* of its text domain, when the file was looked at */
@@ -140,6 +179,76 @@ enum standing standing_of(struct file *file, unsigned long bindings);
 /* Whether that is known without opening the file. */
 int is_known(const struct file *file, unsigned long bindings);
 
+/* ---- opened.c: the catalogue of an MO file's bytes. Return UNREAD if memory ran out. */
+enum standing opened(const unsigned char *bytes, size_t len, struct catalogue **catalogue);
+
+/* ---- rows.c: the strings of an MO file. */
+
+/* The key is the msgid, with its context. The plural follows its NUL; `plural_room` counts that NUL, and is 0 if there is
+ * no plural. The text is the forms, separated by NUL, and a NUL follows it. */
+struct row {
+    const unsigned char *key, *text;
+    uint32_t key_len, plural_room, text_len;
+};
+struct rows {
+    struct row *at;
+    size_t count;
+    unsigned char *made; /* the strings with system-dependent parts; both blocks are from malloc */
+};
+enum reading { ROWS_READ, NO_ROWS, NO_MEMORY };
+
+/* Read the rows of a file of major revision 0 or 1. All of their strings are in the file, or in `made`. */
+enum reading read_rows(const unsigned char *bytes, size_t len, struct rows *rows);
+
+/* ---- parts.c: what a system-dependent part such as PRIu64 stands for; NULL if it is unknown. */
+const char *part_value(const char *name);
+
+/* ---- image.c: MO files of revision 0 for libkobdzila, made of rows. */
+
+/* Return a new file with these rows, and its length. The strings are coded if that is wanted; otherwise they are as they
+ * are. NULL if memory runs out, or, with a length of 0, if it would be too large. */
+unsigned char *image_of(const struct rows *rows, int is_coded, size_t *len);
+
+/* Code a msgid: write at most `2 * strlen(msgid) + 2` bytes, and return how many. */
+size_t code_key(char *to, const char *msgid);
+
+/* Undo the coding of a text: write at most `len` bytes, and return how many. */
+size_t decode(char *to, const char *text, size_t len);
+
+/* ---- codesets.c: what texts were wanted in. A codeset is never removed. */
+
+struct codeset;
+
+/* Whether two names are of one codeset, as far as that is seen without the C library's list of aliases. */
+int is_same_codeset(const char *a, const char *b);
+int is_utf8(const char *codeset);
+int is_ascii(const char *codeset);
+
+/* Whether the texts of the catalogue, which aren't coded, need no conversion to this codeset. */
+int is_as_wanted(const struct catalogue *catalogue, const char *codeset);
+
+/* Under the lock: return the codeset of this name; NULL if it is too long or memory runs out. */
+struct codeset *codeset_named(const char *name);
+const char *name_of(const struct codeset *codeset);
+
+/* Return the text in this codeset, or NULL if it wasn't converted yet. It takes no lock. */
+const char *converted(const struct codeset *codeset, const char *text);
+
+/* Under the lock: remember what a text is in this codeset. False if memory ran out. */
+int keep_converted(struct codeset *codeset, const char *text, const char *as);
+
+/* ---- convert.c, without the lock: convert all forms of a message to a codeset, and keep them there. */
+enum conversion { CONVERTED, NOT_CONVERTED, OUT_OF_MEMORY };
+enum conversion convert(const struct catalogue *catalogue, const char *msgid, struct codeset *to);
+
+/* ---- texts.c: look-ups in a catalogue. */
+
+/* Return the text that answers the question, as it is in the catalogue; NULL if there is none. */
+const char *text_of(const struct catalogue *catalogue, const struct question *q);
+
+/* Find the number of the entry with this msgid. False if there is none. */
+int find_place(const struct catalogue *catalogue, const char *msgid, size_t *place, kob_entry *entry);
+
 /* ---- shown.c: the live store with the catalogues of all files that were opened. */
 
 /* Under the lock: publish the file's catalogue, unless it is there. False if that can't be done now. */
@@ -150,9 +259,6 @@ kob_reader *new_reader(void);
 
 /* Look a message up in the files whose numbers are in the list, first to last. NULL if none has it. */
 const char *text_in(kob_reader *reader, const char *numbers, const struct question *q);
-
-/* ---- checks.c: whether the C library can safely read a file that libkobdzila refused (or took: KOB_NO_FAULT). */
-int is_read_well(const unsigned char *bytes, size_t len, enum kob_fault fault);
 
 /* ---- lists.c, under the lock: the files to search for a message, in order. */
 

@@ -1,12 +1,17 @@
-/* The thread's locale: the one that it chose with uselocale, or the process's. */
+/* The thread's locale: the one that it chose with uselocale, or the process's. What the process's locale is called is
+ * copied at each change, since the next call of setlocale frees the names that the last one returned, and the C library
+ * may wait in it for a thread that loads a module. */
 #define _GNU_SOURCE
 #include "intl.h"
 
 #include <langinfo.h>
 #include <locale.h>
+#include <stdatomic.h>
 #include <stdlib.h>
 #include <string.h>
 #include <sys/auxv.h>
+
+#define CATEGORIES (LC_IDENTIFICATION + 1)
 
 const char *category_name(int category) {
     switch (category) {
@@ -26,14 +31,90 @@ const char *category_name(int category) {
     }
 }
 
+/* The process's locale, by category, and its codeset. NULL if memory ran out: then it counts as the locale C until it is
+ * changed again. */
+static char *names[CATEGORIES], *codeset;
+static atomic_int is_locale_known;
+
+/* Make the string a copy of the text, unless it is equal. Return what to free. */
+static char *replace(char **string, const char *text) {
+    if (*string && !strcmp(*string, text))
+        return NULL;
+    char *old = *string;
+    *string = strdup(text);
+    return old;
+}
+
+/* The codeset of the process's locale, which may not be that of this thread. It is never freed. */
+static const char *codeset_of_process(void) {
+    locale_t own = uselocale(LC_GLOBAL_LOCALE);
+    const char *now = nl_langinfo(CODESET);
+    uselocale(own);
+    return now;
+}
+
+/* During a change, and without the lock. */
+static void copy_locale(void) {
+    char *old[CATEGORIES] = { NULL };
+    take_lock();
+    for (int category = 0; category < CATEGORIES; category++)
+        if (category_name(category))
+            old[category] = replace(&names[category], c_library()->setlocale(category, NULL));
+    char *old_codeset = replace(&codeset, codeset_of_process());
+    note_change();
+    leave_lock();
+    for (int category = 0; category < CATEGORIES; category++)
+        free(old[category]);
+    free(old_codeset);
+    atomic_store_explicit(&is_locale_known, 1, memory_order_release);
+}
+
+void know_locale(void) {
+    if (atomic_load_explicit(&is_locale_known, memory_order_acquire))
+        return;
+    begin_change();
+    copy_locale();
+    end_change();
+}
+
+static void copy_early(void) __attribute__((constructor));
+static void copy_early(void) {
+    struct quiet before;
+    begin_quiet(&before);
+    know_locale();
+    end_quiet(&before);
+}
+
+/* A call that changes nothing takes no lock of the C library. */
+SHOWN char *setlocale(int category, const char *locale) {
+    if (!locale)
+        return c_library()->setlocale(category, NULL);
+    struct quiet before;
+    begin_quiet(&before);
+    begin_change();
+    char *name = c_library()->setlocale(category, locale);
+    copy_locale();
+    end_change();
+    end_quiet(&before);
+    return name;
+}
+
+static locale_t own_locale(void) { return uselocale((locale_t)0); }
+
 const char *languages_for(int category) {
-    locale_t locale = uselocale((locale_t)0);
-    const char *name = locale == LC_GLOBAL_LOCALE ? c_library()->setlocale(category, NULL)
-                                                  : nl_langinfo_l(NL_LOCALE_NAME(category), locale);
+    locale_t own = own_locale();
+    const char *name = own == LC_GLOBAL_LOCALE ? names[category] : nl_langinfo_l(NL_LOCALE_NAME(category), own);
     if (!name || !strcmp(name, "C"))
         return NULL;
     const char *list = getenv("LANGUAGE");
     return list && *list ? list : name;
+}
+
+const char *process_codeset(void) { return codeset ? codeset : ""; }
+
+const char *locale_codeset(void) {
+    locale_t own = own_locale();
+    return own == LC_GLOBAL_LOCALE ? process_codeset() : nl_langinfo_l(CODESET, own);
 }
 
 int is_secure(void) { return getauxval(AT_SECURE) != 0; }

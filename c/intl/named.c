@@ -1,4 +1,5 @@
 /* Lists that are searched by name: the text domains, and the files of catalogues. */
+#define _POSIX_C_SOURCE 200809L
 #include "intl.h"
 
 #include <stdlib.h>

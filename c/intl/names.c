@@ -2,6 +2,7 @@
  * first, then those with fewer parts: the codeset is dropped first, then the territory, and the modifier last. Each
  * name with a codeset is followed by the one with the normalized codeset, which has only lower-case letters and
  * digits. */
+#define _POSIX_C_SOURCE 200809L
 #include "intl.h"
 
 #include <string.h>

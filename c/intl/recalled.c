@@ -23,8 +23,10 @@ struct recalled {
     int category;
     int is_global;      /* the locale was the process's, which changes only with a call of setlocale */
     int is_whole;       /* a message that isn't in these files has no translation */
-    int is_any_codeset; /* since the domain has its own, UTF-8, or nothing is translated */
-    int is_utf8;        /* the process's locale has the codeset UTF-8 */
+    int is_any_codeset; /* since the domain has its own, or nothing is translated */
+    int is_as_process;  /* the codeset is that of the process's locale */
+    const char *codeset;     /* that texts are wanted in */
+    const struct codeset *to; /* the same one, if the texts of the files have to be converted; otherwise NULL */
     const char *domain; /* NULL for the current one */
     const char *language, *locale, *numbers;
     char texts[];
@@ -45,11 +47,14 @@ static int has_key;
 
 static void forget(void *thread) {
     struct thread *t = thread;
+    struct quiet before;
+    begin_quiet(&before);
     mine = NULL;
     for (int i = 0; i < MOST_RECALLED; i++)
         free(t->recalled[i]);
     kob_reader_free(t->reader);
     free(t);
+    end_quiet(&before);
 }
 
 __attribute__((constructor)) static void make_key(void) { has_key = !pthread_key_create(&key, forget); }
@@ -83,13 +88,13 @@ static const char *name_of_locale(locale_t locale, int category) {
     return nl_langinfo_l(NL_LOCALE_NAME(category), locale);
 }
 
-static int is_in_utf8(const struct recalled *r, locale_t locale) {
+static int is_in_codeset(const struct recalled *r, locale_t locale) {
     if (r->is_any_codeset)
         return 1;
     const char *codeset = variable("OUTPUT_CHARSET");
     if (*codeset)
-        return is_utf8(codeset);
-    return r->is_global ? r->is_utf8 : is_utf8(nl_langinfo_l(CODESET, locale));
+        return !strcmp(r->codeset, codeset);
+    return r->is_global ? r->is_as_process : !strcmp(r->codeset, nl_langinfo_l(CODESET, locale));
 }
 
 /* Whether it was remembered for questions like this one. */
@@ -98,7 +103,7 @@ static int is_for(const struct recalled *r, const struct question *q, locale_t l
         (q->domain && strcmp(r->domain, q->domain)))
         return 0;
     return (r->is_global || !strcmp(r->locale, name_of_locale(locale, q->category))) &&
-           !strcmp(r->language, variable("LANGUAGE")) && is_in_utf8(r, locale);
+           !strcmp(r->language, variable("LANGUAGE")) && is_in_codeset(r, locale);
 }
 
 static struct recalled *find_recalled(struct thread *t, const struct question *q) {
@@ -119,6 +124,8 @@ static int recall_in(struct thread *t, const struct question *q, const char **te
     if (!r)
         return 0;
     *text = *r->numbers ? text_in(t->reader, r->numbers, q) : NULL;
+    if (*text && r->to)
+        return (*text = converted(r->to, *text)) != NULL;
     return *text || r->is_whole;
 }
 
@@ -145,18 +152,27 @@ int recall(const struct question *q, const char **text) {
 
 /* ---- remembering */
 
-/* Write the numbers of the files up to the first that wasn't opened, that only the C library reads, or that isn't in the
- * store. Return whether these are all. */
-static int put_numbers(char *to, const struct list *files) {
+/* Whether the file's texts are UTF-8 that isn't coded, and as they are wanted if no codeset is given, or to be converted. */
+static int is_alike(const struct file *f, const char *codeset, const struct codeset *to) {
+    const struct catalogue *c = f->catalogue;
+    if (c->is_coded)
+        return 0;
+    return to ? c->has_charset && is_utf8(c->charset) : is_as_wanted(c, codeset);
+}
+
+/* Write the numbers of the files up to the first that wasn't opened, that is unlike these, or that isn't in the store.
+ * Return whether these are all. */
+static int put_numbers(char *to, const struct list *files, const struct recalled *r) {
     unsigned long bindings = bindings_of(files->domain);
     char *at = to;
     size_t i = 0;
     for (; i < files->count && is_known(files->files[i], bindings); i++) {
         struct file *f = files->files[i];
-        if (f->standing == THEIRS || (f->standing == TAKEN && !show(f)))
+        if (f->standing != TAKEN)
+            continue;
+        if (!is_alike(f, r->codeset, r->to) || !show(f))
             break;
-        if (f->standing == TAKEN)
-            at += sprintf(at, at == to ? "%u" : ":%u", f->number);
+        at += sprintf(at, at == to ? "%u" : ":%u", f->number);
     }
     return i == files->count;
 }
@@ -167,26 +183,42 @@ static char *put_text(char **at, const char *text) {
     return copy;
 }
 
+/* Note the codeset that texts are wanted in. False if it can't be remembered: if the domain has an empty codeset, that is
+ * the locale's, and if memory ran out. */
+static int note_codeset(struct recalled *r, const char *domain, char **at) {
+    const char *own = codeset_of(domain), *wanted = wanted_codeset(domain);
+    r->is_any_codeset = own != NULL;
+    r->is_as_process = !strcmp(wanted, process_codeset());
+    r->codeset = put_text(at, wanted);
+    if (is_utf8(wanted))
+        return !own || *own;
+    r->to = codeset_named(wanted);
+    return r->to && (!own || *own);
+}
+
 /* Make what is to be remembered; NULL if that isn't possible. */
 static struct recalled *new_recalled(const struct question *q, const struct list *files, locale_t locale) {
     const char *domain = q->domain ? q->domain : current_domain(), *language = variable("LANGUAGE");
     const char *name = locale == LC_GLOBAL_LOCALE ? "" : name_of_locale(locale, q->category);
-    const char *codeset = codeset_of(domain);
-    size_t most = DIGITS * (files ? files->count : 0) + strlen(domain) + strlen(language) + strlen(name) + 4;
-    struct recalled *r = !files || (wants_utf8(domain) && (!codeset || *codeset)) ? malloc(sizeof *r + most) : NULL;
+    size_t most = DIGITS * (files ? files->count : 0) + strlen(domain) + strlen(language) + strlen(name) +
+                  strlen(wanted_codeset(domain)) + 5;
+    struct recalled *r = malloc(sizeof *r + most);
     if (!r)
         return NULL;
     char *at = r->texts;
     *r = (struct recalled){ .changes = changes(), .category = q->category, .is_global = locale == LC_GLOBAL_LOCALE,
-                            .is_whole = 1, .is_any_codeset = !files || codeset };
-    r->is_utf8 = r->is_global && is_utf8(nl_langinfo(CODESET));
+                            .is_whole = 1, .is_any_codeset = 1 };
+    if (files && !note_codeset(r, domain, &at)) {
+        free(r);
+        return NULL;
+    }
     r->domain = q->domain ? put_text(&at, domain) : NULL;
     r->language = put_text(&at, language);
     r->locale = put_text(&at, name);
     r->numbers = at;
     *at = 0;
     if (files)
-        r->is_whole = put_numbers(at, files);
+        r->is_whole = put_numbers(at, files, r);
     return r;
 }
 

@@ -1,5 +1,6 @@
 /* The live store with the catalogues of all files that were opened. Each is in the domain `mo`, and its locale is the
  * number of the file; so a list of numbers, such as `7:3`, is a list of languages. */
+#define _POSIX_C_SOURCE 200809L
 #include "intl.h"
 
 #include <stdatomic.h>
@@ -35,7 +36,7 @@ int show(struct file *f) {
         f->number = ++last;
     snprintf(number, sizeof number, "%u", f->number);
     hand_over();
-    f->is_shown = store_of_files() && kob_store_load(store, domain, number, f->catalogue, NULL) &&
+    f->is_shown = store_of_files() && kob_store_load(store, domain, number, f->catalogue->held, NULL) &&
                   kob_store_publish(store, NULL);
     return f->is_shown;
 }

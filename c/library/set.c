@@ -1,69 +1,35 @@
 /* Sets of catalogues, the C part: memory, reference counts and the files of installed catalogues. The look-ups are in
- * crates/kobdzila_c, whose exports are declared here as Rattle exports them. */
+ * crates/kobdzila_c (exports.h); they are the same in a set that a reader lends. */
 #include "held.h"
 
-#include <stdbool.h>
 #include <stdio.h>
 
-/* The places in a set that a list of languages names; a larger count than MOST_PLACES says that there are more. */
-enum { MOST_PLACES = 16 };
-struct places {
-    unsigned count, at[MOST_PLACES];
-};
-
-size_t kobdzila_set_size(void);
-void kobdzila_set_new(struct held *out);
-void kobdzila_set_with(const struct held *set, const unsigned char *domain, size_t domain_len,
-                       const unsigned char *locale, size_t locale_len, const struct held *catalogue, struct held *out);
-void kobdzila_set_close(struct held *set);
-uint64_t kobdzila_set_number(const struct held *set, uint32_t which);
-void kobdzila_set_answer(const struct held *set, const unsigned char *domain, size_t domain_len,
-                         const unsigned char *languages, size_t languages_len, const unsigned char *context,
-                         size_t context_len, const unsigned char *msgid, size_t msgid_len, uint32_t call, uint64_t n,
-                         struct lent *out);
-bool kobdzila_is_name(const unsigned char *bytes, size_t len);
-void kobdzila_set_languages(const struct held *set, const unsigned char *domain, size_t domain_len,
-                            const unsigned char *languages, size_t languages_len, struct places *out);
-void kobdzila_set_answer_at(const struct held *set, const unsigned *places, size_t count, const unsigned char *context,
-                            size_t context_len, const unsigned char *msgid, size_t msgid_len, uint32_t call, uint64_t n,
-                            uint64_t hint, struct lent *out);
-uint64_t kobdzila_set_hint(const struct held *set, const unsigned *places, size_t count, const unsigned char *context,
-                           size_t context_len, const unsigned char *msgid, size_t msgid_len, uint32_t call);
-void kobdzila_reader_with(const struct held *reader, const unsigned char *domain, size_t domain_len,
-                          const unsigned char *locale, size_t locale_len, const struct held *catalogue,
-                          struct held *out);
-void kobdzila_reader_answer(const struct held *reader, const unsigned char *domain, size_t domain_len,
-                            const unsigned char *languages, size_t languages_len, const unsigned char *context,
-                            size_t context_len, const unsigned char *msgid, size_t msgid_len, uint32_t call, uint64_t n,
-                            struct lent *out);
-void kobdzila_reader_languages(const struct held *reader, const unsigned char *domain, size_t domain_len,
-                               const unsigned char *languages, size_t languages_len, struct places *out);
-void kobdzila_reader_answer_at(const struct held *reader, const unsigned *places, size_t count,
-                               const unsigned char *context, size_t context_len, const unsigned char *msgid,
-                               size_t msgid_len, uint32_t call, uint64_t n, uint64_t hint, struct lent *out);
-uint64_t kobdzila_reader_hint(const struct held *reader, const unsigned *places, size_t count,
-                              const unsigned char *context, size_t context_len, const unsigned char *msgid,
-                              size_t msgid_len, uint32_t call);
-
-enum { FAULT, VERSION }; /* `which` of kobdzila_set_number, and of kobdzila_reader_number */
+/* Allocate room for a set, with one reference. Return NULL if memory runs out. */
+static kob_set *room_for_set(void) {
+    kob_set *set = malloc(sizeof *set + kobdzila_set_size());
+    if (set) {
+        atomic_init(&set->holders, 1);
+        set->owner = COUNTED;
+    }
+    return set;
+}
 
 kob_set *kob_set_new(void) {
-    kob_set *set = room_for(kobdzila_set_size());
+    kob_set *set = room_for_set();
     if (set)
-        kobdzila_set_new(held_by(set));
+        kobdzila_set_new(held_set(set));
     return set;
 }
 
 kob_set *kob_set_with(const kob_set *set, const char *domain, const char *locale, const kob_catalogue *catalogue,
                       kob_refusal *why) {
     kob_text domain_text = text_of(domain), locale_text = text_of(locale);
-    kob_set *more = room_for(kobdzila_set_size());
+    kob_set *more = room_for_set();
     if (!more)
         return refuse(why, KOB_MEMORY, 0);
-    (is_lent(set) ? kobdzila_reader_with : kobdzila_set_with)(
-        read_by(set), bytes_of(domain_text), domain_text.len, bytes_of(locale_text), locale_text.len,
-        read_by(catalogue), held_by(more));
-    enum kob_fault fault = (enum kob_fault)kobdzila_set_number(read_by(more), FAULT);
+    kobdzila_set_with(read_set(set), bytes_of(domain_text), domain_text.len, bytes_of(locale_text), locale_text.len,
+                      read_catalogue(catalogue), held_set(more));
+    enum kob_fault fault = (enum kob_fault)kobdzila_set_number(read_set(more), FAULT);
     refuse(why, fault, 0);
     if (fault == KOB_NO_FAULT)
         return more;
@@ -93,30 +59,31 @@ kob_set *kob_set_open(const kob_set *set, const char *folder, const char *domain
     return more;
 }
 
+/* A set that a reader lends is the reader's: it has no references to count. */
 kob_set *kob_set_retain(kob_set *set) {
-    add_holder(set);
+    if (set->owner == COUNTED)
+        add_holder(&set->holders);
     return set;
 }
 
 void kob_set_release(kob_set *set) {
-    if (!set || !was_last_holder(set))
+    if (!set || set->owner != COUNTED || !was_last_holder(&set->holders))
         return;
     int cause = errno;
-    kobdzila_set_close(held_by(set));
+    kobdzila_set_close(held_set(set));
     free_quietly(set);
     errno = cause;
 }
 
 unsigned long long kob_set_version(const kob_set *set) {
-    return (is_lent(set) ? kobdzila_reader_number : kobdzila_set_number)(read_by(set), VERSION);
+    return kobdzila_set_number(read_set(set), VERSION);
 }
 
 static struct lent ask(const kob_set *set, kob_text domain, kob_text languages, kob_text context, kob_text msgid,
                        uint32_t call, uint64_t n) {
     struct lent out;
-    (is_lent(set) ? kobdzila_reader_answer : kobdzila_set_answer)(
-        read_by(set), bytes_of(domain), domain.len, bytes_of(languages), languages.len, bytes_of(context), context.len,
-        bytes_of(msgid), msgid.len, call, n, &out);
+    kobdzila_set_answer(read_set(set), bytes_of(domain), domain.len, bytes_of(languages), languages.len,
+                        bytes_of(context), context.len, bytes_of(msgid), msgid.len, call, n, &out);
     return out;
 }
 
@@ -162,8 +129,7 @@ kob_languages kob_set_languages(const kob_set *set, kob_text domain, kob_text la
     struct places named;
     domain = present(domain);
     languages = present(languages);
-    (is_lent(set) ? kobdzila_reader_languages : kobdzila_set_languages)(
-        read_by(set), bytes_of(domain), domain.len, bytes_of(languages), languages.len, &named);
+    kobdzila_set_languages(read_set(set), bytes_of(domain), domain.len, bytes_of(languages), languages.len, &named);
     kob_languages list = { set, domain, languages, named.count, { 0 } };
     memcpy(list.places, named.at, sizeof list.places);
     return list;
@@ -174,9 +140,8 @@ static uint64_t hint_in(const kob_languages *list, const kob_question *q) {
     if (list->count > MOST_PLACES)
         return NO_HINT;
     kob_text context = present(q->context), msgid = present(q->msgid);
-    return (is_lent(list->set) ? kobdzila_reader_hint : kobdzila_set_hint)(
-        read_by(list->set), list->places, list->count, bytes_of(context), context.len, bytes_of(msgid), msgid.len,
-        call_of(q->context, q->n));
+    return kobdzila_set_hint(read_set(list->set), list->places, list->count, bytes_of(context), context.len,
+                             bytes_of(msgid), msgid.len, call_of(q->context, q->n));
 }
 
 /* The answer in a list; one with more catalogues than it has places for is looked at anew. */
@@ -185,9 +150,8 @@ static struct lent ask_hinted(const kob_languages *list, kob_text context, kob_t
     if (list->count > MOST_PLACES)
         return ask(list->set, list->domain, list->languages, context, msgid, call, n);
     struct lent out;
-    (is_lent(list->set) ? kobdzila_reader_answer_at : kobdzila_set_answer_at)(
-        read_by(list->set), list->places, list->count, bytes_of(context), context.len, bytes_of(msgid), msgid.len, call,
-        n, hint, &out);
+    kobdzila_set_answer_at(read_set(list->set), list->places, list->count, bytes_of(context), context.len,
+                           bytes_of(msgid), msgid.len, call, n, hint, &out);
     return out;
 }
 

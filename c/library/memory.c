@@ -2,17 +2,15 @@
  * catalogue of 80,000 messages every look-up touches another page; with pages of 4 kB, the processor waits for address
  * translations as often as for the data. A large PO text is compiled in fewer page faults. */
 #define _DEFAULT_SOURCE
+#include "memory.h"
+
 #include <errno.h>
-#include <stddef.h>
 #include <stdint.h>
 #include <stdlib.h>
 #include <sys/mman.h>
 #include <unistd.h>
 
 #define LARGE_PAGE ((size_t)2 << 20)
-
-void *kobdzila_malloc(size_t len);
-void *kobdzila_realloc(void *block, size_t len);
 
 /* Tell the system that the pages of a block may be large. It is only a hint, so failure doesn't matter. All pages that
  * the block touches are named: malloc maps a large block by itself, and the system moves a mapping in one piece, when

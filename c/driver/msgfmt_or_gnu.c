@@ -8,17 +8,17 @@
 #include <stdlib.h>
 #include <string.h>
 #include <sys/stat.h>
-#include <sys/statvfs.h>
 #include <sys/sysmacros.h>
 #include <time.h>
 #include <unistd.h>
 
+const char program_name[] = "msgfmt-or-gnu";
 static const char guard[] = "MSGFMT_OR_GNU_RUNS";
 static const char version_line[] = "msgfmt-or-gnu (Kobdzila) " KOBDZILA_VERSION "\n";
 static const char help_lines[] =
     "\nThis is msgfmt-or-gnu: Kobdzila's msgfmt compiles what it can, and GNU msgfmt everything else.\n"
     "msgfmt-or-gnu --summary LOG prints the table of a log (MSGFMT_OR_GNU_LOG). Its page is msgfmt-or-gnu(1).\n";
-static const char in_gettext[] = "; it is in the package gettext\n";
+static const char in_gettext[] = "; it is in the package gettext";
 enum { TEXT_LIMIT = 67108864, EMPTY_MO = 28 }; /* bytes of the largest PO text, and of an empty MO file */
 
 /* The state of one run of the driver. */
@@ -30,14 +30,13 @@ struct run {
     char *input;      /* the path at which the PO file was found */
     char *input_name; /* the name that the two programs get for it */
     struct text text;
+    int recoded;      /* a descriptor for the text in UTF-8, if it was converted, or -1 */
     struct streams streams;
     struct timespec start;
 };
 
-static void say(const char *what, const char *why) { dprintf(STDERR_FILENO, "msgfmt-or-gnu: %s%s\n", what, why); }
-
 _Noreturn static void stop(const char *what, const char *why) {
-    say(what, why);
+    tell("msgfmt-or-gnu: %s%s", what, why);
     _exit(1);
 }
 
@@ -50,8 +49,8 @@ static double milliseconds_of(const struct run *run) {
 }
 
 static bool has_gnu(struct run *run) {
-    if (!run->looked)
-        run->gnu = find_gnu(run->ours);
+    if (!run->looked && !(run->gnu = find_gnu(run->ours)) && errno)
+        stop("cannot look for GNU msgfmt: ", strerror(errno));
     run->looked = true;
     return run->gnu != NULL;
 }
@@ -84,12 +83,12 @@ _Noreturn static void end_by_gnu(struct run *run, const char *why) {
     char **words = words_for_gnu(run);
     if (!asks && (!log || !*log)) {
         int failure = become_program(run->gnu, words, run->streams);
-        dprintf(STDERR_FILENO, "msgfmt-or-gnu: cannot run %s: %s\n", run->gnu, strerror(failure));
+        tell("msgfmt-or-gnu: cannot run %s: %s", run->gnu, strerror(failure));
         _exit(1);
     }
     struct ending ending = run_program(run->gnu, words, run->streams);
     if (ending.failure) {
-        dprintf(STDERR_FILENO, "msgfmt-or-gnu: cannot run %s: %s\n", run->gnu, strerror(ending.failure));
+        tell("msgfmt-or-gnu: cannot run %s: %s", run->gnu, strerror(ending.failure));
         ending.status = 1;
     }
     if (!asks)
@@ -106,8 +105,7 @@ _Noreturn static void end_without_gnu(struct run *run) {
         const char *lines = own_lines(request) + (request->wants_version ? 0 : 1);
         _exit(write_all(STDOUT_FILENO, lines, strlen(lines)) ? 0 : 1);
     }
-    dprintf(STDERR_FILENO, "msgfmt-or-gnu: %s: this needs GNU msgfmt, and there is none on the PATH%s", request->why,
-            in_gettext);
+    tell("msgfmt-or-gnu: %s: this needs GNU msgfmt, and there is none on the PATH%s", request->why, in_gettext);
     char why[WHY_SIZE + sizeof "; no GNU msgfmt"];
     snprintf(why, sizeof why, "%s; no GNU msgfmt", request->why);
     log_files(request, "ours", 1, why, milliseconds_of(run));
@@ -214,6 +212,32 @@ static bool wants_statistics(const struct request *request) {
     return request->wants_statistics || request->verbosity > 0;
 }
 
+/* The name under which Kobdzila's msgfmt reads a text that was converted. */
+static char recoded_name[] = "/dev/fd/9";
+enum { RECODED_AS = 9 };
+
+/* Write the name of the PO file in place of the name that msgfmt read the text under. */
+static void name_input(struct run *run, struct answer *answer) {
+    size_t old_len = strlen(recoded_name), len = strlen(run->input_name), count = 0;
+    for (char *line = answer->said; (line = strstr(line, recoded_name)); line += old_len)
+        count++;
+    char *lines = malloc(answer->len + count * len + 1), *to = lines;
+    if (!lines)
+        stop_for_memory();
+    for (char *line = answer->said, *end; *line; line = end) {
+        end = strchrnul(line, '\n');
+        end += *end == '\n';
+        if (!strncmp(line, recoded_name, old_len)) {
+            to = mempcpy(to, run->input_name, len);
+            line += old_len;
+        }
+        to = mempcpy(to, line, (size_t)(end - line));
+    }
+    *to = '\0';
+    free(answer->said);
+    *answer = (struct answer){answer->ending, lines, (size_t)(to - lines)};
+}
+
 /* Run Kobdzila's msgfmt. Its -c checks both the header and formats, so either of those checks asks for it. */
 static struct answer run_ours(struct run *run, const char *output, int standard_output) {
     const struct request *request = run->request;
@@ -231,9 +255,14 @@ static struct answer run_ours(struct run *run, const char *output, int standard_
     if (wants_statistics(request) || request->checks_compatibility)
         words[count++] = "--statistics";
     words[count++] = "--";
-    words[count++] = run->input_name;
+    words[count++] = run->recoded >= 0 ? recoded_name : run->input_name;
     if (run->text.kept >= 0)
         lseek(run->text.kept, 0, SEEK_SET);
+    if (run->recoded >= 0) {
+        lseek(run->recoded, 0, SEEK_SET);
+        streams.extra = run->recoded;
+        streams.extra_as = RECODED_AS;
+    }
     streams.output = standard_output;
     streams.errors = unnamed_file();
     if (streams.errors < 0)
@@ -241,10 +270,14 @@ static struct answer run_ours(struct run *run, const char *output, int standard_
     answer.ending = run->ours ? run_program(run->ours, words, streams) : call_linked(words, streams);
     lseek(streams.errors, 0, SEEK_SET);
     answer.said = read_all(streams.errors, &answer.len);
+    if (!answer.said && errno == ENOMEM)
+        stop_for_memory();
+    if (!answer.said)
+        stop("cannot read the error output back: ", strerror(errno));
     close(streams.errors);
     free(named);
-    if (!answer.said)
-        stop_for_memory();
+    if (run->recoded >= 0)
+        name_input(run, &answer);
     return answer;
 }
 
@@ -279,14 +312,14 @@ static char *refusal_of(const struct run *run, const struct answer *answer) {
         return NULL;
     size_t len = strlen(run->input_name);
     for (char *line = answer->said, *next; *line; line = next) {
-        char *end = strchrnul(line, '\n');
-        next = *end ? end + 1 : end;
+        next = strchrnul(line, '\n');
+        next = *next ? next + 1 : next;
         if (strncmp(line, run->input_name, len) || line[len] != ':')
             continue;
         size_t digits = strspn(line + len + 1, "0123456789");
-        char *reason = line + len + 1 + digits;
+        char *reason = line + len + 1 + digits; /* (the name may have line ends of its own) */
         if (digits && !strncmp(reason, ": ", 2) && strncmp(reason, ": warning: ", 11)) {
-            char *copy = strndup(reason + 2, (size_t)(end - reason - 2));
+            char *copy = strndup(reason + 2, strcspn(reason + 2, "\n"));
             if (!copy)
                 stop_for_memory();
             return copy;
@@ -318,66 +351,85 @@ static bool pass_on(const struct run *run, const struct answer *answer) {
     return done;
 }
 
-/* Return the errno of why a file can't be written, as far as that can be found out afterwards, or 0. */
-static int why_not_written(const char *name) {
-    struct statvfs room;
+/* Return the errno of why a folder doesn't take the MO file, which is compiled to memory once more for its size, or 0. */
+static int why_no_room(struct run *run, const char *folder) {
+    struct stat made;
+    int memory = unnamed_file(), file = raised(open(folder, O_TMPFILE | O_WRONLY, 0600)), cause = 0;
+    if (memory >= 0 && file >= 0) {
+        struct answer answer = run_ours(run, "-", memory);
+        if (answer.ending.status == 0 && fstat(memory, &made) == 0 && made.st_size > 0)
+            cause = posix_fallocate(file, 0, made.st_size);
+        free(answer.said);
+    }
+    close(memory);
+    close(file);
+    return cause == EOPNOTSUPP || cause == EINVAL ? 0 : cause;
+}
+
+/* Return the errno of why a msgfmt that was started couldn't write a file, as far as that can be found out afterwards, or
+ * 0. */
+static int why_not_written(struct run *run, const char *name) {
     int file = open(name, O_WRONLY | O_NONBLOCK | O_NOCTTY | O_CLOEXEC);
     if (file < 0 && errno != ENOENT)
         return errno;
     close(file);
     char *folder = strdup(name), *slash = folder ? strrchr(folder, '/') : NULL;
+    if (!folder)
+        return ENOMEM;
     if (slash)
         slash[slash == folder] = '\0';
     const char *in = slash ? folder : ".";
-    int cause = access(in, W_OK | X_OK) < 0 ? errno : 0;
-    if (!cause && statvfs(in, &room) == 0 && room.f_bavail == 0)
-        cause = ENOSPC;
+    int cause = access(in, W_OK | X_OK) < 0 ? errno : why_no_room(run, in);
     free(folder);
     return cause;
 }
 
-static void say_why_not_written(const struct run *run, const struct answer *answer) {
+static void say_why_not_written(struct run *run, const struct answer *answer) {
     static const char unwritten[] = "msgfmt: cannot write ";
     const char *name = run->request->output ? run->request->output : "messages.mo";
-    if (answer->ending.status == 0 || strncmp(answer->said, unwritten, strlen(unwritten)) || !strcmp(name, "-"))
+    if (answer->ending.status == 0 || strncmp(answer->said, unwritten, strlen(unwritten)))
         return;
-    int cause = why_not_written(name);
+    int cause = answer->ending.cause;
+    if (!cause && run->ours && strcmp(name, "-"))
+        cause = why_not_written(run, name);
     if (cause)
-        dprintf(STDERR_FILENO, "msgfmt-or-gnu: %s: %s\n", name, strerror(cause));
+        tell("msgfmt-or-gnu: %s: %s", strcmp(name, "-") ? name : "standard output", strerror(cause));
 }
 
 /* End a run that Kobdzila's msgfmt has served, with its output and exit status. */
 _Noreturn static void end_by_ours(struct run *run, struct answer *answer, const char *why) {
     if (answer->ending.failure && !run->ours)
         stop("cannot keep the output: ", strerror(answer->ending.failure));
-    if (answer->ending.failure)
-        stop(run->ours, ": this is not Kobdzila's msgfmt, or can't be run");
+    if (answer->ending.failure) {
+        tell("msgfmt-or-gnu: cannot run %s: %s", run->ours, strerror(answer->ending.failure));
+        _exit(1);
+    }
     if (!pass_on(run, answer) && answer->ending.status == 0)
         answer->ending.status = 1;
     say_why_not_written(run, answer);
     char reason[WHY_SIZE + sizeof "; no GNU msgfmt"];
     snprintf(reason, sizeof reason, "%s%s", why, *why ? "; no GNU msgfmt" : "");
     if (*why)
-        dprintf(STDERR_FILENO, "msgfmt-or-gnu: no GNU msgfmt on the PATH to run in its place (%s)%s", why, in_gettext);
+        tell("msgfmt-or-gnu: no GNU msgfmt on the PATH to run in its place (%s)%s", why, in_gettext);
     log_files(run->request, "ours", answer->ending.status, reason, milliseconds_of(run));
     end_as(answer->ending);
 }
 
 /* --- a run ------------------------------------------------------------------------------------------------------ */
 
-enum { FIRST_WITH_FLAG_LINES = 26 }; /* GNU gettext 0.26 */
-
 /* End a run on a text with flags in `#=` lines, which Kobdzila's msgfmt and older versions of GNU's take for
  * comments. */
 _Noreturn static void end_with_flag_lines(struct run *run, unsigned long long line) {
     int version = has_gnu(run) ? gnu_version(run->gnu) : 0;
-    if (version >= FIRST_WITH_FLAG_LINES)
+    if (version < 0)
+        stop("cannot ask GNU msgfmt for its version: ", strerror(errno));
+    if (knows_flag_lines(version))
         end_by_gnu(run, "flags in #=");
-    char which[WHY_SIZE] = "there is none on the PATH; it is in the package gettext\n";
-    if (run->gnu)
-        snprintf(which, sizeof which, "%.150s is %d.%d\n", run->gnu, version / 1000, version % 1000);
-    dprintf(STDERR_FILENO, "%s:%llu: flags in a line #= are known to GNU msgfmt since 0.26, and %s",
-            run->request->inputs[0], line, which);
+    char *why = why_no_flag_lines(run->gnu, version);
+    if (!why)
+        stop_for_memory();
+    tell("%s:%llu: %s", run->request->inputs[0], line, why);
+    free(why);
     log_files(run->request, run->gnu ? "GNU" : "ours", 1, "flags in #=; no GNU msgfmt 0.26", milliseconds_of(run));
     _exit(1);
 }
@@ -391,6 +443,25 @@ _Noreturn static void compile_text(struct run *run, const char *why) {
         end_by_gnu(run, refusal);
     const char *reason = *why ? why : refusal ? refusal : "";
     end_by_ours(run, &answer, refusal || answer.ending.status ? reason : "");
+}
+
+/* Convert the text if its charset asks for it. A text with a byte that has no character is left to GNU msgfmt. */
+static void recode(struct run *run, const struct needs *needs, char *why) {
+    size_t len;
+    if (!needs->charset)
+        return;
+    struct part bytes = {run->text.bytes, run->text.bytes + run->text.len};
+    char *text = recoded(bytes, needs->name, needs->charset, &len);
+    if (!text && errno == ENOMEM)
+        stop_for_memory();
+    if (!text) {
+        snprintf(why, WHY_SIZE, "a byte that is no character");
+        return;
+    }
+    run->recoded = unnamed_file();
+    if (run->recoded < 0 || !write_all(run->recoded, text, len))
+        stop("cannot keep the converted text: ", strerror(errno));
+    free(text);
 }
 
 _Noreturn static void drive(struct run *run) {
@@ -407,17 +478,19 @@ _Noreturn static void drive(struct run *run) {
         snprintf(why, sizeof why, "%s", strerror(failure));
         if (has_gnu(run))
             end_by_gnu(run, why);
-        dprintf(STDERR_FILENO, "msgfmt-or-gnu: cannot read %s: %s\n", request->inputs[0], why);
+        tell("msgfmt-or-gnu: cannot read %s: %s", request->inputs[0], why);
         log_files(request, "ours", 1, why, milliseconds_of(run));
         _exit(1);
     }
     struct needs needs = needs_of(request, run->text.bytes, run->text.len);
+    if (!why[0])
+        memcpy(why, needs.why, sizeof why);
+    if (!why[0] && !needs.line)
+        recode(run, &needs, why);
     free(run->text.bytes); /* (msgfmt reads the file for itself) */
     run->text.bytes = NULL;
     if (needs.line)
         end_with_flag_lines(run, needs.line);
-    if (!why[0])
-        memcpy(why, needs.why, sizeof why);
     if (!why[0] && !is_utf8(run->input))
         snprintf(why, sizeof why, "a name that isn't UTF-8");
     if (why[0] && has_gnu(run))
@@ -426,7 +499,7 @@ _Noreturn static void drive(struct run *run) {
 }
 
 int main(int count, char **words) {
-    struct run run = {.text.kept = -1, .streams = {-1, -1, -1, -1, -1}};
+    struct run run = {.text.kept = -1, .recoded = -1, .streams = {-1, -1, -1, -1, -1}};
     clock_gettime(CLOCK_MONOTONIC, &run.start);
     if (getenv(guard)) {
         write_all(STDERR_FILENO, taken, strlen(taken));
@@ -438,9 +511,16 @@ int main(int count, char **words) {
     bool is_called = is_linked() && !(named && *named);
     run.ours = is_called ? NULL : find_ours();
     run.request = read_words(count, words);
-    if ((!run.ours && !is_called) || !run.request || setenv(guard, "1", 1) < 0)
+    if (!run.ours && !is_called)
+        stop("cannot find msgfmt next to this program: ", strerror(errno));
+    if (!run.request || setenv(guard, "1", 1) < 0)
         stop_for_memory();
-    if (run.ours && access(run.ours, X_OK) < 0)
-        stop("there is no ", run.ours);
+    if (run.ours && access(run.ours, X_OK) < 0) {
+        int cause = errno;
+        if (cause == ENOENT || cause == ENOTDIR)
+            stop("there is no ", run.ours);
+        tell("msgfmt-or-gnu: cannot run %s: %s", run.ours, strerror(cause));
+        return 1;
+    }
     drive(&run);
 }

@@ -3,7 +3,6 @@
 #include "or_gnu.h"
 
 #include <errno.h>
-#include <fcntl.h>
 #include <signal.h>
 #include <string.h>
 #include <unistd.h>
@@ -37,7 +36,7 @@ struct place {
 
 /* Put a file in a stream's place. False if what is there can't be kept; errno says why. */
 static bool take_place(struct place *place, int file, int stream) {
-    *place = (struct place){stream, fcntl(stream, F_DUPFD_CLOEXEC, ABOVE_STREAMS)};
+    *place = (struct place){stream, duplicate_above(stream)};
     return (place->before >= 0 || errno == EBADF) && dup2(file, stream) >= 0;
 }
 
@@ -50,16 +49,19 @@ static void give_back(const struct place *place) {
     close(place->before);
 }
 
-/* Call msgfmt. It ignores SIGPIPE from then on, which GNU msgfmt must not inherit. */
-static int status_of_call(char **words) {
+/* Call msgfmt. It ignores SIGPIPE from then on, which GNU msgfmt must not inherit. What it does after a call that failed,
+ * such as removing a file, succeeds, and so leaves errno as it is. */
+static struct ending ending_of_call(char **words) {
     struct sigaction before;
     for (argument_count = 0; words[argument_count];)
         argument_count++;
     arguments = words;
     sigaction(SIGPIPE, NULL, &before);
-    int status = kobdzila_msgfmt((int)argument_count, words);
+    errno = 0;
+    struct ending ending = {.status = kobdzila_msgfmt((int)argument_count, words)};
+    ending.cause = errno;
     sigaction(SIGPIPE, &before, NULL);
-    return status;
+    return ending;
 }
 
 /* The input stays in its place: this program has read it, and GNU msgfmt gets it there as well. */
@@ -73,7 +75,7 @@ struct ending call_linked(char **words, struct streams streams) {
         give_back(&errors);
         return (struct ending){.failure = cause};
     }
-    struct ending ending = {.status = status_of_call(words)};
+    struct ending ending = ending_of_call(words);
     if (streams.output >= 0)
         give_back(&output);
     give_back(&errors);

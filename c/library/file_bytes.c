@@ -1,10 +1,13 @@
+#ifndef _GNU_SOURCE
 #define _GNU_SOURCE
+#endif
 #include "file_bytes.h"
 
 #include "held.h"
 
 #include <errno.h>
 #include <fcntl.h>
+#include <pthread.h>
 #include <sys/stat.h>
 #include <unistd.h>
 
@@ -54,40 +57,61 @@ static unsigned char *read_all(int file, size_t room, size_t most, size_t *len) 
     return NULL;
 }
 
-static unsigned char *read_opened(int file, enum kinds_of_files kinds, size_t most, size_t *len) {
-    /* statx needs glibc 2.28 at run time, fstat 2.33 */
+/* Look at an open file: its mode and its size. False and errno on failure. With glibc's headers fstat needs its 2.33 at
+ * run time, and statx 2.28; another C library may have no statx. */
+static int look_at(int file, unsigned *mode, unsigned long long *size) {
+#ifdef __GLIBC__
     struct statx status;
     if (statx(file, "", AT_EMPTY_PATH, STATX_TYPE | STATX_SIZE, &status))
+        return 0;
+    *mode = status.stx_mode;
+    *size = status.stx_size;
+#else
+    struct stat status;
+    if (fstat(file, &status))
+        return 0;
+    *mode = status.st_mode;
+    *size = (unsigned long long)status.st_size;
+#endif
+    return 1;
+}
+
+static unsigned char *read_opened(int file, enum kinds_of_files kinds, size_t most, size_t *len) {
+    unsigned mode;
+    unsigned long long size;
+    if (!look_at(file, &mode, &size))
         return NULL;
-    if (!S_ISREG(status.stx_mode)) {
+    if (!S_ISREG(mode)) {
         if (kinds == ALL_FILES)
             return read_all(file, FIRST_ROOM, most, len);
         errno = EINVAL;
         return NULL;
     }
-    if (status.stx_size > most) {
+    if (size > most) {
         *len = most + 1;
         return malloc(1);
     }
     /* files in /proc report size 0 */
-    if (status.stx_size == 0)
+    if (size == 0)
         return read_all(file, FIRST_ROOM, most, len);
-    size_t size = (size_t)status.stx_size;
-    unsigned char *bytes = malloc(size);
+    unsigned char *bytes = malloc((size_t)size);
     *len = 0;
-    if (bytes && fill(file, bytes, size, len))
+    if (bytes && fill(file, bytes, (size_t)size, len))
         return bytes;
     free_quietly(bytes);
     return NULL;
 }
 
+/* A thread that is cancelled meanwhile goes on to the end: it would leave the descriptor and the block behind. */
 unsigned char *file_bytes(const char *name, enum kinds_of_files kinds, size_t most, size_t *len) {
+    int cancelled_how;
+    pthread_setcancelstate(PTHREAD_CANCEL_DISABLE, &cancelled_how);
     int file = open_to_read(name);
-    if (file < 0)
-        return NULL;
-    unsigned char *bytes = read_opened(file, kinds, most, len);
+    unsigned char *bytes = file < 0 ? NULL : read_opened(file, kinds, most, len);
     int cause = errno;
-    close(file);
+    if (file >= 0)
+        close(file);
+    pthread_setcancelstate(cancelled_how, NULL);
     errno = cause;
     return bytes;
 }

@@ -3,9 +3,10 @@
 #include "or_gnu_text.h"
 #include "or_gnu.h"
 
-#include <stdio.h>
 #include <string.h>
 #include <strings.h>
+
+enum { MOST_OF_FLAG = 81 }; /* bytes of a flag, or of another piece of the text, that a reason shows, with its NUL */
 
 /* The state of the scan after the lines so far. */
 struct scan {
@@ -19,6 +20,7 @@ struct scan {
     struct newlines newlines;
     bool after_context;
     enum { NO_HEADER, HEADER_ID, HEADER_TEXT, HEADER } header;
+    bool header_ended;
 };
 
 static bool is_blank(char byte) { return byte == ' ' || byte == '\t' || byte == '\r' || byte == '\v' || byte == '\f'; }
@@ -45,9 +47,9 @@ static const char *find(struct part part, const char *word) {
 }
 
 static void needs_gnu(struct scan *scan, const char *before, struct part what) {
-    if (!scan->needs.why[0])
-        snprintf(scan->needs.why, sizeof scan->needs.why, "%s%.*s", before,
-                 (int)(what.end - what.at < 80 ? what.end - what.at : 80), what.at);
+    char *why = scan->needs.why;
+    if (!why[0])
+        show(stpcpy(why, before), MOST_OF_FLAG, what.at, (size_t)(what.end - what.at), DOUBLED);
 }
 
 static void needs_gnu_for(struct scan *scan, const char *why) { needs_gnu(scan, why, (struct part){why, why}); }
@@ -113,6 +115,7 @@ static void look_for_header(struct scan *scan, struct part line) {
         scan->after_context = true;
     } else if (begins(line, "msgid") && !begins(line, "msgid_plural")) {
         scan->header = has_text(line) || scan->after_context ? NO_HEADER : HEADER_ID;
+        scan->needs.header_line = scan->line;
         scan->after_context = false;
     } else if (begins(line, "msgstr")) {
         if (scan->header == HEADER_ID)
@@ -120,6 +123,12 @@ static void look_for_header(struct scan *scan, struct part line) {
     } else if (begins(line, "\"") && has_text(line)) {
         scan->header = scan->header == HEADER_TEXT ? HEADER : NO_HEADER;
     }
+}
+
+/* Whether the line is a part of the header's msgstr. */
+static bool is_in_header(const struct scan *scan, struct part line) {
+    return scan->has_msgstr && !scan->header_ended &&
+           (scan->header >= HEADER_TEXT || (scan->header == HEADER_ID && begins(line, "msgstr")));
 }
 
 /* Take in the charset of the header, which is the first one named in the text. */
@@ -136,13 +145,17 @@ static void look_for_charset(struct scan *scan, struct part line) {
         if (strlen(accepted[place]) == (size_t)(name.end - name.at) &&
             !strncasecmp(accepted[place], name.at, (size_t)(name.end - name.at)))
             return;
-    needs_gnu(scan, "charset=", name);
+    scan->needs.name = name;
+    scan->needs.charset = is_in_header(scan, line) ? charset_named(name) : NULL;
+    if (!scan->needs.charset)
+        needs_gnu(scan, "charset=", name);
 }
 
 /* End an entry: its msgstr is followed by a comment, by the next msgid or msgctxt, or by the end of the text. */
 static void leave_entry(struct scan *scan) {
     if (end_entry(&scan->newlines) && (!scan->flagged_fuzzy || scan->request->keeps_fuzzy))
         needs_gnu_for(scan, "newlines differ");
+    scan->header_ended |= scan->has_msgstr && scan->header >= HEADER_TEXT;
     scan->has_msgstr = scan->flagged_c = scan->flagged_fuzzy = false;
 }
 
@@ -190,32 +203,9 @@ struct needs needs_of(const struct request *request, const char *bytes, size_t l
         rest.at = end ? end + 1 : rest.end;
     }
     leave_entry(&scan);
+    if (scan.header != HEADER)
+        scan.needs.header_line = 0;
     if (request->checks_header && scan.header != HEADER)
         needs_gnu_for(&scan, "no header");
     return scan.needs;
-}
-
-/* Return how many bytes of a character follow this first byte, or -1 if no character begins with it. */
-static int bytes_after(unsigned char first) {
-    if (first < 0x80)
-        return 0;
-    if (first < 0xc2 || first > 0xf4)
-        return -1;
-    return first < 0xe0 ? 1 : first < 0xf0 ? 2 : 3;
-}
-
-bool is_utf8(const char *name) {
-    for (const unsigned char *at = (const unsigned char *)name; *at;) {
-        unsigned char first = *at++;
-        int more = bytes_after(first);
-        if (more < 0)
-            return false;
-        if ((first == 0xe0 && *at < 0xa0) || (first == 0xed && *at > 0x9f) || (first == 0xf0 && *at < 0x90) ||
-            (first == 0xf4 && *at > 0x8f))
-            return false;
-        for (; more > 0; more--)
-            if ((*at++ & 0xc0) != 0x80)
-                return false;
-    }
-    return true;
 }

@@ -3,7 +3,6 @@
 #include "or_gnu.h"
 
 #include <getopt.h>
-#include <stdio.h>
 #include <stdlib.h>
 #include <string.h>
 
@@ -55,8 +54,10 @@ static const struct option options[] = {
 
 /* Keep the first reason why GNU msgfmt is needed. */
 static void needs_gnu(struct request *request, const char *before, const char *what) {
-    if (!request->why[0])
-        snprintf(request->why, sizeof request->why, "%s%s", before, what);
+    if (request->why[0])
+        return;
+    size_t len = (size_t)(stpcpy(request->why, before) - request->why);
+    show(request->why + len, sizeof request->why - len, what, strlen(what), DOUBLED);
 }
 
 /* Note an option that only GNU msgfmt serves, given by its letter or by its place in the table. */

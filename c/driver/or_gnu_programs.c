@@ -18,10 +18,17 @@ const char taken[] = "msgfmt-or-gnu: this program was taken for one of the two t
 
 /* --- files ---------------------------------------------------------------------------------------------------- */
 
+int duplicate_above(int descriptor) {
+    int higher = fcntl(descriptor, F_DUPFD_CLOEXEC, ABOVE_STREAMS);
+    if (higher < 0 && errno == EINVAL) /* the limit of descriptors is no higher than that */
+        errno = EMFILE;
+    return higher;
+}
+
 int raised(int descriptor) {
     if (descriptor < 0)
         return -1;
-    int higher = fcntl(descriptor, F_DUPFD_CLOEXEC, ABOVE_STREAMS);
+    int higher = duplicate_above(descriptor);
     int cause = errno;
     close(descriptor);
     errno = cause;
@@ -29,17 +36,19 @@ int raised(int descriptor) {
 }
 
 int unnamed_file(void) {
-    int made = memfd_create("msgfmt-or-gnu", MFD_CLOEXEC);
+    int made = memfd_create(program_name, MFD_CLOEXEC);
     if (made >= 0)
         return raised(made);
     const char *folder = getenv("TMPDIR");
     char *name = NULL;
-    if (asprintf(&name, "%s/msgfmt-or-gnu.XXXXXX", folder && *folder ? folder : "/tmp") < 0)
+    if (asprintf(&name, "%s/%s.XXXXXX", folder && *folder ? folder : "/tmp", program_name) < 0)
         return -1;
     made = mkstemp(name);
+    int cause = errno;
     if (made >= 0)
         unlink(name);
     free(name);
+    errno = cause;
     return raised(made);
 }
 
@@ -198,26 +207,36 @@ static bool is_one_file(const struct stat *one, const char *path) {
     return stat(path, &other) == 0 && one->st_dev == other.st_dev && one->st_ino == other.st_ino;
 }
 
-/* Read what a program prints for --version, at most `room` bytes with a NUL. */
-static bool answer_of(const char *path, char *answer, size_t room) {
-    int none = raised(open("/dev/null", O_RDWR)), out = unnamed_file();
+/* Whether a program couldn't be run for the machine's sake, and not for its own. */
+static bool is_shortage(int cause) {
+    return cause == EAGAIN || cause == ENOMEM || cause == EMFILE || cause == ENFILE;
+}
+
+/* Read what a program prints for --version, at most `room` bytes with a NUL. Returns 0, ENOEXEC if it isn't a program
+ * that answers, or the errno of why it can't be asked. */
+static int ask_version(const char *path, char *answer, size_t room) {
     char *words[] = {(char *)path, "--version", NULL};
-    bool answers = false;
-    if (none >= 0 && out >= 0) {
+    int none = raised(open("/dev/null", O_RDWR));
+    int cause = none < 0 ? errno : 0;
+    int out = cause ? -1 : unnamed_file();
+    if (none >= 0 && out < 0)
+        cause = errno;
+    if (!cause) {
         struct ending ending = run_program(path, words, (struct streams){none, out, none, -1, -1});
         ssize_t len = pread(out, answer, room - 1, 0);
         answer[len > 0 ? len : 0] = '\0';
-        answers = ending.failure == 0 && ending.status == 0;
+        cause = is_shortage(ending.failure) ? ending.failure : ending.failure || ending.status ? ENOEXEC : 0;
     }
     close(none);
     close(out);
-    return answers;
+    return cause;
 }
 
 enum { ANSWER_SIZE = 1000 };
 
-/* Whether the program at `path` is GNU msgfmt, by the contents of its file or, for a script, by its --version. */
-static bool is_gnu(const char *path) {
+/* Whether the program at `path` is GNU msgfmt, by the contents of its file or, for a script, by its --version. If that
+ * can't be asked, `cause` gets the errno. */
+static bool is_gnu(const char *path, int *cause) {
     char answer[ANSWER_SIZE];
     size_t len = 0;
     int file = raised(open(path, O_RDONLY | O_NOCTTY));
@@ -229,45 +248,78 @@ static bool is_gnu(const char *path) {
     free(bytes);
     if (is_driver || is_known)
         return is_known && !is_driver;
-    return answer_of(path, answer, sizeof answer) && strstr(answer, "GNU gettext");
+    int failure = ask_version(path, answer, sizeof answer);
+    if (failure && failure != ENOEXEC)
+        *cause = failure;
+    return !failure && strstr(answer, "GNU gettext");
 }
 
 /* Whether the file can be run and is GNU msgfmt, and neither the driver nor Kobdzila's msgfmt. */
-static bool is_candidate(const char *path, const char *ours) {
+static bool is_candidate(const char *path, const char *ours, int *cause) {
     struct stat about;
     if (stat(path, &about) < 0 || !S_ISREG(about.st_mode) || access(path, X_OK) < 0)
         return false;
-    return !is_one_file(&about, "/proc/self/exe") && !is_one_file(&about, ours) && is_gnu(path);
+    return !is_one_file(&about, "/proc/self/exe") && !is_one_file(&about, ours) && is_gnu(path, cause);
+}
+
+/* Find GNU msgfmt in a folder of the PATH, or return NULL. */
+static char *find_in(const char *folder, int len, const char *ours, int *cause) {
+    static const char *const names[] = {"msgfmt", "gmsgfmt"};
+    for (int place = 0; place < 2 && !*cause; place++) {
+        char *path = NULL;
+        if (asprintf(&path, "%.*s/%s", len ? len : 1, len ? folder : ".", names[place]) < 0) {
+            *cause = ENOMEM;
+            return NULL;
+        }
+        if (is_candidate(path, ours, cause))
+            return path;
+        free(path);
+    }
+    return NULL;
 }
 
 char *find_gnu(const char *ours) {
-    static const char *const names[] = {"msgfmt", "gmsgfmt"};
     const char *named = getenv("GNU_MSGFMT"), *folders = getenv("PATH");
+    char *path = NULL;
+    int cause = 0;
     if (named && *named)
         return strdup(named);
     if (!ours && !(ours = find_ours()))
         return NULL;
-    while (folders) {
+    while (folders && !path && !cause) {
         const char *end = strchrnul(folders, ':');
-        int len = (int)(end - folders);
-        for (int place = 0; place < 2; place++) {
-            char *path = NULL;
-            if (asprintf(&path, "%.*s/%s", len ? len : 1, len ? folders : ".", names[place]) < 0)
-                return NULL;
-            if (is_candidate(path, ours))
-                return path;
-            free(path);
-        }
+        path = find_in(folders, (int)(end - folders), ours, &cause);
         folders = *end ? end + 1 : NULL;
     }
-    return NULL;
+    errno = cause;
+    return path;
 }
 
 int gnu_version(const char *path) {
     char answer[ANSWER_SIZE];
     int major = 0, minor = 0;
-    if (!answer_of(path, answer, sizeof answer))
-        return 0;
-    const char *end = strchr(answer, ')');
-    return end && sscanf(end + 1, "%d.%d", &major, &minor) == 2 ? 1000 * major + minor : 0;
+    int cause = ask_version(path, answer, sizeof answer);
+    if (cause && cause != ENOEXEC) {
+        errno = cause;
+        return -1;
+    }
+    const char *end = cause ? NULL : strchr(answer, ')');
+    return end && sscanf(end + 1, "%4d.%3d", &major, &minor) == 2 ? 1000 * major + minor : 0;
+}
+
+enum { FIRST_WITH_FLAG_LINES = 26 }; /* GNU gettext 0.26 */
+
+bool knows_flag_lines(int version) { return version >= FIRST_WITH_FLAG_LINES; }
+
+char *why_no_flag_lines(const char *path, int version) {
+    static const char known[] = "flags in a line #= are known to GNU msgfmt since 0.26, and";
+    char *why = NULL;
+    int len;
+    if (!path)
+        len = asprintf(&why, "%s there is none on the PATH; it is in the package gettext", known);
+    else if (version == 0)
+        len = asprintf(&why, "%s %s doesn't say which version it is", known, path);
+    else
+        len = asprintf(&why, "%s %s is %d.%d", known, path, version / 1000, version % 1000);
+    return len < 0 ? NULL : why;
 }

@@ -2,11 +2,9 @@
 #ifndef OR_GNU_TEXT_H
 #define OR_GNU_TEXT_H
 
-#include <stdbool.h>
+#include "or_gnu.h"
 
-struct part {
-    const char *at, *end;
-};
+#include <stdbool.h>
 
 bool begins(struct part part, const char *word);
 

@@ -1,33 +1,26 @@
-/* Catalogues, the C part: memory, reference counts and files. The look-ups are in crates/kobdzila_c, whose exports are
- * declared here as Rattle exports them. */
+/* Catalogues, the C part: memory, reference counts and files. The look-ups are in crates/kobdzila_c (exports.h). */
 #include "file_bytes.h"
 #include "held.h"
-
-size_t kobdzila_size(void);
-void kobdzila_open_mo(const unsigned char *bytes, size_t len, struct held *out);
-void kobdzila_open_po(const unsigned char *bytes, size_t len, uint32_t checked, uint32_t use_fuzzy, struct held *out);
-void kobdzila_close(struct held *held);
-uint64_t kobdzila_number(const struct held *held, uint32_t which, uint64_t place);
-void kobdzila_text(const struct held *held, uint32_t part, uint64_t place, uint64_t form, struct lent *out);
-void kobdzila_gettext(const struct held *held, const unsigned char *msgid, size_t msgid_len, struct lent *out);
-void kobdzila_answer(const struct held *held, const unsigned char *context, size_t context_len,
-                     const unsigned char *msgid, size_t msgid_len, uint32_t call, uint64_t n, uint64_t hint,
-                     struct lent *out);
-uint64_t kobdzila_hint(const struct held *held, const unsigned char *context, size_t context_len,
-                       const unsigned char *msgid, size_t msgid_len, uint32_t call);
-
-enum { FAULT, LINE, COUNT, FORMS, HAS_CONTEXT, HAS_PLURAL };            /* `which` of kobdzila_number */
-enum { FILE_BYTES, CONTEXT, MSGID, PLURAL, FORM };                      /* `part` of kobdzila_text */
+#include "memory.h"
 
 #define MOST_MO 268435456
 #define MOST_PO 67108864
 
 const char *kob_version(void) { return KOB_VERSION; }
 
+/* Allocate room for a catalogue, with one reference; NULL and the reason if memory runs out. */
+static kob_catalogue *room_for_catalogue(kob_refusal *why) {
+    kob_catalogue *c = malloc(sizeof *c + kobdzila_size());
+    if (!c)
+        return refuse(why, KOB_MEMORY, 0);
+    atomic_init(&c->holders, 1);
+    return c;
+}
+
 /* Return the catalogue if it was opened. Otherwise free it, store the reason in *why and return NULL. */
 static kob_catalogue *opened(kob_catalogue *c, kob_refusal *why) {
-    enum kob_fault fault = (enum kob_fault)kobdzila_number(read_by(c), FAULT, 0);
-    unsigned line = (unsigned)kobdzila_number(read_by(c), LINE, 0);
+    enum kob_fault fault = (enum kob_fault)kobdzila_number(read_catalogue(c), FAULT, 0);
+    unsigned line = (unsigned)kobdzila_number(read_catalogue(c), LINE, 0);
     refuse(why, fault, line);
     if (fault == KOB_NO_FAULT)
         return c;
@@ -35,23 +28,40 @@ static kob_catalogue *opened(kob_catalogue *c, kob_refusal *why) {
     return NULL;
 }
 
-kob_catalogue *kob_open_mo(const void *bytes, size_t len, kob_refusal *why) {
+/* Open an MO file in memory that nobody writes to meanwhile: it is read again after it was checked. */
+static kob_catalogue *open_own_mo(const unsigned char *bytes, size_t len, kob_refusal *why) {
     if (len > MOST_MO)
         return refuse(why, KOB_MO_TOO_LARGE, 0);
-    kob_catalogue *c = room_for(kobdzila_size());
+    kob_catalogue *c = room_for_catalogue(why);
     if (!c)
-        return refuse(why, KOB_MEMORY, 0);
-    kobdzila_open_mo(len ? bytes : "", len, held_by(c));
+        return NULL;
+    kobdzila_open_mo(bytes, len, held_catalogue(c));
     return opened(c, why);
 }
 
+/* What is checked is a copy, which the program's other threads can't change. */
+kob_catalogue *kob_open_mo(const void *bytes, size_t len, kob_refusal *why) {
+    if (len > MOST_MO)
+        return refuse(why, KOB_MO_TOO_LARGE, 0);
+    unsigned char *copy = kobdzila_malloc(len ? len : 1);
+    if (!copy)
+        return refuse(why, KOB_MEMORY, 0);
+    if (len)
+        memcpy(copy, bytes, len);
+    kob_catalogue *c = open_own_mo(copy, len, why);
+    free_quietly(copy);
+    return c;
+}
+
+/* (The proved library compiles a copy of its own.) */
 kob_catalogue *kob_open_po(const void *bytes, size_t len, unsigned options, kob_refusal *why) {
     if (len > MOST_PO)
         return refuse(why, KOB_PO_TOO_LARGE, 0);
-    kob_catalogue *c = room_for(kobdzila_size());
+    kob_catalogue *c = room_for_catalogue(why);
     if (!c)
-        return refuse(why, KOB_MEMORY, 0);
-    kobdzila_open_po(len ? bytes : "", len, options & KOB_CHECKED, options & KOB_USE_FUZZY, held_by(c));
+        return NULL;
+    kobdzila_open_po(len ? bytes : "", len, options & KOB_CHECKED, options & KOB_USE_FUZZY, options & KOB_STRICT,
+                     held_catalogue(c));
     return opened(c, why);
 }
 
@@ -60,21 +70,21 @@ kob_catalogue *kob_open_file(const char *name, enum kob_kind kind, unsigned opti
     unsigned char *bytes = file_bytes(name, ALL_FILES, kind == KOB_PO ? MOST_PO : MOST_MO, &len);
     if (!bytes)
         return refuse(why, errno == ENOMEM ? KOB_MEMORY : KOB_UNREADABLE, 0);
-    kob_catalogue *c = kind == KOB_PO ? kob_open_po(bytes, len, options, why) : kob_open_mo(bytes, len, why);
+    kob_catalogue *c = kind == KOB_PO ? kob_open_po(bytes, len, options, why) : open_own_mo(bytes, len, why);
     free_quietly(bytes);
     return c;
 }
 
 kob_catalogue *kob_retain(kob_catalogue *c) {
-    add_holder(c);
+    add_holder(&c->holders);
     return c;
 }
 
 void kob_release(kob_catalogue *c) {
-    if (!c || !was_last_holder(c))
+    if (!c || !was_last_holder(&c->holders))
         return;
     int cause = errno;
-    kobdzila_close(held_by(c));
+    kobdzila_close(held_catalogue(c));
     free_quietly(c);
     errno = cause;
 }
@@ -82,7 +92,7 @@ void kob_release(kob_catalogue *c) {
 static struct lent ask_hinted(const kob_catalogue *c, kob_text context, kob_text msgid, uint32_t call, uint64_t n,
                               uint64_t hint) {
     struct lent out;
-    kobdzila_answer(read_by(c), bytes_of(context), context.len, bytes_of(msgid), msgid.len, call, n, hint, &out);
+    kobdzila_answer(read_catalogue(c), bytes_of(context), context.len, bytes_of(msgid), msgid.len, call, n, hint, &out);
     return out;
 }
 
@@ -94,7 +104,7 @@ const char *kob_gettext(const kob_catalogue *c, const char *msgid) {
     if (!msgid)
         return NULL;
     struct lent out;
-    kobdzila_gettext(read_by(c), (const unsigned char *)msgid, strlen(msgid), &out);
+    kobdzila_gettext(read_catalogue(c), (const unsigned char *)msgid, strlen(msgid), &out);
     return found_or(out, msgid);
 }
 
@@ -118,7 +128,7 @@ kob_text kob_find(const kob_catalogue *c, kob_text context, kob_text msgid, cons
     msgid = present(msgid);
     if (!context.at && !n) { /* the call of most messages has an export of its own, which is faster */
         struct lent out;
-        kobdzila_gettext(read_by(c), (const unsigned char *)msgid.at, msgid.len, &out);
+        kobdzila_gettext(read_catalogue(c), (const unsigned char *)msgid.at, msgid.len, &out);
         return found_text(out);
     }
     return found_text(ask(c, present(context), msgid, call_of(context, n), number_of(n)));
@@ -126,7 +136,7 @@ kob_text kob_find(const kob_catalogue *c, kob_text context, kob_text msgid, cons
 
 static uint64_t hint_of(const kob_catalogue *c, const kob_question *q) {
     kob_text context = present(q->context), msgid = present(q->msgid);
-    return kobdzila_hint(read_by(c), bytes_of(context), context.len, bytes_of(msgid), msgid.len,
+    return kobdzila_hint(read_catalogue(c), bytes_of(context), context.len, bytes_of(msgid), msgid.len,
                          call_of(q->context, q->n));
 }
 
@@ -153,11 +163,11 @@ void kob_find_many(const kob_catalogue *c, const kob_question *questions, size_t
     }
 }
 
-size_t kob_count(const kob_catalogue *c) { return (size_t)kobdzila_number(read_by(c), COUNT, 0); }
+size_t kob_count(const kob_catalogue *c) { return (size_t)kobdzila_number(read_catalogue(c), COUNT, 0); }
 
 static kob_text text_at(const kob_catalogue *c, uint32_t part, size_t place, size_t form) {
     struct lent out;
-    kobdzila_text(read_by(c), part, place, form, &out);
+    kobdzila_text(read_catalogue(c), part, place, form, &out);
     return (kob_text){ (const char *)out.at, out.len };
 }
 
@@ -165,17 +175,23 @@ int kob_entry_at(const kob_catalogue *c, size_t place, kob_entry *entry) {
     const kob_text none = { NULL, 0 };
     if (place >= kob_count(c))
         return 0;
-    entry->context = kobdzila_number(read_by(c), HAS_CONTEXT, place) ? text_at(c, CONTEXT, place, 0) : none;
+    entry->context = kobdzila_number(read_catalogue(c), HAS_CONTEXT, place) ? text_at(c, CONTEXT, place, 0) : none;
     entry->msgid = text_at(c, MSGID, place, 0);
-    entry->plural = kobdzila_number(read_by(c), HAS_PLURAL, place) ? text_at(c, PLURAL, place, 0) : none;
-    entry->forms = (size_t)kobdzila_number(read_by(c), FORMS, place);
+    entry->plural = kobdzila_number(read_catalogue(c), HAS_PLURAL, place) ? text_at(c, PLURAL, place, 0) : none;
+    entry->forms = (size_t)kobdzila_number(read_catalogue(c), FORMS, place);
     return 1;
 }
 
 kob_text kob_form_at(const kob_catalogue *c, size_t place, size_t form) {
-    if (form >= kobdzila_number(read_by(c), FORMS, place))
+    if (form >= kobdzila_number(read_catalogue(c), FORMS, place))
         return (kob_text){ NULL, 0 };
     return text_at(c, FORM, place, form);
+}
+
+void kob_statistics(const kob_catalogue *c, kob_counts *counts) {
+    counts->translated = (size_t)kobdzila_number(read_catalogue(c), TRANSLATED, 0);
+    counts->fuzzy = (size_t)kobdzila_number(read_catalogue(c), FUZZY, 0);
+    counts->untranslated = (size_t)kobdzila_number(read_catalogue(c), UNTRANSLATED, 0);
 }
 
 kob_text kob_mo_file(const kob_catalogue *c) { return text_at(c, FILE_BYTES, 0, 0); }
@@ -193,6 +209,7 @@ const char *kob_fault_text(enum kob_fault fault) {
     if (fault >= KOB_PO_TOO_LARGE && fault <= KOB_PO_NEWLINE_MISMATCH)
         return po[fault - KOB_PO_TOO_LARGE];
     switch (fault) {
+    case KOB_PO_NO_CHARACTER: return "byte without a character";
     case KOB_UNREADABLE: return "file not readable";
     case KOB_BAD_NAME: return "not a name";
     case KOB_VERSIONS_SPENT: return "no more versions";

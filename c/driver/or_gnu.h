@@ -9,6 +9,19 @@
 
 enum { WHY_SIZE = 200 }; /* bytes of a reason, with its NUL */
 
+/* What becomes of a backslash: two of them in words from outside, so that what is shown can be read back. */
+enum backslashes { DOUBLED, AS_THEY_ARE };
+
+/* This program's name, before what it says of itself. */
+extern const char program_name[];
+
+/* Write how bytes are shown, with a NUL, and return its length. What has no room is left out, by whole characters. */
+size_t show(char *to, size_t room, const char *bytes, size_t len, enum backslashes backslashes);
+/* Return how bytes are shown; NULL if out of memory. */
+char *shown(const char *bytes, size_t len, enum backslashes backslashes);
+/* Print a line on the error output, in which all that the values bring is shown. */
+void tell(const char *format, ...) __attribute__((format(printf, 1, 2)));
+
 /* What the arguments ask for. Its strings are the arguments themselves. */
 struct request {
     char **given;        /* the arguments in their order, and NULL */
@@ -21,7 +34,7 @@ struct request {
     bool keeps_fuzzy, wants_statistics;
     int verbosity;
     bool wants_version, wants_help;
-    char why[WHY_SIZE]; /* why only GNU msgfmt can serve it, or empty */
+    char why[WHY_SIZE]; /* why only GNU msgfmt can serve it, as it is shown, or empty */
 };
 
 /* Read the arguments as GNU msgfmt does, including shortened, repeated and permuted options. NULL if out of memory. */
@@ -34,22 +47,42 @@ struct text {
     int kept; /* a descriptor for what was read from a pipe, or -1 */
 };
 
+/* A piece of a PO text. */
+struct part {
+    const char *at, *end;
+};
+
+/* A charset with one byte for a character. */
+struct charset;
+
+/* Return the charset of a name, in any case: one that GNU msgfmt calls portable; NULL if it isn't in the tables. */
+const struct charset *charset_named(struct part name);
+/* Convert a text to UTF-8, with `UTF-8` in place of the charset's name, which is a part of it. NULL if memory runs out,
+ * or with errno EILSEQ if a byte has no character. */
+char *recoded(struct part bytes, struct part name, const struct charset *charset, size_t *len);
+
 /* What decides which program compiles a PO text. */
 struct needs {
-    char why[WHY_SIZE];      /* why Kobdzila's msgfmt would refuse it or can't check it, or empty */
+    const struct charset *charset; /* what the text is converted from, or NULL; `name` is its name in the header */
+    struct part name;
+    char why[WHY_SIZE];      /* why Kobdzila's msgfmt would refuse it or can't check it, as it is shown, or empty */
     unsigned long long line; /* the number of the first `#=` line that has a flag, or 0 */
+    unsigned long long header_line; /* that of the header's first keyword, or 0 */
 };
 
 /* Scan a PO text, in one pass. */
 struct needs needs_of(const struct request *request, const char *bytes, size_t len);
 
 bool is_utf8(const char *name);
+/* Return how many bytes the character at `at` has, and which it is; 0 if these bytes are no UTF-8. */
+size_t character_at(const unsigned char *at, size_t len, unsigned *which);
 
 /* How a program ended. */
 struct ending {
     int status;  /* its exit status, or 128 plus the number of the signal */
     int signal;  /* the signal that killed it, or 0 */
     int failure; /* the errno of why it couldn't be started, or 0 */
+    int cause;   /* the errno of its last call that failed, or 0 if that isn't known */
 };
 
 /* The descriptors for a program's streams; -1 is the driver's own stream. */
@@ -61,12 +94,18 @@ struct streams {
 /* What a driver says that was taken for one of the two programs, by which it is recognised. */
 extern const char taken[];
 
-/* Return the path of the Kobdzila msgfmt that was built or installed with this program. NULL if memory runs out. */
+/* Return the path of the Kobdzila msgfmt that was built or installed with this program; NULL and errno on failure. */
 char *find_ours(void);
-/* Find GNU msgfmt and return its path, or NULL. `ours` is never taken for it; NULL means find_ours(). */
+/* Find GNU msgfmt and return its path. `ours` is never taken for it; NULL means find_ours(). Returns NULL if there is
+ * none, with errno 0, or if that can't be found out, with its cause. */
 char *find_gnu(const char *ours);
-/* Return the version of the GNU msgfmt at `path` as 1000 * major + minor, or 0 if it is unknown. */
+/* Return the version of the GNU msgfmt at `path` as 1000 * major + minor, 0 if it doesn't say which, or -1 and errno if
+ * it can't be asked. */
 int gnu_version(const char *path);
+/* Whether that version knows flags in `#=` lines, which Kobdzila's msgfmt takes for comments. */
+bool knows_flag_lines(int version);
+/* Return why a text with such flags isn't compiled; `path` is NULL if there is no GNU msgfmt. NULL if out of memory. */
+char *why_no_flag_lines(const char *path, int version);
 
 /* Give this process the program's streams. */
 void take_streams(struct streams streams);
@@ -83,7 +122,9 @@ bool is_linked(void);
 struct ending call_linked(char **words, struct streams streams);
 
 enum { ABOVE_STREAMS = 10 }; /* the first number for the driver's own descriptors */
-/* Move a descriptor above those of the streams, with FD_CLOEXEC, and return its new number; -1 and errno on failure. */
+/* Duplicate a descriptor above those of the streams, with FD_CLOEXEC; -1 and errno on failure. */
+int duplicate_above(int descriptor);
+/* Move a descriptor there, and return its new number; -1 and errno on failure. */
 int raised(int descriptor);
 /* Open a file without a name, in memory or in TMPDIR; -1 and errno on failure. */
 int unnamed_file(void);

@@ -1,0 +1,112 @@
+/* GNU msgfmt as the last resort: what Kobdzila refuses is given to it, as msgfmt-or-gnu does. */
+#include "compile.h"
+#include "or_gnu.h"
+
+#include <fcntl.h>
+#include <pthread.h>
+#include <stdlib.h>
+#include <string.h>
+#include <unistd.h>
+
+static pthread_once_t looked = PTHREAD_ONCE_INIT;
+static char *gnu;
+
+static void look_for_gnu(void) { gnu = find_gnu(NULL); }
+
+/* Read the counts from `1 translated message, 2 fuzzy translations, 3 untranslated messages.` */
+static void take_counts(kob_counts *counts, const char *said) {
+    const char *last = said, *at;
+    for (const char *line = said; *line; line = strchrnul(line, '\n'), line += *line == '\n')
+        last = line;
+    for (at = last; at; at = strstr(at, ", "), at = at ? at + 2 : NULL) {
+        char *word;
+        size_t count = strtoull(at, &word, 10);
+        if (!strncmp(word, " translated", 11))
+            counts->translated = count;
+        else if (!strncmp(word, " fuzzy", 6))
+            counts->fuzzy = count;
+        else if (!strncmp(word, " untranslated", 13))
+            counts->untranslated = count;
+    }
+}
+
+/* Take the first `NAME:LINE: TEXT` or `NAME:LINE:COLUMN: TEXT` that isn't a warning. */
+static void take_refusal(struct gnu_answer *answer, const char *name, const char *said) {
+    size_t len = strlen(name);
+    for (const char *line = said, *end; *line && !answer->why; line = end + (*end == '\n')) {
+        end = strchrnul(line, '\n');
+        if (strncmp(line, name, len) || line[len] != ':' || line[len + 1] < '0' || line[len + 1] > '9')
+            continue;
+        const char *text = line + len + 1;
+        text += strspn(text, "0123456789:");
+        text += *text == ' ';
+        if (!strncmp(text, "warning: ", 9))
+            continue;
+        answer->line = (unsigned)strtoul(line + len + 1, NULL, 10);
+        answer->why = text_of("%.*s", (int)(end - text), text);
+    }
+}
+
+/* The streams of a run of GNU msgfmt. */
+struct captured {
+    int input, made, said;
+};
+
+static void close_all(const struct captured *files) {
+    close(files->input);
+    close(files->made);
+    close(files->said);
+}
+
+static char *read_back(int file, size_t *len) {
+    lseek(file, 0, SEEK_SET);
+    return read_all(file, len);
+}
+
+/* Its MO file has no hash table, as Kobdzila's has none. */
+static struct ending run_gnu(const struct run *run, char *name, const struct captured *files) {
+    char *words[9] = {gnu, (char[]){"--no-hash"}, (char[]){"--statistics"}, (char[]){"--output-file=-"}};
+    int count = 4;
+    if (run->options.checks)
+        words[count++] = (char[]){"--check"};
+    if (run->options.keeps_fuzzy)
+        words[count++] = (char[]){"--use-fuzzy"};
+    words[count++] = (char[]){"--"};
+    words[count++] = name;
+    return run_program(gnu, words, (struct streams){files->input, files->made, files->said, -1, -1});
+}
+
+static void take_answer(struct gnu_answer *answer, const struct captured *files, struct ending ending,
+                        const char *name) {
+    size_t len = 0;
+    char *said = ending.failure || ending.signal ? NULL : read_back(files->said, &len);
+    if (said && ending.status == 0) {
+        take_counts(&answer->counts, said);
+        answer->mo = read_back(files->made, &answer->len);
+    } else if (said) {
+        take_refusal(answer, name, said);
+    }
+    free(said);
+}
+
+struct gnu_answer ask_gnu(const struct run *run, char *name) {
+    struct gnu_answer answer = {0};
+    pthread_once(&looked, look_for_gnu);
+    answer.is_missing = !gnu;
+    if (!gnu)
+        return answer;
+    struct captured files = {raised(open("/dev/null", O_RDWR | O_CLOEXEC)), unnamed_file(), unnamed_file()};
+    if (files.input >= 0 && files.made >= 0 && files.said >= 0)
+        take_answer(&answer, &files, run_gnu(run, name, &files), name);
+    close_all(&files);
+    return answer;
+}
+
+char *why_no_gnu_for_flag_lines(void) {
+    pthread_once(&looked, look_for_gnu);
+    int version = gnu ? gnu_version(gnu) : 0;
+    char *why = knows_flag_lines(version) ? NULL : why_no_flag_lines(gnu, version < 0 ? 0 : version);
+    if (!why && !knows_flag_lines(version))
+        stop_for_memory();
+    return why;
+}

@@ -1,0 +1,155 @@
+/* Compiling one PO file: by the proved compiler in libkobdzila, and by GNU msgfmt if that refuses it. */
+#include "compile.h"
+#include "file_bytes.h"
+#include "or_gnu.h"
+
+#include <errno.h>
+#include <stdlib.h>
+#include <string.h>
+
+enum { MOST_TEXT = 67108864 }; /* bytes of the largest PO text */
+
+const char *const fields[FIELD_COUNT] = {"Project-Id-Version", "PO-Revision-Date", "Last-Translator", "Language-Team",
+                                         "MIME-Version", "Content-Type", "Content-Transfer-Encoding", "Language"};
+
+/* The text of a PO file. */
+struct text_bytes {
+    const char *at;
+    size_t len;
+};
+
+static void end_with(struct catalogue *it, enum outcome outcome, int cause) {
+    it->outcome = outcome;
+    it->why = text_of("%s", cause == EINVAL && outcome == IS_UNREAD ? "not a regular file" : strerror(cause));
+}
+
+/* ---- the MO file */
+
+static void write_mo(const struct run *run, struct catalogue *it, const char *bytes, size_t len) {
+    int cause = 0;
+    if (stopped_by) /* nothing is written any more */
+        return;
+    it->mo_size = len;
+    if (!run->options.only_checks) {
+        cause = run->options.output ? make_folders(it->mo) : 0;
+        if (!cause)
+            cause = write_in_one_step(it->mo, bytes, len, run->mode);
+    }
+    if (cause)
+        end_with(it, IS_UNWRITTEN, cause);
+    else
+        it->outcome = IS_COMPILED;
+}
+
+/* ---- what msgfmt warns of */
+
+static bool has_field(const char *header, const char *field) {
+    size_t len = strlen(field);
+    for (const char *line = header; line; line = strchr(line, '\n'), line = line ? line + 1 : NULL)
+        if (!strncmp(line, field, len) && line[len] == ':')
+            return true;
+    return false;
+}
+
+/* Scan the text for what decides who compiles it, as msgfmt-or-gnu does. */
+static struct needs scan(const struct run *run, struct text_bytes text) {
+    bool checks = run->options.checks;
+    struct request request = {.checks_format = checks, .checks_header = checks,
+                              .keeps_fuzzy = run->options.keeps_fuzzy};
+    return needs_of(&request, text.at, text.len);
+}
+
+/* Note the fields that the header lacks. A text without a header lacks none. */
+static void look_for_fields(const struct run *run, struct catalogue *it, const kob_catalogue *made,
+                            struct text_bytes text) {
+    kob_text header = kob_find(made, (kob_text){NULL, 0}, (kob_text){"", 0}, NULL);
+    if (!header.at)
+        return;
+    for (unsigned place = 0; place < FIELD_COUNT; place++)
+        if (!has_field(header.at, fields[place]))
+            it->missing |= 1u << place;
+    if (it->missing)
+        it->header_line = (unsigned)scan(run, text).header_line;
+}
+
+/* ---- who compiles */
+
+/* Compile with GNU msgfmt what Kobdzila refused. If GNU's refuses it, too, the reason is Kobdzila's, unless the text has
+ * something that only GNU msgfmt serves. */
+static void hand_to_gnu(const struct run *run, struct catalogue *it, bool is_for_gnu) {
+    struct gnu_answer answer = ask_gnu(run, it->po);
+    it->lacks_gnu = answer.is_missing && is_for_gnu;
+    if (answer.mo || (answer.why && is_for_gnu)) {
+        free(it->why);
+        it->why = answer.why;
+        it->line = answer.line;
+        it->by_gnu = true;
+    } else {
+        free(answer.why);
+    }
+    if (answer.mo) {
+        it->counts = answer.counts;
+        write_mo(run, it, answer.mo, answer.len);
+        free(answer.mo);
+    }
+    if (stopped_by && it->outcome == IS_REFUSED)
+        it->outcome = WAITING;
+}
+
+static void end_refused(const struct run *run, struct catalogue *it, kob_refusal why, struct text_bytes text) {
+    if (why.fault == KOB_MEMORY) {
+        end_with(it, IS_UNREAD, ENOMEM);
+        return;
+    }
+    it->outcome = IS_REFUSED;
+    it->fault = why.fault;
+    it->line = why.line;
+    it->why = text_of("%s", kob_fault_text(why.fault));
+    if (!run->options.without_gnu && !stopped_by)
+        hand_to_gnu(run, it, why.fault == KOB_PO_TOO_LARGE || scan(run, text).why[0]);
+}
+
+/* Compile a text with flags in `#=` lines, which Kobdzila's compiler takes for comments, with a GNU msgfmt that knows
+ * them. False if the text has none. */
+static bool serve_flag_lines(const struct run *run, struct catalogue *it, struct text_bytes text) {
+    size_t line = memmem(text.at, text.len, "#=", 2) ? scan(run, text).line : 0;
+    if (!line)
+        return false;
+    it->outcome = IS_REFUSED;
+    it->line = (unsigned)line;
+    it->why = run->options.without_gnu ? text_of("flags in a line #= need GNU msgfmt") : why_no_gnu_for_flag_lines();
+    if (!it->why)
+        hand_to_gnu(run, it, true);
+    if (!it->why && it->outcome == IS_REFUSED)
+        it->why = text_of("GNU msgfmt refuses it");
+    return true;
+}
+
+static void compile_text(const struct run *run, struct catalogue *it, struct text_bytes text) {
+    unsigned how = (run->options.checks ? KOB_CHECKED : 0) | (run->options.keeps_fuzzy ? KOB_USE_FUZZY : 0);
+    kob_refusal why;
+    kob_catalogue *made = kob_open_po(text.at, text.len, how, &why);
+    if (!made) {
+        end_refused(run, it, why, text);
+        return;
+    }
+    it->counts = statistics_of(made);
+    if (run->options.checks)
+        look_for_fields(run, it, made, text);
+    kob_text bytes = kob_mo_file(made);
+    write_mo(run, it, bytes.at, bytes.len);
+    kob_release(made);
+}
+
+void compile_one(const struct run *run, struct catalogue *it) {
+    struct text_bytes text;
+    unsigned char *bytes = file_bytes(it->po, REGULAR_FILES, MOST_TEXT, &text.len);
+    text.at = (const char *)bytes;
+    if (!bytes) {
+        end_with(it, IS_UNREAD, errno);
+        return;
+    }
+    if (!serve_flag_lines(run, it, text))
+        compile_text(run, it, text);
+    free(bytes);
+}

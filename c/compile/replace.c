@@ -1,0 +1,146 @@
+/* Writing a file in one step: under a temporary name next to it, which then takes its place. A run that fails removes the
+ * temporary file; what a killed run left, the next run for the same file takes over. So runs at the same time need
+ * names of their own: a temporary file is locked as long as it is written. */
+#include "compile.h"
+#include "or_gnu.h"
+
+#include <errno.h>
+#include <fcntl.h>
+#include <stdlib.h>
+#include <string.h>
+#include <sys/file.h>
+#include <sys/stat.h>
+#include <unistd.h>
+
+enum { MOST_NAMES = 16, MOST_OF_NAME = 100 }; /* temporary names for one file; bytes of its name in them */
+
+/* A temporary file. */
+struct temporary {
+    char *name;
+    int file;
+};
+
+/* Whether a locked file is still the one of this name, and fit to be written: another run may have renamed it, and a
+ * stranger may have put it there. */
+static bool is_ours(int file, const char *name) {
+    struct stat open, named;
+    return fstat(file, &open) == 0 && lstat(name, &named) == 0 && open.st_dev == named.st_dev &&
+           open.st_ino == named.st_ino && S_ISREG(open.st_mode) && open.st_uid == geteuid() && open.st_nlink == 1;
+}
+
+/* Open a new file of this name, or the one that a killed run left. -1 and EEXIST if the name is taken, or another errno.
+ * On a file system without locks it has to be new. */
+static int claim(const char *name) {
+    enum { HOW = O_RDWR | O_NOFOLLOW | O_CLOEXEC | O_NOCTTY | O_NONBLOCK };
+    int file = open(name, HOW | O_CREAT | O_EXCL, 0600);
+    bool is_new = file >= 0;
+    if (!is_new && errno != EEXIST)
+        return -1;
+    if (!is_new && (file = open(name, HOW)) < 0) {
+        errno = EEXIST;
+        return -1;
+    }
+    bool is_locked = flock(file, LOCK_EX | LOCK_NB) == 0;
+    bool is_free = is_locked || (is_new && errno != EWOULDBLOCK);
+    if (is_free && is_ours(file, name) && (is_new || ftruncate(file, 0) == 0))
+        return file;
+    close(file);
+    errno = EEXIST;
+    return -1;
+}
+
+/* Open a temporary file next to `name`. Returns 0 or an errno. */
+static int open_temporary(struct temporary *temporary, const char *name) {
+    const char *slash = strrchr(name, '/'), *base = slash ? slash + 1 : name;
+    for (int number = 0; number < MOST_NAMES; number++) {
+        temporary->name = text_of("%.*s.%.*s.kob-compile-%d", (int)(base - name), name, MOST_OF_NAME, base, number);
+        temporary->file = claim(temporary->name);
+        if (temporary->file >= 0)
+            return 0;
+        int cause = errno;
+        free(temporary->name);
+        if (cause != EEXIST)
+            return cause;
+    }
+    return EEXIST;
+}
+
+/* Give a file the owner, the group and the mode of the one that it replaces, as far as this process may. */
+static int dress(int file, const struct stat *old) {
+    mode_t mode = old->st_mode & 07777;
+    struct stat now;
+    if (fstat(file, &now) < 0)
+        return errno;
+    bool is_same = now.st_uid == old->st_uid && now.st_gid == old->st_gid;
+    if (!is_same && fchown(file, old->st_uid, old->st_gid) < 0) {
+        mode &= 0777;
+        if (fchown(file, (uid_t)-1, old->st_gid) < 0)
+            mode &= 0707;
+    }
+    return fchmod(file, mode) < 0 ? errno : 0;
+}
+
+/* Write a regular or new file; `old` is NULL for a new one. */
+static int replace(const char *name, const char *bytes, size_t len, const struct stat *old, mode_t mode) {
+    struct temporary temporary;
+    int cause = open_temporary(&temporary, name);
+    if (cause)
+        return cause;
+    if (!write_all(temporary.file, bytes, len))
+        cause = errno;
+    if (!cause)
+        cause = old ? dress(temporary.file, old) : fchmod(temporary.file, mode) < 0 ? errno : 0;
+    if (!cause && rename(temporary.name, name) < 0)
+        cause = errno;
+    if (cause)
+        unlink(temporary.name);
+    if (close(temporary.file) < 0 && !cause) /* (network file systems tell late that a disk is full) */
+        cause = errno;
+    free(temporary.name);
+    return cause;
+}
+
+/* Write a device or a pipe. */
+static int write_through(const char *name, const char *bytes, size_t len) {
+    int file = open(name, O_WRONLY | O_CLOEXEC | O_NOCTTY);
+    if (file < 0)
+        return errno;
+    int cause = write_all(file, bytes, len) ? 0 : errno;
+    return close(file) < 0 && !cause ? errno : cause;
+}
+
+int write_in_one_step(const char *name, const char *bytes, size_t len, mode_t mode) {
+    struct stat old;
+    if (lstat(name, &old) < 0)
+        return errno == ENOENT ? replace(name, bytes, len, NULL, mode) : errno;
+    if (S_ISLNK(old.st_mode)) {
+        char *target = realpath(name, NULL);
+        int cause = target ? write_in_one_step(target, bytes, len, mode) : errno;
+        free(target);
+        return cause;
+    }
+    if (S_ISDIR(old.st_mode))
+        return EISDIR;
+    if (!S_ISREG(old.st_mode))
+        return write_through(name, bytes, len);
+    return replace(name, bytes, len, &old, mode);
+}
+
+int make_folders(const char *name) {
+    char *path = text_of("%s", name), *last = strrchr(path, '/');
+    int cause = 0;
+    if (last)
+        *last = '\0';
+    if (last && *path && access(path, F_OK) < 0)
+        for (char *at = path + 1; at && !cause;) {
+            at = strchrnul(at, '/');
+            char byte = *at;
+            *at = '\0';
+            if (mkdir(path, 0777) < 0 && errno != EEXIST)
+                cause = errno;
+            *at = byte;
+            at = byte ? at + 1 : NULL;
+        }
+    free(path);
+    return cause;
+}
