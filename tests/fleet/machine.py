@@ -1,9 +1,9 @@
 """A machine of the soak: a process that follows the log, with readers who check all that they see.
 
-    machine.py NAME KIND DATABASE
+    machine.py NAME KIND DATABASE CACHE
 
-KIND is that of its store. For each line of its input it prints version, numbers, look-ups, what was wrong, and why it
-has stopped, as JSON.
+KIND is that of its store. For each line of its input it prints version, epoch, numbers, look-ups, what was wrong, why
+it has stopped, and whether its texts are the cache's, as JSON.
 """
 import json
 import sys
@@ -12,13 +12,15 @@ from kobdzila.fleet import Follower
 from stores import Readers, opened
 
 
-def main(name: str, kind: str, database: str) -> None:
-    with Follower(opened(kind), database, name, look_each=1) as follower:
+def main(name: str, kind: str, database: str, cache: str) -> None:
+    with Follower(opened(kind), database, name, look_each=1, cache=cache, go_over=True) as follower:
         readers = Readers(follower)
         for _ in sys.stdin:
             number = sorted(follower.store.snapshot().numbers())
             stopped = None if follower.stopped is None else str(follower.stopped)
-            print(json.dumps([follower.version, number, readers.looks, readers.wrong[:3], stopped]), flush=True)
+            version = follower.version
+            print(json.dumps([version, version.epoch, number, readers.looks, readers.wrong[:3], stopped,
+                              follower.is_older]), flush=True)
         readers.close()
 
 

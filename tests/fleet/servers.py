@@ -145,15 +145,20 @@ class Server:
     def pid(self) -> int:
         return int((self.folder / "postmaster.pid").read_text(encoding="utf-8").split()[0])
 
+    def processes(self) -> list[int]:
+        """The server's processes."""
+        pid = self.pid()
+        return [pid, *map(int, Path(f"/proc/{pid}/task/{pid}/children").read_text(encoding="utf-8").split())]
+
     def kill(self) -> None:
         """End the server as a power cut does: nothing is written, and its processes end at once."""
         pid = self.pid()
         os.kill(pid, signal.SIGSTOP)  # (so that it starts no process more)
-        children = Path(f"/proc/{pid}/task/{pid}/children").read_text(encoding="utf-8").split()
-        for it in (pid, *map(int, children)):
+        all_of_them = self.processes()
+        for it in all_of_them:
             with contextlib.suppress(ProcessLookupError):
                 os.kill(it, signal.SIGKILL)
-        while any(map(runs, (pid, *map(int, children)))):
+        while any(map(runs, all_of_them)):
             time.sleep(0.01)
         (self.folder / "postmaster.pid").unlink()  # (its process may be a zombie for a while)
 

@@ -149,15 +149,15 @@ class Readers:
 
     def _read(self, follower: Follower) -> None:
         is_session = isinstance(follower.store, kobdzila.Session)
-        last_version, last_number = 0, 0
+        last_version, last_number, epoch = 0, 0, ""
         while not self._end.wait(0.0005):
             try:
                 with follower.snapshot(within=0.2) as texts:
                     version, seen = texts.version, [texts.numbers() for _ in range(ROUNDS)]
             except Behind:
                 continue
-            if version == 0:
-                continue
+            if version == 0 or is_session and follower.version.epoch != version.epoch:
+                continue  # (a session has no snapshots: its answers may be of the next epoch)
             self.looks += ROUNDS * len(KEYS) * (1 if is_session else len(PAIRS))
             if any(len(numbers) != 1 for numbers in seen):
                 self.wrong.append(f"{follower.machine}: half of a publish at {version}: {seen}")
@@ -165,6 +165,8 @@ class Readers:
             found = [int(numbers.pop()) for numbers in seen]
             if not is_session and len(set(found)) != 1:  # (a session has no snapshots: each round is of its version)
                 self.wrong.append(f"{follower.machine}: a snapshot changed at {version}: {found}")
+            if version.epoch != epoch:  # (the log was restored: its versions are others)
+                last_version, last_number, epoch = 0, 0, version.epoch
             if version < last_version or sorted([last_number, *found]) != [last_number, *found]:
                 before = f"{last_version} ({last_number})"
                 self.wrong.append(f"{follower.machine}: back from {before} to {version} ({found})")
@@ -176,7 +178,7 @@ class Readers:
             thread.join()
 
 
-def until(what: Callable[[], Any], seconds: float = 20.0) -> Any:
+def until(what: Callable[[], Any], seconds: float = 100.0) -> Any:
     """Wait until something is so, and return it."""
     end = time.monotonic() + seconds
     while not (found := what()):

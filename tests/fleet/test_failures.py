@@ -103,22 +103,23 @@ class FailuresTest(unittest.TestCase):
         log = self.log(server.address)
         follower = self.follower(server.address)
         log.publish(loads(1))
-        follower.wait_for(2, 10)
+        follower.wait_for(2, 100)
         server.kill()
         self.assertTrue(until(lambda: follower.trouble))
         with follower.snapshot() as texts:
             self.assertEqual((texts.version, texts.numbers()), (2, {"1"}))
         timer = threading.Timer(0.5, server.start)
         timer.start()
-        self.assertEqual(log.publish(loads(2), within=20), 4)
+        self.assertEqual(log.publish(loads(2), within=100), 4)
         timer.join()
-        follower.wait_for(4, 20)
+        follower.wait_for(4, 100)
         until(lambda: follower.trouble is None)
         server.stop()
         number = uuid.uuid4()
-        with self.assertRaises(Unanswered) as caught:
+        with self.assertRaises(psycopg.OperationalError):  # (nothing was sent, so nothing is in doubt)
             log.publish(loads(3), id=number, within=0.3)
-        self.assertEqual(caught.exception.id, number)
+        server.start()
+        self.assertIsNone(log.version_of(number))
 
     def test_the_primary_is_killed_at_random_points(self) -> None:
         """Two hundred publishes, and two kills: whatever was answered is there once, and nobody went back."""
@@ -140,7 +141,7 @@ class FailuresTest(unittest.TestCase):
                 answered[name] = log.publish(loads(number), id=name)
             killer.join()
             for follower in followers:
-                follower.wait_for(2 * PUBLISHES, 20)
+                follower.wait_for(2 * PUBLISHES, 100)
             readers.close()
             rows = {row.id: row.version for row in log.history(10**6)}
             self.assertEqual({name: rows.get(name) for name in answered}, answered)
@@ -156,19 +157,19 @@ class FailuresTest(unittest.TestCase):
         address = servers.both(first, second)
         log, follower = self.log(address), self.follower(address)
         log.publish(loads(1))
-        follower.wait_for(2, 10)
+        follower.wait_for(2, 100)
         with psycopg.connect(second.address, autocommit=True) as standby:
             until(lambda: standby.execute("select to_regclass('kobdzila.publish')::text").fetchone() != (None,))
             until(lambda: standby.execute("select max(version) from kobdzila.publish").fetchone() == (2,))
             standby.execute("select pg_wal_replay_pause()")
         second.kill()
         self.assertEqual(log.publish(loads(2)), 4)
-        follower.wait_for(4, 10)
+        follower.wait_for(4, 100)
         first.kill()
         second.start()
         second.promote()
         with Log(address) as again:
-            self.assertEqual(again.publish(loads(3), within=20), 4)
+            self.assertEqual(again.publish(loads(3), within=100), 4)
         stopped = until(lambda: follower.stopped)
         self.assertIsInstance(stopped, Difference)
         self.assertEqual(stopped.here, 4)
@@ -180,11 +181,11 @@ class FailuresTest(unittest.TestCase):
         log = self.log(first.address)
         follower = self.follower(second.address + " target_session_attrs=any")
         for number in range(1, 4):
-            follower.wait_for(log.publish(loads(number)), 10)
+            follower.wait_for(log.publish(loads(number)), 100)
         first.kill()
         second.promote()
         with Log(second.address) as again:
-            follower.wait_for(again.publish(loads(4), within=20), 10)
+            follower.wait_for(again.publish(loads(4), within=100), 100)
             until(lambda: [it.version for it in again.status().machines] == [8])
 
     def test_a_catalogue_of_60_megabytes(self) -> None:
@@ -194,11 +195,11 @@ class FailuresTest(unittest.TestCase):
         large = kobdzila.Catalogue.from_po(text).mo_file()
         self.assertGreater(len(large), 60_000_000)
         log.publish(loads(1))
-        version = log.publish([("app", "fr", large)])
-        follower.wait_for(version, 30)
+        version = log.publish([("app", "fr", large)], within=200, force=True)
+        follower.wait_for(version, 100)
         late = self.follower(server.address, "late")
         for it in (follower, late):
-            with it.snapshot(at_least=version, within=30) as texts:
+            with it.snapshot(at_least=version, within=100) as texts:
                 self.assertEqual(texts.gettext("app", "fr", "k117999"), "x" * 480 + " 117999")
                 self.assertEqual(texts.gettext("mail", "fr", "k1"), "k1 at 1")
 
@@ -206,7 +207,7 @@ class FailuresTest(unittest.TestCase):
         with full_disk(self) as (server, disk):
             log, follower = self.log(server.address), self.follower(server.address)
             log.publish(loads(1))
-            follower.wait_for(2, 10)
+            follower.wait_for(2, 100)
             filler = disk / "filler"
             left = os.statvfs(disk).f_bavail * os.statvfs(disk).f_frsize
             filler.write_bytes(b"\0" * (left - 2 * MEGABYTE))
@@ -219,8 +220,8 @@ class FailuresTest(unittest.TestCase):
             filler.unlink()
             with contextlib.suppress(servers.NoServer):  # (PostgreSQL ends if it can't write its log)
                 server.start()
-            version = log.publish(loads(2), within=20)
-            follower.wait_for(version, 20)
+            version = log.publish(loads(2), within=100)
+            follower.wait_for(version, 100)
             self.assertEqual((version, follower.store.snapshot().numbers(), follower.stopped), (4, {"2"}, None))
 
 

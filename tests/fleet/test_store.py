@@ -63,7 +63,7 @@ class StoreTest(LogCase):
         follower = self.follower_of_store()
         for number in range(1, 4):
             version = self.log.publish(loads(number))
-            with follower.snapshot(at_least=version, within=10, languages="fr_CA") as texts:
+            with follower.snapshot(at_least=version, within=100, languages="fr_CA") as texts:
                 self.assertEqual((texts.version, texts.gettext("k1")), (version, f"k1 at {number}"))
                 self.assertEqual(texts.dgettext("mail", "k2"), f"k2 at {number}")
 
@@ -71,10 +71,10 @@ class StoreTest(LogCase):
         for number in range(1, 4):
             self.log.publish(loads(number))
         late = self.follower_of_store()
-        with late.snapshot(within=10, languages="fr") as old:
+        with late.snapshot(within=100, languages="fr") as old:
             self.assertEqual((old.version, old.gettext("k1"), late.store.version), (6, "k1 at 3", 2))
             version = self.log.publish([("app", "fr", mo(4))])
-            with late.snapshot(at_least=version, within=10, languages="fr") as new:
+            with late.snapshot(at_least=version, within=100, languages="fr") as new:
                 self.assertEqual((new.version, new.gettext("k1"), new.dgettext("mail", "k1")),
                                  (7, "k1 at 4", "k1 at 3"))
             self.assertEqual((old.version, old.gettext("k1")), (6, "k1 at 3"))
@@ -84,14 +84,14 @@ class StoreTest(LogCase):
         store.load("app", "de", mo(99))
         store.publish()
         self.log.publish(loads(1))
-        with self.follower_of_store(store=store).snapshot(at_least=2, within=10, languages="de:fr") as texts:
+        with self.follower_of_store(store=store).snapshot(at_least=2, within=100, languages="de:fr") as texts:
             self.assertEqual((texts.version, texts.gettext("k1"), texts.dgettext("mail", "k1")),
                              (2, "k1 at 99", "k1 at 1"))
 
     def test_readers_see_whole_publishes_in_order(self) -> None:
         follower = self.follower_of_store()
         self.log.publish(loads(0))
-        follower.wait_for(2, 10)
+        follower.wait_for(2, 100)
         wrong: list[tuple[int, str, str]] = []
         counts = [0, 0]
 
@@ -120,12 +120,12 @@ class StoreTest(LogCase):
     def test_a_visitor_who_moves_sees_nothing_older(self) -> None:
         first, held = self.follower_of_store("first"), Held("app")
         second = self.follower_of_store("second", held)
-        near, far = WSGIMiddleware(page, first, within=10), WSGIMiddleware(page, second, within=0.2)
+        near, far = WSGIMiddleware(page, first, within=100), WSGIMiddleware(page, second, within=0.2)
         held.released.set()
         self.log.publish(loads(1))
         visitor, other = Visitor(), Visitor()
         for follower in (first, second):
-            follower.wait_for(2, 10)
+            follower.wait_for(2, 100)
         self.assertEqual(visitor.visits(near), (200, "k1 at 1, k1 at 1"))
         self.assertEqual(visitor.visits(far), (200, "k1 at 1, k1 at 1"))
         held.released.clear()
@@ -139,7 +139,7 @@ class StoreTest(LogCase):
             second.snapshot(at_least=4, within=0.1)
         timer = threading.Timer(0.1, held.released.set)
         timer.start()
-        self.assertEqual(visitor.visits(WSGIMiddleware(page, second, within=10)), (200, "k1 at 2, k1 at 2"))
+        self.assertEqual(visitor.visits(WSGIMiddleware(page, second, within=100)), (200, "k1 at 2, k1 at 2"))
         timer.join()
         self.assertEqual(visitor.visits(near, "en, fr;q=0.5"), (200, "k1, k1"))
 

@@ -10,7 +10,8 @@ from unittest import mock
 from wsgiref.util import setup_testing_defaults
 from wsgiref.validate import validator
 
-from kobdzila.fleet import ASGIMiddleware, Follower, Load, WSGIMiddleware
+from kobdzila.fleet import ASGIMiddleware, Follower, Version, WSGIMiddleware
+from kobdzila.fleet._queries import Played
 from stores import PAIRS, Catalogues, mo
 
 
@@ -25,6 +26,9 @@ async def async_page(scope: Any, receive: Any, send: Any) -> None:
     await send({"type": "http.response.body", "body": text.encode()})
 
 
+EPOCH = "0123456789abcdef"
+
+
 class Case(unittest.TestCase):
     def setUp(self) -> None:
         self.follower = Follower(Catalogues(), "host=none.invalid")  # (it isn't started)
@@ -32,8 +36,10 @@ class Case(unittest.TestCase):
 
     def shows(self, number: int) -> None:
         """The follower plays a publish."""
-        made = [Load(*pair, mo(number)) for pair in PAIRS]
-        self.follower._show(made, self.follower.version + 2, b"")
+        made = [Played(*pair, mo(number), b"") for pair in PAIRS]
+        jumps = not self.follower.has_joined
+        self.follower._player.show(made, self.follower.version + 2, b"", epoch=EPOCH, jumps=jumps)
+        self.follower._show()
 
     def check(self, answers: Any) -> None:
         """What both kinds do; `answers` gives status, headers and text for the headers of a request."""
@@ -41,9 +47,10 @@ class Case(unittest.TestCase):
         self.assertEqual((status, headers.get("retry-after")), (503, "1"))  # (it hasn't joined)
         self.shows(1)
         status, headers, text = answers({})
-        self.assertEqual((status, headers["kobdzila-version"], text), (200, "2", "k1 at 1"))
+        self.assertEqual((status, headers["kobdzila-version"], text), (200, f"{EPOCH}.2", "k1 at 1"))
+        self.assertEqual(headers["vary"], "Cookie, Kobdzila-Version")
         cookie = headers["set-cookie"].partition(";")[0]
-        self.assertEqual(cookie, "kobdzila_version=2")
+        self.assertEqual(cookie, f"kobdzila_version={EPOCH}.2")
         for seen in ({"cookie": f"a=b; {cookie}"}, {"kobdzila-version": "2"}, {"cookie": "kobdzila_version=x"},
                      {"kobdzila-version": "-5"}, {"cookie": "kobdzila_version=" + "9" * 30}, {"cookie": "=;;\""}):
             self.assertEqual(answers(seen)[::2], (200, "k1 at 1"), seen)
@@ -79,8 +86,8 @@ class WSGITest(Case):
         self.assertEqual(self.answers({}, serve_older=True)[0], 503)
         self.shows(1)
         status, headers, text = self.answers({"kobdzila-version": "9"}, serve_older=True, cookie="v")
-        self.assertEqual((status, headers["kobdzila-version"], text), (200, "2", "k1 at 1"))
-        self.assertTrue(headers["set-cookie"].startswith("v=2;"))
+        self.assertEqual((status, headers["kobdzila-version"], text), (200, f"{EPOCH}.2", "k1 at 1"))
+        self.assertTrue(headers["set-cookie"].startswith(f"v={EPOCH}.2;"))
 
     def test_languages_of_the_request(self) -> None:
         asked: list[object] = []
@@ -103,12 +110,12 @@ class WSGITest(Case):
         self.shows(1)
         made = WSGIMiddleware(page, self.follower, within=0.5)
         with mock.patch.object(made, "_waiting", threading.BoundedSemaphore(1)):
-            first = threading.Thread(target=made.snapshot, args=[9, ""], daemon=True)
+            first = threading.Thread(target=made.snapshot, args=[Version(9), ""], daemon=True)
             first.start()
             time.sleep(0.1)
             begun = time.monotonic()
-            self.assertIsNone(made.snapshot(9, ""))
-            self.assertEqual(made.snapshot(2, "").version, 2)
+            self.assertIsNone(made.snapshot(Version(9), ""))
+            self.assertEqual(made.snapshot(Version(2), "").version, 2)
             self.assertLess(time.monotonic() - begun, 0.3)
             first.join()
 
@@ -138,13 +145,14 @@ class ASGITest(Case):
             written = [(b"content-type", b"text/plain"), (b"kobdzila-version", scope["path"].encode())]
             await send({"type": "http.response.start", "status": 200, "headers": written})
 
-        for written, version in (("7", "7"), ("1", "2"), ("x", "2")):
+        for written, version in (("7", "7"), ("1", "2"), ("x", "2"), (f"{EPOCH}.7", "7")):
             send = mock.AsyncMock()
             scope = {"type": "http", "headers": [], "path": written}
             asyncio.run(ASGIMiddleware(publishing, self.follower)(scope, mock.AsyncMock(), send))
             headers = send.await_args.args[0]["headers"]
-            self.assertEqual([value for name, value in headers if name == b"kobdzila-version"][-1], version.encode())
-            self.assertTrue(dict(headers)[b"set-cookie"].startswith(f"kobdzila_version={version};".encode()))
+            self.assertEqual([value for name, value in headers if name == b"kobdzila-version"][-1],
+                             f"{EPOCH}.{version}".encode())
+            self.assertTrue(dict(headers)[b"set-cookie"].startswith(f"kobdzila_version={EPOCH}.{version};".encode()))
 
     def test_what_is_not_http(self) -> None:
         self.assertEqual(self.answers({}, "lifespan")[::2], (200, "none"))

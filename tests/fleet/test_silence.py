@@ -1,0 +1,409 @@
+"""Servers, connections and sessions that are silent: nobody waits for longer than they were told to."""
+from __future__ import annotations
+
+import math
+import os
+import shutil
+import signal
+import subprocess
+import threading
+import time
+import unittest
+import uuid
+from collections import Counter
+from typing import Any
+from unittest import mock
+
+import psycopg
+
+import kobdzila
+import proxies
+import servers
+from cases import LogCase
+from kobdzila.fleet import Behind, Difference, Follower, Log, NoLog, Unanswered, _connect, _player
+from stores import NO_SESSION, Catalogues, has_catsession, loads, mo, until
+
+SLOW = 3.0  # seconds that a busy machine may add
+CANCELS = int(os.environ.get("KOBDZILA_FLEET_CANCELS", "5"))
+
+
+class HostsTest(LogCase):
+    """A silent host costs its own time, and not that of all."""
+
+    def setUp(self) -> None:
+        super().setUp()
+        _connect.silent.clear()
+        self.addCleanup(_connect.silent.clear)
+
+    def check(self, opened: Any) -> None:
+        port, sockets = opened
+        self.addCleanup(lambda: [it.close() for it in sockets])
+        address = proxies.before(port, servers.shared()) + " connect_timeout=2"
+        begun = time.monotonic()
+        with Log(address) as log:
+            version = log.publish(loads(1), within=20)
+        self.assertGreater(time.monotonic() - begun, 1.5)
+        follower = Follower(Catalogues(), address, "m")
+        with follower:
+            self.assertEqual(follower.wait_for(version, 100), version)
+        # (the host is known to be silent, so the next connection doesn't pay for it)
+        places = _connect.places_of(_connect.parameters(address), -1, math.inf, 5.0, [])
+        self.assertEqual([it.port for it in places], [str(servers.shared().port), str(port)])
+
+    def test_a_host_that_accepts_and_says_nothing(self) -> None:
+        self.check(proxies.silent_port())
+
+    def test_hosts_with_names(self) -> None:
+        """The time for a silent host isn't that for the name of the next one."""
+        port, sockets = proxies.silent_port()
+        self.addCleanup(lambda: [it.close() for it in sockets])
+        address = f"host=localhost,localhost port={port},{servers.shared().port} user=postgres dbname=postgres"
+        with Log(f"{address} connect_timeout=2") as log:
+            self.assertEqual(log.publish(loads(1), within=60), 2)
+
+    def test_a_host_that_drops_packets(self) -> None:
+        self.check(proxies.dropping_port())
+
+    def test_within_is_kept(self) -> None:
+        port, sockets = proxies.silent_port()
+        self.addCleanup(lambda: [it.close() for it in sockets])
+        begun = time.monotonic()
+        with Log(f"host=127.0.0.1 port={port} user=postgres") as log, self.assertRaises(psycopg.OperationalError):
+            log.publish(loads(1), within=1)
+        self.assertLess(time.monotonic() - begun, SLOW + 2)
+        follower = Follower(Catalogues(), f"host=127.0.0.1 port={port} user=postgres", "m")
+        follower.start()
+        time.sleep(0.3)
+        begun = time.monotonic()
+        follower.close()
+        self.assertLess(time.monotonic() - begun, SLOW + 1)
+        until(lambda: not follower._thread.is_alive(), SLOW + 1)
+
+    def test_a_name_server_that_is_silent(self) -> None:
+        asked = threading.Event()
+        self.addCleanup(asked.set)
+        with mock.patch("socket.getaddrinfo", side_effect=lambda *_, **__: [] if asked.wait(20) else []):
+            begun = time.monotonic()
+            with Log("host=db1.invalid user=postgres") as log, self.assertRaises(psycopg.OperationalError) as caught:
+                log.publish(loads(1), within=1)
+        self.assertLess(time.monotonic() - begun, SLOW + 2)
+        self.assertIn("name server", str(caught.exception))
+
+    def test_attributes_of_sessions(self) -> None:
+        address = servers.shared().address
+        for attributes, is_right in (("any", True), ("read-write", True), ("primary", True), ("prefer-standby", True),
+                                     ("standby", False), ("read-only", False)):
+            with self.subTest(attributes):
+                try:
+                    _connect.connect(f"{address} target_session_attrs={attributes}", "any").close()
+                except psycopg.OperationalError:
+                    self.assertFalse(is_right)
+                else:
+                    self.assertTrue(is_right)
+
+    @unittest.skipUnless(shutil.which("openssl"), "no openssl")
+    def test_a_certificate_is_checked_by_the_name(self) -> None:
+        """The address is looked up before; the certificate has to be that of the host's name all the same."""
+        with servers.folder() as room, servers.primary() as server:
+            certificate, key = server.folder / "server.crt", server.folder / "server.key"
+            made = ["openssl", "req", "-new", "-x509", "-days", "2", "-nodes", "-subj", "/CN=localhost", "-addext",
+                    "subjectAltName=DNS:localhost", "-newkey", "ec", "-pkeyopt", "ec_paramgen_curve:prime256v1",
+                    "-keyout", str(key), "-out", str(certificate)]
+            subprocess.run([*servers.as_user(), *made], check=True, capture_output=True, timeout=200)
+            key.chmod(0o600)
+            shutil.copy(certificate, room / "root.crt")
+            server.set("ssl = on")
+            server.stop()
+            server.start()
+            secure = f"user=postgres dbname=postgres port={server.port} sslmode=verify-full sslrootcert={room}/root.crt"
+            with Log(f"host=localhost {secure}") as log:
+                log.init()
+                self.assertEqual(log.publish(loads(1)), 2)
+            with Log(f"host=127.0.0.1 {secure}") as log, self.assertRaisesRegex(psycopg.OperationalError, "certificate"):
+                log.status()
+            self.assertTrue(_connect.is_there(_connect.Place("localhost", "127.0.0.1", str(server.port)), 10))
+
+    def test_the_server_watches_too(self) -> None:
+        with _connect.connect(servers.shared().address, "any") as connection:
+            for name in ("statement_timeout", "lock_timeout", "idle_in_transaction_session_timeout", "tcp_user_timeout",
+                         "tcp_keepalives_idle"):
+                self.assertNotIn(connection.execute(f"show {name}").fetchone()[0], ("0", "7200"), name)
+
+
+class SilenceTest(LogCase):
+    """Connections that fall silent while they are used."""
+
+    def setUp(self) -> None:
+        super().setUp()
+        self.proxy = proxies.Proxy(servers.shared().port)
+        self.addCleanup(self.proxy.close)
+        self.addCleanup(_connect.silent.clear)
+
+    def test_a_publish_goes_on_elsewhere(self) -> None:
+        """The primary falls silent, as a frozen machine does, and another one is there."""
+        address = proxies.before(self.proxy.port, servers.shared())
+        with Log(address) as log:
+            log.publish(loads(1))
+            self.proxy.freeze()
+            begun = time.monotonic()
+            self.assertEqual(log.publish(loads(2), within=30), 4)
+            self.assertLess(time.monotonic() - begun, 15)
+        self.assertEqual(self.log.status().publishes, 2)
+
+    def test_a_follower_goes_on_elsewhere(self) -> None:
+        with mock.patch.object(_player, "BEAT_WITHIN", 3.0):
+            follower = Follower(Catalogues(), proxies.before(self.proxy.port, servers.shared()), "m", look_each=0.5)
+            with follower:
+                follower.wait_for(self.log.publish(loads(1)), 100)
+                self.proxy.freeze()
+                self.assertEqual(follower.wait_for(self.log.publish(loads(2)), 100), 4)
+
+    def test_a_silence_is_said_and_close_ends_it(self) -> None:
+        follower = Follower(Catalogues(), self.proxy.address, "m", look_each=0.3)
+        with mock.patch.object(_player, "BEAT_WITHIN", 3.0), follower:
+            follower.wait_for(self.log.publish(loads(1)), 100)
+            self.proxy.freeze()
+            self.assertIn("hasn't answered", str(until(lambda: follower.trouble)))
+            begun = time.monotonic()
+            follower.close()
+            self.assertLess(time.monotonic() - begun, SLOW + 1)
+            until(lambda: not follower._thread.is_alive(), SLOW + 1)
+            self.proxy.thaw()
+
+    def test_a_process_of_the_server_that_hangs(self) -> None:
+        """The server itself answers; the process that serves a follower doesn't."""
+        with mock.patch.object(_player, "BEAT_WITHIN", 3.0):
+            follower = self.follower(look_each=0.5)
+            follower.wait_for(self.log.publish(loads(1)), 100)
+            pid = until(lambda: [it for it, in self.sql(
+                "select pid from pg_stat_activity where query like '%%kobdzila.machine%%' and state = 'idle'"
+                " or query like 'execute kobdzila_%%' and state = 'idle'")])[0]
+            os.kill(pid, signal.SIGSTOP)
+            self.addCleanup(os.kill, pid, signal.SIGCONT)
+            self.assertEqual(follower.wait_for(self.log.publish(loads(2)), 100), 4)
+
+    def test_close_while_a_query_hangs(self) -> None:
+        with mock.patch.object(_player, "BEAT_WITHIN", 60.0):
+            follower = self.follower(look_each=0.2)
+            follower.wait_for(self.log.publish(loads(1)), 100)
+            (pid,) = until(lambda: [it for it, in self.sql(
+                "select pid from pg_stat_activity where query like 'execute kobdzila_%%' and state = 'idle'")])
+            os.kill(pid, signal.SIGSTOP)
+            self.addCleanup(os.kill, pid, signal.SIGCONT)
+            time.sleep(0.6)
+            begun = time.monotonic()
+            follower.close()
+            self.assertLess(time.monotonic() - begun, SLOW + 1)
+            until(lambda: not follower._thread.is_alive(), SLOW + 1)
+
+
+class SharedTest(LogCase):
+    """Publishers that share a Log, or wait for each other."""
+
+    def test_threads_share_a_log(self) -> None:
+        answers: dict[uuid.UUID, int] = {}
+        failures: Counter[str] = Counter()
+
+        def work(which: int) -> None:
+            for number in range(10):
+                name = uuid.uuid4()
+                try:
+                    answers[name] = self.log.publish([("app", "fr", mo(100 * which + number))], id=name)
+                except Exception as why:  # noqa: BLE001
+                    failures[repr(why)] += 1
+
+        threads = [threading.Thread(target=work, args=[which], daemon=True) for which in range(6)]
+        for thread in threads:
+            thread.start()
+        for thread in threads:
+            thread.join(60)
+        self.assertEqual(([it.is_alive() for it in threads], dict(failures)), ([False] * 6, {}))
+        self.assertEqual({row.id: row.version for row in self.log.history(1000)}, answers)
+        self.assertEqual(sorted(answers.values()), list(range(1, 61)))
+        self.assertEqual(self.sql("select count(*) from pg_stat_activity where state like 'idle in%%'"), [(0,)])
+
+    def test_a_lock_that_somebody_holds(self) -> None:
+        with psycopg.connect(servers.shared().address, application_name="an operator") as other:
+            other.execute("select layout from kobdzila.log for update")
+            begun = time.monotonic()
+            with self.assertRaisesRegex(psycopg.OperationalError, "lock is held by process .*an operator, idle in tr"):
+                self.log.publish(loads(1), within=4)
+            self.assertLess(time.monotonic() - begun, SLOW + 5)
+            threading.Timer(0.5, other.rollback).start()
+            self.assertEqual(self.log.publish(loads(1), within=20), 2)
+
+    def test_a_publisher_that_is_stopped_lets_go_of_the_lock(self) -> None:
+        """The server ends its transaction after ten seconds of silence; here after less."""
+        with mock.patch.object(Log, "close", lambda self: None), Log(servers.shared().address) as log:
+            from kobdzila.fleet import _log
+
+            def stuck(connection: Any) -> Any:
+                _log.lock(connection)
+                connection.execute("select set_config('idle_in_transaction_session_timeout', '300', true)")
+                threading.Event().wait(1)
+                raise AssertionError("it got no further")
+
+            thread = threading.Thread(
+                target=lambda: self.assertRaises(AssertionError, log._retry, stuck, uuid.uuid4(), 5.0), daemon=True)
+            thread.start()
+            time.sleep(0.2)
+            begun = time.monotonic()
+            self.assertEqual(self.log.publish(loads(1), within=20), 2)
+            thread.join(60)
+
+
+class ReplicatedTest(unittest.TestCase):
+    """An answered publish is on the synchronous standby, whatever somebody cancels."""
+
+    def test_a_wait_for_the_standby_that_is_cancelled(self) -> None:
+        with servers.pair() as (first, second), Log(first.address) as log:
+            log.init()
+            self.assertEqual(log.publish(loads(1)), 2)
+            second.stop()
+            doubtful = [self.cancelled(first, log, "cancel") for _ in range(CANCELS)]
+            doubtful.append(self.cancelled(first, log, "terminate"))
+            with Follower(Catalogues(), first.address, "m") as follower:  # (the primary shows them, and says so)
+                self.assertGreaterEqual(follower.wait_for(4, 100), 4)
+            second.start()
+            first.wait_for_copy("standby")
+            again = [log.publish(loads(2), id=it, within=30) for it in doubtful]
+            self.assertEqual(len(set(again)), len(doubtful))
+            with psycopg.connect(second.address) as standby:
+                rows = dict(standby.execute("select id, version from kobdzila.publish").fetchall())
+            self.assertEqual({it: rows.get(it) for it in doubtful}, dict(zip(doubtful, again)))
+            self.assertEqual(len(rows), 1 + len(doubtful))
+
+    def cancelled(self, server: servers.Server, log: Log, how: str) -> uuid.UUID:
+        """Publish, cancel the waits for the standby, and return the id: nobody can say that it is safe."""
+        ending = threading.Event()
+
+        def cancel() -> None:
+            with psycopg.connect(server.address, autocommit=True) as connection:
+                while not ending.wait(0.01):
+                    connection.execute(f"select pg_{how}_backend(pid) from pg_stat_activity where wait_event = 'SyncRep'")
+
+        thread, number, begun = threading.Thread(target=cancel, daemon=True), uuid.uuid4(), time.monotonic()
+        thread.start()
+        with self.assertRaises(Unanswered) as caught:
+            log.publish(loads(2), id=number, within=0.6)
+        self.assertLess(time.monotonic() - begun, SLOW + 2)
+        ending.set()
+        thread.join()
+        self.assertEqual(caught.exception.id, number)
+        return number
+
+    def test_a_role_that_waits_for_nothing(self) -> None:
+        with servers.pair() as (first, second), Log(first.address) as log:
+            with psycopg.connect(first.address, autocommit=True) as connection:
+                connection.execute("alter role postgres set synchronous_commit = 'off'")
+            log.init()
+            self.assertEqual(log.publish(loads(1)), 2)
+            second.stop()
+            with self.assertRaises(Unanswered):
+                log.publish(loads(2), within=0.6)
+
+
+class ThreadTest(LogCase):
+    """The thread of a follower doesn't end without a word."""
+
+    def test_callbacks_that_fail(self) -> None:
+        def fails(*_: object) -> None:
+            raise RuntimeError("logging is down")
+
+        def ends(*_: object) -> None:
+            raise SystemExit
+
+        followers = [self.follower(machine=f"m{at}", on_trouble=it, on_version=it) for at, it in enumerate((fails, ends))]
+        self.log.publish(loads(1))
+        with self.assertLogs("kobdzila"):
+            for follower in followers:
+                follower.wait_for(2, 100)
+            self.sql("select pg_terminate_backend(pid) from pg_stat_activity where application_name = 'kob-fleet'"
+                     " and pid <> pg_backend_pid()")
+            version = Log(self.address).publish(loads(2))
+            for follower in followers:
+                self.assertEqual(follower.wait_for(version, 100), 4)
+                self.assertTrue(follower.health().is_alive)
+
+    def test_what_nobody_foresaw(self) -> None:
+        follower = self.follower(look_each=0.1)
+        self.log.publish(loads(1))
+        follower.wait_for(2, 100)
+        with self.assertLogs("kobdzila"), mock.patch.object(_player, "head_of", side_effect=MemoryError("no room")):
+            until(lambda: follower.restarts > 1)
+        self.assertEqual(follower.wait_for(self.log.publish(loads(2)), 100), 4)
+        self.assertGreater(follower.health().restarts, 1)
+        until(lambda: follower.trouble is None)
+
+    def test_a_fork(self) -> None:
+        self.check_fork(Catalogues())
+
+    @unittest.skipUnless(has_catsession(), NO_SESSION)
+    def test_a_fork_with_a_session(self) -> None:
+        """The child gets a catsession of its own, and joins anew."""
+        with kobdzila.Session() as session:
+            self.check_fork(session)
+            self.followers[-1].close()
+
+    def check_fork(self, store: Any) -> None:
+        follower = self.follower(store, "parent")
+        self.log.publish(loads(1))
+        follower.wait_for(2, 100)
+        until(lambda: [it.version for it in self.log.status().machines] == [2])
+        reading, writing = os.pipe()
+        child = os.fork()
+        if child == 0:
+            said = b"?"
+            try:
+                follower.wait_for(4, 100)
+                said = self.text(follower).encode()
+                until(lambda: len(self.log.status().machines) == 2)
+                follower.close()
+            except BaseException as why:  # noqa: BLE001
+                said = repr(why).encode()
+            os.write(writing, said)
+            os._exit(0)
+        os.close(writing)
+        version = self.log.publish(loads(2))
+        follower.wait_for(version, 100)
+        self.assertEqual(os.read(reading, 1000), b"k1 at 2")
+        os.close(reading)
+        os.waitpid(child, 0)
+        self.assertEqual(follower.wait_for(self.log.publish(loads(3)), 100), 6)
+        self.assertIsNone(follower.trouble)
+
+    def test_attempts_become_rare(self) -> None:
+        """Without a log, and for a role that may read nothing, a follower doesn't connect ten times a second."""
+        self.sql("do $$ begin create role nobody2 login; exception when duplicate_object then null; end $$")
+        self.log.publish(loads(1))
+        for role, has_log in (("nobody2", True), ("postgres", False)):
+            if not has_log:
+                self.sql("drop schema kobdzila cascade")
+            proxy = proxies.Proxy(servers.shared().port)
+            with Follower(Catalogues(), proxy.address.replace("user=postgres", f"user={role}"), "m") as follower:
+                time.sleep(4)
+                self.assertIsNotNone(follower.trouble)
+                with self.assertRaises(Behind) as caught:
+                    follower.wait_for(1, 0.1)
+                self.assertIn(str(follower.trouble), str(caught.exception))
+            self.assertLess(proxy.accepted, 14)
+            proxy.close()
+
+    def test_a_later_layout(self) -> None:
+        self.log.publish(loads(1))
+        self.sql("update kobdzila.log set layout = 99")
+        follower = self.follower()
+        self.assertIn("layout 99", str(until(lambda: follower.trouble)))
+        with self.assertRaisesRegex(NoLog, "layout 99"):
+            self.log.publish(loads(2))
+        self.assertFalse(follower.has_joined)
+        self.sql("update kobdzila.log set layout = 2")
+        follower.wait_for(2, 100)
+        self.sql("update kobdzila.log set layout = 99")  # (while it is followed)
+        self.sql("notify kobdzila")
+        self.assertIn("layout 99", str(until(lambda: follower.trouble)))
+        self.assertNotIsInstance(follower.stopped, Difference)
+
+
+if __name__ == "__main__":
+    unittest.main()

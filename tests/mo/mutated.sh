@@ -1,0 +1,47 @@
+#!/usr/bin/env bash
+# Opens 100,000 mutated MO files (bench/mutated/mutate.c, of 50 installed ones) by libkobdzila with the sanitizers, asks
+# those that are taken, and compares each answer with that of catsession: taken with as many entries, or refused for
+# the same reason. CATSESSION=PATH: another program. bench/mutated/run does the first part ten million times.
+no_program=1
+catsession=${CATSESSION:+$(realpath "$CATSESSION")}
+. "$(dirname "$0")/../lib/common"
+. tests/lib/c_common
+catsession=${catsession:-$PWD/bin/catsession}
+name='100,000 mutated MO files'
+
+has_library "$name" || exit 0
+tests/lib/needs tools/gnu-msgfmt gettext
+mapfile -t all < <(find /usr/share/locale -type f -name '*.mo' -size -3k 2> /dev/null | sort)
+files=()
+for ((i = 0; i < 50 && i < ${#all[@]}; i++)); do files+=("${all[i * ${#all[@]} / 50]}"); done
+if [ "${#files[@]}" != 50 ]; then
+  skipped "$name" "there are ${#files[@]} catalogues of at most 3 KB in /usr/share/locale, and not 50"
+  exit 0
+fi
+sanitized "$name" address,undefined || exit 0
+compiles "$name" mutate -fsanitize=address,undefined -fno-sanitize-recover=all bench/mutated/mutate.c \
+  "$room/address-undefined/build/lib/libkobdzila.a" || exit 0
+
+# (the lines go through a pipe: they are a quarter of a gigabyte)
+mkfifo "$room/lines"
+if [ -x "$catsession" ]; then
+  "$catsession" < "$room/lines" 2> "$room/session" |
+    awk -F '\t' '/^accepted-mo/ { print "accepted " $2 } /^refused-mo/ { print "refused " $2 }' > "$room/wanted" &
+  lines=$room/lines
+else
+  lines=-
+fi
+if said=$(timeout 300 "$room/mutate" 7 100000 "$room/got" "$lines" "${files[@]}" 2>&1); then
+  ok "$name, sanitized: ${said##*files, }"
+else
+  failed "$name, sanitized" "$(head -c 600 <<< "$said")"
+fi
+wait
+if [ "$lines" = - ]; then
+  skipped "$name, beside catsession" "there is no $catsession"
+elif [ "$(wc -l < "$room/wanted")" = 100000 ] && cmp -s "$room/wanted" "$room/got"; then
+  ok "$name, beside catsession: $(grep -c refused "$room/got") refused, for the same reasons"
+else
+  failed "$name, beside catsession" \
+    "$(diff "$room/wanted" "$room/got" | head -n 3 | tr '\n' ' ') $(head -c 200 "$room/session")"
+fi

@@ -1,0 +1,190 @@
+#!/usr/bin/env bash
+# Installs into a folder, under names with a prefix and without, as a packager does; runs what was installed, reads the
+# man pages, completes words, looks at the libraries, and uninstalls. Then the example of a script is run.
+. "$(dirname "$0")/../lib/common"
+
+catserve=${CATSERVE:-$PWD/bin/catserve}
+for it in "$catserve" bin/catsession; do
+  if [ ! -x "$it" ]; then
+    failed install "there is no $it: make builds it"
+    exit 0
+  fi
+done
+
+# made PREFIX WORD..: runs make with these words, of an installation of programs with this prefix
+made() {
+  local prefix=$1
+  shift
+  make -s "$@" PREFIX="$room/usr" DESTDIR="$room/image" PROGRAM_PREFIX="$prefix" > "$room/log" 2>&1
+}
+
+
+# (what is in C is installed where it was built)
+driver=''
+[ ! -x bin/msgfmt-or-gnu ] || driver=msgfmt-or-gnu
+
+# pages NAME PREFIX: each program has its page, without a warning, and the documents that they name are there
+pages() {
+  local at=$room/image$room/usr/share/man/man1 page wrong='' document
+  for page in msgfmt catserve catsession $driver; do
+    [ -s "$at/$2$page.1" ] || wrong+="no page of $page; "
+  done
+  if tests/lib/needs mandoc mandoc; then
+    wrong+=$(mandoc -T lint "$at/$2"*.1 2>&1 | head -n 2)
+  else
+    skipped "$1, lint" 'no mandoc'
+  fi
+  if command -v groff > /dev/null; then
+    for page in "$at/$2"*.1; do wrong+=$(groff -t -man -ww -T utf8 -z "$page" 2>&1 | head -n 2); done
+  else
+    skipped "$1, groff" 'no groff'
+  fi
+  for page in msgfmt catserve catsession $driver; do
+    document=$(sed 's/\\-/-/g' "$at/$2$page.1" | grep -o "$room/usr/share/doc/[^ ]*\.md" | head -n 1)
+    [ -n "$document" ] && [ -s "$room/image$document" ] || wrong+="$page(1) names '$document', which isn't there; "
+  done
+  if [ -z "$wrong" ]; then ok "$1"; else failed "$1" "$wrong"; fi
+}
+
+# prefixed NAME PREFIX: the pages name no program without the prefix (but GNU's, and what a program prints of itself)
+prefixed() {
+  local found
+  found=$(for page in "$room/image$room/usr/share/man/man1/$2"*.1; do
+    sed -e 's/\\f[A-Z]//g' -e 's/\\-/-/g' "$page" |
+      grep -nE "(^|[^-[:alnum:]])(catserve|catsession|msgfmt-or-gnu)([^-[:alnum:]:]|\$)|/bin/msgfmt|^\.BR? \"?msgfmt( |\$)" |
+      grep -vE '"msgfmt --no-hash"|This is'
+  done)
+  if [ -z "$found" ]; then ok "$1"; else failed "$1" "$found"; fi
+}
+
+# completed PROGRAM WORD..: what bash completes the last of these words to, in the order of the alphabet, after how they are
+# taken (filenames: quoted as names of files; nospace: with nothing after them)
+completed() {
+  bash -c '. "$1" && shift && name=$1 && COMP_WORDS=("$@") COMP_CWORD=$(($# - 1)) && compopt() { printf "%s: " "$2"; } &&
+    $(complete -p "$name" | sed "s/.* -F \([^ ]*\) .*/\1/") && printf "%s\n" "${COMPREPLY[@]}" | sort | paste -sd " "' - \
+    "$room/image$room/usr/share/bash-completion/completions/$1" "$1" "${@:2}" 2>&1
+}
+
+# completes NAME ANSWER PROGRAM WORD..
+completes() {
+  local answer
+  answer=$(cd "$room/words" && completed "${@:3}")
+  if [ "$answer" = "$2" ]; then ok "$1"; else failed "$1" "'$answer' and not '$2'"; fi
+}
+
+# manual NAME: each function of the header has a page, which leads to the one of the library
+manual() {
+  local at=$room/image$room/usr/share/man/man3 it wrong=''
+  for it in $(grep -oE '\bkob_[a-z_]+\(' include/kobdzila.h | tr -d '(' | sort -u); do
+    [ -f "$at/$it.3" ] && [ -s "$room/image$room/usr/share/man/$(sed -n 's/^\.so //p' "$at/$it.3")" ] || wrong+="$it "
+  done
+  if [ -z "$wrong" ]; then ok "$1"; else failed "$1" "no page for $wrong"; fi
+}
+
+# libraries NAME LIBDIR: they are there, without symbols that a linker doesn't need; the preloaded one lies apart
+libraries() {
+  local at=$room/image$2 wrong='' it
+  for it in libkobdzila.a libkobdzila.so.0 libkobdzila.so pkgconfig/kobdzila.pc kobdzila/libkobdzila-intl.so; do
+    [ -s "$at/$it" ] || wrong+="no $it; "
+  done
+  [ ! -e "$at/libkobdzila-intl.so" ] || wrong+='libkobdzila-intl.so among the public ones; '
+  sed "s|\${prefix}|$(sed -n 's/^prefix=//p' "$at/pkgconfig/kobdzila.pc")|" "$at/pkgconfig/kobdzila.pc" |
+    grep -qx "libdir=$2" || wrong+='kobdzila.pc names another folder; '
+  if command -v readelf > /dev/null && command -v strip > /dev/null; then
+    for it in libkobdzila.so.0 kobdzila/libkobdzila-intl.so; do
+      readelf -d "$at/$it" | grep -q "soname: \[${it##*/}\]" || wrong+="$it has another soname; "
+      ! readelf -S "$at/$it" | grep -q '\.symtab\|\.debug' || wrong+="$it isn't stripped; "
+    done
+  else
+    skipped "$1, stripped" 'no binutils'
+  fi
+  if [ -z "$wrong" ]; then ok "$1"; else failed "$1" "$wrong"; fi
+}
+
+options='--check --help --no-hash --output-file= --statistics --use-fuzzy --verbose -c -f -h -o -v'
+
+# installed PREFIX: everything about an installation with this prefix
+installed() {
+  local as="install ${1:-without a prefix}" bin=$room/image$room/usr/bin unstripped left
+  if ! made "$1" install; then
+    failed "$as" "$(tail -n 2 "$room/log")"
+    return
+  fi
+  if "$bin/$1msgfmt" -o - - < crates/msgfmt/stdin | cmp -s - crates/msgfmt/stdout &&
+    [ "$(echo go | "$bin/$1catserve")" = "$(printf 'version\t0')" ] &&
+    [ "$(echo go | "$bin/$1catsession")" = "$(printf 'version\t0')" ]; then
+    ok "$as: the programs run"
+  else
+    failed "$as: the programs run" 'they answer otherwise'
+  fi
+  if [ -z "$driver" ]; then
+    skipped "$as: msgfmt-or-gnu" 'it was not built'
+  elif "$bin/$1msgfmt-or-gnu" -o - - < crates/msgfmt/stdin 2> "$room/err" | cmp -s - crates/msgfmt/stdout; then
+    ok "$as: msgfmt-or-gnu runs"
+  else
+    failed "$as: msgfmt-or-gnu runs" "$(cat "$room/err")"
+  fi
+  unstripped=build/static/msgfmt
+  [ -x $unstripped ] || unstripped=$program
+  if ! command -v strip > /dev/null || [ "$(wc -c < "$bin/$1msgfmt")" -le "$(wc -c < "$unstripped")" ]; then
+    ok "$as: stripped"
+  else
+    failed "$as: stripped" 'it is larger than before'
+  fi
+  pages "$as: man pages" "$1"
+  [ -z "$1" ] || prefixed "$as: the programs' names in man pages" "$1"
+  completes "$as: an option" '--statistics' "$1msgfmt" --st
+  completes "$as: options" "$options" "$1msgfmt" -
+  completes "$as: PO files and folders" 'filenames: a.po folder' "$1msgfmt" ''
+  completes "$as: any FILE" 'filenames: a.mo a.po' "$1msgfmt" -co a
+  completes "$as: an option that waits for its value" 'nospace: --output-file=' "$1msgfmt" --ou
+  if [ -n "$driver" ]; then
+    completes "$as: an option of GNU msgfmt" '--check-accelerators' "$1msgfmt-or-gnu" --check-a
+    completes "$as: an option of GNU msgfmt with a value" 'nospace: --endianness=' "$1msgfmt-or-gnu" --en
+    completes "$as: the value of one" 'little' "$1msgfmt-or-gnu" --endianness = l
+    completes "$as: a folder" 'filenames: folder' "$1msgfmt-or-gnu" -D ''
+  fi
+  completes "$as: the options of a session" '--help --version --workers -V -h' "$1catsession" ''
+  completes "$as: a number of workers" '1 10 11 12 13 14 15 16' "$1catsession" --workers 1
+  if [ -f build/lib/libkobdzila.so.0 ]; then
+    libraries "$as: libraries" "$room/usr/lib"
+    manual "$as: a manual page for each function of the library"
+  else
+    skipped "$as: libraries" 'they were not built'
+  fi
+  made "$1" uninstall
+  left=$(find "$room/image" -type f)
+  if [ -z "$left" ]; then ok "$as: nothing is left by uninstall"
+  else failed "$as: nothing is left by uninstall" "$left"; fi
+}
+
+mkdir -p "$room/words/folder"
+touch "$room/words/a.po" "$room/words/a.mo"
+if tests/lib/needs make make; then
+  installed ''
+  installed kob-
+  made '' install && made kob- install && made kob- uninstall
+  if [ -f build/lib/libkobdzila.so.0 ]; then
+    for it in LIBDIR=/usr/lib/x86_64-linux-gnu libdir=/usr/lib64; do
+      made '' install_library "$it" && libraries "install, $it" "${it#*=}" && made '' uninstall_library "$it"
+      left=$(find "$room/image/usr" -type f)
+      if [ -z "$left" ]; then ok "install, $it: nothing is left by uninstall"
+      else failed "install, $it: nothing is left by uninstall" "$left"; fi
+    done
+  else
+    skipped 'install, LIBDIR' 'the libraries were not built'
+  fi
+  if [ -x "$room/image$room/usr/bin/msgfmt" ] && [ -s "$room/image$room/usr/share/doc/kobdzila/reference/msgfmt.md" ]; then
+    ok 'install: uninstalling one leaves what the other has alone'
+  else
+    failed 'install: uninstalling one leaves what the other has alone' "$(find "$room/image" -type f)"
+  fi
+else
+  skipped install 'no make, and it could not be installed'
+fi
+
+if "$catserve" < examples/shop.script > "$room/out" 2> "$room/err" && cmp -s "$room/out" examples/shop.answers; then
+  ok 'the example of a script'
+else
+  failed 'the example of a script' "$(cat "$room/err"; diff "$room/out" examples/shop.answers | head -n 3)"
+fi

@@ -1,0 +1,158 @@
+#!/usr/bin/env bash
+# Runs install.sh of the tarball over a tarball that only looks like one: whose the files are, their modes under each umask,
+# what is left by `remove`, names of folders that need care, and that an installation that fails changes nothing.
+no_program=1
+. "$(dirname "$0")/../lib/common"
+
+# tarball FOLDER: what a user with umask 077 has unpacked; another user than this one, if this is root
+tarball() {
+  mkdir -p "$1"/{bin,include,lib/kobdzila,lib/pkgconfig,tools,share/{man/man1,bash-completion/completions,doc/kobdzila/reference}}
+  for it in msgfmt catserve; do
+    printf '#!/bin/sh\necho %s\n' $it > "$1/bin/$it"
+    cp docs/man/$it.1 "$1/share/man/man1"
+  done
+  chmod +x "$1"/bin/*
+  cp include/kobdzila.h "$1/include"
+  for it in libkobdzila.a libkobdzila.so.0 kobdzila/libkobdzila-intl.so pkgconfig/kobdzila.pc; do echo $it > "$1/lib/$it"; done
+  ln -s libkobdzila.so.0 "$1/lib/libkobdzila.so"
+  cp tools/completion "$1/share/bash-completion/completions/msgfmt"
+  cp docs/reference/msgfmt.md "$1/share/doc/kobdzila/reference"
+  cp tools/installed_page "$1/tools"
+  cp packaging/install.sh VERSION "$1"
+  chmod -R go= "$1"
+  [ "$(id -u)" != 0 ] || chown -R nobody "$1"
+}
+
+# install WORD..: runs the script with the shell $shell; its $status, and in $said what it said
+shell='sh'
+install() {
+  said=$(umask "${mask:-022}" && $shell "$room/tarball/install.sh" "$@" 2>&1)
+  status=$?
+}
+
+# holds NAME CONDITION..: the condition holds
+holds() {
+  local name=$1
+  shift
+  if "$@"; then ok "install.sh: $name"; else failed "install.sh: $name" "status $status, '$said'; $(listed | head -n 5)"; fi
+}
+
+# listed: what is installed: modes, owners and names
+listed() { find "$PREFIX" -printf '%M %U %P\n' 2> /dev/null | sort; }
+
+# wrong: a file that has another owner or mode than wanted
+wrong() {
+  find "$PREFIX" ! -uid "$(id -u)" -print
+  find "$PREFIX" -type d ! -perm 0755 -print
+  find "$PREFIX" -type f \( -path '*/bin/*' -o -name '*.so*' \) ! -perm 0755 -print
+  find "$PREFIX" -type f ! -path '*/bin/*' ! -name '*.so*' ! -perm 0644 -print
+}
+all_right() { [ "$status" = 0 ] && [ -x "$PREFIX/bin/msgfmt" ] && [ -L "$PREFIX/lib/libkobdzila.so" ] && [ -z "$(wrong)" ]; }
+is_gone() { [ "$status" = 0 ] && [ ! -e "$PREFIX" ]; }
+is_refused() { [ "$status" != 0 ] && [[ $said == *"nothing was installed below $PREFIX"* ]]; }
+
+tarball "$room/tarball"
+export PREFIX=$room/usr PROGRAM_PREFIX=
+for mask in 022 077 000; do
+  install
+  holds "umask $mask: all files are those of who installs it, with modes for everyone" all_right
+  install
+  holds "umask $mask: once more over it" all_right
+  install remove
+  holds "umask $mask: nothing is left" is_gone
+  install remove
+  holds "umask $mask: removed twice" is_gone
+done
+mask=077
+
+for shell in dash bash 'busybox sh'; do
+  if ! tests/lib/needs "${shell%% *}" "${shell%% *}"; then
+    skipped "install.sh: $shell" 'it is not there, and could not be installed'
+    continue
+  fi
+  PREFIX=$room/usr
+  install
+  holds "$shell" all_right
+  install remove
+  holds "$shell: nothing is left" is_gone
+done
+shell='sh'
+
+for name in 'a|b' 'a b' "it's & more"; do
+  PREFIX=$room/$name/usr
+  install
+  holds "a folder called $name" all_right
+  holds "a folder called $name: the page names it" grep -qF "$PREFIX/share/doc/kobdzila/reference" \
+    <(sed 's/\\-/-/g' "$PREFIX/share/man/man1/msgfmt.1")
+  install remove
+  holds "a folder called $name: nothing is left" is_gone
+done
+mkdir "$room/here"
+(cd "$room/here" && PREFIX=usr sh "$room/tarball/install.sh") > "$room/log" 2>&1
+PREFIX=$room/here/usr
+install
+holds 'a relative folder is one below the current one' all_right
+install remove
+
+# what was there before stays, with its mode
+PREFIX=$room/usr
+mkdir -p "$PREFIX/bin"
+chmod 2775 "$PREFIX/bin"
+echo mine > "$PREFIX/bin/mine"
+before=$(listed)
+install
+holds 'a folder that was there keeps its mode' test "$(stat -c %a "$PREFIX/bin")" = 2775
+install remove
+holds 'what was there before stays' test "$(listed)" = "$before"
+
+# two installations below one folder
+install
+PROGRAM_PREFIX=kob- install
+holds 'a prefix for the programs' test "$("$PREFIX/bin/kob-msgfmt")" = msgfmt
+PROGRAM_PREFIX=kob- install remove
+holds 'one is removed, and the programs of the other stay' test -x "$PREFIX/bin/msgfmt" -a ! -e "$PREFIX/bin/kob-msgfmt"
+install remove
+rm -r "$PREFIX"
+
+# a program that runs keeps its file
+install
+exec 8< "$PREFIX/bin/msgfmt"
+old=$(stat -c %i "$PREFIX/bin/msgfmt")
+install
+holds 'each file is replaced by a new one' test "$(stat -c %i "$PREFIX/bin/msgfmt")" != "$old"
+exec 8<&-
+install remove
+
+# failures: what can't be made is refused, and nothing is there afterwards
+echo file > "$room/file"
+PREFIX=$room/file/usr
+install
+holds 'a folder that cannot be made' is_refused
+PREFIX=$room/usr
+mkdir "$PREFIX"
+echo file > "$PREFIX/share"
+before=$(listed)
+install
+holds 'one folder of several cannot be made' is_refused
+holds 'and nothing is there afterwards' test "$(listed)" = "$before"
+rm "$PREFIX/share"
+mkdir -p "$PREFIX/bin/msgfmt"
+before=$(listed)
+install
+holds 'a folder in the place of a program' is_refused
+holds 'and it stays' test "$(listed)" = "$before"
+if [ "$(id -u)" = 0 ]; then
+  rm -r "$PREFIX"
+  mkdir "$PREFIX"
+  chmod 755 "$room"
+  chmod -R go+rX "$room/tarball"
+  said=$(setpriv --reuid=nobody --regid=65534 --clear-groups sh "$room/tarball/install.sh" 2>&1)
+  status=$?
+  holds 'a user without the right to write' is_refused
+else
+  skipped 'install.sh: a user without the right to write' 'only root can become another user'
+fi
+install twice
+holds 'another word is refused' test "$status" = 2
+PROGRAM_PREFIX=a/b install
+holds 'a prefix with a slash is refused' test "$status" = 2

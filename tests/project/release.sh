@@ -1,0 +1,370 @@
+#!/usr/bin/env bash
+# The release: the version is the same everywhere; the C interface is what the last release promised; a tarball packed
+# twice, in two folders, by two users, has the same bytes, contains what it says, runs where there is no C library, and
+# is installed and removed without root; and the Debian packages are the same bytes twice, and pass lintian.
+#
+# tests/project/debian tries both in minimal systems of several Debian releases; it isn't a part of `make check`.
+no_program=1
+. "$(dirname "$0")/../lib/common"
+version=$(cat VERSION)
+name=kobdzila-$version-$(uname -m)-linux
+
+# says NAME WANTED GOT
+says() { if [ "$2" = "$3" ]; then ok "$1"; else failed "$1" "'$3' and not '$2'"; fi; }
+
+# --- the version --------------------------------------------------------------------------------------------------
+
+says 'version: kobdzila.h' "$version" "$(sed -n 's/^#define KOB_VERSION "\(.*\)"/\1/p' include/kobdzila.h)"
+says 'version: CHANGELOG.md' 1 "$(grep -c "^## \[$version\]" CHANGELOG.md)"
+if [ -f build/lib/libkobdzila.so.0 ] && command -v python3 > /dev/null; then
+  says 'version: the library and the Python module' "$version" "$(LIBKOBDZILA=$PWD/build/lib/libkobdzila.so.0 \
+    PYTHONPATH=examples/python python3 -B -c 'import kobdzila_ctypes; print(kobdzila_ctypes.__version__)' 2>&1 | tail -n 1)"
+else
+  skipped 'version: the library and the Python module' 'no library was built, or there is no python3'
+fi
+if [ -x bin/catsession ]; then
+  says 'version: catsession' "catsession (Kobdzila) $version" "$(bin/catsession --version 2>&1)"
+else
+  skipped 'version: catsession' 'it was not built'
+fi
+
+# --- the C interface ----------------------------------------------------------------------------------------------
+
+if command -v python3 > /dev/null && command -v readelf > /dev/null && [ -f build/lib/libkobdzila.so.0 ]; then
+  if said=$(tests/library/c_interface.py build/lib/libkobdzila.so.0 2>&1); then
+    ok "the C interface: $said"
+  else
+    failed 'the C interface' "$said"
+  fi
+else
+  skipped 'the C interface' 'no python3, no binutils, or no library was built'
+fi
+
+# --- the tarball, packed twice ------------------------------------------------------------------------------------
+
+if ! git rev-parse HEAD > /dev/null 2>&1; then
+  skipped 'the release' 'this is no clone with git'
+  exit 0
+fi
+if [ ! -x build/static/msgfmt ] || [ ! -f build/lib/libkobdzila.so.0 ]; then
+  skipped 'the release' 'no static programs were built: there is no C compiler, or no static C library'
+  exit 0
+fi
+
+# copied FOLDER WORD..: makes a clone in it, with the sources as they are here and what was built; with further words for
+# tar. (Its files get another owner, so none may be a link to one here.)
+copied() {
+  git clone -q -n --no-hardlinks . "$1"
+  { git ls-files -z; find bin build/static build/lib ! -type d -print0; } | tar --null -T - -cf - | tar -C "$1" "${@:2}" -xf -
+  git -C "$1" add -A
+}
+
+# as_another FOLDER WORD..: runs the words in a folder of another user, if this is root, with other settings
+as_another() {
+  local folder=$1
+  shift
+  set -- env -i PATH="$PATH" HOME="$folder" TZ=Asia/Kathmandu LC_ALL=C.UTF-8 ${RT:+RT="$RT"} ${CC:+CC="$CC"} "$@"
+  [ "$(id -u)" != 0 ] || { chown -R nobody "$folder" && set -- setpriv --reuid=nobody --regid=65534 --clear-groups "$@"; }
+  (cd "$folder" && umask 077 && "$@")
+}
+
+chmod 755 "$room"
+copied "$room/one"
+# (files that git doesn't know, which no release may have)
+for it in docs/guide examples/c rust/src rust/kobdzila-sys/src python/src/kobdzila; do
+  echo 'SECRET=1' > "$room/one/$it/.env"
+  echo 'secret' > "$room/one/$it/stray.md"
+done
+copied "$room/another/folder" --touch
+said=$(cd "$room/one" && tools/dist --as-built 2>&1)
+if [ ! -f "$room/one/build/dist/$name.tar.gz" ]; then
+  failed 'the tarball' "$said"
+  exit 0
+fi
+tarball=$room/one/build/dist/$name.tar.gz
+said=$(as_another "$room/another/folder" tools/dist --as-built 2>&1)
+other=$room/another/folder/build/dist/$name.tar.gz
+whom='two users'
+[ "$(id -u)" = 0 ] || whom='one user'
+if cmp "$tarball" "$other" > "$room/cmp" 2>&1; then
+  ok "the tarball: the same bytes in two folders, by $whom"
+else
+  failed "the tarball: the same bytes in two folders, by $whom" "$(cat "$room/cmp"); $said"
+fi
+mkdir "$room/published"
+cp "$room"/one/build/dist/* "$room/published" 2> /dev/null
+if said=$(cd "$room/one" && tools/verify_release --as-built "$room/published/$name.tar.gz" 2>&1); then
+  ok "the tarball and what comes with it: $(grep -c 'every byte is the same' <<< "$said") files verified"
+else
+  failed 'the tarball and what comes with it: verified' "$said"
+fi
+printf x >> "$room/published/$name.oci.tar"
+if said=$(cd "$room/one" && tools/verify_release --as-built "$room/published/$name.tar.gz" 2>&1); then
+  failed 'what comes with the tarball: a changed file is found' 'it passed'
+elif grep -qx "$name.oci.tar: it differs" <<< "$said"; then
+  ok 'what comes with the tarball: a changed file is found'
+else
+  failed 'what comes with the tarball: a changed file is found' "$said"
+fi
+if ! cargo --version > /dev/null 2>&1; then
+  skipped 'the crates for Rust' 'no cargo'
+else
+  for folder in rust rust/kobdzila-sys; do
+    crate=kobdzila${folder#rust}
+    crate=${crate/\/kobdzila/}-$version
+    if said=$(cd "$room/one/build/dist" && sha256sum -c SHA256SUMS 2>&1) && grep -qx "$crate.crate: OK" <<< "$said" &&
+      tar -xzOf "$room/one/build/dist/$crate.crate" "$crate/src/lib.rs" | cmp -s - $folder/src/lib.rs; then
+      ok "the crate $crate for Rust: packed, with its line in SHA256SUMS"
+    else
+      failed "the crate $crate for Rust: packed, with its line in SHA256SUMS" "$said"
+    fi
+  done
+fi
+mkdir "$room/unpacked" "$room/changed"
+tar -xzf "$tarball" -C "$room/unpacked"
+if said=$(cd "$room/unpacked/$name" && sha256sum --quiet -c SHA256SUMS 2>&1 && cd .. &&
+  find . -type f ! -name SHA256SUMS | wc -l | cmp - <(wc -l < "$name/SHA256SUMS") 2>&1); then
+  ok 'the tarball: SHA256SUMS has each file'
+else
+  failed 'the tarball: SHA256SUMS has each file' "$said"
+fi
+stray=$(find "$room/unpacked" -name .env -o -name stray.md)
+for it in "$room"/one/build/dist/*.crate; do [ ! -f "$it" ] || stray+=$(tar -tzf "$it" | grep -E '\.env|stray'); done
+for it in "$room"/one/build/dist/*.whl; do [ ! -f "$it" ] || stray+=$(unzip -l "$it" | grep -E '\.env|stray'); done
+says 'the tarball, the crates and the wheel: no file that git does not know' '' "$stray"
+if said=$(tools/linked_pages --check "$room/unpacked/$name"); then
+  ok "the tarball: each link of its $(find "$room/unpacked/$name" -name '*.md' | wc -l) pages leads somewhere"
+else
+  failed 'the tarball: each link of its pages leads somewhere' "$said"
+fi
+echo 'See [the sources](../crates/message/README.md).' > "$room/page.md"
+if tools/linked_pages --check "$room" > "$room/links"; then
+  failed 'the tarball: a link that leads nowhere is found' 'it is not'
+else
+  ok 'the tarball: a link that leads nowhere is found'
+fi
+
+# --- the image for containers, the list of what is inside, the signature --------------------------------------------
+
+image=$room/one/build/dist/$name.oci.tar
+mkdir "$room/image" "$room/root"
+tar -xf "$image" -C "$room/image"
+# digest JSON WORD..: the digest of a file of the image, as the fields of another file name it
+digest() { python3 -c 'import json, sys
+it = json.load(open(sys.argv[1]))
+for word in sys.argv[2:]: it = it[int(word) if word.isdigit() else word]
+print(it.replace(":", "/"))' "$@"; }
+if manifest=$room/image/blobs/$(digest "$room/image/index.json" manifests 0 digest) &&
+  layer=$room/image/blobs/$(digest "$manifest" layers 0 digest) && tar -xzf "$layer" -C "$room/root" &&
+  (cd "$room/image/blobs/sha256" && for it in *; do echo "$it  $it"; done | sha256sum --quiet -c) > "$room/sums" 2>&1; then
+  ok "the image: $(($(wc -c < "$image"))) bytes, each blob has the digest that is its name"
+else
+  failed 'the image: each blob has the digest that is its name' "$(cat "$room/sums" 2>&1)"
+fi
+if [ "$(id -u)" = 0 ]; then
+  says 'the image: its command runs in it' "catsession (Kobdzila) $version" \
+    "$(chroot "$room/root" "$(digest "$room/image/blobs/$(digest "$manifest" config digest)" config Entrypoint 0)" --version 2>&1)"
+else
+  skipped 'the image: its command runs in it' 'only root can call chroot'
+fi
+if tests/lib/needs skopeo skopeo; then
+  says 'the image: skopeo reads it' "$version" "$(skopeo inspect "oci-archive:$image" 2>&1 |
+    sed -n 's/.*"org.opencontainers.image.version": "\(.*\)".*/\1/p')"
+else
+  skipped 'the image: skopeo reads it' 'no skopeo, and it could not be installed'
+fi
+list=$room/one/build/dist/kobdzila-$version.spdx.json
+if said=$(python3 - "$list" "$room/one/build/dist" << 'END'
+import hashlib, json, sys
+from pathlib import Path
+spdx = json.loads(Path(sys.argv[1]).read_text())
+for field in ("spdxVersion", "dataLicense", "SPDXID", "name", "documentNamespace", "creationInfo"):
+    assert spdx[field], field
+known = {"SPDXRef-DOCUMENT", *(it["SPDXID"] for it in spdx["packages"] + spdx["files"])}
+assert len(known) == 1 + len(spdx["packages"]) + len(spdx["files"]), "one name for two things"
+for it in spdx["packages"]:
+    assert it["name"] and it["downloadLocation"] and it["licenseConcluded"], it
+for it in spdx["files"]:
+    sums = {sum["algorithm"]: sum["checksumValue"] for sum in it["checksums"]}
+    bytes_of = (Path(sys.argv[2]) / it["fileName"]).read_bytes()
+    assert sums["SHA256"] == hashlib.sha256(bytes_of).hexdigest(), it["fileName"]
+for it in spdx["relationships"]:
+    assert it["spdxElementId"] in known and it["relatedSpdxElement"] in known, it
+print(f"{len(spdx['packages'])} packages, {len(spdx['files'])} files")
+END
+); then
+  ok "the list of what is inside: $said"
+else
+  failed 'the list of what is inside' "$(tail -n 1 <<< "$said")"
+fi
+if said=$(cd "$room/one" && echo 'another: unheard_of' >> crates.txt &&
+  tools/spdx --toolchain t --c-library c --compiler c --date 0 2>&1); then
+  failed 'the list of what is inside: a library without a licence is found' 'it is not'
+else
+  says 'the list of what is inside: a library without a licence is found' \
+    'tools/spdx: no version and licence is known of unheard_of: add a row to LIBRARIES' "$said"
+fi
+git -C "$room/one" checkout -q crates.txt
+if tests/lib/needs ssh-keygen openssh-client; then
+  ssh-keygen -q -t ed25519 -N '' -C maintainers -f "$room/key"
+  echo "maintainers $(cut -d ' ' -f 1,2 "$room/key.pub")" > "$room/signers"
+  checks() { ssh-keygen -Y verify -f "$room/signers" -I maintainers -n kobdzila-release -s SHA256SUMS.sig < SHA256SUMS; }
+  if said=$(cd "$room/one" && make -s sign KEY="$room/key" 2>&1 && cd build/dist && checks 2>&1); then
+    ok 'the signature: checked by ssh-keygen'
+  else
+    failed 'the signature: checked by ssh-keygen' "$said"
+  fi
+  if said=$(cd "$room/one/build/dist" && sed -i 's/^./x/' SHA256SUMS && checks 2>&1); then
+    failed 'the signature: a changed sum is found' 'it is not'
+  else
+    ok 'the signature: a changed sum is found'
+  fi
+else
+  skipped 'the signature' 'no ssh-keygen, and it could not be installed'
+fi
+
+# (a program with one byte more, and sums to match, has to be found)
+cp -R "$room/unpacked/$name" "$room/changed"
+(cd "$room/changed/$name" && printf x >> bin/msgfmt &&
+  find . -type f ! -name SHA256SUMS | sort | sed 's|^\./||' | xargs sha256sum > SHA256SUMS)
+(cd "$room/changed" && tar -czf "$name.tar.gz" "$name")
+if said=$(cd "$room/one" && tools/verify_release --as-built "$room/changed/$name.tar.gz" 2>&1); then
+  failed 'the tarball: a changed program is found' 'it passed'
+elif grep -q 'bin/msgfmt differ' <<< "$said"; then
+  ok 'the tarball: a changed program is found'
+else
+  failed 'the tarball: a changed program is found' "$said"
+fi
+
+# make verify, by a toolchain that doesn't prove: it hands out what was built here
+proved_before=yes
+for it in msgfmt/out/msgfmt catserve_program/out/catserve_program catsession/out/catsession; do
+  [ -f "crates/$it" ] && [ -f "crates/$it.o" ] || proved_before=
+done
+cat > "$room/rt" << END
+#!/bin/sh
+case \$1 in lib | run) ;; *) exec ${RT:-rt} "\$@" ;; esac
+name=\$(basename "\$PWD")
+mkdir -p out
+for it in "\$name" "\$name.o" "lib\$name.a"; do
+  [ ! -f "$PWD/crates/\$name/out/\$it" ] || cp "$PWD/crates/\$name/out/\$it" out
+done
+END
+chmod +x "$room/rt"
+if [ -z "$proved_before" ] || [ ! -f crates/kobdzila_c/out/libkobdzila_c.a ]; then
+  skipped 'make verify' 'no program of crates/ with its object file is here, as `make check` leaves them'
+else
+  copied "$room/made"
+  git -C "$room/made" -c user.name=test -c user.email=test commit -q --allow-empty -m sources
+  if said=$(cd "$room/made" && export RT=$room/rt && tools/dist 2>&1 &&
+    timeout 300 tools/verify_release "build/dist/$name.tar.gz" 2>&1) &&
+    [ "$(tail -n 1 <<< "$said")" = "$name.tar.gz: every byte is the same" ]; then
+    ok 'make verify'
+  else
+    failed 'make verify' "$(tail -n 3 <<< "$said")"
+  fi
+fi
+
+# --- what is in it ------------------------------------------------------------------------------------------------
+
+program=$room/unpacked/$name/bin/msgfmt
+if [ "$(id -u)" = 0 ]; then
+  mkdir "$room/nothing"
+  cp "$room/unpacked/$name/bin"/{msgfmt,catserve,catsession} "$room/nothing"
+  if said=$(chroot "$room/nothing" /msgfmt -o - - < crates/msgfmt/stdin 2>&1 | cmp - crates/msgfmt/stdout 2>&1) &&
+    [ "$(echo go | chroot "$room/nothing" /catserve)" = "$(printf 'version\t0')" ] &&
+    [ "$(echo go | chroot "$room/nothing" /catsession)" = "$(printf 'version\t0')" ]; then
+    ok 'the programs run in a folder without a C library'
+  else
+    failed 'the programs run in a folder without a C library' "$said"
+  fi
+else
+  skipped 'the programs run in a folder without a C library' 'only root can call chroot'
+fi
+
+# installed PREFIX: by install.sh into a folder, without root: programs, page, library, and removed again
+installed() {
+  local as="install.sh ${1:-without a prefix}" to=$room/home/$1local left
+  mkdir -p "$room/home"
+  if ! said=$(PREFIX=$to PROGRAM_PREFIX=$1 "$room/unpacked/$name/install.sh" 2>&1); then
+    failed "$as" "$said"
+    return
+  fi
+  if "$to/bin/$1msgfmt" -o - - < crates/msgfmt/stdin | cmp -s - crates/msgfmt/stdout &&
+    "$to/bin/$1msgfmt-or-gnu" -o - - < crates/msgfmt/stdin | cmp -s - crates/msgfmt/stdout; then
+    ok "$as: the programs run"
+  else
+    failed "$as: the programs run" 'they answer otherwise'
+  fi
+  says "$as: the pages have the version" "Kobdzila $version" \
+    "$(sed -n 's/^\.TH.*"\(Kobdzila [^"]*\)".*/\1/p' "$to"/share/man/man?/* | sort -u)"
+  said=$(sed 's/\\-/-/g' "$to/share/man/man1/$1msgfmt.1" | grep -o "$to/share/doc/[^ ]*\.md" | head -n 1)
+  if [ -s "$said" ]; then ok "$as: the document that the page names"
+  else failed "$as: the document that the page names" "'$said'"; fi
+  if grep -q "^complete .* $1msgfmt\$" "$to/share/bash-completion/completions/$1msgfmt"; then
+    ok "$as: completions"
+  else
+    failed "$as: completions" "$(grep ^complete "$to/share/bash-completion/completions/$1msgfmt")"
+  fi
+  if tests/lib/needs cc gcc libc6-dev && tests/lib/needs pkg-config pkg-config; then
+    links "$as" "$to"
+  else
+    skipped "$as: a program in C" 'no C compiler or no pkg-config, and they could not be installed'
+  fi
+  PREFIX=$to PROGRAM_PREFIX=$1 "$room/unpacked/$name/install.sh" remove
+  left=$(find "$to" ! -type d 2> /dev/null)
+  if [ -z "$left" ]; then ok "$as: removed"; else failed "$as: removed" "$left"; fi
+}
+
+# links NAME FOLDER: a program in C finds the library by pkg-config, the shared one and the static one
+links() {
+  local flags said
+  export PKG_CONFIG_PATH=$2/lib/pkgconfig
+  says "$1: pkg-config knows the version" "$version" "$(pkg-config --modversion kobdzila 2>&1)"
+  read -r -a flags < <(pkg-config --cflags --libs kobdzila)
+  said=$(cc -o "$room/shared" tests/lib/installed.c "${flags[@]}" 2>&1 && LD_LIBRARY_PATH=$2/lib "$room/shared" tests/lib/installed.po 2>&1)
+  says "$1: a program in C" "$version: fichiers" "$said"
+  read -r -a flags < <(pkg-config --cflags kobdzila)
+  said=$(cc -o "$room/static" tests/lib/installed.c "${flags[@]}" "$2/lib/libkobdzila.a" 2>&1 && "$room/static" tests/lib/installed.po 2>&1)
+  says "$1: a program in C, with the static library" "$version: fichiers" "$said"
+}
+
+installed ''
+installed kob-
+
+# the shared library runs with the C library of Debian 11, whose number is 2.31
+newest=$(readelf -W --dyn-syms "$room/unpacked/$name/lib/libkobdzila.so.0" | grep -o 'GLIBC_[0-9.]*' | sort -u -V | tail -n 1)
+if [ "$(printf '%s\n' "$newest" GLIBC_2.31 | sort -V | tail -n 1)" = GLIBC_2.31 ]; then
+  ok "the shared library needs $newest, and Debian 11 has GLIBC_2.31"
+else
+  failed 'the shared library needs at most GLIBC_2.31' "it needs $newest"
+fi
+
+# --- the Debian packages ------------------------------------------------------------------------------------------
+
+if ! tests/lib/needs dh debhelper dpkg-dev; then
+  skipped 'the Debian packages' 'no debhelper, and it could not be installed'
+  exit 0
+fi
+tests/lib/needs lintian lintian
+as_another "$room/another/folder" tools/deb --as-built > "$room/other_deb" 2>&1 &
+(cd "$room/one" && tools/deb --as-built) > "$room/deb" 2>&1
+status=$?
+wait
+if [ "$status" = 0 ]; then
+  ok "the Debian packages: $(find "$room/one/build/deb" -name '*.deb' | wc -l)"
+else
+  failed 'the Debian packages' "$(grep -v '^[IW]:' "$room/deb" | tail -n 5)"
+fi
+if ! command -v lintian > /dev/null; then
+  skipped 'the Debian packages, lintian' 'no lintian, and it could not be installed'
+elif grep -q '^E: ' "$room/deb"; then
+  failed 'the Debian packages, lintian' "$(grep '^E: ' "$room/deb")"
+else
+  ok "the Debian packages, lintian: no error, $(grep -c '^W: ' "$room/deb") warnings"
+fi
+if cmp "$room"/one/build/deb/SHA256SUMS "$room"/another/folder/build/deb/SHA256SUMS > "$room/cmp" 2>&1; then
+  ok "the Debian packages: the same bytes in two folders, by $whom"
+else
+  failed "the Debian packages: the same bytes in two folders, by $whom" "$(cat "$room/cmp" "$room/other_deb" | tail -n 5 | tr '\n' ' ')"
+fi
