@@ -5,6 +5,9 @@
                follower shows them
     rate       publishes of two small catalogues, 100 a second, and how long after each one the last follower shows it
     joining    the log has 100,000 loads of 200 catalogues of 0.5 MB: from the start of a follower until it shows them
+    catalogues the log has 10,000 catalogues of 1 kB: from the start of a follower until it shows them
+    crowd      200 followers: from the return of publish until the last one shows two small catalogues, and the
+               processor time of the server while nothing is published
 
 The store of a follower is catsession, then kobdzila.Store, then a dict of kobdzila.Catalogue; --kind picks one. Each
 line says whether the goal is met, and the status is 1 if one isn't.
@@ -33,6 +36,8 @@ JOINS = 3
 MEDIAN, WORST = 0.050, 0.200  # of the latency, in seconds
 SHARE, LATE = 0.99, 1.0  # of the rate, and how late a follower may be at any time
 JOINED = 2.0
+MANY, MANY_JOINED = 10_000, 3.0
+CROWD, CROWD_PROCESSES, CROWD_LATE, AT_REST = 200, 8, 1.0, 0.02
 
 
 def large(number):
@@ -171,7 +176,82 @@ def joining(kind, address, options):
                    + ", ".join(f"{it:.2f} s" for it in times), max(times) <= JOINED)
 
 
-WORKS = {"latency": latency, "rate": rate, "joining": joining}
+def catalogues(kind, address, options):
+    text = "".join(f'msgid "k{at}"\nmsgstr "%d {at} {"x" * 40}"\n\n' for at in range(14))
+    files = [kobdzila.Catalogue.from_po((text.replace("%d", str(number))).encode()).mo_file() for number in range(MANY)]
+    with Log(address) as log:
+        log.init()
+        log.publish([(f"d{at % 100}", f"l{at // 100}", it) for at, it in enumerate(files)], within=600)
+    times, used = [], []
+    for _ in range(JOINS):
+        store, begun, spent = opened(kind), time.monotonic(), time.process_time()
+        with Follower(store, address, "late") as follower:
+            follower.wait_for(MANY, 300)
+            times.append(time.monotonic() - begun)
+            used.append(time.process_time() - spent)
+        getattr(store, "close", lambda: None)()
+    return verdict(f"{kind}: a machine joins with {MANY} catalogues of {len(files[0])} bytes in "
+                   + ", ".join(f"{it:.2f} s" for it in times)
+                   + f", of which it computes {min(used):.2f} s", min(times) <= MANY_JOINED)
+
+
+def follow_many(kind, address, first, count, versions, pipe):
+    """A process with some of the followers of a crowd."""
+    def note(at):
+        return lambda version: versions.__setitem__(at, (int(version)))
+
+    made = [Follower(opened(kind), address, f"m{at}", on_version=note(at)) for at in range(first, first + count)]
+    for follower in made:
+        follower.start()
+    pipe.recv()
+    for follower in made:
+        follower.close()
+
+
+def spent_by(server):
+    """The processor time of a server and all its processes, in seconds."""
+    ticks = 0
+    for pid in server.processes():
+        try:
+            with open(f"/proc/{pid}/stat") as file:
+                ticks += sum(map(int, file.read().rpartition(")")[2].split()[11:13]))
+        except FileNotFoundError:
+            pass
+    return ticks / os.sysconf("SC_CLK_TCK")
+
+
+def crowd(kind, options):
+    """Followers that are threads of eight processes, as eight workers of a web server have them."""
+    with servers.primary("max_connections = 300") as server:
+        with Log(server.address) as log:
+            log.init()
+            versions, pipes = multiprocessing.RawArray("q", [-1] * CROWD), []
+            for first in range(0, CROWD, CROWD // CROWD_PROCESSES):
+                mine, other = multiprocessing.Pipe()
+                arguments = [kind, server.address, first, CROWD // CROWD_PROCESSES, versions, other]
+                multiprocessing.Process(target=follow_many, args=arguments, daemon=True).start()
+                pipes.append(mine)
+            times = []
+            for number in range(options.publishes):
+                version = log.publish([("app", "fr", mo(number)), ("mail", "fr", mo(number))], within=60)
+                done = time.monotonic()
+                while min(versions) < version:
+                    assert time.monotonic() < done + 300, f"a follower is at {min(versions)}, and not at {version}"
+                    time.sleep(0.001)
+                times.append(time.monotonic() - done)
+                time.sleep(0.2)
+            time.sleep(3)
+            before, begun = spent_by(server), time.monotonic()
+            time.sleep(options.seconds)
+            share = (spent_by(server) - before) / (time.monotonic() - begun)
+            for pipe in pipes:
+                pipe.send(None)
+    is_quick = verdict(f"{kind}: {CROWD} followers, from the answer to the last one: {milliseconds(times[1:])}",
+                       max(times[1:]) <= CROWD_LATE)
+    return verdict(f"{kind}: at rest the server uses {100 * share:.2f} % of a core", share <= AT_REST) and is_quick
+
+
+WORKS = {"latency": latency, "rate": rate, "joining": joining, "catalogues": catalogues, "crowd": crowd}
 
 
 def main():
@@ -185,6 +265,9 @@ def main():
     options = parser.parse_args()
     are_met = []
     for name in options.only or WORKS:
+        if name == "crowd":
+            are_met.append(crowd((options.kind or ["Store"])[0], options))
+            continue
         for kind in options.kind or kinds():
             with servers.pair("max_wal_size = 4GB", "shared_buffers = 256MB") as (first, second):
                 are_met.append(WORKS[name](kind, servers.both(first, second), options))

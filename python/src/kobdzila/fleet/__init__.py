@@ -3,22 +3,35 @@
 A Log adds publishes to the log; a Follower on each machine plays them into its store. Both need psycopg 3, which is
 the extra `fleet` of this package (python3-psycopg in Debian). The program kob-fleet does both from a shell.
 """
-from ._follow import Difference, Follower, StoreFailed
-from ._log import Load, Log, Machine, NoLog, Row, Status, Unanswered
-from ._queries import Damaged
-from ._store import Behind, SessionTexts, Snapshot, Store
-from ._web import ASGIMiddleware, WSGIMiddleware
+from importlib import import_module
+from typing import TYPE_CHECKING, Any
+
+if TYPE_CHECKING:
+    from ._cache import CacheRefused
+    from ._follow import Follower
+    from ._health import Health
+    from ._layout import NoLog, Restored
+    from ._log import Load, Log, Machine, Row, Status, Unanswered
+    from ._metrics import metrics
+    from ._player import Difference, StoreFailed
+    from ._queries import Damaged
+    from ._store import Behind, SessionTexts, Snapshot, Store
+    from ._version import Version
+    from ._web import ASGIMiddleware, WSGIMiddleware
 
 __all__ = [
     "ASGIMiddleware",
     "Behind",
+    "CacheRefused",
     "Damaged",
     "Difference",
     "Follower",
+    "Health",
     "Load",
     "Log",
     "Machine",
     "NoLog",
+    "Restored",
     "Row",
     "SessionTexts",
     "Snapshot",
@@ -26,5 +39,28 @@ __all__ = [
     "Store",
     "StoreFailed",
     "Unanswered",
+    "Version",
     "WSGIMiddleware",
+    "metrics",
 ]
+PLACES = {
+    "_cache": ("CacheRefused",),
+    "_follow": ("Follower",),
+    "_health": ("Health",),
+    "_layout": ("NoLog", "Restored"),
+    "_log": ("Load", "Log", "Machine", "Row", "Status", "Unanswered"),
+    "_metrics": ("metrics",),
+    "_player": ("Difference", "StoreFailed"),
+    "_queries": ("Damaged",),
+    "_store": ("Behind", "SessionTexts", "Snapshot", "Store"),
+    "_version": ("Version",),
+    "_web": ("ASGIMiddleware", "WSGIMiddleware"),
+}
+
+
+def __getattr__(name: str) -> Any:
+    """Import a name when it is asked for, so that `kob-fleet --help` works without psycopg."""
+    for place, names in PLACES.items():
+        if name in names:
+            return getattr(import_module(f"{__name__}.{place}"), name)
+    raise AttributeError(f"module {__name__!r} has no attribute {name!r}")

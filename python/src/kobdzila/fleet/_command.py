@@ -1,98 +1,94 @@
-"""The program kob-fleet."""
+"""The program kob-fleet: its arguments. What its commands do is in _actions, which needs psycopg."""
 from __future__ import annotations
 
 import argparse
-import contextlib
-import json
 import os
 import sys
 import uuid
-from collections.abc import Callable, Sequence
-from typing import BinaryIO
+from collections.abc import Sequence
+from typing import NoReturn
 
-from .._catalogue import Catalogue
 from .._kobdzila import version as package_version
-from .._refused import Refused
-
-try:
-    import psycopg
-except ImportError:
-    sys.exit("kob-fleet: needs psycopg 3: pip install 'psycopg>=3.1', or apt install python3-psycopg")
-
-from .._session import Session, SessionEnded
-from ._follow import Follower
-from ._log import NAME, NO_LOG, Load, Log, Machine, NoLog, Unanswered
-from ._store import Behind
 
 DATABASE = "KOB_FLEET_DATABASE"
-MOST_LINES = 67_108_864
-SILENT = 30.0  # seconds without a report, which comes every ten
-HEADS = ("machine", "version", "behind", "for", "seen", "state")
+USAGE = 64  # EX_USAGE of sysexits.h; 2 is for an answer that was lost
+DAY = 86_400.0
 
 
-class Trouble(Exception):
-    """What ends the program with status 1."""
+class Parser(argparse.ArgumentParser):
+    """Reports wrong arguments with a status of their own."""
+
+    def error(self, message: str) -> NoReturn:
+        self.print_usage(sys.stderr)
+        self.exit(USAGE, f"{self.prog}: {message}\n")
 
 
 def main(arguments: Sequence[str] | None = None) -> int:
     """Run kob-fleet, and return its status."""
     options = parser().parse_args(arguments)
-    run: Callable[[argparse.Namespace], int] = options.run
     try:
-        return run(options)
-    except Unanswered as unanswered:
-        say(str(unanswered))
-        say(f"run it again with --id {unanswered.id}")
-        return 2
-    except psycopg.errors.UndefinedTable:
-        say(NO_LOG)
-    except (Trouble, NoLog, ValueError, psycopg.Error, OSError) as trouble:
-        say(str(trouble).strip() or type(trouble).__name__)
-    except KeyboardInterrupt:
-        return 130
-    return 1
-
-
-def say(text: str) -> None:
-    print(f"kob-fleet: {text}", file=sys.stderr, flush=True)
+        from ._actions import run
+    except ImportError as why:
+        if why.name not in (None, "psycopg"):
+            raise
+        print(f"kob-fleet: needs psycopg 3 ({why}): pip install 'psycopg>=3.1', or apt install python3-psycopg",
+              file=sys.stderr)
+        return 1
+    return run(options)
 
 
 def parser() -> argparse.ArgumentParser:
-    made = argparse.ArgumentParser(prog="kob-fleet", description="Keep catalogues on many machines at one version, by "
-                                   "a log in PostgreSQL.", epilog="The manual page is kob-fleet(1).")
+    made = Parser(prog="kob-fleet", description="Keep catalogues on many machines at one version, by "
+                  "a log in PostgreSQL.", epilog="The manual page is kob-fleet(1).")
     made.add_argument("-V", "--version", action="version", version=f"kob-fleet (kobdzila) {package_version}")
     made.add_argument("-d", "--database", default=os.environ.get(DATABASE, ""), metavar="CONNECTION",
                       help=f"a connection string of libpq, such as 'host=db1,db2 dbname=texts'; the default is "
                       f"${DATABASE}, and what it leaves out comes from PGHOST and so on")
-    commands = made.add_subparsers(title="commands", metavar="COMMAND", required=True)
+    commands = made.add_subparsers(title="commands", metavar="COMMAND", required=True, dest="command")
 
-    def command(name: str, run: Callable[[argparse.Namespace], int], words: str) -> argparse.ArgumentParser:
-        added = commands.add_parser(name, help=words, description=words[0].upper() + words[1:] + ".")
-        added.set_defaults(run=run)
-        return added
+    def command(name: str, words: str) -> argparse.ArgumentParser:
+        return commands.add_parser(name, help=words, description=words[0].upper() + words[1:] + ".")
 
-    command("init", init, "create the log's tables in the database")
-    added = command("publish", publish, "compile, check and publish catalogues, all in one step")
+    add_init(command("init", "create the log's tables in the database"))
+    add_publish(command("publish", "compile, check and publish catalogues, all in one step"))
+    added = command("remove", "publish empty catalogues, which answer as none does")
+    added.add_argument("pairs", nargs="+", metavar="DOMAIN/LOCALE")
+    add_publishing(added)
+    added = command("rollback", "publish the catalogues of an earlier version anew, as a new version")
+    added.add_argument("to", type=int, metavar="VERSION")
+    add_publishing(added)
+    added = command("wait", "wait until all machines show a version")
+    added.add_argument("until", metavar="VERSION", help="a number, or EPOCH.NUMBER")
+    added.add_argument("--within", type=float, default=60.0, metavar="SECONDS", help="how long to wait (60)")
+    add_seen(added)
+    add_follow(command("follow", "start catsession, load what the log has, and answer questions from the input"))
+    add_status(command("status", "show the version of each machine, and how far it is behind"))
+    added = command("metrics", "print the log and its machines in the text format of Prometheus")
+    added.add_argument("--listen", metavar="[HOST:]PORT", help="serve them over HTTP, as /metrics (host 127.0.0.1)")
+    added = command("history", "show the last publishes, the newest first")
+    added.add_argument("-n", "--last", type=int, default=20, metavar="N", help="how many (20)")
+    added = command("compact", "delete loads that no machine needs")
+    added.add_argument("--to", type=int, metavar="VERSION", help="keep all loads after this version")
+    add_seen(added)
+    added = command("restore", "begin a new epoch, after the database was restored from a backup")
+    added.add_argument("--note", default="", metavar="TEXT", help="a text for the table of epochs")
+    added = command("forget", "delete what machines of a name reported")
+    added.add_argument("machine", metavar="MACHINE", help="the name of machines, or of one process")
+    return made
+
+
+def add_init(added: argparse.ArgumentParser) -> None:
+    added.add_argument("--upgrade", action="store_true", help="bring tables of an earlier layout to this one")
+    added.add_argument("--roles", action="store_true", help="also create the roles kobdzila_follower, "
+                       "kobdzila_publisher and kobdzila_operator, with exactly the rights that they need")
+
+
+def add_publish(added: argparse.ArgumentParser) -> None:
     added.add_argument("catalogues", nargs="+", metavar="DOMAIN/LOCALE=FILE", help="a PO file, or an MO file (*.mo)")
     added.add_argument("--no-check", action="store_true", help="skip the checks of msgfmt -c")
     added.add_argument("-f", "--use-fuzzy", action="store_true", help="use fuzzy messages, too")
+    added.add_argument("--force", action="store_true", help="publish more than catsession takes in one step")
     add_publishing(added)
-    added = command("follow", follow, "start catsession, load what the log has, and answer questions from the input")
-    added.add_argument("-m", "--machine", help="the name of this machine (its host name)")
-    added.add_argument("-v", "--verbose", action="store_true", help="report each version on standard error")
-    added.add_argument("--catsession", metavar="PATH", help="the program catsession, if it isn't the package's own")
-    added = command("status", status, "show the version of each machine, and how far it is behind")
-    added.add_argument("--json", action="store_true", help="print one object of JSON")
-    added = command("history", history, "show the last publishes, the newest first")
-    added.add_argument("-n", "--last", type=int, default=20, metavar="N", help="how many (20)")
-    added = command("rollback", rollback, "publish the catalogues of an earlier version anew, as a new version")
-    added.add_argument("to", type=int, metavar="VERSION")
-    add_publishing(added)
-    added = command("compact", compact, "delete loads that no machine needs")
-    added.add_argument("--to", type=int, metavar="VERSION", help="keep all loads after this version")
-    added.add_argument("--seen-within", type=float, default=86_400.0, metavar="SECONDS",
-                       help="don't wait for machines that reported longer ago (86400)")
-    return made
 
 
 def add_publishing(added: argparse.ArgumentParser) -> None:
@@ -101,137 +97,34 @@ def add_publishing(added: argparse.ArgumentParser) -> None:
                        help="the number of this publish; one that is in the log already isn't published again")
     added.add_argument("--within", type=float, default=30.0, metavar="SECONDS",
                        help="how long to try if the server can't be reached (30)")
+    added.add_argument("--token", action="store_true", help="print EPOCH.NUMBER alone, as `wait` takes it")
 
 
-def init(options: argparse.Namespace) -> int:
-    with Log(options.database) as log:
-        log.init()
-        print(f"version {log.status().version}")
-    return 0
+def add_follow(added: argparse.ArgumentParser) -> None:
+    added.add_argument("-m", "--machine", help="the name of this machine (its host name)")
+    added.add_argument("-v", "--verbose", action="store_true", help="report each version on standard error")
+    added.add_argument("--catsession", metavar="PATH", help="the program catsession, if it isn't the package's own")
+    added.add_argument("--cache", metavar="DIR", help="keep the last version in this folder, for a restart without "
+                       "the database")
+    added.add_argument("--go-over", action="store_true", help="switch to a log that was restored to an earlier version")
+    added.add_argument("--report-to", metavar="CONNECTION", help="the primary, if the followed server is a standby")
+    added.add_argument("--tokens", action="store_true", help="answer with versions EPOCH.NUMBER, and `older` after them "
+                       "while the texts are the cache's")
+    added.add_argument("--daemon", action="store_true", help="read no input, and tell systemd when there are texts")
+    added.add_argument("--socket", metavar="PATH", help="answer rounds of questions on a socket of the system")
 
 
-def publish(options: argparse.Namespace) -> int:
-    loads, refused = [], 0
-    for word in options.catalogues:
-        domain, slash, rest = word.partition("/")
-        locale, equals, name = rest.partition("=")
-        if not (slash and equals and name and NAME.fullmatch(domain) and NAME.fullmatch(locale)):
-            raise Trouble(f"not of the form DOMAIN/LOCALE=FILE: {word}")
-        try:
-            opened = Catalogue.open(name, checked=not options.no_check, use_fuzzy=options.use_fuzzy)
-            loads.append(Load(domain, locale, opened.mo_file()))
-        except Refused as why:
-            line = f"{name}:{why.line}" if why.line else name
-            print(f"{line}: {why.text}", file=sys.stderr)
-            refused += 1
-    if refused:
-        raise Trouble("nothing was published")
-    with writable(options) as log:
-        version = log.publish(loads, id=options.id, note=options.note or "", within=options.within)
-    print(f"version {version}")
-    return 0
+def add_status(added: argparse.ArgumentParser) -> None:
+    added.add_argument("--json", action="store_true", help="print one object of JSON")
+    added.add_argument("--check", action="store_true", help="exit with status 1 if a machine is behind, 2 if one is "
+                       "silent or has stopped, and 3 if the database doesn't answer")
+    added.add_argument("--late", type=float, default=10.0, metavar="SECONDS",
+                       help="for how long a machine may be behind (10)")
 
 
-def rollback(options: argparse.Namespace) -> int:
-    number = options.id or uuid.uuid4()
-    with writable(options) as log:
-        version = log.rollback(options.to, id=number, note=options.note, within=options.within)
-        is_new = log.version_of(number) is not None
-    print(f"version {version}" if is_new else f"version {version} has the texts of version {options.to} already")
-    return 0
-
-
-def writable(options: argparse.Namespace) -> Log:
-    """Return the log for something to publish. Why it has to be tried again is said once."""
-    said: set[str] = set()
-
-    def once(text: str) -> None:
-        if text not in said:
-            say(f"{text}; trying for {options.within:g} s")
-        said.add(text)
-
-    return Log(options.database, on_trouble=once)
-
-
-def compact(options: argparse.Namespace) -> int:
-    with Log(options.database) as log:
-        print(f"cut up to version {log.compact(options.to, options.seen_within)}")
-    return 0
-
-
-def history(options: argparse.Namespace) -> int:
-    with Log(options.database) as log:
-        for row in log.history(options.last):
-            when = row.published.astimezone().strftime("%Y-%m-%d %H:%M:%S")
-            pairs = " ".join(row.pairs) if len(row.pairs) == row.loads else f"{row.loads} loads, cut"
-            print(f"{row.version}  {when}  {pairs}" + (f"  ({row.note})" if row.note else ""))
-    return 0
-
-
-def status(options: argparse.Namespace) -> int:
-    with Log(options.database) as log:
-        found = log.status()
-    if options.json:
-        machines = [machine._asdict() for machine in found.machines]
-        print(json.dumps({**found._asdict(), "machines": machines}))
-        return 0
-    print(f"version {found.version}, {found.publishes} publishes, cut up to {found.cut}")
-    rows = [HEADS, *((it.name, str(it.version), str(it.behind), f"{it.late:.1f} s" if it.behind else "-",
-                      f"{it.seen:.0f} s ago", state_of(it)) for it in found.machines)]
-    widths = [max(len(row[at]) for row in rows) for at in range(len(HEADS))]
-    for row in rows if found.machines else ():
-        print("  ".join(cell.ljust(width) for cell, width in zip(row, widths)).rstrip())
-    return 0
-
-
-def state_of(machine: Machine) -> str:
-    return machine.trouble or ("follows" if machine.seen <= SILENT else "silent")
-
-
-def follow(options: argparse.Namespace) -> int:
-    """Be a catsession whose loads come from the log: rounds of questions come in, and answers go out."""
-    with Session(options.catsession) as session:
-        follower = Follower(session, options.database, options.machine, on_trouble=say,
-                            on_version=lambda version: say(f"version {version}") if options.verbose else None)
-        with follower:
-            answer_rounds(follower, session, sys.stdin.buffer, sys.stdout.buffer)
-    return 0
-
-
-def answer_rounds(follower: Follower, session: Session, questions: BinaryIO, answers: BinaryIO) -> None:
-    """Answer rounds until the questions end. Versions are the log's."""
-    lines: list[bytes] = []
-    size = 0
-    for number, line in enumerate(questions, 1):
-        if line.startswith(b"#") or line == b"\n":
-            continue
-        if line == b"go\n":
-            answers.write(answered(follower, session, lines))
-            answers.flush()
-            lines, size = [], 0
-            continue
-        size += len(line)
-        if not line.startswith(b"ask\t0\t") or not line.endswith(b"\n") or size > MOST_LINES:
-            raise Trouble(f"line {number}: neither a question to worker 0 nor `go`")
-        lines.append(line)
-    if lines:
-        answers.write(answered(follower, session, lines))
-        answers.flush()
-
-
-def answered(follower: Follower, session: Session, lines: list[bytes]) -> bytes:
-    while not follower.has_joined:
-        if follower.stopped is not None:
-            raise Trouble("there are no texts to answer from")
-        with contextlib.suppress(Behind):
-            follower.wait_for(within=1.0)
-    try:
-        version, fields = session._answer(lines)
-    except SessionEnded as ended:
-        raise Trouble(f"catsession ended: {ended}") from ended
-    log = str(follower.log_version(version))
-    texts = [f"version\t{log}\n", *("\t".join((field[0], log, *field[2:])) + "\n" for field in fields)]
-    return "".join(texts).encode()
+def add_seen(added: argparse.ArgumentParser) -> None:
+    added.add_argument("--seen-within", type=float, default=DAY, metavar="SECONDS",
+                       help="don't wait for machines that reported longer ago (86400)")
 
 
 if __name__ == "__main__":

@@ -1,55 +1,45 @@
-"""A machine that follows the log: it plays each publish into a store."""
+"""A machine that follows the log: a thread that plays each publish into a store."""
 from __future__ import annotations
 
 import contextlib
-import itertools
+import logging
 import os
-import selectors
+import random
+import select
 import socket
 import threading
 import time
-from bisect import bisect_right
-from collections.abc import Callable, Iterable, Sequence
-from concurrent.futures import ThreadPoolExecutor
+import weakref
+from collections.abc import Callable, Iterator
 from typing import TYPE_CHECKING, Any
 
 import psycopg
+from psycopg import conninfo
 
 from .._closing import Closing
 from .._session import Session
-from ._log import CHANNEL, CONNECT_TIMEOUT, NO_LOG, Connection, Load, one, with_defaults
-from ._queries import Cut, Damaged, Found, Head, Publish, asked, check_count, checked, loads_of, prepare
+from ._cache import Cache, CacheRefused
+from ._connect import Interrupted, Silent, Watched, connect, note_silence, parameters, polled, set_for_session
+from ._health import Health, health_of
+from ._layout import NO_LOG, NoLog, check_layout, layout_of
+from ._player import LOOK_WITHIN, Difference, Lagging, Player, StoreFailed
+from ._queries import Damaged, prepare
+from ._report import Report, Reporter, abandon
 from ._store import Behind, SessionTexts, Snapshot, Store
+from ._version import Version, version_of
 
 if TYPE_CHECKING:
     from typing_extensions import Self
 
+LOG = logging.getLogger("kobdzila")
+CHANNEL = "kobdzila"
 LOOK_EACH = 10.0  # seconds between two looks at the log if nothing is heard
 STANDBY_LOOK_EACH = 0.1  # a standby can't notify, so it is asked
-REPORT_EACH = 1.0  # the least time between two reports of a machine
-PAUSES = (0.05, 2.0)  # before the first and at most before each other attempt to connect
-MOST_LOADS = 256  # a machine that lacks more of the log takes the last loads, in one step
-CHECKERS = 4  # threads that take the sums of files while a machine joins
-PART = 16 << 20  # bytes of MO files that a Session takes in one round while a machine joins
-
-
-class Difference(Exception):
-    """The store or the machine isn't where the log says. The follower has stopped; the store answers on."""
-
-    def __init__(self, here: int, log: int, why: str) -> None:
-        super().__init__(here, log, why)
-        self.here, self.log = here, log
-
-    def __str__(self) -> str:
-        return f"version {self.here} here, {self.log} in the log: {self.args[2]}"
-
-
-class StoreFailed(Exception):
-    """The store refused a publish of the log. The follower has stopped; the store answers on."""
-
-
-class Lagging(Exception):
-    """A standby has not yet got what this machine shows."""
+POOLED_LOOK_EACH = 1.0  # and a pooler may not pass on what the server notifies
+PAUSES = (0.05, 5.0)  # before the first and at most before each other attempt to connect
+PATIENCE = 3.0  # how many times the usual time a server gets that may be overwhelmed by all who come back at once
+CLOSE_WITHIN = 0.9
+FORK_WITHIN = 10.0  # seconds that a fork waits for a store that is being changed
 
 
 class Follower(Closing):
@@ -57,10 +47,16 @@ class Follower(Closing):
 
     `store` is a kobdzila.Session or another Store. Nobody else may load into it after the start. Loads that it has
     before that stay below those of the log. `database` is a connection string of libpq, as of Log. `machine` names
-    this follower in `kob-fleet status`; without it, it is the name of the host.
+    this follower in `kob-fleet status`; without it, it is the name of the host. Several followers may have one name.
+
+    `cache` is a folder for the last version that the machine has shown, so that a restart needs no database. With
+    `go_over` the machine switches to a log that was restored to an earlier version; without it, it stops, says so, and
+    answers on. A follower of a standby reports to the primary among the string's hosts, or to `report_to`.
+    It looks at the log every `look_each` seconds if it hears nothing, and at a standby, which can't notify, every
+    `standby_look_each` seconds.
 
     `on_version` is called with each version that is shown, and `on_trouble` with a text when there is trouble, both
-    in the follower's thread.
+    in the follower's thread. What they raise is logged (the logger is `kobdzila`), and the follower goes on.
 
         with kobdzila.Session() as session, Follower(session, "host=db1,db2 dbname=texts") as follower:
             with follower.snapshot(within=30) as texts:
@@ -73,35 +69,51 @@ class Follower(Closing):
         database: str = "",
         machine: str | None = None,
         *,
+        cache: str | os.PathLike[str] | None = None,
+        go_over: bool = False,
+        report_to: str | None = None,
         look_each: float = LOOK_EACH,
         standby_look_each: float = STANDBY_LOOK_EACH,
-        on_version: Callable[[int], object] = lambda version: None,
+        on_version: Callable[[Version], object] = lambda version: None,
         on_trouble: Callable[[str], object] = lambda text: None,
     ) -> None:
         self.store, self.machine = store, machine or socket.gethostname()
-        self._database = with_defaults(database, target_session_attrs="read-write")
+        self._database = database
         self._look_each, self._standby_look_each = look_each, standby_look_each
         self._on_version, self._on_trouble = on_version, on_trouble
+        self._player = Player(store, None if cache is None else Cache(cache, self.machine), go_over)
+        self._reporter = Reporter(self.machine, report_to or primary_of(database))
         self._changed = threading.Condition()
-        self._version, self._history, self._joined = 0, b"", False
-        self._bases = [(store.version, -store.version)]  # from this version of the store on, the log's is that more
         self._trouble: str | None = None
+        self._cache_trouble: str | None = None
         self._stopped: Exception | None = None
-        self._reported: tuple[int, str | None] | None = None
-        self._report_at = 0.0
-        self._heard = self._ending = self._standby = False
+        self._refusals = self._connections = self._restarts = 0
+        self._looked_at: float | None = None
+        self._pause = PAUSES[0]
+        self._heard = self._ending = self._has_started = False
+        self._connection: Watched | None = None
+        self._begin()
+        FOLLOWERS.add(self)
+
+    def _begin(self) -> None:
+        """Make what belongs to one process: the pipe that ends the thread's waits, and the thread."""
         self._woken, self._waker = os.pipe()
         self._thread = threading.Thread(target=self._run, name=f"fleet-{self.machine}", daemon=True)
 
     @property
-    def version(self) -> int:
+    def version(self) -> Version:
         """The log's version that the store shows."""
-        return self._version
+        return self._player.version
 
     @property
     def has_joined(self) -> bool:
         """Whether the store shows a version of the log yet."""
-        return self._joined
+        return self._player.has_joined
+
+    @property
+    def is_older(self) -> bool:
+        """Whether the store shows what the cache had, since the log hasn't answered after the start."""
+        return self._player.is_older
 
     @property
     def trouble(self) -> str | None:
@@ -110,20 +122,42 @@ class Follower(Closing):
 
     @property
     def stopped(self) -> Exception | None:
-        """Why the follower has stopped for good: a Difference, or StoreFailed. None while it follows."""
+        """Why nothing more is played: a Difference, or StoreFailed. None while the follower follows."""
         return self._stopped
 
+    @property
+    def has_failed(self) -> bool:
+        """Whether the follower has stopped for good, since its store isn't what the log says: it takes a new one.
+
+        A log that has lost publishes may get well, by a new epoch. Then the follower goes on, or goes over.
+        """
+        why = self._stopped
+        return why.is_final if isinstance(why, Difference) else why is not None
+
+    @property
+    def restarts(self) -> int:
+        """How often the thread met an exception that nobody foresaw, and began again."""
+        return self._restarts
+
+    def health(self) -> Health:
+        """Return the state of this machine, for load balancers and operators. It makes no query."""
+        since = None if self._looked_at is None else time.monotonic() - self._looked_at
+        return health_of(self.machine, self._report(), since, restarts=self._restarts, is_ready=self.has_joined,
+                         is_alive=self._thread.is_alive() and not self._ending)
+
     def start(self) -> None:
-        """Begin to follow."""
+        """Begin to follow. In a child of this process, a fork of it, the follower begins anew by itself."""
+        self._has_started = True
         self._thread.start()
 
     def close(self) -> None:
-        """Stop following. The store stays as it is."""
+        """Stop following, within a second. The store stays as it is."""
         self._ending = True
+        FOLLOWERS.discard(self)
         if self._woken >= 0:
             os.write(self._waker, b"x")
         if self._thread.ident is not None:
-            self._thread.join(2 * CONNECT_TIMEOUT)
+            self._thread.join(CLOSE_WITHIN)
         if not self._thread.is_alive() and self._woken >= 0:
             os.close(self._woken)
             os.close(self._waker)
@@ -133,221 +167,260 @@ class Follower(Closing):
         self.start()
         return self
 
-    def wait_for(self, at_least: int = 0, within: float = 0.5) -> int:
+    def wait_for(self, at_least: int | str = 0, within: float = 0.5) -> Version:
         """Wait until the machine has joined and shows `at_least` this version, and return the one that it shows.
 
-        Behind after `within` seconds.
+        `at_least` is a Version or a token, or a number of whatever epoch the machine is in. A version of an earlier
+        epoch of the log is shown by a machine that is in a later one. Behind after `within` seconds.
         """
-        def reached() -> bool:
-            return self._joined and self._version >= at_least
-
-        if not reached():
+        wanted = version_of(at_least)
+        if not self._player.shows(wanted):
             with self._changed:
-                if not self._changed.wait_for(reached, within):
-                    raise Behind(self._version, at_least)
-        return self._version
+                if not self._changed.wait_for(lambda: self._player.shows(wanted), within):
+                    raise Behind(self.version, wanted, self._trouble)
+        return self.version
 
-    def snapshot(self, *, at_least: int = 0, within: float = 0.5, **options: Any) -> Snapshot:
+    def snapshot(self, *, at_least: int | str = 0, within: float = 0.5, **options: Any) -> Snapshot:
         """Return a context manager for look-ups in `at_least` this version. Behind after `within` seconds.
 
         `options` are those of the store's own `snapshot`.
         """
         self.wait_for(at_least, within)
         take = getattr(self.store, "snapshot", None)
+        is_older = self.is_older
         if take is not None:
-            return Snapshot(take(**options), self.log_version)
+            return Snapshot(take(**options), self.log_version, is_older)
         if isinstance(self.store, Session):
-            return Snapshot(SessionTexts(self.store, self.log_version, **options), self.log_version)
+            return Snapshot(SessionTexts(self.store, self.log_version, **options), self.log_version, is_older)
         raise TypeError(f"{type(self.store).__name__} has no snapshot")
 
-    def log_version(self, version: int) -> int:
+    def unjoined(self, **options: Any) -> Snapshot:
+        """Return look-ups in the store as it is, even if the machine hasn't joined: with what it had before the start."""
+        return Snapshot(self.store.snapshot(**options), self.log_version, True)  # type: ignore[attr-defined]
+
+    def is_past(self, epoch: str) -> bool:
+        """Whether this is an epoch of the log before the one that the machine is in."""
+        return epoch in self._player.past
+
+    def log_version(self, version: int) -> Version:
         """Return the log's version for a version of the store.
 
         A store counts the loads that it was given. A machine that joined late was given fewer than the log has.
         """
-        return version + self._bases[bisect_right(self._bases, version, key=lambda base: base[0]) - 1][1]
+        return self._player.log_version(version)
 
     # --- the thread
 
     def _run(self) -> None:
-        pause = PAUSES[0]
-        while not self._ending and self._stopped is None:
-            try:
-                with psycopg.connect(self._database, autocommit=True) as connection:
-                    pause = PAUSES[0]
-                    self._follow(connection)
-            except (psycopg.Error, OSError) as trouble:
-                has_no_log = isinstance(trouble, psycopg.errors.UndefinedTable)
-                self._say(NO_LOG if has_no_log else str(trouble).strip() or type(trouble).__name__)
-                self._sleep(pause)
-                pause = min(PAUSES[1], 2 * pause)
-            except Exception as why:  # noqa: BLE001 (a thread that ends without a word would be the worst)
-                self._stopped = why
-                self._say(f"{type(why).__name__}: {why}")
+        """Follow until the end. Whatever goes wrong is said, and after a pause the thread begins again."""
+        while not self._ending:
+            self._attempt()
+        self._reporter.close()
+        self._player.close()
 
-    def _follow(self, connection: Connection) -> None:
+    def _attempt(self) -> None:
+        """Follow as long as the connection holds, and rest after it was lost."""
+        try:
+            self._join_from_cache()
+            with self._connected() as connection:
+                self._follow(connection)
+        except Interrupted:
+            return
+        except (psycopg.Error, OSError, NoLog) as trouble:
+            has_no_log = isinstance(trouble, psycopg.errors.UndefinedTable)
+            self._say(NO_LOG if has_no_log else str(trouble).strip() or type(trouble).__name__)
+        except BaseException as why:  # noqa: BLE001 (a thread that ends without a word would be the worst)
+            self._restarts += 1
+            LOG.error("the follower of %s begins again", self.machine, exc_info=True)
+            self._say(f"{type(why).__name__}: {why}")
+        self._rest()
+
+    def _rest(self) -> None:
+        """Wait before the next attempt, twice as long as before. 200 machines don't come all at once."""
+        poll = select.poll()
+        poll.register(self._woken, select.POLLIN)
+        poll.poll(1000 * self._pause * random.uniform(0.5, 1.0))
+        self._pause = min(PAUSES[1], 2 * self._pause)
+
+    @contextlib.contextmanager
+    def _connected(self) -> Iterator[Watched]:
+        self._connection = connection = connect(
+            self._database, "primary", wake=self._woken, patience=min(PATIENCE, self._pause / PAUSES[0]))
+        self._connections += 1
+        try:
+            yield connection
+        except Silent:
+            note_silence(connection.place)
+            raise
+        finally:
+            if self._ending:
+                self._reporter.goodbye(connection)
+            self._connection = None
+            connection.close()
+
+    def _follow(self, connection: Watched) -> None:
         """Play what comes, until the connection is lost or the follower ends."""
-        connection.execute("select set_config('synchronous_commit', 'off', false)")  # (it writes nothing but reports)
-        prepare(connection)
+        connection.limit = LOOK_WITHIN
+        check_layout(layout_of(connection))
+        if not connection.is_pooled:
+            set_for_session(connection, synchronous_commit="off")  # (it writes nothing but reports)
+            prepare(connection)
         connection.add_notify_handler(lambda notice: setattr(self, "_heard", True))
-        self._standby = True
-        while not self._ending and self._stopped is None:
-            if self._standby:  # (which may have been promoted)
-                (self._standby,) = one(connection.execute("select pg_is_in_recovery()"))
-                if not self._standby:
-                    connection.execute(f"listen {CHANNEL}")
-            self._heard = False
+        is_listening, self._heard = False, True
+        while not self._ending:
+            if connection.is_standby:  # (which may have been promoted)
+                ((connection.is_standby,),) = connection.execute("select pg_is_in_recovery()").fetchall()
+            if not (is_listening or connection.is_standby or connection.is_pooled):
+                connection.execute(f"listen {CHANNEL}".encode())
+                is_listening = self._heard = True
             self._look_and_say(connection)
-            self._report(connection)
-            if not self._heard and not self._ending and self._stopped is None:
+            self._write(connection)
+            if not self._heard and not self._ending:
                 self._wait(connection)
 
-    def _look_and_say(self, connection: Connection) -> None:
+    def _look_and_say(self, connection: Watched) -> None:
+        """Play what there is. What was heard is looked at at once; otherwise a heartbeat says whether there is more."""
+        was_heard, self._heard = self._heard, False
         try:
-            while self._look(connection):
-                pass
-            self._trouble = None
+            is_met = self.has_failed or not was_heard
+            if is_met:
+                is_met = self._player.is_met(connection) or self.has_failed
+            while not is_met and not self._ending:
+                is_met = not self._look(connection)
+            if not self.has_failed:
+                self._stopped = self._trouble = None
+            self._looked_at, self._pause = time.monotonic(), PAUSES[0]
         except (Damaged, Lagging) as passing:
+            self._refusals += isinstance(passing, Damaged)
             self._say(str(passing))
         except (Difference, StoreFailed) as why:
+            self._refusals += self._stopped is None
             self._stopped = why
             self._say(str(why))
 
-    def _wait(self, connection: Connection) -> None:
-        """Wait for a notice, the end, or the time of the next look or report."""
-        end = time.monotonic() + (self._standby_look_each if self._standby else self._look_each)
-        with selectors.DefaultSelector() as selector:
-            selector.register(connection.fileno(), selectors.EVENT_READ)
-            selector.register(self._woken, selectors.EVENT_READ)
-            while not self._heard and not self._ending:
-                now = time.monotonic()
-                left = min(end, self._report_at if self._unreported() else end) - now
-                if now >= end:
-                    return
-                selector.select(max(0.0, left))
+    def _look(self, connection: Watched) -> bool:
+        before = (self.has_joined, self.version.token)
+        goes_on = self._player.look(connection, connection.is_standby)
+        if (self.has_joined, self.version.token) != before:
+            self._show()
+        return goes_on
+
+    def _show(self) -> None:
+        """Let those who wait for a version have it."""
+        with self._changed:
+            self._changed.notify_all()
+        self._call(self._on_version, self.version)
+
+    def _join_from_cache(self) -> None:
+        """Before the first connection: show what this machine showed before it was restarted."""
+        try:
+            written = None if self._connections else self._player.join_from_cache()
+        except (CacheRefused, StoreFailed) as why:
+            self._cache_trouble = str(why)
+            self._call(self._on_trouble, self._cache_trouble)
+            return
+        if written is not None:
+            self._show()
+
+    def _write(self, connection: Watched) -> None:
+        """Report, and write the cache, if it is time for it."""
+        report = self._report()
+        if self._reporter.is_due(report):
+            self._reporter.write(connection, report, self._woken)
+        try:
+            self._player.write_cache(connection)
+            self._cache_trouble = None if self._player.has_cache else self._cache_trouble
+        except (OSError, Damaged) as why:
+            if self._cache_trouble != str(why):
+                self._cache_trouble = str(why)
+                self._call(self._on_trouble, f"the cache can't be written: {why}")
+
+    def _wait(self, connection: Watched) -> None:
+        """Wait for a notice, the end, or the time of the next look. Meanwhile report, and write the cache."""
+        each = self._standby_look_each if connection.is_standby else self._look_each
+        end = time.monotonic() + (min(each, POOLED_LOOK_EACH) if connection.is_pooled else each)
+        while not self._heard and not self._ending and (left := end - time.monotonic()) > 0:
+            left = min(left, self._reporter.seconds_left(self._report()), self._player.seconds_to_cache())
+            is_ready, _ = polled(connection.fileno(), 1, self._woken, left)
+            if is_ready:
                 connection.pgconn.consume_input()
                 while connection.pgconn.notifies() is not None:
                     self._heard = True
-                if not self._heard:
-                    self._report(connection, only_new=True)
-
-    def _sleep(self, seconds: float) -> None:
-        with selectors.DefaultSelector() as selector:
-            selector.register(self._woken, selectors.EVENT_READ)
-            selector.select(seconds)
+            if not self._heard and not self._ending:
+                self._write(connection)
 
     def _say(self, text: str) -> None:
+        text = " ".join(text.split())  # (libpq's texts have several lines)
         if text != self._trouble:
             self._trouble = text
-            self._on_trouble(text)
+            self._call(self._on_trouble, text)
 
-    def _unreported(self) -> bool:
-        return not self._standby and self._reported != (self._version, self._trouble)
-
-    def _report(self, connection: Connection, only_new: bool = False) -> None:
-        """Write the machine's row, at most once a second, unless the follower has stopped. A standby takes none."""
-        now = time.monotonic()
-        early = now < self._report_at or only_new and not self._unreported()
-        if self._standby or early and self._stopped is None:
-            return
-        told = (self._version, self._trouble)
-        with contextlib.suppress(psycopg.errors.ReadOnlySqlTransaction, psycopg.errors.InsufficientPrivilege,
-                                 psycopg.errors.DiskFull):
-            connection.execute(
-                "insert into kobdzila.machine values (%s, %s, %s) on conflict (name) do update"
-                " set version = excluded.version, trouble = excluded.trouble, seen = excluded.seen",
-                (self.machine, *told))
-        self._reported, self._report_at = told, now + REPORT_EACH
-
-    # --- a look at the log
-
-    def _look(self, connection: Connection) -> bool:
-        """Play the next publish, or more than one if this machine is far behind, and say whether there are more."""
-        if self._version == 0:
-            return self._jump(connection)
-        with contextlib.closing(asked(connection, "next", self._version, MOST_LOADS)) as rows:
-            self._check_own(Publish(*next(rows).head))
-            first = next(rows, None)
-            if first is None:
-                return False
-            publish = Publish(*first.head)
-            loads = self._taken(publish, itertools.chain([first], rows))
-        if loads is None:
-            return self._jump(connection)
-        self._show(loads, publish.version, publish.history)
-        return publish.version < publish.newest
-
-    def _check_own(self, own: Publish) -> None:
-        """The log has the publish that this machine shows, after the same history."""
-        if own.version != self._version:
-            if self._standby and own.newest < self._version:
-                raise Lagging(f"the standby has version {own.newest}, and this machine shows {self._version}")
-            raise Difference(self._version, own.newest, "the log has lost publishes that this machine shows")
-        if own.history != self._history:
-            raise Difference(self._version, own.version, "the log has another history up to this version")
-
-    def _taken(self, publish: Publish, rows: Iterable[Found]) -> list[Load] | None:
-        """Return the loads of the next publish, or None if this machine has to take the last loads instead."""
-        if publish.newest - self._version > MOST_LOADS:
-            return None
+    def _call(self, what: Callable[[Any], object], value: object) -> None:
+        """Call what the program gave us. What it raises isn't the follower's end."""
         try:
-            return loads_of(publish, rows, self._version, self._history)
-        except Cut:
-            return None
-        except Damaged:
-            if publish.version == publish.newest:
-                raise
-            return None  # (later loads for these names may be whole)
+            what(value)
+        except BaseException:  # noqa: BLE001 (even SystemExit would end the thread without a word)
+            LOG.error("a callback of the follower of %s failed", self.machine, exc_info=True)
 
-    def _jump(self, connection: Connection) -> bool:
-        """Take the last load of each domain and locale, and go on from the log's newest version."""
-        with contextlib.closing(asked(connection, "last", self._version)) as rows:
-            first = next(rows, None)
-            if first is not None:
-                head = Head(*first.head)
-                check_count(head, self._version)
-                with ThreadPoolExecutor(CHECKERS) as pool:
-                    loads = list(pool.map(checked, itertools.chain([first], rows)))
-        if first is None:
-            self._show((), 0, b"")
+    def _report(self) -> Report:
+        version, trouble = self.version, self._trouble or self._cache_trouble
+        if self._stopped is not None:
+            state = "stopped"
+        elif not self.has_joined:
+            state = "joins"
+        elif self.is_older:
+            state = "older"
         else:
-            self._show(loads, head.version, head.history, jumps=True)
-        return False
+            state = "follows" if self._trouble is None else "trouble"
+        reconnects = max(0, self._connections - 1)
+        return Report(version, version.epoch, state, trouble, self._player.loads, self._refusals, reconnects)
 
-    def _show(self, loads: Sequence[Load], version: int, history: bytes, jumps: bool = False) -> None:
-        """Load and publish; the version that the store answers has to be the log's."""
-        before, base = self.store.version, self._bases[-1][1]
-        if before + base != self._version:
-            raise Difference(before + base, self._version, "the store has loads that aren't of the log")
-        if jumps:
-            base = version - (before + len(loads))
-            self._bases.append((before + len(loads), base))
-        answered = self._load(loads, version) if loads else before
-        if answered + base != version:
-            raise Difference(answered + base, version, "the store answers another version")
-        with self._changed:
-            fresh = not self._joined or version != self._version
-            self._version, self._history, self._joined = version, history, True
-            self._changed.notify_all()
-        if fresh:
-            self._on_version(version)
+    # --- a fork of this process
 
-    def _load(self, loads: Sequence[Load], version: int) -> int:
-        parts = [list(loads)] if self._joined else self._parts(loads)
-        try:
-            for part in parts:
-                for load in part:
-                    self.store.load(*load)
-                answered = self.store.publish()
-        except Exception as why:  # noqa: BLE001 (whatever a store raises, the service goes on)
-            raise StoreFailed(f"the store refused version {version}: {type(why).__name__}: {why}") from why
-        return answered
+    def _forked(self) -> None:
+        """Begin anew in a child: with a thread, a connection and a row of its own, from the texts that it has."""
+        if self._connection is not None:
+            abandon(self._connection)
+            self._connection = None
+        os.close(self._woken)
+        os.close(self._waker)
+        self._changed = threading.Condition()
+        self._player.forked()
+        self._reporter.forked()
+        self._begin()
+        if isinstance(self.store, Session):
+            self._stopped, self._connections = None, 0
+        if self._has_started:
+            self._thread.start()
 
-    def _parts(self, loads: Sequence[Load]) -> list[list[Load]]:
-        """The loads of a machine that joins. A Session, whose rounds have a limit, takes them in several rounds."""
-        parts: list[list[Load]] = [[]]
-        for load in loads:
-            if isinstance(self.store, Session) and sum(len(it.mo) for it in parts[-1]) + len(load.mo) > PART:
-                parts.append([])
-            parts[-1].append(load)
-        return [part for part in parts if part]
+
+FOLLOWERS: weakref.WeakSet[Follower] = weakref.WeakSet()
+taken: list[Follower] = []  # those whose stores nobody changes during a fork
+
+
+def before_fork() -> None:
+    """Wait until no store is changed. This comes before the store's own locks are taken, since it was registered later."""
+    for follower in list(FOLLOWERS):
+        if follower._player.playing.acquire(timeout=FORK_WITHIN):
+            taken.append(follower)
+
+
+def after_fork() -> None:
+    while taken:
+        taken.pop()._player.playing.release()
+
+
+def after_fork_in_child() -> None:
+    taken.clear()
+    for follower in list(FOLLOWERS):
+        follower._forked()
+
+
+os.register_at_fork(before=before_fork, after_in_parent=after_fork, after_in_child=after_fork_in_child)
+
+
+def primary_of(database: str) -> str | None:
+    """Return a connection string for the primary, if this one names several hosts."""
+    given = parameters(database)
+    hosts = max(given.get("host", ""), given.get("hostaddr", ""), key=lambda it: it.count(","))
+    return conninfo.make_conninfo(database, target_session_attrs="read-write") if "," in hosts else None

@@ -1,78 +1,51 @@
-"""The log of loads in PostgreSQL: its tables, and what adds to it, shows it and cuts it."""
+"""The log of loads in PostgreSQL: what adds to it, shows it and cuts it."""
 from __future__ import annotations
 
+import contextlib
 import datetime
 import hashlib
+import os
 import re
+import threading
 import time
 import uuid
-from collections.abc import Callable, Iterable, Sequence
-from typing import Any, NamedTuple, TypeAlias
+from collections.abc import Callable, Iterable, Iterator, Sequence
+from functools import partial
+from typing import Any, NamedTuple, TypeVar
 
 import psycopg
-from psycopg import conninfo, errors
+from psycopg import errors
 
 from .._catalogue import Catalogue
 from .._closing import Closing
+from .._session import MOST_LINES
+from ._connect import Watched, connect
+from ._layout import ORIGIN, Connection, NoLog, Restored, check_layout, create, create_roles, layout_of
+from ._report import abandon
+from ._version import Version, new_epoch, version_of
 
-Connection: TypeAlias = "psycopg.Connection[Any]"
-
-LAYOUT = 1
-CONNECT_TIMEOUT = 5  # seconds
 CHANNEL = "kobdzila"
 NAME = re.compile(r"[A-Za-z0-9_.@+-]{1,64}", re.ASCII)
-# SQLSTATE: connection lost, deadlock, server going down, server read-only, a file that compact removed meanwhile
-RETRIED = re.compile("08|40|57|25006|23503")
+# SQLSTATE: connection lost, deadlock, server going down, server read-only, a file that compact removed meanwhile, a
+# statement that was cancelled, a lock that wasn't to be had
+RETRIED = re.compile("08|40|57|25006|23503|55P03")
+OTHER_LAYOUT = (errors.UndefinedTable, errors.UndefinedColumn)
 DAY = 86_400.0
-NO_LOG = "this database has no log: kob-fleet init creates one"
-TABLES = f"""
-create schema if not exists kobdzila;
-create table if not exists kobdzila.log (
-  one boolean primary key default true check (one),
-  layout integer not null,
-  cut bigint not null default 0,  -- up to this version, only the last load of each domain and locale is kept
-  kept bigint not null default 0  -- the number of those
-);
-insert into kobdzila.log (layout) values ({LAYOUT}) on conflict do nothing;
-create table if not exists kobdzila.file (
-  sum bytea primary key,  -- SHA-256
-  mo bytea not null
-);
-alter table kobdzila.file alter mo set storage external;
-create table if not exists kobdzila.publish (
-  version bigint primary key,  -- the number of its last load
-  id uuid not null unique,
-  loads bigint not null,
-  history bytea not null,  -- SHA-256 of this and all earlier publishes
-  note text not null,
-  published timestamptz not null default clock_timestamp()
-);
-create table if not exists kobdzila.load (
-  version bigint primary key,  -- the number of the load
-  domain text collate "C" not null,
-  locale text collate "C" not null,
-  sum bytea not null references kobdzila.file,
-  seal bytea not null  -- SHA-256 of the other columns
-);
-create index if not exists load_pair on kobdzila.load (domain, locale, version desc);
-create index if not exists load_sum on kobdzila.load (sum);
-create table if not exists kobdzila.machine (
-  name text primary key,
-  version bigint not null,
-  trouble text,
-  seen timestamptz not null default clock_timestamp()
-);
-"""
+ANSWER_WITHIN = 30.0  # seconds for what only reads
+GRACE = 0.4  # seconds by which a server may be later than its own limits
+SILENT = 30.0  # seconds without a report, which comes every ten
+PART = 4 << 20  # bytes of files that are sent in one statement
+MOST_CONNECTIONS = 4  # of the threads that share a Log
+MOST_FOR_SESSIONS = MOST_LINES - 4096  # bytes of the lines that a Session takes in one step
 
-
-class NoLog(Exception):
-    """The database has no log that this program can use."""
+Answer = TypeVar("Answer")
 
 
 class Unanswered(Exception):
-    """The connection was lost, so it isn't known whether the publish `id` is in the log.
+    """It isn't known whether the publish `id` is in the log, or whether it would outlive the primary.
 
-    To settle it, publish the same loads with the same id: if they are in the log, nothing is added.
+    The connection was lost, or the wait for the synchronous standby was cancelled or took too long. To settle it,
+    publish the same loads with the same id: if they are in the log, nothing is added, and the standby is waited for.
     """
 
     id: uuid.UUID
@@ -83,6 +56,14 @@ class Unanswered(Exception):
 
     def __str__(self) -> str:
         return f"publish {self.id} may or may not be in the log: {self.args[1]}"
+
+
+class NotReplicated(psycopg.OperationalError):
+    """The server ended its wait for the synchronous standby: the publish is in its own log alone."""
+
+
+class Held(errors.LockNotAvailable):
+    """Another session holds the log's lock."""
 
 
 class Load(NamedTuple):
@@ -105,20 +86,34 @@ class Row(NamedTuple):
 
 
 class Machine(NamedTuple):
-    """What a machine reported last. `late` and `seen` are seconds; `late` is 0 if it has all publishes."""
+    """What a follower reported last. `late` and `seen` are seconds; `late` is 0 if it has all publishes.
+
+    `process` is HOST:PID:SUFFIX, and `version` is of the follower's epoch. If that isn't the log's, `behind` is at
+    least 1. `state` is that of Health. The counts are since the follower's start.
+    """
 
     name: str
-    version: int
+    version: Version
     behind: int
     late: float
     seen: float
     trouble: str | None
+    process: str
+    state: str
+    loads: int
+    refusals: int
+    reconnects: int
+
+    @property
+    def is_dead(self) -> bool:
+        """Whether it hasn't reported for 30 seconds, or has stopped."""
+        return self.seen > SILENT or self.state == "stopped"
 
 
 class Status(NamedTuple):
     """The log's version, its number of publishes, the version up to which old loads were cut, and all machines."""
 
-    version: int
+    version: Version
     publishes: int
     cut: int
     machines: Sequence[Machine]
@@ -128,23 +123,33 @@ class Log(Closing):
     """The log of loads in a database: publish to it, and see what is in it.
 
     `database` is a connection string of libpq, such as "host=db1,db2 dbname=texts user=kob". What it leaves out comes
-    from the environment (PGHOST and so on). Of several hosts the one that takes writes is used. One thread at a time
-    may use a Log. `on_trouble` is called with a text when a publish has to try again.
+    from the environment (PGHOST and so on). Of several hosts the one that takes writes is used; one that is silent
+    costs 5 seconds (connect_timeout). Threads may share a Log. `on_trouble` is called with a text when a publish has to
+    try again.
 
         with Log("host=db1,db2 dbname=texts") as log:
             version = log.publish([("shop", "fr", Path("fr.mo").read_bytes())])
     """
 
     def __init__(self, database: str = "", *, on_trouble: Callable[[str], object] = lambda text: None) -> None:
-        self._database = with_defaults(database, target_session_attrs="read-write")
-        self._on_trouble = on_trouble
-        self._connection: Connection | None = None
+        self._database, self._on_trouble = database, on_trouble
+        self._free: list[Watched] = []
+        self._room = threading.BoundedSemaphore(MOST_CONNECTIONS)
+        self._owner = os.getpid()
 
-    def init(self) -> None:
-        """Create the tables, in the schema `kobdzila`. Tables that are there stay as they are."""
-        connection = self._connected()
-        with connection.transaction():
-            connection.execute(TABLES)
+    def init(self, *, upgrade: bool = False, roles: bool = False) -> None:
+        """Create the tables, in the schema `kobdzila`. Tables that are there stay as they are.
+
+        `upgrade` brings the tables of an earlier layout to this one; without it they are refused (NoLog). `roles` also
+        creates the roles kobdzila_follower, kobdzila_publisher and kobdzila_operator, which have exactly the rights that
+        followers, publishers, and whoever compacts and restores need.
+        """
+        def work(connection: Watched) -> None:
+            create(connection, upgrade)
+            if roles:
+                create_roles(connection)
+
+        self._once(work)
 
     def publish(
         self,
@@ -153,37 +158,41 @@ class Log(Closing):
         id: uuid.UUID | None = None,
         note: str = "",
         within: float = 30.0,
-    ) -> int:
+        force: bool = False,
+    ) -> Version:
         """Add the loads (domain, locale, MO file) as one publish, and return the version that shows them.
 
-        The publish is in the log exactly once if a version is returned. If the server can't be reached, or is
-        replaced by its standby, publish tries again for `within` seconds. After that it raises Unanswered, or
-        psycopg.OperationalError if it never had a connection: then nothing is published. To publish with an `id` that
-        is in the log adds nothing, and returns its version.
+        The publish is in the log exactly once if a version is returned, and on the synchronous standby if there is one.
+        If the server can't be reached, is replaced by its standby, or another session holds the log's lock, publish
+        tries again for `within` seconds. After that it raises Unanswered, or another psycopg.Error if nothing can have
+        been published. To publish with an `id` that is in the log adds nothing, and returns its version.
 
-        ValueError if there is no load or a name isn't one; Refused (a ValueError) if a file is no catalogue.
+        ValueError if there is no load, a name isn't one, or the loads are more than a Session takes in one step and
+        `force` isn't given; Refused (a ValueError) if a file is no catalogue. Restored if the log was restored from a
+        backup, and nobody has called `restore`.
         """
         kept = [Load(*load) for load in loads]
         if not kept:
             raise ValueError("nothing to publish")
         for load in kept:
             check_load(load)
+        if not force:
+            check_size(kept)
         number = id or uuid.uuid4()
         sums = [hashlib.sha256(load.mo).digest() for load in kept]
         files = {total: load.mo for total, load in zip(sums, kept)}
         pairs = [(load.domain, load.locale, total) for total, load in zip(sums, kept)]
 
-        def work(connection: Connection) -> int:
-            with connection.transaction():
-                keep_files(connection, files)
-                lock(connection)
-                return append(connection, number, pairs, note)
+        def work(connection: Watched) -> Version:
+            keep_files(connection, files)
+            lock(connection)
+            return append(connection, number, pairs, note)
 
         return self._retry(work, number, within)
 
     def rollback(
         self, version: int, *, id: uuid.UUID | None = None, note: str | None = None, within: float = 30.0
-    ) -> int:
+    ) -> Version:
         """Publish the catalogues of an earlier version anew, and return the new version.
 
         Only domains and locales that differ are published, all in one publish. One that had no catalogue then gets an
@@ -193,114 +202,218 @@ class Log(Closing):
         number = id or uuid.uuid4()
         words = f"rollback to {version}" if note is None else note
 
-        def work(connection: Connection) -> int:
-            with connection.transaction():
-                lock(connection)
-                done = version_of(connection, number)
-                if done is not None:
-                    return done
-                last, pairs = changes_back_to(connection, version)
-                return append(connection, number, pairs, words) if pairs else last
+        def work(connection: Watched) -> Version:
+            lock(connection)
+            done = found_again(connection, number)
+            if done is not None:
+                return done
+            last, pairs = changes_back_to(connection, version)
+            return append(connection, number, pairs, words) if pairs else last
 
         return self._retry(work, number, within)
 
-    def version_of(self, id: uuid.UUID) -> int | None:
+    def remove(
+        self, pairs: Iterable[tuple[str, str]], *, id: uuid.UUID | None = None, note: str = "", within: float = 30.0
+    ) -> Version:
+        """Publish an empty catalogue, which answers as none does, for each of these pairs of a domain and a locale.
+
+        ValueError if the log has no catalogue for one of them.
+        """
+        kept, number, (nothing, empty) = sorted(set(pairs)), id or uuid.uuid4(), empty_file()
+
+        def work(connection: Watched) -> Version:
+            keep_files(connection, {empty: nothing})
+            lock(connection)
+            there = set_at(connection, last_of(connection))
+            for pair in kept:
+                if pair not in there:
+                    raise ValueError(f"the log has no catalogue {'/'.join(pair)}")
+            return append(connection, number, [(*pair, empty) for pair in kept], note)
+
+        return self._retry(work, number, within)
+
+    def version_of(self, id: uuid.UUID) -> Version | None:
         """Return the version of the publish with this id, or None if the log doesn't have it."""
-        return version_of(self._connected(), id)
+        return self._once(lambda connection: version_with(connection, id))
 
     def history(self, last: int = 20) -> list[Row]:
         """Return the last publishes, the newest first."""
-        rows = self._connected().execute(
-            "select p.version, p.id, p.loads, p.published, p.note, array(select l.domain || '/' || l.locale"
+        rows = self._once(lambda connection: connection.execute(
+            "select p.version, p.epoch, p.id, p.loads, p.published, p.note, array(select l.domain || '/' || l.locale"
             " from kobdzila.load l where l.version > p.version - p.loads and l.version <= p.version order by l.version)"
-            " from kobdzila.publish p order by p.version desc limit %s", (last,))
-        return [Row(*row) for row in rows]
+            " from kobdzila.publish p order by p.version desc limit %s", (last,)).fetchall())
+        return [Row(Version(version, epoch), *others) for version, epoch, *others in rows]
 
     def status(self) -> Status:
         """Return the log's version, and what each machine reported last."""
-        connection = self._connected()
-        version, publishes = one(connection.execute(
-            "select coalesce(max(version), 0), count(*) from kobdzila.publish"))
-        (cut,) = one(connection.execute("select cut from kobdzila.log"))
-        rows = connection.execute(
-            "select m.name, m.version, greatest(0, %(version)s - m.version),"
-            " greatest(0, coalesce(extract(epoch from clock_timestamp() - (select min(p.published)"
-            " from kobdzila.publish p where p.version > m.version and p.version <= %(version)s)), 0))::float8,"
-            " greatest(0, extract(epoch from clock_timestamp() - m.seen))::float8, m.trouble"
-            " from kobdzila.machine m order by m.name", {"version": version})
-        return Status(version, publishes, cut, [Machine(*row) for row in rows])
+        return self._once(status_of)
+
+    def wait_for(self, version: int | str, within: float = 60.0, seen_within: float = DAY) -> list[Machine]:
+        """Wait until all machines show a version, at most `within` seconds, and return those that don't.
+
+        A number is one of the log's epoch. Machines that reported longer ago than `seen_within` seconds don't count.
+        """
+        end, wanted = time.monotonic() + within, version_of(version)
+        while True:
+            found = self.status()
+            if wanted.epoch and wanted.epoch != found.version.epoch:
+                raise ValueError(f"the log is in epoch {found.version.epoch}, and not in {wanted.epoch}")
+            lack = [it for it in found.machines if it.seen <= seen_within
+                    and (it.version.epoch != found.version.epoch or it.version < wanted or it.is_dead)]
+            if not lack and found.version >= wanted or time.monotonic() >= end:
+                return lack
+            time.sleep(min(0.2, max(0.0, end - time.monotonic())))
 
     def compact(self, to: int | None = None, seen_within: float = DAY) -> int:
         """Delete loads that no machine needs, and files that no load names. Return the version up to which it is done.
 
         Up to that version only the last load of each domain and locale is kept. It is the version of the slowest
         machine of those that reported in the last `seen_within` seconds, or `to`, if that is less. A machine that is
-        older takes the last loads at its next look.
+        older takes the last loads at its next look. The rows of machines that reported longer ago are deleted.
         """
-        connection = self._connected()
-        with connection.transaction():
-            lock(connection)
-            (version,) = one(connection.execute("select coalesce(max(version), 0) from kobdzila.publish"))
-            (slowest,) = one(connection.execute(
-                "select coalesce(min(version), %s) from kobdzila.machine"
-                " where seen > clock_timestamp() - make_interval(secs => %s)", (version, seen_within)))
-            (done,) = one(connection.execute("select cut from kobdzila.log"))
-            cut = max(done, min(version, slowest, version if to is None else to))
-            connection.execute(
-                "delete from kobdzila.load o where o.version <= %(cut)s and exists (select from kobdzila.load n where"
-                " n.domain = o.domain and n.locale = o.locale and n.version > o.version and n.version <= %(cut)s)",
-                {"cut": cut})
-            connection.execute(
-                "update kobdzila.log set cut = %(cut)s,"
-                " kept = (select count(*) from kobdzila.load where version <= %(cut)s)", {"cut": cut})
-            connection.execute(
-                "delete from kobdzila.file f where not exists (select from kobdzila.load l where l.sum = f.sum)")
-        return int(cut)
+        return self._once(lambda connection: compacted(connection, to, seen_within))
+
+    def restore(self, note: str = "") -> Version:
+        """Begin a new epoch, after the log was restored from a backup, and return the version in it.
+
+        Versions of the epoch before it, which the backup may lack, are then never confused with those of the new one.
+        What machines reported before the backup is deleted.
+        """
+        return self._once(lambda connection: restored(connection, note))
+
+    def forget(self, name: str) -> int:
+        """Delete what the machines of this name reported, and return how many there were."""
+        def work(connection: Watched) -> int:
+            return connection.execute("delete from kobdzila.machine where name = %s or process = %s",
+                                      (name, name)).rowcount
+
+        return self._once(work)
 
     def close(self) -> None:
-        """Close the connection. The next call opens another one."""
-        if self._connection is not None:
-            self._connection.close()
-            self._connection = None
+        """Close the connections. The next call opens another one."""
+        free, self._free = self._free, []
+        for connection in free:
+            connection.close() if self._owner == os.getpid() else abandon(connection)
 
-    def _connected(self) -> Connection:
-        if self._connection is None or self._connection.closed:
-            connection: Connection = psycopg.connect(self._database, autocommit=True)
-            connection.isolation_level = psycopg.IsolationLevel.READ_COMMITTED
-            self._connection = connection
-        return self._connection
+    # --- connections
 
-    def _retry(self, work: Callable[[Connection], int], number: uuid.UUID, within: float) -> int:
-        """Do the work until the server answers."""
-        end, pause, has_begun = time.monotonic() + within, 0.05, False
+    @contextlib.contextmanager
+    def _connected(self, end: float) -> Iterator[Watched]:
+        """A connection that no other thread has."""
+        if self._owner != os.getpid():  # (a fork, whose parent uses the connections)
+            self.close()
+            self._room, self._owner = threading.BoundedSemaphore(MOST_CONNECTIONS), os.getpid()
+        if not self._room.acquire(timeout=max(0.0, end - time.monotonic())):
+            raise psycopg.OperationalError(f"all {MOST_CONNECTIONS} connections of this Log were in use")
+        try:
+            connection = self._free.pop() if self._free else None
+            if connection is None or connection.closed:
+                connection = connect(self._database, "read-write", end=end)
+                connection.add_notice_handler(partial(note_wait, connection))
+            connection.end = end + GRACE
+            try:
+                yield connection
+            except BaseException as why:
+                if not isinstance(why, psycopg.Error) or why.sqlstate is None or RETRIED.match(why.sqlstate):
+                    connection.close()
+                raise
+            finally:
+                if not connection.closed:
+                    self._free.append(connection)
+        finally:
+            self._room.release()
+
+    def _layout_refused(self, trouble: psycopg.Error) -> Exception:
+        """Return what to say of a log that lacks a table or a column."""
+        try:
+            with self._connected(time.monotonic() + ANSWER_WITHIN) as connection:
+                check_layout(layout_of(connection))
+        except NoLog as why:
+            return why
+        return trouble
+
+    def _once(self, work: Callable[[Watched], Answer]) -> Answer:
+        """Do what may be done twice. A connection that was lost since its last use is replaced."""
+        end = time.monotonic() + ANSWER_WITHIN
+        while True:
+            was_used = bool(self._free)
+            try:
+                with self._connected(end) as connection:
+                    return work(connection)
+            except OTHER_LAYOUT as trouble:
+                raise self._layout_refused(trouble) from trouble
+            except psycopg.OperationalError as trouble:
+                if not was_used or trouble.sqlstate and not RETRIED.match(trouble.sqlstate):
+                    raise
+
+    def _retry(self, work: Callable[[Watched], Version], number: uuid.UUID, within: float) -> Version:
+        """Do the work in a transaction until the server answers."""
+        end, pause = time.monotonic() + within, 0.05
+        doubts: list[str] = []
+        held: Held | None = None
         while True:
             try:
-                connection = self._connected()
-                has_begun = True
-                return work(connection)
-            except errors.UndefinedTable as trouble:
-                raise NoLog(NO_LOG) from trouble
+                with self._connected(end) as connection:
+                    return attempt(connection, work, end, doubts)
+            except OTHER_LAYOUT as trouble:
+                raise self._layout_refused(trouble) from trouble
             except psycopg.Error as trouble:
-                lost = self._connection is None or self._connection.closed or trouble.sqlstate is None
-                if not lost and not RETRIED.match(trouble.sqlstate or ""):
+                held = trouble if isinstance(trouble, Held) else held
+                if trouble.sqlstate is not None and not RETRIED.match(trouble.sqlstate):
                     raise
-                self.close()
+                text = str(trouble).strip() or type(trouble).__name__
+                if doubts and doubts[-1] == "":
+                    doubts[-1] = text
                 if time.monotonic() + pause > end:
-                    if not has_begun:
-                        raise
-                    raise Unanswered(number, str(trouble).strip()) from trouble
-                self._on_trouble(str(trouble).strip())
+                    if not doubts:
+                        raise held or trouble  # (an attempt that had no time left says less)
+                    raise Unanswered(number, doubts[-1]) from trouble
+                self._on_trouble(text)
             time.sleep(pause)
             pause = min(1.0, 2 * pause)
 
 
-def with_defaults(database: str, **settings: str) -> str:
-    """Return the connection string with settings that notice a server which is gone, unless it has its own."""
-    usual = {"connect_timeout": str(CONNECT_TIMEOUT), "keepalives_idle": "10", "keepalives_interval": "3",
-             "keepalives_count": "3", "tcp_user_timeout": "10000", "application_name": "kob-fleet"}
-    given = conninfo.conninfo_to_dict(database)
-    merged: str = conninfo.make_conninfo("", **{**usual, **settings, **given})
-    return merged
+def attempt(connection: Watched, work: Callable[[Watched], Version], end: float, doubts: list[str]) -> Version:
+    """Do the work in a transaction. `doubts` gets a text if it may have been committed without an answer."""
+    connection.is_unreplicated = False
+    try:
+        with connection.transaction():
+            limit_transaction(connection, end)
+            version = work(connection)
+            doubts.append("")
+    except errors.LockNotAvailable as why:
+        raise Held(holders(connection)) from why
+    if connection.is_unreplicated:
+        raise NotReplicated("the server's wait for its synchronous standby was cancelled: the publish is in the log of the "
+                            "primary, and is lost with it")
+    return version
+
+
+def note_wait(connection: Watched, notice: psycopg.errors.Diagnostic) -> None:
+    """A commit's wait for the standby that is cancelled is only a warning, after which the commit is answered."""
+    if notice.source_function == "SyncRepWaitForLSN":
+        connection.is_unreplicated = True
+
+
+def limit_transaction(connection: Connection, end: float) -> None:
+    """Let the server end this transaction in time, and wait for its synchronous standby."""
+    left = max(200, int(1000 * (end - time.monotonic())))
+    connection.execute(
+        "select set_config('statement_timeout', %s, true), set_config('lock_timeout', %s, true),"
+        " set_config('idle_in_transaction_session_timeout', '10000', true), set_config('synchronous_commit',"
+        " case when current_setting('synchronous_commit') in ('off', 'local') then 'on'"
+        " else current_setting('synchronous_commit') end, true)", (str(left + 200), str(left - 100)))
+
+
+def holders(connection: Connection) -> str:
+    """Say who holds the log's lock."""
+    rows = connection.execute(
+        "select a.pid, a.application_name, a.state, extract(epoch from clock_timestamp() - a.xact_start)::float8"
+        " from pg_stat_activity a where a.pid <> pg_backend_pid() and exists (select from pg_locks l where l.pid = a.pid"
+        " and l.relation = to_regclass('kobdzila.log') and l.mode in ('RowShareLock', 'RowExclusiveLock')) order by 4 desc")
+    said = [f"process {pid} of the server ({name or 'no name'}, {state}, for {since or 0:.0f} s)"
+            for pid, name, state, since in rows]
+    return "the log's lock is held by " + (said[0] if said else "a session that has ended meanwhile")
 
 
 def check_load(load: Load) -> None:
@@ -308,6 +421,14 @@ def check_load(load: Load) -> None:
         if not NAME.fullmatch(name):
             raise ValueError(f"not a name of a domain or a locale: {name!r}")
     Catalogue.from_mo(load.mo)
+
+
+def check_size(loads: Sequence[Load]) -> None:
+    """A Session takes a publish in one round, in which each byte of an MO file is two digits."""
+    size = sum(2 * len(load.mo) + len(load.domain) + len(load.locale) + 10 for load in loads)
+    if size > MOST_FOR_SESSIONS:
+        raise ValueError(f"{sum(len(load.mo) for load in loads)} bytes of MO files are more than catsession takes in one "
+                         f"step ({MOST_FOR_SESSIONS // 2}); if no machine feeds a Session, force it (--force)")
 
 
 def one(cursor: psycopg.Cursor[Any]) -> Any:
@@ -325,52 +446,86 @@ def history_of(before: bytes, number: uuid.UUID, seals: Iterable[bytes]) -> byte
     return hashlib.sha256(b"".join([before, number.bytes, *seals])).digest()
 
 
-def lock(connection: Connection) -> None:
+def lock(connection: Connection, is_restoring: bool = False) -> None:
     """Wait for the log's lock, which the transaction then has until its end."""
-    row = connection.execute("select layout from kobdzila.log for update").fetchone()
-    if row is None or row[0] != LAYOUT:
-        raise NoLog(f"the log has layout {row and row[0]}, and this program knows {LAYOUT}")
+    row = connection.execute(
+        f"select layout, origin = {ORIGIN} from kobdzila.log for update".encode()).fetchone()
+    check_layout(None if row is None else row[0])
+    if row is not None and not row[1] and not is_restoring:
+        raise Restored
 
 
-def version_of(connection: Connection, number: uuid.UUID) -> int | None:
-    row = connection.execute("select version from kobdzila.publish where id = %s", (number,)).fetchone()
-    return None if row is None else int(row[0])
+def version_with(connection: Connection, number: uuid.UUID) -> Version | None:
+    row = connection.execute("select version, epoch from kobdzila.publish where id = %s", (number,)).fetchone()
+    return None if row is None else Version(*row)
+
+
+def found_again(connection: Connection, number: uuid.UUID) -> Version | None:
+    """Return the version of a publish that is in the log. To commit this waits for the standby, as the publish did."""
+    done = version_with(connection, number)
+    if done is not None:
+        connection.execute("update kobdzila.log set touched = touched + 1")
+    return done
+
+
+def last_of(connection: Connection) -> int:
+    """Return the log's version."""
+    return int(one(connection.execute("select coalesce(max(version), 0) from kobdzila.publish"))[0])
+
+
+def epoch_of(connection: Connection) -> str:
+    return str(one(connection.execute("select epoch from kobdzila.epoch order by number desc limit 1"))[0])
 
 
 def keep_files(connection: Connection, files: dict[bytes, bytes]) -> None:
     """Store the files that aren't there or were changed by hand, in one order for all publishers."""
     rows = connection.execute(
         "select sum from kobdzila.file where sum = any(%b) and sha256(mo) = sum", (list(files),), binary=True)
-    there = {row[0] for row in rows}
-    for total in sorted(files.keys() - there):
+    lacking = sorted(files.keys() - {row[0] for row in rows})
+    for some in in_parts(lacking, [len(files[total]) for total in lacking]):
         connection.execute(
-            "insert into kobdzila.file values (%b, %b) on conflict (sum) do update set mo = excluded.mo",
-            (total, files[total]))
+            "insert into kobdzila.file select * from unnest(%b::bytea[], %b::bytea[])"
+            " on conflict (sum) do update set mo = excluded.mo", (some, [files[total] for total in some]))
 
 
-def append(connection: Connection, number: uuid.UUID, pairs: Sequence[tuple[str, str, bytes]], note: str) -> int:
+def in_parts(sums: Sequence[bytes], sizes: Sequence[int]) -> Iterator[list[bytes]]:
+    """Yield the sums in lists of files of at most PART bytes together, or of one file."""
+    part: list[bytes] = []
+    size = 0
+    for total, length in zip(sums, sizes):
+        if part and size + length > PART:
+            yield part
+            part, size = [], 0
+        part.append(total)
+        size += length
+    if part:
+        yield part
+
+
+def append(connection: Connection, number: uuid.UUID, pairs: Sequence[tuple[str, str, bytes]], note: str) -> Version:
     """Add a publish under the log's lock, unless it is there, and return its version."""
-    done, first, before = one(connection.execute(
-        "select (select version from kobdzila.publish where id = %s), coalesce(max(version), 0),"
-        " coalesce((select history from kobdzila.publish order by version desc limit 1), '') from kobdzila.publish",
-        (number,), binary=True))
+    done = found_again(connection, number)
     if done is not None:
-        return int(done)
+        return done
+    first, before, epoch = one(connection.execute(
+        "select coalesce(max(version), 0),"
+        " coalesce((select history from kobdzila.publish order by version desc limit 1), ''),"
+        " (select epoch from kobdzila.epoch order by number desc limit 1) from kobdzila.publish", binary=True))
     rows = [(at, *pair, seal_of(at, *pair)) for at, pair in enumerate(pairs, first + 1)]
     version = first + len(rows)
     connection.execute(
         "with loads as (insert into kobdzila.load"
         " select * from unnest(%s::bigint[], %s::text[], %s::text[], %b::bytea[], %b::bytea[])),"
-        " added as (insert into kobdzila.publish (version, id, loads, history, note) values (%s, %s, %s, %b, %s))"
-        " select pg_notify(%s, %s)",
+        " added as (insert into kobdzila.publish (version, id, loads, history, note, epoch)"
+        " values (%s, %s, %s, %b, %s, %s)) select pg_notify(%s, %s)",
         (*map(list, zip(*rows)), version, number, len(rows), history_of(before, number, [row[4] for row in rows]), note,
-         CHANNEL, str(version)))
-    return int(version)
+         epoch, CHANNEL, str(version)))
+    return Version(version, epoch)
 
 
-def changes_back_to(connection: Connection, version: int) -> tuple[int, list[tuple[str, str, bytes]]]:
+def changes_back_to(connection: Connection, version: int) -> tuple[Version, list[tuple[str, str, bytes]]]:
     """Return the log's version, and the loads that show the catalogues of an earlier one."""
-    (last,) = one(connection.execute("select coalesce(max(version), 0) from kobdzila.publish"))
+    last = last_of(connection)
     (cut,) = one(connection.execute("select cut from kobdzila.log"))
     if version != 0 and connection.execute(
             "select from kobdzila.publish where version = %s", (version,)).fetchone() is None:
@@ -378,12 +533,17 @@ def changes_back_to(connection: Connection, version: int) -> tuple[int, list[tup
     if version < cut:
         raise ValueError(f"the loads of version {version} were cut; the oldest version that is there is {cut}")
     then, now = set_at(connection, version), set_at(connection, last)
-    nothing = Catalogue.from_po(b"").mo_file()
-    empty = hashlib.sha256(nothing).digest()
+    nothing, empty = empty_file()
     wanted = {pair: then.get(pair, empty) for pair, total in now.items() if then.get(pair, empty) != total}
     if empty in wanted.values():
         keep_files(connection, {empty: nothing})
-    return int(last), [(*pair, total) for pair, total in sorted(wanted.items())]
+    return Version(last, epoch_of(connection)), [(*pair, total) for pair, total in sorted(wanted.items())]
+
+
+def empty_file() -> tuple[bytes, bytes]:
+    """Return the MO file that answers as none does, and its SHA-256."""
+    nothing = Catalogue.from_po(b"").mo_file()
+    return nothing, hashlib.sha256(nothing).digest()
 
 
 def set_at(connection: Connection, version: int) -> dict[tuple[str, str], bytes]:
@@ -392,3 +552,57 @@ def set_at(connection: Connection, version: int) -> dict[tuple[str, str], bytes]
         "select distinct on (domain, locale) domain, locale, sum from kobdzila.load where version <= %s"
         " order by domain, locale, version desc", (version,), binary=True)
     return {(domain, locale): total for domain, locale, total in rows}
+
+
+def status_of(connection: Connection) -> Status:
+    layout = connection.execute("select layout from kobdzila.log").fetchone()
+    check_layout(None if layout is None else layout[0])
+    version, publishes, cut, epoch = one(connection.execute(
+        "select coalesce(max(version), 0), count(*), (select cut from kobdzila.log),"
+        " (select epoch from kobdzila.epoch order by number desc limit 1) from kobdzila.publish"))
+    rows = connection.execute(
+        "select m.name, m.version, m.epoch, greatest((m.epoch <> %(epoch)s)::int, %(version)s - m.version),"
+        " greatest(0, coalesce(extract(epoch from clock_timestamp() - (select min(p.published)"
+        " from kobdzila.publish p where p.version > m.version and p.version <= %(version)s)), 0))::float8,"
+        " greatest(0, extract(epoch from clock_timestamp() - m.seen))::float8, m.trouble, m.process, m.state, m.loads,"
+        " m.refusals, m.reconnects from kobdzila.machine m order by m.name, m.process",
+        {"version": version, "epoch": epoch})
+    machines = [Machine(name, Version(number, its), *others) for name, number, its, *others in rows]
+    return Status(Version(version, epoch), publishes, cut, machines)
+
+
+def compacted(connection: Connection, to: int | None, seen_within: float) -> int:
+    with connection.transaction():
+        lock(connection)
+        version = last_of(connection)
+        connection.execute("delete from kobdzila.machine where seen <= clock_timestamp() - make_interval(secs => %s)",
+                           (max(SILENT, seen_within),))
+        (slowest,) = one(connection.execute(
+            "select coalesce(min(version), %s) from kobdzila.machine"
+            " where seen > clock_timestamp() - make_interval(secs => %s)", (version, seen_within)))
+        (done,) = one(connection.execute("select cut from kobdzila.log"))
+        cut = max(done, min(version, slowest, version if to is None else to))
+        connection.execute(
+            "delete from kobdzila.load o where o.version <= %(cut)s and exists (select from kobdzila.load n where"
+            " n.domain = o.domain and n.locale = o.locale and n.version > o.version and n.version <= %(cut)s)",
+            {"cut": cut})
+        connection.execute(
+            "update kobdzila.log set cut = %(cut)s,"
+            " kept = (select count(*) from kobdzila.load where version <= %(cut)s)", {"cut": cut})
+        connection.execute(
+            "delete from kobdzila.file f where not exists (select from kobdzila.load l where l.sum = f.sum)")
+    return int(cut)
+
+
+def restored(connection: Connection, note: str) -> Version:
+    epoch = new_epoch()
+    with connection.transaction():
+        lock(connection, is_restoring=True)
+        version = last_of(connection)
+        connection.execute(
+            "insert into kobdzila.epoch (number, epoch, after, note)"
+            " select max(number) + 1, %s, %s, %s from kobdzila.epoch", (epoch, version, note))
+        connection.execute(f"update kobdzila.log set origin = {ORIGIN}".encode())
+        connection.execute("delete from kobdzila.machine")
+        connection.execute("select pg_notify(%s, %s)", (CHANNEL, str(version)))
+    return Version(version, epoch)

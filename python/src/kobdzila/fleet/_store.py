@@ -8,6 +8,7 @@ from typing import TYPE_CHECKING, Any, Protocol
 
 from .._closing import Closing
 from .._session import Answer, Calls, Session
+from ._version import Version, version_of
 
 if TYPE_CHECKING:
     from typing_extensions import Self
@@ -31,31 +32,39 @@ class Store(Protocol):
 
 
 class Behind(Exception):
-    """The machine hasn't reached a version in the time given. `version` is the one that it has."""
+    """The machine hasn't reached a version in the time given.
 
-    version: int
-    at_least: int
+    `version` is the one that it has, and `trouble` says why it doesn't follow, or is None.
+    """
 
-    def __init__(self, version: int, at_least: int) -> None:
-        super().__init__(version, at_least)
-        self.version, self.at_least = version, at_least
+    version: Version
+    at_least: Version
+    trouble: str | None
+
+    def __init__(self, version: int, at_least: int, trouble: str | None = None) -> None:
+        super().__init__(version, at_least, trouble)
+        self.version, self.at_least, self.trouble = version_of(version), version_of(at_least), trouble
 
     def __str__(self) -> str:
-        return f"version {self.version}, and {self.at_least} was asked for"
+        why = "" if self.trouble is None else f": {self.trouble}"
+        return f"version {self.version.token}, and {self.at_least.token} was asked for{why}"
 
 
 class Snapshot:
     """What a reader looks up in: the snapshot of the follower's store, whose methods this one has, too.
 
-    `version` is the log's. If the store is a Session, the methods are those of SessionTexts.
+    `version` is the log's. `is_older` says that the texts are those of the machine's cache, since the log hasn't
+    answered after its start. If the store is a Session, the methods are those of SessionTexts.
     """
 
-    def __init__(self, made: AbstractContextManager[Any], log_version: Callable[[int], int]) -> None:
-        self._made, self._log_version = made, log_version
+    def __init__(
+        self, made: AbstractContextManager[Any], log_version: Callable[[int], Version], is_older: bool = False
+    ) -> None:
+        self._made, self._log_version, self.is_older = made, log_version, is_older
         self._texts: Any = made
 
     @property
-    def version(self) -> int:
+    def version(self) -> Version:
         """The log's version of the texts."""
         return self._log_version(int(self._texts.version))
 
@@ -80,7 +89,7 @@ class SessionTexts(Closing, Calls):
     All answers to one `ask` are of one version. A later `ask` may be of a later one.
     """
 
-    def __init__(self, session: Session, log_version: Callable[[int], int]) -> None:
+    def __init__(self, session: Session, log_version: Callable[[int], Version]) -> None:
         self._session, self._log_version = session, log_version
         self.version = session.version  # (the session's; Snapshot turns it into the log's)
 

@@ -6,14 +6,17 @@ import contextlib
 import inspect
 import threading
 from collections.abc import Awaitable, Callable, Iterable, Iterator, MutableMapping
+from http import HTTPStatus
 from http.cookies import CookieError, SimpleCookie
 from typing import Any
 
 from ._follow import Follower
 from ._store import Behind, Snapshot
+from ._version import Version
 
 COOKIE = "kobdzila_version"
 HEADER = "Kobdzila-Version"
+OLDER = "Kobdzila-Older"
 KEY = "kobdzila.snapshot"
 COOKIE_SECONDS = 3600
 TRY_AGAIN_LATER = 1013  # a close code of WebSockets
@@ -34,32 +37,41 @@ class Middleware:
 
     A request's version is that of its header `Kobdzila-Version` or its cookie, whichever is greater. The request waits
     at most `within` seconds until this machine shows it. If it doesn't, the answer is 503, so that a load balancer
-    tries another machine; with `serve_older` the application is called all the same. The answer's version is in its
-    header and its cookie. An application that publishes gives the new version in a header `Kobdzila-Version` of its
-    own: its visitor then sees that version everywhere.
+    tries another machine; with `serve_older` the application is called all the same, even with what the store had
+    before the start. The answer's version is in its header and its cookie, as a token (EPOCH.NUMBER). If its texts are
+    those of the machine's cache, it also has a header `Kobdzila-Older: 1`. An application that publishes gives the new
+    version's token in a header `Kobdzila-Version` of its own: its visitor then sees that version everywhere.
+
+    A request for the path `health` is answered with the follower's health, as JSON: with 200 if the machine has texts,
+    and 503 if not.
 
     If the store's `snapshot` takes languages, they are those of the header Accept-Language, and `domain` is its domain.
     """
 
     def __init__(
-        self, follower: Follower, within: float, serve_older: bool, cookie: str, domain: str | None
+        self, follower: Follower, within: float, serve_older: bool, cookie: str, domain: str | None, health: str | None
     ) -> None:
         self.follower, self.within, self.serve_older, self.cookie = follower, within, serve_older, cookie
-        self.domain = domain
+        self.domain, self.health = domain, health
         take = getattr(follower.store, "snapshot", None)
         self._takes_languages = take is not None and "languages" in inspect.signature(take).parameters
         self._waiting = threading.BoundedSemaphore(MOST_WAITING)
+        self._varies = [*(["Accept-Language"] if self._takes_languages else []), "Cookie", HEADER]
 
-    def wanted(self, header: str, cookies: str) -> int:
+    def wanted(self, header: str, cookies: str) -> Version:
         """Return the version that a request has seen, or 0."""
         read: SimpleCookie[str] = SimpleCookie()
         with contextlib.suppress(CookieError):
             read.load(cookies)
         morsel = read.get(self.cookie)
         texts = (header.strip(), morsel.value if morsel else "")
-        return max(int(text) if text.isdecimal() and len(text) < 19 else 0 for text in texts)
+        return self.latest(*map(parsed, texts))
 
-    def is_ready(self, at_least: int) -> bool:
+    def latest(self, *versions: Version) -> Version:
+        """Return the greatest version of the latest epoch: one that isn't in the past of this machine."""
+        return max(versions, key=lambda it: (bool(it.epoch) and not self.follower.is_past(it.epoch), it))
+
+    def is_ready(self, at_least: Version) -> bool:
         """Whether a snapshot of this version can be had at once."""
         try:
             self.follower.wait_for(at_least, 0)
@@ -67,7 +79,7 @@ class Middleware:
             return False
         return True
 
-    def snapshot(self, at_least: int, accepted: str) -> Snapshot | None:
+    def snapshot(self, at_least: Version, accepted: str) -> Snapshot | None:
         """Return a snapshot, or None if the request has to be answered by 503. `accepted` is its Accept-Language."""
         if not self._waiting.acquire(blocking=False):
             return self._taken(at_least, 0, accepted)
@@ -76,24 +88,47 @@ class Middleware:
         finally:
             self._waiting.release()
 
-    def _taken(self, at_least: int, within: float, accepted: str) -> Snapshot | None:
+    def _taken(self, at_least: Version, within: float, accepted: str) -> Snapshot | None:
         options = {"languages": accepted, "domain": self.domain} if self._takes_languages else {}
-        for version in [at_least, 0] if self.serve_older else [at_least]:
+        for version in [at_least, Version()] if self.serve_older else [at_least]:
             with contextlib.suppress(Behind):
                 return self.follower.snapshot(at_least=version, within=within, **options)
-        return None
+        return self.follower.unjoined(**options) if self.serve_older and self.follower.store.version else None
 
     def headers(self, snapshot: Snapshot, written: Iterable[tuple[str, str]]) -> list[tuple[str, str]]:
         """Return the headers of an answer, for which the application has written these."""
-        versions, others = [snapshot.version], []
+        versions, others, varies = [snapshot.version], [], [*self._varies]
         for name, value in written:
-            if name.lower() == HEADER.lower() and value.isdecimal():
-                versions.append(int(value))
+            if name.lower() == HEADER.lower() and (given := parsed(value)):
+                versions.append(given if given.epoch else Version(given, versions[0].epoch))
+            elif name.lower() == "vary":
+                varies += [word.strip() for word in value.split(",")]
             else:
                 others.append((name, value))
-        version = max(versions)
-        kept = f"{self.cookie}={version}; Max-Age={COOKIE_SECONDS}; Path=/; SameSite=Lax; HttpOnly"
-        return [*others, (HEADER, str(version)), ("Set-Cookie", kept)]
+        token = self.latest(*versions).token
+        kept = f"{self.cookie}={token}; Max-Age={COOKIE_SECONDS}; Path=/; SameSite=Lax; HttpOnly"
+        older = [(OLDER, "1")] if snapshot.is_older else []
+        return [*others, (HEADER, token), *older, ("Vary", joined(varies)), ("Set-Cookie", kept)]
+
+    def refusal(self, path: str) -> tuple[int, list[tuple[str, str]], bytes]:
+        """Return status, headers and body of the answer if there is no snapshot, or if the path is that of the health."""
+        if path == self.health:
+            health = self.follower.health()
+            return health.status, [("Content-Type", "application/json"), ("Cache-Control", "no-store")], health.json().encode()
+        return 503, [("Content-Type", "text/plain"), ("Retry-After", "1"), ("Vary", joined(self._varies))], OLD
+
+
+def parsed(text: str) -> Version:
+    """Return the version of a header or a cookie, or 0."""
+    with contextlib.suppress(ValueError):
+        return Version.parse(text)
+    return Version()
+
+
+def joined(names: Iterable[str]) -> str:
+    """Return a header Vary with each name once."""
+    kept = {name.lower(): name for name in reversed([*names])}
+    return "*" if "*" in kept else ", ".join(reversed(kept.values()))
 
 
 class WSGIMiddleware(Middleware):
@@ -104,17 +139,19 @@ class WSGIMiddleware(Middleware):
 
     def __init__(
         self, application: Application, follower: Follower, domain: str | None = None, *, within: float = 0.5,
-        serve_older: bool = False, cookie: str = COOKIE,
+        serve_older: bool = False, cookie: str = COOKIE, health: str | None = None,
     ) -> None:
-        super().__init__(follower, within, serve_older, cookie, domain)
+        super().__init__(follower, within, serve_older, cookie, domain, health)
         self.application = application
 
     def __call__(self, environ: Environment, start_response: StartResponse) -> Iterable[bytes]:
+        path = environ.get("PATH_INFO", "")
         at_least = self.wanted(environ.get("HTTP_KOBDZILA_VERSION", ""), environ.get("HTTP_COOKIE", ""))
-        made = self.snapshot(at_least, environ.get("HTTP_ACCEPT_LANGUAGE", ""))
+        made = None if path == self.health else self.snapshot(at_least, environ.get("HTTP_ACCEPT_LANGUAGE", ""))
         if made is None:
-            start_response("503 Service Unavailable", [("Content-Type", "text/plain"), ("Retry-After", "1")])
-            return [OLD]
+            status, headers, body = self.refusal(path)
+            start_response(f"{status} {HTTPStatus(status).phrase}", headers)
+            return [body]
         return self._answered(made, environ, start_response)
 
     def _answered(self, made: Snapshot, environ: Environment, start_response: StartResponse) -> Iterator[bytes]:
@@ -142,16 +179,16 @@ class ASGIMiddleware(Middleware):
 
     def __init__(
         self, application: ASGIApplication, follower: Follower, domain: str | None = None, *, within: float = 0.5,
-        serve_older: bool = False, cookie: str = COOKIE,
+        serve_older: bool = False, cookie: str = COOKIE, health: str | None = None,
     ) -> None:
-        super().__init__(follower, within, serve_older, cookie, domain)
+        super().__init__(follower, within, serve_older, cookie, domain, health)
         self.application = application
 
     async def __call__(self, scope: Message, receive: Receive, send: Send) -> None:
         if scope["type"] not in ("http", "websocket"):
             await self.application(scope, receive, send)
             return
-        made = await self._made(scope)
+        made = None if scope.get("path", "") == self.health else await self._made(scope)
         if made is None:
             await self._refuse(scope, send)
             return
@@ -176,11 +213,11 @@ class ASGIMiddleware(Middleware):
         made = self._taken(at_least, 0, accepted) if self.is_ready(at_least) else None
         return made or await asyncio.to_thread(self.snapshot, at_least, accepted)
 
-    @staticmethod
-    async def _refuse(scope: Message, send: Send) -> None:
+    async def _refuse(self, scope: Message, send: Send) -> None:
         if scope["type"] == "websocket":
             await send({"type": "websocket.close", "code": TRY_AGAIN_LATER})
             return
-        headers = [(b"content-type", b"text/plain"), (b"retry-after", b"1")]
-        await send({"type": "http.response.start", "status": 503, "headers": headers})
-        await send({"type": "http.response.body", "body": OLD})
+        status, written, body = self.refusal(scope.get("path", ""))
+        headers = [(name.lower().encode(), value.encode()) for name, value in written]
+        await send({"type": "http.response.start", "status": status, "headers": headers})
+        await send({"type": "http.response.body", "body": body})

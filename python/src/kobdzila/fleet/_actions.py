@@ -1,0 +1,210 @@
+"""What the commands of kob-fleet do."""
+from __future__ import annotations
+
+import argparse
+import contextlib
+import json
+import logging
+import sys
+import uuid
+from collections.abc import Callable
+
+import psycopg
+
+from .._catalogue import Catalogue
+from .._refused import Refused
+from ._daemon import Trouble, follow, say
+from ._layout import NO_LOG, NoLog
+from ._log import NAME, SILENT, Load, Log, Machine, Status, Unanswered
+from ._metrics import metrics, served
+from ._version import Version, escaped
+
+HEADS = ("machine", "process", "version", "behind", "for", "seen", "state")
+BEHIND, DEAD, NO_ANSWER = 1, 2, 3  # statuses of `status --check`
+
+
+def run(options: argparse.Namespace) -> int:
+    """Run a command, and return the status of the program."""
+    is_check = getattr(options, "check", False)
+    logging.getLogger("psycopg").setLevel(logging.ERROR)  # (a rollback of a lost connection is no news)
+    try:
+        return COMMANDS[options.command](options)
+    except Unanswered as unanswered:
+        say(str(unanswered))
+        say(f"run it again with --id {unanswered.id}")
+        return 2
+    except psycopg.errors.UndefinedTable:
+        say(NO_LOG)
+    except (Trouble, NoLog, ValueError, psycopg.Error, OSError) as trouble:
+        say(str(trouble).strip() or type(trouble).__name__)
+    except KeyboardInterrupt:
+        return 130
+    return NO_ANSWER if is_check else 1
+
+
+def init(options: argparse.Namespace) -> int:
+    with Log(options.database) as log:
+        log.init(upgrade=options.upgrade, roles=options.roles)
+        print(f"version {log.status().version}")
+    return 0
+
+
+def publish(options: argparse.Namespace) -> int:
+    loads, refused = [], 0
+    for word in options.catalogues:
+        pair, equals, name = word.partition("=")
+        if not (equals and name):
+            raise Trouble(f"not of the form DOMAIN/LOCALE=FILE: {word}")
+        domain, locale = pair_of(pair, f"DOMAIN/LOCALE=FILE: {word}")
+        try:
+            opened = Catalogue.open(name, checked=not options.no_check, use_fuzzy=options.use_fuzzy)
+            loads.append(Load(domain, locale, opened.mo_file()))
+        except Refused as why:
+            line = f"{name}:{why.line}" if why.line else name
+            print(f"{escaped(line)}: {why.text}", file=sys.stderr)
+            refused += 1
+    if refused:
+        raise Trouble("nothing was published")
+    with writable(options) as log:
+        version = log.publish(loads, id=options.id, note=options.note or "", within=options.within, force=options.force)
+    print_version(options, version)
+    return 0
+
+
+def pair_of(word: str, form: str) -> tuple[str, str]:
+    domain, slash, locale = word.partition("/")
+    if not (slash and NAME.fullmatch(domain) and NAME.fullmatch(locale)):
+        raise Trouble(f"not of the form {form}")
+    return domain, locale
+
+
+def print_version(options: argparse.Namespace, version: Version, more: str = "") -> None:
+    print(version.token if options.token else f"version {version}{more}")
+
+
+def remove(options: argparse.Namespace) -> int:
+    pairs = [pair_of(word, f"DOMAIN/LOCALE: {word}") for word in options.pairs]
+    note = f"remove {' '.join(options.pairs)}" if options.note is None else options.note
+    with writable(options) as log:
+        print_version(options, log.remove(pairs, id=options.id, note=note, within=options.within))
+    return 0
+
+
+def rollback(options: argparse.Namespace) -> int:
+    number = options.id or uuid.uuid4()
+    with writable(options) as log:
+        version = log.rollback(options.to, id=number, note=options.note, within=options.within)
+        is_new = log.version_of(number) is not None
+    print_version(options, version, "" if is_new else f" has the texts of version {options.to} already")
+    return 0
+
+
+def writable(options: argparse.Namespace) -> Log:
+    """Return the log for something to publish. Why it has to be tried again is said once."""
+    said: set[str] = set()
+
+    def once(text: str) -> None:
+        if text not in said:
+            say(f"{text}; trying for {options.within:g} s")
+        said.add(text)
+
+    return Log(options.database, on_trouble=once)
+
+
+def wait(options: argparse.Namespace) -> int:
+    wanted = Version.parse(options.until)
+    with Log(options.database) as log:
+        lack = log.wait_for(wanted, options.within, options.seen_within)
+        found = log.status()
+    for it in lack:
+        say(f"{it.name} {it.process} is at {it.version.token}, {state_of(it)}")
+    if found.version < wanted:
+        raise Trouble(f"the log is at version {found.version}")
+    if not lack:
+        print(f"version {wanted} on all {len(found.machines)} machines")
+    return 1 if lack else 0
+
+
+def compact(options: argparse.Namespace) -> int:
+    with Log(options.database) as log:
+        print(f"cut up to version {log.compact(options.to, options.seen_within)}")
+    return 0
+
+
+def restore(options: argparse.Namespace) -> int:
+    with Log(options.database) as log:
+        version = log.restore(options.note)
+    print(f"epoch {version.epoch} begins after version {version}")
+    return 0
+
+
+def forget(options: argparse.Namespace) -> int:
+    with Log(options.database) as log:
+        count = log.forget(options.machine)
+    if not count:
+        raise Trouble(f"no machine has reported as {options.machine}")
+    print(f"forgotten: {count}")
+    return 0
+
+
+def history(options: argparse.Namespace) -> int:
+    with Log(options.database) as log:
+        for row in log.history(options.last):
+            when = row.published.astimezone().strftime("%Y-%m-%d %H:%M:%S")
+            pairs = " ".join(row.pairs) if len(row.pairs) == row.loads else f"{row.loads} loads, cut"
+            print(f"{row.version}  {when}  {escaped(pairs)}" + (f"  ({escaped(row.note)})" if row.note else ""))
+    return 0
+
+
+def status(options: argparse.Namespace) -> int:
+    with Log(options.database) as log:
+        found = log.status()
+    if options.json:
+        machines = [{**it._asdict(), "epoch": it.version.epoch, "is_dead": it.is_dead} for it in found.machines]
+        print(json.dumps({**found._asdict(), "epoch": found.version.epoch, "machines": machines}))
+    else:
+        print_machines(found)
+    return verdict(found, options.late) if options.check else 0
+
+
+def print_machines(found: Status) -> None:
+    print(f"version {found.version}, {found.publishes} publishes, cut up to {found.cut}, epoch {found.version.epoch}")
+    rows = [HEADS, *((escaped(it.name), escaped(it.process), str(it.version), str(it.behind),
+                      f"{it.late:.1f} s" if it.behind else "-", f"{it.seen:.0f} s ago", state_of(it))
+                     for it in found.machines)]
+    widths = [max(len(row[at]) for row in rows) for at in range(len(HEADS))]
+    for row in rows if found.machines else ():
+        print("  ".join(cell.ljust(width) for cell, width in zip(row, widths)).rstrip())
+
+
+def state_of(machine: Machine) -> str:
+    """The state that a machine reported, unless it is silent, and its trouble."""
+    state = "silent" if machine.seen > SILENT else machine.state
+    return f"{state}: {escaped(machine.trouble)}" if machine.trouble else state
+
+
+def verdict(found: Status, late: float) -> int:
+    """The status of a check: the worst of what there is."""
+    if any(it.is_dead for it in found.machines):
+        return DEAD
+    return BEHIND if any(it.behind and it.late >= late or it.state == "trouble" for it in found.machines) else 0
+
+
+def print_metrics(options: argparse.Namespace) -> int:
+    with Log(options.database) as log:
+        if options.listen is None:
+            sys.stdout.write(metrics(log.status()))
+            return 0
+        host, _, port = options.listen.rpartition(":")
+        with served((host.strip("[]") or "127.0.0.1", int(port)), lambda: metrics(log.status())) as server:
+            say(f"metrics on http://{server.server_address[0]!s}:{server.server_port}/metrics")
+            with contextlib.suppress(KeyboardInterrupt):
+                server.serve_forever()
+    return 0
+
+
+COMMANDS: dict[str, Callable[[argparse.Namespace], int]] = {
+    "init": init, "publish": publish, "remove": remove, "rollback": rollback, "wait": wait, "follow": follow,
+    "status": status, "metrics": print_metrics, "history": history, "compact": compact, "restore": restore,
+    "forget": forget,
+}

@@ -1,0 +1,227 @@
+"""A machine's cache: the last version that it showed, whole, in one file that is replaced in one step.
+
+The file begins with a line that names its form, a line of JSON, and the SHA-256 of both. The MO files follow, in the
+order of the JSON, which has the sum of each of them.
+"""
+from __future__ import annotations
+
+import contextlib
+import fcntl
+import hashlib
+import json
+import os
+import stat
+import time
+from collections.abc import Iterable, Sequence
+from pathlib import Path
+from typing import NamedTuple
+from urllib.parse import quote
+
+from ._queries import Played
+
+FORM = b"kobdzila cache 1\n"
+MOST_HEADER = 1 << 28
+SHARE, LONGEST = 10, 30.0  # a pause after a write: SHARE times its length, LONGEST seconds at most
+PIECE = 1 << 22  # bytes that are copied at once
+
+Pair = tuple[str, str]
+
+
+class CacheRefused(Exception):
+    """A cache can't be used. The machine then waits for the log."""
+
+
+class Place(NamedTuple):
+    """Where in a log a machine is: the epoch, the version, and the history up to it."""
+
+    epoch: str
+    version: int
+    history: bytes
+
+
+class Cached(NamedTuple):
+    """What a cache has. `past` are the epochs before the place's own, and `written` is a time of the machine's clock."""
+
+    place: Place
+    past: Sequence[str]
+    written: float
+    loads: Sequence[Played]
+
+
+class Entry(NamedTuple):
+    """Where a file is in the cache."""
+
+    offset: int
+    length: int
+    sum: bytes
+
+
+class Cache:
+    """The file NAME.cache of a folder. Of several processes that have it, one writes.
+
+    `is_whole` says whether this process knows all that the machine shows, and can write it.
+    """
+
+    def __init__(self, folder: str | os.PathLike[str], name: str) -> None:
+        self.folder = Path(folder)
+        self.path = self.folder / f"{quote(name, safe='')}.cache"
+        self._entries: dict[Pair, Entry] = {}
+        self._file = self._lock = -1
+        self._pending: dict[Pair, Played] = {}
+        self._is_new = False
+        self._due = 0.0
+        self.is_whole = True
+
+    def read(self) -> Cached | None:
+        """Return what the cache has, or None if there is none. CacheRefused if it isn't whole."""
+        try:
+            handle = os.open(self.path, os.O_RDONLY | os.O_CLOEXEC)
+        except FileNotFoundError:
+            return None
+        except OSError as why:
+            raise CacheRefused(f"{self.path}: {why.strerror}") from why
+        try:
+            cached, entries = self._checked(handle)
+        except (OSError, ValueError, KeyError, TypeError) as why:
+            os.close(handle)
+            raise CacheRefused(f"{self.path}: {why}") from why
+        self._take(handle, entries)
+        return cached
+
+    def _checked(self, handle: int) -> tuple[Cached, dict[Pair, Entry]]:
+        found = os.fstat(handle)
+        if found.st_uid not in (os.getuid(), 0) or stat.S_IMODE(found.st_mode) & 0o022:
+            raise ValueError("another user may write to it")
+        with open(handle, "rb", closefd=False) as file:
+            form, text, total = file.readline(100), file.readline(MOST_HEADER), file.readline(100)
+            if form != FORM or hashlib.sha256(form + text).hexdigest().encode() + b"\n" != total:
+                raise ValueError("it isn't whole: its sum is another one")
+            head, offset = json.loads(text), file.tell()
+            loads, entries = [], {}
+            for domain, locale, digits, length in head["entries"]:
+                data, wanted = file.read(length), bytes.fromhex(digits)
+                if hashlib.sha256(data).digest() != wanted:
+                    raise ValueError(f"it isn't whole: {domain}/{locale} has another sum")
+                loads.append(Played(domain, locale, data, wanted))
+                entries[domain, locale] = Entry(offset, length, wanted)
+                offset += length
+        place = Place(head["epoch"], head["version"], bytes.fromhex(head["history"]))
+        return Cached(place, head["past"], head["written"], loads), entries
+
+    def keep(self, loads: Iterable[Played], all_of_them: bool = False) -> None:
+        """Remember what the machine shows anew, for the next write."""
+        if all_of_them:
+            self._entries, self.is_whole = {}, True
+        if not self.is_ours():
+            self.is_whole = False
+            return
+        self._pending.update(((it.domain, it.locale), it) for it in loads)
+        self._is_new = True
+
+    def is_ours(self) -> bool:
+        """Whether this process is the one that writes; it then is until its end."""
+        if self._lock < 0:
+            with contextlib.suppress(OSError):
+                self.folder.mkdir(mode=0o700, parents=True, exist_ok=True)
+                handle = os.open(self.path.with_suffix(".lock"), os.O_RDWR | os.O_CREAT | os.O_CLOEXEC, 0o600)
+                try:
+                    fcntl.flock(handle, fcntl.LOCK_EX | fcntl.LOCK_NB)
+                except OSError:
+                    os.close(handle)
+                    raise
+                self._lock = handle
+        return self._lock >= 0
+
+    def seconds_left(self) -> float | None:
+        """In how many seconds there is something to write, or None."""
+        return max(0.0, self._due - time.monotonic()) if self._is_new else None
+
+    def write(self, place: Place, past: Sequence[str]) -> None:
+        """Write all that was kept, if it is time. OSError if it can't be written."""
+        if not self.is_whole or self.seconds_left() != 0.0:
+            return
+        begun = time.monotonic()
+        self._due = begun + 1.0
+        new = self.path.with_suffix(".new")
+        handle = os.open(new, os.O_RDWR | os.O_CREAT | os.O_TRUNC | os.O_CLOEXEC, 0o600)
+        try:
+            entries = self._fill(handle, place, past, sorted(self._entries.keys() | self._pending.keys()))
+            os.fsync(handle)
+            os.replace(new, self.path)
+        except BaseException:
+            os.close(handle)
+            raise
+        self._take(handle, entries)
+        self._pending.clear()
+        self._is_new = False
+        sync(self.folder)
+        done = time.monotonic()
+        self._due = done + min(LONGEST, SHARE * (done - begun))
+
+    def _fill(self, handle: int, place: Place, past: Sequence[str], pairs: Sequence[Pair]) -> dict[Pair, Entry]:
+        """Write a whole cache, and return where its files are."""
+        parts = []
+        for pair in pairs:
+            new = self._pending.get(pair)
+            length, total = (len(new.mo), new.sum) if new else self._entries[pair][1:]
+            parts.append((*pair, total.hex(), length))
+        text = json.dumps({"epoch": place.epoch, "version": place.version, "history": place.history.hex(),
+                           "past": list(past), "written": time.time(), "entries": parts}).encode() + b"\n"
+        head = FORM + text + hashlib.sha256(FORM + text).hexdigest().encode() + b"\n"
+        written(handle, head)
+        entries, offset = {}, len(head)
+        for pair, (*_, digits, length) in zip(pairs, parts):
+            new = self._pending.get(pair)
+            if new:
+                written(handle, new.mo)
+            else:
+                copied(self._file, self._entries[pair], handle)
+            entries[pair] = Entry(offset, length, bytes.fromhex(digits))
+            offset += length
+        return entries
+
+    def _take(self, handle: int, entries: dict[Pair, Entry]) -> None:
+        self._release("_file")
+        self._file, self._entries = handle, entries
+
+    def _release(self, name: str) -> None:
+        handle: int = getattr(self, name)
+        if handle >= 0:
+            os.close(handle)
+        setattr(self, name, -1)
+
+    def close(self) -> None:
+        """Let another process write."""
+        self._release("_file")
+        self._release("_lock")
+
+    def forked(self) -> None:
+        """This process is a child of the one that writes, which goes on to do so."""
+        self.close()
+        self._pending.clear()
+        self._entries, self._is_new, self.is_whole = {}, False, False
+
+
+def written(handle: int, data: bytes) -> None:
+    view = memoryview(data)
+    while view:
+        view = view[os.write(handle, view):]
+
+
+def copied(source: int, entry: Entry, to: int) -> None:
+    """Append a file of the old cache to the new one."""
+    offset, left = entry.offset, entry.length
+    while left:
+        data = os.pread(source, min(left, PIECE), offset)
+        if not data:
+            raise OSError("the old cache ends too early")
+        written(to, data)
+        offset, left = offset + len(data), left - len(data)
+
+
+def sync(folder: Path) -> None:
+    """Let the name of a new file survive a power cut, where the file system can."""
+    handle = os.open(folder, os.O_RDONLY | os.O_DIRECTORY | os.O_CLOEXEC)
+    with contextlib.suppress(OSError):
+        os.fsync(handle)
+    os.close(handle)

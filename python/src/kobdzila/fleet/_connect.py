@@ -1,0 +1,291 @@
+"""Connections to whichever server answers. Each host has a time of its own, and each wait an end.
+
+libpq goes on to the next host by itself, but psycopg 3.1 ends the attempt for all hosts when the time of the first one
+is over. And neither notices a server that keeps the connection and says nothing.
+"""
+from __future__ import annotations
+
+import contextlib
+import ipaddress
+import math
+import os
+import random
+import select
+import socket
+import struct
+import threading
+import time
+from collections.abc import Generator, Iterator
+from typing import Any, NamedTuple
+
+import psycopg
+from psycopg import conninfo, pq
+
+CONNECT_TIMEOUT = 5.0  # seconds for each address of a host
+PROBE_AFTER = 4.0  # seconds without a byte, after which the server is asked by another connection whether it is there
+PROBE_WITHIN = 3.0
+LAST_WORDS = 0.5  # seconds that a query may still take when its thread is to end
+SILENT_FOR = 60.0  # for so long a host that was silent is tried after the others
+ENVIRONMENT = {"host": "PGHOST", "hostaddr": "PGHOSTADDR", "port": "PGPORT", "connect_timeout": "PGCONNECT_TIMEOUT",
+               "target_session_attrs": "PGTARGETSESSIONATTRS", "load_balance_hosts": "PGLOADBALANCEHOSTS"}
+USUAL = {"keepalives_idle": "10", "keepalives_interval": "3", "keepalives_count": "3", "tcp_user_timeout": "10000",
+         "application_name": "kob-fleet"}
+SSL_REQUEST = struct.pack("!II", 8, 80877103)  # which every server answers by one byte
+# What a session is: whether the server is a standby and takes writes, and the process that serves it
+SESSION = "select pg_is_in_recovery(), current_setting('transaction_read_only')::bool, pg_backend_pid()"
+# The server's own watch over this connection, in milliseconds and seconds
+SETTINGS = {"tcp_user_timeout": "10000", "tcp_keepalives_idle": "10", "tcp_keepalives_interval": "3",
+            "tcp_keepalives_count": "3", "idle_in_transaction_session_timeout": "30000", "lock_timeout": "10000",
+            "statement_timeout": "600000"}
+
+silent: dict[tuple[str, str], float] = {}  # hosts and ports, and when they were silent
+
+
+class Silent(psycopg.OperationalError):
+    """A server hasn't answered in time. The connection is closed."""
+
+
+class Interrupted(psycopg.OperationalError):
+    """The wait was ended because its thread is to end."""
+
+
+class Place(NamedTuple):
+    """A server: its name or the folder of its socket, its address if that is known, and its port."""
+
+    host: str
+    address: str
+    port: str
+
+    def __str__(self) -> str:
+        return ":".join(filter(None, (self.host or self.address or "the local server", self.port)))
+
+
+class Watched(psycopg.Connection[Any]):
+    """A connection whose waits end: at the time `end`, after `limit` seconds without a byte, or soon after a byte comes
+    from the pipe `wake`. It is closed then.
+
+    While a wait is long, the server is asked by a connection of its own whether it is there.
+    """
+
+    end = math.inf
+    limit = math.inf
+    wake = -1
+    place = Place("", "", "")
+    is_standby = is_read_only = is_pooled = False
+    is_unreplicated = False  # the server has ended a wait for its standby
+
+    def wait(self, gen: Generator[Any, Any, Any], *_: Any, **__: Any) -> Any:
+        try:
+            ready: Any = next(gen)
+            while True:
+                ready = gen.send(self._ready(ready))
+        except StopIteration as done:
+            return done.value
+        except (Silent, Interrupted, KeyboardInterrupt):
+            self.pgconn.finish()
+            raise
+
+    def _ready(self, wanted: int) -> int:
+        """Wait until the socket is ready, and say for what."""
+        begun = time.monotonic()
+        end, probe_at = min(self.end, begun + self.limit), begun + PROBE_AFTER
+        while True:
+            now = time.monotonic()
+            ready, is_woken = polled(self.pgconn.socket, wanted, self.wake, min(end, probe_at) - now)
+            if ready:
+                return ready
+            now = time.monotonic()
+            if is_woken:
+                end = min(end, now + LAST_WORDS)
+                self.wake = -1
+            elif now >= end:
+                late = "in time" if now >= self.end else f"in {now - begun:.1f} s"
+                raise Silent(f"{self.place} hasn't answered {late}")
+            elif now >= probe_at:
+                if not is_there(self.place, min(PROBE_WITHIN, max(0.0, end - now))) and time.monotonic() < end:
+                    note_silence(self.place)
+                    raise Silent(f"{self.place} says nothing")
+                probe_at = time.monotonic() + PROBE_AFTER
+
+
+def polled(handle: int, wanted: int, wake: int, seconds: float) -> tuple[int, bool]:
+    """Wait for a socket to be readable (1) or writable (2). Return what it is, and whether the pipe has a byte."""
+    poll = select.poll()
+    poll.register(handle, (select.POLLIN if wanted & 1 else 0) | (select.POLLOUT if wanted & 2 else 0))
+    if wake >= 0:
+        poll.register(wake, select.POLLIN)
+    ready = 0
+    found = dict(poll.poll(None if seconds == math.inf else max(0, math.ceil(seconds * 1000))))
+    if flags := found.get(handle, 0):
+        ready = (1 if flags & select.POLLIN else 0) | (2 if flags & select.POLLOUT else 0)
+        ready = ready & wanted or wanted  # (an error is found by whoever reads or writes)
+    return ready, wake in found
+
+
+def connect(
+    database: str, attributes: str, *, wake: int = -1, end: float = math.inf, patience: float = 1.0
+) -> Watched:
+    """Connect to the first server that answers and has these attributes, unless the string has others.
+
+    `database` is a connection string of libpq, and `attributes` a value of target_session_attrs. Each address gets
+    `patience` times the usual time.
+    """
+    given = parameters(database)
+    wanted = given.pop("target_session_attrs", attributes)
+    within = patience * float(given.pop("connect_timeout", CONNECT_TIMEOUT)) or math.inf
+    failures: list[str] = []
+    for it in ("standby", "any") if wanted == "prefer-standby" else (wanted,):
+        for place in places_of(given, wake, end, within, failures):
+            try:
+                return session(place, given, it, wake, min(end, time.monotonic() + within))
+            except Interrupted:
+                raise
+            except psycopg.Error as why:
+                failures.append(f"{place}: {str(why).strip() or type(why).__name__}")
+            if time.monotonic() >= end:
+                break
+    raise psycopg.OperationalError("; ".join(dict.fromkeys(failures)) or "no server is named")
+
+
+def parameters(database: str) -> dict[str, str]:
+    """Return the parameters of a connection string: its own, then those of the environment, then ours."""
+    given = {name: str(value) for name, value in conninfo.conninfo_to_dict(database).items() if value is not None}
+    named = {name: os.environ[variable] for name, variable in ENVIRONMENT.items() if os.environ.get(variable)}
+    return {**USUAL, **({} if "service" in given else named), **given}
+
+
+def places_of(given: dict[str, str], wake: int, end: float, within: float, failures: list[str]) -> Iterator[Place]:
+    """Yield the servers that a connection string names, with each of their addresses; those that were silent last."""
+    hosts, addresses, ports = (given.get(name, "").split(",") for name in ("host", "hostaddr", "port"))
+    count = max(len(hosts), len(addresses))
+    if "service" in given or any(len(it) not in (1, count) for it in (hosts, addresses, ports)):
+        yield Place(given.get("host", ""), given.get("hostaddr", ""), given.get("port", ""))  # (libpq says what is wrong)
+        return
+    hosts, addresses, ports = (it * count if len(it) == 1 else it for it in (hosts, addresses, ports))
+    named = [Place(*it) for it in zip(hosts, addresses, ports)]
+    if given.get("load_balance_hosts") == "random":
+        random.shuffle(named)
+    named.sort(key=lambda it: time.monotonic() - silent.get((it.host or it.address, it.port), -math.inf) < SILENT_FOR)
+    for place in named:
+        try:
+            found = [place.address] if place.address else resolved(
+                place.host, wake, min(end, time.monotonic() + within))
+        except OSError as why:
+            failures.append(f"{place}: {why}")
+            continue
+        yield from (place._replace(address=address) for address in found)
+
+
+def resolved(host: str, wake: int, end: float) -> list[str]:
+    """Return the addresses of a host, or "" for a folder of sockets. A name server that is silent doesn't hold us up."""
+    if not host or host[0] in "/@":
+        return [""]
+    with contextlib.suppress(ValueError):
+        return [str(ipaddress.ip_address(host))]
+    answers: list[list[str] | OSError] = []
+    reading, writing = os.pipe()
+
+    def ask() -> None:
+        try:
+            found = socket.getaddrinfo(host, None, type=socket.SOCK_STREAM)
+            answers.append(list(dict.fromkeys(str(it[4][0]) for it in found)))
+        except (OSError, UnicodeError) as why:
+            answers.append(why if isinstance(why, OSError) else OSError(str(why)))
+        os.close(writing)
+
+    threading.Thread(target=ask, name="kob-fleet-resolver", daemon=True).start()
+    try:
+        _, is_woken = polled(reading, 1, wake, end - time.monotonic())
+    finally:
+        os.close(reading)
+    if is_woken:
+        raise Interrupted("the wait was ended")
+    answer = answers[0] if answers else OSError("its name server hasn't answered")
+    if isinstance(answer, OSError):
+        raise answer
+    return answer
+
+
+def session(place: Place, given: dict[str, str], attributes: str, wake: int, end: float) -> Watched:
+    """Connect to one server, and see that its session has the attributes."""
+    own = {**given, "host": place.host, "hostaddr": place.address, "port": place.port, "target_session_attrs": "any"}
+    own.pop("load_balance_hosts", None)
+    text = conninfo.make_conninfo("", **{name: value for name, value in own.items() if value})
+    connection = Watched(started(place, text, wake, end))
+    try:
+        connection.autocommit = True
+        connection.prepare_threshold = None  # (a pooler gives each statement another session)
+        connection.place, connection.wake, connection.end = place, wake, end
+        row = connection.execute(SESSION).fetchone()
+        assert row is not None
+        connection.is_standby, connection.is_read_only = row[0], row[1]
+        connection.is_pooled = row[2] != connection.info.backend_pid
+        check_attributes(connection, attributes)
+        if not connection.is_pooled:
+            set_for_session(connection, **SETTINGS)
+    except BaseException:
+        connection.close()
+        raise
+    connection.end = math.inf
+    silent.pop((place.host or place.address, place.port), None)
+    return connection
+
+
+def started(place: Place, text: str, wake: int, end: float) -> pq.abc.PGconn:
+    """Return a connection of libpq that is ready."""
+    made, begun = pq.PGconn.connect_start(text.encode()), time.monotonic()
+    try:
+        while True:
+            status = made.connect_poll()
+            if status == pq.PollingStatus.OK:
+                made.nonblocking = 1
+                return made
+            if made.status == pq.ConnStatus.BAD or status == pq.PollingStatus.FAILED:
+                raise psycopg.OperationalError(f"connection failed: {pq.error_message(made)}")
+            wanted = 1 if status == pq.PollingStatus.READING else 2
+            ready, is_woken = polled(made.socket, wanted, wake, end - time.monotonic())
+            if is_woken:
+                raise Interrupted("the wait was ended")
+            if not ready:
+                note_silence(place)
+                raise Silent(f"no answer in {time.monotonic() - begun:.1f} s")
+    except BaseException:
+        made.finish()
+        raise
+
+
+def check_attributes(connection: Watched, attributes: str) -> None:
+    """OperationalError if the session isn't what target_session_attrs asks for."""
+    wrong = {"read-write": connection.is_read_only and "it takes no writes",
+             "read-only": not connection.is_read_only and "it takes writes",
+             "primary": connection.is_standby and "it is a standby",
+             "standby": not connection.is_standby and "it is no standby"}.get(attributes, False)
+    if wrong:
+        raise psycopg.OperationalError(str(wrong))
+
+
+def set_for_session(connection: Watched, **settings: str) -> None:
+    calls = ", ".join("set_config(%s, %s, false)" for _ in settings)
+    connection.execute(f"select {calls}".encode(), [word for setting in settings.items() for word in setting])
+
+
+def note_silence(place: Place) -> None:
+    silent[place.host or place.address, place.port] = time.monotonic()
+
+
+def is_there(place: Place, within: float) -> bool:
+    """Whether a server says something when it is asked whether it takes TLS."""
+    port = place.port or "5432"
+    path = place.host or "/var/run/postgresql"
+    try:
+        if place.address:
+            made = socket.create_connection((place.address, int(port)), max(0.01, within))
+        else:
+            made = socket.socket(socket.AF_UNIX)
+            made.settimeout(max(0.01, within))
+            made.connect(f"{path}/.s.PGSQL.{port}" if path[0] == "/" else f"\0{path[1:]}/.s.PGSQL.{port}")
+        with made:
+            made.sendall(SSL_REQUEST)
+            return bool(made.recv(1))
+    except (OSError, ValueError):
+        return False

@@ -1,0 +1,175 @@
+"""The command `kob-fleet follow`: a catsession whose loads come from the log, for standard input, a socket, or systemd."""
+from __future__ import annotations
+
+import argparse
+import contextlib
+import os
+import signal
+import socket
+import sys
+import threading
+from collections.abc import Iterator
+from pathlib import Path
+from typing import BinaryIO
+
+from .._session import Session, SessionEnded
+from ._follow import Follower
+from ._store import Behind
+from ._version import escaped
+
+MOST_LINES = 67_108_864
+MOST_CLIENTS = 64  # of a socket, at once
+LISTEN_FDS_START = 3  # the first socket that systemd hands over (sd_listen_fds)
+TOLD_EACH = 5.0  # seconds between two notes to systemd
+
+
+class Trouble(Exception):
+    """What ends the program with status 1."""
+
+
+class Terminated(Exception):
+    """The program was asked to end, by SIGTERM."""
+
+
+def say(text: str) -> None:
+    """Write a line to standard error, or nothing if nobody is there to read it."""
+    with contextlib.suppress(OSError, ValueError):
+        print(f"kob-fleet: {escaped(' '.join(text.split()))}", file=sys.stderr, flush=True)
+
+
+def follow(options: argparse.Namespace) -> int:
+    """Answer rounds of questions until there are no more, or until the end of a daemon."""
+    signal.signal(signal.SIGTERM, terminate)
+    try:
+        with Session(options.catsession) as session:
+            follower = Follower(
+                session, options.database, options.machine, cache=options.cache, go_over=options.go_over,
+                report_to=options.report_to, on_trouble=say,
+                on_version=lambda version: say(f"version {version}") if options.verbose else None)
+            with follower, listening(options, follower, session):
+                if options.daemon:
+                    return serve(follower)
+                answer_rounds(follower, session, sys.stdin.buffer, sys.stdout.buffer, options.tokens)
+                return 0 if follower.stopped is None else 1
+    except Terminated:
+        return 0 if options.daemon else 128 + signal.SIGTERM
+
+
+def terminate(*_: object) -> None:
+    signal.signal(signal.SIGTERM, signal.SIG_IGN)
+    raise Terminated
+
+
+def serve(follower: Follower) -> int:
+    """Tell systemd how it is, until SIGTERM, or until the follower has stopped for good: a restart joins anew.
+
+    If it is the log that has lost publishes, it goes on to answer.
+    """
+    is_ready = False
+    while not follower.has_failed:
+        if not is_ready and follower.has_joined:
+            is_ready = True
+            notify("READY=1")
+        health = follower.health()
+        if health.is_alive:
+            notify(f"STATUS={health.state} at version {follower.version.token}\nWATCHDOG=1")
+        with contextlib.suppress(Behind):
+            follower.wait_for(0 if not is_ready else follower.version + 1, TOLD_EACH)
+    notify("STOPPING=1")
+    return 1
+
+
+def notify(text: str) -> None:
+    """Say something to systemd, if it has started this (sd_notify)."""
+    address = os.environ.get("NOTIFY_SOCKET", "")
+    if address:
+        with socket.socket(socket.AF_UNIX, socket.SOCK_DGRAM) as made, contextlib.suppress(OSError):
+            made.connect(f"\0{address[1:]}" if address[0] == "@" else address)
+            made.sendall(text.encode())
+
+
+# --- rounds of questions
+
+
+@contextlib.contextmanager
+def listening(options: argparse.Namespace, follower: Follower, session: Session) -> Iterator[None]:
+    """Answer on a socket meanwhile, if there is one: that of systemd, or one at a path."""
+    is_given = os.environ.get("LISTEN_PID") == str(os.getpid())
+    if not (is_given or options.socket):
+        yield
+        return
+    if is_given:
+        listener = socket.socket(fileno=LISTEN_FDS_START)
+    else:
+        listener = socket.socket(socket.AF_UNIX)
+        with contextlib.suppress(FileNotFoundError):
+            if Path(options.socket).is_socket():
+                Path(options.socket).unlink()
+        listener.bind(options.socket)
+        listener.listen(MOST_CLIENTS)
+    with listener:
+        threading.Thread(target=accept, args=[listener, follower, session, options.tokens], daemon=True).start()
+        yield
+
+
+def accept(listener: socket.socket, follower: Follower, session: Session, with_tokens: bool) -> None:
+    room = threading.BoundedSemaphore(MOST_CLIENTS)
+    while True:
+        room.acquire()
+        try:
+            client, _ = listener.accept()
+        except OSError:  # (it was closed)
+            return
+        threading.Thread(target=answer_client, args=[client, room, follower, session, with_tokens], daemon=True).start()
+
+
+def answer_client(
+    client: socket.socket, room: threading.Semaphore, follower: Follower, session: Session, with_tokens: bool
+) -> None:
+    try:
+        with client, client.makefile("rb") as questions, client.makefile("wb") as answers:
+            answer_rounds(follower, session, questions, answers, with_tokens)
+    except (Trouble, OSError) as why:
+        say(str(why))
+    finally:
+        room.release()
+
+
+def answer_rounds(
+    follower: Follower, session: Session, questions: BinaryIO, answers: BinaryIO, with_tokens: bool = False
+) -> None:
+    """Answer rounds until the questions end. Versions are the log's."""
+    lines: list[bytes] = []
+    size = 0
+    for number, line in enumerate(questions, 1):
+        if line.startswith(b"#") or line == b"\n":
+            continue
+        if line == b"go\n":
+            answers.write(answered(follower, session, lines, with_tokens))
+            answers.flush()
+            lines, size = [], 0
+            continue
+        size += len(line)
+        if not line.startswith(b"ask\t0\t") or not line.endswith(b"\n") or size > MOST_LINES:
+            raise Trouble(f"line {number}: neither a question to worker 0 nor `go`")
+        lines.append(line)
+    if lines:
+        answers.write(answered(follower, session, lines, with_tokens))
+        answers.flush()
+
+
+def answered(follower: Follower, session: Session, lines: list[bytes], with_tokens: bool) -> bytes:
+    while not follower.has_joined:
+        if follower.stopped is not None:
+            raise Trouble("there are no texts to answer from")
+        with contextlib.suppress(Behind):
+            follower.wait_for(within=1.0)
+    is_older = follower.is_older
+    try:
+        version, fields = session._answer(lines)
+    except SessionEnded as ended:
+        raise Trouble(f"catsession ended: {ended}") from ended
+    shown = follower.log_version(version)
+    log, more = (shown.token, "\tolder" if is_older else "") if with_tokens else (str(shown), "")
+    texts = [f"version\t{log}{more}\n", *("\t".join((field[0], log, *field[2:])) + "\n" for field in fields)]
+    return "".join(texts).encode()

@@ -1,0 +1,156 @@
+"""What a machine reports to the log's table of machines."""
+from __future__ import annotations
+
+import contextlib
+import os
+import secrets
+import socket
+import time
+from collections.abc import Iterator
+from typing import NamedTuple
+
+import psycopg
+
+from ._connect import Watched, connect
+from ._version import Version
+
+REPORT_EACH = 1.0  # the least time between two reports of a machine
+ANEW_EACH = 10.0  # and the most
+REPORT_WITHIN = 5.0  # seconds in which a report has to be answered
+FIRST_PAUSE, LAST_PAUSE = 10.0, 300.0  # between two attempts to connect to a primary that doesn't answer
+GOODBYE_WITHIN = 0.3
+REFUSALS = (psycopg.errors.ReadOnlySqlTransaction, psycopg.errors.InsufficientPrivilege, psycopg.errors.DiskFull)
+
+
+class Report(NamedTuple):
+    """What a row says. The counts are since the follower's start."""
+
+    version: Version
+    epoch: str
+    state: str
+    trouble: str | None
+    loads: int
+    refusals: int
+    reconnects: int
+
+
+class Reporter:
+    """Writes the row of one follower.
+
+    A standby takes no writes. There the row goes to the primary, by a connection of its own to `database`, unless that
+    is None.
+    """
+
+    def __init__(self, machine: str, database: str | None) -> None:
+        self.machine, self.database = machine, database
+        self.process = process_name()
+        self._connection: Watched | None = None
+        self._last: Report | None = None
+        self._at = self._try_at = 0.0
+        self._pause = FIRST_PAUSE
+        self._has_cleaned = self._is_refused = False
+
+    def is_due(self, report: Report) -> bool:
+        """Whether there is something to write."""
+        since = time.monotonic() - self._at
+        return since >= ANEW_EACH or since >= REPORT_EACH and report != self._last
+
+    def seconds_left(self, report: Report) -> float:
+        """In how many seconds there is something to write."""
+        wanted = REPORT_EACH if report != self._last else ANEW_EACH
+        return max(0.0, self._at + wanted - time.monotonic())
+
+    def write(self, connection: Watched, report: Report, wake: int) -> None:
+        """Write the row by the follower's connection, or by one to the primary if it is to a standby.
+
+        psycopg.Error if the follower's own connection is lost.
+        """
+        self._at, self._last = time.monotonic(), report
+        if not connection.is_standby:
+            self.close()
+            self._write(connection, report)
+        elif self.database is not None and (self._connection is not None or time.monotonic() >= self._try_at):
+            try:
+                self._write(self._primary(wake), report)
+                self._pause = FIRST_PAUSE
+            except psycopg.Error:
+                self.close()
+                self._try_at, self._pause = time.monotonic() + self._pause, min(LAST_PAUSE, 2 * self._pause)
+
+    def _primary(self, wake: int) -> Watched:
+        if self._connection is None:
+            end = time.monotonic() + REPORT_WITHIN
+            self._connection = connect(self.database or "", "read-write", wake=wake, end=end)
+        return self._connection
+
+    def _write(self, connection: Watched, report: Report) -> None:
+        connection.limit = REPORT_WITHIN
+        with contextlib.suppress(*REFUSALS), planned_once(connection):
+            if not self._has_cleaned:
+                self._clean(connection)
+            connection.execute(
+                "insert into kobdzila.machine (name, process, epoch, version, state, trouble, loads, refusals,"
+                " reconnects) values (%s, %s, %s, %s, %s, %s, %s, %s, %s) on conflict (name, process) do update"
+                " set epoch = excluded.epoch, version = excluded.version, state = excluded.state,"
+                " trouble = excluded.trouble, loads = excluded.loads, refusals = excluded.refusals,"
+                " reconnects = excluded.reconnects, seen = excluded.seen",
+                (self.machine, self.process, report.epoch, int(report.version), *report[2:]))
+
+    def _clean(self, connection: Watched) -> None:
+        """Delete the rows of this machine's processes that have ended."""
+        host = self.process.split(":")[0]
+        rows = connection.execute("select process from kobdzila.machine where name = %s and process like %s",
+                                  (self.machine, host.replace("\\", r"\\").replace("%", r"\%").replace("_", r"\_") + ":%"))
+        ended = [row[0] for row in rows if not is_running(row[0])]
+        connection.execute("delete from kobdzila.machine where name = %s and process = any(%s)", (self.machine, ended))
+        self._has_cleaned = True
+
+    def goodbye(self, connection: Watched) -> None:
+        """Delete the row: the follower was closed."""
+        to = connection if not connection.is_standby else self._connection
+        if to is not None and not to.closed:
+            to.wake, to.end = -1, time.monotonic() + GOODBYE_WITHIN
+            with contextlib.suppress(psycopg.Error):
+                to.execute("delete from kobdzila.machine where name = %s and process = %s", (self.machine, self.process))
+
+    def close(self) -> None:
+        if self._connection is not None:
+            self._connection.close()
+            self._connection = None
+
+    def forked(self) -> None:
+        """This process is a child: it has a row of its own, and its parent's connection isn't its."""
+        if self._connection is not None:
+            abandon(self._connection)
+        self._connection, self._last, self._at, self.process = None, None, 0.0, process_name()
+
+
+@contextlib.contextmanager
+def planned_once(connection: Watched) -> Iterator[None]:
+    """Let the server keep the plans of statements, unless a pooler gives them other sessions."""
+    connection.prepare_threshold = None if connection.is_pooled else 0
+    try:
+        yield
+    finally:
+        connection.prepare_threshold = None
+
+
+def process_name() -> str:
+    return f"{socket.gethostname().replace(':', '_')}:{os.getpid()}:{secrets.token_hex(2)}"
+
+
+def is_running(process: str) -> bool:
+    """Whether a process of this host is there. One that can't be asked is."""
+    try:
+        os.kill(int(process.split(":")[1]), 0)
+    except ProcessLookupError:
+        return False
+    except (OSError, ValueError, IndexError):
+        return True
+    return True
+
+
+def abandon(connection: Watched) -> None:
+    """Let go of a connection that is the parent's, without a word to the server."""
+    with contextlib.suppress(OSError, psycopg.Error):
+        os.close(connection.pgconn.socket)
