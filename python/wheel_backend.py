@@ -1,8 +1,14 @@
-"""Builds the wheel of kobdzila: a backend for pip (PEP 517) without dependencies, and the command of tools/wheel.
+"""Builds the wheel and the source distribution of kobdzila: a backend for pip and `python -m build` (PEP 517) without
+dependencies, and the command of tools/wheel.
 
-It compiles the extension with the C compiler, links build/lib/libkobdzila.a into it, and packs it with the package and
-build/static/catsession, if that was built. With the same Python and compiler, the wheel of a commit is the same bytes
-in any folder and at any time: the members are sorted, and their time is SOURCE_DATE_EPOCH, or 1980.
+The wheel: the extension is compiled with the C compiler, libkobdzila.a is linked into it, and it is packed with the
+package and the program catsession, if that was built. With the same Python and compiler, the wheel of a commit is the
+same bytes in any folder and at any time, also from the source distribution: the members are sorted, and their time is
+SOURCE_DATE_EPOCH, or 1980.
+
+The source distribution has the sources of the package and, in lib/MACHINE, libkobdzila.a and catsession as they were
+built here: the proved part needs its own compiler. On another kind of machine KOBDZILA_LIB_DIR names the folder that
+has a libkobdzila.a.
 
 CC names the C compiler if it isn't cc, and CFLAGS adds to its options. KOBDZILA_BUILD is the build folder if it isn't
 build/ of the repository.
@@ -10,7 +16,9 @@ build/ of the repository.
 from __future__ import annotations
 
 import base64
+import gzip
 import hashlib
+import io
 import os
 import platform
 import re
@@ -18,39 +26,32 @@ import shlex
 import subprocess
 import sys
 import sysconfig
+import tarfile
 import tempfile
 import time
 import zipfile
 from pathlib import Path
+from typing import Any
+
+try:
+    import tomllib
+except ImportError:  # (Python 3.10)
+    from pip._vendor import tomli as tomllib  # type: ignore[import,no-redef]
 
 HERE = Path(__file__).resolve().parent
-TOP = HERE.parent
+TOP = HERE if (HERE / "PKG-INFO").is_file() else HERE.parent  # (of a source distribution, or of the repository)
 BUILD = Path(os.environ.get("KOBDZILA_BUILD", TOP / "build"))
+BUNDLED = HERE / "lib" / platform.machine()  # (in a source distribution)
 VERSION = (TOP / "VERSION").read_text(encoding="utf-8").strip()
 LEAST_GLIBC = 17  # no Linux that runs Python 3.10 has an older one than 2.17
-FLAGS = ("-std=c11", "-O2", "-fPIC", "-Wall", "-Wextra", "-Werror", "-fvisibility=hidden", "-fstack-protector-strong")
+FLAGS = ("-std=c11", "-O2", "-fPIC", "-Wall", "-Wextra", "-Werror", "-fvisibility=hidden")
 LINKED = ("-shared", "-Wl,--exclude-libs,ALL", "-Wl,-z,text", "-Wl,-z,relro", "-Wl,-z,now", "-Wl,--build-id=none")
-ENTRY_POINTS = "[console_scripts]\nkob-fleet = kobdzila.fleet._command:main\n"
-METADATA = f"""\
-Metadata-Version: 2.1
-Name: kobdzila
-Version: {VERSION}
-Summary: Message catalogues of GNU gettext, with the interface of the standard module gettext
-Requires-Python: >=3.10
-Provides-Extra: fleet
-Requires-Dist: psycopg>=3.1; extra == 'fleet'
-Classifier: Programming Language :: Python :: 3
-Classifier: Programming Language :: C
-Classifier: Operating System :: POSIX :: Linux
-Classifier: Topic :: Software Development :: Internationalization
-Classifier: Typing :: Typed
-Description-Content-Type: text/markdown
-
-"""
+OF_PACKAGE = (".py", ".pyi", ".typed")  # the endings of its files
+OUTSIDE = ("VERSION", "include/kobdzila.h", "tools/hardening", "docs/man/kob-fleet.1", "packaging/systemd")  # of python/
 
 
 class Trouble(Exception):
-    """Why no wheel can be built."""
+    """Why nothing can be built."""
 
 
 def run(*command: str) -> str:
@@ -60,22 +61,49 @@ def run(*command: str) -> str:
     return done.stdout
 
 
+# --- what is built of ------------------------------------------------------------------------------------------------
+
+
+def library() -> Path:
+    """Return the path of libkobdzila.a: that of KOBDZILA_LIB_DIR, the one that was built, or that of the distribution."""
+    named = os.environ.get("KOBDZILA_LIB_DIR")
+    places = [Path(named)] if named else [BUILD / "lib", BUNDLED]
+    for place in places:
+        if (place / "libkobdzila.a").is_file():
+            return place.resolve() / "libkobdzila.a"
+    if named:
+        raise Trouble(f"KOBDZILA_LIB_DIR is {named}, which has no libkobdzila.a")
+    if TOP != HERE:
+        raise Trouble(f"there is no {BUILD / 'lib' / 'libkobdzila.a'}: make library builds it")
+    raise Trouble(
+        f"this source distribution has no libkobdzila for {platform.machine()}: set KOBDZILA_LIB_DIR to the folder that "
+        "has libkobdzila.a, such as `lib` of an unpacked release"
+    )
+
+
+def catsession() -> Path | None:
+    """Return the path of the program that Session starts, or None if it isn't there."""
+    found = [it for it in (BUILD / "static" / "catsession", BUNDLED / "catsession") if it.is_file()]
+    return found[0] if found else None
+
+
 def compile_extension(to: Path, *more: str) -> None:
     """Compile and link the extension module into the file `to`."""
-    archive, headers = BUILD / "lib" / "libkobdzila.a", Path(sysconfig.get_path("include"))
-    if not archive.is_file():
-        raise Trouble(f"there is no {archive}: make library builds it")
+    archive, headers = library(), Path(sysconfig.get_path("include"))
     if not (headers / "Python.h").is_file():
         raise Trouble(f"there is no Python.h in {headers}: Debian has it in python3-dev")
-    flags = [*FLAGS, f"-ffile-prefix-map={TOP}=.", *shlex.split(os.environ.get("CFLAGS", "")), *more]
-    run(*shlex.split(os.environ.get("CC", "cc")), *flags, f"-I{TOP / 'include'}", f"-I{headers}",
+    compiler = shlex.split(os.environ.get("CC", "cc"))
+    hardened = run("sh", str(TOP / "tools/hardening"), *compiler).split()
+    # (the names of the sources, which an error message may have, are those of the repository)
+    flags = [*FLAGS, *hardened, f"-ffile-prefix-map={HERE}=./python", *shlex.split(os.environ.get("CFLAGS", "")), *more]
+    run(*compiler, *flags, f"-I{TOP / 'include'}", f"-I{headers}",
         *map(str, sorted((HERE / "src").glob("*.c"))), str(archive), *LINKED, "-o", str(to))
 
 
 def tag_of(extension: Path) -> str:
     """Return the wheel's tag, with the version of the C library that the extension needs."""
     needed = re.findall(r"\(GLIBC_2\.(\d+)", run("objdump", "-T", str(extension)))
-    glibc = max(LEAST_GLIBC, *map(int, needed))
+    glibc = max([LEAST_GLIBC, *map(int, needed)])
     return f"cp310-abi3-manylinux_2_{glibc}_{platform.machine()}"
 
 
@@ -85,25 +113,60 @@ def manual_page() -> str:
     return text.replace(" Kobdzila ", f' "Kobdzila {VERSION}" ', 1)
 
 
+# --- what pyproject.toml says ------------------------------------------------------------------------------------------
+
+
+def project() -> dict[str, Any]:
+    found: dict[str, Any] = tomllib.loads((HERE / "pyproject.toml").read_text(encoding="utf-8"))["project"]
+    return found
+
+
+def metadata() -> bytes:
+    """Return the file METADATA ("Core metadata specifications" of the Python Packaging User Guide, version 2.1)."""
+    own = project()
+    lines = ["Metadata-Version: 2.1", f"Name: {own['name']}", f"Version: {VERSION}", f"Summary: {own['description']}",
+             f"Keywords: {','.join(own['keywords'])}", *(f"Classifier: {it}" for it in own["classifiers"]),
+             f"Requires-Python: {own['requires-python']}", "Description-Content-Type: text/markdown"]
+    for extra, needed in own["optional-dependencies"].items():
+        lines += [f"Provides-Extra: {extra}", *(f"Requires-Dist: {it}; extra == '{extra}'" for it in needed)]
+    text = (HERE / own["readme"]).read_text(encoding="utf-8")
+    return ("\n".join(lines) + "\n\n" + text).encode()
+
+
+def entry_points() -> bytes:
+    lines = [f"{name} = {function}" for name, function in project()["scripts"].items()]
+    return ("\n".join(["[console_scripts]", *lines]) + "\n").encode()
+
+
+# --- the wheel ---------------------------------------------------------------------------------------------------------
+
+
 def members(extension: bytes, tag: str) -> dict[str, bytes]:
     """Return the files of the wheel but for RECORD, by their names in it."""
     files = {"kobdzila/_kobdzila.abi3.so": extension}
     for path in (HERE / "src" / "kobdzila").rglob("*"):
-        if path.suffix in (".py", ".pyi", ".typed") or path.name == "py.typed":
+        if path.suffix in OF_PACKAGE or path.name == "py.typed":
             files[path.relative_to(HERE / "src").as_posix()] = path.read_bytes()
-    program = BUILD / "static" / "catsession"
-    if program.is_file():
+    program = catsession()
+    if program:
         with tempfile.TemporaryDirectory() as room:
             run("strip", "-o", f"{room}/catsession", str(program))
             files["kobdzila/bin/catsession"] = Path(room, "catsession").read_bytes()
     info = f"kobdzila-{VERSION}.dist-info"
-    files[f"{info}/METADATA"] = (METADATA + (HERE / "README.md").read_text(encoding="utf-8")).encode()
-    files[f"{info}/entry_points.txt"] = ENTRY_POINTS.encode()
+    files[f"{info}/METADATA"] = metadata()
+    files[f"{info}/entry_points.txt"] = entry_points()
     files[f"kobdzila-{VERSION}.data/data/share/man/man1/kob-fleet.1"] = manual_page().encode()
+    for path in (TOP / "packaging" / "systemd").glob("*.service"):
+        files[f"kobdzila-{VERSION}.data/data/share/kobdzila/systemd/{path.name}"] = path.read_bytes()
     files[f"{info}/WHEEL"] = (
         f"Wheel-Version: 1.0\nGenerator: kobdzila ({VERSION})\nRoot-Is-Purelib: false\nTag: {tag}\n".encode()
     )
     return files
+
+
+def made() -> int:
+    """Return the time of each member of an archive; a zip archive has none before 1980."""
+    return max(int(os.environ.get("SOURCE_DATE_EPOCH", "0")), 315532800)
 
 
 def write_wheel(to: Path, files: dict[str, bytes]) -> None:
@@ -113,10 +176,9 @@ def write_wheel(to: Path, files: dict[str, bytes]) -> None:
         digest = base64.urlsafe_b64encode(hashlib.sha256(data).digest()).rstrip(b"=").decode()
         rows.append(f"{name},sha256={digest},{len(data)}\n")
     record = f"kobdzila-{VERSION}.dist-info/RECORD"
-    made = max(int(os.environ.get("SOURCE_DATE_EPOCH", "0")), 315532800)
     with zipfile.ZipFile(to, "w", zipfile.ZIP_DEFLATED, compresslevel=9) as archive:
         for name, data in [*sorted(files.items()), (record, "".join([*rows, f"{record},,\n"]).encode())]:
-            member = zipfile.ZipInfo(name, time.gmtime(made)[:6])
+            member = zipfile.ZipInfo(name, time.gmtime(made())[:6])
             member.compress_type = zipfile.ZIP_DEFLATED
             member.create_system = 3
             member.external_attr = (0o100755 if name.endswith((".so", "/catsession")) else 0o100644) << 16
@@ -137,21 +199,60 @@ def build_wheel(wheel_directory: str, config_settings: object = None, metadata_d
     return name
 
 
+def prepare_metadata_for_build_wheel(metadata_directory: str, config_settings: object = None) -> str:
+    """Write what the wheel says of itself, without building it, and return the folder's name (PEP 517)."""
+    name = f"kobdzila-{VERSION}.dist-info"
+    Path(metadata_directory, name).mkdir(parents=True)
+    Path(metadata_directory, name, "METADATA").write_bytes(metadata())
+    Path(metadata_directory, name, "entry_points.txt").write_bytes(entry_points())
+    return name
+
+
+# --- the source distribution -------------------------------------------------------------------------------------------
+
+
+def sources() -> dict[str, bytes]:
+    """Return the files of the source distribution, by their names in it."""
+    paths = {name: HERE / name for name in ("pyproject.toml", "wheel_backend.py", "README.md")}
+    for path in (HERE / "src").rglob("*"):
+        if path.suffix in (*OF_PACKAGE, ".c", ".h") or path.name == "py.typed":
+            paths[path.relative_to(HERE).as_posix()] = path
+    for name in OUTSIDE:
+        for path in [TOP / name, *(TOP / name).glob("*.service")]:
+            if path.is_file():
+                paths[path.relative_to(TOP).as_posix()] = path
+    paths[f"lib/{platform.machine()}/libkobdzila.a"] = library()
+    program = catsession()
+    if program:
+        paths[f"lib/{platform.machine()}/catsession"] = program
+    return {"PKG-INFO": metadata(), **{name: path.read_bytes() for name, path in paths.items()}}
+
+
 def build_sdist(sdist_directory: str, config_settings: object = None) -> str:
-    """Refuse: the library is proved and built in the repository (PEP 517)."""
-    raise Trouble("there is no source distribution: the library is built in the repository")
+    """Build the source distribution into a folder, and return its name (PEP 517 and PEP 625)."""
+    room = f"kobdzila-{VERSION}"
+    packed = io.BytesIO()
+    with gzip.GzipFile("", "wb", 9, packed, made()) as file, tarfile.open(None, "w", file, format=tarfile.PAX_FORMAT) as archive:
+        for name, data in sorted(sources().items()):
+            member = tarfile.TarInfo(f"{room}/{name}")
+            member.size, member.mtime = len(data), made()
+            member.mode = 0o755 if name.endswith(("/hardening", "/catsession")) else 0o644
+            archive.addfile(member, io.BytesIO(data))
+    Path(sdist_directory).mkdir(parents=True, exist_ok=True)
+    Path(sdist_directory, f"{room}.tar.gz").write_bytes(packed.getvalue())
+    return f"{room}.tar.gz"
 
 
 def main(words: list[str]) -> int:
-    folder = words[0] if words else str(BUILD / "dist")
+    build = build_sdist if "--sdist" in words else build_wheel
+    folder = next((it for it in words if it != "--sdist"), str(BUILD / "dist"))
     try:
-        name = build_wheel(folder)
+        name = build(folder)
     except Trouble as trouble:
         print(f"tools/wheel: {trouble}", file=sys.stderr)
         return 1
-    bundled = (BUILD / "static" / "catsession").is_file()
     path = Path(folder, name)
-    note = "" if bundled else ", without catsession, which wasn't built"
+    note = "" if catsession() else ", without catsession, which wasn't built"
     print(f"{os.path.relpath(path)}: {path.stat().st_size} bytes{note}")
     return 0
 

@@ -18,7 +18,6 @@ from werkzeug.wrappers import Request
 import kobdzila
 
 LANGUAGES = {"en": "English", "de": "Deutsch", "fr": "Français", "sl": "Slovenščina", "ar": "العربية"}
-RIGHT_TO_LEFT = {"ar"}
 COUNTS = (1, 2, 3, 5)
 
 
@@ -42,20 +41,14 @@ def create_app(folder: Path = Path(__file__).with_name("locale"), every: float =
         app.logger.warning("%s: the old texts stay", file)
 
     store.watch(folder, every=every, checked=True, refused=refused)
-    setattr(app, "wsgi_app", kobdzila.WSGIMiddleware(app.wsgi_app, store, languages=wanted))
+    setattr(app, "wsgi_app", kobdzila.WSGIMiddleware(app.wsgi_app, store, languages=wanted, vary=["Accept-Language"]))
     app.jinja_env.add_extension("jinja2.ext.i18n")
     getattr(app.jinja_env, "install_gettext_translations")(kobdzila.LazyTranslations(texts), newstyle=True)
 
     @app.get("/")
     def page() -> str:
-        language = texts().language or "en"
         return render_template(
-            "page.html",
-            language=language,
-            direction="rtl" if language in RIGHT_TO_LEFT else "ltr",
-            languages=LANGUAGES,
-            counts=COUNTS,
-            version=texts().version,
+            "page.html", texts=texts(), languages=LANGUAGES, direction=kobdzila.direction, counts=COUNTS
         )
 
     return app

@@ -4,6 +4,7 @@
  * It uses the limited API of Python 3.10, so one build serves each later version, too. The type has the look-ups of
  * the standard module gettext as methods in C; the classes of the package inherit them. */
 #include "module.h"
+#include "sorted.h"
 
 #include <errno.h>
 #include <stdlib.h>
@@ -15,6 +16,7 @@ struct catalogue {
     PyObject_HEAD
     kob_catalogue *held;        /* NULL: an empty catalogue */
     const char *file;           /* its MO file, in which all its texts lie */
+    int is_by_dict;             /* whether its texts were put into a dict, by which methods in Python answer */
     const struct state *state;  /* of the module, which the type keeps alive */
     PyObject *fallback;         /* asked for what isn't found; NULL or None: nobody */
     struct answers answers;
@@ -32,6 +34,7 @@ static void hold(struct catalogue *self, kob_catalogue *opened) {
     kob_release(self->held);
     self->held = opened;
     self->file = opened ? kob_mo_file(opened).at : NULL;
+    self->is_by_dict = 0;
     self->answers.entries = opened ? kob_count(opened) : 0;
 }
 
@@ -106,7 +109,7 @@ static int open_bytes(struct catalogue *self, PyObject *object, int options) {
     kob_refusal why;
     kob_catalogue *opened;
     Py_BEGIN_ALLOW_THREADS
-    opened = options == MO ? kob_open_mo(at, (size_t)len, &why) : kob_open_po(at, (size_t)len, (unsigned)options, &why);
+    opened = options == MO ? open_mo(at, (size_t)len, &why) : kob_open_po(at, (size_t)len, (unsigned)options, &why);
     Py_END_ALLOW_THREADS
     Py_DECREF(bytes);
     if (!opened) {
@@ -160,7 +163,7 @@ static int open_file(struct catalogue *self, PyObject *name, int options) {
     kob_catalogue *opened;
     int cause;
     Py_BEGIN_ALLOW_THREADS
-    opened = kob_open_file(at, options == MO ? KOB_MO : KOB_PO, options == MO ? 0 : (unsigned)options, &why);
+    opened = options == MO ? open_mo_file(at, &why) : kob_open_file(at, KOB_PO, (unsigned)options, &why);
     cause = errno;
     Py_END_ALLOW_THREADS
     if (opened) {
@@ -227,6 +230,7 @@ static PyObject *share(PyObject *object, PyObject *unused) {
     if (!other)
         return NULL;
     hold(catalogue_of(other), self->held ? kob_retain(self->held) : NULL);
+    catalogue_of(other)->is_by_dict = self->is_by_dict;
     catalogue_of(other)->fallback = Py_XNewRef(self->fallback);
     return other;
 }
@@ -243,15 +247,25 @@ static PyObject *looked_up(struct catalogue *self, PyObject *context, PyObject *
     if (!text.at)
         return NULL;
     /* (if the form is unknown, the text itself is the key, which is no other entry's first form) */
-    size_t first = (size_t)(text.at - self->file), number = form == UNKNOWN ? 0 : form;
-    PyObject *known = known_answer(&self->answers, first, number), *answer = known;
+    uint64_t first = (uint64_t)(text.at - self->file), number = form == UNKNOWN ? 0 : form;
+    PyObject *known = known_answer(&self->answers, number << 32 | first), *answer = known;
     if (!known) {
         if (number)
             text = kob_find(self->held, in, key, &n);
-        answer = new_answer(&self->answers, first, number, text);
+        answer = new_answer(&self->answers, number << 32 | first, text);
     }
     if (answer && form != UNKNOWN)
         keep_recent(&self->answers, &(struct recent){ msgid, context, form, answer }, known != NULL);
+    return answer;
+}
+
+static PyObject *found(struct catalogue *self, PyObject *context, PyObject *msgid, unsigned long long n);
+
+/* Look up what isn't exactly a str. Its methods may open another file in this catalogue's place. */
+static PyObject *found_by_key(struct catalogue *self, PyObject *context, PyObject *msgid, unsigned long long n) {
+    struct key key;
+    PyObject *answer = key_of(context, msgid, &key) > 0 ? found(self, key.context, key.msgid, n) : NULL;
+    drop_key(&key);
     return answer;
 }
 
@@ -259,6 +273,8 @@ static PyObject *looked_up(struct catalogue *self, PyObject *context, PyObject *
 static PyObject *found(struct catalogue *self, PyObject *context, PyObject *msgid, unsigned long long n) {
     if (!self->held)
         return NULL;
+    if (!is_exact(context, msgid))
+        return found_by_key(self, context, msgid, n);
     size_t form = form_for(&self->answers, self->held, n);
     PyObject *recent = recent_answer(&self->answers, context, msgid, form);
     return recent ? recent : looked_up(self, context, msgid, n, form);
@@ -266,23 +282,23 @@ static PyObject *found(struct catalogue *self, PyObject *context, PyObject *msgi
 
 static int has_fallback(const struct catalogue *self) { return self->fallback && self->fallback != Py_None; }
 
-/* Return the fallback's answer to a call with up to 4 arguments, or `own` if there is no fallback. */
+/* How many arguments the calls of enum call have. */
+static const int counts[] = { 1, 2, 3, 4 };
+
+/* Return the fallback's answer to a call, or `own` if there is no fallback. */
 static PyObject *passed_on(const struct catalogue *self, enum call call, PyObject *const *got, PyObject *own) {
-    static const int counts[] = { 1, 2, 3, 4, 4 };
     if (PyErr_Occurred())
         return NULL;
     if (!has_fallback(self))
         return Py_NewRef(own);
-    PyObject *name = self->state->names[call], *fallback = self->fallback, *answer;
-    Py_INCREF(fallback);
-    switch (counts[call]) {
-    case 1: answer = PyObject_CallMethodObjArgs(fallback, name, got[0], NULL); break;
-    case 2: answer = PyObject_CallMethodObjArgs(fallback, name, got[0], got[1], NULL); break;
-    case 3: answer = PyObject_CallMethodObjArgs(fallback, name, got[0], got[1], got[2], NULL); break;
-    default: answer = PyObject_CallMethodObjArgs(fallback, name, got[0], got[1], got[2], got[3], NULL);
-    }
+    PyObject *fallback = Py_NewRef(self->fallback);
+    PyObject *answer = call_method(fallback, self->state->names[call], got, counts[call]);
     Py_DECREF(fallback);
     return answer;
+}
+
+static PyObject *by_dict(PyObject *object, enum call call, PyObject *const *got) {
+    return call_method(object, catalogue_of(object)->state->names[BY_DICT + call], got, counts[call]);
 }
 
 PyDoc_STRVAR(gettext_text, "gettext($self, /, message)\n--\n\n"
@@ -294,6 +310,8 @@ static PyObject *catalogue_gettext(PyObject *object, PyObject *const *args, Py_s
     PyObject *room[1], *const *got = all_of(&wanted, args, given, keywords, room);
     if (!got)
         return NULL;
+    if (catalogue_of(object)->is_by_dict)
+        return by_dict(object, GETTEXT, got);
     PyObject *answer = found(catalogue_of(object), NULL, got[0], 1);
     return answer ? answer : passed_on(catalogue_of(object), GETTEXT, got, got[0]);
 }
@@ -307,6 +325,8 @@ static PyObject *catalogue_pgettext(PyObject *object, PyObject *const *args, Py_
     PyObject *room[2], *const *got = all_of(&wanted, args, given, keywords, room);
     if (!got)
         return NULL;
+    if (catalogue_of(object)->is_by_dict)
+        return by_dict(object, PGETTEXT, got);
     PyObject *answer = found(catalogue_of(object), got[0], got[1], 1);
     return answer ? answer : passed_on(catalogue_of(object), PGETTEXT, got, got[1]);
 }
@@ -315,14 +335,15 @@ static PyObject *catalogue_pgettext(PyObject *object, PyObject *const *args, Py_
 static PyObject *counted(struct catalogue *self, enum call call, PyObject *const *got, PyObject *context) {
     PyObject *const *last = got + (context ? 1 : 0);
     unsigned long long n;
+    if (self->is_by_dict)
+        return by_dict((PyObject *)self, call, got);
     int is_plain = number_of(last[2], &n);
     if (is_plain < 0)
         return NULL;
     if (!is_plain && !self->held && has_fallback(self))
         return passed_on(self, call, got, last[1]);
-    if (!is_plain) /* negative, too large or no int: Python's rule decides */
-        return PyObject_CallMethodObjArgs((PyObject *)self, self->state->names[OTHER_NUMBER],
-                                          context ? context : Py_None, last[0], last[1], last[2], NULL);
+    if (!is_plain)
+        return other_number((PyObject *)self, self->state->names[OTHER_NUMBER], NULL, context, last);
     PyObject *answer = found(self, context, last[0], n);
     return answer ? answer : passed_on(self, call, got, n == 1 ? last[0] : last[1]);
 }
@@ -354,6 +375,10 @@ static PyObject *catalogue_npgettext(PyObject *object, PyObject *const *args, Py
 
 /* ------------------------------------------------------------------------------------------------ listing */
 
+/* A catalogue's memory is the library's. Whatever makes an object that the garbage collector tracks, such as a tuple,
+ * may run a finalizer, which may open another file in this catalogue's place. So what reads the library's memory in
+ * between has a reference of its own. */
+
 /* Return the text as a new str, or None if there is none. */
 static PyObject *text_or_none(kob_text text) {
     return text.at ? PyUnicode_DecodeUTF8(text.at, (Py_ssize_t)text.len, NULL) : Py_NewRef(Py_None);
@@ -369,27 +394,75 @@ static PyObject *forms_of(const kob_catalogue *held, size_t place, size_t count)
     return forms;
 }
 
-PyDoc_STRVAR(entry_text, "_entry($self, place, /)\n--\n\n"
-                         "Return the context, msgid, plural and forms of an entry. IndexError if there is none.");
-
-static PyObject *entry_at(PyObject *object, PyObject *place) {
-    const kob_catalogue *held = catalogue_of(object)->held;
+/* Return the parts of an entry, as a tuple. */
+static PyObject *parts_of(const kob_catalogue *held, size_t place) {
     kob_entry entry;
-    size_t number = PyLong_AsSize_t(place);
-    if (number == (size_t)-1 && PyErr_Occurred())
-        return NULL;
-    if (!held || !kob_entry_at(held, number, &entry)) {
+    if (!kob_entry_at(held, place, &entry)) {
         PyErr_SetString(PyExc_IndexError, "no such entry");
         return NULL;
     }
     PyObject *parts[] = { text_or_none(entry.context), text_or_none(entry.msgid), text_or_none(entry.plural),
-                          forms_of(held, number, entry.forms) };
+                          forms_of(held, place, entry.forms) };
     PyObject *all = NULL;
     if (parts[0] && parts[1] && parts[2] && parts[3])
         all = PyTuple_Pack(4, parts[0], parts[1], parts[2], parts[3]);
     for (int k = 0; k < 4; k++)
         Py_XDECREF(parts[k]);
     return all;
+}
+
+PyDoc_STRVAR(entry_text, "_entry($self, place, /)\n--\n\n"
+                         "Return the context, msgid, plural and forms of an entry. IndexError if there is none.");
+
+static PyObject *entry_at(PyObject *object, PyObject *place) {
+    size_t number = PyLong_AsSize_t(place);
+    if (number == (size_t)-1 && PyErr_Occurred())
+        return NULL;
+    if (!catalogue_of(object)->held) {
+        PyErr_SetString(PyExc_IndexError, "no such entry");
+        return NULL;
+    }
+    kob_catalogue *held = kob_retain(catalogue_of(object)->held);
+    PyObject *parts = parts_of(held, number);
+    kob_release(held);
+    return parts;
+}
+
+/* Compare a key of an MO file, the context before byte 4 if there is one, with the key of an entry. */
+static int compare_keys(kob_text key, const kob_entry *entry) {
+    const kob_text parts[] = { entry->context, { "\4", 1 }, entry->msgid };
+    for (int k = entry->context.at ? 0 : 2; k < 3; k++) {
+        size_t shared = key.len < parts[k].len ? key.len : parts[k].len;
+        int order = memcmp(key.at, parts[k].at, shared);
+        if (order || key.len < parts[k].len)
+            return order ? order : -1;
+        key = (kob_text){ key.at + shared, key.len - shared };
+    }
+    return key.len != 0;
+}
+
+PyDoc_STRVAR(place_text, "_place($self, key, /)\n--\n\n"
+                         "Return the number of the entry with this key of an MO file, a str, or -1.");
+
+static PyObject *place_of_key(PyObject *object, PyObject *name) {
+    kob_text key;
+    int is_text = utf8_of(name, &key);
+    if (is_text < 0)
+        return NULL;
+    const kob_catalogue *held = catalogue_of(object)->held;
+    size_t first = 0, end = is_text && held ? kob_count(held) : 0;
+    kob_entry entry;
+    while (first < end) {
+        size_t middle = first + (end - first) / 2;
+        int order = kob_entry_at(held, middle, &entry) ? compare_keys(key, &entry) : -1;
+        if (order == 0)
+            return PyLong_FromSize_t(middle);
+        if (order > 0)
+            first = middle + 1;
+        else
+            end = middle;
+    }
+    return PyLong_FromLong(-1);
 }
 
 PyDoc_STRVAR(mo_file_text, "mo_file($self, /)\n--\n\n"
@@ -401,8 +474,11 @@ static PyObject *mo_file(PyObject *object, PyObject *unused) {
         PyErr_SetString(PyExc_ValueError, "no catalogue was opened");
         return NULL;
     }
-    kob_text file = kob_mo_file(catalogue_of(object)->held);
-    return PyBytes_FromStringAndSize(file.at, (Py_ssize_t)file.len);
+    kob_catalogue *held = kob_retain(catalogue_of(object)->held);
+    kob_text file = kob_mo_file(held);
+    PyObject *bytes = PyBytes_FromStringAndSize(file.at, (Py_ssize_t)file.len);
+    kob_release(held);
+    return bytes;
 }
 
 static PyObject *count_of(PyObject *object, void *unused) {
@@ -425,6 +501,20 @@ static int set_fallback(PyObject *object, PyObject *fallback, void *unused) {
     return 0;
 }
 
+static PyObject *is_by_dict_of(PyObject *object, void *unused) {
+    (void)unused;
+    return PyBool_FromLong(catalogue_of(object)->is_by_dict);
+}
+
+static int set_is_by_dict(PyObject *object, PyObject *value, void *unused) {
+    (void)unused;
+    int is_by_dict;
+    if (truth_of(value, &is_by_dict) < 0)
+        return -1;
+    catalogue_of(object)->is_by_dict = is_by_dict;
+    return 0;
+}
+
 /* ------------------------------------------------------------------------------------------------ the type */
 
 static int catalogue_traverse(PyObject *object, visitproc visit, void *arg) {
@@ -438,13 +528,33 @@ static int catalogue_clear(PyObject *object) {
     return 0;
 }
 
+/* Give up a reference to the fallback of a catalogue that is freed. Within another call it leaves the fallback to that one,
+ * so that a long chain is freed in a loop. */
+static void release_fallback(struct chain *chain, PyObject *fallback) {
+    if (chain->releasing && !chain->left) {
+        chain->left = fallback;
+        return;
+    }
+    chain->releasing++;
+    while (fallback) {
+        Py_DECREF(fallback);
+        fallback = chain->left;
+        chain->left = NULL;
+    }
+    chain->releasing--;
+}
+
 static void catalogue_dealloc(PyObject *object) {
     PyTypeObject *type = Py_TYPE(object);
     PyObject_GC_UnTrack(object);
-    catalogue_clear(object);
+    PyObject *fallback = catalogue_of(object)->fallback;
+    struct chain *chain = fallback ? catalogue_of(object)->state->chain : NULL;
+    catalogue_of(object)->fallback = NULL;
     hold(catalogue_of(object), NULL);
     freefunc release = (freefunc)PyType_GetSlot(type, Py_tp_free);
     release(object);
+    if (fallback)
+        release_fallback(chain, fallback); /* (the type keeps the module's state) */
     Py_DECREF(type);
 }
 
@@ -458,6 +568,7 @@ static PyMethodDef catalogue_methods[] = {
     { "npgettext", FAST(catalogue_npgettext), KEYWORDS, npgettext_text },
     { "mo_file", mo_file, METH_NOARGS, mo_file_text },
     { "_entry", entry_at, METH_O, entry_text },
+    { "_place", place_of_key, METH_O, place_text },
     { "_read_mo", read_mo, METH_O, read_mo_text },
     { "_share", share, METH_NOARGS, share_text },
     { NULL, NULL, 0, NULL },
@@ -466,6 +577,7 @@ static PyMethodDef catalogue_methods[] = {
 static PyGetSetDef catalogue_properties[] = {
     { "count", count_of, NULL, "The number of entries, including the header.", NULL },
     { "_fallback", fallback_of, set_fallback, "The translations that are asked for what isn't found, or None.", NULL },
+    { "_is_by_dict", is_by_dict_of, set_is_by_dict, "Whether methods in Python answer, by a dict of the texts.", NULL },
     { NULL, NULL, NULL, NULL, NULL },
 };
 
@@ -499,9 +611,23 @@ static PyObject *imported(const char *module_name, const char *name) {
     return value;
 }
 
+PyObject *add_type(PyObject *module, const char *name, PyType_Spec *spec) {
+    PyObject *type = PyType_FromModuleAndSpec(module, spec, NULL);
+    if (type && PyModule_AddObjectRef(module, name, type) < 0)
+        Py_CLEAR(type);
+    return type;
+}
+
 static int fill(PyObject *module) {
-    static const char *const names[CALLS] = { "gettext", "pgettext", "ngettext", "npgettext", "_other_number" };
+    static const char *const names[CALLS] = { "gettext",       "pgettext",       "ngettext",
+                                              "npgettext",     "_other_number",  "_dict_gettext",
+                                              "_dict_pgettext", "_dict_ngettext", "_dict_npgettext" };
     struct state *state = PyModule_GetState(module);
+    state->chain = PyMem_Calloc(1, sizeof *state->chain);
+    if (!state->chain) {
+        PyErr_NoMemory();
+        return -1;
+    }
     for (int k = 0; k < CALLS; k++) {
         state->names[k] = PyUnicode_InternFromString(names[k]);
         if (!state->names[k])
@@ -510,10 +636,9 @@ static int fill(PyObject *module) {
     state->refused = imported("kobdzila._refused", "Refused");
     if (!state->refused)
         return -1;
-    state->catalogue = PyType_FromModuleAndSpec(module, &catalogue_spec, NULL);
-    if (!state->catalogue || PyModule_AddObjectRef(module, "Catalogue", state->catalogue) < 0)
-        return -1;
-    if (add_store_types(module, state) < 0)
+    state->catalogue = add_type(module, "Catalogue", &catalogue_spec);
+    if (!state->catalogue || add_store_type(module, state) < 0 || add_snapshot_type(module, state) < 0 ||
+        add_lazy_type(module) < 0)
         return -1;
     return PyModule_AddStringConstant(module, "version", kob_version());
 }
@@ -522,6 +647,7 @@ static int module_traverse(PyObject *module, visitproc visit, void *arg) {
     struct state *state = PyModule_GetState(module);
     Py_VISIT(state->catalogue);
     Py_VISIT(state->store);
+    Py_VISIT(state->snapshot);
     Py_VISIT(state->refused);
     for (int k = 0; k < CALLS; k++)
         Py_VISIT(state->names[k]);
@@ -532,13 +658,18 @@ static int module_clear(PyObject *module) {
     struct state *state = PyModule_GetState(module);
     Py_CLEAR(state->catalogue);
     Py_CLEAR(state->store);
+    Py_CLEAR(state->snapshot);
     Py_CLEAR(state->refused);
     for (int k = 0; k < CALLS; k++)
         Py_CLEAR(state->names[k]);
     return 0;
 }
 
-static void module_free(void *module) { module_clear(module); }
+static void module_free(void *module) {
+    struct state *state = PyModule_GetState(module);
+    module_clear(module);
+    PyMem_Free(state->chain);
+}
 
 /* From Python 3.12 on a module says that an interpreter with a lock of its own may load it. Earlier ones refuse a slot
  * that they don't know. */

@@ -5,12 +5,29 @@
 #include <string.h>
 
 /* Return the slot of this answer: its own, or the free one where it belongs. */
-static struct answer *slot_of(struct answer *slots, unsigned bits, uint32_t first, uint32_t form) {
+static struct answer *slot_of(struct answer *slots, unsigned bits, uint64_t key) {
     size_t mask = ((size_t)1 << bits) - 1;
-    size_t place = (size_t)(mixed((uint64_t)form << 32 | first) >> (64 - bits));
-    while (slots[place].text && (slots[place].first != first || slots[place].form != form))
+    size_t place = (size_t)(mixed(key) >> (64 - bits));
+    while (slots[place].text && slots[place].key != key)
         place = (place + 1) & mask;
     return &slots[place];
+}
+
+/* Return whether a key was asked for before, or another one of its kind, and note that it was. */
+static int was_asked(struct answers *answers, uint64_t key) {
+    if (!answers->asked) {
+        answers->asked_bits = 6;
+        while ((size_t)1 << answers->asked_bits < 4 * answers->entries)
+            answers->asked_bits++;
+        answers->asked = PyMem_Calloc((size_t)1 << (answers->asked_bits - 3), 1);
+        if (!answers->asked)
+            return 0;
+    }
+    size_t kind = (size_t)(mixed(key) >> (64 - answers->asked_bits));
+    unsigned char bit = (unsigned char)(1 << (kind & 7)), *bits = &answers->asked[kind >> 3];
+    int is_set = (*bits & bit) != 0;
+    *bits |= bit;
+    return is_set;
 }
 
 /* Forget the texts, whose references may be the last ones. */
@@ -39,25 +56,22 @@ static int grow(struct answers *answers) {
         return -1;
     for (size_t k = 0; k < count; k++)
         if (answers->slots[k].text)
-            *slot_of(more, bits, answers->slots[k].first, answers->slots[k].form) = answers->slots[k];
+            *slot_of(more, bits, answers->slots[k].key) = answers->slots[k];
     PyMem_Free(answers->slots);
     answers->slots = more;
     answers->bits = bits;
     return 0;
 }
 
-PyObject *known_answer(const struct answers *answers, size_t first, size_t form) {
-    if (!answers->slots)
-        return NULL;
-    return Py_XNewRef(slot_of(answers->slots, answers->bits, (uint32_t)first, (uint32_t)form)->text);
+PyObject *known_answer(const struct answers *answers, uint64_t key) {
+    return answers->slots ? Py_XNewRef(slot_of(answers->slots, answers->bits, key)->text) : NULL;
 }
 
-PyObject *new_answer(struct answers *answers, size_t first, size_t form, kob_text text) {
+PyObject *new_answer(struct answers *answers, uint64_t key, kob_text text) {
     PyObject *string = PyUnicode_FromStringAndSize(text.at, (Py_ssize_t)text.len);
-    if (!string || grow(answers) < 0)
+    if (!string || !was_asked(answers, key) || grow(answers) < 0)
         return string;
-    struct answer answer = { (uint32_t)first, (uint32_t)form, Py_NewRef(string) };
-    *slot_of(answers->slots, answers->bits, answer.first, answer.form) = answer;
+    *slot_of(answers->slots, answers->bits, key) = (struct answer){ key, Py_NewRef(string) };
     answers->used++;
     return string;
 }
@@ -123,7 +137,9 @@ void forget(struct answers *answers) {
     for (size_t k = 0; answers->recents && k < room_of(answers->recent_bits); k++)
         drop(&answers->recents[k]);
     PyMem_Free(answers->recents);
+    PyMem_Free(answers->asked);
     answers->recents = NULL;
+    answers->asked = NULL;
     answers->lacked = 0;
     answers->rule.state = NOT_LOOKED_AT;
 }

@@ -10,18 +10,20 @@
 
 #include <kobdzila.h>
 
-/* Texts as str, in a hash table with linear probing, of which at most three quarters are used. The keys are the place
- * of an entry's first form in the MO file and the number of the form that was answered. When the table has
- * MOST_ANSWERS, it takes no more texts until it was asked for others twice as often as the catalogue has entries; then
- * it begins anew. So a program that goes through all messages again and again finds the same ones in it each time. */
+/* Texts as str, in a hash table with linear probing, of which at most three quarters are used. A key is a number that no
+ * other text of these answers has. A text is kept when it is asked for a second time, so messages that are asked for
+ * once aren't kept. When the table has MOST_ANSWERS, it takes no more texts until it was asked for others twice as
+ * often as there are entries; then it begins anew. So a program that goes through all messages again and again finds
+ * the same ones in it each time. */
 enum { LEAST_BITS = 5, MOST_ANSWERS = 4096 };
 
 struct answer {
-    uint32_t first, form;
+    uint64_t key;
     PyObject *text; /* NULL: a free slot */
 };
 
-/* An answer by the str objects of the call, which are often the constants of a program. It is in one of the NEAR slots
+/* An answer by the str objects of the call, which are often the constants of a program: a text, or None if it is known
+ * that there is none. It is in one of the NEAR slots
  * that begin at the place of these objects; if they are all used, a new answer displaces one of them. The table grows
  * when known texts were often asked for by objects that it doesn't have, so not when each message is asked for once. It
  * has at most 2 slots for each entry of the catalogue. */
@@ -29,7 +31,7 @@ enum { LEAST_RECENT_BITS = 6, NEAR = 8 };
 
 struct recent {
     PyObject *msgid, *context; /* exact str objects; the context may be NULL. No msgid: a free slot */
-    size_t form;
+    size_t form; /* the number of the form, or the number that chooses one */
     PyObject *text;
 };
 
@@ -44,22 +46,22 @@ struct rule {
 };
 
 struct answers {
-    size_t entries;       /* of the catalogue */
+    size_t entries;       /* of the catalogue, or the most that may be asked for */
+    unsigned char *asked; /* NULL, or a bit for each of 1 << asked_bits kinds of keys: it was asked for once */
     struct answer *slots; /* NULL, or 1 << bits of them */
     size_t used, missed; /* `missed` counts while the table takes no more */
-    unsigned bits, recent_bits;
+    unsigned asked_bits, bits, recent_bits;
     struct recent *recents; /* NULL, or room_of(recent_bits) of them */
     size_t lacked;          /* how often a known text wasn't among them since they grew */
     unsigned turn;          /* decides which of NEAR slots is displaced if all are used */
     struct rule rule;
 };
 
-/* Return a text that was answered before, as a new reference, or NULL. `first` is the place of its entry's first form
- * in the MO file. */
-PyObject *known_answer(const struct answers *answers, size_t first, size_t form);
+/* Return a text that was kept, as a new reference, or NULL. */
+PyObject *known_answer(const struct answers *answers, uint64_t key);
 
-/* Return a text as str, a new reference, and keep it. NULL: an exception. */
-PyObject *new_answer(struct answers *answers, size_t first, size_t form, kob_text text);
+/* Return a text as str, a new reference, and keep it if it was asked for before. NULL: an exception. */
+PyObject *new_answer(struct answers *answers, uint64_t key, kob_text text);
 
 /* Keep an answer by the objects of the call. `was_known` says whether known_answer returned its text. */
 void keep_recent(struct answers *answers, const struct recent *answer, int was_known);

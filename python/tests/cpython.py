@@ -1,6 +1,6 @@
-"""Runs CPython's own tests of the module gettext over kobdzila. Run by tests/python.sh.
+"""Runs CPython's own tests of the module gettext over kobdzila. Run by tests/python/python.sh.
 
-What differs is listed here with its reason, which docs/guide/python.md gives, too. A test of this list that passes, and
+What differs is listed here with its reason, which docs/guide/python-gettext.md gives, too. A test of this list that passes, and
 one outside of it that fails, is a failure. The last line is `N tests, M differ as listed`.
 """
 import gettext
@@ -19,10 +19,8 @@ DIFFERENT = {
     "MiscTestCase.test__all__": "kobdzila has more names than gettext",
     "LGettextTestCase.test_lgettext": OLD,
     "LGettextTestCase.test_lgettext_bind_textdomain_codeset": OLD,
-    "LGettextTestCase.test_lgettext_output_encoding": OLD,
     "LGettextTestCase.test_lngettext": OLD,
     "LGettextTestCase.test_lngettext_bind_textdomain_codeset": OLD,
-    "LGettextTestCase.test_lngettext_output_encoding": OLD,
     "GettextCacheTestCase.test_cache" if sys.version_info < (3, 11) else "": OLD,
 }
 

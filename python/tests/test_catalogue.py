@@ -7,6 +7,7 @@ import gettext
 import importlib
 import os
 import pickle
+import random
 import resource
 import sys
 import tempfile
@@ -17,7 +18,7 @@ from pathlib import Path
 
 import kobdzila
 from common import OPENS, SANITIZED, assert_no_leak, failures_of, in_threads, needs_freed_memory, needs_testcapi
-from kobdzila import Catalogue, Fault, GNUTranslations, Refused
+from kobdzila import Catalogue, Fault, GNUTranslations, Refused, _kobdzila
 from texts import ARABIC, FRENCH, HEADER, french, mo
 
 # PO texts and the refusal of each: its kind and line
@@ -30,7 +31,7 @@ REFUSED_TEXTS = [
     (b'msgstr "x"', Fault.PO_BAD_ORDER, 1),
     (b'msgid "a"\nmsgid_plural "b"\nmsgstr[1] "x"', Fault.PO_BAD_INDEX, 3),
     (b'msgid "a"\nmsgstr "x"\nmsgid "a"\nmsgstr "y"', Fault.PO_DUPLICATE, 3),
-    (b'msgid ""\nmsgstr "charset=KOI8-R"', Fault.PO_CHARSET, 1),
+    (b'msgid ""\nmsgstr "charset=EUC-JP"', Fault.PO_CHARSET, 1),
     (b'#, c-format\nmsgid "%<PRIu64>"\nmsgstr "x"', Fault.PO_SYSTEM_DEPENDENT, 2),
 ]
 CHECKED_TEXTS = [
@@ -50,9 +51,18 @@ REFUSED_FILES = [
     (WHOLE[:-1] + b"x", Fault.MO_NO_NUL),
     (mo((b"a", b"\xff")), Fault.MO_BAD_TEXT),
     (mo((b"a", b"x\0y")), Fault.MO_FORMS),
-    (mo((b"b", b"x"), (b"a", b"y")), Fault.MO_ORDER),
     (mo((b"", b"charset=KOI8-R")), Fault.MO_CHARSET),
 ]
+
+FORMS = 25
+
+
+def forms_file(text: str) -> bytes:
+    """An MO file of 20 messages with FORMS forms, each of which begins with the text."""
+    header = f'msgid ""\nmsgstr "Plural-Forms: nplurals={FORMS}; plural=n%{FORMS};\\n"\n'
+    forms = "".join(f'msgstr[{form}] "{text} {form}"\n' for form in range(FORMS))
+    entries = "".join(f'\nmsgid "m{number}"\nmsgid_plural "p"\n{forms}' for number in range(20))
+    return Catalogue.from_po((header + entries).encode()).mo_file()
 
 
 class OpeningTest(unittest.TestCase):
@@ -394,6 +404,27 @@ class ObjectTest(unittest.TestCase):
             it._read_mo(b"")
         self.assertEqual(it.gettext("basket"), "Korb")
 
+    def test_reopened_while_it_is_listed(self) -> None:
+        """A finalizer opens another file while an entry is read: the entry is of one of the two files, and is whole."""
+        files = [forms_file(name) for name in ("fff", "a longer text")]
+        it, opened, numbers = GNUTranslations(files[0]), 0, random.Random(4)
+
+        class Opens:
+            def __del__(self) -> None:
+                nonlocal opened
+                opened += 1
+                it.__init__(files[opened % 2])
+
+        whole = {tuple(f"{name} {form}" for form in range(FORMS)) for name in ("fff", "a longer text")}
+        self.addCleanup(gc.set_threshold, *gc.get_threshold())
+        for number in range(5_000):
+            cycle = Opens()
+            cycle.me = cycle
+            del cycle
+            gc.set_threshold(numbers.randrange(1, 12))
+            self.assertIn(it._entry(1 + number % 20)[3], whole)
+        self.assertGreater(opened, 100)
+
     def test_references(self) -> None:
         """Objects and calls keep no references to their types and arguments."""
         message, plural = "".join(("no", "ne")), "".join(("no", "nes"))
@@ -459,6 +490,23 @@ class ObjectTest(unittest.TestCase):
                     pass
 
         assert_no_leak(self, round_of, OPENS)
+
+
+class ChainTest(unittest.TestCase):
+    def test_long_chain_of_fallbacks(self) -> None:
+        """Freeing one takes no stack for each of its catalogues: it overflowed at some 100,000."""
+        child = os.fork()  # (it keeps much memory, and may crash)
+        if child == 0:
+            mo, last = kobdzila.compile_po(b'msgid "a"\nmsgstr "b"\n'), None
+            for _ in range(300_000):
+                catalogue = _kobdzila.Catalogue.from_mo(mo)
+                if last is not None:
+                    catalogue._fallback = last
+                last = catalogue
+            del catalogue
+            last = None
+            os._exit(0)
+        self.assertEqual(os.waitstatus_to_exitcode(os.waitpid(child, 0)[1]), 0)
 
 
 if __name__ == "__main__":

@@ -17,7 +17,9 @@ import warnings
 import kobdzila
 from common import OPENS, SANITIZED, assert_no_leak, failures_of, in_threads, needs_freed_memory, needs_testcapi
 from kobdzila import Catalogue, Fault, Refused, Store
-from kobdzila._languages import accepted, locales_of, names_of
+from kobdzila import accepted
+from kobdzila._languages import answer_of, names_of
+from kobdzila._negotiation import Site
 from test_catalogue import CHECKED_TEXTS, REFUSED_FILES, REFUSED_TEXTS
 from texts import ARABIC, FRENCH, french
 
@@ -248,10 +250,9 @@ class SnapshotTest(unittest.TestCase):
         self.assertGreater(store.retained, 100)
         for texts in many:
             texts.close()
-        for _ in range(2):
-            store.load("shop", "fr", text_of(a="a199"))
-            store.publish()
-        self.assertLess(store.retained, 5)
+        store.load("shop", "fr", text_of(a="a199"))
+        store.publish()
+        self.assertEqual(store.retained, 1)  # (the one that was just replaced)
         kept = store.snapshot("fr")
         for _ in range(3):
             store.load("shop", "fr", text_of(a="last"))
@@ -313,7 +314,7 @@ class SnapshotTest(unittest.TestCase):
             texts.close()
             return said == ("panier", "%d fichiers supprimés", None) and (other._publish(), other.pending) == (1, 0)
 
-        self.assertGreater(failures_of(self, is_well, 100), 5)
+        self.assertGreater(failures_of(self, is_well, 100), 2)
 
     @needs_freed_memory
     def test_leaks(self) -> None:
@@ -353,7 +354,7 @@ class LanguagesTest(unittest.TestCase):
             ("fr;q=2, de;q=nan, it;q=-1, sv;q=1.5, da;q=0.1234, x y, é, no;level=1, fi;", []),
             (",,fr,", ["fr"]),
             ("", []),
-            (",".join(f"a{it}" for it in "abcdefghijklmnopqrs"), [f"a{it}" for it in "abcdefghijklmnop"]),
+            (",".join(f"a{it}" for it in "abcdefghijklmnopqrstuv"), [f"a{it}" for it in "abcdefghijklmnopqrst"]),
         ):
             self.assertEqual(accepted(header), tags, header)
 
@@ -375,28 +376,44 @@ class LanguagesTest(unittest.TestCase):
             self.assertEqual(names_of(tag), names.split(), tag)
 
     def test_lists(self) -> None:
+        """A list is taken as LANGUAGE is: each message is looked up in all of it."""
         for languages, locales in (
             ("fr_CA:de", "fr_CA:fr:de"),
             (["fr_CA", "de", "fr"], "fr_CA:fr:de"),
             (iter(["pt-BR"]), "pt-BR:pt_BR:pt"),
             (":sv::C:de", "sv:C:de"),
-            ("de, en-US;q=0.9, en;q=0.8, fr;q=0.5", "de:en-US:en_US:en"),
-            ("en:fr", "en:fr"),  # (a list is taken as LANGUAGE is)
-            ("", ""),
+            ("en:fr", "en:fr"),
             ([], ""),
         ):
-            self.assertEqual(locales_of(languages), locales)
-        self.assertEqual(locales_of("en, fr;q=0.5", None), "en:fr")
-        self.assertEqual(locales_of("de, en, fr;q=0.5", "de"), "de")
+            self.assertEqual(answer_of(languages).locales, locales)
+
+    def test_one(self) -> None:
+        """A header, or the name of a language, has one language of those that the site has."""
+        site = Site(["de", "fr", "fr_CA", "pt_BR", "x_own"], "en")
+        for languages, locales in (
+            ("de, en-US;q=0.9, fr;q=0.5", "de"),
+            ("en-US, fr;q=0.5", "en"),
+            ("fr-CA, de", "fr_CA:fr"),
+            ("fr_CA.UTF-8", "fr_CA:fr"),
+            ("PT-br", "pt_BR:pt"),
+            ("x_own", "x_own:x_OWN:x"),
+            ("sv, it;q=0.5", "en"),
+            ("sv_SE", "sv_SE:sv"),  # (another text domain may have it)
+            ("", "en"),
+        ):
+            self.assertEqual(answer_of(languages, site, None, "en").locales, locales)
+        self.assertEqual(answer_of("sv_SE", site, "pt_BR", "en"), ("pt_BR:pt", "pt-BR"))
+        self.assertEqual(answer_of("", site, "de", "en"), ("de", "de"))
+        self.assertEqual(answer_of("sv, it;q=0.5", Site(["de"])), ("", None))
 
     def test_environment(self) -> None:
         before = {name: os.environ.pop(name, None) for name in ("LANGUAGE", "LC_ALL", "LC_MESSAGES", "LANG")}
         try:
-            self.assertEqual(locales_of(None), "")
+            self.assertEqual(answer_of(None).locales, "")
             for name, value, locales in (("LANG", "de_DE.UTF-8", "de_DE.UTF-8:de_DE:de"), ("LC_ALL", "C", "C"),
                                          ("LANGUAGE", "fr:de", "fr:de")):
                 os.environ[name] = value
-                self.assertEqual(locales_of(None), locales)
+                self.assertEqual(answer_of(None).locales, locales)
             self.assertEqual(store_with(("shop", "fr", FRENCH.encode())).snapshot().gettext("basket"), "panier")
         finally:
             for name, value in before.items():

@@ -168,6 +168,50 @@ class WatchTest(unittest.TestCase):
         os.utime(self.path("de"))
         self.until(lambda: self.text("de") == "old")
 
+    def test_removed_beside_the_other(self) -> None:
+        """When the file that is shown is removed, the one in the other format is shown."""
+        self.put(self.path("fr", "shop.mo"), mo("mo"))
+        self.put(self.path("fr"), po("po"))
+        os.utime(self.path("fr", "shop.mo"), (1, 1))
+        watch = self.watch(every=30)
+        self.assertEqual(self.text(), "po")
+        self.path("fr").unlink()
+        self.assertEqual((watch.look(), self.text()), (3, "mo"))
+        self.assertIsNone(watch.look())
+        self.put(self.path("fr"), po("po"))
+        self.assertEqual((watch.look(), self.text()), (4, "po"))
+        self.path("fr", "shop.mo").unlink()
+        self.assertIsNone(watch.look())
+        self.path("fr").unlink()
+        self.assertIsNone(watch.look())
+        self.assertEqual((self.text(), self.refused), ("po", []))
+
+    def test_empty(self) -> None:
+        """A file without a message replaces none that has messages, unless that is wanted."""
+        header = b'msgid ""\nmsgstr "Language: fr\\n"\n'
+        self.put(self.path("fr"), po("f1"))
+        self.put(self.path("de"), header)
+        watch = self.watch(every=30)
+        self.assertEqual(self.store.version, 2)
+        for number, data in enumerate((b"", header, header + b'\nmsgid "a"\nmsgstr ""\n', b"# nothing\n"), 1):
+            self.put(self.path("fr"), data)
+            self.put(self.path("de"), data + b"# %d\n" % number)
+            self.assertEqual((watch.look(), self.text()), (2 + number, "f1"))
+            self.assertIsNone(watch.look())
+            self.assertEqual(len(self.refused), number)
+        self.assertEqual((self.refused[0].path, self.refused[0].kind), (self.path("fr"), None))
+        self.assertIn("no messages", str(self.refused[0]))
+        self.put(self.path("fr", "shop.mo"), Catalogue.from_po(header).mo_file())
+        self.assertEqual((watch.look(), self.text(), len(self.refused)), (None, "f1", 5))
+        self.put(self.path("fr"), po("f2"))
+        watch.look()
+        self.assertEqual(self.text(), "f2")
+        watch.stop()
+        allowing = self.watch(every=30, allow_empty=True)
+        self.put(self.path("fr"), b"")
+        allowing.look()
+        self.assertEqual(self.text(), "a")
+
     def test_nothing_new(self) -> None:
         """A file that has other times and the bytes it had isn't loaded; one that is gone stays loaded."""
         self.put(self.path("fr"), po("f"))

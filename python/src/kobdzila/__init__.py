@@ -13,8 +13,14 @@
 >>> french.ngettext("%d file", "%d files", 2) % 2
 '2 fichiers'
 """
-from gettext import NullTranslations, find
+from __future__ import annotations
 
+import gettext as _standard
+import sys as _sys
+from gettext import NullTranslations, find
+from types import ModuleType as _ModuleType
+
+from . import _gettext
 from ._catalogue import Catalogue, Entry, GNUTranslations
 from ._gettext import (
     Catalog,
@@ -33,15 +39,33 @@ from ._gettext import (
 )
 from ._kobdzila import version as __version__
 from ._refused import Fault, Refused
-from ._session import Answer, LoadRefused, Refusal, Session, SessionEnded
-from ._store import Snapshot, Store
-from ._watch import FileRefused, Watch
-from ._web import ASGIMiddleware, LazyTranslations, WSGIMiddleware
+
+TYPE_CHECKING = False
+if TYPE_CHECKING:
+    from typing import Any
+
+    from ._compile import compile_po
+    from ._lazy import (
+        LazyText,
+        LazyTranslations,
+        current_snapshot,
+        lazy_gettext,
+        lazy_ngettext,
+        lazy_npgettext,
+        lazy_pgettext,
+        using,
+    )
+    from ._negotiation import AcceptLanguage, accepted, direction, language_tag, negotiate
+    from ._session import Answer, LoadRefused, Refusal, Session, SessionEnded
+    from ._store import Snapshot, Store
+    from ._watch import FileRefused, Watch
+    from ._web import ASGIMiddleware, WSGIMiddleware
 
 Translations = GNUTranslations
 
 __all__ = [
     "ASGIMiddleware",
+    "AcceptLanguage",
     "Answer",
     "Catalog",
     "Catalogue",
@@ -49,6 +73,7 @@ __all__ = [
     "Fault",
     "FileRefused",
     "GNUTranslations",
+    "LazyText",
     "LazyTranslations",
     "LoadRefused",
     "NullTranslations",
@@ -61,17 +86,75 @@ __all__ = [
     "Translations",
     "WSGIMiddleware",
     "Watch",
+    "accepted",
     "bindtextdomain",
+    "compile_po",
+    "current_snapshot",
     "dgettext",
+    "direction",
     "dngettext",
     "dnpgettext",
     "dpgettext",
     "find",
     "gettext",
     "install",
+    "language_tag",
+    "lazy_gettext",
+    "lazy_ngettext",
+    "lazy_npgettext",
+    "lazy_pgettext",
+    "negotiate",
     "ngettext",
     "npgettext",
     "pgettext",
     "textdomain",
     "translation",
+    "using",
 ]
+
+# the modules that are imported when one of their names is used, so that `import kobdzila` is short
+_LATER = {
+    "_compile": ("compile_po",),
+    "_lazy": ("LazyText", "LazyTranslations", "current_snapshot", "lazy_gettext", "lazy_ngettext", "lazy_npgettext",
+              "lazy_pgettext", "using"),
+    "_negotiation": ("AcceptLanguage", "accepted", "direction", "language_tag", "negotiate"),
+    "_session": ("Answer", "LoadRefused", "Refusal", "Session", "SessionEnded"),
+    "_store": ("Snapshot", "Store"),
+    "_watch": ("FileRefused", "Watch"),
+    "_web": ("ASGIMiddleware", "WSGIMiddleware"),
+}
+_MODULES = {name: module for module, names in _LATER.items() for name in names}
+_STATE = ("_localedirs", "_current_domain")  # what the standard module has, and programs set
+
+
+def __getattr__(name: str) -> Any:
+    """Return a name of a module that is imported later, or a private name of the standard module gettext."""
+    if name in _MODULES:
+        from importlib import import_module
+
+        value = globals()[name] = getattr(import_module(f"{__name__}.{_MODULES[name]}"), name)
+        return value
+    if name == "_translations":
+        return _gettext._translations
+    if name == "c2py" or name.startswith("_") and not name.startswith("__"):
+        return getattr(_standard, name)
+    raise AttributeError(f"module {__name__!r} has no attribute {name!r}")
+
+
+def __dir__() -> list[str]:
+    return sorted({*globals(), *_MODULES})
+
+
+class _Module(_ModuleType):
+    """The package in place of the module gettext, whose private names some programs set."""
+
+    def __setattr__(self, name: str, value: Any) -> None:
+        if name in _STATE:
+            setattr(_standard, name, value)
+        elif name in ("_translations", "find"):
+            setattr(_gettext, name, value)
+        if name not in (*_STATE, "_translations"):
+            super().__setattr__(name, value)
+
+
+_sys.modules[__name__].__class__ = _Module

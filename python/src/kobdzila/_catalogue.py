@@ -1,37 +1,52 @@
 """Catalogues: the type of the extension module with what needs no speed, and the class of the standard gettext."""
 from __future__ import annotations
 
-import copy
 import gettext as python_gettext
 import io
 import os
 import sys
-import warnings
-from collections.abc import Callable, Iterator
-from functools import cached_property
-from typing import TYPE_CHECKING, Any, NamedTuple
+from collections import namedtuple
+from collections.abc import ItemsView, MutableMapping
+from functools import cached_property, lru_cache
 
 from . import _kobdzila
 from ._refused import Fault, Refused
 
+TYPE_CHECKING = False  # (the module typing takes longer to import than all of this one)
 if TYPE_CHECKING:
+    from collections.abc import Callable, Iterator
+    from typing import Any, NamedTuple
+
     from typing_extensions import Self
 
-# Whole files that Python's reader may read: unknown revisions (strings that depend on the system), other charsets, keys
-# out of order, several plurals.
-READ_BY_PYTHON = {Fault.MO_REVISION, Fault.MO_BAD_TEXT, Fault.MO_FORMS, Fault.MO_ORDER, Fault.MO_CHARSET}
+    AnyMapping = MutableMapping[Any, Any]
+    AnyItems = ItemsView[Any, Any]
+
+    class EntryFields(NamedTuple):
+        context: str | None
+        msgid: str
+        plural: str | None
+        forms: tuple[str, ...]
+else:
+    AnyMapping = MutableMapping
+    AnyItems = ItemsView
+    EntryFields = namedtuple("EntryFields", "context msgid plural forms")
+
+# Whole files that Python's reader may read: unknown revisions (strings that depend on the system), other charsets,
+# several plurals.
+READ_BY_PYTHON = {Fault.MO_REVISION, Fault.MO_BAD_TEXT, Fault.MO_FORMS, Fault.MO_CHARSET}
+GERMANIC = "n != 1"  # the plural rule of a header without one
 OWN_FRAMES = ("kobdzila", "gettext")  # a warning names the caller outside of them
 PRIVATE: Any = python_gettext  # what the module has besides its documented names
 TEXTS_OF_PYTHON = {Fault.MO_MAGIC: "Bad magic number", Fault.MO_BOUNDS: "File is corrupt"}
 
 
-class Entry(NamedTuple):
-    """An entry of a catalogue. `context` and `plural` are None if it has none."""
+class Entry(EntryFields):
+    """An entry of a catalogue: `context`, `msgid`, `plural` and `forms`, a tuple of str. The first and the third are
+    None if it has none.
+    """
 
-    context: str | None
-    msgid: str
-    plural: str | None
-    forms: tuple[str, ...]
+    __slots__ = ()
 
 
 class Catalogue(_kobdzila.Catalogue):
@@ -63,15 +78,8 @@ class Catalogue(_kobdzila.Catalogue):
         >>> Catalogue.from_po(b'msgid "hi"\\nmsgstr "salut"\\n').forms("hi")
         ('salut',)
         """
-        key = msgid if context is None else f"{context}\x04{msgid}"
-        first, end = 0, self.count
-        while first < end:
-            middle = (first + end) // 2
-            found = self._key_at(middle)
-            if found == key:
-                return self._entry(middle)[3]
-            first, end = (middle + 1, end) if found < key else (first, middle)
-        return ()
+        place = self._place(msgid if context is None else f"{context}\x04{msgid}")
+        return self._entry(place)[3] if place >= 0 else ()
 
     def info(self) -> dict[str, str]:
         """Return the fields of the header, by their names in lower case."""
@@ -84,6 +92,14 @@ class Catalogue(_kobdzila.Catalogue):
     def __copy__(self) -> Self:
         other = self._share()
         other.__dict__.update(self.__dict__)
+        return other
+
+    def __deepcopy__(self, memo: dict[int, Any]) -> Self:
+        import copy
+
+        other = memo[id(self)] = self._share()  # (the catalogue itself never changes)
+        other.__dict__.update(copy.deepcopy(self.__dict__, memo))
+        other._fallback = copy.deepcopy(self._fallback, memo)
         return other
 
     @cached_property
@@ -104,13 +120,12 @@ class Catalogue(_kobdzila.Catalogue):
         _, found, charset = first_line(self._info.get("content-type", "")).partition("charset=")
         return charset if found else None
 
-    def _key_at(self, place: int) -> str:
-        context, msgid, _, _ = self._entry(place)
-        return msgid if context is None else f"{context}\x04{msgid}"
+    def _other_number(self, context: str | None, key: str | None, msgid1: str, msgid2: str, n: Any) -> str:
+        """Answer ngettext and npgettext for an `n` that isn't an int from 0 to 2**64 - 1, as the standard one does.
 
-    def _other_number(self, context: str | None, msgid1: str, msgid2: str, n: Any) -> str:
-        """Answer ngettext and npgettext for an `n` that isn't an int from 0 to 2**64 - 1, as the standard one does."""
-        forms = self.forms(msgid1, context)
+        `key` is the text of msgid1, or None if no text is equal to it.
+        """
+        forms = () if key is None else self.forms(key, context)
         if not forms and self._fallback is not None:
             words = (msgid1, msgid2, n) if context is None else (context, msgid1, msgid2, n)
             answer: str = getattr(self._fallback, "ngettext" if context is None else "npgettext")(*words)
@@ -121,18 +136,97 @@ class Catalogue(_kobdzila.Catalogue):
         return msgid1 if n == 1 else msgid2
 
 
-class GNUTranslations(Catalogue, python_gettext.NullTranslations):
-    """The catalogue of an MO file, with the interface of gettext.GNUTranslations.
+class Texts(AnyMapping):
+    """The texts of a catalogue as the standard class has them in its attribute `_catalog`: by message, or by message
+    and number of the form if the message has a plural. A context and byte 4 come before its message.
+
+    They are made when they are read. A change puts them into a dict, in which the catalogue then looks up.
+    """
+
+    __slots__ = ("_owner", "_dict")
+
+    def __init__(self, owner: GNUTranslations) -> None:
+        self._owner, self._dict = owner, None  # type: tuple[GNUTranslations, dict[Any, Any] | None]
+
+    def copy(self) -> dict[Any, Any]:
+        """Return them as a dict."""
+        return dict(self.items()) if self._dict is None else self._dict.copy()
+
+    def __getitem__(self, key: Any) -> Any:
+        if self._dict is not None:
+            return self._dict[key]
+        message, number = key if isinstance(key, tuple) and len(key) == 2 else (key, None)
+        place = self._owner._place(message)
+        if place >= 0:
+            _, _, plural, forms = self._owner._entry(place)
+            if plural is None and number is None:
+                return forms[0]
+            if plural is not None and isinstance(number, int) and 0 <= number < len(forms):
+                return forms[number]
+        raise KeyError(key)
+
+    def __setitem__(self, key: Any, text: Any) -> None:
+        self._changed()[key] = text
+
+    def __delitem__(self, key: Any) -> None:
+        del self._changed()[key]
+
+    def __iter__(self) -> Iterator[Any]:
+        return iter(self._dict) if self._dict is not None else (key for key, _ in self._pairs())
+
+    def __len__(self) -> int:
+        return len(self._dict) if self._dict is not None else sum(1 for _ in self._pairs())
+
+    def __bool__(self) -> bool:
+        return bool(self._dict) if self._dict is not None else self._owner.count > 0
+
+    def items(self) -> Any:
+        return self._dict.items() if self._dict is not None else ItemsOfTexts(self)
+
+    def _pairs(self) -> Iterator[tuple[Any, Any]]:
+        for context, msgid, plural, forms in self._owner.entries():
+            key = msgid if context is None else f"{context}\x04{msgid}"
+            if plural is None:
+                yield key, forms[0]
+            else:
+                yield from (((key, number), form) for number, form in enumerate(forms))
+
+    def _changed(self) -> dict[Any, Any]:
+        if self._dict is None:
+            self._dict = self.copy()
+            self._owner._catalog = self._dict
+        return self._dict
+
+
+class ItemsOfTexts(AnyItems):
+    """The items, which are read one after another."""
+
+    _mapping: Texts
+
+    def __iter__(self) -> Iterator[tuple[Any, Any]]:
+        return self._mapping._pairs()
+
+
+class GNUTranslations(Catalogue, python_gettext.GNUTranslations):
+    """The catalogue of an MO file, with the interface of gettext.GNUTranslations, of which it is a subclass.
 
     `fp` is a file that is open for reading bytes, the path of a file, or the bytes themselves. A file that isn't whole
     is an OSError, with the reason. Files that only Python reads (in another charset than UTF-8, or with strings that
-    depend on the system) are read by gettext.GNUTranslations, which then answers.
+    depend on the system) are read by gettext.GNUTranslations, whose texts then answer.
 
     >>> import kobdzila
     >>> file = kobdzila.Catalogue.from_po(b'msgid "basket"\\nmsgstr "panier"\\n').mo_file()
     >>> kobdzila.GNUTranslations(file).gettext("basket")
     'panier'
     """
+
+    _output_charset = None  # (which lgettext of Python 3.10 reads)
+
+    # what answers once somebody has set or changed `_catalog`
+    _dict_gettext = python_gettext.GNUTranslations.gettext
+    _dict_pgettext = python_gettext.GNUTranslations.pgettext
+    _dict_ngettext = python_gettext.GNUTranslations.ngettext
+    _dict_npgettext = python_gettext.GNUTranslations.npgettext
 
     def __init__(self, fp: Any = None) -> None:
         if fp is None:
@@ -143,8 +237,20 @@ class GNUTranslations(Catalogue, python_gettext.NullTranslations):
         else:
             self._parse(io.BytesIO(fp) if isinstance(fp, (bytes, bytearray, memoryview)) else fp)
 
+    @property
+    def _catalog(self) -> Any:
+        """The texts, as the standard class keeps them: a mapping, for programs that read or change this attribute."""
+        return self.__dict__["_texts"] if self._is_by_dict else Texts(self)
+
+    @_catalog.setter
+    def _catalog(self, texts: Any) -> None:
+        self.__dict__["_texts"] = texts
+        self._is_by_dict = True
+
     def _parse(self, fp: Any) -> None:
         data, name = fp.read(), getattr(fp, "name", "")
+        for known in ("_texts", "_info", "_charset", "plural"):  # (of a file that was opened before)
+            self.__dict__.pop(known, None)
         try:
             self._read_mo(data)
         except Refused as refused:
@@ -161,15 +267,9 @@ class GNUTranslations(Catalogue, python_gettext.NullTranslations):
             raise
         except Exception as fault:
             raise OSError(0, refused.text, name) from fault
-        self._fallback = self._reader = reader
+        self._catalog = vars(reader)["_catalog"]
         self._info, self._charset = reader.info(), reader.charset()
         self.plural = with_own_warning(vars(reader)["plural"])
-
-    def __copy__(self) -> Self:
-        other = super().__copy__()
-        if "_reader" in self.__dict__:
-            other._fallback = other._reader = copy.copy(self._reader)
-        return other
 
 
 def fields_of(header: str) -> dict[str, str]:
@@ -191,10 +291,15 @@ def fields_of(header: str) -> dict[str, str]:
 def rule_of(fields: dict[str, str]) -> Callable[[int], int]:
     """Return the plural rule of a header's fields. A rule that is broken or missing is `n != 1`."""
     _, found, rule = first_line(fields.get("plural-forms", "")).partition("plural=")
+    return _rule(rule.partition(";")[0] if found else GERMANIC)
+
+
+@lru_cache(64)
+def _rule(text: str) -> Callable[[int], int]:
     try:
-        return with_own_warning(PRIVATE.c2py(rule.partition(";")[0] if found else "n != 1"))
+        return with_own_warning(PRIVATE.c2py(text))
     except ValueError:
-        return with_own_warning(PRIVATE.c2py("n != 1"))
+        return with_own_warning(PRIVATE.c2py(GERMANIC))
 
 
 def first_line(text: str) -> str:
@@ -213,6 +318,8 @@ def as_int(n: Any) -> Any:
 
 def warn_of(n: object) -> None:
     """Warn that `n` isn't an int. The warning names the line that called this package."""
+    import warnings
+
     frame, level = sys._getframe(1), 2
     while frame.f_back is not None and frame.f_globals.get("__name__", "gettext").partition(".")[0] in OWN_FRAMES:
         frame, level = frame.f_back, level + 1

@@ -1,18 +1,24 @@
-"""The functions of the standard module gettext, over the catalogues of this package."""
+"""The functions of the standard module gettext, over the catalogues of this package.
+
+The text domain and its folders are those of the standard module, and each module sees what was set by the other: the
+messages of argparse, optparse and getopt, which import the standard one, are in the domain that textdomain has set.
+"""
 from __future__ import annotations
 
-import copy
 import errno
 import os
-from collections.abc import Callable, Container, Iterable
 from gettext import NullTranslations, find
-from typing import Any
 
 from ._catalogue import PRIVATE, GNUTranslations, warn_of
 
+TYPE_CHECKING = False
+if TYPE_CHECKING:
+    from collections.abc import Callable, Container, Iterable
+    from typing import Any
+
 _translations: dict[tuple[Callable[[Any], Any], str], Any] = {}
-_localedirs: dict[str, str] = {}
-_current_domain = "messages"
+_chains: dict[tuple[str, ...], tuple[list[Any], Any]] = {}  # by the names of files: those of _translations, and a chain
+_localedirs: dict[str, str] = PRIVATE._localedirs
 
 
 def translation(
@@ -35,14 +41,21 @@ def translation(
         if fallback:
             return NullTranslations()
         raise FileNotFoundError(errno.ENOENT, "No translation file found for domain", domain)
-    first, *others = (copy.copy(_opened(class_ or GNUTranslations, name)) for name in names)
+    return _chain([_opened(class_ or GNUTranslations, name) for name in names])
+
+
+def _chain(found: Iterable[Any]) -> Any:
+    """Return copies of translations, of which each is the fallback of those before it."""
+    import copy
+
+    first, *others = [copy.copy(it) for it in found]
     for other in others:
         first.add_fallback(other)
     return first
 
 
 def _opened(class_: Callable[[Any], Any], name: str) -> Any:
-    key = class_, os.path.abspath(name)
+    key = class_, name if os.path.isabs(name) else os.path.abspath(name)
     found = _translations.get(key)
     if found is None:
         with open(name, "rb") as file:
@@ -67,17 +80,14 @@ def textdomain(domain: str | None = None) -> str:
     >>> kobdzila.textdomain()
     'messages'
     """
-    global _current_domain
-    if domain is not None:
-        _current_domain = domain
-    return _current_domain
+    set_or_read: str = PRIVATE.textdomain(domain)
+    return set_or_read
 
 
 def bindtextdomain(domain: str, localedir: str | None = None) -> str:
     """Set the folder of a text domain's catalogues, unless `localedir` is None, and return it."""
-    if localedir is not None:
-        _localedirs[domain] = localedir
-    return _localedirs.get(domain, PRIVATE._default_localedir)
+    set_or_read: str = PRIVATE.bindtextdomain(domain, localedir)
+    return set_or_read
 
 
 class _Untranslated(NullTranslations):
@@ -92,12 +102,19 @@ class _Untranslated(NullTranslations):
         return self.ngettext(msgid1, msgid2, n)
 
 
-def _translations_of(domain: str) -> NullTranslations:
+def _translations_of(domain: str) -> Any:
+    """Return the translations of a text domain, to look up in them and no more: they are shared."""
+    names = tuple(find(domain, PRIVATE._localedirs.get(domain), all=True))
     try:
-        found: NullTranslations = translation(domain, _localedirs.get(domain))
-        return found
+        found = [_opened(GNUTranslations, name) for name in names]
     except OSError:
-        return _Untranslated()
+        found = []
+    if len(found) < 2:
+        return found[0] if found else _Untranslated()
+    known = _chains.get(names)
+    if known is None or known[0] != found:
+        known = _chains[names] = found, _chain(found)
+    return known[1]
 
 
 def dgettext(domain: str, message: str) -> str:
@@ -107,39 +124,43 @@ def dgettext(domain: str, message: str) -> str:
     >>> kobdzila.dgettext("no-such-domain", "basket")
     'basket'
     """
-    return _translations_of(domain).gettext(message)
+    text: str = _translations_of(domain).gettext(message)
+    return text
 
 
 def dngettext(domain: str, msgid1: str, msgid2: str, n: int) -> str:
     """Return the plural form for `n` in a text domain."""
-    return _translations_of(domain).ngettext(msgid1, msgid2, n)
+    text: str = _translations_of(domain).ngettext(msgid1, msgid2, n)
+    return text
 
 
 def dpgettext(domain: str, context: str, message: str) -> str:
     """Return the translation of `message` in `context`, in a text domain."""
-    return _translations_of(domain).pgettext(context, message)
+    text: str = _translations_of(domain).pgettext(context, message)
+    return text
 
 
 def dnpgettext(domain: str, context: str, msgid1: str, msgid2: str, n: int) -> str:
     """Return the plural form for `n` of a message in `context`, in a text domain."""
-    return _translations_of(domain).npgettext(context, msgid1, msgid2, n)
+    text: str = _translations_of(domain).npgettext(context, msgid1, msgid2, n)
+    return text
 
 
 def gettext(message: str) -> str:
     """Return the translation of `message` in the text domain of textdomain."""
-    return dgettext(_current_domain, message)
+    return dgettext(textdomain(), message)
 
 
 def ngettext(msgid1: str, msgid2: str, n: int) -> str:
     """Return the plural form for `n` in the text domain of textdomain."""
-    return dngettext(_current_domain, msgid1, msgid2, n)
+    return dngettext(textdomain(), msgid1, msgid2, n)
 
 
 def pgettext(context: str, message: str) -> str:
     """Return the translation of `message` in `context`, in the text domain of textdomain."""
-    return dpgettext(_current_domain, context, message)
+    return dpgettext(textdomain(), context, message)
 
 
 def npgettext(context: str, msgid1: str, msgid2: str, n: int) -> str:
     """Return the plural form for `n` of a message in `context`, in the text domain of textdomain."""
-    return dnpgettext(_current_domain, context, msgid1, msgid2, n)
+    return dnpgettext(textdomain(), context, msgid1, msgid2, n)

@@ -1,78 +1,82 @@
-"""Which locales a reader wants: by a list, by the environment, or by the header Accept-Language of a request."""
+"""Which locales a reader is answered in: by a list, by the environment, or by the header Accept-Language of a request."""
 from __future__ import annotations
 
 import os
 import re
 from collections.abc import Iterable
 from functools import lru_cache
+from typing import NamedTuple
+
+from ._negotiation import LONGEST_HEADER, MODIFIERS, MOST_LANGUAGES, AcceptLanguage, Site, cut, language_tag
 
 VARIABLES = ("LANGUAGE", "LC_ALL", "LC_MESSAGES", "LANG")
-MOST_LANGUAGES = 16  # of a header, which a stranger has written: each one takes time in each look-up
-TAG = re.compile(r"[A-Za-z]{1,8}(?:[-_][A-Za-z0-9]{1,8})*")
-WEIGHT = re.compile(r"\s*[qQ]=(0(?:\.\d{0,3})?|1(?:\.0{0,3})?)\s*")
+NO_SITE = Site(())
 # what locales call a script: by a modifier, or by a country where it is used
-MODIFIERS = {"Arab": "arabic", "Cyrl": "cyrillic", "Deva": "devanagari", "Latn": "latin"}
+SCRIPT_MODIFIERS = {script: modifier for modifier, script in MODIFIERS.items() if modifier != "iqtelif"}
 COUNTRIES = {("zh", "Hans"): "CN", ("zh", "Hant"): "TW"}
 
 
-def locales_of(languages: str | Iterable[str] | None, source: str | None = "en") -> str:
-    """Return the locales in which a reader of these languages is answered, the best one first, separated by colons.
+class Answer(NamedTuple):
+    """The locales to search, in order, separated by colons, and the language tag of the page."""
 
-    A string with a comma or a semicolon is a header Accept-Language; any other string is a list separated by colons.
-    None is the list of the environment, as for the standard module gettext. `source` is the language of the msgids,
-    which ends a header.
+    locales: str
+    lang: str | None
 
-    >>> locales_of("pt-BR, fr;q=0.5")
-    'pt-BR:pt_BR:pt:fr'
-    >>> locales_of(["fr_CA", "de"])
-    'fr_CA:fr:de'
-    >>> locales_of("de, en-GB;q=0.8, fr;q=0.5")
-    'de:en-GB:en_GB:en'
+
+def answer_of(
+    languages: str | Iterable[str] | None, site: Site = NO_SITE, default: str | None = None, source: str | None = None
+) -> Answer:
+    """Return in which locales of a site a reader of these languages is answered.
+
+    A string with a colon is a list of locales, unless it is an AcceptLanguage; so are None, which means the
+    environment, and any other iterable. Each message is looked up in all of a list. Any other string is a header
+    Accept-Language, or the name of one language: it is answered in one language, or in `default` if the site doesn't
+    have it. `source` is the language of messages that have no translation, which each site has.
+
+    >>> site = Site(["pt", "pt_BR", "fr"], source="en")
+    >>> answer_of("pt-BR, fr;q=0.5", site)
+    Answer(locales='pt_BR:pt', lang='pt-BR')
+    >>> answer_of(["fr_CA", "pt"], site)
+    Answer(locales='fr_CA:fr:pt', lang='fr')
+    >>> answer_of("sv, en;q=0.5", site, default="fr", source="en").locales
+    'en'
     """
+    if isinstance(languages, str):
+        if ":" not in languages or isinstance(languages, AcceptLanguage):
+            return _of_header(str(cut(languages, ",")), site, default, source)
+        return _of_list(cut(languages, ":"), site, source)
     if languages is None:
-        languages = next(filter(None, map(os.environ.get, VARIABLES)), "")
-    if not isinstance(languages, str):
-        return _of_list(tuple(languages))
-    return _of_header(languages, source) if "," in languages or ";" in languages else _of_list(languages)
+        return _of_list(next(filter(None, map(os.environ.get, VARIABLES)), ""), site, source)
+    return _of_list(tuple(languages), site, source)
 
 
 @lru_cache(256)
-def _of_list(languages: str | tuple[str, ...]) -> str:
-    names = languages.split(":") if isinstance(languages, str) else languages
-    return _joined(filter(None, names))
+def _of_list(languages: str | tuple[str, ...], site: Site, source: str | None) -> Answer:
+    names = languages.split(":")[:MOST_LANGUAGES] if isinstance(languages, str) else languages
+    locales = list(dict.fromkeys(name for tag in names if tag for name in names_of(tag)))
+    return Answer(":".join(locales), tag_of(next((name for name in locales if name in site.names), source)))
 
 
-@lru_cache(256)
-def _of_header(header: str, source: str | None) -> str:
-    wanted: list[tuple[str, bool]] = []
-    for tag in accepted(header):
-        is_source = source is not None and re.split("[-_]", tag)[0].lower() == source
-        if wanted and wanted[-1][1] and not is_source:
-            break
-        wanted.append((tag, is_source))
-    return _joined(tag for tag, _ in wanted)
+@lru_cache(1024)
+def _of_header(header: str, site: Site, default: str | None, source: str | None) -> Answer:
+    is_name = not any(mark in header for mark in ",;:")
+    if is_name and header in site.names:
+        chosen: str | None = header
+    else:
+        chosen = site.choice((language_tag(header) or header) if is_name else header)
+    if chosen is None and default is None and is_name and header:
+        return Answer(":".join(names_of(header)), tag_of(source))
+    chosen = chosen or default or source
+    return Answer(":".join(kin_of(chosen, site)) if chosen else "", tag_of(chosen))
 
 
-def accepted(header: str) -> list[str]:
-    """Return the languages of a header Accept-Language that are wanted, the best ones first (RFC 9110, section 12.5.4).
-
-    `*`, and whatever breaks the rules of the header, is left out.
-
-    >>> accepted("da, en-GB;q=0.8, en;q=0.7, fr;q=0")
-    ['da', 'en-GB', 'en']
-    """
-    found = []
-    for part in header.split(","):
-        tag, semicolon, parameter = part.strip().partition(";")
-        weight = WEIGHT.fullmatch(parameter) if semicolon else None
-        value = float(weight[1]) if weight else 0.0 if semicolon else 1.0
-        if value > 0 and TAG.fullmatch(tag.strip()):
-            found.append((-value, tag.strip()))
-    return [tag for _, tag in sorted(found, key=lambda it: it[0])][:MOST_LANGUAGES]
+def kin_of(name: str, site: Site) -> list[str]:
+    """Return a locale, and those that fill its gaps: of the same language, with fewer parts."""
+    return list(dict.fromkeys([*site.chain(name), *names_of(name)]))
 
 
-def _joined(tags: Iterable[str]) -> str:
-    return ":".join(dict.fromkeys(name for tag in tags for name in names_of(tag)))
+def tag_of(name: str | None) -> str | None:
+    return None if name is None else language_tag(name)
 
 
 def names_of(tag: str) -> list[str]:
@@ -84,15 +88,20 @@ def names_of(tag: str) -> list[str]:
     ['sr-Latn-RS', 'sr_RS@latin', 'sr@latin', 'sr_RS', 'sr']
     >>> names_of("fr_CA.UTF-8")
     ['fr_CA.UTF-8', 'fr_CA', 'fr']
+
+    A look-up in `en_au` goes on with `en`, so the usual spelling of its country comes before it:
+
+    >>> names_of("en_au")
+    ['en_AU', 'en', 'en_au']
     """
-    name, _, modifier = tag.partition("@")
+    name, _, modifier = tag[:LONGEST_HEADER].partition("@")
     language, *parts = re.split("[-_]", name.partition(".")[0])
     language, country, names = language if language in ("C", "POSIX") else language.lower(), "", [tag]
     for part in parts:
         if len(part) == 1:  # (what follows isn't about the language: -u-, -x-)
             break
         if len(part) == 4 and part.isalpha():
-            modifier = modifier or MODIFIERS.get(part.title(), "")
+            modifier = modifier or SCRIPT_MODIFIERS.get(part.title(), "")
             names += [f"{language}_{part.title()}"]
             country = country or COUNTRIES.get((language, part.title()), "")
         elif len(part) in (2, 3):
@@ -102,4 +111,7 @@ def names_of(tag: str) -> list[str]:
     territory = [f"{language}_{country}"] if country else []
     modified = [f"{name}@{modifier}" for name in (*territory, language)] if modifier else []
     scripts = [] if modifier else names[1:]
-    return list(dict.fromkeys([tag, *scripts, *modified, *territory, language]))
+    others = [*scripts, *modified, *territory, language]
+    usual = {*names[1:], *others}
+    is_other_case = "_" in tag and tag not in usual and tag.lower() in map(str.lower, usual)
+    return list(dict.fromkeys([*others, tag] if is_other_case else [tag, *others]))

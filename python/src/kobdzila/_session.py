@@ -11,6 +11,7 @@ from collections.abc import Callable, Sequence
 from pathlib import Path
 from typing import NamedTuple
 
+from . import _forks
 from ._closing import Closing
 
 MOST_LINES = 67_108_864 - len(b"go\n")  # the bytes that a round may have before its `go`
@@ -18,6 +19,7 @@ TEXTS = {"gettext": 1, "pgettext": 2, "ngettext": 3, "npgettext": 4}
 ESCAPES = str.maketrans({"\\": r"\\", "\n": r"\n", "\t": r"\t"})
 UNESCAPED = {"n": "\n", "t": "\t"}
 MO_MAGIC = (b"\xde\x12\x04\x95", b"\x95\x04\x12\xde")  # no text in UTF-8 begins so
+FORKED = "the process catsession is the parent's: start a session in the forked child"
 BUNDLED = Path(__file__).with_name("bin") / "catsession"
 
 
@@ -86,7 +88,8 @@ class Session(Closing, Calls):
     `program` is the path of catsession: by default the one in this package, or else the one on the PATH.
 
     A name with a tab or an LF, a number that isn't from 0 to 2**64 - 1 and a PO text that isn't UTF-8 are a ValueError.
-    Nothing of them is sent, and the session goes on.
+    Nothing of them is sent, and the session goes on. In a forked child the session has ended: the process is the
+    parent's. Start another one there.
 
         with kobdzila.Session() as session:
             session.load("shop", "fr", Path("fr.po").read_bytes())
@@ -95,8 +98,14 @@ class Session(Closing, Calls):
     """
 
     def __init__(self, program: str | os.PathLike[str] | None = None) -> None:
+        self._program = program
+        self._start()
+        _forks.register(self)
+
+    def _start(self) -> None:
+        """Start the process, which has no texts yet."""
         self._process = subprocess.Popen(
-            [program or _program(), "--workers", "1"],
+            [self._program or _program(), "--workers", "1"],
             stdin=subprocess.PIPE,
             stdout=subprocess.PIPE,
             stderr=subprocess.PIPE,
@@ -105,8 +114,24 @@ class Session(Closing, Calls):
         self._to, self._from = self._process.stdin, self._process.stdout
         self._lock = threading.Lock()
         self._loads: list[tuple[str, str, bytes]] = []  # for the next publish: domain, locale, and the lines
+        self._size = 0  # bytes of these lines
         self._ended: str | None = None
         self._version = 0
+
+    def _fork_locks(self) -> list[threading.Lock]:
+        return [self._lock]  # (so no round is under way, and the pipes' buffers are empty)
+
+    def _forked(self) -> None:
+        """Leave the pipes to the parent, whose process it is. `_start` gives the child one of its own."""
+        self._lock = threading.Lock()
+        if self._ended is None:
+            self._ended = FORKED
+            nowhere = os.open(os.devnull, os.O_RDWR)
+            for pipe in (self._process.stdin, self._process.stdout, self._process.stderr):
+                if pipe is not None:
+                    os.dup2(nowhere, pipe.fileno(), inheritable=False)
+            os.close(nowhere)
+            self._process.returncode = 0  # (nobody waits for another's child)
 
     @property
     def version(self) -> int:
@@ -134,7 +159,7 @@ class Session(Closing, Calls):
     def publish(self) -> int:
         """Publish the loads that were kept, in one step, and return their version. LoadRefused lists those refused."""
         with self._lock:
-            loads, self._loads = self._loads, []
+            loads, self._loads, self._size = self._loads, [], 0
             *reported, (_, version) = self._play([lines for _, _, lines in loads], len(loads) + 1)
             self._version = int(version)
         refusals = [_refusal(load, line) for load, line in zip(loads, reported) if line[0].startswith("refused")]
@@ -145,7 +170,7 @@ class Session(Closing, Calls):
     def ask(self, domain: str, languages: str, *questions: tuple[str | int, ...]) -> list[Answer]:
         """Return the answers to several questions, all of one version, such as ("ngettext", "file", "files", 2)."""
         lines = [_question(domain, languages, *question) for question in questions]
-        _check_size(lines)
+        _check_size(sum(map(len, lines)))
         _, reported = self._answer(lines)
         return [Answer(int(version), _unescaped(text)) for _, version, text in reported]
 
@@ -157,8 +182,10 @@ class Session(Closing, Calls):
 
     def _keep(self, domain: str, locale: str, lines: bytes) -> None:
         with self._lock:
-            _check_size([*(kept for _, _, kept in self._loads), lines])
+            size = self._size + len(lines)
+            _check_size(size)
             self._loads.append((domain, locale, lines))
+            self._size = size
 
     def _answer(self, lines: list[bytes]) -> tuple[int, list[list[str]]]:
         """Send a round of questions, and return the version and the fields of each answer."""
@@ -198,8 +225,8 @@ def _program() -> str:
     return found
 
 
-def _check_size(lines: Sequence[bytes]) -> None:
-    if sum(map(len, lines)) > MOST_LINES:
+def _check_size(size: int) -> None:
+    if size > MOST_LINES:
         raise ValueError(f"more than {MOST_LINES} bytes for one round")
 
 

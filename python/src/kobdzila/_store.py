@@ -7,14 +7,16 @@ from collections.abc import Callable, Iterable
 from functools import lru_cache
 from typing import TYPE_CHECKING, Any, NoReturn
 
-from . import _kobdzila
+from . import _forks, _kobdzila
 from ._catalogue import Catalogue, fields_of, rule_of
 from ._closing import Closing
-from ._languages import locales_of
+from ._languages import NO_SITE, answer_of
+from ._negotiation import Site, direction
 from ._refused import Refused
+from ._waiting import Waiters
 
 if TYPE_CHECKING:
-    from ._watch import Watch
+    from ._watch import FileRefused, Watch
 
 MO_MAGICS = (b"\xde\x12\x04\x95", b"\x95\x04\x12\xde")
 MANY = 1000  # a plural rule has shown all its forms before this number
@@ -31,7 +33,8 @@ class Snapshot(_kobdzila.Snapshot, Closing):
     is forgotten closes itself. While it is open, the store keeps the catalogues of its version.
     """
 
-    __slots__ = ()
+    __slots__ = ("_lang",)
+    _lang: str | None  # of what the reader gets: a catalogue's, or that of the msgids
 
     def info(self, domain: str | None = None) -> dict[str, str]:
         """Return the header's fields of the first catalogue that these languages have, by their names in lower case."""
@@ -46,23 +49,64 @@ class Snapshot(_kobdzila.Snapshot, Closing):
                 return fields_of(header).get("language") or locale
         return None
 
-    def _other_number(self, domain: str, context: str | None, msgid1: str, msgid2: str, n: Any) -> str:
-        """Answer for an `n` that isn't an int from 0 to 2**64 - 1, as the standard module does."""
-        for locale in self.languages.split(":"):
-            if self.find(domain, locale, msgid1, context) is not None:
+    @property
+    def lang(self) -> str | None:
+        """The language tag of the page (RFC 5646), for the attribute `lang` of HTML and the header Content-Language.
+
+        It is that of the locale that was chosen, or the language of the msgids if there is no catalogue. None if that
+        isn't known, either.
+
+        >>> import kobdzila
+        >>> store = kobdzila.Store("shop")
+        >>> store.load("shop", "pt_BR", b'msgid "basket"\\nmsgstr "cesta"\\n')
+        >>> version = store.publish()
+        >>> store.snapshot("pt-BR, en;q=0.5").lang, store.snapshot("sv").lang
+        ('pt-BR', 'en')
+        """
+        return getattr(self, "_lang", None)
+
+    @property
+    def dir(self) -> str:
+        """The direction of that language, "ltr" or "rtl", for the attribute `dir` of HTML."""
+        return direction(self.lang or "")
+
+    def _other_number(
+        self, domain: str, context: str | None, key: str | None, msgid1: str, msgid2: str, n: Any
+    ) -> str:
+        """Answer for an `n` that isn't an int from 0 to 2**64 - 1, as the standard module does.
+
+        `key` is the text of msgid1, or None if no text is equal to it.
+        """
+        found = None if key is None else self._by_rule(domain, self.languages, key, context, n)
+        if found is not None:
+            return found
+        rule_in("")(n)
+        return msgid1 if n == 1 else msgid2
+
+    def _counted(self, domain: str, languages: str, message: str, context: str | None, n: Any) -> str | None:
+        """Return the plural form for any `n` in languages that are the same str object each time, or None."""
+        if isinstance(n, int) and 0 <= n < 1 << 64:
+            return self._recall(domain, languages, message, context, n)
+        return self._by_rule(domain, languages, message, context, n)
+
+    def _by_rule(self, domain: str, languages: str, message: str, context: str | None, n: Any) -> str | None:
+        """Return the plural form that Python's rule chooses, or None if there is no translation."""
+        for locale in languages.split(":"):
+            if self.find(domain, locale, message, context) is not None:
                 rule = rule_in(self.find(domain, locale, "") or "")
                 number = rule(n)
                 same = next((other for other in range(MANY) if rule(other) == number), 0)
-                return self.find(domain, locale, msgid1, context, same) or msgid1
-        rule_in("")(n)
-        return msgid1 if n == 1 else msgid2
+                return self.find(domain, locale, message, context, same)
+        return None
 
 
 class Store(_kobdzila.Store):
     """A live store of catalogues, each for a text domain and a locale.
 
     `domain` is the text domain of snapshots that name none. `source` is the language that the msgids are written in, or
-    None: see `snapshot`. Any number of threads may use a store.
+    None, and `default` the locale for a reader whose languages the store doesn't have, in place of untranslated
+    messages: see `snapshot`. Any number of threads may use a store. A forked child has a store of its own, which goes
+    on from the version that its parent's had.
 
     >>> import kobdzila
     >>> store = kobdzila.Store("shop")
@@ -80,10 +124,16 @@ class Store(_kobdzila.Store):
 
     domain: str
     source: str | None
+    default: str | None
 
-    def __init__(self, domain: str = "messages", *, source: str | None = "en") -> None:
-        self.domain, self.source = domain, source
+    def __init__(self, domain: str = "messages", *, source: str | None = "en", default: str | None = None) -> None:
+        self.domain, self.source, self.default = domain, source, default
         self._changed = threading.Condition()  # held while a publish is under way
+        self._waiters = Waiters()
+        self._shown = 0  # the version of the last publish that has ended
+        self._loaded: dict[str, set[str]] = {}  # locales of the loads that are pending, by their domains
+        self._sites: dict[str, Site] = {}  # the published ones, by their domains
+        _forks.register(self)
 
     def __reduce__(self) -> NoReturn:
         raise TypeError("a store can't be copied or pickled")
@@ -117,10 +167,22 @@ class Store(_kobdzila.Store):
 
         It waits for no snapshot. MemoryError if memory runs out: nothing is published, and the loads are still pending.
         """
-        with self._changed:
+        with _forks.held(self._changed):
             version = self._publish()
+            for domain, locales in self._loaded.items():
+                known = self._sites.get(domain, NO_SITE).names
+                if not locales <= known:
+                    self._sites[domain] = Site(known | locales, self.source)
+            self._loaded.clear()
+            self._shown = version
             self._changed.notify_all()
+        self._waiters.wake()
         return version
+
+    def _load(self, domain: str, locale: str, catalogue: _kobdzila.Catalogue) -> None:
+        with self._changed:
+            super()._load(domain, locale, catalogue)
+            self._loaded.setdefault(domain, set()).add(locale)
 
     def snapshot(
         self,
@@ -132,33 +194,92 @@ class Store(_kobdzila.Store):
     ) -> Snapshot:
         """Return look-ups in the newest version, which is never older than one that a publish returned.
 
-        `languages` is a list of locales or language tags (as such, or separated by colons), or a header
-        Accept-Language. None means the environment variables LANGUAGE, LC_ALL, LC_MESSAGES and LANG. The language of
-        the msgids ends a header: a reader who prefers English to French isn't answered in French.
+        `languages` is the name of a language, or a header Accept-Language: the reader gets one language for all
+        messages, chosen as `negotiate` does among those that the store has, the language of the msgids included. If
+        there is none, that is the store's `default`, or the language of the msgids.
+
+        `languages` may also be a list of locales or language tags, as such or separated by colons. Each message is then
+        looked up in all of them in turn, as for the variable LANGUAGE. None means the environment variables LANGUAGE,
+        LC_ALL, LC_MESSAGES and LANG. Wrap a header in AcceptLanguage so that it never is a list.
 
         If the version is less than `at_least`, wait for a publish, at most `within` seconds, and raise TimeoutError.
         """
+        if at_least > self._shown:
+            with self._changed:
+                if not self._changed.wait_for(lambda: self._shown >= at_least, within):
+                    raise self._late(at_least)
         where = self.domain if domain is None else domain
-        locales = locales_of(languages, self.source)
-        made = Snapshot(self, where, locales)
-        if made.version >= at_least:
-            return made
-        made.close()
-        with self._changed:
-            if not self._changed.wait_for(lambda: self.version >= at_least, within):
-                raise TimeoutError(f"the store is at version {self.version}, and {at_least} was asked for")
-        return Snapshot(self, where, locales)
+        # (a locale that is published stays so: each of these is in the version that the snapshot enters next)
+        answer = answer_of(languages, self._sites.get(where, NO_SITE), self.default, self.source)
+        made = Snapshot(self, where, answer.locales)
+        made._lang = answer.lang
+        return made
 
-    def watch(self, folder: str | os.PathLike[str], **options: Any) -> Watch:
+    async def snapshot_async(
+        self,
+        languages: str | Iterable[str] | None = None,
+        domain: str | None = None,
+        *,
+        at_least: int = 0,
+        within: float = 0.0,
+    ) -> Snapshot:
+        """Return what `snapshot` does. Only this coroutine waits, and neither the event loop nor a thread.
+
+        >>> import asyncio, kobdzila
+        >>> store = kobdzila.Store("shop")
+        >>> async def request():
+        ...     with await store.snapshot_async("fr", at_least=1, within=5) as texts:
+        ...         return texts.gettext("basket")
+        >>> async def both():
+        ...     waiting = asyncio.create_task(request())
+        ...     store.load("shop", "fr", b'msgid "basket"\\nmsgstr "panier"\\n')
+        ...     await asyncio.to_thread(store.publish)
+        ...     return await waiting
+        >>> asyncio.run(both())
+        'panier'
+        """
+        if not await self._waiters.wait_for(lambda: self._shown >= at_least, within):
+            raise self._late(at_least)
+        return self.snapshot(languages, domain)
+
+    def locales(self, domain: str | None = None) -> list[str]:
+        """Return the locales whose catalogues are published in a text domain, in order."""
+        return sorted(self._sites.get(self.domain if domain is None else domain, NO_SITE).names)
+
+    def _late(self, at_least: int) -> TimeoutError:
+        return TimeoutError(f"the store is at version {self.version}, and {at_least} was asked for")
+
+    def watch(
+        self,
+        folder: str | os.PathLike[str],
+        *,
+        refused: Callable[[FileRefused], object] | None = None,
+        every: float = 1.0,
+        settle: float = 0.1,
+        domains: Iterable[str] | None = None,
+        checked: bool = False,
+        use_fuzzy: bool = False,
+        allow_empty: bool = False,
+    ) -> Watch:
         """Load the catalogues of a folder, and go on loading what changes in it: see Watch for the options."""
         from ._watch import Watch
 
-        return Watch(self, folder, **options)
+        return Watch(
+            self, folder, refused=refused, every=every, settle=settle, domains=domains, checked=checked,
+            use_fuzzy=use_fuzzy, allow_empty=allow_empty,
+        )
+
+    def _fork_locks(self) -> list[threading.Condition]:
+        return [self._changed]
+
+    def _forked(self) -> None:
+        self._changed = threading.Condition()
+        self._waiters = Waiters()
 
     def _publish_all(self, loads: Iterable[tuple[str, str, Catalogue]]) -> tuple[int, dict[int, Refused]]:
         """Publish these loads, with none of them shown before the others. Return the version, and the loads that were refused."""
         refusals: dict[int, Refused] = {}
-        with self._changed:
+        with _forks.held(self._changed):
             for number, load in enumerate(loads):
                 try:
                     self._load(*load)

@@ -9,10 +9,11 @@ import os
 import stat
 import threading
 import time
-from collections.abc import Callable, Iterable, Iterator
+from collections.abc import Callable, Container, Iterable, Iterator
 from pathlib import Path
 from typing import TYPE_CHECKING, NamedTuple
 
+from . import _forks
 from ._catalogue import Catalogue
 from ._closing import Closing
 from ._refused import Fault, Refused
@@ -21,11 +22,14 @@ if TYPE_CHECKING:
     from ._store import Store
 
 LOG = logging.getLogger("kobdzila")
+EMPTY = "it has no messages, and those that were loaded stay: remove the file, or watch with allow_empty"
 PATIENCE = 5.0  # seconds that a file which keeps changing delays the others
 
 
 class FileRefused(NamedTuple):
-    """A file that isn't loaded. `line` is 0 if the reason has none, and `kind` None if the file can't be read."""
+    """A file that isn't loaded. `line` is 0 if the reason has none. `kind` is None if the library didn't refuse it: it
+    can't be read, or it has no messages any more.
+    """
 
     path: Path
     line: int
@@ -58,14 +62,16 @@ class Watch(Closing):
     What is there is loaded and published before the call returns. From then on a thread looks every `every` seconds,
     and publishes all that has changed in one step. A file counts as complete once its size and times were the same at
     two looks, `settle` seconds apart, so replace a file by renaming another one if it takes long to write. If there
-    are both an MO file and a PO file, the one that was modified later is shown. A file that is removed stays loaded.
+    are both an MO file and a PO file, the one that was modified later is shown, and the other one when that is removed.
+    A file that is removed stays loaded if it was the only one. A file without a message doesn't replace one that has
+    messages, since it is often a mistake, such as a `>` of the shell; with `allow_empty` it does.
 
     `refused` is called with a FileRefused for each file that isn't loaded, in the watching thread; the texts that were
     there before stay. Without it, the file, the line and the reason are a warning of the logger `kobdzila`. `domains`
     limits the text domains. `checked` and `use_fuzzy` are those of Catalogue.from_po.
 
-    `stop` ends the thread; so do the end of a `with` and the end of the process. A forked child has no thread of its
-    parent's: start a watch in the child.
+    `stop` ends the thread; so do the end of a `with` and the end of the process. A forked child goes on watching, with
+    a thread of its own, unless the watch was stopped before the fork.
 
         watch = store.watch("locale", refused=lambda file: print(file))
     """
@@ -81,19 +87,22 @@ class Watch(Closing):
         domains: Iterable[str] | None = None,
         checked: bool = False,
         use_fuzzy: bool = False,
+        allow_empty: bool = False,
     ) -> None:
         self.store, self.folder = store, Path(folder)
         self._report: Callable[[FileRefused], object] = refused or (lambda file: LOG.warning("%s", file))
         self._every, self._settle = every, settle
         self._domains = None if domains is None else frozenset(domains)
-        self._options = checked, use_fuzzy
+        self._options, self._allow_empty = (checked, use_fuzzy), allow_empty
         self._seen: dict[str, File] = {}  # what was loaded or refused, by path
+        self._shown: dict[tuple[str, str], str] = {}  # the file that was loaded last, by domain and locale
+        self._filled: set[tuple[str, str]] = set()  # those domains and locales that have messages
         self._looking, self._end = threading.Lock(), threading.Event()
         os.listdir(self.folder)  # (raises an exception if there is no such folder)
         self.look()
-        self._thread = threading.Thread(target=self._run, name=f"kobdzila watches {folder}", daemon=True)
-        self._thread.start()
+        self._start()
         atexit.register(self.stop)
+        _forks.register(self)
 
     def look(self) -> int | None:
         """Look now. Return the version that was published, or None if nothing has changed.
@@ -112,6 +121,20 @@ class Watch(Closing):
         atexit.unregister(self.stop)
 
     close = stop
+
+    def _start(self) -> None:
+        self._thread = threading.Thread(target=self._run, name=f"kobdzila watches {self.folder}", daemon=True)
+        self._thread.start()
+
+    def _fork_locks(self) -> tuple[()]:
+        return ()  # (a look may take long; what it shows and what it has seen change under the store's lock)
+
+    def _forked(self) -> None:
+        self._looking, was_stopped, self._end = threading.Lock(), self._end.is_set(), threading.Event()
+        if was_stopped:
+            self._end.set()
+        elif threading.current_thread() is not self._thread:
+            self._start()
 
     def _run(self) -> None:
         while not self._end.wait(self._every):
@@ -138,6 +161,11 @@ class Watch(Closing):
             stamp = stamp_of(path)
             if stamp and (path not in self._seen or self._seen[path].stamp != stamp):
                 found[path] = stamp
+        for path in list(self._shown.values()):
+            other = other_of(path)
+            stamp = stamp_of(other) if stamp_of(path) is None else None
+            if stamp:
+                found[other] = stamp
         return found
 
     def _paths(self) -> Iterator[str]:
@@ -156,17 +184,28 @@ class Watch(Closing):
         for path, stamp in sorted(changed.items(), key=lambda it: (it[1].modified, it[0].endswith(".mo"))):
             catalogue, file = self._opened(path, stamp)
             if file and catalogue:
-                loads.append((Path(path).stem, Path(path).parts[-3], catalogue))
+                loads.append((*names_of_path(path), catalogue))
                 files.append((path, file))
             elif file:
                 self._seen[path] = file
         if not loads:
             return None
-        version, refusals = self.store._publish_all(loads)
+        with _forks.held(self.store._changed):  # (so a forked child has both or neither)
+            version, refusals = self.store._publish_all(loads)
+            self._note(loads, files, refusals)
         for number, refusal in refusals.items():
             self._refuse(files[number][0], refusal)
-        self._seen.update(files)
         return version if len(refusals) < len(loads) else None
+
+    def _note(
+        self, loads: list[tuple[str, str, Catalogue]], files: list[tuple[str, File]], refusals: Container[int]
+    ) -> None:
+        """Note what was loaded."""
+        self._seen.update(files)
+        for number, ((domain, locale, catalogue), (path, _)) in enumerate(zip(loads, files)):
+            if number not in refusals:
+                self._shown[domain, locale] = path
+                (self._filled.add if has_messages(catalogue) else self._filled.discard)((domain, locale))
 
     def _opened(self, path: str, stamp: Stamp) -> tuple[Catalogue | None, File | None]:
         """Return the file's catalogue, unless it is refused or the one that was seen, and what was looked at.
@@ -184,15 +223,18 @@ class Watch(Closing):
         if self._is_shown(path, file):
             return None, file
         try:
-            return Catalogue.from_mo(data) if path.endswith(".mo") else Catalogue.from_po(data, *self._options), file
+            made = Catalogue.from_mo(data) if path.endswith(".mo") else Catalogue.from_po(data, *self._options)
         except Refused as refused:
             self._refuse(path, refused)
             return None, file
+        if not self._allow_empty and names_of_path(path) in self._filled and not has_messages(made):
+            self._call(FileRefused(Path(path), 0, None, EMPTY))
+            return None, file
+        return made, file
 
     def _is_shown(self, path: str, file: File) -> bool:
         """Return whether the file has the bytes that it had, and no file of the other format was loaded after it."""
-        other = path[:-3] + (".po" if path.endswith(".mo") else ".mo")
-        return path in self._seen and self._seen[path].digest == file.digest and other not in self._seen
+        return path in self._seen and self._seen[path].digest == file.digest and other_of(path) not in self._seen
 
     def _refuse(self, path: str, refused: Refused) -> None:
         self._call(FileRefused(Path(path), refused.line, refused.kind, refused.text))
@@ -202,6 +244,21 @@ class Watch(Closing):
             self._report(file)
         except Exception:
             LOG.exception("the callback for %s failed", file)
+
+
+def other_of(path: str) -> str:
+    """Return the path of the file in the other format."""
+    return path[:-3] + (".po" if path.endswith(".mo") else ".mo")
+
+
+def names_of_path(path: str) -> tuple[str, str]:
+    """Return the text domain and the locale of a file."""
+    return Path(path).stem, Path(path).parts[-3]
+
+
+def has_messages(catalogue: Catalogue) -> bool:
+    """Return whether a catalogue has anything but a header."""
+    return catalogue.count > 1 or catalogue.count == 1 and not catalogue.forms("")
 
 
 def listed(folder: str | os.PathLike[str]) -> list[str]:

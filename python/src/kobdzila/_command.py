@@ -1,0 +1,210 @@
+"""`python -m kobdzila compile`: compiles the PO files of a project, with the options of pybabel and of Django."""
+from __future__ import annotations
+
+import argparse
+import fnmatch
+import importlib
+import os
+import re
+import sys
+import time
+from collections.abc import Iterable, Iterator, Sequence
+from typing import Any
+
+from . import _kobdzila
+from ._compile import Done, Ended, Job, Options, compile_all
+
+FOLDER = "LC_MESSAGES"
+WIDTH, PAUSE = 30, 0.05  # of the progress bar: its columns, and the seconds between two pictures of it
+EPILOG = """\
+examples:
+  python -m kobdzila compile                        every locale/LOCALE/LC_MESSAGES/*.po below this folder,
+                                                    as Django's compilemessages
+  python -m kobdzila compile -d locale -D shop      locale/LOCALE/LC_MESSAGES/shop.po, as pybabel compile
+  python -m kobdzila compile -i fr.po -o fr.mo      one file
+  python -m kobdzila compile --check -n fr.po       only check it
+
+A file that is refused is reported at the end, as FILE:LINE: REASON. Its MO file stays as it was, and the status is 1.
+"""
+
+
+class Usage(Exception):
+    """Options that don't fit, or that name nothing."""
+
+
+def main(words: Sequence[str] | None = None) -> int:
+    """Run a command, and return its status: 0, 1 if a file was refused, or 2 for wrong options."""
+    parser = argparse.ArgumentParser(prog="python -m kobdzila", description="Message catalogues of GNU gettext.")
+    parser.add_argument("--version", action="version", version=f"kobdzila {_kobdzila.version}")
+    command = add_compile(parser.add_subparsers(dest="command", required=True, metavar="compile"))
+    asked = parser.parse_args(words)
+    try:
+        jobs = sorted(set(jobs_of(asked)))
+    except Usage as usage:
+        command.error(str(usage))
+    try:
+        return run(jobs, asked)
+    except Ended as ended:
+        print(f"{parser.prog}: {ended}", file=sys.stderr)
+        return 1
+    except KeyboardInterrupt:
+        return 130
+
+
+def add_compile(commands: Any) -> argparse.ArgumentParser:
+    parser: argparse.ArgumentParser = commands.add_parser(
+        "compile", help="compile PO files to MO files", description="Compile PO files to MO files, side by side.",
+        epilog=EPILOG, formatter_class=argparse.RawDescriptionHelpFormatter)
+    add = parser.add_argument
+    add("files", nargs="*", metavar="FILE.po", help="PO files, each compiled next to itself")
+    add("-d", "--directory", metavar="DIR", help=f"compile DIR/LOCALE/{FOLDER}/*.po")
+    add("-D", "--domain", action="append", default=[], help="only these domains, separated by spaces or commas")
+    add("-l", "--locale", action="append", default=[], help="only this locale; may be repeated")
+    add("-x", "--exclude", action="append", default=[], metavar="LOCALE", help="not this locale; may be repeated")
+    add("-i", "--input-file", action="append", default=[], metavar="FILE",
+        help="one PO file, with -o, or with -d and -l; without these the same as --ignore")
+    add("--ignore", action="append", default=[], metavar="PATTERN", help="skip folders with such names")
+    add("-o", "--output-file", metavar="FILE", help="the MO file, for -i")
+    add("-f", "--use-fuzzy", action="store_true", help="compile fuzzy messages, too")
+    add("--check", action="store_true", help="run the checks of msgfmt -c, and those of Python's formats")
+    add("--statistics", action="store_true", help="print how many messages of each file are translated")
+    add("-n", "--dry-run", action="store_true", help="write nothing")
+    add("-j", "--jobs", type=int, default=os.cpu_count() or 1, metavar="N", help="files at a time (default: processors)")
+    add("-q", "--quiet", action="store_true", help="print refusals only")
+    add("-v", "--verbose", action="store_true", help="print the name of each file")
+    return parser
+
+
+# --- which files ------------------------------------------------------------------------------------------------------
+
+
+def jobs_of(asked: argparse.Namespace) -> Iterator[Job]:
+    """Yield the jobs that the options name. Usage if there are none."""
+    if asked.output_file or asked.input_file and asked.directory:
+        return iter([named_job(asked)])
+    if asked.files:
+        return (Job(path, f"{os.path.splitext(path)[0]}.mo") for path in asked.files)
+    found = list(jobs_in(folders_of(asked), asked))
+    if not found:
+        where = asked.directory or "a folder named locale here or below"
+        raise Usage(f"no PO files in {where}: name the folder with -d DIR, in which DIR/LOCALE/{FOLDER}/DOMAIN.po are")
+    return iter(found)
+
+
+def named_job(asked: argparse.Namespace) -> Job:
+    """Return the job of pybabel's -i."""
+    inputs = asked.input_file or asked.files
+    if len(inputs) != 1:
+        raise Usage("-o is for one PO file: name it with -i FILE")
+    if asked.output_file:
+        return Job(inputs[0], asked.output_file)
+    if len(asked.locale) != 1:
+        raise Usage("-i and -d name the MO file with one -l LOCALE, or give its name with -o FILE")
+    domain = (domains_of(asked.domain) or ["messages"])[0]
+    return Job(inputs[0], os.path.join(asked.directory, asked.locale[0], FOLDER, f"{domain}.mo"))
+
+
+def domains_of(words: Iterable[str]) -> list[str]:
+    return [name for word in words for name in re.split("[, ]+", word) if name]
+
+
+def folders_of(asked: argparse.Namespace) -> Iterable[str]:
+    """Return the folders of locales: the one that is named, or those that Django looks in."""
+    if asked.directory:
+        if not os.path.isdir(asked.directory):
+            raise Usage(f"there is no folder {asked.directory}")
+        return [asked.directory]
+    ignored = [pattern[:-2] if pattern.endswith("/*") else pattern for pattern in [*asked.input_file, *asked.ignore]]
+    found = {"conf/locale", "locale", *paths_of_django()}
+    for where, folders, _ in os.walk("."):
+        folders[:] = [it for it in folders if it != FOLDER and not is_ignored(where, it, ignored)]
+        found.update(os.path.join(where, it) for it in folders if it == "locale")
+    return sorted({os.path.normpath(it) for it in found if os.path.isdir(it)})
+
+
+def is_ignored(where: str, name: str, patterns: Sequence[str]) -> bool:
+    if not patterns:
+        return False
+    path = os.path.normpath(os.path.join(where, name))
+    return any(fnmatch.fnmatchcase(name, it) or fnmatch.fnmatchcase(path, it) for it in patterns)
+
+
+def paths_of_django() -> list[str]:
+    """Return LOCALE_PATHS of the settings of Django that the environment names."""
+    if not os.environ.get("DJANGO_SETTINGS_MODULE"):
+        return []
+    sys.path.insert(0, os.getcwd())
+    try:
+        settings: Any = getattr(importlib.import_module("django.conf"), "settings")
+        return [os.fspath(it) for it in settings.LOCALE_PATHS]
+    except ImportError as fault:
+        raise Usage(f"DJANGO_SETTINGS_MODULE is set, and its settings can't be read: {fault}") from None
+
+
+def jobs_in(folders: Iterable[str], asked: argparse.Namespace) -> Iterator[Job]:
+    domains, locales = domains_of(asked.domain), set(asked.locale)
+    for folder in folders:
+        for locale in sorted(os.listdir(folder)):
+            if locale in asked.exclude or locales and locale not in locales:
+                continue
+            for where, _, names in os.walk(os.path.join(folder, locale, FOLDER)):
+                for name in names:
+                    domain, end = os.path.splitext(name)
+                    if end == ".po" and (not domains or domain in domains):
+                        path = os.path.join(where, domain)
+                        yield Job(f"{path}.po", f"{path}.mo")
+
+
+# --- running ----------------------------------------------------------------------------------------------------------
+
+
+class Bar:
+    """A progress bar on the error output, if that is a terminal."""
+
+    def __init__(self, count: int, is_shown: bool) -> None:
+        self.count, self.done, self.drawn = count, 0, 0.0
+        self.is_shown = is_shown and sys.stderr.isatty()
+
+    def step(self) -> None:
+        self.done += 1
+        if self.is_shown and (time.monotonic() - self.drawn > PAUSE or self.done == self.count):
+            self.drawn, filled = time.monotonic(), WIDTH * self.done // self.count
+            bar = "#" * filled + "." * (WIDTH - filled)
+            print(f"\r[{bar}] {self.done}/{self.count}", end="", file=sys.stderr, flush=True)
+
+    def clear(self) -> None:
+        if self.is_shown:
+            print("\r\x1b[K", end="", file=sys.stderr, flush=True)
+
+
+def run(jobs: Sequence[Job], asked: argparse.Namespace) -> int:
+    """Compile, and report. Return the status."""
+    options = Options(asked.check, asked.use_fuzzy, asked.statistics, asked.dry_run)
+    bar, done = Bar(len(jobs), not asked.quiet), []
+    try:
+        for it in compile_all(jobs, options, asked.jobs):
+            done.append(it)
+            bar.step()
+    finally:
+        bar.clear()
+    done.sort()
+    report(done, asked)
+    return 1 if any(it.fault for it in done) else 0
+
+
+def report(done: Sequence[Done], asked: argparse.Namespace) -> None:
+    """Print what was asked for to the standard output, and all refusals after it to the error output."""
+    refused = [it for it in done if it.fault]
+    for it in done:
+        if it.counts and not it.fault:
+            print(f"{it.counts} in {it.job.po}")
+        elif asked.verbose and not it.fault:
+            print(f"{it.job.po}: accepted" if asked.dry_run else f"{it.job.po} -> {it.job.mo}")
+    if not asked.quiet:
+        verb = "checked" if asked.dry_run else "compiled"
+        print(f"{len(done) - len(refused)} {'file' if len(done) - len(refused) == 1 else 'files'} {verb}", flush=True)
+    for it in refused:
+        print(it, file=sys.stderr)
+    if refused and not asked.quiet:
+        stay = "" if asked.dry_run else "; their MO files stay as they were"
+        print(f"{len(refused)} of {len(done)} files refused{stay}", file=sys.stderr)

@@ -1,0 +1,171 @@
+"""Compiling PO files to MO files: one at a time, or all of a project."""
+from __future__ import annotations
+
+import contextlib
+import os
+import re
+from collections.abc import Iterator, Sequence
+from functools import partial
+from typing import NamedTuple
+
+from . import _kobdzila
+from ._catalogue import Catalogue
+from ._refused import Fault, Refused
+
+BYTE_ORDER_MARK = b"\xef\xbb\xbf"
+LEAST_JOBS, MOST_AT_ONCE = 16, 32  # files for which a process is started, and that it takes at a time
+TOKEN = re.compile(rb'"(?:[^"\\\n]|\\.)*"|#[^\n]*|\bmsgid\b(?!_)')
+
+
+def compile_po(data: _kobdzila.Buffer, *, checked: bool = False, use_fuzzy: bool = False) -> bytes:
+    """Compile the PO text in `data`, a bytes-like object, and return the bytes of its MO file.
+
+    `checked` runs the checks of `msgfmt -c` and, for messages with the flags python-format and python-brace-format,
+    compares the arguments that the translation takes. `use_fuzzy` keeps fuzzy messages, too. Raise Refused, with the
+    kind, the line and the reason, if the text isn't accepted.
+
+    >>> import kobdzila
+    >>> file = kobdzila.compile_po('msgid "basket"\\nmsgstr "panier"\\n'.encode())
+    >>> kobdzila.GNUTranslations(file).gettext("basket")
+    'panier'
+    >>> try:
+    ...     kobdzila.compile_po(b'#, python-format\\nmsgid "%(n)d"\\nmsgstr "%(m)d"\\n', checked=True)
+    ... except kobdzila.Refused as refused:
+    ...     print(refused)
+    line 2: msgstr takes 'm', which the message doesn't
+    """
+    return compiled(data, checked, use_fuzzy).mo_file()
+
+
+def compiled(data: _kobdzila.Buffer, checked: bool, use_fuzzy: bool) -> Catalogue:
+    """Return the catalogue of a PO text, which has passed all checks."""
+    if bytes(data[:3]) == BYTE_ORDER_MARK:
+        raise Refused(Fault.PO_BAD_WORD, 1, "the file begins with a byte order mark: save it as UTF-8 without one")
+    catalogue = Catalogue.from_po(data, checked, use_fuzzy)
+    if checked:
+        from ._formats import first_mismatch
+
+        wrong = first_mismatch(bytes(data), lambda: catalogue.plural, use_fuzzy)
+        if wrong:
+            raise Refused(Fault.PO_FORMAT_MISMATCH, wrong.line, wrong.text)
+    return catalogue
+
+
+class Job(NamedTuple):
+    """A PO file, and the MO file that it becomes."""
+
+    po: str
+    mo: str
+
+
+class Options(NamedTuple):
+    """How PO files are compiled."""
+
+    checked: bool = False
+    use_fuzzy: bool = False
+    statistics: bool = False
+    dry_run: bool = False
+
+
+class Counts(NamedTuple):
+    """How many messages a PO file has, the header not counted, and how many of them are translated and fuzzy."""
+
+    messages: int
+    translated: int
+    fuzzy: int
+
+    def __str__(self) -> str:
+        part = self.translated * 100 // self.messages if self.messages else 0
+        fuzzy = f", {self.fuzzy} fuzzy" if self.fuzzy else ""
+        return f"{self.translated} of {self.messages} messages ({part}%) translated{fuzzy}"
+
+
+class Done(NamedTuple):
+    """What became of a job: `fault` says why there is no new MO file, with the line if it has one."""
+
+    job: Job
+    line: int = 0
+    fault: str = ""
+    counts: Counts | None = None
+
+    def __str__(self) -> str:
+        return f"{self.job.po}:{self.line}: {self.fault}" if self.line else f"{self.job.po}: {self.fault}"
+
+
+class Ended(Exception):
+    """Why not all files were compiled."""
+
+
+def compile_all(jobs: Sequence[Job], options: Options, processes: int) -> Iterator[Done]:
+    """Compile PO files, each once, in up to this many processes, and yield what became of each, in their order.
+
+    Small numbers of files are compiled in this process, since others take longer to start.
+    """
+    work = partial(compile_file, options=options)
+    processes = min(processes, len(jobs) // LEAST_JOBS)
+    if processes < 2:
+        yield from map(work, jobs)
+        return
+    import multiprocessing
+    import signal
+    from concurrent.futures.process import BrokenProcessPool, ProcessPoolExecutor
+
+    forking = multiprocessing.get_context("fork")  # (this process has no other thread)
+    size = max(1, min(MOST_AT_ONCE, len(jobs) // (4 * processes)))
+    with ProcessPoolExecutor(processes, forking, signal.signal, (signal.SIGINT, signal.SIG_IGN)) as executor:
+        try:
+            yield from executor.map(work, jobs, chunksize=size)
+        except BrokenProcessPool:
+            raise Ended("a process that compiled was ended from outside: if memory ran out, try --jobs 1") from None
+        except GeneratorExit:
+            executor.shutdown(cancel_futures=True)
+            raise
+
+
+def compile_file(job: Job, options: Options) -> Done:
+    """Compile a PO file. If it is refused, the MO file stays as it is."""
+    try:
+        with open(job.po, "rb") as file:
+            data = file.read()
+        catalogue = compiled(data, options.checked, options.use_fuzzy)
+        if not options.dry_run:
+            replace(job.mo, catalogue.mo_file())
+        return Done(job, counts=counts_of(data, options.use_fuzzy, catalogue) if options.statistics else None)
+    except Refused as refused:
+        return Done(job, refused.line, refused.text)
+    except OSError as fault:
+        name = f"{fault.filename}: " if fault.filename not in (None, job.po) else ""
+        return Done(job, 0, f"{name}{fault.strerror or fault}")
+    except MemoryError:
+        return Done(job, 0, "out of memory")
+
+
+def replace(path: str, data: bytes) -> None:
+    """Put a file in place in one step."""
+    folder, name = os.path.split(path)
+    new = os.path.join(folder, f".{name}.{os.getpid()}.new")
+    try:
+        file = os.open(new, os.O_WRONLY | os.O_CREAT | os.O_EXCL | os.O_CLOEXEC, 0o666)
+        try:
+            rest = memoryview(data)
+            while rest:
+                rest = rest[os.write(file, rest):]
+        finally:
+            os.close(file)
+        os.replace(new, path)
+    except BaseException:
+        with contextlib.suppress(OSError):
+            os.unlink(new)
+        raise
+
+
+def counts_of(data: bytes, use_fuzzy: bool, catalogue: Catalogue) -> Counts:
+    """Return the counts of a PO text that compiles."""
+    messages = sum(token == b"msgid" for token in TOKEN.findall(data))
+    header = 1 if catalogue.forms("") or re.search(rb'^msgid\s+""\s*\nmsgstr', data, re.M) else 0
+    own = catalogue.count - len(catalogue.forms("")[:1])
+    if use_fuzzy:
+        plain = Catalogue.from_po(data)
+        return Counts(messages - header, own, own - (plain.count - len(plain.forms("")[:1])))
+    whole = Catalogue.from_po(data, use_fuzzy=True)
+    return Counts(messages - header, own, whole.count - len(whole.forms("")[:1]) - own)

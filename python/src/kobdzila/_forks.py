@@ -1,0 +1,124 @@
+"""Forks: what has locks or threads goes on in the child.
+
+A child has one thread, the one that forked. Locks that other threads held at that moment would be held for ever, and
+their threads are gone. So a process forks while the thread that forks holds the locks of all that takes part; in the
+child each part then makes its locks anew, and starts its threads again.
+
+A part is registered once it is whole, at the end of its `__init__`, and is forgotten when nobody else refers to it:
+
+    class Follower:
+        def __init__(self, store):
+            self._changed = threading.Condition()
+            ...
+            _forks.register(self)
+
+        def _fork_locks(self):
+            return [self._changed]
+
+        def _forked(self):
+            self._changed = threading.Condition()
+            self._start()
+
+What holds such a lock again and again takes it by `with _forks.held(self._changed)`, which lets a fork go first.
+
+Parts are called in the order of their registration, so a store comes before what feeds it.
+"""
+from __future__ import annotations
+
+import itertools
+import logging
+import os
+import threading
+import time
+import weakref
+from collections.abc import Iterable, Iterator
+from contextlib import contextmanager
+from typing import Protocol
+
+LOG = logging.getLogger("kobdzila")
+PATIENCE = 10.0  # seconds that a fork waits at most for locks that are held; the child's locks are new in any case
+
+
+class Lock(Protocol):
+    """A lock or a condition of the module threading."""
+
+    def acquire(self, blocking: bool = ..., timeout: float = ...) -> bool: ...
+    def release(self) -> None: ...
+
+
+class Part(Protocol):
+    """What takes part in forks."""
+
+    def _fork_locks(self) -> Iterable[Lock]:
+        """Return the locks that the thread which forks holds meanwhile, so that nothing is half done in the child.
+
+        Nobody may hold one of them while he waits for something.
+        """
+
+    def _forked(self) -> None:
+        """Go on in the child: with new locks, and threads that are started again. No other thread runs."""
+
+
+_parts: dict[int, weakref.ref[Part]] = {}
+_numbers = itertools.count()
+_turn = threading.RLock()  # one thread at a time takes the locks
+_taken = threading.local()  # `locks`: those that this thread took for a fork; `depth`: how many it holds by `held`
+_forking = False  # whether a thread has its turn
+
+
+def register(part: Part) -> None:
+    """Let `part` take part in all forks from now on."""
+    number = next(_numbers)
+    _parts[number] = weakref.ref(part, lambda _: _parts.pop(number, None))
+
+
+@contextmanager
+def held(lock: Lock) -> Iterator[None]:
+    """Hold a lock in a `with`. A thread that holds no other one waits first until no process is about to be forked.
+
+    Without it, a thread that takes a lock again at once would keep the one that forks waiting.
+    """
+    depth = getattr(_taken, "depth", 0)
+    if _forking and depth == 0:
+        with _turn:
+            pass
+    lock.acquire()
+    _taken.depth = depth + 1
+    try:
+        yield
+    finally:
+        _taken.depth = depth
+        lock.release()
+
+
+def _all() -> list[Part]:
+    return [part for part in [it() for it in list(_parts.values())] if part is not None]
+
+
+def _before() -> None:
+    global _forking
+    _taken.locks, end, _forking = [], time.monotonic() + PATIENCE, True
+    for lock in itertools.chain([_turn], *(part._fork_locks() for part in _all())):
+        if lock.acquire(timeout=max(0.0, end - time.monotonic())):
+            _taken.locks.append(lock)
+
+
+def _after() -> None:
+    global _forking
+    _forking = False
+    for lock in reversed(getattr(_taken, "locks", [])):
+        lock.release()
+    _taken.locks = []
+
+
+def _after_in_child() -> None:
+    global _turn, _forking
+    _turn, _forking, _taken.locks = threading.RLock(), False, []
+    for part in _all():
+        try:
+            part._forked()
+        except Exception:
+            LOG.exception("%r doesn't go on in the forked process %d", part, os.getpid())
+
+
+os.register_at_fork(before=_before, after_in_parent=_after, after_in_child=_after_in_child)

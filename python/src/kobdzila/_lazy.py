@@ -1,0 +1,152 @@
+"""Texts that are looked up when they are used, in the snapshot of the moment."""
+from __future__ import annotations
+
+from collections.abc import Callable, Iterator
+from contextlib import contextmanager
+from contextvars import ContextVar
+from gettext import NullTranslations
+from typing import TYPE_CHECKING, Any, Protocol
+
+from . import _kobdzila
+
+if TYPE_CHECKING:
+    from ._store import Snapshot
+
+
+class Texts(Protocol):
+    """What `current_snapshot` has: a Snapshot or, under kobdzila.flask and kobdzila.django, the texts of the framework."""
+
+    def gettext(self, message: str) -> str: ...
+    def pgettext(self, context: str, message: str) -> str: ...
+    def ngettext(self, msgid1: str, msgid2: str, n: int) -> str: ...
+    def npgettext(self, context: str, msgid1: str, msgid2: str, n: int) -> str: ...
+
+
+NO_TEXTS = NullTranslations()
+current_snapshot: ContextVar[Texts] = ContextVar("kobdzila.current_snapshot")
+"""The snapshot of the request, the task or the thread that runs. WSGIMiddleware, ASGIMiddleware, kobdzila.flask and
+kobdzila.django set it in each request, and `using` in a `with`. Elsewhere there is none: its `get()` is a LookupError."""
+
+
+@contextmanager
+def using(snapshot: Snapshot) -> Iterator[Snapshot]:
+    """Make `snapshot` the current one in a `with`, whose end closes it.
+
+    >>> import kobdzila
+    >>> store = kobdzila.Store("shop")
+    >>> store.load("shop", "fr", 'msgid "basket"\\nmsgstr "panier"\\n'.encode())
+    >>> store.publish()
+    1
+    >>> title = kobdzila.lazy_gettext("basket")
+    >>> with kobdzila.using(store.snapshot("fr")):
+    ...     print(title)
+    panier
+    >>> print(title)
+    basket
+    """
+    with snapshot:
+        token = current_snapshot.set(snapshot)
+        try:
+            yield snapshot
+        finally:
+            current_snapshot.reset(token)
+
+
+class LazyTranslations(_kobdzila.LazyTranslations):
+    """Translations that get a snapshot from `current` at each call, for objects that are set up before any request.
+
+    By default `current` is the current snapshot of the context: see `using`.
+
+        environment.install_gettext_translations(
+            kobdzila.LazyTranslations(lambda: request.environ["kobdzila.snapshot"]), newstyle=True)
+    """
+
+    def __init__(self, current: Callable[[], Any] = current_snapshot.get) -> None:
+        self.current = current
+
+
+class LazyText:
+    """A text that is looked up each time that it is used as a str: by `str`, in a format, a template or a comparison.
+
+    The functions lazy_gettext and so on make it.
+    """
+
+    __slots__ = ("_call", "_words")
+
+    def __init__(self, call: str, words: tuple[Any, ...]) -> None:
+        self._call, self._words = call, words
+
+    def __str__(self) -> str:
+        snapshot: Any = current_snapshot.get(None)
+        return str(getattr(snapshot or NO_TEXTS, self._call)(*self._words))
+
+    def __repr__(self) -> str:
+        return f"lazy_{self._call}({', '.join(map(repr, self._words))})"
+
+    def __format__(self, how: str) -> str:
+        return format(str(self), how)
+
+    def __html__(self) -> str:
+        import html
+
+        return html.escape(str(self))
+
+    def __getattr__(self, name: str) -> Any:
+        if name.startswith("__"):
+            raise AttributeError(name)
+        return getattr(str(self), name)
+
+    def __len__(self) -> int:
+        return len(str(self))
+
+    def __iter__(self) -> Iterator[str]:
+        return iter(str(self))
+
+    def __contains__(self, part: str) -> bool:
+        return part in str(self)
+
+    def __getitem__(self, place: Any) -> str:
+        part: str = str(self)[place]
+        return part
+
+    def __add__(self, other: Any) -> str:
+        return str(self) + str(other)
+
+    def __radd__(self, other: str) -> str:
+        return other + str(self)
+
+    def __mul__(self, times: int) -> str:
+        return str(self) * times
+
+    def __mod__(self, values: Any) -> str:
+        text: str = str(self) % values
+        return text
+
+    def __hash__(self) -> int:
+        return hash(str(self))
+
+    def __eq__(self, other: object) -> bool:
+        return str(self) == (str(other) if isinstance(other, LazyText) else other)
+
+    def __lt__(self, other: Any) -> bool:
+        return str(self) < str(other)
+
+
+def lazy_gettext(message: str) -> LazyText:
+    """Return a text that is the translation of `message` in the snapshot that is current when the text is used."""
+    return LazyText("gettext", (message,))
+
+
+def lazy_pgettext(context: str, message: str) -> LazyText:
+    """Return a text that is the translation of `message` in `context`, like lazy_gettext."""
+    return LazyText("pgettext", (context, message))
+
+
+def lazy_ngettext(msgid1: str, msgid2: str, n: int) -> LazyText:
+    """Return a text that is the plural form for `n`, like lazy_gettext."""
+    return LazyText("ngettext", (msgid1, msgid2, n))
+
+
+def lazy_npgettext(context: str, msgid1: str, msgid2: str, n: int) -> LazyText:
+    """Return a text that is the plural form for `n` of a message in `context`, like lazy_gettext."""
+    return LazyText("npgettext", (context, msgid1, msgid2, n))

@@ -1,0 +1,170 @@
+"""The texts of a request: those of the stores, and after them Django's own."""
+from __future__ import annotations
+
+import threading
+from contextvars import ContextVar
+from typing import Any
+
+from django.conf import settings
+from django.core.exceptions import ImproperlyConfigured
+from django.core.signals import request_finished, request_started, setting_changed
+from django.utils import translation as django_texts
+from django.utils.module_loading import import_string
+from django.utils.translation import to_locale, trans_real
+
+from .._languages import names_of
+from .._lazy import current_snapshot
+from .._store import Snapshot, Store
+
+DOMAIN = "django"
+SEPARATOR: str = trans_real.CONTEXT_SEPARATOR
+
+_stores: list[Store] | None = None  # the texts of the first one come before those of the others
+_watches: list[Any] = []
+_making = threading.Lock()
+_pinned: ContextVar[dict[int, Snapshot] | None] = ContextVar("kobdzila.django", default=None)  # of the request
+
+
+def start() -> None:
+    """Let Django's translations be live ones from now on."""
+    trans_real.translation = translation
+    request_started.connect(_begin, dispatch_uid="kobdzila")
+    request_finished.connect(_end, dispatch_uid="kobdzila")
+    setting_changed.connect(_changed, dispatch_uid="kobdzila")
+    current_snapshot.set(django_texts)  # (for commands; threads of a server have none before their first request)
+
+
+def translation(language: str) -> Live:
+    """Return what Django calls a translation object, for a language code. There is one of each."""
+    known: dict[str, Any] = trans_real._translations
+    found = known.get(language)
+    if isinstance(found, Live):
+        return found
+    made = known[language] = Live(language)
+    return made
+
+
+def stores() -> list[Store]:
+    """Return the stores. The first look-up makes them, so a command that needs no translation watches nothing."""
+    global _stores
+    if _stores is None:
+        with _making:
+            if _stores is None:
+                _stores = _made()
+    return _stores
+
+
+def is_in_stores(language: str) -> bool:
+    """Return whether a store has texts of a language."""
+    return any(name in store.locales(DOMAIN) for store in stores() for name in names_of(to_locale(language)))
+
+
+def _made() -> list[Store]:
+    given = getattr(settings, "KOBDZILA_STORE", None)
+    if given is not None:
+        store = import_string(given) if isinstance(given, str) else given
+        if not isinstance(store, Store):
+            raise ImproperlyConfigured(f"KOBDZILA_STORE is no kobdzila.Store: {store!r}")
+        return [store]
+    options = {"domains": [DOMAIN], **getattr(settings, "KOBDZILA_WATCH", {})}
+    made = []
+    for folder in settings.LOCALE_PATHS:
+        store = Store(DOMAIN)
+        try:
+            _watches.append(store.watch(folder, **options))
+        except FileNotFoundError:  # (Django takes no notice of such a folder, either)
+            continue
+        made.append(store)
+    return made
+
+
+def _begin(**ignored: Any) -> None:
+    _end()
+    _pinned.set({})
+    # (this may stay so: outside of requests Django's functions answer, too)
+    current_snapshot.set(django_texts)
+
+
+def _end(**ignored: Any) -> None:
+    for snapshot in (_pinned.get() or {}).values():
+        snapshot.close()
+    _pinned.set(None)
+
+
+def _changed(setting: str, **ignored: Any) -> None:
+    """Begin anew when a test has other settings."""
+    global _stores
+    if setting in ("LOCALE_PATHS", "KOBDZILA_STORE", "KOBDZILA_WATCH"):
+        _end()
+        _stores = None
+        trans_real._translations = {}
+        trans_real._default = None
+        while _watches:
+            _watches.pop().stop()
+
+
+def _snapshot(store: Store) -> Snapshot:
+    """Return the snapshot of the request, or the newest one outside of requests."""
+    pinned = _pinned.get()
+    if pinned is None:
+        return store.snapshot("", DOMAIN)
+    found = pinned.get(id(store))
+    if found is None:
+        found = pinned[id(store)] = store.snapshot("", DOMAIN)
+    return found
+
+
+class _Own(trans_real.DjangoTranslation):  # type: ignore[misc]
+    """What Django itself reads for a language, without the folders that the stores have."""
+
+    def _add_local_translations(self) -> None:
+        if getattr(settings, "KOBDZILA_STORE", None) is not None:
+            super()._add_local_translations()
+        own: Any = self
+        # (Django wants the default language to have a file, which may be one of a store)
+        if own._catalog is None and is_in_stores(own.language()):
+            own._catalog, own._info = trans_real.TranslationCatalog(), {}
+
+
+class Live:
+    """The translation object of a language: its texts in the stores, and then Django's."""
+
+    def __init__(self, language: str) -> None:
+        self._own = _Own(language)
+        self._locales = ":".join(names_of(to_locale(language)))
+
+    def gettext(self, message: str) -> str:
+        """Return the translation of a message, whose context and byte 4 come before it."""
+        context, msgid = parted(message)
+        for store in stores() if message else ():
+            found = _snapshot(store)._recall(DOMAIN, self._locales, msgid, context)
+            if found is not None:
+                return found
+        own: str = self._own.gettext(message)
+        return own
+
+    def ngettext(self, singular: str, plural: str, number: Any) -> str:
+        """Return the plural form for `number`."""
+        context, msgid = parted(singular)
+        for store in stores():
+            found = _snapshot(store)._counted(DOMAIN, self._locales, msgid, context, number)
+            if found is not None:
+                return found
+        own: str = self._own.ngettext(singular, plural, number)
+        return own
+
+    def __repr__(self) -> str:
+        return f"<live {self._own!r}>"
+
+    def __getattr__(self, name: str) -> Any:
+        return getattr(self._own, name)
+
+
+def parted(message: str) -> tuple[str | None, str]:
+    """Return the context and the msgid of what Django looks up.
+
+    >>> parted("verb\x04order"), parted("order")
+    (('verb', 'order'), (None, 'order'))
+    """
+    context, separator, msgid = message.partition(SEPARATOR)
+    return (context, msgid) if separator else (None, message)

@@ -1,0 +1,136 @@
+"""Flask-Babel over a live store.
+
+    from flask import Flask
+    from flask_babel import Babel
+    import kobdzila, kobdzila.flask
+
+    app = Flask(__name__)
+    babel = Babel(app)
+    store = kobdzila.Store("messages")
+    store.watch("translations")
+    kobdzila.flask.init_app(app, store)
+
+From then on `flask_babel.gettext` and its kin, lazy texts and Jinja2's `_` and `trans` look up in the store, in the
+locale that Flask-Babel has chosen, and in no file. So do kobdzila's own lazy texts. A request has one version.
+"""
+from __future__ import annotations
+
+from typing import Any
+
+import flask
+import flask_babel
+
+from ._languages import names_of
+from ._lazy import current_snapshot
+from ._store import Snapshot, Store
+
+KEY = "kobdzila.flask"
+
+
+def init_app(app: Any, store: Store) -> None:
+    """Let the application's text domain be a live one. Call it after `Babel(app)`."""
+    extension = app.extensions.get("babel")
+    if extension is None:
+        raise RuntimeError("there is no Flask-Babel in this application: call flask_babel.Babel(app) first")
+    babel = getattr(extension, "instance", extension)  # (what the extension is depends on the version of Flask-Babel)
+    domain = vars(babel)["domain_instance"] = Domain(store, domain=babel.domain_instance.domain)
+    texts = Current(domain)
+    # (before the functions of the application, of which one may answer the request)
+    app.before_request_funcs.setdefault(None, []).insert(0, texts.begin)
+    app.teardown_request(_close)
+
+
+class Domain(flask_babel.Domain):  # type: ignore[misc]
+    """A text domain of Flask-Babel that looks up in a store."""
+
+    def __init__(self, store: Store, domain: str) -> None:
+        super().__init__([], domain)
+        self.store = store
+
+    def get_translations(self) -> Translations:
+        """Return the translations for the locale of the request."""
+        return Translations(self._snapshot(), self.domain, flask_babel.get_locale())
+
+    def _snapshot(self) -> Snapshot:
+        if not flask.has_request_context():
+            return self.store.snapshot("", self.domain)
+        kept = _kept()
+        found = kept.get(id(self.store))
+        if found is None:
+            found = kept[id(self.store)] = self.store.snapshot("", self.domain)
+        return found
+
+
+class Current:
+    """The texts of whichever request runs, in the locale that Flask-Babel has chosen at the time of the call."""
+
+    def __init__(self, domain: Domain) -> None:
+        self._domain = domain
+
+    def begin(self) -> None:
+        """Be what lazy texts look up in. That may stay so: between requests there is no locale, and no translation."""
+        current_snapshot.set(self)
+
+    def gettext(self, message: str) -> str:
+        return self._domain.get_translations().gettext(message)
+
+    def pgettext(self, context: str, message: str) -> str:
+        return self._domain.get_translations().pgettext(context, message)
+
+    def ngettext(self, msgid1: str, msgid2: str, n: int) -> str:
+        return self._domain.get_translations().ngettext(msgid1, msgid2, n)
+
+    def npgettext(self, context: str, msgid1: str, msgid2: str, n: int) -> str:
+        return self._domain.get_translations().npgettext(context, msgid1, msgid2, n)
+
+
+def _kept() -> dict[int, Snapshot]:
+    """Return the snapshots of the request."""
+    found: dict[int, Snapshot] = flask.request.environ.setdefault(KEY, {})
+    return found
+
+
+def _close(fault: BaseException | None) -> None:
+    for snapshot in flask.request.environ.pop(KEY, {}).values():
+        snapshot.close()
+
+
+class Translations:
+    """Look-ups in a snapshot, by the names that Flask-Babel and Babel call."""
+
+    def __init__(self, snapshot: Snapshot, domain: str, locale: Any) -> None:
+        self._snapshot, self._domain = snapshot, domain
+        self._locales = "" if locale is None else _locales_of(str(locale))
+
+    def gettext(self, message: str) -> str:
+        """Return the translation of `message`."""
+        found = self._snapshot._recall(self._domain, self._locales, message)
+        return message if found is None else found
+
+    def pgettext(self, context: str, message: str) -> str:
+        """Return the translation of `message` in `context`."""
+        found = self._snapshot._recall(self._domain, self._locales, message, context)
+        return message if found is None else found
+
+    def ngettext(self, msgid1: str, msgid2: str, n: Any) -> str:
+        """Return the plural form for `n`."""
+        found = self._snapshot._counted(self._domain, self._locales, msgid1, None, n)
+        return found if found is not None else msgid1 if n == 1 else msgid2
+
+    def npgettext(self, context: str, msgid1: str, msgid2: str, n: Any) -> str:
+        """Return the plural form for `n` of a message in `context`."""
+        found = self._snapshot._counted(self._domain, self._locales, msgid1, context, n)
+        return found if found is not None else msgid1 if n == 1 else msgid2
+
+    ugettext, ungettext, upgettext, unpgettext = gettext, ngettext, pgettext, npgettext
+
+
+_known: dict[str, str] = {}
+
+
+def _locales_of(locale: str) -> str:
+    """Return the locales where Babel's locale is looked up, the same str object each time."""
+    found = _known.get(locale)
+    if found is None:
+        found = _known[locale] = ":".join(names_of(locale))
+    return found

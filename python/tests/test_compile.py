@@ -1,0 +1,412 @@
+"""compile_po and `python -m kobdzila compile`: next to GNU msgfmt, pybabel and Django, and as a hook of pre-commit."""
+from __future__ import annotations
+
+import contextlib
+import importlib.util
+import io
+import os
+import pty
+import shutil
+import signal
+import subprocess
+import sys
+import tempfile
+import time
+import unittest
+from pathlib import Path
+from unittest import mock
+
+import kobdzila
+from common import needs_testcapi, failures_of
+from kobdzila import Fault, Refused, compile_po
+from kobdzila._command import main
+from kobdzila._formats import braces, percents
+from texts import ARABIC, FRENCH, HEADER
+
+TOP = Path(__file__).parents[2]
+GNU = shutil.which("msgfmt")
+MSGUNFMT = shutil.which("msgunfmt")
+BROKEN = 'msgid "a"\nmsgstr "b\n'
+# a flag, a message, its translation: those that fit, and those that don't
+FITTING = [
+    ("python-format", "%d files", "%d fichiers"), ("python-format", "%(n)d of %(m)s", "%(m)s: %(n)d"),
+    ("python-format", "100 %", "cent %"), ("python-format", "%s", "%r"), ("python-format", "%d", "%x"),
+    ("python-format", "%(a)s %(a)s", "%(a)s"), ("python-format", "%5.2f%%", "%f %%"), ("python-format", "%d", ""),
+    ("python-format", "%*d", "%*d"), ("python-format", "a", "b"), ("python-format", "%c", "%c"),
+    ("python-brace-format", "{n} of {m}", "{m}: {n}"), ("python-brace-format", "{n.x} {m[0]}", "{m[0]} {n.x}"),
+    ("python-brace-format", "{n:>{width}}", "{n:{width}}"), ("python-brace-format", "{{n}}", "n"),
+    ("c++-format", "{n}", "{m}"), ("no-python-format", "%d", "%s"),
+]
+REFUSED = [
+    ("python-format", "%d files", "fichiers"), ("python-format", "%d files", "%s fichiers"),
+    ("python-format", "%(n)d", "%(m)d"), ("python-format", "%(n)d", "%d"), ("python-format", "%d", "%(n)d"),
+    ("python-format", "%(n)d", "%(n)s"), ("python-format", "%s", "%s %s"), ("python-format", "%d", "%"),
+    ("python-format", "%(n)d %(m)d", "%(n)d"), ("python-format", "%s", "%y"), ("python-format", "%s", "%(n)s %s"),
+    ("python-format", "%c", "%d"), ("python-format", "%f", "%d"), ("python-format", "a", "%d"),
+    ("python-brace-format", "{n}", "{m}"), ("python-brace-format", "{n}", "n"), ("python-brace-format", "n", "{n}"),
+    ("python-brace-format", "{n}", "{n"),
+    ("python-brace-format", "{n.x}", "{n}"),
+]
+
+
+def entry(flag: str, message: str, translation: str) -> bytes:
+    return f'#, {flag}\nmsgid "{message}"\nmsgstr "{translation}"\n'.encode()
+
+
+def is_refused(text: bytes) -> str:
+    try:
+        compile_po(text, checked=True)
+    except Refused as refused:
+        return str(refused)
+    return ""
+
+
+class CompileTest(unittest.TestCase):
+    def test_bytes(self) -> None:
+        for text in (FRENCH, ARABIC, ""):
+            self.assertEqual(compile_po(text.encode()), kobdzila.Catalogue.from_po(text.encode()).mo_file())
+        self.assertEqual(compile_po(memoryview(FRENCH.encode()), checked=True), compile_po(bytearray(FRENCH.encode())))
+        self.assertNotIn(b"x", compile_po(b'#, fuzzy\nmsgid "a"\nmsgstr "x"\n'))
+        self.assertIn(b"x", compile_po(b'#, fuzzy\nmsgid "a"\nmsgstr "x"\n', use_fuzzy=True))
+
+    def test_refusals(self) -> None:
+        for text, options, kind, line in (
+            (BROKEN.encode(), {}, Fault.PO_OPEN_STRING, 2),
+            (b'msgid "a\\n"\nmsgstr "b"\n', {"checked": True}, Fault.PO_NEWLINE_MISMATCH, 1),
+            (b"\xef\xbb\xbf" + FRENCH.encode(), {}, Fault.PO_BAD_WORD, 1),
+            (b'\n\n#: x\n#, python-format\n#: y\nmsgid "%d"\nmsgstr "%s"\n', {"checked": True},
+             Fault.PO_FORMAT_MISMATCH, 6),
+        ):
+            with self.assertRaises(Refused) as caught:
+                compile_po(text, **options)
+            self.assertEqual((caught.exception.kind, caught.exception.line), (kind, line))
+        self.assertIn("byte order mark", is_refused(b"\xef\xbb\xbf"))
+        self.assertRaises(TypeError, compile_po, "text")
+        self.assertRaises(TypeError, compile_po, b"", True)
+
+    def test_formats(self) -> None:
+        for row in FITTING:
+            self.assertEqual(is_refused(entry(*row)), "", row)
+            compile_po(entry(*row))
+        for row in REFUSED:
+            self.assertIn("line 2: msgstr ", is_refused(entry(*row)), row)
+            compile_po(entry(*row))
+            self.assertEqual(is_refused(entry(f"fuzzy, {row[0]}", *row[1:])), "")
+        # (str.format raises ValueError; GNU msgfmt 0.21 accepts it)
+        self.assertTrue(is_refused(entry("python-brace-format", "{n}", "{n} }")))
+
+    def test_layouts(self) -> None:
+        """However an entry is written, it is compared; texts that only look like one are not."""
+        for text, refused in (
+            (b'#, c-format\n#, python-format\nmsgctxt "x"\nmsgid "%(a)d"\nmsgstr "%(b)d"\n', True),
+            (b'#,python-format,x\n  msgid\n"%("\n"a)d"\n\n msgstr ""\n"%(b"\n")d"\n', True),
+            (b'#, python-format\nmsgid "%d"\nmsgstr "\\045s"\n', True),
+            (b'#, python-format\n#| msgid "%s"\n#. x\nmsgid "%d"\nmsgstr "%d"\n', False),
+            (b'#~ #, python-format\n#~ msgid "%d"\n#~ msgstr "%s"\n', False),
+            (b'#, python-format\n#~ msgid "%d"\n#~ msgstr "%s"\n\nmsgid "%d"\nmsgstr "%s"\n', False),
+            (b'# python-format\nmsgid "%d"\nmsgstr "%s"\n', False),
+            (b'msgid "\\n#, python-format\\n%d"\nmsgstr "\\n#, python-format\\n%s"\n', False),
+            (b'#, python-format\nmsgid "%d"\nmsgstr "%d"\nmsgid "%s"\nmsgstr "%d"\n', False),
+        ):
+            self.assertEqual(bool(is_refused(text)), refused, text)
+
+    def test_plurals(self) -> None:
+        """A form for few numbers may leave the number out, as for GNU msgfmt."""
+        other, one = HEADER.replace("n>1", "n!=1"), "un fichier de %(who)s"
+        many = "%(n)d fichiers de %(who)s"
+        polish = HEADER.replace("nplurals=2; plural=n>1", "nplurals=3; plural=n==1 ? 0 : n%10==2 ? 1 : 2")
+        for header, forms, refused in (
+            (HEADER, [one, many], False), (other, [one, many], False), (other, ["un fichier", many], False),
+            (other, [many, one], True), (HEADER, [many, "des fichiers de %(who)s"], True), (other, ["%(x)d", many], True),
+            (HEADER, [many, many], False), (polish, [one, many, many], False), (polish, [many, one, many], True),
+            (HEADER.replace("n>1", "n>3"), [one, many], False), (HEADER.replace("n>1", "n>4"), [one, many], True),
+        ):
+            text = header + '\n#, python-format\nmsgid "a file of %(who)s"\nmsgid_plural "%(n)d files of %(who)s"\n'
+            text += "".join(f'msgstr[{number}] "{form}"\n' for number, form in enumerate(forms))
+            self.assertEqual(bool(is_refused(text.encode())), refused, (header, forms))
+            if GNU:
+                self.assertEqual(self.is_refused_by_gnu(text.encode()), refused, (header, forms))
+
+    @staticmethod
+    def is_refused_by_gnu(text: bytes) -> bool:
+        command = [str(GNU), "-c", "-o", os.devnull, "-"]
+        return subprocess.run(command, input=text, capture_output=True, check=False).returncode != 0
+
+    @unittest.skipUnless(GNU, "no GNU msgfmt")
+    def test_formats_of_gnu(self) -> None:
+        """GNU msgfmt accepts and refuses the same."""
+        for rows, refused in ((FITTING, False), (REFUSED, True)):
+            for row in rows:
+                self.assertEqual(self.is_refused_by_gnu(HEADER.encode() + b"\n" + entry(*row)), refused, row)
+
+    def test_parsers(self) -> None:
+        self.assertEqual(percents("%-5.3s %%").unnamed, ["a text"])
+        self.assertEqual(percents("%(a b)s").named, {"a b": "a text"})
+        self.assertEqual(list(braces("{} {a.b!r:{c}}").named), ["", "a.b", "c"])
+        for text in ("%", "%(a", "%z", "%(a)s %(a)d"):
+            self.assertRaises(ValueError, percents, text)
+
+    @needs_testcapi
+    def test_memory(self) -> None:
+        text, wanted = FRENCH.encode(), compile_po(FRENCH.encode())
+        self.assertGreater(failures_of(self, lambda: compile_po(text) == wanted, 60), 0)
+
+
+class CommandTest(unittest.TestCase):
+    def setUp(self) -> None:
+        room = tempfile.TemporaryDirectory()
+        self.addCleanup(room.cleanup)
+        self.room = Path(room.name)
+        self.addCleanup(os.chdir, os.getcwd())
+        os.chdir(self.room)
+        for name in ("locale/fr/LC_MESSAGES/shop.po", "locale/fr/LC_MESSAGES/messages.po",
+                     "locale/pt_BR/LC_MESSAGES/shop.po", "app/locale/fr/LC_MESSAGES/django.po",
+                     "node_modules/x/locale/fr/LC_MESSAGES/django.po", "locale/README"):
+            self.put(name, FRENCH)
+
+    def put(self, name: str, text: str) -> None:
+        Path(name).parent.mkdir(parents=True, exist_ok=True)
+        Path(name).write_text(text, encoding="utf-8")
+
+    def call(self, *words: str) -> tuple[int, str, str]:
+        """Run the command, and return its status and what it printed."""
+        out, err = io.StringIO(), io.StringIO()
+        with contextlib.redirect_stdout(out), contextlib.redirect_stderr(err):
+            try:
+                status = main(["compile", *words])
+            except SystemExit as end:
+                status = int(str(end.code))
+        return status, out.getvalue(), err.getvalue()
+
+    def made(self) -> list[str]:
+        """Return the MO files that there are, and remove them."""
+        found = sorted(map(str, Path(".").rglob("*.mo")))
+        for name in found:
+            os.unlink(name)
+        self.assertEqual([it for it in Path(".").rglob("*.new")], [])
+        return found
+
+    def test_which(self) -> None:
+        shop = ["locale/fr/LC_MESSAGES/shop.mo", "locale/pt_BR/LC_MESSAGES/shop.mo"]
+        own = ["locale/fr/LC_MESSAGES/messages.mo", *shop]
+        app, node = "app/locale/fr/LC_MESSAGES/django.mo", "node_modules/x/locale/fr/LC_MESSAGES/django.mo"
+        for words, files in (
+            ([], [app, *own, node]),
+            (["-d", "locale"], own),
+            (["-d", "locale", "-D", "shop"], shop),
+            (["-d", "locale", "-D", "shop,messages", "--jobs", "1"], own),
+            (["-d", "locale", "-D", "shop messages"], own),
+            (["--directory=locale", "--domain=shop", "--locale=fr"], shop[:1]),
+            (["-l", "pt_BR"], shop[1:]),
+            (["-l", "pt_BR", "-l", "fr", "-x", "fr"], shop[1:]),
+            (["-x", "fr"], shop[1:]),
+            (["-i", "node_modules"], [app, *own]),
+            (["--ignore", "node_*", "-i", "app/*"], own),
+            (["-i", "locale/fr/LC_MESSAGES/shop.po", "-o", "x.mo"], ["x.mo"]),
+            (["-i", "locale/fr/LC_MESSAGES/shop.po", "-d", "locale", "-l", "fr"], own[:1]),
+            (["-i", "locale/fr/LC_MESSAGES/shop.po", "-d", "locale", "-l", "fr", "-D", "shop"], shop[:1]),
+            (["locale/fr/LC_MESSAGES/shop.po", "app/locale/fr/LC_MESSAGES/django.po"], [app, shop[0]]),
+            (["-n"], []),
+        ):
+            status, out, err = self.call(*words)
+            self.assertEqual((status, err), (0, ""), words)
+            self.assertEqual(self.made(), files, words)
+            if files:
+                self.assertIn(f"{len(files)} file", out)
+
+    def test_settings(self) -> None:
+        """LOCALE_PATHS of Django's settings."""
+        if not importlib.util.find_spec("django"):
+            self.skipTest("no Django")
+        self.put("elsewhere/fr/LC_MESSAGES/django.po", FRENCH)
+        self.put("settings_of_test.py", "LOCALE_PATHS = ['elsewhere']\n")
+        command = [sys.executable, "-m", "kobdzila", "compile", "-v"]
+        done = subprocess.run(command, env={**os.environ, "DJANGO_SETTINGS_MODULE": "settings_of_test"}, text=True,
+                              capture_output=True, check=False)
+        self.assertEqual((done.returncode, done.stderr), (0, ""))
+        self.assertIn("elsewhere/fr/LC_MESSAGES/django.po -> ", done.stdout)
+        self.assertEqual(len(self.made()), 6)
+        done = subprocess.run(command, env={**os.environ, "DJANGO_SETTINGS_MODULE": "no_such_module"}, text=True,
+                              capture_output=True, check=False)
+        self.assertEqual((done.returncode, self.made()), (2, []))
+
+    def test_wrong_options(self) -> None:
+        for words, said in ((["-d", "none"], "there is no folder none"), (["-o", "x.mo"], "-i FILE"),
+                            (["-i", "a.po", "-d", "locale"], "-l LOCALE"), (["-D", "none", "-d", "locale"], "no PO files"),
+                            (["-l", "xx"], "no PO files"), (["--jobs", "x"], "invalid int"), (["--none"], "--none")):
+            status, out, err = self.call(*words)
+            self.assertEqual((status, out), (2, ""), words)
+            self.assertIn(said, err, words)
+
+    def test_refusals(self) -> None:
+        """Each one is told at the end, with its file and line, and leaves the old MO file."""
+        self.put("locale/fr/LC_MESSAGES/shop.mo", "old")
+        self.put("locale/fr/LC_MESSAGES/shop.po", BROKEN)
+        self.put("locale/xx/LC_MESSAGES/shop.po", "\n\nmsg")
+        Path("locale/yy/LC_MESSAGES/shop.po").mkdir(parents=True)
+        status, out, err = self.call("-d", "locale", "-D", "shop")
+        self.assertEqual((status, out), (1, "1 file compiled\n"))
+        self.assertEqual(err.splitlines(), [
+            "locale/fr/LC_MESSAGES/shop.po:2: string not closed", "locale/xx/LC_MESSAGES/shop.po:3: unknown word",
+            "2 of 3 files refused; their MO files stay as they were"])
+        self.assertEqual(Path("locale/fr/LC_MESSAGES/shop.mo").read_text(), "old")
+        status, _, err = self.call("none.po", "locale/pt_BR/LC_MESSAGES/shop.po")
+        self.assertEqual((status, err.splitlines()[0]), (1, "none.po: No such file or directory"))
+        status, out, err = self.call("-q", "-n", "locale/fr/LC_MESSAGES/shop.po")
+        self.assertEqual((status, out, len(err.splitlines())), (1, "", 1))
+        self.put("format.po", '#, python-format\nmsgid "%d"\nmsgstr "%s"\n')
+        self.assertEqual(self.call("format.po")[0], 0)
+        self.assertEqual(self.call("--check", "format.po")[0], 1)
+
+    def many(self, count: int) -> list[str]:
+        names = [f"many/l{number:03}/LC_MESSAGES/shop.po" for number in range(count)]
+        for name in names:
+            self.put(name, FRENCH)
+        return names
+
+    def test_processes(self) -> None:
+        """Many files are compiled by several processes, and refused in their order."""
+        names = self.many(100)
+        for number in (3, 50, 99):
+            self.put(names[number], "\n" * number + "msg")
+        for jobs in ("1", "4", "99", "0", "-1"):
+            status, out, err = self.call("-d", "many", "-j", jobs, "--statistics")
+            self.assertEqual((status, out.splitlines()[-1]), (1, "97 files compiled"))
+            self.assertEqual(out.splitlines()[0], f"4 of 4 messages (100%) translated in {names[0]}")
+            self.assertEqual(err.splitlines()[:3], [f"{names[it]}:{it + 1}: unknown word" for it in (3, 50, 99)])
+            self.assertEqual(len(self.made()), 97)
+
+    def test_ended(self) -> None:
+        """A process that is killed ends the run, with a reason and without a wait."""
+        names = self.many(64)
+        os.unlink(names[0])
+        os.mkfifo(names[0])  # (nobody writes to it)
+        command = [sys.executable, "-m", "kobdzila", "compile", "-d", "many", "-j", "2"]
+        with subprocess.Popen(command, stderr=subprocess.PIPE, stdout=subprocess.DEVNULL, text=True) as running:
+            end, children = time.monotonic() + 300, Path(f"/proc/{running.pid}/task/{running.pid}/children")
+            while len(children.read_text().split()) < 2 or len(list(Path("many").rglob("*.mo"))) < 40:
+                self.assertLess(time.monotonic(), end)
+                time.sleep(0.05)
+            os.kill(int(children.read_text().split()[0]), signal.SIGKILL)
+            _, said = running.communicate(timeout=300)
+        self.assertEqual((running.returncode, "Traceback" in said), (1, False))
+        self.assertIn("ended from outside", said)
+
+    def test_not_writable(self) -> None:
+        Path("x").write_text("")
+        status, _, err = self.call("-i", "locale/fr/LC_MESSAGES/shop.po", "-o", "x/y.mo")
+        self.assertEqual(status, 1)
+        self.assertIn("locale/fr/LC_MESSAGES/shop.po: x/", err)
+        self.assertIn("Not a directory", err)
+
+    def test_permissions(self) -> None:
+        before = os.umask(0o027)
+        try:
+            self.call("-i", "locale/fr/LC_MESSAGES/shop.po", "-o", "x.mo")
+        finally:
+            os.umask(before)
+        self.assertEqual(os.stat("x.mo").st_mode & 0o777, 0o640)
+
+    def test_statistics(self) -> None:
+        self.put("a.po", HEADER + 'msgid "a"\nmsgstr "b"\n\n#, fuzzy\nmsgid "c"\nmsgstr "d"\n\nmsgid "e" msgstr ""\n\n'
+                 'msgid "msgid \\"x\\""\nmsgstr "# msgid"\n\n# msgid "y"\n#~ msgid "z"\n#~ msgstr "z"\n')
+        self.put("b.po", "")
+        self.put("c.po", 'msgid "a"\nmsgid_plural "as"\nmsgstr[0] "b"\nmsgstr[1] "bs"\n')
+        for words, said in (([], "2 of 4 messages (50%) translated, 1 fuzzy in a.po"),
+                            (["-f"], "3 of 4 messages (75%) translated, 1 fuzzy in a.po")):
+            self.assertEqual(self.call("--statistics", *words, "a.po")[1].splitlines()[0], said)
+        self.assertEqual(self.call("--statistics", "-n", "b.po", "c.po")[1].splitlines(), [
+            "0 of 0 messages (0%) translated in b.po", "1 of 1 messages (100%) translated in c.po", "2 files checked"])
+
+    def test_bar(self) -> None:
+        """A terminal shows the progress; nothing of it is left at the end."""
+        parent, child = pty.openpty()
+        done = subprocess.run([sys.executable, "-m", "kobdzila", "compile"], stdout=subprocess.PIPE, stderr=child,
+                              check=False)
+        os.close(child)
+        said = b""
+        with contextlib.suppress(OSError):
+            while part := os.read(parent, 4096):
+                said += part
+        os.close(parent)
+        self.assertEqual((done.returncode, done.stdout), (0, b"5 files compiled\n"))
+        self.assertIn(b"] 5/5", said)
+        self.assertTrue(said.endswith(b"\r\x1b[K"), said)
+
+    @unittest.skipUnless(MSGUNFMT, "no msgunfmt of GNU gettext")
+    def test_file_of_gnu(self) -> None:
+        """GNU msgunfmt reads the same from this file as from GNU msgfmt's."""
+        self.call("-i", "locale/fr/LC_MESSAGES/shop.po", "-o", "ours.mo")
+        subprocess.run([str(GNU), "-o", "theirs.mo", "locale/fr/LC_MESSAGES/shop.po"], check=True)
+        read = [subprocess.run([str(MSGUNFMT), it], capture_output=True, check=True).stdout for it in
+                ("ours.mo", "theirs.mo")]
+        self.assertEqual(read[0], read[1])
+
+    @unittest.skipUnless(importlib.util.find_spec("babel"), "no Babel")
+    def test_as_pybabel(self) -> None:
+        """Options have the meaning that they have there: each MO file is in its place, with its texts."""
+        for words in (["-d", "locale", "-D", "shop"], ["-d", "locale", "-D", "shop", "-l", "fr", "-f"],
+                      ["-i", "locale/fr/LC_MESSAGES/shop.po", "-o", "x.mo", "--statistics"],
+                      ["-i", "locale/fr/LC_MESSAGES/shop.po", "-d", "locale", "-l", "pt_BR", "-D", "shop"]):
+            subprocess.run([sys.executable, "-W", "ignore", "-m", "babel.messages.frontend", "compile", *words],
+                           check=True, capture_output=True)
+            theirs = {str(it): kobdzila.GNUTranslations(it) for it in Path(".").rglob("*.mo")}
+            names = self.made()
+            self.assertEqual(self.call(*words)[0], 0)
+            for name in names:
+                ours = kobdzila.GNUTranslations(name)
+                self.assertEqual([ours.gettext("basket"), ours.npgettext("menu", "%d item", "", 2)],
+                                 [theirs[name].gettext("basket"), theirs[name].npgettext("menu", "%d item", "", 2)])
+            self.assertEqual(self.made(), names, words)
+
+    @unittest.skipUnless(importlib.util.find_spec("django") and GNU, "no Django, or no GNU msgfmt")
+    def test_as_django(self) -> None:
+        """compilemessages makes the same files."""
+        for words in ([], ["-l", "fr"], ["-x", "pt_BR"], ["-i", "node_modules", "-i", "app"], ["-f", "--locale=pt_BR"]):
+            django = [sys.executable, "-W", "ignore", "-m", "django", "compilemessages", *words]
+            subprocess.run(django, check=True, capture_output=True)
+            names = self.made()
+            self.assertEqual(self.call(*words)[0], 0)
+            self.assertEqual(self.made(), names, words)
+
+    @unittest.skipUnless(shutil.which("pre-commit") and shutil.which("git"), "no pre-commit, or no git")
+    def test_hook(self) -> None:
+        """A repository of someone with the hook: a PO file with a fault isn't committed."""
+        hooks = self.room / "hooks"
+        hooks.mkdir()
+        shutil.copy(TOP / ".pre-commit-hooks.yaml", hooks)
+        (self.room / "bin").mkdir()
+        (self.room / "bin" / "python3").write_text(f'#!/bin/sh\nexec "{sys.executable}" "$@"\n')
+        (self.room / "bin" / "python3").chmod(0o755)
+        site = self.room / "site"
+        site.mkdir()
+        named = {f"GIT_{who}_{what}": "x" for who in ("AUTHOR", "COMMITTER") for what in ("NAME", "EMAIL")}
+        variables = {**os.environ, **named, "PRE_COMMIT_HOME": str(self.room / "home"), "HOME": str(self.room),
+                     "PATH": f"{self.room}/bin:{os.environ['PATH']}"}
+
+        def run(folder: Path, *command: str, status: int = 0) -> str:
+            done = subprocess.run(command, cwd=folder, env=variables, text=True, check=False, stdout=subprocess.PIPE,
+                                  stderr=subprocess.STDOUT)
+            self.assertEqual(done.returncode, status, done.stdout)
+            return done.stdout
+
+        for folder in (hooks, site):
+            run(folder, "git", "init", "-q", "-b", "main")
+        run(hooks, "git", "add", ".")
+        run(hooks, "git", "commit", "-q", "-m", "hooks")
+        revision = run(hooks, "git", "rev-parse", "HEAD").strip()
+        (site / ".pre-commit-config.yaml").write_text(
+            f"repos:\n  - repo: {hooks}\n    rev: {revision}\n    hooks:\n      - id: check-po\n")
+        (site / "fr.po").write_text(FRENCH, encoding="utf-8")
+        run(site, "git", "add", ".")
+        run(site, "pre-commit", "install")
+        run(site, "git", "commit", "-q", "-m", "well")
+        (site / "fr.po").write_text(FRENCH.replace('"panier"', '"panier'), encoding="utf-8")
+        line = FRENCH[:FRENCH.index('"panier"')].count("\n") + 1
+        run(site, "git", "add", ".")
+        said = run(site, "git", "commit", "-q", "-m", "broken", status=1)
+        self.assertIn(f"fr.po:{line}: string not closed", said)
+
+
+if __name__ == "__main__":
+    unittest.main()

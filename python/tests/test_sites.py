@@ -1,0 +1,246 @@
+"""Sites of Django and of Flask-Babel whose texts come from a live store."""
+from __future__ import annotations
+
+import importlib.util
+import subprocess
+import sys
+import tempfile
+import unittest
+from pathlib import Path
+
+import kobdzila
+from texts import HEADER
+
+PO = HEADER + r"""
+msgid "basket"
+msgstr "{0}"
+
+msgctxt "verb"
+msgid "order"
+msgstr "{0} verb"
+
+msgid "%(n)s file"
+msgid_plural "%(n)s files"
+msgstr[0] "{0} %(n)s fichier"
+msgstr[1] "{0} %(n)s fichiers"
+"""
+
+# a site whose settings have the two lines of the guide
+SITE = r'''
+import asyncio, os, sys, time
+from pathlib import Path
+
+sys.path[:0] = sys.argv[1].split("|")
+import django
+from django.conf import settings
+
+FOLDER = Path(sys.argv[2])
+settings.configure(
+    SECRET_KEY="x", ALLOWED_HOSTS=["*"], ROOT_URLCONF=__name__, USE_I18N=True, USE_TZ=True, LANGUAGE_CODE="en",
+    INSTALLED_APPS=["kobdzila.django"], LOCALE_PATHS=[str(FOLDER), str(FOLDER / "none")],
+    KOBDZILA_WATCH={"every": 0.02, "settle": 0.01},
+    MIDDLEWARE=["django.middleware.locale.LocaleMiddleware"],
+    TEMPLATES=[{"BACKEND": "django.template.backends.django.DjangoTemplates"}])
+django.setup()
+
+from django.http import HttpResponse
+from django.template import engines
+from django.test import AsyncClient, Client
+from django.urls import path
+from django.utils import translation
+from django.utils.translation import gettext, gettext_lazy, ngettext, npgettext, pgettext
+
+import kobdzila
+
+TITLE = gettext_lazy("basket")
+OWN = kobdzila.lazy_gettext("basket"), kobdzila.lazy_pgettext("verb", "order"), kobdzila.lazy_ngettext("a", "%(n)s", 2)
+TEMPLATE = engines["django"].from_string(
+    "{% load i18n %}{% trans 'basket' %}|{% blocktrans count n=n %}{{ n }} file{% plural %}{{ n }} files{% endblocktrans %}")
+
+
+def put(name):
+    text = PO.replace("{0}", name)
+    (FOLDER / "fr" / "LC_MESSAGES" / "new").write_text(text, encoding="utf-8")
+    os.replace(FOLDER / "fr" / "LC_MESSAGES" / "new", FOLDER / "fr" / "LC_MESSAGES" / "django.po")
+
+
+def until(what):
+    end = time.monotonic() + 60
+    while not what():
+        assert time.monotonic() < end, "it didn't come to that in time"
+        time.sleep(0.01)
+
+
+def page(request):
+    before = gettext("basket")
+    if request.GET.get("put"):
+        put(request.GET["put"])
+        with translation.override("de"):
+            assert gettext("basket") == "basket", gettext("basket")
+        from kobdzila.django import _live
+        until(lambda: _live.stores()[0].snapshot("fr", "django").gettext("basket") == request.GET["put"])
+        translation.activate("fr")
+    texts = [before, gettext("basket"), str(TITLE), pgettext("verb", "order"), ngettext("%(n)s file", "%(n)s files", 2),
+             npgettext("none", "%(n)s file", "%(n)s files", 1), ngettext("%(n)s file", "%(n)s files", -1),
+             gettext("Yes"), gettext("nothing of it"), TEMPLATE.render({"n": 3}), " ".join(map(str, OWN))]
+    return HttpResponse("\n".join(texts))
+
+
+async def later(request):
+    before = str(OWN[0])
+    await asyncio.sleep(0.01)
+    return HttpResponse(f"{before} {OWN[0]} {gettext('basket')}")
+
+
+urlpatterns = [path("", page), path("later", later)]
+PO = sys.argv[3]
+
+
+def get(accepted, **words):
+    return Client().get("/", words, HTTP_ACCEPT_LANGUAGE=accepted).content.decode().split("\n")
+
+
+def french(name):
+    return [name, name, name, name + " verb", name + " %(n)s fichiers", name + " %(n)s fichier", name + " %(n)s fichier",
+            "Oui", "nothing of it", name + "|" + name + " 3 fichiers", name + " " + name + " verb %(n)s"]
+
+
+put("panier")
+assert str(OWN[0]) == "basket"  # (as for a command, which has the default language)
+assert get("fr-CA, de") == french("panier"), get("fr-CA, de")
+
+
+async def both():
+    pages = await asyncio.gather(*(AsyncClient().get("/later", ACCEPT_LANGUAGE=it) for it in ("fr", "en")))
+    assert [it.content.decode() for it in pages] == ["panier panier panier", "basket basket basket"], pages
+
+
+asyncio.run(both())
+assert get("en")[:2] == ["basket", "basket"] and get("de")[7] == "Ja"
+# a request has one version, whatever is published meanwhile, and another language in between
+assert get("fr", put="corbeille") == french("panier"), "a request has two versions"
+assert get("fr") == french("corbeille"), "the next request has the older version"
+# outside of requests each text is of the newest version
+with translation.override("fr"):
+    put("cabas")
+    until(lambda: gettext("basket") == "cabas")
+    assert str(TITLE) == "cabas"
+# other settings, as tests have them
+from django.test.utils import override_settings
+store = kobdzila.Store("django")
+store.load("django", "fr", PO.replace("{0}", "store").encode())
+store.publish()
+with override_settings(KOBDZILA_STORE=store, LOCALE_PATHS=[]):
+    assert get("fr") == french("store"), get("fr")
+    store.load("django", "fr", PO.replace("{0}", "again").encode())
+    store.publish()
+    assert get("fr") == french("again")
+assert get("fr") == french("cabas")
+print("well")
+'''
+
+# a Flask-Babel application with the three lines of the guide
+FLASK = r'''
+import os, sys, time
+from pathlib import Path
+
+sys.path[:0] = sys.argv[1].split("|")
+FOLDER, PO = Path(sys.argv[2]), sys.argv[3]
+import warnings
+warnings.simplefilter("ignore")  # (of the module cgi, which Babel 2.10 imports)
+import flask_babel
+from flask import Flask, has_request_context, render_template_string, request
+from flask_babel import Babel, force_locale, gettext, lazy_gettext, ngettext, npgettext, pgettext
+import kobdzila, kobdzila.flask
+
+app = Flask(__name__)
+babel = Babel(app)
+store = kobdzila.Store("messages")
+kobdzila.flask.init_app(app, store)
+TITLE = lazy_gettext("basket")
+OWN = kobdzila.lazy_gettext("basket"), kobdzila.lazy_pgettext("verb", "order"), kobdzila.lazy_ngettext("a", "b", 2)
+
+
+@app.before_request
+def early():
+    if request.args.get("early"):
+        return " ".join(map(str, OWN))
+
+
+@babel.localeselector
+def locale():
+    return request.accept_languages.best_match(["en", "fr", "pt_BR"]) if has_request_context() else "fr"
+
+
+@app.get("/")
+def page():
+    before = gettext("basket")
+    if request.args.get("put"):
+        load("fr", request.args["put"])
+    with force_locale("pt_BR"):
+        other = f"{gettext('basket')} {OWN[0]}"
+    texts = [before, gettext("basket"), str(TITLE), pgettext("verb", "order"), ngettext("%(n)s file", "%(n)s files", 2, n=2),
+             npgettext("none", "%(n)s file", "%(n)s files", 1, n=1), ngettext("%(n)s file", "%(n)s files", -1, n=-1), other,
+             render_template_string("{{ _('basket') }}|{% trans n=n %}{{ n }} file{% pluralize %}{{ n }} files{% endtrans %}",
+                                    n=3), " ".join(map(str, OWN))]
+    return "\n".join(texts)
+
+
+def load(locale, name):
+    store.load("messages", locale, PO.replace("{0}", name).encode())
+    store.publish()
+
+
+def get(accepted, **words):
+    return app.test_client().get("/", query_string=words, headers={"Accept-Language": accepted}).text.split("\n")
+
+
+def french(name):
+    return [name, name, name, name + " verb", name + " 2 fichiers", "1 file", name + " -1 fichier", "cesta cesta",
+            name + "|" + name + " 3 fichiers", name + " " + name + " verb b"]
+
+
+load("fr", "panier")
+load("pt", "cesta")
+assert str(OWN[0]) == "basket"
+assert get("fr") == french("panier"), get("fr")
+assert get("fr", early="1") == ["panier panier verb b"], get("fr", early="1")
+assert get("fr", put="corbeille") == french("panier"), "a request has two versions"
+assert get("fr") == french("corbeille"), get("fr")
+assert get("en")[:3] == ["basket"] * 3
+assert get("pt-BR")[:3] == ["cesta"] * 3
+with app.app_context():
+    assert gettext("basket") == "corbeille"
+other = Flask("other")
+try:
+    kobdzila.flask.init_app(other, store)
+except RuntimeError as fault:
+    assert "Babel(app)" in str(fault)
+else:
+    raise AssertionError
+print("well")
+'''
+
+
+def there(*names: str) -> bool:
+    return all(importlib.util.find_spec(name) for name in names)
+
+
+class SitesTest(unittest.TestCase):
+    def play(self, program: str) -> None:
+        with tempfile.TemporaryDirectory() as room:
+            (Path(room) / "fr" / "LC_MESSAGES").mkdir(parents=True)
+            done = subprocess.run([sys.executable, "-c", program, "|".join(sys.path), room, PO], capture_output=True, text=True)
+        self.assertEqual((done.stdout, done.returncode), ("well\n", 0), done.stderr)
+
+    @unittest.skipUnless(there("django"), "no Django")
+    def test_django(self) -> None:
+        self.play(SITE)
+
+    @unittest.skipUnless(there("flask", "flask_babel"), "no Flask-Babel")
+    def test_flask_babel(self) -> None:
+        self.play(FLASK)
+
+
+if __name__ == "__main__":
+    unittest.main()
