@@ -6,6 +6,7 @@ use std::os::unix::ffi::OsStrExt;
 use std::path::Path;
 
 use crate::entries::Entries;
+use crate::lookup::{look_ups, Lookup};
 use crate::question::Question;
 use crate::refused::Refused;
 use crate::sys;
@@ -67,6 +68,17 @@ impl Options {
         Options { use_fuzzy, ..self }
     }
 
+    /// The letters that the scripts of catsession have for these options.
+    #[cfg(feature = "session")]
+    pub(crate) fn letters(self) -> &'static str {
+        match (self.checked, self.use_fuzzy) {
+            (false, false) => "-",
+            (true, false) => "c",
+            (false, true) => "f",
+            (true, true) => "cf",
+        }
+    }
+
     fn flags(self) -> u32 {
         let checked = if self.checked { sys::KOB_CHECKED } else { 0 };
         let use_fuzzy = if self.use_fuzzy { sys::KOB_USE_FUZZY } else { 0 };
@@ -83,6 +95,7 @@ impl Options {
 /// assert_eq!(format, Format::Po(Options::default()));
 /// ```
 #[derive(Clone, Copy, Debug, PartialEq, Eq, Hash)]
+#[non_exhaustive]
 pub enum Format {
     /// An MO file, which programs install.
     Mo,
@@ -98,7 +111,7 @@ pub enum Format {
 /// # Look-ups
 ///
 /// `gettext` and the three calls named after it return the translation, or the text that you gave if there is none.
-/// `find` and its kin return `None` then. An answer borrows the catalogue, and for `gettext` also your text:
+/// `find` and `find_many` return `None` then. An answer borrows the catalogue, and for `gettext` also your text:
 ///
 /// ```compile_fail,E0505
 /// # let po = b"msgid \"Winter\"\nmsgstr \"Hiver\"\n";
@@ -131,7 +144,7 @@ pub enum Format {
 /// ```
 ///
 /// A msgid is any `str`, also one with a NUL: no message has it, so nothing is found. As in C, a msgid that has byte 4
-/// (`"menu\u{4}Open"`) asks for the message after that byte in the context before it.
+/// (`"menu\u{4}Open"`) finds the message after that byte in the context before it.
 ///
 /// # Processes and signals
 ///
@@ -194,157 +207,42 @@ impl Catalogue {
         Ok(Catalogue(sys::Catalogue::open(&name, kind, options)?))
     }
 
-    /// Returns the translation of `msgid`, or `msgid` itself if there is none.
-    ///
-    /// ```
-    /// use kobdzila::{Catalogue, Options};
-    ///
-    /// let fr = Catalogue::from_po(b"msgid \"Winter\"\nmsgstr \"Hiver\"\n", Options::new())?;
-    /// assert_eq!(fr.gettext("Winter"), "Hiver");
-    /// assert_eq!(fr.gettext("Summer"), "Summer");
-    /// # Ok::<(), kobdzila::Refused>(())
-    /// ```
-    #[inline]
-    pub fn gettext<'a>(&'a self, msgid: &'a str) -> &'a str {
-        self.find(msgid).unwrap_or(msgid)
+    look_ups! {
+        [<'a>] [&'a self] self,
+        "# let fr = kobdzila::Catalogue::open(\"examples/fr.po\", kobdzila::Format::Po(Default::default()))?;"
     }
 
-    /// Returns the translation of `msgid` in `context`, or `msgid` itself if there is none.
+    /// Returns the translation of a message, or the plural form that is requested, if there is one. It may be
+    /// empty, as that of a message whose `msgstr` is.
     ///
     /// ```
-    /// use kobdzila::{Catalogue, Options};
+    /// use kobdzila::{Catalogue, Options, Question};
     ///
-    /// let po = b"msgctxt \"menu\"\nmsgid \"Open\"\nmsgstr \"Ouvrir\"\n";
+    /// let po = b"msgid \"Winter\"\nmsgstr \"Hiver\"\nmsgctxt \"menu\"\nmsgid \"Open\"\nmsgstr \"Ouvrir\"\n";
     /// let fr = Catalogue::from_po(po, Options::new())?;
-    /// assert_eq!(fr.pgettext("menu", "Open"), "Ouvrir");
-    /// assert_eq!(fr.pgettext("door", "Open"), "Open");
-    /// # Ok::<(), kobdzila::Refused>(())
-    /// ```
-    #[inline]
-    pub fn pgettext<'a>(&'a self, context: &str, msgid: &'a str) -> &'a str {
-        self.find_in(context, msgid).unwrap_or(msgid)
-    }
-
-    /// Returns the plural form for `n`, which the rule in the catalogue's header chooses. If there is no translation,
-    /// it is `msgid` if `n` is 1, and `plural` otherwise.
-    ///
-    /// ```
-    /// use kobdzila::{Catalogue, Options};
-    ///
-    /// let po = br#"
-    /// msgid ""
-    /// msgstr "Plural-Forms: nplurals=2; plural=n>1;\n"
-    /// msgid "tomato"
-    /// msgid_plural "tomatoes"
-    /// msgstr[0] "tomate"
-    /// msgstr[1] "tomates"
-    /// "#;
-    /// let fr = Catalogue::from_po(po, Options::new())?;
-    /// assert_eq!(fr.ngettext("tomato", "tomatoes", 0), "tomate");
-    /// assert_eq!(fr.ngettext("tomato", "tomatoes", 3), "tomates");
-    /// assert_eq!(fr.ngettext("pea", "peas", 3), "peas");
-    /// # Ok::<(), kobdzila::Refused>(())
-    /// ```
-    #[inline]
-    pub fn ngettext<'a>(&'a self, msgid: &'a str, plural: &'a str, n: u64) -> &'a str {
-        self.find_plural(msgid, n)
-            .unwrap_or(if n == 1 { msgid } else { plural })
-    }
-
-    /// Like [`ngettext`](Catalogue::ngettext), for a message in `context`.
-    ///
-    /// ```
-    /// use kobdzila::{Catalogue, Options};
-    ///
-    /// let po = b"msgctxt \"bed\"\nmsgid \"row\"\nmsgid_plural \"rows\"\nmsgstr[0] \"rang\"\nmsgstr[1] \"rangs\"\n";
-    /// let fr = Catalogue::from_po(po, Options::new())?;
-    /// assert_eq!(fr.npgettext("bed", "row", "rows", 2), "rangs");
-    /// assert_eq!(fr.npgettext("table", "row", "rows", 2), "rows");
-    /// # Ok::<(), kobdzila::Refused>(())
-    /// ```
-    #[inline]
-    pub fn npgettext<'a>(&'a self, context: &str, msgid: &'a str, plural: &'a str, n: u64) -> &'a str {
-        let found = self.find_plural_in(context, msgid, n);
-        found.unwrap_or(if n == 1 { msgid } else { plural })
-    }
-
-    /// Returns the translation of `msgid`, if there is one. It may be empty, as that of a message whose `msgstr` is.
-    ///
-    /// ```
-    /// use kobdzila::{Catalogue, Options};
-    ///
-    /// let fr = Catalogue::from_po(b"msgid \"Winter\"\nmsgstr \"Hiver\"\n", Options::new())?;
     /// assert_eq!(fr.find("Winter"), Some("Hiver"));
     /// assert_eq!(fr.find("Summer"), None);
+    /// assert_eq!(fr.find(Question::new("Open").context("menu")), Some("Ouvrir"));
     /// # Ok::<(), kobdzila::Refused>(())
     /// ```
     #[inline]
-    pub fn find(&self, msgid: &str) -> Option<&str> {
-        self.0.find(None, msgid, None)
+    pub fn find<'q>(&self, question: impl Into<Question<'q>>) -> Option<&str> {
+        self.0.find(&question.into())
     }
 
-    /// Returns the translation of `msgid` in `context`, if there is one.
-    ///
-    /// ```
-    /// use kobdzila::{Catalogue, Options};
-    ///
-    /// let po = b"msgctxt \"menu\"\nmsgid \"Open\"\nmsgstr \"Ouvrir\"\n";
-    /// let fr = Catalogue::from_po(po, Options::new())?;
-    /// assert_eq!(fr.find_in("menu", "Open"), Some("Ouvrir"));
-    /// assert_eq!(fr.find_in("", "Open"), None); // the empty context, which isn't no context
-    /// # Ok::<(), kobdzila::Refused>(())
-    /// ```
-    #[inline]
-    pub fn find_in(&self, context: &str, msgid: &str) -> Option<&str> {
-        self.0.find(Some(context), msgid, None)
-    }
-
-    /// Returns the plural form of `msgid` for `n`, if there is a translation.
-    ///
-    /// ```
-    /// use kobdzila::{Catalogue, Options};
-    ///
-    /// let po = b"msgid \"row\"\nmsgid_plural \"rows\"\nmsgstr[0] \"rang\"\nmsgstr[1] \"rangs\"\n";
-    /// let fr = Catalogue::from_po(po, Options::new())?;
-    /// assert_eq!(fr.find_plural("row", 2), Some("rangs"));
-    /// assert_eq!(fr.find_plural("bed", 2), None);
-    /// # Ok::<(), kobdzila::Refused>(())
-    /// ```
-    #[inline]
-    pub fn find_plural(&self, msgid: &str, n: u64) -> Option<&str> {
-        self.0.find(None, msgid, Some(n))
-    }
-
-    /// Returns the plural form of `msgid` in `context` for `n`, if there is a translation.
-    ///
-    /// ```
-    /// use kobdzila::{Catalogue, Options};
-    ///
-    /// let po = b"msgctxt \"bed\"\nmsgid \"row\"\nmsgid_plural \"rows\"\nmsgstr[0] \"rang\"\nmsgstr[1] \"rangs\"\n";
-    /// let fr = Catalogue::from_po(po, Options::new())?;
-    /// assert_eq!(fr.find_plural_in("bed", "row", 1), Some("rang"));
-    /// assert_eq!(fr.find_plural_in("table", "row", 1), None);
-    /// # Ok::<(), kobdzila::Refused>(())
-    /// ```
-    #[inline]
-    pub fn find_plural_in(&self, context: &str, msgid: &str, n: u64) -> Option<&str> {
-        self.0.find(Some(context), msgid, Some(n))
-    }
-
-    /// Returns the answers to several questions, in their order, each as `find` and its kin return it.
+    /// Returns the answers to several questions, in their order, each as [`find`](Catalogue::find) returns it.
     ///
     /// In a catalogue of tens of thousands of messages this takes less time than one call for each, since the
-    /// processor waits for the memory of several messages at once. In a small one it makes single calls. It takes
-    /// memory for the list of answers.
+    /// processor waits for the memory of several messages at once. In a small one it makes single calls. It allocates
+    /// the list of answers, and nothing else.
     ///
     /// ```
     /// use kobdzila::{Catalogue, Options, Question};
     ///
     /// let po = b"msgid \"Winter\"\nmsgstr \"Hiver\"\nmsgid \"row\"\nmsgid_plural \"rows\"\nmsgstr[0] \"rang\"\n";
     /// let fr = Catalogue::from_po(po, Options::new())?;
-    /// let row = Question { n: Some(1), ..Question::new("row") };
-    /// let answers = fr.find_many(&[Question::new("Winter"), row, Question::new("Summer")]);
-    /// assert_eq!(answers, [Some("Hiver"), Some("rang"), None]);
+    /// let page = [Question::new("Winter"), Question::new("row").number(1), Question::new("Summer")];
+    /// assert_eq!(fr.find_many(&page), [Some("Hiver"), Some("rang"), None]);
     /// # Ok::<(), kobdzila::Refused>(())
     /// ```
     pub fn find_many(&self, questions: &[Question<'_>]) -> Vec<Option<&str>> {
@@ -402,6 +300,17 @@ impl Catalogue {
 
     pub(crate) fn handle(&self) -> &sys::Catalogue {
         &self.0
+    }
+}
+
+impl Lookup for Catalogue {
+    #[inline]
+    fn find(&self, question: Question<'_>) -> Option<&str> {
+        self.0.find(&question)
+    }
+
+    fn find_many(&self, questions: &[Question<'_>]) -> Vec<Option<&str>> {
+        self.0.find_many(questions)
     }
 }
 

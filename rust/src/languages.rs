@@ -1,22 +1,25 @@
-//! Lists of languages that are looked at once.
+//! Resolved lists of languages.
 
 use std::fmt;
 
+use crate::lookup::{look_ups, Lookup};
+use crate::names::Domain;
 use crate::question::Question;
+use crate::set::Set;
 use crate::sys;
 
-/// A list of languages in a text domain of a set, looked at once for many look-ups.
+/// A list of languages that was resolved in a text domain of a set, for many look-ups.
 ///
 /// [`Set::languages`](crate::Set::languages) and [`Snapshot::languages`](crate::Snapshot::languages) make it. The
 /// answers are those of the set, with this domain and list. A call takes less time, since it doesn't search for the
 /// catalogues. If the list names more than 16 catalogues of the set, each call looks at it again.
 ///
 /// ```
-/// use kobdzila::{Catalogue, Options, Set};
+/// use kobdzila::{Catalogue, Domain, Options, Set};
 ///
 /// let fr = Catalogue::from_po(b"msgid \"Winter\"\nmsgstr \"Hiver\"\n", Options::new())?;
-/// let set = Set::new().with("garden", "fr", &fr)?;
-/// let list = set.languages("garden", "de:fr_CA");
+/// let set = Set::new().with(Domain("garden"), "fr", &fr)?;
+/// let list = set.languages(Domain("garden"), "de:fr_CA");
 /// assert_eq!(list.gettext("Winter"), "Hiver");
 /// assert_eq!(list.gettext("Summer"), "Summer");
 /// # Ok::<(), kobdzila::Refused>(())
@@ -26,7 +29,7 @@ use crate::sys;
 ///
 /// ```compile_fail,E0505
 /// let set = kobdzila::Set::new();
-/// let list = set.languages("garden", "fr");
+/// let list = set.languages(kobdzila::Domain("garden"), "fr");
 /// drop(set);
 /// println!("{}", list.gettext("Winter")); // error: the list borrows the set
 /// ```
@@ -34,106 +37,37 @@ use crate::sys;
 pub struct Languages<'a>(pub(crate) sys::Languages<'a>);
 
 impl<'a> Languages<'a> {
-    /// Returns the translation of `msgid`, or `msgid` itself if there is none.
-    ///
-    /// ```
-    /// let set = kobdzila::Set::new();
-    /// assert_eq!(set.languages("garden", "fr").gettext("Winter"), "Winter");
-    /// ```
-    #[inline]
-    pub fn gettext(&self, msgid: &'a str) -> &'a str {
-        self.find(msgid).unwrap_or(msgid)
+    look_ups! {
+        [] [&self] self,
+        "# use kobdzila::{Catalogue, Domain, Format, Options, Set};
+# let fr = Catalogue::open(\"examples/fr.po\", Format::Po(Options::new()))?;
+# let set = Set::new().with(Domain(\"garden\"), \"fr\", &fr)?;
+# let fr = set.languages(Domain(\"garden\"), \"fr\");"
     }
 
-    /// Returns the translation of `msgid` in `context`, or `msgid` itself if there is none.
+    /// Returns the translation of a message, or the plural form that is requested, if there is one.
     ///
     /// ```
-    /// let set = kobdzila::Set::new();
-    /// assert_eq!(set.languages("garden", "fr").pgettext("menu", "Open"), "Open");
+    /// # use kobdzila::{Domain, Question, Set};
+    /// let set = Set::new();
+    /// let list = set.languages(Domain("garden"), "fr");
+    /// assert_eq!(list.find("Winter"), None);
+    /// assert_eq!(list.find(Question::new("row").context("bed").number(2)), None);
     /// ```
     #[inline]
-    pub fn pgettext(&self, context: &str, msgid: &'a str) -> &'a str {
-        self.find_in(context, msgid).unwrap_or(msgid)
-    }
-
-    /// Returns the plural form for `n`. If there is no translation, it is `msgid` if `n` is 1, and `plural` otherwise.
-    ///
-    /// ```
-    /// use kobdzila::{Catalogue, Options, Set};
-    ///
-    /// let po = b"msgid \"row\"\nmsgid_plural \"rows\"\nmsgstr[0] \"rang\"\nmsgstr[1] \"rangs\"\n";
-    /// let set = Set::new().with("garden", "fr", &Catalogue::from_po(po, Options::new())?)?;
-    /// assert_eq!(set.languages("garden", "fr").ngettext("row", "rows", 2), "rangs");
-    /// assert_eq!(set.languages("garden", "de").ngettext("row", "rows", 2), "rows");
-    /// # Ok::<(), kobdzila::Refused>(())
-    /// ```
-    #[inline]
-    pub fn ngettext(&self, msgid: &'a str, plural: &'a str, n: u64) -> &'a str {
-        let found = self.find_plural(msgid, n);
-        found.unwrap_or(if n == 1 { msgid } else { plural })
-    }
-
-    /// Like [`ngettext`](Languages::ngettext), for a message in `context`.
-    ///
-    /// ```
-    /// let set = kobdzila::Set::new();
-    /// assert_eq!(set.languages("garden", "fr").npgettext("bed", "row", "rows", 1), "row");
-    /// ```
-    #[inline]
-    pub fn npgettext(&self, context: &str, msgid: &'a str, plural: &'a str, n: u64) -> &'a str {
-        let found = self.find_plural_in(context, msgid, n);
-        found.unwrap_or(if n == 1 { msgid } else { plural })
-    }
-
-    /// Returns the translation of `msgid`, if there is one.
-    ///
-    /// ```
-    /// assert_eq!(kobdzila::Set::new().languages("garden", "fr").find("Winter"), None);
-    /// ```
-    #[inline]
-    pub fn find(&self, msgid: &str) -> Option<&'a str> {
-        self.0.find(None, msgid, None)
-    }
-
-    /// Returns the translation of `msgid` in `context`, if there is one.
-    ///
-    /// ```
-    /// assert_eq!(kobdzila::Set::new().languages("garden", "fr").find_in("menu", "Open"), None);
-    /// ```
-    #[inline]
-    pub fn find_in(&self, context: &str, msgid: &str) -> Option<&'a str> {
-        self.0.find(Some(context), msgid, None)
-    }
-
-    /// Returns the plural form of `msgid` for `n`, if there is a translation.
-    ///
-    /// ```
-    /// assert_eq!(kobdzila::Set::new().languages("garden", "fr").find_plural("row", 2), None);
-    /// ```
-    #[inline]
-    pub fn find_plural(&self, msgid: &str, n: u64) -> Option<&'a str> {
-        self.0.find(None, msgid, Some(n))
-    }
-
-    /// Returns the plural form of `msgid` in `context` for `n`, if there is a translation.
-    ///
-    /// ```
-    /// assert_eq!(kobdzila::Set::new().languages("garden", "fr").find_plural_in("bed", "row", 2), None);
-    /// ```
-    #[inline]
-    pub fn find_plural_in(&self, context: &str, msgid: &str, n: u64) -> Option<&'a str> {
-        self.0.find(Some(context), msgid, Some(n))
+    pub fn find<'q>(&self, question: impl Into<Question<'q>>) -> Option<&'a str> {
+        self.0.find(&question.into())
     }
 
     /// Returns the answers to several questions, in their order, as
     /// [`Catalogue::find_many`](crate::Catalogue::find_many) does.
     ///
     /// ```
-    /// use kobdzila::{Catalogue, Options, Question, Set};
+    /// use kobdzila::{Catalogue, Domain, Options, Question, Set};
     ///
     /// let fr = Catalogue::from_po(b"msgid \"Winter\"\nmsgstr \"Hiver\"\n", Options::new())?;
-    /// let set = Set::new().with("garden", "fr", &fr)?;
-    /// let list = set.languages("garden", "de:fr");
+    /// let set = Set::new().with(Domain("garden"), "fr", &fr)?;
+    /// let list = set.languages(Domain("garden"), "de:fr");
     /// let answers = list.find_many(&[Question::new("Summer"), Question::new("Winter")]);
     /// assert_eq!(answers, [None, Some("Hiver")]);
     /// # Ok::<(), kobdzila::Refused>(())
@@ -143,8 +77,65 @@ impl<'a> Languages<'a> {
     }
 }
 
+impl Lookup for Languages<'_> {
+    #[inline]
+    fn find(&self, question: Question<'_>) -> Option<&str> {
+        self.0.find(&question)
+    }
+
+    fn find_many(&self, questions: &[Question<'_>]) -> Vec<Option<&str>> {
+        self.0.find_many(questions)
+    }
+}
+
 impl fmt::Debug for Languages<'_> {
     fn fmt(&self, f: &mut fmt::Formatter<'_>) -> fmt::Result {
         f.debug_struct("Languages").finish_non_exhaustive()
+    }
+}
+
+/// A list of languages in a text domain of a set, with the set: what a program keeps for its own texts.
+///
+/// [`Set::into_languages`](crate::Set::into_languages) makes it. It borrows nothing, may be sent and shared, and has the
+/// look-ups of the trait [`Lookup`]. Each of them looks at the list; [`as_languages`](OwnedLanguages::as_languages)
+/// looks at it once for several.
+///
+/// ```
+/// use kobdzila::{Catalogue, Domain, Lookup, Options, Set};
+///
+/// let fr = Catalogue::from_po(b"msgid \"Winter\"\nmsgstr \"Hiver\"\n", Options::new())?;
+/// let texts = Set::new().with(Domain("garden"), "fr", &fr)?.into_languages(Domain("garden"), "de:fr_CA");
+/// std::thread::spawn(move || assert_eq!(texts.gettext("Winter"), "Hiver")).join().unwrap();
+/// # Ok::<(), kobdzila::Refused>(())
+/// ```
+#[derive(Clone, Debug)]
+pub struct OwnedLanguages {
+    pub(crate) set: Set,
+    pub(crate) domain: Box<str>,
+    pub(crate) languages: Box<str>,
+}
+
+impl OwnedLanguages {
+    /// Looks at the list once, for many look-ups.
+    ///
+    /// ```
+    /// # use kobdzila::{Domain, Set};
+    /// let texts = Set::new().into_languages(Domain("garden"), "fr");
+    /// assert_eq!(texts.as_languages().gettext("Winter"), "Winter");
+    /// ```
+    #[inline]
+    pub fn as_languages(&self) -> Languages<'_> {
+        self.set.languages(Domain(&self.domain), &self.languages)
+    }
+}
+
+impl Lookup for OwnedLanguages {
+    #[inline]
+    fn find(&self, question: Question<'_>) -> Option<&str> {
+        self.set.find(Domain(&self.domain), &self.languages, question)
+    }
+
+    fn find_many(&self, questions: &[Question<'_>]) -> Vec<Option<&str>> {
+        self.as_languages().find_many(questions)
     }
 }

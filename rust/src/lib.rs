@@ -22,21 +22,33 @@
 //! ```
 //!
 //! - [`Catalogue`]: the messages of one file. It is immutable, and cloning it counts a reference.
-//! - [`Set`]: catalogues for several text domains and languages, with look-ups by a list of languages. [`Languages`] is
-//!   a list that is looked at once for many of them.
-//! - [`Question`]: what `find_many` of a catalogue or a list is asked, to look up several messages at once.
-//! - [`Store`]: a set whose catalogues are replaced while threads look up in it. Each thread has a [`Reader`], whose
-//!   [`Snapshot`]s have the look-ups.
+//! - [`Set`]: catalogues for several text domains and languages. [`Languages`] is a list of languages in one of its
+//!   domains, and has the look-ups.
+//! - [`Lookup`] and [`Catalogues`]: traits for code that doesn't care which of these provides its translations.
+//! - [`Question`]: a message in a context, or its plural form for a number.
+//! - [`Store`]: a set whose catalogues are replaced while threads look up in it. Each thread has a [`Reader`], which
+//!   enters [`Snapshot`]s.
 //! - [`Refused`]: why a file, a text or a name was refused, with the line of a PO text.
+//!
+//! # Features
+//!
+//! | Feature | What it adds |
+//! | --- | --- |
+//! | `static`, on by default | `libkobdzila.a` becomes part of your program. Without it the program loads `libkobdzila.so.0` |
+//! | `macros` | [`t!`], [`tn!`], [`tp!`] and [`tnp!`]: texts with named arguments |
+//! | `languages` | [`Preferences`]: the languages of the environment, or of the header Accept-Language |
+//! | `watch` | [`Watch`]: loads a folder's catalogues again when they change |
+//! | `session` | [`Session`]: a client of the program catsession, for a store in a process of its own |
+//!
+//! None of them has a dependency.
 //!
 //! The library compiles and reads files, keeps them in memory and finds messages; this crate borrows its strings and
 //! copies none. What is proved of the library ends where this crate begins: the calls into C are tested.
 //!
 //! # Linking
 //!
-//! The build script asks `pkg-config` for libkobdzila. If the environment variable `KOBDZILA_LIB_DIR` is set, it takes
-//! the library from that folder. The feature `static` links `libkobdzila.a` into your program. The library runs on
-//! Linux.
+//! The build script of `kobdzila-sys` asks `pkg-config` for libkobdzila. If the environment variable `KOBDZILA_LIB_DIR`
+//! is set, it takes the library from that folder. The library runs on 64-bit Linux.
 
 #![deny(missing_docs)]
 #![deny(unsafe_code)]
@@ -46,25 +58,46 @@
 mod catalogue;
 mod entries;
 mod languages;
+mod lookup;
+#[cfg(feature = "macros")]
+#[doc(hidden)]
+pub mod messages;
+mod names;
+#[cfg(feature = "languages")]
+mod preferences;
 mod question;
 mod reader;
 mod refused;
+#[cfg(feature = "session")]
+mod session;
 mod set;
 mod store;
 #[allow(unsafe_code)]
 mod sys;
+#[cfg(feature = "watch")]
+mod watch;
 
 pub use catalogue::{Catalogue, Format, Options};
 pub use entries::{Entries, Entry, Forms};
-pub use languages::Languages;
+pub use languages::{Languages, OwnedLanguages};
+pub use lookup::{Catalogues, Lookup};
+#[cfg(feature = "macros")]
+pub use messages::{report_mismatches, set_texts, Mismatch};
+pub use names::{Domain, Name};
+#[cfg(feature = "languages")]
+pub use preferences::Preferences;
 pub use question::Question;
 pub use reader::{Notice, Reader, Snapshot, WrongStore};
 pub use refused::{Kind, Refused};
+#[cfg(feature = "session")]
+pub use session::{Answer, Ask, LoadRefusal, Session, SessionError};
 pub use set::Set;
 pub use store::{PublishError, Store};
+#[cfg(feature = "watch")]
+pub use watch::{FileRefused, Watch, WatchOptions};
 
 /// Compiles the example of the README as a test.
-#[cfg(doctest)]
+#[cfg(all(doctest, feature = "macros", feature = "languages"))]
 #[doc = include_str!("../README.md")]
 struct Readme;
 

@@ -1,37 +1,87 @@
-//! What many look-ups at once are asked.
+//! What is looked up.
 
-/// A message to look up: a msgid, in a context or in none, and a number if a plural form is asked for.
+/// A message to look up: a msgid, in a context or in none, and a number if a plural form is wanted.
 ///
-/// [`Catalogue::find_many`](crate::Catalogue::find_many) and
-/// [`Languages::find_many`](crate::Languages::find_many) take several.
+/// Wherever a `Question` is expected, a msgid alone works:
 ///
 /// ```
-/// use kobdzila::Question;
+/// use kobdzila::{Catalogue, Options, Question};
 ///
-/// let rows = Question { context: Some("bed"), n: Some(2), ..Question::new("row") };
-/// assert_eq!(rows.msgid, "row");
+/// let po = b"msgctxt \"bed\"\nmsgid \"row\"\nmsgid_plural \"rows\"\nmsgstr[0] \"rang\"\nmsgstr[1] \"rangs\"\n";
+/// let fr = Catalogue::from_po(po, Options::new())?;
+/// assert_eq!(fr.find(Question::new("row").context("bed").number(2)), Some("rangs"));
+/// assert_eq!(fr.find("row"), None);
+/// # Ok::<(), kobdzila::Refused>(())
 /// ```
 #[derive(Clone, Copy, Debug, PartialEq, Eq, Hash)]
 pub struct Question<'a> {
-    /// The msgid.
-    pub msgid: &'a str,
-    /// The context of the message. The empty context isn't no context.
-    pub context: Option<&'a str>,
-    /// The number whose plural form is asked for. Without one it is the first form.
-    pub n: Option<u64>,
+    pub(crate) msgid: &'a str,
+    pub(crate) context: Option<&'a str>,
+    pub(crate) number: Option<u64>,
 }
 
 impl<'a> Question<'a> {
-    /// Returns the question for a message without a context, and without a number.
+    /// Returns the question for a message without a context, and for its first form.
     ///
     /// ```
-    /// assert_eq!(kobdzila::Question::new("Winter").context, None);
+    /// use kobdzila::Question;
+    ///
+    /// const WINTER: Question<'static> = Question::new("Winter");
+    /// assert_eq!(WINTER, Question::from("Winter"));
     /// ```
-    pub fn new(msgid: &'a str) -> Question<'a> {
+    #[inline]
+    #[must_use]
+    pub const fn new(msgid: &'a str) -> Question<'a> {
         Question {
             msgid,
             context: None,
-            n: None,
+            number: None,
         }
+    }
+
+    /// Returns the question for the message in this context. The empty context isn't no context.
+    ///
+    /// ```
+    /// use kobdzila::Question;
+    ///
+    /// assert_ne!(Question::new("Open").context(""), Question::new("Open"));
+    /// ```
+    #[inline]
+    #[must_use]
+    pub const fn context(self, context: &'a str) -> Question<'a> {
+        Question {
+            context: Some(context),
+            ..self
+        }
+    }
+
+    /// Returns the question for the plural form that the catalogue's plural rule chooses for `number`.
+    ///
+    /// ```
+    /// use kobdzila::Question;
+    ///
+    /// assert_ne!(Question::new("row").number(1), Question::new("row"));
+    /// ```
+    #[inline]
+    #[must_use]
+    pub const fn number(self, number: u64) -> Question<'a> {
+        Question {
+            number: Some(number),
+            ..self
+        }
+    }
+}
+
+impl<'a> From<&'a str> for Question<'a> {
+    #[inline]
+    fn from(msgid: &'a str) -> Question<'a> {
+        Question::new(msgid)
+    }
+}
+
+impl<'a> From<&'a String> for Question<'a> {
+    #[inline]
+    fn from(msgid: &'a String) -> Question<'a> {
+        Question::new(msgid)
     }
 }

@@ -4,24 +4,27 @@ use std::error::Error;
 use std::fmt;
 
 use crate::languages::Languages;
+use crate::lookup::Catalogues;
+use crate::names::Domain;
+use crate::question::Question;
 use crate::sys;
 
 /// What one thread looks up with in a [`Store`](crate::Store).
 ///
 /// [`enter`](Reader::enter) returns a [`Snapshot`] of the newest version, which doesn't change until the next entry. So
 /// enter once for each request, and all of its answer is of one version. An entry allocates nothing, waits for nobody
-/// and can't fail. A reader's versions never fall.
+/// and can't fail. A reader's versions never decrease.
 ///
 /// ```
-/// use kobdzila::{Catalogue, Options, Store};
+/// use kobdzila::{Catalogue, Domain, Options, Store};
 ///
 /// let store = Store::new();
 /// let mut reader = store.reader()?;
-/// assert_eq!(reader.enter().gettext("garden", "fr", "Winter"), "Winter");
+/// assert_eq!(reader.enter().languages(Domain("garden"), "fr").gettext("Winter"), "Winter");
 /// let fr = Catalogue::from_po(b"msgid \"Winter\"\nmsgstr \"Hiver\"\n", Options::new())?;
-/// store.load("garden", "fr", &fr)?;
+/// store.load(Domain("garden"), "fr", &fr)?;
 /// store.publish()?;
-/// assert_eq!(reader.enter().gettext("garden", "fr", "Winter"), "Hiver");
+/// assert_eq!(reader.enter().languages(Domain("garden"), "fr").gettext("Winter"), "Hiver");
 /// # Ok::<(), Box<dyn std::error::Error>>(())
 /// ```
 ///
@@ -54,7 +57,7 @@ impl Reader {
     /// let store = kobdzila::Store::new();
     /// let mut reader = store.reader()?;
     /// let now = reader.enter();
-    /// assert_eq!(now.ngettext("garden", "fr", "row", "rows", 2), "rows");
+    /// assert_eq!(now.languages(kobdzila::Domain("garden"), "fr").ngettext("row", "rows", 2), "rows");
     /// # Ok::<(), kobdzila::Refused>(())
     /// ```
     #[inline]
@@ -62,7 +65,7 @@ impl Reader {
         Snapshot(self.0.enter())
     }
 
-    /// Enters the newest version, which is never older than the one that `notice` tells of.
+    /// Enters the newest version, which is never older than the version of `notice`.
     ///
     /// # Errors
     ///
@@ -85,11 +88,11 @@ impl Reader {
     /// Returns the version that was entered last. A new reader has entered the one that was published then.
     ///
     /// ```
-    /// use kobdzila::{Catalogue, Options, Store};
+    /// use kobdzila::{Catalogue, Domain, Options, Store};
     ///
     /// let store = Store::new();
     /// let mut reader = store.reader()?;
-    /// store.load("garden", "fr", &Catalogue::from_po(b"", Options::new())?)?;
+    /// store.load(Domain("garden"), "fr", &Catalogue::from_po(b"", Options::new())?)?;
     /// store.publish()?;
     /// assert_eq!(reader.version(), 0);
     /// reader.enter();
@@ -112,7 +115,7 @@ impl fmt::Debug for Reader {
 /// If one thread publishes and then tells another one, a notice makes sure that the other one sees the publish:
 ///
 /// ```
-/// use kobdzila::{Catalogue, Notice, Options, Store};
+/// use kobdzila::{Catalogue, Domain, Notice, Options, Store};
 /// use std::sync::mpsc;
 /// use std::thread;
 ///
@@ -121,10 +124,10 @@ impl fmt::Debug for Reader {
 /// let (sender, receiver) = mpsc::channel::<Notice>();
 /// let printer = thread::spawn(move || {
 ///     let now = reader.enter_after(&receiver.recv().unwrap()).unwrap();
-///     assert_eq!(now.gettext("garden", "fr", "Winter"), "Hiver");
+///     assert_eq!(now.languages(Domain("garden"), "fr").gettext("Winter"), "Hiver");
 /// });
 /// let fr = Catalogue::from_po(b"msgid \"Winter\"\nmsgstr \"Hiver\"\n", Options::new())?;
-/// store.load("garden", "fr", &fr)?;
+/// store.load(Domain("garden"), "fr", &fr)?;
 /// store.publish()?;
 /// sender.send(store.notice()?)?;
 /// printer.join().unwrap();
@@ -172,13 +175,16 @@ impl Error for WrongStore {}
 
 /// The catalogues of one version of a store: what a [`Reader`] has entered.
 ///
-/// It has the look-ups of a [`Set`](crate::Set#look-ups). It never changes, whatever is published meanwhile. A snapshot
-/// and its answers end with the entry, before the reader enters again or is dropped:
+/// [`languages`](Snapshot::languages) has its look-ups, as for a [`Set`](crate::Set#look-ups). It never changes,
+/// whatever is published meanwhile. A snapshot and its answers end with the entry, before the reader enters again or is
+/// dropped:
 ///
 /// ```compile_fail,E0499
 /// # let store = kobdzila::Store::new();
 /// # let mut reader = store.reader().unwrap();
-/// let answer = reader.enter().gettext("garden", "fr", "Winter");
+/// let now = reader.enter();
+/// let list = now.languages(kobdzila::Domain("garden"), "fr");
+/// let answer = list.gettext("Winter");
 /// reader.enter(); // error: `answer` may be a string of the first entry
 /// println!("{answer}");
 /// ```
@@ -214,8 +220,9 @@ impl<'a> Snapshot<'a> {
     /// # let store = kobdzila::Store::new();
     /// # let empty = kobdzila::Catalogue::from_po(b"", kobdzila::Options::new())?;
     /// # let mut reader = store.reader()?;
-    /// store.load("garden", "fr", &empty)?;
-    /// store.load("garden", "de", &empty)?;
+    /// # use kobdzila::Domain;
+    /// store.load(Domain("garden"), "fr", &empty)?;
+    /// store.load(Domain("garden"), "de", &empty)?;
     /// store.publish()?;
     /// assert_eq!(reader.enter().version(), 2);
     /// # Ok::<(), Box<dyn std::error::Error>>(())
@@ -230,149 +237,67 @@ impl<'a> Snapshot<'a> {
     /// ```
     /// # let fr = kobdzila::Catalogue::from_po(b"msgid \"Winter\"\nmsgstr \"Hiver\"\n", kobdzila::Options::new())?;
     /// # let store = kobdzila::Store::new();
-    /// # store.load("garden", "fr", &fr)?;
+    /// # use kobdzila::Domain;
+    /// # store.load(Domain("garden"), "fr", &fr)?;
     /// # store.publish()?;
     /// # let mut reader = store.reader()?;
     /// let now = reader.enter();
-    /// let list = now.languages("garden", "sv:fr");
+    /// let list = now.languages(Domain("garden"), "sv:fr");
     /// assert_eq!(list.gettext("Winter"), "Hiver");
     /// # Ok::<(), Box<dyn std::error::Error>>(())
     /// ```
-    pub fn languages<'b>(&'b self, domain: &'b str, languages: &'b str) -> Languages<'b> {
-        Languages(self.0.languages([domain, languages]))
+    #[inline]
+    pub fn languages<'b>(&'b self, domain: Domain<'b>, languages: &'b str) -> Languages<'b> {
+        Languages(self.0.languages([domain.0, languages]))
     }
 
-    /// Returns the translation of `msgid`, or `msgid` itself if there is none.
+    /// Returns the translation of one message, if there is one. For several of them [`languages`](Snapshot::languages)
+    /// takes less time, since it looks at the list once. The answer lives as long as the entry.
     ///
     /// ```
-    /// # let fr = kobdzila::Catalogue::from_po(b"msgid \"Winter\"\nmsgstr \"Hiver\"\n", kobdzila::Options::new())?;
+    /// use kobdzila::{Domain, Reader};
+    ///
+    /// fn title(reader: &mut Reader) -> &str {
+    ///     reader.enter().find(Domain("garden"), "fr", "Winter").unwrap_or("Winter")
+    /// }
     /// # let store = kobdzila::Store::new();
-    /// # store.load("garden", "fr", &fr)?;
-    /// # store.publish()?;
-    /// # let mut reader = store.reader()?;
-    /// let now = reader.enter();
-    /// assert_eq!(now.gettext("garden", "fr", "Winter"), "Hiver");
-    /// assert_eq!(now.gettext("garden", "de", "Winter"), "Winter");
-    /// # Ok::<(), Box<dyn std::error::Error>>(())
+    /// # assert_eq!(title(&mut store.reader().unwrap()), "Winter");
     /// ```
     #[inline]
-    pub fn gettext(&self, domain: &str, languages: &str, msgid: &'a str) -> &'a str {
-        self.find(domain, languages, msgid).unwrap_or(msgid)
+    pub fn find<'q>(&self, domain: Domain<'_>, languages: &str, question: impl Into<Question<'q>>) -> Option<&'a str> {
+        self.0.find([domain.0, languages], &question.into())
     }
 
-    /// Returns the translation of `msgid` in `context`, or `msgid` itself if there is none.
+    /// Looks at a list of languages once, in place of the snapshot. Its answers live as long as the entry.
     ///
     /// ```
-    /// # let po = b"msgctxt \"menu\"\nmsgid \"Open\"\nmsgstr \"Ouvrir\"\n";
+    /// use kobdzila::{Domain, Reader};
+    ///
+    /// fn title(reader: &mut Reader) -> &str {
+    ///     reader.enter().into_languages(Domain("garden"), "fr").gettext("Winter")
+    /// }
     /// # let store = kobdzila::Store::new();
-    /// # store.load("garden", "fr", &kobdzila::Catalogue::from_po(po, kobdzila::Options::new())?)?;
-    /// # store.publish()?;
-    /// # let mut reader = store.reader()?;
-    /// let now = reader.enter();
-    /// assert_eq!(now.pgettext("garden", "fr", "menu", "Open"), "Ouvrir");
-    /// assert_eq!(now.pgettext("garden", "fr", "door", "Open"), "Open");
-    /// # Ok::<(), Box<dyn std::error::Error>>(())
+    /// # assert_eq!(title(&mut store.reader().unwrap()), "Winter");
     /// ```
     #[inline]
-    pub fn pgettext(&self, domain: &str, languages: &str, context: &str, msgid: &'a str) -> &'a str {
-        self.find_in(domain, languages, context, msgid).unwrap_or(msgid)
+    #[must_use]
+    pub fn into_languages(self, domain: Domain<'a>, languages: &'a str) -> Languages<'a> {
+        Languages(self.0.into_languages([domain.0, languages]))
+    }
+}
+
+impl Catalogues for Snapshot<'_> {
+    #[inline]
+    fn find(&self, domain: Domain<'_>, languages: &str, question: Question<'_>) -> Option<&str> {
+        self.0.find([domain.0, languages], &question)
     }
 
-    /// Returns the plural form for `n`. If there is no translation, it is `msgid` if `n` is 1, and `plural` otherwise.
-    ///
-    /// ```
-    /// # let po = b"msgid \"row\"\nmsgid_plural \"rows\"\nmsgstr[0] \"rang\"\nmsgstr[1] \"rangs\"\n";
-    /// # let store = kobdzila::Store::new();
-    /// # store.load("garden", "fr", &kobdzila::Catalogue::from_po(po, kobdzila::Options::new())?)?;
-    /// # store.publish()?;
-    /// # let mut reader = store.reader()?;
-    /// let now = reader.enter();
-    /// assert_eq!(now.ngettext("garden", "fr", "row", "rows", 2), "rangs");
-    /// assert_eq!(now.ngettext("garden", "de", "row", "rows", 2), "rows");
-    /// # Ok::<(), Box<dyn std::error::Error>>(())
-    /// ```
-    #[inline]
-    pub fn ngettext(&self, domain: &str, languages: &str, msgid: &'a str, plural: &'a str, n: u64) -> &'a str {
-        let found = self.find_plural(domain, languages, msgid, n);
-        found.unwrap_or(if n == 1 { msgid } else { plural })
+    fn version(&self) -> u64 {
+        self.version()
     }
 
-    /// Like [`ngettext`](Snapshot::ngettext), for a message in `context`.
-    ///
-    /// ```
-    /// # let po = b"msgctxt \"bed\"\nmsgid \"row\"\nmsgid_plural \"rows\"\nmsgstr[0] \"rang\"\nmsgstr[1] \"rangs\"\n";
-    /// # let store = kobdzila::Store::new();
-    /// # store.load("garden", "fr", &kobdzila::Catalogue::from_po(po, kobdzila::Options::new())?)?;
-    /// # store.publish()?;
-    /// # let mut reader = store.reader()?;
-    /// let now = reader.enter();
-    /// assert_eq!(now.npgettext("garden", "fr", "bed", "row", "rows", 2), "rangs");
-    /// # Ok::<(), Box<dyn std::error::Error>>(())
-    /// ```
-    #[inline]
-    pub fn npgettext(
-        &self,
-        domain: &str,
-        languages: &str,
-        context: &str,
-        msgid: &'a str,
-        plural: &'a str,
-        n: u64,
-    ) -> &'a str {
-        let found = self.find_plural_in(domain, languages, context, msgid, n);
-        found.unwrap_or(if n == 1 { msgid } else { plural })
-    }
-
-    /// Returns the translation of `msgid`, if there is one.
-    ///
-    /// ```
-    /// # let store = kobdzila::Store::new();
-    /// # let mut reader = store.reader()?;
-    /// assert_eq!(reader.enter().find("garden", "fr", "Winter"), None);
-    /// # Ok::<(), kobdzila::Refused>(())
-    /// ```
-    #[inline]
-    pub fn find(&self, domain: &str, languages: &str, msgid: &str) -> Option<&'a str> {
-        self.0.find([domain, languages], None, msgid, None)
-    }
-
-    /// Returns the translation of `msgid` in `context`, if there is one.
-    ///
-    /// ```
-    /// # let store = kobdzila::Store::new();
-    /// # let mut reader = store.reader()?;
-    /// assert_eq!(reader.enter().find_in("garden", "fr", "menu", "Open"), None);
-    /// # Ok::<(), kobdzila::Refused>(())
-    /// ```
-    #[inline]
-    pub fn find_in(&self, domain: &str, languages: &str, context: &str, msgid: &str) -> Option<&'a str> {
-        self.0.find([domain, languages], Some(context), msgid, None)
-    }
-
-    /// Returns the plural form of `msgid` for `n`, if there is a translation.
-    ///
-    /// ```
-    /// # let store = kobdzila::Store::new();
-    /// # let mut reader = store.reader()?;
-    /// assert_eq!(reader.enter().find_plural("garden", "fr", "row", 2), None);
-    /// # Ok::<(), kobdzila::Refused>(())
-    /// ```
-    #[inline]
-    pub fn find_plural(&self, domain: &str, languages: &str, msgid: &str, n: u64) -> Option<&'a str> {
-        self.0.find([domain, languages], None, msgid, Some(n))
-    }
-
-    /// Returns the plural form of `msgid` in `context` for `n`, if there is a translation.
-    ///
-    /// ```
-    /// # let store = kobdzila::Store::new();
-    /// # let mut reader = store.reader()?;
-    /// assert_eq!(reader.enter().find_plural_in("garden", "fr", "bed", "row", 2), None);
-    /// # Ok::<(), kobdzila::Refused>(())
-    /// ```
-    #[inline]
-    pub fn find_plural_in(&self, domain: &str, languages: &str, context: &str, msgid: &str, n: u64) -> Option<&'a str> {
-        self.0.find([domain, languages], Some(context), msgid, Some(n))
+    fn languages<'a>(&'a self, domain: Domain<'a>, languages: &'a str) -> Languages<'a> {
+        self.languages(domain, languages)
     }
 }
 

@@ -110,6 +110,8 @@ kinds! {
     PoFormatMismatch = 116,
     /// Only one of a message and its translation begins, or ends, with a newline.
     PoNewlineMismatch = 117,
+    /// The charset that the header names has no character for a byte.
+    PoNoCharacter = 119,
     /// The file couldn't be read: [`Error::source`] says why.
     Unreadable = 201,
     /// A text domain or a locale isn't 1 to 64 letters, digits and `_ - . @ +`.

@@ -5,7 +5,10 @@ use std::fmt;
 use std::path::Path;
 
 use crate::catalogue::{name_of, Catalogue};
-use crate::languages::Languages;
+use crate::languages::{Languages, OwnedLanguages};
+use crate::lookup::Catalogues;
+use crate::names::{Domain, Name};
+use crate::question::Question;
 use crate::refused::Refused;
 use crate::sys;
 
@@ -16,23 +19,24 @@ use crate::sys;
 /// [`Store`](crate::Store).
 ///
 /// ```
-/// use kobdzila::{Catalogue, Options, Set};
+/// use kobdzila::{Catalogue, Domain, Options, Set};
 ///
 /// let fr = Catalogue::from_po(b"msgid \"Winter\"\nmsgstr \"Hiver\"\n", Options::new())?;
-/// let set = Set::new().with("garden", "fr", &fr)?;
-/// assert_eq!(set.gettext("garden", "fr_CA:de", "Winter"), "Hiver");
+/// let set = Set::new().with(Domain("garden"), "fr", &fr)?;
+/// assert_eq!(set.languages(Domain("garden"), "fr_CA:de").gettext("Winter"), "Hiver");
 /// # Ok::<(), kobdzila::Refused>(())
 /// ```
 ///
 /// # Look-ups
 ///
-/// `languages` is a list of locales separated by `:`, as in the environment variable `LANGUAGE`. The first locale whose
-/// catalogue has the message provides the translation, and the plural rule. `fr_CA` is followed by `fr` of itself, and
+/// [`languages`](Set::languages) looks at a list of locales, which are separated by `:` as in the environment variable
+/// `LANGUAGE`; what it returns has the look-ups. The first locale whose catalogue has the message provides the
+/// translation, and the plural rule. `fr_CA` is followed by `fr` of itself, and
 /// `C` and `POSIX` end the list. An answer borrows the set:
 ///
 /// ```compile_fail,E0505
 /// let set = kobdzila::Set::new();
-/// let answer = set.gettext("garden", "fr", "Winter");
+/// let answer = set.languages(kobdzila::Domain("garden"), "fr").gettext("Winter");
 /// drop(set);
 /// println!("{answer}"); // error: `answer` may be a string of the set
 /// ```
@@ -64,16 +68,16 @@ impl Set {
     /// [`Kind::BadName`](crate::Kind::BadName) and [`Kind::Memory`](crate::Kind::Memory).
     ///
     /// ```
-    /// use kobdzila::{Catalogue, Kind, Options, Set};
+    /// use kobdzila::{Catalogue, Domain, Kind, Options, Set};
     ///
     /// let fr = Catalogue::from_po(b"msgid \"Winter\"\nmsgstr \"Hiver\"\n", Options::new())?;
-    /// let set = Set::new().with("garden", "fr", &fr)?;
-    /// assert_eq!(set.gettext("garden", "sv:fr_CA", "Winter"), "Hiver");
-    /// assert_eq!(set.with("garden/beds", "fr", &fr).unwrap_err().kind(), Kind::BadName);
+    /// let set = Set::new().with(Domain("garden"), "fr", &fr)?;
+    /// assert_eq!(set.languages(Domain("garden"), "sv:fr_CA").gettext("Winter"), "Hiver");
+    /// assert_eq!(set.with(Domain("garden/beds"), "fr", &fr).unwrap_err().kind(), Kind::BadName);
     /// # Ok::<(), kobdzila::Refused>(())
     /// ```
-    pub fn with(&self, domain: &str, locale: &str, catalogue: &Catalogue) -> Result<Set, Refused> {
-        Ok(Set(self.0.with(domain, locale, catalogue.handle())?))
+    pub fn with(&self, domain: Domain<'_>, locale: &str, catalogue: &Catalogue) -> Result<Set, Refused> {
+        Ok(Set(self.0.with(domain.0, locale, catalogue.handle())?))
     }
 
     /// Like [`with`](Set::with), with the catalogue of the MO file `FOLDER/LOCALE/LC_MESSAGES/DOMAIN.mo`, which is
@@ -85,23 +89,23 @@ impl Set {
     /// [`Kind::BadName`](crate::Kind::BadName) here.
     ///
     /// ```
-    /// use kobdzila::{Kind, Set};
+    /// use kobdzila::{Domain, Kind, Set};
     ///
-    /// let refused = Set::new().with_installed("no/such/folder", "garden", "fr").unwrap_err();
+    /// let refused = Set::new().with_installed("no/such/folder", Domain("garden"), "fr").unwrap_err();
     /// assert_eq!(refused.kind(), Kind::Unreadable);
     /// ```
-    pub fn with_installed(&self, folder: impl AsRef<Path>, domain: &str, locale: &str) -> Result<Set, Refused> {
+    pub fn with_installed(&self, folder: impl AsRef<Path>, domain: Domain<'_>, locale: &str) -> Result<Set, Refused> {
         let folder = name_of(folder.as_ref())?;
-        Ok(Set(self.0.with_installed(&folder, domain, locale)?))
+        Ok(Set(self.0.with_installed(&folder, domain.0, locale)?))
     }
 
     /// Returns how many catalogues were added to get from an empty set to this one, replaced ones included.
     ///
     /// ```
-    /// use kobdzila::{Catalogue, Options, Set};
+    /// use kobdzila::{Catalogue, Domain, Options, Set};
     ///
     /// let empty = Catalogue::from_po(b"", Options::new())?;
-    /// let set = Set::new().with("garden", "fr", &empty)?.with("garden", "fr", &empty)?;
+    /// let set = Set::new().with(Domain("garden"), "fr", &empty)?.with(Domain("garden"), "fr", &empty)?;
     /// assert_eq!(set.version(), 2);
     /// # Ok::<(), kobdzila::Refused>(())
     /// ```
@@ -109,137 +113,98 @@ impl Set {
         self.0.version()
     }
 
-    /// Looks at a list of languages once, for many look-ups.
+    /// Looks at a list of languages once, for several look-ups.
     ///
     /// ```
-    /// use kobdzila::{Catalogue, Options, Set};
+    /// use kobdzila::{Catalogue, Domain, Options, Set};
     ///
     /// let fr = Catalogue::from_po(b"msgid \"Winter\"\nmsgstr \"Hiver\"\n", Options::new())?;
-    /// let set = Set::new().with("garden", "fr", &fr)?;
-    /// let list = set.languages("garden", "sv:fr");
+    /// let set = Set::new().with(Domain("garden"), "fr", &fr)?;
+    /// let list = set.languages(Domain("garden"), "sv:fr");
     /// assert_eq!(list.gettext("Winter"), "Hiver");
     /// # Ok::<(), kobdzila::Refused>(())
     /// ```
-    pub fn languages<'a>(&'a self, domain: &'a str, languages: &'a str) -> Languages<'a> {
-        Languages(self.0.languages([domain, languages]))
+    #[inline]
+    pub fn languages<'a>(&'a self, domain: Domain<'a>, languages: &'a str) -> Languages<'a> {
+        Languages(self.0.languages([domain.0, languages]))
     }
 
-    /// Returns the translation of `msgid`, or `msgid` itself if there is none.
+    /// Returns the translation of one message, if there is one. For several of them [`languages`](Set::languages) takes
+    /// less time, since it looks at the list once.
     ///
     /// ```
-    /// use kobdzila::{Catalogue, Options, Set};
+    /// use kobdzila::{Catalogue, Domain, Options, Question, Set};
     ///
     /// let fr = Catalogue::from_po(b"msgid \"Winter\"\nmsgstr \"Hiver\"\n", Options::new())?;
-    /// let set = Set::new().with("garden", "fr", &fr)?;
-    /// assert_eq!(set.gettext("garden", "fr", "Winter"), "Hiver");
-    /// assert_eq!(set.gettext("garden", "de", "Winter"), "Winter");
+    /// let set = Set::new().with(Domain("garden"), "fr", &fr)?;
+    /// assert_eq!(set.find(Domain("garden"), "de:fr", "Winter"), Some("Hiver"));
+    /// assert_eq!(set.find(Domain("garden"), "de:fr", Question::new("Winter").context("bed")), None);
     /// # Ok::<(), kobdzila::Refused>(())
     /// ```
     #[inline]
-    pub fn gettext<'a>(&'a self, domain: &str, languages: &str, msgid: &'a str) -> &'a str {
-        self.find(domain, languages, msgid).unwrap_or(msgid)
+    pub fn find<'q>(&self, domain: Domain<'_>, languages: &str, question: impl Into<Question<'q>>) -> Option<&str> {
+        self.0.find([domain.0, languages], &question.into())
     }
 
-    /// Returns the translation of `msgid` in `context`, or `msgid` itself if there is none.
+    /// Returns the look-ups of a list of languages in a text domain, together with the set.
     ///
     /// ```
-    /// use kobdzila::{Catalogue, Options, Set};
+    /// use kobdzila::{Domain, Lookup, Set};
     ///
-    /// let po = b"msgctxt \"menu\"\nmsgid \"Open\"\nmsgstr \"Ouvrir\"\n";
-    /// let set = Set::new().with("garden", "fr", &Catalogue::from_po(po, Options::new())?)?;
-    /// assert_eq!(set.pgettext("garden", "fr", "menu", "Open"), "Ouvrir");
-    /// # Ok::<(), kobdzila::Refused>(())
+    /// let texts = Set::new().into_languages(Domain("garden"), "fr_CA:de");
+    /// assert_eq!(texts.gettext("Winter"), "Winter");
     /// ```
-    #[inline]
-    pub fn pgettext<'a>(&'a self, domain: &str, languages: &str, context: &str, msgid: &'a str) -> &'a str {
-        self.find_in(domain, languages, context, msgid).unwrap_or(msgid)
-    }
-
-    /// Returns the plural form for `n`. If there is no translation, it is `msgid` if `n` is 1, and `plural` otherwise.
-    ///
-    /// ```
-    /// use kobdzila::{Catalogue, Options, Set};
-    ///
-    /// let po = b"msgid \"row\"\nmsgid_plural \"rows\"\nmsgstr[0] \"rang\"\nmsgstr[1] \"rangs\"\n";
-    /// let set = Set::new().with("garden", "fr", &Catalogue::from_po(po, Options::new())?)?;
-    /// assert_eq!(set.ngettext("garden", "fr", "row", "rows", 2), "rangs");
-    /// assert_eq!(set.ngettext("garden", "de", "row", "rows", 2), "rows");
-    /// # Ok::<(), kobdzila::Refused>(())
-    /// ```
-    #[inline]
-    pub fn ngettext<'a>(&'a self, domain: &str, languages: &str, msgid: &'a str, plural: &'a str, n: u64) -> &'a str {
-        let found = self.find_plural(domain, languages, msgid, n);
-        found.unwrap_or(if n == 1 { msgid } else { plural })
-    }
-
-    /// Like [`ngettext`](Set::ngettext), for a message in `context`.
-    ///
-    /// ```
-    /// use kobdzila::{Catalogue, Options, Set};
-    ///
-    /// let po = b"msgctxt \"bed\"\nmsgid \"row\"\nmsgid_plural \"rows\"\nmsgstr[0] \"rang\"\nmsgstr[1] \"rangs\"\n";
-    /// let set = Set::new().with("garden", "fr", &Catalogue::from_po(po, Options::new())?)?;
-    /// assert_eq!(set.npgettext("garden", "fr", "bed", "row", "rows", 2), "rangs");
-    /// # Ok::<(), kobdzila::Refused>(())
-    /// ```
-    #[inline]
-    pub fn npgettext<'a>(
-        &'a self,
-        domain: &str,
-        languages: &str,
-        context: &str,
-        msgid: &'a str,
-        plural: &'a str,
-        n: u64,
-    ) -> &'a str {
-        let found = self.find_plural_in(domain, languages, context, msgid, n);
-        found.unwrap_or(if n == 1 { msgid } else { plural })
-    }
-
-    /// Returns the translation of `msgid`, if there is one.
-    ///
-    /// ```
-    /// assert_eq!(kobdzila::Set::new().find("garden", "fr", "Winter"), None);
-    /// ```
-    #[inline]
-    pub fn find(&self, domain: &str, languages: &str, msgid: &str) -> Option<&str> {
-        self.0.find([domain, languages], None, msgid, None)
-    }
-
-    /// Returns the translation of `msgid` in `context`, if there is one.
-    ///
-    /// ```
-    /// assert_eq!(kobdzila::Set::new().find_in("garden", "fr", "menu", "Open"), None);
-    /// ```
-    #[inline]
-    pub fn find_in(&self, domain: &str, languages: &str, context: &str, msgid: &str) -> Option<&str> {
-        self.0.find([domain, languages], Some(context), msgid, None)
-    }
-
-    /// Returns the plural form of `msgid` for `n`, if there is a translation.
-    ///
-    /// ```
-    /// assert_eq!(kobdzila::Set::new().find_plural("garden", "fr", "row", 2), None);
-    /// ```
-    #[inline]
-    pub fn find_plural(&self, domain: &str, languages: &str, msgid: &str, n: u64) -> Option<&str> {
-        self.0.find([domain, languages], None, msgid, Some(n))
-    }
-
-    /// Returns the plural form of `msgid` in `context` for `n`, if there is a translation.
-    ///
-    /// ```
-    /// assert_eq!(kobdzila::Set::new().find_plural_in("garden", "fr", "bed", "row", 2), None);
-    /// ```
-    #[inline]
-    pub fn find_plural_in(&self, domain: &str, languages: &str, context: &str, msgid: &str, n: u64) -> Option<&str> {
-        self.0.find([domain, languages], Some(context), msgid, Some(n))
+    #[must_use]
+    pub fn into_languages(self, domain: Domain<'_>, languages: &str) -> OwnedLanguages {
+        OwnedLanguages {
+            set: self,
+            domain: domain.0.into(),
+            languages: languages.into(),
+        }
     }
 }
 
 impl Default for Set {
     fn default() -> Set {
         Set::new()
+    }
+}
+
+impl Catalogues for Set {
+    #[inline]
+    fn find(&self, domain: Domain<'_>, languages: &str, question: Question<'_>) -> Option<&str> {
+        self.0.find([domain.0, languages], &question)
+    }
+
+    fn version(&self) -> u64 {
+        self.version()
+    }
+
+    fn languages<'a>(&'a self, domain: Domain<'a>, languages: &'a str) -> Languages<'a> {
+        self.languages(domain, languages)
+    }
+}
+
+/// Adds each catalogue in its turn, so the last one of a name stays.
+///
+/// If memory runs out, it ends the program, as [`Vec::extend`] does.
+impl<'a> Extend<(Name<'a>, Catalogue)> for Set {
+    fn extend<I: IntoIterator<Item = (Name<'a>, Catalogue)>>(&mut self, catalogues: I) {
+        for (name, catalogue) in catalogues {
+            match self.with(name.domain(), name.locale(), &catalogue) {
+                Ok(set) => *self = set,
+                // (a name was checked, so it can only be the memory)
+                Err(_) => handle_alloc_error(Layout::new::<usize>()),
+            }
+        }
+    }
+}
+
+impl<'a> FromIterator<(Name<'a>, Catalogue)> for Set {
+    fn from_iter<I: IntoIterator<Item = (Name<'a>, Catalogue)>>(catalogues: I) -> Set {
+        let mut set = Set::new();
+        set.extend(catalogues);
+        set
     }
 }
 

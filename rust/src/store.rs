@@ -5,6 +5,7 @@ use std::error::Error;
 use std::fmt;
 
 use crate::catalogue::Catalogue;
+use crate::names::Domain;
 use crate::reader::{Notice, Reader};
 use crate::refused::Refused;
 use crate::sys;
@@ -16,19 +17,19 @@ use crate::sys;
 /// other, and a publish never waits for readers.
 ///
 /// ```
-/// use kobdzila::{Catalogue, Options, Refused, Store};
+/// use kobdzila::{Catalogue, Domain, Options, Refused, Store};
 /// use std::thread;
 ///
 /// let store = Store::new();
 /// let fr = Catalogue::from_po(b"msgid \"Winter\"\nmsgstr \"Hiver\"\n", Options::new())?;
-/// store.load("garden", "fr", &fr)?;
+/// store.load(Domain("garden"), "fr", &fr)?;
 /// store.publish()?;
 /// thread::scope(|scope| {
 ///     for _ in 0..4 {
 ///         let mut reader = store.reader()?;
 ///         scope.spawn(move || {
 ///             let now = reader.enter(); // what a thread does for each request
-///             assert_eq!(now.gettext("garden", "fr_CA:de", "Winter"), "Hiver");
+///             assert_eq!(now.languages(Domain("garden"), "fr_CA:de").gettext("Winter"), "Hiver");
 ///         });
 ///     }
 ///     Ok::<(), Refused>(())
@@ -69,17 +70,17 @@ impl Store {
     /// [`Kind::VersionsSpent`](crate::Kind::VersionsSpent). A refused load changes nothing.
     ///
     /// ```
-    /// use kobdzila::{Catalogue, Kind, Options, Store};
+    /// use kobdzila::{Catalogue, Domain, Kind, Options, Store};
     ///
     /// let store = Store::new();
     /// let fr = Catalogue::from_po(b"msgid \"Winter\"\nmsgstr \"Hiver\"\n", Options::new())?;
-    /// store.load("garden", "fr", &fr)?;
-    /// assert_eq!(store.load("garden/beds", "fr", &fr).unwrap_err().kind(), Kind::BadName);
+    /// store.load(Domain("garden"), "fr", &fr)?;
+    /// assert_eq!(store.load(Domain("garden/beds"), "fr", &fr).unwrap_err().kind(), Kind::BadName);
     /// assert_eq!((store.pending(), store.version()), (1, 0));
     /// # Ok::<(), kobdzila::Refused>(())
     /// ```
-    pub fn load(&self, domain: &str, locale: &str, catalogue: &Catalogue) -> Result<(), Refused> {
-        Ok(self.0.load(domain, locale, catalogue.handle())?)
+    pub fn load(&self, domain: Domain<'_>, locale: &str, catalogue: &Catalogue) -> Result<(), Refused> {
+        Ok(self.0.load(domain.0, locale, catalogue.handle())?)
     }
 
     /// Publishes all pending loads in one step, and returns the new version. A reader sees all of them or none. If no
@@ -90,12 +91,12 @@ impl Store {
     /// Memory ran out, or the store was busy. The loads are still pending, and you can publish again.
     ///
     /// ```
-    /// use kobdzila::{Catalogue, Options, Store};
+    /// use kobdzila::{Catalogue, Domain, Options, Store};
     ///
     /// let store = Store::new();
     /// let empty = Catalogue::from_po(b"", Options::new())?;
-    /// store.load("garden", "fr", &empty)?;
-    /// store.load("garden", "de", &empty)?;
+    /// store.load(Domain("garden"), "fr", &empty)?;
+    /// store.load(Domain("garden"), "de", &empty)?;
     /// assert_eq!(store.publish()?, 2);
     /// assert_eq!(store.publish()?, 2);
     /// # Ok::<(), Box<dyn std::error::Error>>(())
@@ -107,10 +108,10 @@ impl Store {
     /// Returns the version that is published: the number of loads published so far.
     ///
     /// ```
-    /// use kobdzila::{Catalogue, Options, Store};
+    /// use kobdzila::{Catalogue, Domain, Options, Store};
     ///
     /// let store = Store::new();
-    /// store.load("garden", "fr", &Catalogue::from_po(b"", Options::new())?)?;
+    /// store.load(Domain("garden"), "fr", &Catalogue::from_po(b"", Options::new())?)?;
     /// store.publish()?;
     /// assert_eq!(store.version(), 1);
     /// # Ok::<(), Box<dyn std::error::Error>>(())
@@ -122,10 +123,10 @@ impl Store {
     /// Returns the number of loads that the next publish will show.
     ///
     /// ```
-    /// use kobdzila::{Catalogue, Options, Store};
+    /// use kobdzila::{Catalogue, Domain, Options, Store};
     ///
     /// let store = Store::new();
-    /// store.load("garden", "fr", &Catalogue::from_po(b"", Options::new())?)?;
+    /// store.load(Domain("garden"), "fr", &Catalogue::from_po(b"", Options::new())?)?;
     /// assert_eq!(store.pending(), 1);
     /// # Ok::<(), kobdzila::Refused>(())
     /// ```

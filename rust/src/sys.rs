@@ -1,184 +1,22 @@
-//! The C library: its declarations, and a safe handle for each of its types.
+//! A safe handle for each type of the C library.
 //!
-//! This is the only module with `unsafe` code. `tests/header.rs` compares the declarations with `kobdzila.h`. A safety
-//! comment that cites the header means its words, which kobdzila(3) repeats.
-
-#![allow(non_camel_case_types)]
+//! All calls of `kobdzila-sys` are here, and with them the `unsafe` code of this crate; `sys/inotify.rs` has the calls
+//! of the C library's own. A safety comment that cites the header means its words, which kobdzila(3) repeats.
 
 use std::ffi::{CStr, CString};
 use std::io;
 use std::marker::PhantomData;
-use std::os::raw::{c_char, c_int, c_uint, c_ulonglong, c_void};
+use std::os::raw::c_ulonglong;
 use std::ptr::{self, NonNull};
 use std::slice;
 
+use kobdzila_sys::*;
+pub use kobdzila_sys::{KOB_CHECKED, KOB_MO, KOB_PO, KOB_USE_FUZZY};
+
 use crate::question::Question;
 
-pub const KOB_NO_FAULT: c_uint = 0;
-pub const KOB_MEMORY: c_uint = 12;
-pub const KOB_UNREADABLE: c_uint = 201;
-pub const KOB_BAD_NAME: c_uint = 202;
-pub const KOB_CHECKED: c_uint = 1;
-pub const KOB_USE_FUZZY: c_uint = 2;
-pub const KOB_MO: c_uint = 0;
-pub const KOB_PO: c_uint = 1;
-
-/// An opaque C type: it has no size that Rust knows, and only the C library makes and frees it.
-#[repr(C)]
-struct kob_catalogue {
-    _opaque: [u8; 0],
-    _not_sent: PhantomData<*mut u8>,
-}
-
-/// An opaque C type, like [`kob_catalogue`].
-#[repr(C)]
-struct kob_set {
-    _opaque: [u8; 0],
-    _not_sent: PhantomData<*mut u8>,
-}
-
-/// An opaque C type, like [`kob_catalogue`].
-#[repr(C)]
-struct kob_store {
-    _opaque: [u8; 0],
-    _not_sent: PhantomData<*mut u8>,
-}
-
-/// An opaque C type, like [`kob_catalogue`].
-#[repr(C)]
-struct kob_reader {
-    _opaque: [u8; 0],
-    _not_sent: PhantomData<*mut u8>,
-}
-
-/// An opaque C type, like [`kob_catalogue`].
-#[repr(C)]
-struct kob_notice {
-    _opaque: [u8; 0],
-    _not_sent: PhantomData<*mut u8>,
-}
-
-#[repr(C)]
-#[derive(Clone, Copy)]
-struct kob_refusal {
-    fault: c_uint,
-    line: c_uint,
-}
-
-#[repr(C)]
-#[derive(Clone, Copy)]
-struct kob_text {
-    at: *const c_char,
-    len: usize,
-}
-
-#[repr(C)]
-#[derive(Clone, Copy)]
-struct kob_entry {
-    context: kob_text,
-    msgid: kob_text,
-    plural: kob_text,
-    forms: usize,
-}
-
-#[repr(C)]
-#[derive(Clone, Copy)]
-struct kob_languages {
-    set: *const kob_set,
-    domain: kob_text,
-    languages: kob_text,
-    count: c_uint,
-    places: [c_uint; 16],
-}
-
-#[repr(C)]
-#[derive(Clone, Copy)]
-struct kob_question {
-    context: kob_text,
-    msgid: kob_text,
-    n: *const c_ulonglong,
-}
-
-extern "C" {
-    fn kob_version() -> *const c_char;
-    fn kob_fault_text(fault: c_uint) -> *const c_char;
-    fn kob_open_mo(bytes: *const c_void, len: usize, why: *mut kob_refusal) -> *mut kob_catalogue;
-    fn kob_open_po(bytes: *const c_void, len: usize, options: c_uint, why: *mut kob_refusal) -> *mut kob_catalogue;
-    fn kob_open_file(name: *const c_char, kind: c_uint, options: c_uint, why: *mut kob_refusal) -> *mut kob_catalogue;
-    fn kob_retain(catalogue: *mut kob_catalogue) -> *mut kob_catalogue;
-    fn kob_release(catalogue: *mut kob_catalogue);
-    fn kob_find(catalogue: *const kob_catalogue, context: kob_text, msgid: kob_text, n: *const c_ulonglong)
-        -> kob_text;
-    fn kob_find_many(
-        catalogue: *const kob_catalogue,
-        questions: *const kob_question,
-        count: usize,
-        answers: *mut kob_text,
-    );
-    fn kob_count(catalogue: *const kob_catalogue) -> usize;
-    fn kob_entry_at(catalogue: *const kob_catalogue, place: usize, entry: *mut kob_entry) -> c_int;
-    fn kob_form_at(catalogue: *const kob_catalogue, place: usize, form: usize) -> kob_text;
-    fn kob_mo_file(catalogue: *const kob_catalogue) -> kob_text;
-    fn kob_set_new() -> *mut kob_set;
-    fn kob_set_with(
-        set: *const kob_set,
-        domain: *const c_char,
-        locale: *const c_char,
-        catalogue: *const kob_catalogue,
-        why: *mut kob_refusal,
-    ) -> *mut kob_set;
-    fn kob_set_open(
-        set: *const kob_set,
-        folder: *const c_char,
-        domain: *const c_char,
-        locale: *const c_char,
-        why: *mut kob_refusal,
-    ) -> *mut kob_set;
-    fn kob_set_retain(set: *mut kob_set) -> *mut kob_set;
-    fn kob_set_release(set: *mut kob_set);
-    fn kob_set_version(set: *const kob_set) -> c_ulonglong;
-    fn kob_set_find(
-        set: *const kob_set,
-        domain: kob_text,
-        languages: kob_text,
-        context: kob_text,
-        msgid: kob_text,
-        n: *const c_ulonglong,
-    ) -> kob_text;
-    fn kob_set_languages(set: *const kob_set, domain: kob_text, languages: kob_text) -> kob_languages;
-    fn kob_languages_find(
-        list: *const kob_languages,
-        context: kob_text,
-        msgid: kob_text,
-        n: *const c_ulonglong,
-    ) -> kob_text;
-    fn kob_languages_find_many(
-        list: *const kob_languages,
-        questions: *const kob_question,
-        count: usize,
-        answers: *mut kob_text,
-    );
-    fn kob_store_new() -> *mut kob_store;
-    fn kob_store_load(
-        store: *mut kob_store,
-        domain: *const c_char,
-        locale: *const c_char,
-        catalogue: *const kob_catalogue,
-        why: *mut kob_refusal,
-    ) -> c_int;
-    fn kob_store_publish(store: *mut kob_store, version: *mut c_ulonglong) -> c_int;
-    fn kob_store_version(store: *const kob_store) -> c_ulonglong;
-    fn kob_store_pending(store: *const kob_store) -> c_ulonglong;
-    fn kob_store_retained(store: *const kob_store) -> usize;
-    fn kob_store_notice(store: *const kob_store) -> *mut kob_notice;
-    fn kob_store_reader(store: *const kob_store) -> *mut kob_reader;
-    fn kob_reader_enter(reader: *mut kob_reader) -> *const kob_set;
-    fn kob_reader_enter_after(reader: *mut kob_reader, notice: *const kob_notice) -> *const kob_set;
-    fn kob_reader_version(reader: *const kob_reader) -> c_ulonglong;
-    fn kob_notice_free(notice: *mut kob_notice);
-    fn kob_reader_free(reader: *mut kob_reader);
-    fn kob_store_free(store: *mut kob_store);
-}
+#[cfg(feature = "watch")]
+pub mod inotify;
 
 /// Why the library refused a call. `file` is what errno said, if a file couldn't be read.
 pub struct Refusal {
@@ -205,119 +43,125 @@ impl Refusal {
         Refusal::without_line(KOB_MEMORY)
     }
 
-    /// What the library says of a file whose name it can't be asked for, since it has a NUL.
-    pub fn name_with_nul() -> Refusal {
+    /// What the library says of a file that couldn't be read for this reason.
+    pub fn unreadable(why: io::Error) -> Refusal {
         Refusal {
             fault: KOB_UNREADABLE,
             line: 0,
-            file: Some(io::Error::from(io::ErrorKind::InvalidInput)),
+            file: Some(why),
         }
+    }
+
+    /// What the library says of a file whose name it can't be asked for, since it has a NUL.
+    pub fn name_with_nul() -> Refusal {
+        Refusal::unreadable(io::Error::from(io::ErrorKind::InvalidInput))
     }
 }
 
-impl kob_refusal {
-    const NONE: kob_refusal = kob_refusal {
-        fault: KOB_NO_FAULT,
-        line: 0,
-    };
+/// No reason yet: what a call may write to.
+const NO_REFUSAL: kob_refusal = kob_refusal {
+    fault: KOB_NO_FAULT,
+    line: 0,
+};
 
-    /// The reason with its cause. Nothing that could change errno may have run since the call that stored it.
-    fn with_cause(self) -> Refusal {
-        Refusal {
-            fault: self.fault,
-            line: self.line,
-            file: (self.fault == KOB_UNREADABLE).then(io::Error::last_os_error),
-        }
+/// The reason with its cause. Nothing that could change errno may have run since the call that stored it.
+fn with_cause(why: kob_refusal) -> Refusal {
+    Refusal {
+        fault: why.fault,
+        line: why.line,
+        file: (why.fault == KOB_UNREADABLE).then(io::Error::last_os_error),
     }
 }
 
 /// What `call` returns, or why it returned NULL. `call` has to be one of the functions that store the reason then.
 fn returned<T>(call: impl FnOnce(*mut kob_refusal) -> *mut T) -> Result<NonNull<T>, Refusal> {
-    let mut why = kob_refusal::NONE;
-    NonNull::new(call(&mut why)).ok_or_else(|| why.with_cause())
+    let mut why = NO_REFUSAL;
+    NonNull::new(call(&mut why)).ok_or_else(|| with_cause(why))
 }
 
-impl kob_text {
-    const NONE: kob_text = kob_text {
-        at: ptr::null(),
-        len: 0,
-    };
+const NO_TEXT: kob_text = kob_text {
+    at: ptr::null(),
+    len: 0,
+};
 
-    #[inline]
-    fn new(text: &str) -> kob_text {
-        kob_text {
-            at: text.as_ptr().cast(),
-            len: text.len(),
-        }
-    }
-
-    /// A context: none is NULL, and so another one than the empty context.
-    #[inline]
-    fn optional(text: Option<&str>) -> kob_text {
-        text.map_or(kob_text::NONE, kob_text::new)
-    }
-
-    /// The bytes, if there are any.
-    ///
-    /// # Safety
-    ///
-    /// The library returned this text, and the catalogue or set that it belongs to lives for `'a`.
-    #[inline]
-    unsafe fn bytes<'a>(self) -> Option<&'a [u8]> {
-        if self.at.is_null() {
-            return None;
-        }
-        // SAFETY: the header: a string that is returned is valid until its catalogue or set is freed, and is never
-        // changed. The caller keeps that alive for 'a.
-        Some(unsafe { slice::from_raw_parts(self.at.cast(), self.len) })
-    }
-
-    /// The text as a `str`, if there is one.
-    ///
-    /// # Safety
-    ///
-    /// As for [`kob_text::bytes`], and it isn't the text of `kob_mo_file`.
-    #[inline]
-    unsafe fn text<'a>(self) -> Option<&'a str> {
-        // SAFETY: what this function asks for.
-        let bytes = unsafe { self.bytes() }?;
-        debug_assert!(std::str::from_utf8(bytes).is_ok());
-        // SAFETY: the header: strings are UTF-8. Files with others are refused as KOB_MO_BAD_TEXT and KOB_PO_NOT_UTF8.
-        Some(unsafe { std::str::from_utf8_unchecked(bytes) })
-    }
-}
-
-/// The address of a number that may be missing.
 #[inline]
-fn address(n: &Option<c_ulonglong>) -> *const c_ulonglong {
-    n.as_ref().map_or(ptr::null(), ptr::from_ref)
-}
-
-impl kob_question {
-    #[inline]
-    fn new(question: &Question<'_>) -> kob_question {
-        kob_question {
-            context: kob_text::optional(question.context),
-            msgid: kob_text::new(question.msgid),
-            n: address(&question.n),
-        }
+fn text(text: &str) -> kob_text {
+    kob_text {
+        at: text.as_ptr().cast(),
+        len: text.len(),
     }
 }
+
+/// The bytes that the library returned, if there are any.
+///
+/// # Safety
+///
+/// The library returned this text, and the catalogue or set that it belongs to lives for `'a`.
+#[inline]
+unsafe fn bytes_of<'a>(returned: kob_text) -> Option<&'a [u8]> {
+    if returned.at.is_null() {
+        return None;
+    }
+    // SAFETY: the header: a string that is returned is valid until its catalogue or set is freed, and is never changed.
+    // The caller keeps that alive for 'a.
+    Some(unsafe { slice::from_raw_parts(returned.at.cast(), returned.len) })
+}
+
+/// The text that the library returned, if there is one.
+///
+/// # Safety
+///
+/// As for [`bytes_of`], and it isn't the text of `kob_mo_file`.
+#[inline]
+unsafe fn str_of<'a>(returned: kob_text) -> Option<&'a str> {
+    // SAFETY: what this function asks for.
+    let bytes = unsafe { bytes_of(returned) }?;
+    debug_assert!(std::str::from_utf8(bytes).is_ok());
+    // SAFETY: the header: strings are UTF-8. Files with others are refused as KOB_MO_BAD_TEXT and KOB_PO_NOT_UTF8.
+    Some(unsafe { std::str::from_utf8_unchecked(bytes) })
+}
+
+/// A question for C. It has the addresses of the texts and of the number, so `question` has to outlive it.
+#[inline]
+fn asked(question: &Question<'_>) -> kob_question {
+    kob_question {
+        context: question.context.map_or(NO_TEXT, text),
+        msgid: text(question.msgid),
+        n: question
+            .number
+            .as_ref()
+            .map_or(ptr::null(), |n| n as *const c_ulonglong),
+    }
+}
+
+/// How many questions the library looks up at once.
+const BLOCK: usize = 32;
 
 /// The answers to questions, in their order.
 ///
 /// # Safety
 ///
-/// `call` stores as many texts as there are questions, and the catalogue or set that these belong to lives for `'a`.
+/// `call` stores as many texts as it is given questions, and the catalogue or set that these belong to lives for `'a`.
 unsafe fn answers<'a>(
     questions: &[Question<'_>],
-    call: impl FnOnce(*const kob_question, usize, *mut kob_text),
+    call: impl Fn(*const kob_question, usize, *mut kob_text),
 ) -> Vec<Option<&'a str>> {
-    let asked: Vec<kob_question> = questions.iter().map(kob_question::new).collect();
-    let mut found = vec![kob_text::NONE; asked.len()];
-    call(asked.as_ptr(), asked.len(), found.as_mut_ptr());
-    // SAFETY: what this function asks for.
-    found.into_iter().map(|it| unsafe { it.text() }).collect()
+    const NONE: kob_question = kob_question {
+        context: NO_TEXT,
+        msgid: NO_TEXT,
+        n: ptr::null(),
+    };
+    let mut answers = Vec::with_capacity(questions.len());
+    let (mut block, mut found) = ([NONE; BLOCK], [NO_TEXT; BLOCK]);
+    for some in questions.chunks(BLOCK) {
+        for (place, question) in block.iter_mut().zip(some) {
+            *place = asked(question);
+        }
+        call(block.as_ptr(), some.len(), found.as_mut_ptr());
+        // SAFETY: what this function asks for.
+        answers.extend(found[..some.len()].iter().map(|it| unsafe { str_of(*it) }));
+    }
+    answers
 }
 
 /// The version of the library that was loaded.
@@ -386,12 +230,12 @@ impl Catalogue {
     }
 
     #[inline]
-    pub fn find(&self, context: Option<&str>, msgid: &str, n: Option<u64>) -> Option<&str> {
-        let (context, msgid) = (kob_text::optional(context), kob_text::new(msgid));
+    pub fn find(&self, question: &Question<'_>) -> Option<&str> {
+        let asked = asked(question);
         // SAFETY: `self` keeps the catalogue alive; the texts and the number are readable until the call returns.
-        let found = unsafe { kob_find(self.0.as_ptr(), context, msgid, address(&n)) };
+        let found = unsafe { kob_find(self.0.as_ptr(), asked.context, asked.msgid, asked.n) };
         // SAFETY: the text belongs to the catalogue, which the result borrows.
-        unsafe { found.text() }
+        unsafe { str_of(found) }
     }
 
     pub fn find_many(&self, questions: &[Question<'_>]) -> Vec<Option<&str>> {
@@ -411,9 +255,9 @@ impl Catalogue {
 
     pub fn entry_at(&self, place: usize) -> Option<EntryStrings<'_>> {
         let mut entry = kob_entry {
-            context: kob_text::NONE,
-            msgid: kob_text::NONE,
-            plural: kob_text::NONE,
+            context: NO_TEXT,
+            msgid: NO_TEXT,
+            plural: NO_TEXT,
             forms: 0,
         };
         // SAFETY: `self` keeps the catalogue alive, any place may be asked for, and `entry` may be written to.
@@ -421,7 +265,7 @@ impl Catalogue {
             return None;
         }
         // SAFETY: the texts belong to the catalogue, which the result borrows.
-        let [context, msgid, plural] = [entry.context, entry.msgid, entry.plural].map(|it| unsafe { it.text() });
+        let [context, msgid, plural] = [entry.context, entry.msgid, entry.plural].map(|it| unsafe { str_of(it) });
         Some(EntryStrings {
             context,
             msgid: msgid.unwrap_or(""),
@@ -434,14 +278,14 @@ impl Catalogue {
         // SAFETY: `self` keeps the catalogue alive, and any two places may be asked for.
         let found = unsafe { kob_form_at(self.0.as_ptr(), place, form) };
         // SAFETY: the text belongs to the catalogue, which the result borrows.
-        unsafe { found.text() }
+        unsafe { str_of(found) }
     }
 
     pub fn mo_file(&self) -> &[u8] {
         // SAFETY: `self` keeps the catalogue alive.
         let file = unsafe { kob_mo_file(self.0.as_ptr()) };
         // SAFETY: the bytes belong to the catalogue, which the result borrows.
-        unsafe { file.bytes() }.unwrap_or(&[])
+        unsafe { bytes_of(file) }.unwrap_or(&[])
     }
 }
 
@@ -504,36 +348,30 @@ impl Set {
     }
 
     #[inline]
-    pub fn find(&self, names: [&str; 2], context: Option<&str>, msgid: &str, n: Option<u64>) -> Option<&str> {
+    pub fn find(&self, names: [&str; 2], question: &Question<'_>) -> Option<&str> {
         // SAFETY: `self` keeps the set alive, and the result borrows it.
-        unsafe { find_in(self.0.as_ptr(), names, context, msgid, n) }
+        unsafe { find_in(self.0.as_ptr(), names, question) }
     }
 
+    #[inline]
     pub fn languages<'a>(&'a self, names: [&'a str; 2]) -> Languages<'a> {
         // SAFETY: `self` keeps the set alive, and the result borrows it.
         unsafe { Languages::new(self.0.as_ptr(), names) }
     }
 }
 
-/// Looks up in a set.
+/// Looks up in a set, in a text domain and a list of languages.
 ///
 /// # Safety
 ///
 /// The set is valid, and so are its answers for `'a`.
 #[inline]
-unsafe fn find_in<'a>(
-    set: *const kob_set,
-    names: [&str; 2],
-    context: Option<&str>,
-    msgid: &str,
-    n: Option<u64>,
-) -> Option<&'a str> {
-    let [domain, languages] = names.map(kob_text::new);
-    let (context, msgid) = (kob_text::optional(context), kob_text::new(msgid));
+unsafe fn find_in<'a>(set: *const kob_set, names: [&str; 2], question: &Question<'_>) -> Option<&'a str> {
+    let ([domain, languages], asked) = (names.map(text), asked(question));
     // SAFETY: the set is valid; the texts and the number are readable until the call returns.
-    let found = unsafe { kob_set_find(set, domain, languages, context, msgid, address(&n)) };
+    let found = unsafe { kob_set_find(set, domain, languages, asked.context, asked.msgid, asked.n) };
     // SAFETY: the text belongs to a catalogue of the set, whose answers are valid for 'a.
-    unsafe { found.text() }
+    unsafe { str_of(found) }
 }
 
 /// A list of languages that was looked at once in a set. It borrows the set and its two texts for 'a. It has a pointer,
@@ -550,8 +388,9 @@ impl<'a> Languages<'a> {
     /// # Safety
     ///
     /// The set is valid for `'a`, and so are its answers.
+    #[inline]
     unsafe fn new(set: *const kob_set, names: [&'a str; 2]) -> Languages<'a> {
-        let [domain, languages] = names.map(kob_text::new);
+        let [domain, languages] = names.map(text);
         Languages {
             // SAFETY: the set is valid, and the texts are readable for 'a.
             list: unsafe { kob_set_languages(set, domain, languages) },
@@ -560,13 +399,13 @@ impl<'a> Languages<'a> {
     }
 
     #[inline]
-    pub fn find(&self, context: Option<&str>, msgid: &str, n: Option<u64>) -> Option<&'a str> {
-        let (context, msgid) = (kob_text::optional(context), kob_text::new(msgid));
+    pub fn find(&self, question: &Question<'_>) -> Option<&'a str> {
+        let asked = asked(question);
         // SAFETY: the set and the list's texts are valid for 'a; the other texts and the number are readable until the
         // call returns.
-        let found = unsafe { kob_languages_find(&self.list, context, msgid, address(&n)) };
+        let found = unsafe { kob_languages_find(&self.list, asked.context, asked.msgid, asked.n) };
         // SAFETY: the text belongs to a catalogue of the set, whose answers are valid for 'a.
-        unsafe { found.text() }
+        unsafe { str_of(found) }
     }
 
     pub fn find_many(&self, questions: &[Question<'_>]) -> Vec<Option<&'a str>> {
@@ -606,12 +445,12 @@ impl Store {
     pub fn load(&self, domain: &str, locale: &str, catalogue: &Catalogue) -> Result<(), Refusal> {
         let (domain, locale) = names(domain, locale)?;
         let (store, catalogue) = (self.0.as_ptr(), catalogue.0.as_ptr());
-        let mut why = kob_refusal::NONE;
+        let mut why = NO_REFUSAL;
         // SAFETY: both handles are alive, and the store shares the catalogue; the names are terminated by NUL, and
         // `why` may be written to.
         let loaded = unsafe { kob_store_load(store, domain.as_ptr(), locale.as_ptr(), catalogue, &mut why) };
         if loaded == 0 {
-            return Err(why.with_cause());
+            return Err(with_cause(why));
         }
         Ok(())
     }
@@ -727,15 +566,25 @@ impl<'a> Snapshot<'a> {
     }
 
     #[inline]
-    pub fn find(&self, names: [&str; 2], context: Option<&str>, msgid: &str, n: Option<u64>) -> Option<&'a str> {
+    pub fn find(&self, names: [&str; 2], question: &Question<'_>) -> Option<&'a str> {
         // SAFETY: the header: the set and its answers are valid until its reader's next entry or end, and neither comes
         // within 'a.
-        unsafe { find_in(self.set, names, context, msgid, n) }
+        unsafe { find_in(self.set, names, question) }
+    }
+
+    /// A list in place of the snapshot. A list isn't Send, so no other thread uses the reader until it is gone.
+    #[inline]
+    pub fn into_languages(self, names: [&'a str; 2]) -> Languages<'a> {
+        // SAFETY: the header: the set and its answers are valid until its reader's next entry or end, and neither comes
+        // within 'a.
+        unsafe { Languages::new(self.set, names) }
     }
 
     /// A list, which borrows the snapshot: so neither is used in another thread at the same time.
+    #[inline]
     pub fn languages<'b>(&'b self, names: [&'b str; 2]) -> Languages<'b> {
-        // SAFETY: as for `find`.
+        // SAFETY: the header: the set and its answers are valid until its reader's next entry or end, and neither comes
+        // within 'a, which is longer than 'b.
         unsafe { Languages::new(self.set, names) }
     }
 }

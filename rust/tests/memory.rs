@@ -1,7 +1,7 @@
-//! Loads, publishes and enters, and prints which of these calls found no memory. `tests/rust.sh` of the repository
+//! Loads, publishes and enters, and prints which of these calls found no memory. `tests/rust/rust.sh` of the repository
 //! refuses this program one request for memory after another; without that it prints nothing.
 
-use kobdzila::{Catalogue, Kind, Options, Refused, Store};
+use kobdzila::{Catalogue, Domain, Kind, Options, Refused, Store};
 
 /// What the call returns. If memory runs out, it is called again, and then has to succeed.
 fn twice<T>(name: &str, call: impl Fn() -> Result<T, Refused>) -> T {
@@ -16,7 +16,7 @@ fn main() {
     let po = b"msgid \"Winter\"\nmsgstr \"Hiver\"\n";
     let fr = twice("catalogue", || Catalogue::from_po(po, Options::new()));
     let store = Store::new();
-    twice("load", || store.load("garden", "fr", &fr));
+    twice("load", || store.load(Domain("garden"), "fr", &fr));
     assert_eq!((store.version(), store.pending()), (0, 1));
     if let Err(why) = store.publish() {
         println!("publish: {why}");
@@ -27,5 +27,5 @@ fn main() {
     let notice = twice("notice", || store.notice());
     let now = reader.enter_after(&notice).unwrap();
     assert_eq!(now.version(), 1);
-    assert_eq!(now.gettext("garden", "fr", "Winter"), "Hiver");
+    assert_eq!(now.languages(Domain("garden"), "fr").gettext("Winter"), "Hiver");
 }

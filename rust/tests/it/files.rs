@@ -1,5 +1,5 @@
 use crate::{compiled, GARDEN};
-use kobdzila::{Catalogue, Format, Kind, Options, Set};
+use kobdzila::{Catalogue, Domain, Format, Kind, Options, Set};
 use std::error::Error;
 use std::ffi::OsStr;
 use std::io::ErrorKind;
@@ -73,13 +73,13 @@ fn installed_catalogues() {
     let messages = folder.0.join("fr/LC_MESSAGES");
     fs::create_dir_all(&messages).unwrap();
     fs::write(messages.join("garden.mo"), compiled(GARDEN).mo_file()).unwrap();
-    let set = Set::new().with_installed(&folder.0, "garden", "fr").unwrap();
-    assert_eq!(set.gettext("garden", "fr", "Winter"), "Hiver");
-    let refused = set.with_installed(&folder.0, "garden", "de").unwrap_err();
+    let set = Set::new().with_installed(&folder.0, Domain("garden"), "fr").unwrap();
+    assert_eq!(set.languages(Domain("garden"), "fr").gettext("Winter"), "Hiver");
+    let refused = set.with_installed(&folder.0, Domain("garden"), "de").unwrap_err();
     assert_eq!(refused.kind(), Kind::Unreadable);
     assert!(refused.source().is_some());
     assert_eq!(
-        set.with_installed(&folder.0, "..", "fr").unwrap_err().kind(),
+        set.with_installed(&folder.0, Domain(".."), "fr").unwrap_err().kind(),
         Kind::BadName
     );
 }

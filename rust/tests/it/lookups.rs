@@ -36,9 +36,9 @@ fn find_tells_a_missing_message_from_one_that_is_its_own_translation() {
 #[test]
 fn the_empty_context_is_not_no_context() {
     let fr = compiled(GARDEN);
-    assert_eq!(fr.find_in("", "Open"), Some("Ouvert"));
+    assert_eq!(fr.find(Question::new("Open").context("")), Some("Ouvert"));
     assert_eq!(fr.find("Open"), None);
-    assert_eq!(fr.find_in("", "Winter"), None);
+    assert_eq!(fr.find(Question::new("Winter").context("")), None);
 }
 
 #[test]
@@ -46,7 +46,7 @@ fn the_plural_plays_no_part_in_a_look_up() {
     let fr = compiled(GARDEN);
     assert_eq!(fr.gettext("tomato"), "tomate");
     assert_eq!(fr.ngettext("tomato", "other", 2), "tomates");
-    assert_eq!(fr.find_plural("Winter", 2), Some("Hiver"));
+    assert_eq!(fr.find(Question::new("Winter").number(2)), Some("Hiver"));
     assert_eq!(fr.find("tomatoes"), None);
 }
 
@@ -59,9 +59,9 @@ fn no_message_has_a_nul() {
     assert_eq!(fr.find("\0Winter"), None);
     // (an MO file has the msgid and the plural with a NUL between them)
     assert_eq!(fr.find("tomato\0tomatoes"), None);
-    assert_eq!(fr.find_plural("tomato\0tomatoes", 2), None);
-    assert_eq!(fr.find_in("menu\0", "Open"), None);
-    assert_eq!(fr.find_in("menu\0menu", "Open"), None);
+    assert_eq!(fr.find(Question::new("tomato\0tomatoes").number(2)), None);
+    assert_eq!(fr.find(Question::new("Open").context("menu\0")), None);
+    assert_eq!(fr.find(Question::new("Open").context("menu\0menu")), None);
     assert_eq!(fr.ngettext("tomato\0", "tomatoes\0", 2), "tomatoes\0");
 }
 
@@ -70,7 +70,7 @@ fn byte_4_joins_a_context_and_a_msgid() {
     let fr = compiled(GARDEN);
     assert_eq!(fr.gettext("menu\u{4}Open"), "Ouvrir");
     assert_eq!(fr.find("menu\u{4}"), None);
-    assert_eq!(fr.find_in("menu\u{4}Open", ""), None);
+    assert_eq!(fr.find(Question::new("").context("menu\u{4}Open")), None);
 }
 
 #[test]
@@ -113,15 +113,14 @@ fn the_version_is_that_of_the_crate_or_later() {
 #[test]
 fn many_at_once_are_as_one_by_one() {
     let fr = compiled(GARDEN);
-    let ask = |context, msgid, n| Question { msgid, context, n };
     let asked = [
-        ask(None, "Winter", None),
-        ask(Some("menu"), "Open", None),
-        ask(Some(""), "Open", None),
-        ask(None, "Open", None),
-        ask(None, "tomato", Some(2)),
-        ask(Some("bed"), "row", Some(1)),
-        ask(None, "Summer", Some(2)),
+        Question::new("Winter"),
+        Question::new("Open").context("menu"),
+        Question::new("Open").context(""),
+        Question::new("Open"),
+        Question::new("tomato").number(2),
+        Question::new("row").context("bed").number(1),
+        Question::new("Summer").number(2),
     ];
     let wanted = [
         Some("Hiver"),

@@ -1,14 +1,25 @@
-//! Tests of the crate against the library.
+//! Tests of the crate against the library. With Miri, which can't call it, those that the stand-in of `kobdzila-sys`
+//! answers.
 
 mod entries;
+#[cfg(not(miri))]
 mod files;
+mod generic;
 mod lookups;
+#[cfg(feature = "macros")]
+mod messages;
+#[cfg(not(miri))]
 mod plural_rules;
 mod publishing;
+#[cfg(not(miri))]
 mod refusals;
+#[cfg(all(feature = "session", not(miri)))]
+mod sessions;
 mod sets;
 mod stores;
 mod threads;
+#[cfg(all(feature = "watch", not(miri)))]
+mod watches;
 
 use kobdzila::{Catalogue, Options};
 

@@ -1,7 +1,7 @@
 //! Threads that look up while others publish.
 
 use crate::compiled;
-use kobdzila::{Notice, Reader, Snapshot, Store};
+use kobdzila::{Domain, Notice, Reader, Snapshot, Store};
 use std::sync::atomic::{AtomicBool, AtomicU64, Ordering};
 use std::sync::mpsc::{channel, Receiver, Sender};
 use std::thread;
@@ -11,11 +11,13 @@ const PUBLISHES: u64 = 200;
 /// The catalogue whose one text is its number.
 fn load(store: &Store, domain: &str, locale: &str, number: u64) {
     let catalogue = compiled(&format!("msgid \"number\"\nmsgstr \"{number}\"\n"));
-    store.load(domain, locale, &catalogue).unwrap();
+    store.load(Domain(domain), locale, &catalogue).unwrap();
 }
 
 fn number_of(now: &Snapshot<'_>, domain: &str, locale: &str) -> u64 {
-    now.find(domain, locale, "number").map_or(0, |it| it.parse().unwrap())
+    now.languages(Domain(domain), locale)
+        .find("number")
+        .map_or(0, |it| it.parse().unwrap())
 }
 
 /// A store in which one thread publishes two catalogues at once, over and over, both with the number of the publish.
@@ -71,7 +73,7 @@ fn ask(published: &Published, mut reader: Reader) -> u64 {
         seen = check(&now, seen);
         entries += 1;
         if entries % 8 == 0 {
-            let text = now.gettext("garden", "fr", "number");
+            let text = now.languages(Domain("garden"), "fr").gettext("number");
             thread::yield_now();
             assert_eq!(check(&now, seen), seen);
             assert_eq!(text.parse(), Ok(seen / 2));
@@ -161,7 +163,11 @@ fn handles_move_between_threads() {
     .join()
     .unwrap();
     let now = reader.enter();
-    let answer = thread::scope(|scope| scope.spawn(move || now.gettext("garden", "fr", "number")).join());
+    let answer = thread::scope(|scope| {
+        scope
+            .spawn(move || now.into_languages(Domain("garden"), "fr").gettext("number"))
+            .join()
+    });
     assert_eq!(answer.unwrap(), "7");
     thread::spawn(move || drop(reader)).join().unwrap();
 }

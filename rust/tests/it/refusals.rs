@@ -1,4 +1,4 @@
-use kobdzila::{Catalogue, Kind, Options};
+use kobdzila::{Catalogue, Kind, Options, Question};
 use std::error::Error;
 
 const PLURAL: &str = "msgid \"a\"\nmsgid_plural \"b\"\nmsgstr[0] \"c\"\n";
@@ -38,7 +38,7 @@ fn each_reason_of_a_po_text() {
             "duplicate message",
         ),
         (
-            "msgid \"\"\nmsgstr \"charset=KOI8-R\\n\"\n",
+            "msgid \"\"\nmsgstr \"charset=EUC-JP\\n\"\n",
             PoCharset,
             1,
             "unsupported charset",
@@ -162,10 +162,8 @@ fn is_whole(catalogue: &Catalogue) {
     for entry in catalogue {
         let strings = [entry.context(), Some(entry.msgid()), entry.plural()];
         assert!(strings.into_iter().flatten().chain(entry.forms()).all(is_utf8));
-        let found = match entry.context() {
-            Some(context) => catalogue.find_plural_in(context, entry.msgid(), 2),
-            None => catalogue.find_plural(entry.msgid(), 2),
-        };
+        let question = Question::new(entry.msgid()).number(2);
+        let found = catalogue.find(entry.context().map_or(question, |it| question.context(it)));
         assert!(entry.forms().any(|form| Some(form) == found));
     }
 }

@@ -1,5 +1,5 @@
 use crate::{compiled, GARDEN};
-use kobdzila::{Catalogue, Kind, Notice, Reader, Store, WrongStore};
+use kobdzila::{Catalogue, Domain, Kind, Notice, Question, Reader, Store, WrongStore};
 
 fn message(msgid: &str, msgstr: &str) -> Catalogue {
     compiled(&format!("msgid \"{msgid}\"\nmsgstr \"{msgstr}\"\n"))
@@ -7,14 +7,15 @@ fn message(msgid: &str, msgstr: &str) -> Catalogue {
 
 /// Publishes a catalogue that translates `Winter` into French as `text`.
 fn show(store: &Store, text: &str) -> u64 {
-    store.load("garden", "fr", &message("Winter", text)).unwrap();
+    store.load(Domain("garden"), "fr", &message("Winter", text)).unwrap();
     store.publish().unwrap()
 }
 
 /// The text that an entry finds, and the entry's version.
 fn winter(reader: &mut Reader) -> (&str, u64) {
     let now = reader.enter();
-    (now.gettext("garden", "fr", "Winter"), now.version())
+    let version = now.version();
+    (now.into_languages(Domain("garden"), "fr").gettext("Winter"), version)
 }
 
 #[test]
@@ -23,15 +24,17 @@ fn loads_are_pending_until_a_publish_shows_all_of_them() {
     let mut reader = store.reader().unwrap();
     assert_eq!((store.version(), store.pending(), store.retained()), (0, 0, 0));
     assert_eq!(store.publish(), Ok(0));
-    store.load("garden", "fr", &message("Winter", "Hiver")).unwrap();
-    store.load("garden", "de", &message("Winter", "Winterzeit")).unwrap();
+    store.load(Domain("garden"), "fr", &message("Winter", "Hiver")).unwrap();
+    store
+        .load(Domain("garden"), "de", &message("Winter", "Winterzeit"))
+        .unwrap();
     assert_eq!((store.version(), store.pending()), (0, 2));
     assert_eq!(winter(&mut reader), ("Winter", 0));
     assert_eq!(store.publish(), Ok(2));
     assert_eq!((store.version(), store.pending()), (2, 0));
     let now = reader.enter();
-    assert_eq!(now.gettext("garden", "fr", "Winter"), "Hiver");
-    assert_eq!(now.gettext("garden", "de", "Winter"), "Winterzeit");
+    assert_eq!(now.languages(Domain("garden"), "fr").gettext("Winter"), "Hiver");
+    assert_eq!(now.languages(Domain("garden"), "de").gettext("Winter"), "Winterzeit");
     assert_eq!(now.version(), 2);
     assert_eq!((reader.version(), store.publish()), (2, Ok(2)));
 }
@@ -39,33 +42,39 @@ fn loads_are_pending_until_a_publish_shows_all_of_them() {
 #[test]
 fn a_load_replaces_one_catalogue() {
     let store = Store::new();
-    store.load("garden", "de", &message("Winter", "Winterzeit")).unwrap();
+    store
+        .load(Domain("garden"), "de", &message("Winter", "Winterzeit"))
+        .unwrap();
     show(&store, "Hiver");
     assert_eq!(show(&store, "L'hiver"), 3);
     let mut reader = store.reader().unwrap();
     assert_eq!(reader.version(), 3);
     let now = reader.enter();
-    assert_eq!(now.gettext("garden", "fr", "Winter"), "L'hiver");
-    assert_eq!(now.gettext("garden", "de", "Winter"), "Winterzeit");
+    assert_eq!(now.languages(Domain("garden"), "fr").gettext("Winter"), "L'hiver");
+    assert_eq!(now.languages(Domain("garden"), "de").gettext("Winter"), "Winterzeit");
 }
 
 #[test]
 fn the_last_of_two_pending_loads_counts() {
     let store = Store::new();
     let mut reader = store.reader().unwrap();
-    store.load("garden", "fr", &message("Winter", "Hiver")).unwrap();
+    store.load(Domain("garden"), "fr", &message("Winter", "Hiver")).unwrap();
     assert_eq!(show(&store, "L'hiver"), 2);
     assert_eq!(winter(&mut reader), ("L'hiver", 2));
 }
 
 #[test]
+#[cfg_attr(miri, ignore)]
 fn names_that_are_not_valid_are_refused_and_change_nothing() {
     let store = Store::new();
     let fr = compiled(GARDEN);
-    store.load("garden", "fr", &fr).unwrap();
+    store.load(Domain("garden"), "fr", &fr).unwrap();
     let long = "a".repeat(65);
     for name in ["", "a b", "a/b", "é", "garden\0", "\0", &long] {
-        for refused in [store.load(name, "de", &fr), store.load("garden", name, &fr)] {
+        for refused in [
+            store.load(Domain(name), "de", &fr),
+            store.load(Domain("garden"), name, &fr),
+        ] {
             let refused = refused.unwrap_err();
             assert_eq!((refused.kind(), refused.line()), (Kind::BadName, None));
         }
@@ -79,44 +88,71 @@ fn names_that_are_not_valid_are_refused_and_change_nothing() {
 #[test]
 fn a_snapshot_has_each_look_up() {
     let store = Store::new();
-    store.load("garden", "fr", &compiled(GARDEN)).unwrap();
-    store.load("garden", "de", &message("Winter", "Winterzeit")).unwrap();
+    store.load(Domain("garden"), "fr", &compiled(GARDEN)).unwrap();
+    store
+        .load(Domain("garden"), "de", &message("Winter", "Winterzeit"))
+        .unwrap();
     store.publish().unwrap();
     let mut reader = store.reader().unwrap();
     let now = reader.enter();
-    assert_eq!(now.gettext("garden", "sv:de:fr", "Winter"), "Winterzeit");
-    assert_eq!(now.pgettext("garden", "de:fr", "menu", "Open"), "Ouvrir");
-    assert_eq!(now.ngettext("garden", "de:fr", "tomato", "tomatoes", 0), "tomate");
-    assert_eq!(now.npgettext("garden", "fr_CA", "bed", "row", "rows", 2), "rangées");
-    assert_eq!(now.find("garden", "fr", "Winter"), Some("Hiver"));
-    assert_eq!(now.find_in("garden", "fr", "", "Open"), Some("Ouvert"));
-    assert_eq!(now.find_plural("garden", "fr", "tomato", 2), Some("tomates"));
-    assert_eq!(now.find_plural_in("garden", "fr", "bed", "row", 1), Some("rangée"));
+    assert_eq!(
+        now.languages(Domain("garden"), "sv:de:fr").gettext("Winter"),
+        "Winterzeit"
+    );
+    assert_eq!(
+        now.languages(Domain("garden"), "de:fr").pgettext("menu", "Open"),
+        "Ouvrir"
+    );
+    assert_eq!(
+        now.languages(Domain("garden"), "de:fr")
+            .ngettext("tomato", "tomatoes", 0),
+        "tomate"
+    );
+    assert_eq!(
+        now.languages(Domain("garden"), "fr_CA")
+            .npgettext("bed", "row", "rows", 2),
+        "rangées"
+    );
+    assert_eq!(now.languages(Domain("garden"), "fr").find("Winter"), Some("Hiver"));
+    let fr = now.into_languages(Domain("garden"), "fr");
+    assert_eq!(fr.find(Question::new("Open").context("")), Some("Ouvert"));
+    assert_eq!(fr.find(Question::new("tomato").number(2)), Some("tomates"));
+    assert_eq!(fr.find(Question::new("row").context("bed").number(1)), Some("rangée"));
 }
 
 #[test]
 fn missing_messages_are_the_callers_texts() {
     let store = Store::new();
-    store.load("garden", "fr", &compiled(GARDEN)).unwrap();
+    store.load(Domain("garden"), "fr", &compiled(GARDEN)).unwrap();
     store.publish().unwrap();
     let mut reader = store.reader().unwrap();
     let msgid = String::from("Summer");
     let now = reader.enter();
-    assert!(std::ptr::eq(now.gettext("garden", "fr", &msgid), msgid.as_str()));
-    assert_eq!(now.gettext("garden", "C:fr", "Winter"), "Winter");
-    assert_eq!(now.gettext("other", "fr", "Winter"), "Winter");
-    assert_eq!(now.pgettext("garden", "fr", "door", "Open"), "Open");
-    assert_eq!(now.ngettext("garden", "fr", "pea", "peas", 1), "pea");
-    assert_eq!(now.ngettext("garden", "fr", "pea", "peas", 0), "peas");
-    assert_eq!(now.npgettext("garden", "", "bed", "row", "rows", 1), "row");
-    assert_eq!(now.npgettext("garden", "", "bed", "row", "rows", 2), "rows");
-    assert_eq!(now.find("garden", "fr", "Open"), None);
-    assert_eq!(now.find("garden\0", "fr", "Winter"), None);
-    assert_eq!(now.find("garden", "fr\0", "Winter"), None);
-    assert_eq!(now.find("garden", "fr", "Winter\0"), None);
-    assert_eq!(now.find_in("garden", "fr", "menu", "Winter"), None);
-    assert_eq!(now.find_plural("garden", "fr", "pea", 2), None);
-    assert_eq!(now.find_plural_in("garden", "fr", "menu", "row", 2), None);
+    assert!(std::ptr::eq(
+        now.languages(Domain("garden"), "fr").gettext(&msgid),
+        msgid.as_str()
+    ));
+    assert_eq!(now.languages(Domain("garden"), "C:fr").gettext("Winter"), "Winter");
+    assert_eq!(now.languages(Domain("other"), "fr").gettext("Winter"), "Winter");
+    assert_eq!(now.languages(Domain("garden"), "fr").pgettext("door", "Open"), "Open");
+    assert_eq!(now.languages(Domain("garden"), "fr").ngettext("pea", "peas", 1), "pea");
+    assert_eq!(now.languages(Domain("garden"), "fr").ngettext("pea", "peas", 0), "peas");
+    assert_eq!(
+        now.languages(Domain("garden"), "").npgettext("bed", "row", "rows", 1),
+        "row"
+    );
+    assert_eq!(
+        now.languages(Domain("garden"), "").npgettext("bed", "row", "rows", 2),
+        "rows"
+    );
+    assert_eq!(now.languages(Domain("garden"), "fr").find("Open"), None);
+    assert_eq!(now.languages(Domain("garden\0"), "fr").find("Winter"), None);
+    assert_eq!(now.languages(Domain("garden"), "fr\0").find("Winter"), None);
+    assert_eq!(now.languages(Domain("garden"), "fr").find("Winter\0"), None);
+    let fr = now.into_languages(Domain("garden"), "fr");
+    assert_eq!(fr.find(Question::new("Winter").context("menu")), None);
+    assert_eq!(fr.find(Question::new("pea").number(2)), None);
+    assert_eq!(fr.find(Question::new("row").context("menu").number(2)), None);
 }
 
 #[test]
@@ -125,12 +161,12 @@ fn an_entry_stays_as_it_was() {
     show(&store, "one");
     let mut reader = store.reader().unwrap();
     let now = reader.enter();
-    let answer = now.gettext("garden", "fr", "Winter");
+    let answer = now.languages(Domain("garden"), "fr").gettext("Winter");
     for _ in 0..20 {
         show(&store, "two");
     }
     assert_eq!((now.version(), answer), (1, "one"));
-    assert_eq!(now.gettext("garden", "fr", "Winter"), "one");
+    assert_eq!(now.languages(Domain("garden"), "fr").gettext("Winter"), "one");
     assert_eq!(winter(&mut reader), ("two", 21));
     assert_eq!(reader.version(), 21);
 }
@@ -140,15 +176,15 @@ fn an_answer_lasts_as_long_as_the_entry() {
     let store = Store::new();
     show(&store, "one");
     let mut reader = store.reader().unwrap();
-    let answer = {
-        let now = reader.enter();
-        now.gettext("garden", "fr", "Winter")
-    };
+    let answer = reader.enter().into_languages(Domain("garden"), "fr").gettext("Winter");
+    assert_eq!(answer, "one");
+    let answer = reader.enter().find(Domain("garden"), "fr", "Winter").unwrap();
     drop(store);
     assert_eq!(answer, "one");
 }
 
 #[test]
+#[cfg_attr(miri, ignore)]
 fn a_reader_keeps_one_set() {
     let store = Store::new();
     show(&store, "one");
@@ -178,7 +214,7 @@ fn an_entry_after_a_notice_is_not_older() {
     assert_eq!(reader.enter_after(&first).unwrap().version(), 2);
     show(&store, "three");
     let now = reader.enter_after(&first).unwrap();
-    assert_eq!(now.gettext("garden", "fr", "Winter"), "three");
+    assert_eq!(now.languages(Domain("garden"), "fr").gettext("Winter"), "three");
     drop(store);
     assert_eq!(reader.enter_after(&second).unwrap().version(), 3);
 }
@@ -252,7 +288,9 @@ fn a_thousand_readers() {
 fn debug_shows_the_versions() {
     let store = Store::new();
     show(&store, "one");
-    store.load("garden", "de", &message("Winter", "Winterzeit")).unwrap();
+    store
+        .load(Domain("garden"), "de", &message("Winter", "Winterzeit"))
+        .unwrap();
     let mut reader = store.reader().unwrap();
     assert_eq!(format!("{store:?}"), "Store { version: 1, pending: 1 }");
     assert_eq!(format!("{reader:?}"), "Reader { version: 1 }");

@@ -1,5 +1,8 @@
 use crate::{compiled, GARDEN};
-use kobdzila::{Catalogue, Entries, Entry, Forms, Notice, PublishError, Reader, Set, Snapshot, Store, WrongStore};
+use kobdzila::{
+    Catalogue, Domain, Entries, Entry, Forms, Notice, OwnedLanguages, PublishError, Reader, Set, Snapshot, Store,
+    WrongStore,
+};
 use std::sync::atomic::{AtomicBool, Ordering};
 use std::sync::RwLock;
 use std::thread;
@@ -9,12 +12,17 @@ fn types_that_may_be_sent_and_shared() {
     fn is_sent_and_shared<T: Send + Sync>() {}
     is_sent_and_shared::<Catalogue>();
     is_sent_and_shared::<Set>();
+    is_sent_and_shared::<OwnedLanguages>();
     is_sent_and_shared::<Entries<'_>>();
     is_sent_and_shared::<Entry<'_>>();
     is_sent_and_shared::<Forms<'_>>();
     is_sent_and_shared::<Store>();
     is_sent_and_shared::<PublishError>();
     is_sent_and_shared::<WrongStore>();
+    #[cfg(feature = "session")]
+    is_sent_and_shared::<kobdzila::Session>();
+    #[cfg(feature = "watch")]
+    is_sent_and_shared::<kobdzila::Watch>();
 }
 
 // (that they aren't shared is an example of each that doesn't compile)
@@ -52,7 +60,7 @@ fn the_last_reference_is_dropped_by_any_thread() {
 #[test]
 fn sets_are_exchanged_while_threads_look_up() {
     let fr = compiled(GARDEN);
-    let current = RwLock::new(Set::new().with("garden", "fr", &fr).unwrap());
+    let current = RwLock::new(Set::new().with(Domain("garden"), "fr", &fr).unwrap());
     let now = || current.read().unwrap().clone();
     let done = AtomicBool::new(false);
     thread::scope(|scope| {
@@ -62,14 +70,14 @@ fn sets_are_exchanged_while_threads_look_up() {
                 let set = now();
                 assert!(set.version() >= seen);
                 seen = set.version();
-                assert_eq!(set.gettext("garden", "fr", "Winter"), "Hiver");
+                assert_eq!(set.languages(Domain("garden"), "fr").gettext("Winter"), "Hiver");
             }
         };
         for _ in 0..3 {
             scope.spawn(ask);
         }
         for _ in 0..500 {
-            let next = now().with("garden", "fr", &fr).unwrap();
+            let next = now().with(Domain("garden"), "fr", &fr).unwrap();
             *current.write().unwrap() = next;
         }
         done.store(true, Ordering::Relaxed);

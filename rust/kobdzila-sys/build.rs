@@ -4,16 +4,19 @@
 //! the variable `PKG_CONFIG` names.
 
 use std::env;
+use std::ffi::OsString;
+use std::os::unix::ffi::OsStringExt;
 use std::path::{Path, PathBuf};
 use std::process::Command;
 
 const LIB_DIR: &str = "KOBDZILA_LIB_DIR";
-/// The first version of the library that has all that this crate calls.
+/// The first version of the library that has all that this crate declares.
 const LEAST_VERSION: &str = "0.2.0";
 
 fn main() {
     for name in [
         LIB_DIR,
+        "DOCS_RS",
         "PKG_CONFIG",
         "PKG_CONFIG_PATH",
         "PKG_CONFIG_LIBDIR",
@@ -22,11 +25,12 @@ fn main() {
         println!("cargo:rerun-if-env-changed={name}");
     }
     println!("cargo:rerun-if-changed=build.rs");
-    // (docs.rs has no libkobdzila, and links nothing)
-    if env::var_os("DOCS_RS").is_some() {
+    // (docs.rs has no libkobdzila, and links nothing; nor does Miri, nor a system that lib.rs refuses)
+    let is_set = |name| env::var_os(name).is_some();
+    if is_set("DOCS_RS") || is_set("CARGO_CFG_MIRI") || !is_supported() {
         return;
     }
-    let is_static = env::var_os("CARGO_FEATURE_STATIC").is_some();
+    let is_static = is_set("CARGO_FEATURE_STATIC");
     match folders(is_static) {
         Ok(folders) => link(&folders, is_static),
         Err(why) => {
@@ -34,6 +38,12 @@ fn main() {
             std::process::exit(1);
         }
     }
+}
+
+/// Whether the program is for a system that libkobdzila runs on. On another one, `lib.rs` says so.
+fn is_supported() -> bool {
+    let is = |name, value| env::var_os(name).map_or(false, |it| it == value);
+    is("CARGO_CFG_TARGET_OS", "linux") && is("CARGO_CFG_TARGET_POINTER_WIDTH", "64")
 }
 
 fn link(folders: &[PathBuf], is_static: bool) {
@@ -67,7 +77,7 @@ fn named_folder(folder: &Path, is_static: bool) -> Result<PathBuf, String> {
 
 /// The folders that pkg-config says, also those in which a linker looks anyway.
 fn folders_by_pkg_config() -> Result<Vec<PathBuf>, String> {
-    let program = env::var("PKG_CONFIG").unwrap_or_else(|_| "pkg-config".to_string());
+    let program = env::var_os("PKG_CONFIG").unwrap_or_else(|| "pkg-config".into());
     let asked = Command::new(&program)
         .env("PKG_CONFIG_ALLOW_SYSTEM_LIBS", "1")
         .args(["--print-errors", "--libs-only-L"])
@@ -76,14 +86,34 @@ fn folders_by_pkg_config() -> Result<Vec<PathBuf>, String> {
     let said = match asked {
         Ok(output) if output.status.success() => output.stdout,
         Ok(output) => return Err(missing(String::from_utf8_lossy(&output.stderr).trim())),
-        Err(why) => return Err(missing(&format!("{program}: {why}"))),
+        Err(why) => return Err(missing(&format!("{}: {why}", program.to_string_lossy()))),
     };
-    let said = String::from_utf8_lossy(&said);
-    Ok(said
-        .split_whitespace()
-        .filter_map(|word| word.strip_prefix("-L"))
-        .map(PathBuf::from)
+    let words = words_of(&said);
+    Ok(words
+        .iter()
+        .filter_map(|word| word.strip_prefix(b"-L"))
+        .map(|folder| PathBuf::from(OsString::from_vec(folder.to_vec())))
         .collect())
+}
+
+/// The words of a line of the shell: pkg-config puts `\` before each blank, quote and `\` of a folder's name.
+fn words_of(line: &[u8]) -> Vec<Vec<u8>> {
+    let (mut words, mut word, mut quote) = (Vec::new(), None::<Vec<u8>>, None);
+    let mut rest = line.iter().copied();
+    while let Some(byte) = rest.next() {
+        match (byte, quote) {
+            (b'\\', None | Some(b'"')) => word.get_or_insert_with(Vec::new).extend(rest.next()),
+            (b'\'' | b'"', None) => {
+                quote = Some(byte);
+                word.get_or_insert_with(Vec::new);
+            }
+            (_, Some(open)) if byte == open => quote = None,
+            (b' ' | b'\t' | b'\n', None) => words.extend(word.take()),
+            _ => word.get_or_insert_with(Vec::new).push(byte),
+        }
+    }
+    words.extend(word);
+    words
 }
 
 fn missing(why: &str) -> String {

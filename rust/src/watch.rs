@@ -1,0 +1,674 @@
+//! A thread that loads the catalogues of a folder into a store, and again when they change.
+
+use std::collections::hash_map::RandomState;
+use std::collections::{HashMap, HashSet};
+use std::error::Error;
+use std::ffi::OsStr;
+use std::fmt;
+use std::fs;
+use std::hash::{BuildHasher, Hash, Hasher};
+use std::io::{self, Write};
+use std::os::unix::fs::MetadataExt;
+use std::os::unix::net::UnixStream;
+use std::panic::{catch_unwind, AssertUnwindSafe};
+use std::path::{Path, PathBuf};
+use std::sync::{Arc, Mutex, MutexGuard};
+use std::thread::{self, JoinHandle};
+use std::time::{Duration, Instant};
+
+use crate::catalogue::{Catalogue, Options};
+use crate::names::Domain;
+use crate::refused::{Kind, Refused};
+use crate::store::Store;
+use crate::sys::inotify::{self, Changes};
+use crate::sys::Refusal;
+
+/// How long a file that keeps changing delays the others.
+const PATIENCE: Duration = Duration::from_secs(5);
+/// A file that was written and not closed for so long isn't waited for: `truncate` closes none.
+const LONGEST_WRITE: Duration = Duration::from_secs(60);
+/// How often to look if the system doesn't report changes.
+const UNREPORTED: Duration = Duration::from_secs(1);
+
+/// A folder whose catalogues are loaded into a store, and again when they change: `FOLDER/LOCALE/LC_MESSAGES/DOMAIN.mo`
+/// and `.po`.
+///
+/// ```
+/// use kobdzila::{Domain, Store, WatchOptions};
+/// use std::fs;
+/// use std::sync::Arc;
+/// use std::time::{Duration, Instant};
+///
+/// # let folder = std::env::temp_dir().join(format!("kobdzila-watch-{}", std::process::id()));
+/// let messages = folder.join("fr/LC_MESSAGES");
+/// fs::create_dir_all(&messages)?;
+/// fs::write(messages.join("garden.po"), "msgid \"Winter\"\nmsgstr \"Hiver\"\n")?;
+///
+/// let store = Arc::new(Store::new());
+/// let watch = WatchOptions::new(&folder).refused(|file| eprintln!("{file}")).start(&store)?;
+/// assert_eq!(store.version(), 1);
+///
+/// fs::write(messages.join("garden.po"), "msgid \"Winter\"\nmsgstr \"L'hiver\"\n")?;
+/// let end = Instant::now() + Duration::from_secs(60);
+/// while store.version() < 2 && Instant::now() < end {
+///     std::thread::sleep(Duration::from_millis(5));
+/// }
+/// let mut reader = store.reader()?;
+/// assert_eq!(reader.enter().languages(Domain("garden"), "fr").gettext("Winter"), "L'hiver");
+/// watch.stop();
+/// # fs::remove_dir_all(&folder)?;
+/// # Ok::<(), Box<dyn std::error::Error>>(())
+/// ```
+///
+/// What is there is loaded and published before [`start`](WatchOptions::start) returns. From then on a thread waits for
+/// changes, which the system reports (inotify), and publishes all that have come together in one step. A file counts as
+/// complete once nobody is writing it, and its size and times are the same at two looks. If there are both an MO file
+/// and a PO file, the one that was modified later is shown. A file that is removed stays loaded.
+///
+/// A file that isn't loaded is reported once; the texts that were there before stay. Nothing that happens to a file
+/// ends the thread, nor does a panic of your function. Dropping the watch ends it.
+#[derive(Debug)]
+pub struct Watch {
+    looking: Arc<Mutex<Looking>>,
+    end: UnixStream,
+    thread: Option<JoinHandle<()>>,
+}
+
+impl Watch {
+    /// Looks now, and returns the version that was published, or `None` if nothing has changed.
+    ///
+    /// ```
+    /// # use kobdzila::{Store, WatchOptions};
+    /// # let folder = std::env::temp_dir().join(format!("kobdzila-look-{}", std::process::id()));
+    /// # std::fs::create_dir_all(folder.join("fr/LC_MESSAGES"))?;
+    /// let store = std::sync::Arc::new(Store::new());
+    /// let watch = WatchOptions::new(&folder).start(&store)?;
+    /// assert_eq!(watch.look(), None);
+    /// std::fs::write(folder.join("fr/LC_MESSAGES/garden.po"), "msgid \"Winter\"\nmsgstr \"Hiver\"\n")?;
+    /// watch.look();
+    /// assert_eq!(store.version(), 1);
+    /// # std::fs::remove_dir_all(&folder)?;
+    /// # Ok::<(), Box<dyn std::error::Error>>(())
+    /// ```
+    pub fn look(&self) -> Option<u64> {
+        locked(&self.looking).look()
+    }
+
+    /// Ends the thread, and waits until it has ended. The store goes on with what was loaded.
+    ///
+    /// ```
+    /// # use kobdzila::{Store, WatchOptions};
+    /// let store = std::sync::Arc::new(Store::new());
+    /// let watch = WatchOptions::new(std::env::temp_dir()).start(&store)?;
+    /// watch.stop();
+    /// # Ok::<(), std::io::Error>(())
+    /// ```
+    pub fn stop(self) {}
+}
+
+impl Drop for Watch {
+    fn drop(&mut self) {
+        // (the thread has the other end until it ends, so this can't fail)
+        let _ = self.end.write_all(b"e");
+        if let Some(thread) = self.thread.take() {
+            // (a watch that is dropped by its own callback can't wait for itself)
+            if thread.thread().id() != thread::current().id() {
+                let _ = thread.join();
+            }
+        }
+    }
+}
+
+/// How to watch a folder: the builder of a [`Watch`].
+///
+/// ```
+/// use kobdzila::{Options, Store, WatchOptions};
+/// use std::time::Duration;
+///
+/// let store = std::sync::Arc::new(Store::new());
+/// let watch = WatchOptions::new(std::env::temp_dir())
+///     .domains(["garden"])
+///     .options(Options::new().checked(true))
+///     .settle(Duration::from_millis(200))
+///     .start(&store)?;
+/// # Ok::<(), std::io::Error>(())
+/// ```
+#[must_use]
+pub struct WatchOptions {
+    folder: PathBuf,
+    domains: Option<HashSet<String>>,
+    options: Options,
+    settle: Duration,
+    every: Duration,
+    accepts_empty: bool,
+    refused: Report,
+}
+
+type Report = Box<dyn FnMut(&FileRefused) + Send>;
+
+impl WatchOptions {
+    /// Returns the defaults for a folder, as the methods below say them.
+    ///
+    /// ```
+    /// let options = kobdzila::WatchOptions::new("/usr/share/locale");
+    /// assert!(format!("{options:?}").contains("/usr/share/locale"));
+    /// ```
+    pub fn new(folder: impl Into<PathBuf>) -> WatchOptions {
+        WatchOptions {
+            folder: folder.into(),
+            domains: None,
+            options: Options::new(),
+            settle: Duration::from_millis(100),
+            every: Duration::from_secs(10),
+            accepts_empty: false,
+            refused: Box::new(|file| eprintln!("{file}")),
+        }
+    }
+
+    /// Limits the text domains. The default is all of them.
+    ///
+    /// ```
+    /// # let options = kobdzila::WatchOptions::new("locale");
+    /// let options = options.domains(["garden", "orchard"]);
+    /// ```
+    pub fn domains<T: Into<String>>(mut self, domains: impl IntoIterator<Item = T>) -> WatchOptions {
+        self.domains = Some(domains.into_iter().map(Into::into).collect());
+        self
+    }
+
+    /// Says how to compile PO files. The default runs no checks and drops fuzzy messages.
+    ///
+    /// ```
+    /// # let options = kobdzila::WatchOptions::new("locale");
+    /// let options = options.options(kobdzila::Options::new().checked(true));
+    /// ```
+    pub fn options(mut self, options: Options) -> WatchOptions {
+        self.options = options;
+        self
+    }
+
+    /// Says how long a file has to stay as it is before it is loaded. Changes that come within this time of each other
+    /// are one publish. The default is 100 milliseconds.
+    ///
+    /// ```
+    /// # let options = kobdzila::WatchOptions::new("locale");
+    /// let options = options.settle(std::time::Duration::from_millis(20));
+    /// ```
+    pub fn settle(mut self, settle: Duration) -> WatchOptions {
+        self.settle = settle;
+        self
+    }
+
+    /// Says how often to look even if the system reports no change, as for a folder of another machine. The default is
+    /// 10 seconds. If the system reports none at all, it is at most a second.
+    ///
+    /// ```
+    /// # let options = kobdzila::WatchOptions::new("locale");
+    /// let options = options.every(std::time::Duration::from_secs(60));
+    /// ```
+    pub fn every(mut self, every: Duration) -> WatchOptions {
+        self.every = every;
+        self
+    }
+
+    /// Says whether a file without a message replaces one that has some. The default is that it is refused, since it is
+    /// rather a mistake, such as a shell's `>`.
+    ///
+    /// ```
+    /// # let options = kobdzila::WatchOptions::new("locale");
+    /// let options = options.accept_empty(true);
+    /// ```
+    pub fn accept_empty(mut self, accepts: bool) -> WatchOptions {
+        self.accepts_empty = accepts;
+        self
+    }
+
+    /// Sets what is called with each file that isn't loaded. By default that is printed on standard error.
+    ///
+    /// The first calls come from [`start`](WatchOptions::start), and later ones from the thread of the watch.
+    ///
+    /// ```
+    /// # let options = kobdzila::WatchOptions::new("locale");
+    /// let options = options.refused(|file| eprintln!("not loaded: {file}"));
+    /// ```
+    pub fn refused(mut self, report: impl FnMut(&FileRefused) + Send + 'static) -> WatchOptions {
+        self.refused = Box::new(report);
+        self
+    }
+
+    /// Loads and publishes what is there, and goes on doing so when it changes.
+    ///
+    /// # Errors
+    ///
+    /// The folder can't be read, or the system has no thread or no descriptor left.
+    ///
+    /// ```
+    /// use kobdzila::{Store, WatchOptions};
+    ///
+    /// let store = std::sync::Arc::new(Store::new());
+    /// let why = WatchOptions::new("no/such/folder").start(&store).unwrap_err();
+    /// assert_eq!(why.kind(), std::io::ErrorKind::NotFound);
+    /// ```
+    pub fn start(self, store: &Arc<Store>) -> io::Result<Watch> {
+        fs::read_dir(&self.folder)?;
+        let (end, ends) = UnixStream::pair()?;
+        let changes = Changes::new().ok().map(Arc::new);
+        let mut looking = Looking {
+            store: Arc::clone(store),
+            how: self,
+            changes: changes.clone(),
+            folders: HashMap::new(),
+            is_reported: true,
+            writing: HashMap::new(),
+            seen: HashMap::new(),
+            is_pending: false,
+            hashes: RandomState::new(),
+            ends: ends.try_clone()?,
+        };
+        looking.look();
+        let looking = Arc::new(Mutex::new(looking));
+        let shared = Arc::clone(&looking);
+        let thread = thread::Builder::new()
+            .name("kobdzila watches".to_string())
+            .spawn(move || run(&shared, changes.as_deref(), &ends))?;
+        Ok(Watch {
+            looking,
+            end,
+            thread: Some(thread),
+        })
+    }
+}
+
+impl fmt::Debug for WatchOptions {
+    fn fmt(&self, f: &mut fmt::Formatter<'_>) -> fmt::Result {
+        f.debug_struct("WatchOptions")
+            .field("folder", &self.folder)
+            .field("domains", &self.domains)
+            .finish_non_exhaustive()
+    }
+}
+
+/// A file of a watched folder that isn't loaded.
+///
+/// It displays as a line that an editor can jump to, such as `fr.po:3: duplicate message`.
+///
+/// ```
+/// # use kobdzila::{Kind, Store, WatchOptions};
+/// # let folder = std::env::temp_dir().join(format!("kobdzila-refused-{}", std::process::id()));
+/// # std::fs::create_dir_all(folder.join("fr/LC_MESSAGES"))?;
+/// # let store = std::sync::Arc::new(Store::new());
+/// std::fs::write(folder.join("fr/LC_MESSAGES/garden.po"), "msgid \"Winter\n")?;
+/// WatchOptions::new(&folder)
+///     .refused(|file| {
+///         assert!(file.path().ends_with("fr/LC_MESSAGES/garden.po"));
+///         assert_eq!((file.line(), file.kind()), (Some(1), Some(Kind::PoOpenString)));
+///     })
+///     .start(&store)?;
+/// # std::fs::remove_dir_all(&folder)?;
+/// # Ok::<(), std::io::Error>(())
+/// ```
+#[derive(Debug)]
+pub struct FileRefused {
+    path: PathBuf,
+    why: Option<Refused>,
+}
+
+impl FileRefused {
+    /// Returns the path of the file.
+    ///
+    /// ```
+    /// fn name(file: &kobdzila::FileRefused) -> Option<&str> {
+    ///     file.path().file_name()?.to_str()
+    /// }
+    /// ```
+    pub fn path(&self) -> &Path {
+        &self.path
+    }
+
+    /// Returns the reason; `None` if the file is only refused because it has no message.
+    ///
+    /// ```
+    /// fn is_out_of_memory(file: &kobdzila::FileRefused) -> bool {
+    ///     file.kind() == Some(kobdzila::Kind::Memory)
+    /// }
+    /// ```
+    pub fn kind(&self) -> Option<Kind> {
+        self.why.as_ref().map(Refused::kind)
+    }
+
+    /// Returns the line of the PO text, from 1, if the reason has one.
+    ///
+    /// ```
+    /// fn place(file: &kobdzila::FileRefused) -> String {
+    ///     format!("{}:{}", file.path().display(), file.line().unwrap_or(1))
+    /// }
+    /// ```
+    pub fn line(&self) -> Option<u32> {
+        self.why.as_ref().and_then(Refused::line)
+    }
+}
+
+impl fmt::Display for FileRefused {
+    fn fmt(&self, f: &mut fmt::Formatter<'_>) -> fmt::Result {
+        write!(f, "{}:", self.path.display())?;
+        if let Some(line) = self.line() {
+            write!(f, "{line}:")?;
+        }
+        match &self.why {
+            Some(why) => write!(f, " {why}"),
+            None => write!(f, " no message, in place of a catalogue that has some"),
+        }
+    }
+}
+
+impl Error for FileRefused {
+    fn source(&self) -> Option<&(dyn Error + 'static)> {
+        self.why.as_ref().and_then(Error::source)
+    }
+}
+
+/// What changes when a file does.
+#[derive(Clone, Copy, Debug, PartialEq, Eq)]
+struct Stamp {
+    modified: (i64, i64),
+    changed: (i64, i64),
+    size: u64,
+    number: u64,
+}
+
+/// A file that was looked at. One that couldn't be read has no hash.
+#[derive(Clone, Copy, Debug)]
+struct Seen {
+    stamp: Stamp,
+    hash: Option<u64>,
+    has_messages: bool,
+}
+
+/// What the thread and `look` share.
+struct Looking {
+    store: Arc<Store>,
+    how: WatchOptions,
+    changes: Option<Arc<Changes>>,
+    /// The folders that are reported, by their numbers.
+    folders: HashMap<i32, PathBuf>,
+    /// Whether all folders are.
+    is_reported: bool,
+    /// The files that somebody is writing, with the time of the last write.
+    writing: HashMap<PathBuf, Instant>,
+    /// What was loaded or refused.
+    seen: HashMap<PathBuf, Seen>,
+    /// Whether a publish failed, so that its loads are still pending.
+    is_pending: bool,
+    hashes: RandomState,
+    ends: UnixStream,
+}
+
+impl fmt::Debug for Looking {
+    fn fmt(&self, f: &mut fmt::Formatter<'_>) -> fmt::Result {
+        f.debug_struct("Looking")
+            .field("how", &self.how)
+            .field("files", &self.seen.len())
+            .finish_non_exhaustive()
+    }
+}
+
+fn locked(looking: &Mutex<Looking>) -> MutexGuard<'_, Looking> {
+    looking.lock().unwrap_or_else(|it| it.into_inner())
+}
+
+/// Looks whenever something has changed, until it is told to end.
+fn run(looking: &Mutex<Looking>, changes: Option<&Changes>, ends: &UnixStream) {
+    loop {
+        let (time, settle) = {
+            let looking = locked(looking);
+            (looking.pause(), looking.how.settle)
+        };
+        let is_end = match changes {
+            Some(changes) => changes.wait(ends, time),
+            None => inotify::wait_for(ends, time),
+        };
+        if is_end {
+            return;
+        }
+        let _ = catch_unwind(AssertUnwindSafe(|| locked(looking).look()));
+        // (a folder in which other files change all the time isn't looked at all the time)
+        if inotify::wait_for(ends, settle) {
+            return;
+        }
+    }
+}
+
+impl Looking {
+    fn pause(&self) -> Duration {
+        if self.is_reported && self.changes.is_some() {
+            self.how.every
+        } else {
+            self.how.every.min(UNREPORTED)
+        }
+    }
+
+    fn look(&mut self) -> Option<u64> {
+        let changed = self.steady();
+        let is_loaded = !changed.is_empty() && self.load(changed);
+        if !is_loaded && !self.is_pending {
+            return None;
+        }
+        let published = self.store.publish();
+        self.is_pending = published.is_err();
+        published.ok()
+    }
+
+    /// The files that have changed and are complete. They are waited for, so that all are one publish.
+    fn steady(&mut self) -> HashMap<PathBuf, Stamp> {
+        let mut before = self.changed();
+        let end = Instant::now() + PATIENCE;
+        while !before.is_empty() && !inotify::wait_for(&self.ends, self.how.settle) {
+            let after = self.changed();
+            let is_over = Instant::now() > end;
+            let is_steady = after.iter().all(|(path, stamp)| before.get(path) == Some(stamp));
+            if is_steady || is_over {
+                return after
+                    .into_iter()
+                    .filter(|(path, stamp)| before.get(path) == Some(stamp))
+                    .collect();
+            }
+            before = after;
+        }
+        HashMap::new()
+    }
+
+    fn changed(&mut self) -> HashMap<PathBuf, Stamp> {
+        self.take_changes();
+        let mut found = HashMap::new();
+        for path in self.paths() {
+            if self.writing.get(&path).map_or(false, |it| it.elapsed() < LONGEST_WRITE) {
+                continue;
+            }
+            match stamp_of(&path) {
+                Some(stamp) if self.seen.get(&path).map_or(true, |it| it.stamp != stamp) => {
+                    found.insert(path, stamp);
+                }
+                _ => {}
+            }
+        }
+        found
+    }
+
+    /// Notes which files are being written, of those that the system has reported.
+    fn take_changes(&mut self) {
+        let (folders, writing) = (&mut self.folders, &mut self.writing);
+        let changes = match &self.changes {
+            Some(changes) => changes,
+            None => return,
+        };
+        changes.read(|change| {
+            if change.mask & inotify::IN_Q_OVERFLOW != 0 {
+                writing.clear();
+            } else if change.mask & inotify::IN_IGNORED != 0 {
+                folders.remove(&change.folder);
+            } else if let Some(folder) = folders.get(&change.folder) {
+                let path = folder.join(change.name);
+                if change.mask & inotify::IN_MODIFY != 0 {
+                    writing.insert(path, Instant::now());
+                } else if change.mask & !(inotify::IN_ATTRIB | inotify::IN_CREATE) != 0 {
+                    writing.remove(&path);
+                }
+            }
+        });
+    }
+
+    /// The files of the folder that are catalogues by their names. Their folders are reported from now on.
+    fn paths(&mut self) -> Vec<PathBuf> {
+        let mut paths = Vec::new();
+        let top = self.how.folder.clone();
+        self.is_reported = self.report(&top);
+        for locale in listed(&top).filter(|it| it.is_dir()) {
+            let folder = locale.join("LC_MESSAGES");
+            let is_there = folder.is_dir();
+            self.is_reported &= self.report(&locale) && (!is_there || self.report(&folder));
+            paths.extend(listed(&folder).filter(|it| self.is_wanted(it)));
+        }
+        paths
+    }
+
+    /// Has the system report this folder; false if it doesn't.
+    fn report(&mut self, folder: &Path) -> bool {
+        match self.changes.as_ref().map(|it| it.add(folder)) {
+            Some(Ok(number)) => {
+                self.folders.entry(number).or_insert_with(|| folder.to_path_buf());
+                true
+            }
+            // (a folder that is gone has nothing to report)
+            Some(Err(why)) => why.kind() == io::ErrorKind::NotFound,
+            None => false,
+        }
+    }
+
+    fn is_wanted(&self, path: &Path) -> bool {
+        let end = path.extension().and_then(OsStr::to_str);
+        let stem = path.file_stem().and_then(OsStr::to_str).unwrap_or("");
+        let is_named = |domains: &HashSet<String>| domains.contains(stem);
+        matches!(end, Some("mo" | "po")) && !stem.starts_with('.') && self.how.domains.as_ref().map_or(true, is_named)
+    }
+
+    /// Loads these files, the one that was modified last at the end, and returns whether one was.
+    fn load(&mut self, changed: HashMap<PathBuf, Stamp>) -> bool {
+        let mut files: Vec<(PathBuf, Stamp)> = changed.into_iter().collect();
+        files.sort_by(|(path, stamp), (other, later)| {
+            let key = |path: &Path, stamp: &Stamp| (stamp.modified, is_mo(path), path.to_path_buf());
+            key(path, stamp).cmp(&key(other, later))
+        });
+        let mut is_loaded = false;
+        for (path, stamp) in files {
+            is_loaded |= self.load_file(path, stamp);
+        }
+        is_loaded
+    }
+
+    /// Loads a file. One that has changed once more is looked at next time.
+    fn load_file(&mut self, path: PathBuf, stamp: Stamp) -> bool {
+        let bytes = match fs::read(&path) {
+            Ok(bytes) => bytes,
+            Err(why) => {
+                let seen = Seen {
+                    stamp,
+                    hash: None,
+                    has_messages: false,
+                };
+                return self.refuse(path, seen, Some(Refusal::unreadable(why).into()));
+            }
+        };
+        if stamp_of(&path) != Some(stamp) {
+            return false;
+        }
+        let mut hasher = self.hashes.build_hasher();
+        bytes.hash(&mut hasher);
+        let mut seen = Seen {
+            stamp,
+            hash: Some(hasher.finish()),
+            has_messages: self.has_messages(&path),
+        };
+        if self.is_shown(&path, &seen) {
+            self.seen.insert(path, seen);
+            return false;
+        }
+        let catalogue = match self.opened(&path, &bytes) {
+            Ok(catalogue) => catalogue,
+            Err(why) => return self.refuse(path, seen, Some(why)),
+        };
+        let has_messages = catalogue.entries().any(|it| !it.msgid().is_empty());
+        if seen.has_messages && !has_messages && !self.how.accepts_empty {
+            return self.refuse(path, seen, None);
+        }
+        if let Err(why) = self.store.load(Domain(&named(&path, 1)), &named(&path, 3), &catalogue) {
+            return self.refuse(path, seen, Some(why));
+        }
+        seen.has_messages = has_messages;
+        self.seen.insert(path, seen);
+        true
+    }
+
+    fn opened(&self, path: &Path, bytes: &[u8]) -> Result<Catalogue, Refused> {
+        if is_mo(path) {
+            Catalogue::from_mo(bytes)
+        } else {
+            Catalogue::from_po(bytes, self.how.options)
+        }
+    }
+
+    /// Whether the store has messages from this file, or from that of the other format.
+    fn has_messages(&self, path: &Path) -> bool {
+        let has = |path: &Path| self.seen.get(path).map_or(false, |it| it.has_messages);
+        has(path) || has(&other_format(path))
+    }
+
+    /// Whether the file has the bytes that it had, and no file of the other format was loaded after it.
+    fn is_shown(&self, path: &Path, now: &Seen) -> bool {
+        let is_same = self.seen.get(path).map_or(false, |it| it.hash == now.hash);
+        is_same && !self.seen.contains_key(&other_format(path))
+    }
+
+    fn refuse(&mut self, path: PathBuf, seen: Seen, why: Option<Refused>) -> bool {
+        self.seen.insert(path.clone(), seen);
+        let file = FileRefused { path, why };
+        let report = &mut self.how.refused;
+        let _ = catch_unwind(AssertUnwindSafe(|| report(&file)));
+        false
+    }
+}
+
+fn is_mo(path: &Path) -> bool {
+    path.extension() == Some(OsStr::new("mo"))
+}
+
+fn other_format(path: &Path) -> PathBuf {
+    path.with_extension(if is_mo(path) { "po" } else { "mo" })
+}
+
+/// The text domain, which is the last part of the path, or the locale, which is the last but two. One that isn't UTF-8
+/// is no name.
+fn named(path: &Path, from_end: usize) -> String {
+    let part = path.iter().rev().nth(from_end - 1).map(Path::new);
+    let part = if from_end == 1 {
+        part.and_then(Path::file_stem)
+    } else {
+        part.map(Path::as_os_str)
+    };
+    part.and_then(OsStr::to_str).unwrap_or("").to_string()
+}
+
+/// The paths in a folder, or none if it can't be read.
+fn listed(folder: &Path) -> impl Iterator<Item = PathBuf> {
+    fs::read_dir(folder).into_iter().flatten().flatten().map(|it| it.path())
+}
+
+/// A regular file's stamp, or `None` if there is no such file.
+fn stamp_of(path: &Path) -> Option<Stamp> {
+    let status = fs::metadata(path).ok().filter(fs::Metadata::is_file)?;
+    Some(Stamp {
+        modified: (status.mtime(), status.mtime_nsec()),
+        changed: (status.ctime(), status.ctime_nsec()),
+        size: status.size(),
+        number: status.ino(),
+    })
+}

@@ -1,0 +1,283 @@
+use crate::{compiled, GARDEN};
+use kobdzila::{Domain, FileRefused, Kind, Store, Watch, WatchOptions};
+use std::fs::{self, File};
+use std::io::Write;
+use std::path::PathBuf;
+use std::sync::{Arc, Mutex};
+use std::thread;
+use std::time::{Duration, Instant};
+
+/// A folder that is watched, what its store shows, and what was refused.
+struct Garden {
+    folder: PathBuf,
+    store: Arc<Store>,
+    refused: Arc<Mutex<Vec<String>>>,
+}
+
+impl Garden {
+    fn new(name: &str) -> Garden {
+        let folder = std::env::temp_dir().join(format!("kobdzila-{}-watch-{name}", std::process::id()));
+        let _ = fs::remove_dir_all(&folder);
+        fs::create_dir_all(folder.join("fr/LC_MESSAGES")).unwrap();
+        Garden {
+            folder,
+            store: Arc::default(),
+            refused: Arc::default(),
+        }
+    }
+
+    fn options(&self) -> WatchOptions {
+        let refused = Arc::clone(&self.refused);
+        let keep = move |file: &FileRefused| refused.lock().unwrap().push(file.to_string());
+        WatchOptions::new(&self.folder)
+            .settle(Duration::from_millis(20))
+            .refused(keep)
+    }
+
+    fn watch(&self) -> Watch {
+        self.options().start(&self.store).unwrap()
+    }
+
+    fn path(&self, name: &str) -> PathBuf {
+        self.folder.join(name)
+    }
+
+    fn write(&self, name: &str, text: impl AsRef<[u8]>) {
+        fs::write(self.path(name), text).unwrap();
+    }
+
+    fn winter(&self, locale: &str) -> String {
+        let mut reader = self.store.reader().unwrap();
+        let now = reader.enter();
+        now.languages(Domain("garden"), locale).gettext("Winter").to_string()
+    }
+
+    fn refused(&self) -> Vec<String> {
+        let start = format!("{}/", self.folder.display());
+        self.refused
+            .lock()
+            .unwrap()
+            .iter()
+            .map(|it| it.replace(&start, ""))
+            .collect()
+    }
+}
+
+impl Drop for Garden {
+    fn drop(&mut self) {
+        let _ = fs::remove_dir_all(&self.folder);
+    }
+}
+
+/// Waits for this to be so, for up to a minute.
+fn comes(what: &str, mut is_so: impl FnMut() -> bool) {
+    let end = Instant::now() + Duration::from_secs(60);
+    while !is_so() {
+        assert!(Instant::now() < end, "after a minute: not {what}");
+        thread::sleep(Duration::from_millis(2));
+    }
+}
+
+fn winter(text: &str) -> String {
+    format!("msgid \"Winter\"\nmsgstr \"{text}\"\n")
+}
+
+const PO: &str = "fr/LC_MESSAGES/garden.po";
+const MO: &str = "fr/LC_MESSAGES/garden.mo";
+
+#[test]
+fn what_is_there_is_shown_at_once_and_changes_follow() {
+    let garden = Garden::new("changes");
+    garden.write(MO, compiled(GARDEN).mo_file());
+    garden.write("fr/LC_MESSAGES/notes.txt", "no catalogue");
+    let watch = garden.watch();
+    assert_eq!((garden.store.version(), garden.winter("fr")), (1, "Hiver".into()));
+    garden.write(MO, compiled(&winter("one")).mo_file());
+    comes("one", || garden.winter("fr") == "one");
+    // (a locale, and its folder, that come later)
+    fs::create_dir_all(garden.path("de/LC_MESSAGES")).unwrap();
+    garden.write("de/LC_MESSAGES/garden.po", winter("Winterzeit"));
+    comes("Winterzeit", || garden.winter("de") == "Winterzeit");
+    // (a file that takes the place of another one, as editors write)
+    garden.write("new", winter("two"));
+    fs::rename(garden.path("new"), garden.path(PO)).unwrap();
+    comes("two", || garden.winter("fr") == "two");
+    fs::remove_file(garden.path(PO)).unwrap();
+    assert_eq!(watch.look(), None);
+    assert_eq!(garden.winter("fr"), "two");
+    assert_eq!(garden.refused(), [""; 0]);
+}
+
+#[test]
+fn files_that_come_together_are_one_publish() {
+    let garden = Garden::new("together");
+    let mut reader = garden.store.reader().unwrap();
+    for locale in ["fr", "de", "sv"] {
+        fs::create_dir_all(garden.path(&format!("{locale}/LC_MESSAGES"))).unwrap();
+    }
+    let watch = garden
+        .options()
+        .settle(Duration::from_millis(200))
+        .start(&garden.store)
+        .unwrap();
+    for locale in ["fr", "de", "sv"] {
+        garden.write(&format!("{locale}/LC_MESSAGES/garden.po"), winter(locale));
+        thread::sleep(Duration::from_millis(5));
+    }
+    comes("a publish", || reader.enter().version() > 0);
+    assert_eq!(reader.version(), 3);
+    drop(watch);
+}
+
+#[test]
+fn a_file_that_is_being_written_is_not_loaded() {
+    let garden = Garden::new("writing");
+    garden.write(PO, winter("one"));
+    let watch = garden.watch();
+    let text = winter("two") + "msgid \"Summer\"\nmsgstr \"ete\"\n";
+    let mut file = File::create(garden.path(PO)).unwrap();
+    for part in text.as_bytes().chunks(20) {
+        file.write_all(part).unwrap();
+        // (longer than a file has to stay as it is)
+        thread::sleep(Duration::from_millis(60));
+        assert_eq!(watch.look(), None);
+        assert_eq!((garden.store.version(), garden.winter("fr")), (1, "one".into()));
+    }
+    drop(file);
+    comes("two", || garden.winter("fr") == "two");
+    assert_eq!((garden.store.version(), garden.refused().len()), (2, 0));
+}
+
+#[test]
+fn a_file_that_is_refused_is_reported_once_and_changes_nothing() {
+    let garden = Garden::new("refused");
+    garden.write(PO, winter("one"));
+    garden.write("fr/LC_MESSAGES/no name.po", winter("x"));
+    let watch = garden.watch();
+    garden.write(PO, "msgid \"Winter\"\n\nmsgstr panier\n");
+    comes("refused", || garden.refused().len() == 2);
+    watch.look();
+    watch.look();
+    assert_eq!(
+        garden.refused(),
+        [
+            "fr/LC_MESSAGES/no name.po: not a text domain or locale".to_string(),
+            format!("{PO}:3: {}", Kind::PoBadWord),
+        ]
+        .map(|it| if it.contains("no name") {
+            format!("fr/LC_MESSAGES/no name.po: {}", Kind::BadName)
+        } else {
+            it
+        })
+    );
+    assert_eq!((garden.store.version(), garden.winter("fr")), (1, "one".into()));
+    garden.write(PO, winter("two"));
+    comes("two", || garden.winter("fr") == "two");
+}
+
+#[test]
+fn a_file_without_a_message_replaces_none() {
+    let garden = Garden::new("empty");
+    garden.write(PO, winter("one"));
+    let watch = garden.watch();
+    garden.write(PO, "");
+    comes("refused", || garden.refused().len() == 1);
+    assert_eq!(garden.winter("fr"), "one");
+    assert_eq!(
+        garden.refused(),
+        [format!("{PO}: no message, in place of a catalogue that has some")]
+    );
+    drop(watch);
+    let accepting = Garden::new("accepting");
+    accepting.write(PO, winter("one"));
+    let _watch = accepting.options().accept_empty(true).start(&accepting.store).unwrap();
+    accepting.write(PO, "");
+    comes("no text", || accepting.winter("fr") == "Winter");
+}
+
+#[test]
+fn of_an_mo_file_and_a_po_file_the_later_one_is_shown() {
+    let garden = Garden::new("both");
+    garden.write(MO, compiled(&winter("mo")).mo_file());
+    thread::sleep(Duration::from_millis(20));
+    garden.write(PO, winter("po"));
+    let watch = garden.watch();
+    assert_eq!((garden.winter("fr"), garden.store.version()), ("po".into(), 2));
+    garden.write(MO, compiled(&winter("mo")).mo_file());
+    comes("mo", || garden.winter("fr") == "mo");
+    drop(watch);
+}
+
+#[test]
+fn the_same_bytes_are_no_change() {
+    let garden = Garden::new("same");
+    garden.write(PO, winter("one"));
+    let watch = garden.watch();
+    garden.write(PO, winter("one"));
+    assert_eq!(watch.look(), None);
+    assert_eq!(garden.store.version(), 1);
+}
+
+#[test]
+fn a_panic_of_the_function_ends_nothing() {
+    let garden = Garden::new("panic");
+    garden.write(PO, "msgid");
+    let options = WatchOptions::new(&garden.folder).settle(Duration::from_millis(20));
+    let _watch = options.refused(|file| panic!("{file}")).start(&garden.store).unwrap();
+    garden.write(PO, winter("one"));
+    comes("one", || garden.winter("fr") == "one");
+    garden.write(PO, "msgid");
+    thread::sleep(Duration::from_millis(100));
+    garden.write(PO, winter("two"));
+    comes("two", || garden.winter("fr") == "two");
+}
+
+#[test]
+fn a_folder_that_goes_and_comes_back() {
+    let garden = Garden::new("gone");
+    garden.write(PO, winter("one"));
+    let _watch = garden
+        .options()
+        .every(Duration::from_millis(100))
+        .start(&garden.store)
+        .unwrap();
+    fs::remove_dir_all(&garden.folder).unwrap();
+    thread::sleep(Duration::from_millis(150));
+    assert_eq!(garden.winter("fr"), "one");
+    fs::create_dir_all(garden.path("fr/LC_MESSAGES")).unwrap();
+    garden.write(PO, winter("two"));
+    comes("two", || garden.winter("fr") == "two");
+}
+
+#[test]
+fn only_the_domains_that_are_wanted() {
+    let garden = Garden::new("domains");
+    garden.write(PO, winter("one"));
+    garden.write("fr/LC_MESSAGES/orchard.po", "msgid");
+    let _watch = garden.options().domains(["garden"]).start(&garden.store).unwrap();
+    assert_eq!((garden.store.version(), garden.refused().len()), (1, 0));
+}
+
+#[test]
+fn no_text_is_torn_while_files_are_replaced() {
+    let garden = Garden::new("torn");
+    garden.write(PO, winter("0 0"));
+    let _watch = garden
+        .options()
+        .settle(Duration::from_millis(1))
+        .start(&garden.store)
+        .unwrap();
+    let mut last = String::new();
+    for number in 1..=30 {
+        garden.write("new", winter(&format!("{number} {number}")));
+        fs::rename(garden.path("new"), garden.path(PO)).unwrap();
+        comes("the next text", || {
+            let text = garden.winter("fr");
+            let (one, other) = text.split_once(' ').unwrap();
+            assert_eq!(one, other);
+            last = text;
+            last == format!("{number} {number}")
+        });
+    }
+    assert_eq!(garden.refused().len(), 0);
+}
