@@ -18,7 +18,7 @@
 #include <sys/stat.h>
 #include <unistd.h>
 
-/* The allocator that msgfmt is linked with (c/memory.c). */
+/* The allocator that msgfmt is linked with (c/library/memory.c). */
 void *kobdzila_malloc(size_t len);
 void *kobdzila_realloc(void *block, size_t len);
 

@@ -339,6 +339,83 @@ static void publishes(void) {
     }
 }
 
+/* The nanoseconds of a look-up in the set of a reader's entry, the best of many rounds: by the list of languages
+ * `name`, and by one that was looked at before. */
+static void look_among(const kob_set *set, const char *name, double *by_text, double *by_list) {
+    enum { TIMES = 2000, TRIES = 400 };
+    kob_text names = { name, strlen(name) };
+    kob_languages list = kob_set_languages(set, domain, names);
+    size_t sum = 0;
+    *by_text = *by_list = 1e9;
+    for (int round = 0; round < TRIES; round++) {
+        double start = now();
+        for (unsigned i = 0; i < TIMES; i++)
+            sum += kob_set_find(set, domain, names, none, ids[i % MESSAGES], NULL).len;
+        double middle = now();
+        for (unsigned i = 0; i < TIMES; i++)
+            sum += kob_languages_find(&list, none, ids[i % MESSAGES], NULL).len;
+        double end = now(), text = 1e9 * (middle - start) / TIMES, listed = 1e9 * (end - middle) / TIMES;
+        *by_text = text < *by_text ? text : *by_text;
+        *by_list = listed < *by_list ? listed : *by_list;
+    }
+    need("look-ups", sum > 0);
+}
+
+static void look_ups_among_many(void) {
+    static const int counts[] = { 10, 100, 2000, 20000 };
+    for (size_t i = 0; i < sizeof counts / sizeof *counts; i++) {
+        fill(counts[i]);
+        kob_reader *reader = kob_store_reader(store);
+        double by_text, by_list;
+        look_among(kob_reader_enter(reader), "l5", &by_text, &by_list);
+        printf("a look-up among %d catalogues: %.1f ns, in a list of languages %.1f\n", counts[i], by_text, by_list);
+        kob_reader_free(reader);
+        empty();
+    }
+}
+
+static int by_size(const void *a, const void *b) {
+    double x = *(const double *)a, y = *(const double *)b;
+    return (x > y) - (x < y);
+}
+
+/* The median of what a publish of one load takes, in microseconds, while `readers` readers enter by turns: with three,
+ * one of them is in each of the versions before. The loads replace catalogues of all runs of the set. */
+static double median_publish(int rows, int readers) {
+    enum { MOST_READERS = 3, TIMES = 2000 };
+    static double times[TIMES];
+    kob_reader *entering[MOST_READERS];
+    for (int i = 0; i < readers; i++) {
+        entering[i] = kob_store_reader(store);
+        need("reader", entering[i] != NULL);
+    }
+    for (int n = 0; n < TIMES; n++) {
+        char locale[20];
+        snprintf(locale, sizeof locale, "l%d", 1 + n * 1709 % (rows - 1));
+        need("load", kob_store_load(store, "bench", locale, catalogues[n % CATALOGUES], NULL));
+        double start = now();
+        need("publish", kob_store_publish(store, NULL));
+        times[n] = 1e6 * (now() - start);
+        if (readers)
+            kob_reader_enter(entering[n % readers]);
+    }
+    for (int i = 0; i < readers; i++)
+        kob_reader_free(entering[i]);
+    qsort(times, TIMES, sizeof *times, by_size);
+    return times[TIMES / 2];
+}
+
+static void publishes_by_turns(void) {
+    static const int counts[] = { 10, 200, 2000, 20000 };
+    for (size_t i = 0; i < sizeof counts / sizeof *counts; i++) {
+        fill(counts[i]);
+        double alone = median_publish(counts[i], 0), beside = median_publish(counts[i], 3);
+        printf("a publish of one load, %d catalogues: %.1f us, and %.1f with three readers that enter by turns"
+               " (wanted: 10 at most)\n", counts[i], alone, beside);
+        empty();
+    }
+}
+
 static void compare(void) {
     size_t count = sizeof ways / sizeof *ways;
     printf("look-ups a second as a multiple of kob_store's, and publishes a second\n");
@@ -398,8 +475,11 @@ int main(int argc, char **argv) {
         compare();
     }
     empty();
-    if (argc == 3)
+    if (argc == 3) {
         publishes();
+        publishes_by_turns();
+        look_ups_among_many();
+    }
     for (int i = 0; i < CATALOGUES; i++)
         kob_release(catalogues[i]);
     return 0;

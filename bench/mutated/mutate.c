@@ -1,4 +1,4 @@
-/* Opens mutated MO files by libkobdzila, and asks each that is taken. Run by bench/mutated/run and tests/mutated.sh.
+/* Opens mutated MO files by libkobdzila, and asks each that is taken. Run by bench/mutated/run and tests/mo/mutated.sh.
  *
  *   mutate SEED COUNT ANSWERS LINES FILE..
  *

@@ -11,8 +11,8 @@ that catalogue with Python's gettext instead, and puts it into a dict that the r
 turns, and all rounds count.
 
 A busy machine makes requests slow by itself: their threads wait for a processor. So the verdict compares the second
-kind with the first. It is "slower", and the status 1, if chance alone would give the second kind's rounds so many of
-all requests above 5 ms in fewer than 1 of 100 runs.
+kind with the first. It is "slower", and the status 1, if chance alone would give the second kind's rounds that
+share of the requests above 5 ms in fewer than 1 of 100 runs.
 """
 import gettext
 import io

@@ -3,7 +3,8 @@
  *   bench FILE.mo FILE.ids ROUNDS
  *
  * It prints the picoseconds of a look-up, the nanoseconds of the fastest opening, the picoseconds of an entry of a
- * reader with nothing new and one look-up in it, and the sum of the answers' first bytes.
+ * reader with nothing new and one look-up in it, those of a look-up in a list of languages, and the sum of the answers'
+ * first bytes.
  */
 #include "kobdzila.h"
 
@@ -106,6 +107,23 @@ static double entries(const kob_catalogue *catalogue, struct work work, uint64_t
     return each;
 }
 
+/* Return the time of a look-up in a list of languages. */
+static double listed(const kob_catalogue *catalogue, struct work work, uint64_t *sum) {
+    kob_set *empty = kob_set_new(), *set = empty ? kob_set_with(empty, "bench", "fr", catalogue, NULL) : NULL;
+    if (!set)
+        exit(1);
+    const kob_text bench = { "bench", 5 }, fr = { "fr", 2 };
+    kob_languages list = kob_set_languages(set, bench, fr);
+    double start = now();
+    for (uint64_t round = 0; round < work.rounds; round++)
+        for (size_t i = 0; i < work.count; i++)
+            *sum += (unsigned char)*kob_languages_gettext(&list, work.msgids[i]);
+    double each = each_since(start, work);
+    kob_set_release(set);
+    kob_set_release(empty);
+    return each;
+}
+
 int main(int argc, char **argv) {
     if (argc != 4)
         return 2;
@@ -117,6 +135,7 @@ int main(int argc, char **argv) {
     kob_catalogue *catalogue = opened(mo, mo_len, &fastest);
     uint64_t sum = 0;
     double look_up = look_ups(catalogue, work, &sum), entry = entries(catalogue, work, &sum);
-    printf("%.0f %.0f %.0f %llu\n", look_up, fastest, entry, (unsigned long long)sum);
+    double in_list = listed(catalogue, work, &sum);
+    printf("%.0f %.0f %.0f %.0f %llu\n", look_up, fastest, entry, in_list, (unsigned long long)sum);
     kob_release(catalogue);
 }

@@ -3,14 +3,16 @@
 //!     bench_rust FILE.mo FILE.ids ROUNDS
 //!
 //! It prints the picoseconds of a look-up, the nanoseconds of the fastest opening, the picoseconds of an entry of a
-//! reader with nothing new and one look-up in it, and the sum of the answers' first bytes.
+//! reader with nothing new and one look-up in it, those of a look-up in a list of languages, and the sum of the first
+//! bytes of the answers. The look-ups are those of the traits `Lookup` and `Catalogues`.
 
 use std::error::Error;
 use std::time::{Duration, Instant};
 
-use kobdzila::{Catalogue, Refused, Store};
+use kobdzila::{Catalogue, Catalogues, Domain, Lookup, Question, Refused, Set, Store};
 
 const OPENINGS: usize = 40;
+const BENCH: Domain<'static> = Domain("bench");
 
 fn main() -> Result<(), Box<dyn Error>> {
     let words: Vec<String> = std::env::args().skip(1).collect();
@@ -24,8 +26,10 @@ fn main() -> Result<(), Box<dyn Error>> {
     let (catalogue, fastest) = opened(&mo)?;
     let (look_up, sum) = look_ups(&catalogue, &work);
     let (entry, sum_of_entries) = entries(&catalogue, &work)?;
-    let (fastest, sum) = (fastest.as_nanos(), sum + sum_of_entries);
-    println!("{look_up:.0} {fastest} {entry:.0} {sum}");
+    let set = Set::new().with(BENCH, "fr", &catalogue)?;
+    let (listed, sum_of_list) = look_ups(&set.languages(BENCH, "fr"), &work);
+    let (fastest, sum) = (fastest.as_nanos(), sum + sum_of_entries + sum_of_list);
+    println!("{look_up:.0} {fastest} {entry:.0} {listed:.0} {sum}");
     Ok(())
 }
 
@@ -42,12 +46,12 @@ impl Work<'_> {
     }
 }
 
-/// The time of a look-up in a catalogue, and the sum of the answers' first bytes.
-fn look_ups(catalogue: &Catalogue, work: &Work<'_>) -> (f64, u64) {
+/// The time of a look-up, and the sum of the answers' first bytes.
+fn look_ups(texts: &impl Lookup, work: &Work<'_>) -> (f64, u64) {
     let (start, mut sum) = (Instant::now(), 0);
     for _ in 0..work.rounds {
         for msgid in &work.msgids {
-            sum += u64::from(catalogue.gettext(msgid).as_bytes()[0]);
+            sum += u64::from(texts.gettext(msgid).as_bytes()[0]);
         }
     }
     (work.each_since(start), sum)
@@ -56,16 +60,22 @@ fn look_ups(catalogue: &Catalogue, work: &Work<'_>) -> (f64, u64) {
 /// The time of an entry and a look-up, in a store that has published the catalogue, and the sum.
 fn entries(catalogue: &Catalogue, work: &Work<'_>) -> Result<(f64, u64), Box<dyn Error>> {
     let store = Store::new();
-    store.load("bench", "fr", catalogue)?;
+    store.load(BENCH, "fr", catalogue)?;
     store.publish()?;
     let mut reader = store.reader()?;
     let (start, mut sum) = (Instant::now(), 0);
     for _ in 0..work.rounds {
         for msgid in &work.msgids {
-            sum += u64::from(reader.enter().gettext("bench", "fr", msgid).as_bytes()[0]);
+            sum += u64::from(first(&reader.enter(), msgid));
         }
     }
     Ok((work.each_since(start), sum))
+}
+
+/// The first byte of an answer.
+fn first(catalogues: &impl Catalogues, msgid: &str) -> u8 {
+    let found = catalogues.find(BENCH, "fr", Question::new(msgid));
+    found.unwrap_or(msgid).as_bytes()[0]
 }
 
 /// Opens the bytes several times, and keeps the last catalogue.
