@@ -4,25 +4,31 @@
 #                   of examples/ with it. The first build proves everything; tools/build shows its progress
 #   make msgfmt     builds bin/msgfmt alone; so do `make catserve` and `make catsession`
 #   make check      every check: the proofs and tests of the gate (rt ci), then the scripts of tests/
+#   make fuzz SECONDS=600   gives the C, and the proved part below it, that many seconds of chosen inputs for each target of
+#                   fuzz/; it needs clang
 #   make bench      times msgfmt compared with GNU msgfmt, scripts and a session; N=7 sets the number of rounds
-#   make driver     builds bin/msgfmt-or-gnu, the msgfmt for build systems, if there is a C compiler; `make` does too
+#   make driver     builds bin/msgfmt-or-gnu, the msgfmt for build systems, and bin/kob-compile, which compiles projects,
+#                   if there is a C compiler; `make` does too
 #   make library    builds libkobdzila, the look-ups for C, into build/lib, if there is a C compiler; `make` does too.
 #                   CC, CPPFLAGS, CFLAGS and LDFLAGS count
 #   make install    installs the programs, their man pages and completions under PREFIX (/usr/local), below DESTDIR if it
-#                   is given. PROGRAM_PREFIX=kob- names them kob-msgfmt and so on, next to GNU's. What is in C is
-#                   installed, too, if it was built; `make install_library` installs the library alone. LIBDIR is its
-#                   folder (PREFIX/lib): LIBDIR=/usr/lib64, or /usr/lib/$(cc -print-multiarch) on Debian
+#                   is given. PROGRAM_PREFIX=kob- names them kob-msgfmt and so on, next to GNU's; kob-compile keeps its
+#                   name. What is in C is installed, too, if it was built; `make install_library` installs the library
+#                   alone. LIBDIR is its folder (PREFIX/lib): LIBDIR=/usr/lib64, or /usr/lib/$(cc -print-multiarch) on
+#                   Debian
 #   make dist       packs build/dist/kobdzila-VERSION-MACHINE-linux.tar.gz of what was built, with static programs
+#   make sign KEY=FILE   signs build/dist/SHA256SUMS with an SSH key; KEY=NAME does with a key of gpg's
 #   make wheel      packs the Python package into build/dist, of the library that was built; it needs Python's headers
+#   make html       makes the site of the documents, build/html, with a search, by Sphinx
 #   make deb        packs it as three Debian packages, into build/deb
 #   make verify TARBALL=FILE   proves and builds the commit that a tarball names, and compares every byte
 #   make uninstall  removes what `make install` with the same variables has put there
 #   make clean      removes what was built, and what the prover kept (crates/*/out)
 #
 # It needs the Rattle toolchain (the command rt), make, bash and Python 3. The checks and the bench also use gettext, gcc and
-# valgrind; tests/needs installs what is missing if it can, otherwise that part is skipped. A release needs git, gcc and
-# binutils, and `make deb` debhelper. With cargo the crate for Rust is checked, and `make dist` packs it as well. STATIC=
-# installs the programs that use the shared C library.
+# valgrind; tests/lib/needs installs what is missing if it can, otherwise that part is skipped. A release needs git, gcc
+# and binutils, and `make deb` debhelper. With cargo the crate for Rust is checked, and `make dist` packs it as well.
+# STATIC= installs the programs that use the shared C library.
 
 PREFIX = /usr/local
 DESTDIR =
@@ -33,13 +39,17 @@ LIBDIR = $(libdir)
 STATIC = build/static
 STRIP = strip
 N = 7
+SECONDS = 600
 RT = rt
 export RT
 version = $(shell cat VERSION)
+# (each function of the library has a manual page, which is that of all of them)
+functions = $(shell sed -n 's/^    \(kob_[a-z_]*\);/\1/p' c/library/kobdzila.map)
 
 EXAMPLES = fr pl
 PROGRAMS = msgfmt catserve catsession
 DRIVER = msgfmt-or-gnu
+COMPILER = kob-compile
 COMPLETED = msgfmt msgfmt-or-gnu catsession
 
 bindir = $(PREFIX)/bin
@@ -53,8 +63,8 @@ preloaddir = $(LIBDIR)/kobdzila
 SHARED = libkobdzila.so.0
 PRELOADED = libkobdzila-intl.so
 
-.PHONY: all $(PROGRAMS) programs examples compiled_examples driver library check bench dist wheel deb verify
-.PHONY: install install_program install_library uninstall uninstall_library clean
+.PHONY: all $(PROGRAMS) programs examples compiled_examples driver library check fuzz bench dist sign wheel html deb
+.PHONY: verify install install_program install_compiler install_library uninstall uninstall_library clean
 
 all:
 	@tools/build
@@ -87,6 +97,10 @@ library:
 check:
 	@tests/run --gate
 
+fuzz: programs
+	@fuzz/proved
+	@fuzz/run $(SECONDS)
+
 bench: programs
 	@bench/run --rounds $(N)
 	@bench/scripts/run $(N)
@@ -100,6 +114,12 @@ build/lib/libkobdzila.a:
 
 wheel: build/lib/libkobdzila.a
 	@tools/wheel
+
+sign:
+	@tools/sign "$(KEY)"
+
+html:
+	@tools/site
 
 deb:
 	@tools/deb
@@ -119,6 +139,7 @@ install: $(PROGRAMS:%=bin/%)
 	install -m 644 docs/reference/*.md "$(to)$(docdir)/reference"
 	for name in $(PROGRAMS); do $(MAKE) -s install_program NAME=$$name || exit 1; done
 	if [ -f bin/$(DRIVER) ]; then $(MAKE) -s install_program NAME=$(DRIVER); fi
+	if [ -f bin/$(COMPILER) ]; then $(MAKE) -s install_compiler; fi
 	if [ -f build/lib/$(SHARED) ]; then $(MAKE) -s install_library; fi
 
 # one program, $(NAME), with its page and its completion
@@ -133,6 +154,15 @@ install_program:
 	  $(completions) > "$(to)$(completiondir)/$(PROGRAM_PREFIX)$(NAME)" && \
 	  chmod 644 "$(to)$(completiondir)/$(PROGRAM_PREFIX)$(NAME)" ;; esac
 
+# the program whose name has no further prefix
+install_compiler:
+	install -d "$(to)$(bindir)" "$(to)$(mandir)/man1" "$(to)$(completiondir)"
+	install -m 755 bin/$(COMPILER) "$(to)$(bindir)/$(COMPILER)"
+	$(strip) "$(to)$(bindir)/$(COMPILER)"
+	$(page) docs/man/$(COMPILER).1 > "$(to)$(mandir)/man1/$(COMPILER).1"
+	$(completions) > "$(to)$(completiondir)/$(COMPILER)"
+	chmod 644 "$(to)$(mandir)/man1/$(COMPILER).1" "$(to)$(completiondir)/$(COMPILER)"
+
 install_library:
 	install -d "$(to)$(LIBDIR)/pkgconfig" "$(to)$(preloaddir)" "$(to)$(includedir)" "$(to)$(mandir)/man3"
 	install -m 644 build/lib/libkobdzila.a "$(to)$(LIBDIR)/libkobdzila.a"
@@ -143,18 +173,21 @@ install_library:
 	$(strip) --strip-unneeded "$(to)$(LIBDIR)/$(SHARED)" "$(to)$(preloaddir)/$(PRELOADED)"
 	install -m 644 include/kobdzila.h "$(to)$(includedir)/kobdzila.h"
 	sed -e 's|@PREFIX@|$(PREFIX)|g' -e 's|@LIBDIR@|$(LIBDIR:$(PREFIX)/%=$${prefix}/%)|g' -e 's|@VERSION@|$(version)|' \
-	  c/kobdzila.pc.in > "$(to)$(LIBDIR)/pkgconfig/kobdzila.pc"
+	  c/library/kobdzila.pc.in > "$(to)$(LIBDIR)/pkgconfig/kobdzila.pc"
 	chmod 644 "$(to)$(LIBDIR)/pkgconfig/kobdzila.pc"
 	$(page) docs/man/kobdzila.3 > "$(to)$(mandir)/man3/kobdzila.3"
-	chmod 644 "$(to)$(mandir)/man3/kobdzila.3"
+	for name in $(functions); do echo '.so man3/kobdzila.3' > "$(to)$(mandir)/man3/$$name.3"; done
+	chmod 644 "$(to)$(mandir)/man3/kobdzila.3" $(functions:%="$(to)$(mandir)/man3/%.3")
 
 uninstall_library:
+	rm -f $(functions:%="$(to)$(mandir)/man3/%.3")
 	rm -f "$(to)$(LIBDIR)/libkobdzila.a" "$(to)$(LIBDIR)/$(SHARED)" "$(to)$(LIBDIR)/libkobdzila.so"
 	rm -f "$(to)$(includedir)/kobdzila.h" "$(to)$(LIBDIR)/pkgconfig/kobdzila.pc" "$(to)$(mandir)/man3/kobdzila.3"
 	rm -f "$(to)$(preloaddir)/$(PRELOADED)"
 	rmdir "$(to)$(preloaddir)" 2> /dev/null || true
 
 uninstall: uninstall_library
+	rm -f "$(to)$(bindir)/$(COMPILER)" "$(to)$(mandir)/man1/$(COMPILER).1" "$(to)$(completiondir)/$(COMPILER)"
 	for name in $(PROGRAMS) $(DRIVER); do rm -f "$(to)$(bindir)/$(PROGRAM_PREFIX)$$name"; done
 	for name in $(PROGRAMS) $(DRIVER); do rm -f "$(to)$(mandir)/man1/$(PROGRAM_PREFIX)$$name.1"; done
 	for name in $(COMPLETED); do rm -f "$(to)$(completiondir)/$(PROGRAM_PREFIX)$$name"; done

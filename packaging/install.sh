@@ -1,18 +1,103 @@
 #!/bin/sh
 # Installs Kobdzila below PREFIX, which is /usr/local if it isn't given; without root: PREFIX=$HOME/.local ./install.sh
-# PROGRAM_PREFIX=kob- names the programs kob-msgfmt and so on, next to GNU's. `./install.sh remove` with the same
-# variables removes the files again.
+# PROGRAM_PREFIX=kob- names the programs kob-msgfmt and so on, next to GNU's (kob-compile is that). `./install.sh remove` with the same
+# variables removes the files again, and the folders that were made for them.
+#
+# What is installed belongs to whoever runs this, whoever unpacked the tarball. Programs and shared libraries have the mode
+# 0755, other files 0644, folders 0755, under any umask. If something can't be written, nothing is installed.
 set -eu
-cd "$(dirname "$0")"
-[ $# = 0 ] || [ "$*" = remove ] || { echo 'usage: ./install.sh [remove]' >&2; exit 1; }
+umask 022
+usage='usage: [PREFIX=FOLDER] [PROGRAM_PREFIX=kob-] ./install.sh [remove]'
 prefix=${PREFIX:-/usr/local} as=${PROGRAM_PREFIX:-}
-find bin include lib share ! -type d | while read -r file; do
-  to=$prefix/$(echo "$file" | sed -E "s,^(bin|share/(man/man1|bash-completion/completions|doc))/,&$as,")
-  rm -f "$to" && [ $# = 0 ] || continue
-  mkdir -p "${to%/*}" && cp -P -p "$file" "$to"
-  case $file in
-    */man/*) tools/installed_page "$prefix" "$as" "${as}kobdzila" "$file" > "$to" ;;
-    */completions/*) sed "s|@PREFIX@|$as|g" "$file" > "$to" ;;
+case $# in 0) ;; 1) [ "$1" = remove ] || { echo "$usage" >&2; exit 2; } ;; *) echo "$usage" >&2; exit 2 ;; esac
+case $as in */*) echo 'install.sh: PROGRAM_PREFIX begins a name, so it has no slash' >&2; exit 2 ;; esac
+case $prefix in /*) ;; *) prefix=$PWD/$prefix ;; esac
+prefix=${prefix%/}
+CDPATH='' cd -- "$(dirname -- "$0")"
+documents=$prefix/share/doc/${as}kobdzila
+# (the folders that were made for an installation, one on each line)
+noted=$documents/folders
+files=$(find bin include lib share ! -type d | LC_ALL=C sort)
+
+# target FILE: prints where a file of the tarball is installed
+target() {
+  case $1 in
+    */kob-compile | */kob-compile.1) printf '%s\n' "$prefix/$1" ;; # (its name stays)
+    bin/* | share/man/man1/* | share/bash-completion/*) printf '%s\n' "$prefix/${1%/*}/$as${1##*/}" ;;
+    share/doc/*) printf '%s\n' "$prefix/share/doc/$as${1#share/doc/}" ;;
+    *) printf '%s\n' "$prefix/$1" ;;
   esac
-done
-[ $# = 0 ] || rmdir "$prefix/share/doc/${as}kobdzila/reference" "$prefix/share/doc/${as}kobdzila"
+}
+
+# mode FILE: prints the mode that it is installed with
+mode() {
+  case $1 in bin/* | *.so | *.so.*) echo 755 ;; *) echo 644 ;; esac
+}
+
+# folder PATH: makes a folder with those above it, and adds each that it made to $made
+folder() {
+  [ ! -d "${1:-/}" ] || return 0
+  folder "${1%/*}" && mkdir "$1" || return
+  made="$1
+$made"
+}
+
+# write FILE NEW: writes a file of the tarball as it is installed
+write() {
+  rm -f "$2"
+  case $1 in
+    */man/*) tools/installed_page "$prefix" "$as" "${as}kobdzila" "$1" > "$2" ;;
+    */completions/*) sed "s|@PREFIX@|$as|g" "$1" > "$2" ;;
+    *) cp -P "$1" "$2" ;;
+  esac || return
+  [ -h "$2" ] || chmod "$(mode "$1")" "$2"
+}
+
+# each WORD..: runs the words with each file of the tarball, and where it is installed, as two more
+each() {
+  while read -r file; do
+    "$@" "$file" "$(target "$file")" || return
+  done << END
+$files
+END
+}
+
+prepare() {
+  [ ! -d "$2" ] || { printf '%s\n' "install.sh: $2 is a folder" >&2; return 1; }
+  folder "${2%/*}" && write "$1" "$2.new"
+}
+put() { mv -f "$2.new" "$2"; }
+drop_new() { rm -f "$2.new"; }
+drop() { rm -f "$2"; }
+
+# empty_folders LIST: removes those that are empty, and says nothing of the others
+empty_folders() {
+  printf '%s\n' "$1" | LC_ALL=C sort -r | while read -r it; do
+    [ -z "$it" ] || rmdir "$it" 2> /dev/null || true
+  done
+}
+
+if [ $# = 1 ]; then
+  made=$(cat "$noted" 2> /dev/null || true)
+  each drop && rm -f "$noted"
+  empty_folders "$made
+$prefix/lib/kobdzila
+$documents/reference
+$documents"
+  exit
+fi
+
+made=
+failed() {
+  each drop_new 2> /dev/null || true
+  empty_folders "$made"
+  printf '%s\n' "install.sh: nothing was installed below $prefix" >&2
+  exit 1
+}
+trap failed HUP INT TERM
+each prepare || failed
+trap '' HUP INT TERM
+each put
+if [ ! -f "$noted" ]; then before=; else before=$(cat "$noted"); fi
+printf '%s\n' "$before" "$made" | grep . > "$noted" || true
+chmod 644 "$noted"
