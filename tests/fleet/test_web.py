@@ -12,7 +12,7 @@ from wsgiref.validate import validator
 
 from kobdzila.fleet import ASGIMiddleware, Follower, Version, WSGIMiddleware
 from kobdzila.fleet._queries import Played
-from stores import PAIRS, Catalogues, mo
+from stores import PAIRS, Catalogues, mo, until
 
 
 def page(environ: dict[str, Any], start_response: Any) -> list[bytes]:
@@ -30,6 +30,8 @@ EPOCH = "0123456789abcdef"
 
 
 class Case(unittest.TestCase):
+    within = 0.3
+
     def setUp(self) -> None:
         self.follower = Follower(Catalogues(), "host=none.invalid")  # (it isn't started)
         self.addCleanup(self.follower.close)
@@ -57,6 +59,7 @@ class Case(unittest.TestCase):
         begun = time.monotonic()
         self.assertEqual(answers({"cookie": "kobdzila_version=4"})[0], 503)
         self.assertGreater(time.monotonic() - begun, 0.2)
+        self.within = 60.0
         timer = threading.Timer(0.1, self.shows, [2])
         timer.start()
         self.assertEqual(answers({"cookie": "kobdzila_version=4", "kobdzila-version": "3"})[::2], (200, "k1 at 2"))
@@ -74,7 +77,7 @@ class WSGITest(Case):
             got[:] = [int(status.split()[0]), {name.lower(): text for name, text in headers}]
             return lambda data: None
 
-        body = validator(WSGIMiddleware(page, self.follower, within=0.3, **options))(environ, start_response)
+        body = validator(WSGIMiddleware(page, self.follower, within=self.within, **options))(environ, start_response)
         text = b"".join(body).decode()
         body.close()
         return got[0], got[1], text
@@ -108,15 +111,18 @@ class WSGITest(Case):
 
     def test_few_wait(self) -> None:
         self.shows(1)
-        made = WSGIMiddleware(page, self.follower, within=0.5)
-        with mock.patch.object(made, "_waiting", threading.BoundedSemaphore(1)):
+        made = WSGIMiddleware(page, self.follower, within=60)
+        one = threading.BoundedSemaphore(1)
+        with mock.patch.object(made, "_waiting", one):
             first = threading.Thread(target=made.snapshot, args=[Version(9), ""], daemon=True)
             first.start()
-            time.sleep(0.1)
+            until(lambda: getattr(one, "_value") == 0)
             begun = time.monotonic()
             self.assertIsNone(made.snapshot(Version(9), ""))
             self.assertEqual(made.snapshot(Version(2), "").version, 2)
-            self.assertLess(time.monotonic() - begun, 0.3)
+            self.assertLess(time.monotonic() - begun, 30)
+            for number in range(2, 6):
+                self.shows(number)  # (up to version 10: the first waits for 9)
             first.join()
 
 
@@ -131,7 +137,7 @@ class ASGITest(Case):
             return {"type": "http.request"}
 
         scope = {"type": kind, "headers": [(name.encode(), text.encode()) for name, text in headers.items()]}
-        asyncio.run(ASGIMiddleware(async_page, self.follower, within=0.3)(scope, receive, send))
+        asyncio.run(ASGIMiddleware(async_page, self.follower, within=self.within)(scope, receive, send))
         named = {name.decode(): text.decode() for name, text in sent[0]["headers"]}
         return sent[0]["status"], named, sent[1]["body"].decode()
 

@@ -117,7 +117,7 @@ fn files_that_come_together_are_one_publish() {
     }
     let watch = garden
         .options()
-        .settle(Duration::from_millis(200))
+        .settle(Duration::from_secs(2))
         .start(&garden.store)
         .unwrap();
     for locale in ["fr", "de", "sv"] {
