@@ -16,7 +16,6 @@ NAMED = 4  # findings that the line of a rule names
 
 # Files of specs/ that two crates may both have: the crates use the name for the same thing.
 SHARED_NAMES = (
-    "Chain",  # steps one after another: one definition, in two crates of which neither stands on the other
     "Laws",  # the laws of a crate's own words
     "Pairs",  # mo_file gives on what mo_image says
     "Tables",
@@ -30,8 +29,6 @@ ON_A_STANDARD = ("c_signature", "mo_file", "mo_image", "mo_tables", "po_checks",
 OWN_WORDS = {
     ("po_checks", "Found"),
     ("po_checks", "Refusal"),
-    ("po_header", "Chain"),
-    ("po_text", "Chain"),
     ("po_text", "Faults"),
     ("po_text", "Lawful"),
     ("po_text", "Progress"),

@@ -1,4 +1,4 @@
--- Private: the lanes of a vector that pass a test.
+-- The lanes of a vector that pass a test.
 use Rattle.std.specs.Prelude.{ℕ, ◌==◌, if◌then◌else◌}
 use Rattle.std.specs.Int.{w64, trailing_zeros}
 

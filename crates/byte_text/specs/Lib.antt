@@ -1,3 +1,5 @@
 pub mod Cut
 pub mod Lanes
+pub mod Chain
+pub mod Decimal
 pub mod Front

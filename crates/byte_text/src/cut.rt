@@ -1,5 +1,5 @@
 //! Splitting texts and bytes at a byte.
-ghost use Rattle.std.specs.Prelude.{◌≡◌, ◌<◌, ◌≤◌, ◌↔◌, IsTrue, MatchOption, length, option_map};
+ghost use Rattle.std.specs.Prelude.{◌≡◌, ◌<◌, ◌≤◌, ◌↔◌, ◌∷◌, [], IsTrue, MatchOption, length, option_map};
 ghost use Rattle.byte_text.specs.Cut.{cut, place_of, IsCut};
 
 use crate::place::place_in;
@@ -40,6 +40,16 @@ pub fn split_at_byte(text: &str, byte: u8) -> Option<(&str, &str)>
         (λ p. IsCut byte text.now p.0.now p.1.now) }
 {
     split_at_place(text, byte, place_of(text.as_bytes(), byte))
+}
+
+/// Splits off the first byte; None if the text is empty.
+pub fn split_byte(text: &[u8]) -> Option<(u8, &[u8])>
+    ensures { MatchOption result (text.now ≡ []) (λ found. text.now ≡ found.0 ∷ found.1.now) }
+{
+    match text {
+        [] => None,
+        [first, rest @ ..] => Some((*first, rest)),
+    }
 }
 
 /// Whether none of the bytes is this one.

@@ -7,6 +7,7 @@ mod key;
 mod long;
 mod place;
 
-pub use cut::{lacks_byte, place_of, split_at_byte, split_at_place};
+pub use cut::{lacks_byte, place_of, split_at_byte, split_at_place, split_byte};
 pub use key::{TextKey, front_of};
 pub use long::LongKey;
+pub use place::first_set;

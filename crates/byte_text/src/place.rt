@@ -9,7 +9,7 @@ use std::simd::prelude::*;
 
 /// The index of the lowest set bit, or the number of lanes if no bit is set.
 #[inline(always)]
-fn first_set(mask: u64, lanes: usize) -> usize
+pub fn first_set(mask: u64, lanes: usize) -> usize
     ensures { result ≡ first_set mask lanes }
 {
     if mask == 0 {

@@ -9,7 +9,8 @@ use Rattle.std.specs.Str.{bytes_eq}
 use Rattle.std.specs.Prelude.{codes, nat_le, if◌then◌else◌}
 use Rattle.std.proofs.Math.Nat.{pow-le-pow_right}
 use Rattle.c_signature.specs.declared.Size.TheVariants.{Byte, Short, Plain, Long, LongLong, Max, SizeT, PtrDiff}
-use Rattle.c_signature.specs.Pieces.{Amount, Fixed, Asked, Modifier, Of, LongDouble, decimal_value}
+use Rattle.c_signature.specs.Pieces.{Amount, Fixed, Asked, Modifier, Of, LongDouble}
+use Rattle.byte_text.specs.Decimal.{decimal_value}
 use Rattle.c_signature.specs.Pieces.{Longest, NumberForm, FlagsForm, WidthForm, PrecisionForm, ModifierForm, is_flag}
 use Rattle.c_signature.specs.Pieces.{dollar, star, dot, IsNumeral, is_first_digit}
 use Rattle.c_signature.specs.FormatScanning.{BeginsNumber, IsRun, IsNumberOf}

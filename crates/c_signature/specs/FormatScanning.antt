@@ -13,8 +13,8 @@ use Rattle.c_signature.specs.declared.directives.Directive as code_directive
 use Rattle.c_signature.specs.Conversions.{Argument, Undefined, Nothing, One}
 use Rattle.c_signature.specs.Signature.{Request, amount_requests, argument_requests, requests}
 use Rattle.c_signature.specs.Directives.{Directive, DirectiveAt, IsUnreadable, NamesMacro}
-use Rattle.c_signature.specs.Pieces.{Amount, Fixed, Asked, Modifier, Of}
-use Rattle.c_signature.specs.Pieces.{LongDouble, decimal_value, is_first_digit, IsNumeral}
+use Rattle.c_signature.specs.Pieces.{Amount, Fixed, Asked, Modifier, Of, LongDouble, is_first_digit, IsNumeral}
+use Rattle.byte_text.specs.Decimal.{decimal_value}
 
 -- ---- the enums of the code
 

@@ -1,8 +1,9 @@
 -- The parts of a directive (C standard, 7.21.6.1, 4), with the argument numbers of POSIX.
-use Rattle.std.specs.Prelude.{◌≡◌, ℕ, ◌+◌, ◌-◌, ◌*◌, ◌≤◌, Bool, true, ◌&&◌, ◌==◌, nat_le}
+use Rattle.std.specs.Prelude.{◌≡◌, ℕ, ◌≤◌, Bool, true, ◌&&◌, ◌==◌, nat_le}
 use Rattle.std.specs.Prelude.{List, [], ◌∷◌, ◌++◌, length, Option, None, Some, ◌⊎◌, codes}
-use Rattle.std.specs.List.{fold, list_all, list_any}
+use Rattle.std.specs.List.{list_all, list_any}
 use Rattle.std.specs.Char.{is_ascii_digit}
+use Rattle.byte_text.specs.Decimal.{decimal_value}
 use Rattle.c_signature.specs.declared.Size.{Size}
 use Rattle.c_signature.specs.declared.Size.TheVariants.{Byte, Short, Plain, Long, LongLong, Max, SizeT, PtrDiff}
 
@@ -32,9 +33,6 @@ pub record Longest {V : Type 0} (Form : V → List ℕ → Type 0) (value : V) (
       → length longer ≤ length front
 
 -- ---- numbers
-
-abbrev pub decimal_value : List ℕ → ℕ
-decimal_value digits = fold (λ n d. 10 * n + (d - 48)) 0 digits
 
 -- 1 to 9
 abbrev pub is_first_digit : ℕ → Bool

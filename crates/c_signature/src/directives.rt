@@ -9,8 +9,8 @@ use crate::FormatFault;
 use crate::conversions::{Argument, argument_of};
 use crate::parts::{
     Amount, after_byte, read_modifier, read_number, read_precision, read_width, skip_flags,
-    split_byte,
 };
+use byte_text::split_byte;
 
 /// A directive, reduced to the arguments that it takes.
 #[derive(Clone, Copy)]

@@ -8,6 +8,7 @@ ghost use Rattle.c_signature.specs.Pieces.{PrecisionForm, ModifierForm, is_flag}
 ghost use Rattle.c_signature.specs.FormatScanning.{BeginsNumber, IsNumberOf, IsRun, amount_view, modifier_view};
 
 use crate::Size;
+use byte_text::split_byte;
 
 /// How a width or a precision is given.
 #[derive(Clone, Copy)]
@@ -25,16 +26,6 @@ pub(crate) enum Modifier {
     Of(Size),
     /// `L`
     LongDouble,
-}
-
-/// Splits off the first byte.
-pub(crate) fn split_byte(text: &[u8]) -> Option<(u8, &[u8])>
-    ensures { MatchOption result (text.now ≡ []) (λ found. text.now ≡ found.0 ∷ found.1.now) }
-{
-    match text {
-        [] => None,
-        [byte, rest @ ..] => Some((*byte, rest)),
-    }
 }
 
 /// What follows this byte, if the text begins with it.

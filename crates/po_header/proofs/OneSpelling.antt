@@ -10,7 +10,7 @@ use Rattle.std.proofs.lemmas.List.{append_cancel_left, append-nil}
 use Rattle.std.proofs.lemmas.List.Elements.{filter_map-append}
 use Rattle.std.proofs.lemmas.List.Sums.{take_while-cons}
 use Rattle.po_header.specs.declared.token.Token.{Token}
-use Rattle.po_header.specs.Chain.{Chain}
+use Rattle.byte_text.specs.Chain.{Chain}
 use Rattle.po_header.specs.Tokens.{Piece, Blank, Digits, Short, Long, PieceAt, piece_token}
 use Rattle.po_header.specs.Tokens.{tokens_of_pieces, Begins, Spells, is_blank, short_symbol, long_symbol, long_at}
 use Rattle.po_header.specs.ExprParsing.{IsStray}

@@ -12,7 +12,8 @@ use Rattle.std.proofs.lemmas.List.Sums.{take_while-cons, fold-append, prefix_len
 use Rattle.po_header.specs.declared.token.Token.{Token}
 use Rattle.po_header.specs.declared.token.Token.TheVariants.{Number}
 use Rattle.po_header.specs.Tokens.{Piece, Blank, Digits, Short, Long, PieceAt, piece_token}
-use Rattle.po_header.specs.Tokens.{Begins, is_blank, short_symbol, long_symbol, long_at, decimal_value, below_limit}
+use Rattle.po_header.specs.Tokens.{Begins, is_blank, short_symbol, long_symbol, long_at, below_limit}
+use Rattle.byte_text.specs.Decimal.{decimal_value}
 use Rattle.po_header.specs.ExprParsing.{IsStray, StopsBlanks}
 
 -- ---- numbers

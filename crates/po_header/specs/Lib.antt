@@ -1,4 +1,3 @@
-pub mod Chain
 pub mod Tokens
 pub mod Grammar
 pub mod TreeValue

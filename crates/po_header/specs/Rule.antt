@@ -2,7 +2,8 @@
 use Rattle.std.specs.Prelude.{◌≡◌, ◌⊎◌, ℕ, ◌==◌, nat_lt, if◌then◌else◌, List, [], ◌∷◌, Option, None, Some, codes}
 use Rattle.std.specs.List.{take_while}
 use Rattle.std.specs.Char.{is_ascii_digit}
-use Rattle.po_header.specs.Tokens.{behind_blanks, decimal_value, below_limit}
+use Rattle.po_header.specs.Tokens.{behind_blanks, below_limit}
+use Rattle.byte_text.specs.Decimal.{decimal_value}
 use Rattle.po_header.specs.Grammar.{Tree}
 use Rattle.po_header.specs.TreeValue.{value}
 use Rattle.po_header.specs.Expression.{IsTooLong, IsReadAs, IsMalformed}

@@ -1,14 +1,15 @@
 -- Which tokens an expression spells (C standard, 6.4 "Lexical elements": each token is as long as it can be).
-use Rattle.std.specs.Prelude.{◌≡◌, ◌≢◌, ℕ, ◌+◌, ◌-◌, ◌*◌, ◌<◌, ◌^◌, Bool, true, ◌||◌}
+use Rattle.std.specs.Prelude.{◌≡◌, ◌≢◌, ℕ, ◌<◌, ◌^◌, Bool, true, ◌||◌}
 use Rattle.std.specs.Prelude.{◌==◌, nat_lt, if◌then◌else◌, List, [], ◌∷◌, ◌++◌, drop, Option, None, Some, codes}
-use Rattle.std.specs.List.{take_while, filter_map, fold, prefix_len}
+use Rattle.std.specs.List.{take_while, filter_map, prefix_len}
 use Rattle.std.specs.Char.{is_ascii_digit}
 use Rattle.std.specs.Str.{bytes_eq}
 use Rattle.po_header.specs.declared.token.Operator.TheVariants.{Or, And, Equal, NotEqual, Less, Greater, AtMost}
 use Rattle.po_header.specs.declared.token.Operator.TheVariants.{AtLeast, Add, Subtract, Multiply, Divide, Remainder}
 use Rattle.po_header.specs.declared.token.Token.{Token}
 use Rattle.po_header.specs.declared.token.Token.TheVariants.{Count, Number, Open, Close, Question, Colon, Bang, Sign}
-use Rattle.po_header.specs.Chain.{Chain}
+use Rattle.byte_text.specs.Chain.{Chain}
+use Rattle.byte_text.specs.Decimal.{decimal_value}
 
 -- space and tab, which separate tokens and are skipped
 abbrev pub is_blank : ℕ → Bool
@@ -50,10 +51,6 @@ abbrev pub long_at : List ℕ → Option Token
 long_at [] = None
 long_at (a ∷ []) = None
 long_at (a ∷ b ∷ more) = long_symbol (a ∷ b ∷ [])
-
--- decimal digits as a number
-abbrev pub decimal_value : List ℕ → ℕ
-decimal_value digits = fold (λ n d. 10 * n + (d - 48)) 0 digits
 
 -- the number, if it is below 2 ^ 64 (an unsigned long of 64 bits)
 abbrev pub below_limit : ℕ → Option ℕ

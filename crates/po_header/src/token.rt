@@ -5,7 +5,10 @@ ghost use Rattle.std.specs.List.{prefix_len, take_while};
 ghost use Rattle.std.specs.Char.{is_ascii_digit};
 ghost use Rattle.po_header.specs.ExprParsing.{IsStray, StopsBlanks};
 ghost use Rattle.po_header.specs.Tokens.{is_blank, behind_blanks, long_symbol, short_symbol};
-ghost use Rattle.po_header.specs.Tokens.{decimal_value, below_limit, long_at, Begins};
+ghost use Rattle.po_header.specs.Tokens.{below_limit, long_at, Begins};
+ghost use Rattle.byte_text.specs.Decimal.{decimal_value};
+
+use byte_text::split_byte;
 
 /// An operator between two operands.
 #[derive(Clone, Copy)]
@@ -36,16 +39,6 @@ pub(crate) enum Token {
     Colon,
     Bang,
     Sign(Operator),
-}
-
-/// Splits off the first byte.
-pub(crate) fn split_byte(text: &[u8]) -> Option<(u8, &[u8])>
-    ensures { MatchOption result (text.now ≡ []) (λ x. text.now ≡ x.0 ∷ x.1.now) }
-{
-    match text {
-        [] => None,
-        [byte, rest @ ..] => Some((*byte, rest)),
-    }
 }
 
 /// The token that two bytes spell, if they spell one.
@@ -99,29 +92,17 @@ pub(crate) fn is_blank_byte(byte: u8) -> bool
 }
 
 /// The number of digits at the front.
-#[tactic(auto, using(std::proofs::lemmas::List::Sums::prefix_len_is))]
 pub(crate) fn digits_len(text: &[u8]) -> usize
     ensures { result ≡ prefix_len is_ascii_digit text.now }
 {
-    for (i, byte) in text.iter().enumerate() {
-        if !byte.is_ascii_digit() {
-            return i;
-        }
-    }
-    text.len()
+    text.iter().take_while(|byte| byte.is_ascii_digit()).count()
 }
 
 /// The number of blanks at the front.
-#[tactic(auto, using(std::proofs::lemmas::List::Sums::prefix_len_is))]
 pub(crate) fn blanks_len(text: &[u8]) -> usize
     ensures { result ≡ prefix_len is_blank text.now }
 {
-    for (i, byte) in text.iter().enumerate() {
-        if !is_blank_byte(*byte) {
-            return i;
-        }
-    }
-    text.len()
+    text.iter().take_while(|byte| is_blank_byte(**byte)).count()
 }
 
 /// Skips the blanks at the front.

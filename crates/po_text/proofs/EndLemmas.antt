@@ -8,7 +8,7 @@ use Rattle.std.proofs.lemmas.List.{get_or-append-add}
 use Rattle.std.proofs.lemmas.List.Elements.{Contains-append_left, Contains-append_right}
 use Rattle.std.proofs.lemmas.Str.{IsCharBoundary-after_ascii, IsCharBoundary-before_ascii, IsUtf8-drop, IsUtf8-take}
 use Rattle.std.proofs.lemmas.Str.{IsUtf8-from_is_utf8, is_utf8-from_IsUtf8}
-use Rattle.po_text.specs.Chain.{Chain}
+use Rattle.byte_text.specs.Chain.{Chain}
 use Rattle.po_text.specs.Ends.{EndsText, IsPart}
 use Rattle.po_text.specs.Lexing.{TakesToken}
 use Rattle.po_text.specs.Spelling.{StringUnit, Plain, Escape, Octal, UnitAt, Piece, White, Comment, Word, OpenBracket}

@@ -10,7 +10,7 @@ use Rattle.std.proofs.lemmas.List.Sums.{prefix_len-le-length, prefix_len_passes}
 use Rattle.std.specs.List.{prefix_len}
 use lib.Bits.{bit_or}
 use lib.Lanes.{chunk, zip2, mask_l, top, Each1}
-use Rattle.po_text.specs.Lexing.{first_set}
+use Rattle.byte_text.specs.Lanes.{first_set}
 
 zip2-map : (f g : ℕ → ℕ) (v : List ℕ) → zip2 bit_or (map f v) (map g v) ≡ map (λ x. bit_or (f x) (g x)) v
 zip2-map f g [] = refl

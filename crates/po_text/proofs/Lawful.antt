@@ -3,7 +3,7 @@ use Rattle.std.proofs.Common.{◌≡◌, ℕ, List, [], ◌∷◌, ◌++◌, Non
 use Rattle.std.specs.List.{AllByRecursion}
 use Rattle.std.proofs.lemmas.List.Elements.{Contains-append_cases}
 use Rattle.std.proofs.lemmas.Str.{IsUtf8-append, IsUtf8-nil}
-use Rattle.po_text.specs.Chain.{Chain}
+use Rattle.byte_text.specs.Chain.{Chain}
 use Rattle.po_text.specs.Spelling.{IsLawful}
 use Rattle.po_text.specs.Entries.{Part, PlainPart, PluralPart, Remaining, plural_of}
 use Rattle.po_text.specs.Entries.{forms_of, IsLawfulPart, IsOneOrMore, Entry, EntryAt}

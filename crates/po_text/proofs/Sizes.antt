@@ -8,7 +8,7 @@ use Rattle.std.proofs.lemmas.Bool.{cond_both, leb-true}
 use Rattle.std.proofs.lemmas.List.{length-map, length-drop, map-append}
 use Rattle.std.proofs.lemmas.Option.{cond_some}
 use Rattle.std.proofs.lemmas.Slice.Eq.{bytes_eq-Decides}
-use Rattle.po_text.specs.Chain.{Chain}
+use Rattle.byte_text.specs.Chain.{Chain}
 use Rattle.po_text.specs.Spelling.{Token, Context, Id, Plural, Str, Number, Open, Close}
 use Rattle.po_text.specs.Spelling.{Text, Mark, Lexeme, lexemes, StringUnit, Plain, Escape, Octal}
 use Rattle.po_text.specs.Spelling.{UnitAt, UnitsAt, unit_value, Piece, White, Comment, Word, OpenBracket}

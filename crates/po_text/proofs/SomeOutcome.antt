@@ -8,7 +8,7 @@ use Rattle.std.proofs.lemmas.List.{append-nil, take-append-drop, length-drop}
 use Rattle.po_text.specs.declared.fault.PoKind.{PoKind}
 use Rattle.po_text.specs.declared.fault.PoKind.TheVariants.{TooLarge, NotUtf8, BadEscape, OpenString}
 use Rattle.po_text.specs.declared.fault.PoKind.TheVariants.{BadWord, BadText, BadOrder, BadIndex}
-use Rattle.po_text.specs.Chain.{Chain}
+use Rattle.byte_text.specs.Chain.{Chain}
 use Rattle.po_text.specs.Spelling.{StringUnit, Plain, Escape, Octal, UnitAt, UnitsAt, unit_value}
 use Rattle.po_text.specs.Spelling.{is_octal, octal_run, octal_value, escaped, IsBadEscape, IsOpenEnd, Piece}
 use Rattle.po_text.specs.Spelling.{White, Comment, Word, OpenBracket, CloseBracket, Quoted, PieceAt}

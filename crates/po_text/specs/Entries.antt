@@ -4,7 +4,7 @@ use Rattle.std.specs.Prelude.{[], ◌∷◌, ◌++◌, map, reverse, Option, Non
 use Rattle.std.specs.List.{concat, flat_map, list_any, take_while, Contains, AllByRecursion}
 use Rattle.po_text.specs.declared.fault.PoKind.{PoKind}
 use Rattle.po_text.specs.declared.fault.PoKind.TheVariants.{BadText, BadOrder, BadIndex}
-use Rattle.po_text.specs.Chain.{Chain}
+use Rattle.byte_text.specs.Chain.{Chain}
 use Rattle.po_text.specs.Spelling.{Token, Context, Id, Plural, Str, Number, Open}
 use Rattle.po_text.specs.Spelling.{Close, Text, Mark, Fuzzy, CFormat, Clear, Lexeme}
 

@@ -1,7 +1,6 @@
 -- Private: what the lexer takes from a text.
 use Rattle.std.specs.Prelude.{◌≡◌, ◌≢◌, ℕ, ◌<◌, ◌≤◌, Bool, false, not, List, [], ◌∷◌, ◌++◌, length, Option, Some, ◌+◌}
-use Rattle.std.specs.Prelude.{None, IfSome, if◌then◌else◌, ◌==◌, ◌&&◌, nat_le, nat_lt}
-use Rattle.std.specs.Int.{w64, trailing_zeros}
+use Rattle.std.specs.Prelude.{None, IfSome, ◌&&◌, nat_le, nat_lt}
 use Rattle.po_text.specs.declared.fault.PoKind.{PoKind}
 use Rattle.po_text.specs.declared.fault.PoKind.TheVariants.{BadEscape, OpenString, Memory}
 use Rattle.std.specs.Option.{option_map}
@@ -11,7 +10,7 @@ use Rattle.po_text.specs.declared.flags.Flags.{Flags}
 use Rattle.po_text.specs.declared.strings.StringBytes.{StringBytes}
 use Rattle.po_text.specs.declared.lexer.Token as code
 use Rattle.po_text.specs.declared.lexer.Token.TheVariants as kinds
-use Rattle.po_text.specs.Chain.{Chain}
+use Rattle.byte_text.specs.Chain.{Chain}
 use Rattle.po_text.specs.Ends.{IsPart}
 use Rattle.po_text.specs.Building.{flags_over}
 use Rattle.po_text.specs.Spelling.{Token, Context, Id, Plural, Str, Number, Open, Close}
@@ -21,10 +20,6 @@ use Rattle.po_text.specs.Spelling.{UnitsAt, unit_value, IsBadEscape, IsOpenEnd, 
 
 abbrev pub is_no_separator : ℕ → Bool
 is_no_separator b = not (is_separator b)
-
--- the index of the lowest set bit, or the number of lanes if no bit is set
-abbrev pub first_set : ℕ → ℕ → ℕ
-first_set mask lanes = if mask == 0 then lanes else trailing_zeros w64 mask
 
 -- ASCII, but not NUL
 abbrev pub is_simple : ℕ → Bool

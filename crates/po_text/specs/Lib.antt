@@ -1,6 +1,5 @@
 pub mod Faults
 pub mod Ends
-pub mod Chain
 pub mod Spelling
 pub mod Entries
 pub mod Places

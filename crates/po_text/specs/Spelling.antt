@@ -10,7 +10,8 @@ use Rattle.std.specs.Str.{IsUtf8, bytes_eq}
 use Rattle.std.specs.Char.{is_ascii_alphanumeric, is_ascii_digit}
 use Rattle.po_text.specs.declared.fault.PoKind.{PoKind}
 use Rattle.po_text.specs.declared.fault.PoKind.TheVariants.{BadEscape, OpenString, BadWord, BadText}
-use Rattle.po_text.specs.Chain.{Chain}
+use Rattle.byte_text.specs.Chain.{Chain}
+use Rattle.byte_text.specs.Decimal.{decimal_value}
 
 -- ---- bytes
 
@@ -146,9 +147,6 @@ pub data Token : Type 0 where
   Open : Token
   Close : Token
   Text : (bytes : List ℕ) → Token
-
-abbrev pub decimal_value : List ℕ → ℕ
-decimal_value digits = fold (λ n d. 10 * n + (d - 48)) 0 digits
 
 -- a number has one to nine digits, and may begin with zeros (ours)
 abbrev pub number_of : List ℕ → Option Token

@@ -5,7 +5,8 @@ ghost use Rattle.po_text.specs.Building.{flags_over};
 ghost use Rattle.po_text.specs.Lexing.{is_no_separator};
 ghost use Rattle.po_text.specs.Spelling.{comment_marks, flag_mark, is_separator};
 
-use crate::scan::{is_white_byte, split_byte};
+use crate::scan::is_white_byte;
+use byte_text::split_byte;
 
 /// The flags of an entry.
 #[derive(Clone, Copy)]
@@ -28,16 +29,13 @@ fn is_separator_byte(byte: u8) -> bool
 }
 
 /// The length of the front up to the first separator.
-#[tactic(auto, using(std::proofs::lemmas::List::Sums::prefix_len_is))]
 fn flag_len(words: &[u8]) -> usize
     ensures { result ≡ prefix_len is_no_separator words.now }
 {
-    for (i, byte) in words.iter().enumerate() {
-        if is_separator_byte(*byte) {
-            return i;
-        }
-    }
-    words.len()
+    words
+        .iter()
+        .take_while(|byte| !is_separator_byte(**byte))
+        .count()
 }
 
 /// The flags after one word of a flag line.

@@ -3,12 +3,11 @@ ghost use Rattle.std.specs.Prelude.{◌≡◌, ℕ, ◌+◌, ◌-◌, ◌*◌, �
 ghost use Rattle.std.specs.Prelude.{◌∷◌, [], List, Bool, length, IfOk, IfErr, IfSome, IsTrue, MatchOption, false};
 ghost use Rattle.std.specs.List.{filter_map, prefix_len, slice_split, take_while};
 ghost use Rattle.po_text.specs.Building.{flags_over};
-ghost use Rattle.po_text.specs.Lexing.{is_no_separator};
+ghost use Rattle.po_text.specs.Lexing.{is_no_separator, word_view, token_view, IsLawfulToken, StopsGap};
 ghost use Rattle.po_text.specs.Spelling.{comment_marks, flag_mark, is_separator, is_white, is_word_byte};
 ghost use Rattle.po_text.specs.Spelling.{is_not_line_end, word_token, number_of, IsLawful, PieceAt};
 ghost use Rattle.po_text.specs.Spelling.{Word, Quoted, FaultAt};
 ghost use Rattle.po_text.specs.Spelling as spec;
-ghost use Rattle.po_text.specs.Lexing.{word_view, token_view, IsLawfulToken, StopsGap};
 ghost use Rattle.po_text.specs.Lexing.{TakesToken, string_of, HasNext, HasEnd, HasFaultFrom};
 ghost use Rattle.po_text.specs.Ends.{EndsText};
 ghost use Rattle.po_text.specs.Faults.{out_of_memory};
@@ -16,8 +15,9 @@ ghost use Rattle.po_text.specs.declared.fault.PoKind.TheVariants.{BadWord, Memor
 
 use crate::fault::{PoFault, PoKind};
 use crate::flags::{Flags, comment_flags};
-use crate::scan::{is_free_of_nul, is_white_byte, split_byte, split_line};
+use crate::scan::{is_free_of_nul, is_white_byte, split_line};
 use crate::strings::StringBytes;
+use byte_text::split_byte;
 
 /// A token; the bytes of a string are kept in a `StringBytes`.
 #[derive(Clone, Copy)]
@@ -50,16 +50,12 @@ fn is_letter_digit(byte: u8) -> bool
 }
 
 /// The length of the longest word at the front, 0 if there is none.
-#[tactic(auto, using(std::proofs::lemmas::List::Sums::prefix_len_is))]
 fn word_len(text: &[u8]) -> usize
     ensures { result ≡ prefix_len is_word_byte text.now }
 {
-    for (i, byte) in text.iter().enumerate() {
-        if !is_letter_digit(*byte) {
-            return i;
-        }
-    }
-    text.len()
+    text.iter()
+        .take_while(|byte| is_letter_digit(**byte))
+        .count()
 }
 
 /// The number that a word spells, if it is one to nine decimal digits.

@@ -2,9 +2,10 @@
 //! costs more than the bytes.
 ghost use Rattle.std.specs.Prelude.{◌≡◌, ◌+◌, ◌≤◌, drop, length, take, IsTrue};
 ghost use Rattle.std.specs.List.{prefix_len};
-ghost use Rattle.po_text.specs.Lexing.{first_set, is_simple};
+ghost use Rattle.po_text.specs.Lexing.{is_simple};
 ghost use Rattle.po_text.specs.Spelling.{is_plain, IsLawful};
 
+use byte_text::first_set;
 use std::simd::prelude::*;
 
 /// The number of bytes in a vector.
@@ -14,18 +15,6 @@ fn is_plain_byte(byte: u8) -> bool
     ensures { result ≡ is_plain byte }
 {
     byte != b'"' && byte != b'\\' && byte != b'\n'
-}
-
-/// The index of the lowest set bit, or the number of lanes if no bit is set.
-#[inline(always)]
-fn first_set(mask: u64) -> usize
-    ensures { result ≡ first_set mask LANES }
-{
-    if mask == 0 {
-        LANES
-    } else {
-        mask.trailing_zeros() as usize
-    }
 }
 
 /// The number of plain bytes that the vector at `at` begins with.
@@ -38,20 +27,14 @@ fn plain_lanes(text: &[u8], at: usize) -> usize
     let stops = bytes.simd_eq(u8x16::splat(b'"'))
         | bytes.simd_eq(u8x16::splat(b'\\'))
         | bytes.simd_eq(u8x16::splat(b'\n'));
-    first_set(stops.to_bitmask())
+    first_set(stops.to_bitmask(), LANES)
 }
 
 /// The number of plain bytes at the front, found one byte at a time.
-#[tactic(auto, using(std::proofs::lemmas::List::Sums::prefix_len_is))]
 fn plain_bytes(text: &[u8]) -> usize
     ensures { result ≡ prefix_len is_plain text.now }
 {
-    for (i, byte) in text.iter().enumerate() {
-        if !is_plain_byte(*byte) {
-            return i;
-        }
-    }
-    text.len()
+    text.iter().take_while(|byte| is_plain_byte(**byte)).count()
 }
 
 /// The number of plain bytes at the front.
@@ -83,20 +66,16 @@ fn simple_lanes(text: &[u8], at: usize) -> usize
 {
     let bytes = u8x16::from_slice(&text[at..]);
     let stops = bytes.simd_eq(u8x16::splat(0)) | bytes.simd_ge(u8x16::splat(128));
-    first_set(stops.to_bitmask())
+    first_set(stops.to_bitmask(), LANES)
 }
 
 /// The number of simple bytes at the front, found one byte at a time.
-#[tactic(auto, using(std::proofs::lemmas::List::Sums::prefix_len_is))]
 fn simple_bytes(text: &[u8]) -> usize
     ensures { result ≡ prefix_len is_simple text.now }
 {
-    for (i, byte) in text.iter().enumerate() {
-        if !is_simple_byte(*byte) {
-            return i;
-        }
-    }
-    text.len()
+    text.iter()
+        .take_while(|byte| is_simple_byte(**byte))
+        .count()
 }
 
 /// Whether all bytes are ASCII other than NUL. Such bytes are lawful without a search for NUL or a UTF-8 decoder. The

@@ -12,16 +12,6 @@ pub(crate) fn is_white_byte(byte: u8) -> bool
     (9 <= byte && byte <= 13) || byte == b' '
 }
 
-/// Splits off the first byte.
-pub(crate) fn split_byte(text: &[u8]) -> Option<(u8, &[u8])>
-    ensures { MatchOption result (text.now ≡ []) (λ x. text.now ≡ x.0 ∷ x.1.now) }
-{
-    match text {
-        [] => None,
-        [byte, rest @ ..] => Some((*byte, rest)),
-    }
-}
-
 /// Whether no byte is NUL; a vectorized search, meant for whole texts.
 pub(crate) fn is_free_of_nul(text: &[u8]) -> bool
     ensures { IsTrue result → ¬ Contains text.now 0 }

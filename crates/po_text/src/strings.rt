@@ -6,8 +6,8 @@ ghost use Rattle.po_text.specs.Spelling.{IsLawful, UnitsAt};
 
 use crate::fault::PoKind;
 use crate::plain::are_simple;
-use crate::scan::split_byte;
 use crate::units::{plain_run, read_units};
+use byte_text::split_byte;
 use simdutf8::is_utf8;
 use std::alloc::Global;
 

@@ -8,7 +8,7 @@ ghost use Rattle.po_text.specs.Lexing.{StopsPlain, ReadsUnit, StopsBadly, UnitsF
 
 use crate::fault::PoKind;
 use crate::plain::plain_len;
-use crate::scan::split_byte;
+use byte_text::split_byte;
 
 /// The byte that a backslash followed by this letter means.
 fn escape_value(letter: u8) -> Option<u8>
@@ -45,16 +45,13 @@ pub(crate) fn plain_run(text: &[u8]) -> (&[u8], &[u8])
 }
 
 /// The number of octal digits at the front.
-#[tactic(auto, using(std::proofs::lemmas::List::Sums::prefix_len_is))]
 fn octal_len(window: &[u8]) -> usize
     ensures { result ≡ prefix_len is_octal window.now }
 {
-    for (i, byte) in window.iter().enumerate() {
-        if !is_octal_digit(*byte) {
-            return i;
-        }
-    }
-    window.len()
+    window
+        .iter()
+        .take_while(|byte| is_octal_digit(**byte))
+        .count()
 }
 
 /// The octal digits at the front, at most three, and the rest.

@@ -1,5 +1,5 @@
 use Rattle.std.proofs.Common.{◌≡◌, ◌<◌, ◌^◌, take}
-use Rattle.c_signature.specs.Pieces.{decimal_value}
+use Rattle.byte_text.specs.Decimal.{decimal_value}
 use Rattle.c_signature.proofs.parts.number_of.Given as goal
 
 abbrev pub invariant-loop-digit : goal.invariant-loop-digit

@@ -1,5 +1,6 @@
 use Rattle.std.proofs.Common.{◌≡◌, take, Some}
-use Rattle.po_header.specs.Tokens.{decimal_value, below_limit}
+use Rattle.po_header.specs.Tokens.{below_limit}
+use Rattle.byte_text.specs.Decimal.{decimal_value}
 use Rattle.po_header.proofs.token.number_of.Given as goal
 
 abbrev pub invariant-loop-digit : goal.invariant-loop-digit

@@ -7,7 +7,8 @@ use Rattle.std.proofs.Math.Nat.{pow-le-pow_right}
 use Rattle.std.proofs.lemmas.List.{take_all, get_or_default}
 use Rattle.std.proofs.lemmas.List.Sums.{list_all-from_AllPass}
 use Rattle.std.proofs.lemmas.Bool.{le-leb, cases_eq}
-use Rattle.po_text.specs.Spelling.{Number, decimal_value, number_of}
+use Rattle.po_text.specs.Spelling.{Number, number_of}
+use Rattle.byte_text.specs.Decimal.{decimal_value}
 use Rattle.po_text.proofs.lexer.number.Goals as goal
 
 room : (v i n : ℕ) → v < 10 ^ i → i < n → n ≤ 9 → v < 100000000

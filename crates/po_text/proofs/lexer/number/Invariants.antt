@@ -1,6 +1,6 @@
 use Rattle.std.proofs.Common.{◌≡◌, ℕ, ◌<◌, ◌^◌, true, get_or, take}
 use Rattle.std.specs.Char.{is_ascii_digit}
-use Rattle.po_text.specs.Spelling.{decimal_value}
+use Rattle.byte_text.specs.Decimal.{decimal_value}
 use Rattle.po_text.proofs.lexer.number.Given as goal
 
 abbrev pub invariant-loop-digit : goal.invariant-loop-digit
