@@ -588,7 +588,7 @@ def functions_that_wait():
     waits = re.compile(r"^ *pub fn (\w+)\s*<[^(]*\bWait\b", re.M)
     wanted = {name for path in sorted(TOP.glob("crates/*/src/*.rt")) if (path.parent.parent / "must-fail").is_dir()
               for name in waits.findall(path.read_text(encoding="utf-8"))}
-    listed = re.search(r"public functions\s+may\s+wait:(.*?), so the", read("docs/internals/proofs.md"), re.S)[1]
+    listed = re.search(r"public\s+functions\s+may\s+wait:(.*?), so\s+the", read("docs/internals/proofs.md"), re.S)[1]
     found = {name.split("::")[-1] for name in re.findall(r"`([\w:]+)`(?! of)", re.sub(r"of `\w+`", "", listed))}
     return differences("docs/internals/proofs.md", found, wanted)
 
