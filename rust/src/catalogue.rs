@@ -39,7 +39,7 @@ impl Options {
         Options::default()
     }
 
-    /// Says whether to run the checks of `msgfmt -c`.
+    /// Sets whether to run the checks of `msgfmt -c`.
     ///
     /// ```
     /// use kobdzila::{Catalogue, Kind, Options};
@@ -54,7 +54,7 @@ impl Options {
         Options { checked, ..self }
     }
 
-    /// Says whether to keep fuzzy messages, as `msgfmt -f` does.
+    /// Sets whether to keep fuzzy messages, as `msgfmt -f` does.
     ///
     /// ```
     /// use kobdzila::{Catalogue, Options};
@@ -68,7 +68,7 @@ impl Options {
         Options { use_fuzzy, ..self }
     }
 
-    /// The letters that the scripts of catsession have for these options.
+    /// The letters for these options in the scripts of catsession.
     #[cfg(feature = "session")]
     pub(crate) fn letters(self) -> &'static str {
         match (self.checked, self.use_fuzzy) {
@@ -86,7 +86,7 @@ impl Options {
     }
 }
 
-/// The format of a file: what [`Catalogue::open`] is to read.
+/// The format of a file that [`Catalogue::open`] reads.
 ///
 /// ```
 /// use kobdzila::{Format, Options};
@@ -99,19 +99,20 @@ impl Options {
 pub enum Format {
     /// An MO file, which programs install.
     Mo,
-    /// A PO text, which translators write. It is compiled with these options.
+    /// A PO file, which translators write. It is compiled with these options.
     Po(Options),
 }
 
 /// The messages of an MO file or a PO text.
 ///
-/// A catalogue never changes. Cloning it counts a reference, in a few nanoseconds, and copies no message. Any number of
-/// threads may use one catalogue at once.
+/// A catalogue never changes. Cloning it increments a reference count, in a few nanoseconds, and copies no message. Any
+/// number of threads may use one catalogue at once.
 ///
 /// # Look-ups
 ///
-/// `gettext` and the three calls named after it return the translation, or the text that you gave if there is none.
-/// `find` and `find_many` return `None` then. An answer borrows the catalogue, and for `gettext` also your text:
+/// `gettext` and the three methods named after it return the translation, or the string that you passed if there is
+/// none. `find` and `find_many` return `None` then. The result borrows the catalogue, and for `gettext` also your
+/// string:
 ///
 /// ```compile_fail,E0505
 /// # let po = b"msgid \"Winter\"\nmsgstr \"Hiver\"\n";
@@ -131,7 +132,7 @@ pub enum Format {
 /// println!("{answer}"); // error: `answer` may be `msgid` itself
 /// ```
 ///
-/// An answer of `find` is the catalogue's own, so there the msgid may go:
+/// The result of `find` belongs to the catalogue, so the msgid may be dropped:
 ///
 /// ```
 /// # let po = b"msgid \"Winter\"\nmsgstr \"Hiver\"\n";
@@ -143,7 +144,7 @@ pub enum Format {
 /// assert_eq!(answer, Some("Hiver"));
 /// ```
 ///
-/// A msgid is any `str`, also one with a NUL: no message has it, so nothing is found. As in C, a msgid that has byte 4
+/// A msgid is any `str`. No message has one with a NUL, so that finds nothing. As in C, a msgid with a byte 4
 /// (`"menu\u{4}Open"`) finds the message after that byte in the context before it.
 ///
 /// # Processes and signals
@@ -153,7 +154,7 @@ pub enum Format {
 pub struct Catalogue(sys::Catalogue);
 
 impl Catalogue {
-    /// Opens the bytes of an MO file, and copies them.
+    /// Opens an MO file from its bytes, which are copied.
     ///
     /// ```
     /// use kobdzila::{Catalogue, Kind, Options};
@@ -187,7 +188,7 @@ impl Catalogue {
     /// Opens a file.
     ///
     /// A regular file is read up to the size that it has when it is opened. A FIFO, a device and the like are read to
-    /// their end, up to the size limit of the format; a FIFO that nobody has open for writing counts as empty.
+    /// their end, up to the size limit of the format; a FIFO that no writer has open counts as empty.
     ///
     /// ```
     /// use std::error::Error;
@@ -212,8 +213,8 @@ impl Catalogue {
         "# let fr = kobdzila::Catalogue::open(\"examples/fr.po\", kobdzila::Format::Po(Default::default()))?;"
     }
 
-    /// Returns the translation of a message, or the plural form that is requested, if there is one. It may be
-    /// empty, as that of a message whose `msgstr` is.
+    /// Returns the translation of a message, or the requested plural form, if there is one. It is empty if the `msgstr`
+    /// is.
     ///
     /// ```
     /// use kobdzila::{Catalogue, Options, Question};
@@ -232,9 +233,9 @@ impl Catalogue {
 
     /// Returns the answers to several questions, in their order, each as [`find`](Catalogue::find) returns it.
     ///
-    /// In a catalogue of tens of thousands of messages this takes less time than one call for each, since the
-    /// processor waits for the memory of several messages at once. In a small one it makes single calls. It allocates
-    /// the list of answers, and nothing else.
+    /// In a catalogue of tens of thousands of messages this is faster than one call for each, since the processor waits
+    /// for the memory of several messages at once. In a small one it makes single calls. It allocates only the list of
+    /// answers.
     ///
     /// ```
     /// use kobdzila::{Catalogue, Options, Question};
@@ -261,7 +262,7 @@ impl Catalogue {
         self.0.count()
     }
 
-    /// Returns whether there is no entry, not even a header.
+    /// Returns whether there are no entries, not even a header.
     ///
     /// ```
     /// assert!(kobdzila::Catalogue::from_po(b"", kobdzila::Options::new())?.is_empty());

@@ -141,8 +141,8 @@ impl<'a> Entry<'a> {
         self.strings.plural
     }
 
-    /// Returns the translation: one form for each number that the plural rule can give, and one form for a message
-    /// without a plural.
+    /// Returns the translation: one form for each value of the plural rule, and a single form for a message without a
+    /// plural.
     ///
     /// ```
     /// # let po = b"msgid \"Winter\"\nmsgstr \"Hiver\"\n";

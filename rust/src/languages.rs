@@ -8,11 +8,11 @@ use crate::question::Question;
 use crate::set::Set;
 use crate::sys;
 
-/// A list of languages that was resolved in a text domain of a set, for many look-ups.
+/// A list of languages, resolved once in a text domain of a set, for many look-ups.
 ///
 /// [`Set::languages`](crate::Set::languages) and [`Snapshot::languages`](crate::Snapshot::languages) make it. The
-/// answers are those of the set, with this domain and list. A call takes less time, since it doesn't search for the
-/// catalogues. If the list names more than 16 catalogues of the set, each call looks at it again.
+/// answers are those of the set with this domain and list. A call is faster, since it doesn't have to find the
+/// catalogues. If the list names more than 16 catalogues of the set, each call resolves it again.
 ///
 /// ```
 /// use kobdzila::{Catalogue, Domain, Options, Set};
@@ -25,7 +25,7 @@ use crate::sys;
 /// # Ok::<(), kobdzila::Refused>(())
 /// ```
 ///
-/// It borrows the set and both texts, and needs no memory. An answer borrows them too:
+/// It borrows the set and both strings, and allocates nothing. An answer also borrows them:
 ///
 /// ```compile_fail,E0505
 /// let set = kobdzila::Set::new();
@@ -45,7 +45,7 @@ impl<'a> Languages<'a> {
 # let fr = set.languages(Domain(\"garden\"), \"fr\");"
     }
 
-    /// Returns the translation of a message, or the plural form that is requested, if there is one.
+    /// Returns the translation of a message, or the requested plural form, if there is one.
     ///
     /// ```
     /// # use kobdzila::{Domain, Question, Set};
@@ -94,11 +94,11 @@ impl fmt::Debug for Languages<'_> {
     }
 }
 
-/// A list of languages in a text domain of a set, with the set: what a program keeps for its own texts.
+/// A list of languages in a text domain of a set, with the set: what a program keeps for its own messages.
 ///
-/// [`Set::into_languages`](crate::Set::into_languages) makes it. It borrows nothing, may be sent and shared, and has the
-/// look-ups of the trait [`Lookup`]. Each of them looks at the list; [`as_languages`](OwnedLanguages::as_languages)
-/// looks at it once for several.
+/// [`Set::into_languages`](crate::Set::into_languages) makes it. It borrows nothing, may be sent and shared, and has
+/// the look-ups of the trait [`Lookup`]. Each of them resolves the list; [`as_languages`](OwnedLanguages::as_languages)
+/// resolves it once for several.
 ///
 /// ```
 /// use kobdzila::{Catalogue, Domain, Lookup, Options, Set};
@@ -116,7 +116,7 @@ pub struct OwnedLanguages {
 }
 
 impl OwnedLanguages {
-    /// Looks at the list once, for many look-ups.
+    /// Resolves the list once, for many look-ups.
     ///
     /// ```
     /// # use kobdzila::{Domain, Set};

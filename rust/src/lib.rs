@@ -1,4 +1,4 @@
-//! Looks up translations in GNU gettext's MO files and PO texts, by libkobdzila, whose code is proved.
+//! Looks up translations in GNU gettext's MO and PO files, through libkobdzila, whose core is formally verified.
 //!
 //! ```
 //! use kobdzila::{Catalogue, Options};
@@ -21,34 +21,34 @@
 //! # Ok::<(), kobdzila::Refused>(())
 //! ```
 //!
-//! - [`Catalogue`]: the messages of one file. It is immutable, and cloning it counts a reference.
-//! - [`Set`]: catalogues for several text domains and languages. [`Languages`] is a list of languages in one of its
-//!   domains, and has the look-ups.
+//! - [`Catalogue`]: the messages of one file. It is immutable, and cloning it only increments a reference count.
+//! - [`Set`]: catalogues for several text domains and languages. Its look-ups are methods of [`Languages`], a list of
+//!   languages in one of its domains.
 //! - [`Lookup`] and [`Catalogues`]: traits for code that doesn't care which of these provides its translations.
 //! - [`Question`]: a message in a context, or its plural form for a number.
-//! - [`Store`]: a set whose catalogues are replaced while threads look up in it. Each thread has a [`Reader`], which
-//!   enters [`Snapshot`]s.
-//! - [`Refused`]: why a file, a text or a name was refused, with the line of a PO text.
+//! - [`Store`]: a set whose catalogues are replaced while threads use it. Each thread has a [`Reader`], which enters a
+//!   [`Snapshot`].
+//! - [`Refused`]: why a file, a PO text or a name was refused, with the line of a PO text.
 //!
 //! # Features
 //!
 //! | Feature | What it adds |
 //! | --- | --- |
 //! | `static`, on by default | `libkobdzila.a` becomes part of your program. Without it the program loads `libkobdzila.so.0` |
-//! | `macros` | [`t!`], [`tn!`], [`tp!`] and [`tnp!`]: texts with named arguments |
-//! | `languages` | [`Preferences`]: the languages of the environment, or of the header Accept-Language |
-//! | `watch` | [`Watch`]: loads a folder's catalogues again when they change |
+//! | `macros` | [`t!`], [`tn!`], [`tp!`] and [`tnp!`]: messages with named arguments |
+//! | `languages` | [`Preferences`]: the languages of the environment, or of an Accept-Language header |
+//! | `watch` | [`Watch`]: reloads a folder's catalogues when they change |
 //! | `session` | [`Session`]: a client of the program catsession, for a store in a process of its own |
 //!
-//! None of them has a dependency.
+//! None of them adds a dependency.
 //!
 //! The library compiles and reads files, keeps them in memory and finds messages; this crate borrows its strings and
-//! copies none. What is proved of the library ends where this crate begins: the calls into C are tested.
+//! copies none. The proofs cover the library's core only: this crate and its calls into C are tested.
 //!
 //! # Linking
 //!
 //! The build script of `kobdzila-sys` asks `pkg-config` for libkobdzila. If the environment variable `KOBDZILA_LIB_DIR`
-//! is set, it takes the library from that folder. The library runs on 64-bit Linux.
+//! is set, it uses the library in that folder. The library runs on 64-bit Linux.
 
 #![deny(missing_docs)]
 #![deny(unsafe_code)]
@@ -101,7 +101,7 @@ pub use watch::{FileRefused, Watch, WatchOptions};
 #[doc = include_str!("../README.md")]
 struct Readme;
 
-/// Returns the version of the library that is loaded. Its major version is that of this crate; the rest may be later.
+/// Returns the version of the loaded library. Its major version is that of this crate; the rest may be newer.
 ///
 /// ```
 /// assert!(kobdzila::version().starts_with("0."));

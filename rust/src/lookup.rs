@@ -10,7 +10,7 @@ use crate::question::Question;
 /// Translations to look up in: a [`Catalogue`](crate::Catalogue), or a list of [`Languages`] of a
 /// [`Set`](crate::Set) or a [`Snapshot`](crate::Snapshot).
 ///
-/// Code over it doesn't care where its texts are from, and a test of it needs no more than a catalogue:
+/// Code that is generic over it doesn't care where its translations come from, and its tests need only a catalogue:
 ///
 /// ```
 /// use kobdzila::{Catalogue, Domain, Lookup, Options, Store};
@@ -32,7 +32,7 @@ use crate::question::Question;
 /// # Ok::<(), Box<dyn std::error::Error>>(())
 /// ```
 ///
-/// It may be a trait object. References, boxes and counted pointers to translations are translations, too. So is an
+/// The trait is object-safe. It is also implemented by references, boxes and counted pointers to translations, and by
 /// [`Option`], with which a program runs without a catalogue:
 ///
 /// ```
@@ -42,11 +42,11 @@ use crate::question::Question;
 /// assert_eq!(texts.gettext("Winter"), "Winter");
 /// ```
 ///
-/// The methods of [`Catalogue`](crate::Catalogue) and [`Languages`] have the same names and answers, and are called
-/// without importing this trait. Those of `Languages` return texts that live as long as the set.
+/// The methods of [`Catalogue`](crate::Catalogue) and [`Languages`] have the same names and results, and need no import
+/// of this trait. Those of `Languages` return strings that live as long as the set.
 pub trait Lookup {
-    /// Returns the translation of a message, or the plural form that is requested, if there is one. It may be
-    /// empty, as that of a message whose `msgstr` is.
+    /// Returns the translation of a message, or the requested plural form, if there is one. It is empty if the `msgstr`
+    /// is.
     ///
     /// ```
     /// use kobdzila::{Catalogue, Lookup, Options, Question};
@@ -62,7 +62,7 @@ pub trait Lookup {
     fn find(&self, question: Question<'_>) -> Option<&str>;
 
     /// Returns the answers to several questions, in their order, each as [`find`](Lookup::find) returns it. In a large
-    /// catalogue this takes less time than as many calls.
+    /// catalogue this is faster than single calls.
     ///
     /// ```
     /// use kobdzila::{Catalogue, Lookup, Options, Question};
@@ -168,8 +168,8 @@ impl<T: Lookup> Lookup for Option<T> {
 
 /// Catalogues for several text domains and languages: a [`Set`](crate::Set) or a [`Snapshot`](crate::Snapshot).
 ///
-/// It is for code that chooses the languages itself, such as that of a request: a server passes it the
-/// snapshot of the request, and a test passes it a set.
+/// It is for code that chooses the languages itself, such as a request handler: a server passes it the snapshot of the
+/// request, and a test a set.
 ///
 /// ```
 /// use kobdzila::{Catalogue, Catalogues, Domain, Options, Set};
@@ -185,7 +185,7 @@ impl<T: Lookup> Lookup for Option<T> {
 /// # Ok::<(), kobdzila::Refused>(())
 /// ```
 pub trait Catalogues {
-    /// Returns how many catalogues were added or loaded up to this version, replaced ones included.
+    /// Returns the number of catalogues added or loaded up to this version, including replaced ones.
     ///
     /// ```
     /// use kobdzila::{Catalogues, Set};
@@ -198,7 +198,7 @@ pub trait Catalogues {
     fn version(&self) -> u64;
 
     /// Returns the translation of one message in a text domain, if a language of the list has one. For several messages
-    /// [`languages`](Catalogues::languages) takes less time.
+    /// [`languages`](Catalogues::languages) is faster.
     ///
     /// ```
     /// use kobdzila::{Catalogues, Domain, Question, Set};
@@ -210,7 +210,7 @@ pub trait Catalogues {
     /// ```
     fn find(&self, domain: Domain<'_>, languages: &str, question: Question<'_>) -> Option<&str>;
 
-    /// Looks at a list of languages once, for several look-ups.
+    /// Resolves a list of languages once, for several look-ups.
     ///
     /// ```
     /// use kobdzila::{Catalogues, Domain, Set};
@@ -223,7 +223,7 @@ pub trait Catalogues {
     fn languages<'a>(&'a self, domain: Domain<'a>, languages: &'a str) -> Languages<'a>;
 }
 
-/// The look-ups of a type, by its method `find`: written once, for each lifetime that answers have.
+/// The look-ups of a type, by its method `find`, written once for each lifetime of the answers.
 macro_rules! look_ups {
     ([$($generics:tt)*] [$($receiver:tt)*] $this:ident, $fr:literal) => {
         /// Returns the translation of `msgid`, or `msgid` itself if there is none.

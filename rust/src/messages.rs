@@ -1,4 +1,4 @@
-//! Texts with named arguments: the macros `t!`, `tn!`, `tp!` and `tnp!`, and what they expand to.
+//! Messages with named arguments: the macros `t!`, `tn!`, `tp!` and `tnp!`, and what they expand to.
 
 use std::collections::hash_map::DefaultHasher;
 use std::fmt::{self, Display, Write};
@@ -8,9 +8,9 @@ use std::sync::{Arc, Mutex, RwLock};
 use crate::lookup::Lookup;
 use crate::question::Question;
 
-/// Returns the translation of a message with its arguments put in, as a [`String`].
+/// Returns the translation of a message with its arguments inserted, as a [`String`].
 ///
-/// A message names its arguments in braces, and `{{` and `}}` are braces. Each argument is anything that implements
+/// A message names its arguments in braces; `{{` and `}}` are literal braces. An argument is anything that implements
 /// [`Display`]; `name` alone is short for `name = name`. The translations come before a semicolon:
 ///
 /// ```
@@ -24,13 +24,13 @@ use crate::question::Question;
 /// # Ok::<(), kobdzila::Refused>(())
 /// ```
 ///
-/// Without them, the macro takes those that [`set_texts`] was given:
+/// Without them, the macro uses those passed to [`set_texts`]:
 ///
 /// ```
 /// assert_eq!(kobdzila::t!("Hello, {name}!", name = "Ada"), "Hello, Ada!");
 /// ```
 ///
-/// A message whose arguments aren't given, or the other way round, doesn't compile:
+/// A missing argument doesn't compile, and neither does one that the message doesn't name:
 ///
 /// ```compile_fail,E0080
 /// kobdzila::t!("Hello, {name}!", nmae = "Ada");
@@ -40,11 +40,11 @@ use crate::question::Question;
 /// kobdzila::t!("Hello!", name = "Ada");
 /// ```
 ///
-/// A translation whose placeholders differ from those of its message is never used: the text is then that of the
-/// message, and the mismatch is reported once ([`report_mismatches`]).
+/// A translation whose placeholders differ from those of its message is never used: the message itself takes its place,
+/// and the mismatch is reported once ([`report_mismatches`]).
 ///
-/// The message is a literal, so that xgettext finds it. It is found by the keyword `t!` of xgettext 0.24 and later,
-/// which knows Rust: `xgettext --language=Rust --keyword='t!' src/*.rs`.
+/// The message is a literal, so that xgettext can extract it. xgettext 0.24 and later knows Rust, and finds it by the
+/// keyword `t!`: `xgettext --language=Rust --keyword='t!' src/*.rs`.
 #[macro_export]
 macro_rules! t {
     ($msgid:literal $($arguments:tt)*) => {
@@ -55,7 +55,7 @@ macro_rules! t {
     };
 }
 
-/// Returns the plural form of a message for a number, with its arguments put in. The number is the argument `n`.
+/// Returns the plural form of a message for a number, with its arguments inserted. The number is the argument `n`.
 ///
 /// ```
 /// use kobdzila::{tn, Catalogue, Options};
@@ -68,8 +68,8 @@ macro_rules! t {
 /// # Ok::<(), kobdzila::Refused>(())
 /// ```
 ///
-/// The number may be of any integer type; the plural form for -3 is that for 3. A form may leave `{n}` out, as that for
-/// one does above. All else is as for [`t!`]. The keyword of xgettext is `tn!:1,2`.
+/// The number may be of any integer type; the plural form for -3 is that for 3. A form may omit `{n}`, as the one for 1
+/// does above. Everything else is as for [`t!`]. The keyword of xgettext is `tn!:1,2`.
 #[macro_export]
 macro_rules! tn {
     ($msgid:literal, $plural:literal, $n:expr $(, $($arguments:tt)*)?) => {
@@ -371,9 +371,9 @@ static REPORT: RwLock<Option<fn(&Mismatch)>> = RwLock::new(None);
 static REPORTED: Mutex<Vec<u64>> = Mutex::new(Vec::new());
 const MOST_REPORTS: usize = 1000;
 
-/// Sets what is called for a translation that [`t!`] and its kin don't use, since its placeholders differ from those of
-/// its message. It is called once for each of them, and in the whole at most 1,000 times. By default the mismatch is
-/// printed on standard error.
+/// Sets the function to call for a translation that [`t!`] and its variants don't use, since its placeholders differ
+/// from those of its message. It is called once for each such translation, at most 1,000 times in all. By default the
+/// mismatch is printed to standard error.
 ///
 /// ```
 /// use kobdzila::{t, Catalogue, Options};
@@ -421,8 +421,8 @@ fn report(message: &str, translation: &str) {
 /// What [`set_texts`] was given.
 static TEXTS: RwLock<Option<Arc<dyn Lookup + Send + Sync>>> = RwLock::new(None);
 
-/// Sets the translations of the program, which [`t!`] and its kin take if they are given no others. Call it when the
-/// program starts; until then, all texts are the messages themselves.
+/// Sets the translations of the program, which [`t!`] and its variants use unless they are passed others. Call it when
+/// the program starts; until then, every message is its own translation.
 ///
 /// ```
 /// use kobdzila::{set_texts, t, Catalogue, Options};
@@ -434,7 +434,7 @@ static TEXTS: RwLock<Option<Arc<dyn Lookup + Send + Sync>>> = RwLock::new(None);
 /// ```
 ///
 /// [`Set::into_languages`](crate::Set::into_languages) makes one of a set and the user's languages. A server that
-/// answers in several languages passes each call the texts of its request instead.
+/// answers in several languages passes each call the translations of its request instead.
 pub fn set_texts(texts: impl Lookup + Send + Sync + 'static) {
     *TEXTS.write().unwrap_or_else(|it| it.into_inner()) = Some(Arc::new(texts));
 }

@@ -1,12 +1,12 @@
-//! Which languages a user or a request prefers, and which of those that there are this chooses.
+//! Which languages a user or a request prefers, and which of the available ones that selects.
 
 use std::env;
 
-/// The languages that a user prefers, the best one first: those of the environment, or of the header Accept-Language of
-/// a request.
+/// The languages that a user prefers, best one first: those of the environment, or of a request's Accept-Language
+/// header.
 ///
-/// A server [chooses](Preferences::choose) one of the languages that it has for each page, as RFC 4647 looks a language
-/// up, so that no page is in two languages:
+/// A server [chooses](Preferences::choose) one of its languages for each page, by the lookup of RFC 4647, so that no
+/// page is in two languages:
 ///
 /// ```
 /// use kobdzila::Preferences;
@@ -18,7 +18,7 @@ use std::env;
 /// assert_eq!(choose("de"), "en");
 /// ```
 ///
-/// A program for a terminal takes the [list](Preferences::list) of the environment:
+/// A program for a terminal uses the [list](Preferences::list) of the environment:
 ///
 /// ```
 /// use kobdzila::{Domain, Lookup, Preferences, Set};
@@ -50,7 +50,7 @@ const SCRIPTS: &[(&str, &str)] = &[
     ("thaa", "dv"),
 ];
 
-/// The likely script in some countries, where it is another one.
+/// The likely script in the countries where it differs.
 const SCRIPTS_IN: &[(&str, &str, &str)] = &[
     ("az", "arab", "iq ir"),
     ("az", "cyrl", "ru"),
@@ -75,7 +75,7 @@ const SCRIPTS_IN: &[(&str, &str, &str)] = &[
 /// The likely country of a language in a script.
 const COUNTRIES: &[(&str, &str, &str)] = &[("sr", "latn", "rs"), ("zh", "hans", "cn"), ("zh", "hant", "tw")];
 
-/// The modifiers by which the names of locales tell a script.
+/// The modifiers that name a script in the names of locales.
 const MODIFIERS: &[(&str, &str)] = &[
     ("arabic", "arab"),
     ("cyrillic", "cyrl"),
@@ -85,7 +85,8 @@ const MODIFIERS: &[(&str, &str)] = &[
 ];
 
 impl Preferences {
-    /// Returns these languages, the best one first: language tags such as `pt-BR`, or names of locales such as `pt_BR`.
+    /// Returns these languages as preferences, best one first: language tags such as `pt-BR`, or names of locales such
+    /// as `pt_BR`.
     ///
     /// ```
     /// use kobdzila::Preferences;
@@ -98,8 +99,8 @@ impl Preferences {
         }
     }
 
-    /// Returns the languages of a header Accept-Language (RFC 9110, section 12.5.4), those with the greatest weight
-    /// first. `*`, and whatever breaks the rules of the header, is left out. 500 bytes are read, and 20 languages.
+    /// Returns the languages of an Accept-Language header (RFC 9110, section 12.5.4), those with the greatest weight
+    /// first. `*` and malformed parts are skipped. At most 500 bytes and 20 languages are read.
     ///
     /// ```
     /// use kobdzila::Preferences;
@@ -120,7 +121,7 @@ impl Preferences {
     }
 
     /// Returns the languages of the environment: those of the variable `LANGUAGE`, or else that of the first of
-    /// `LC_ALL`, `LC_MESSAGES` and `LANG` which isn't empty. If that is `C` or `POSIX`, or if there is none, `LANGUAGE`
+    /// `LC_ALL`, `LC_MESSAGES` and `LANG` that isn't empty. If that is `C` or `POSIX`, or if all are empty, `LANGUAGE`
     /// isn't read, and there is no language (GNU gettext manual, "The LANGUAGE variable").
     ///
     /// ```
@@ -144,7 +145,7 @@ impl Preferences {
         }
     }
 
-    /// Returns the languages, the best one first.
+    /// Returns the languages, best one first.
     ///
     /// ```
     /// use kobdzila::Preferences;
@@ -155,13 +156,13 @@ impl Preferences {
         self.tags.iter().map(String::as_str)
     }
 
-    /// Returns the one of these languages that the user is answered in, by lookup of RFC 4647 (section 3.4): each
-    /// preferred language is shortened from its end until it is one of those that there are. `None` if none is; a
-    /// program then takes its own language.
+    /// Returns the best of these languages for the user, by the lookup of RFC 4647 (section 3.4): each preferred
+    /// language is shortened from its end until it is an available one. `None` if none is; a program then uses its own
+    /// language.
     ///
-    /// Those that there are may be named as locales or by tags: `zh_Hant_TW`, `zh-Hant-TW`, `sr@latin`, `pt_BR.UTF-8`.
-    /// List the language of your msgids among them. A script that isn't named is the likely one by CLDR, so that `zh-TW`
-    /// is answered by `zh_Hant`, and `zh-Hant` by `zh_TW`.
+    /// The available ones may be names of locales or tags: `zh_Hant_TW`, `zh-Hant-TW`, `sr@latin`, `pt_BR.UTF-8`. List
+    /// the language of your msgids among them. A script that isn't named is the likely one by CLDR, so that `zh-TW`
+    /// finds `zh_Hant`, and `zh-Hant` finds `zh_TW`.
     ///
     /// ```
     /// use kobdzila::Preferences;
@@ -190,8 +191,8 @@ impl Preferences {
             .next()
     }
 
-    /// Returns the languages as a list for [`Set::languages`](crate::Set::languages): the names that the locales of
-    /// each language have, separated by colons.
+    /// Returns the languages as a list for [`Set::languages`](crate::Set::languages): the names of each language's
+    /// locales, separated by colons.
     ///
     /// ```
     /// use kobdzila::Preferences;
@@ -431,8 +432,8 @@ fn names_of(name: &str) -> Vec<String> {
 mod tests {
     use super::Preferences;
 
-    /// Headers, the languages that there are, and the answer of RFC 4647, section 3.4. The repository has a table of
-    /// more of them, for Python, too (`tests/python/negotiation.tsv`).
+    /// Headers, the available languages, and the answer of RFC 4647, section 3.4. The repository has a longer table,
+    /// which Python also uses (`tests/python/negotiation.tsv`).
     const CHOICES: &[(&str, &[&str], Option<&str>)] = &[
         (
             "fr-CH, fr;q=0.9, en;q=0.8, de;q=0.7, *;q=0.5",

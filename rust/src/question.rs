@@ -1,6 +1,6 @@
 //! What is looked up.
 
-/// A message to look up: a msgid, in a context or in none, and a number if a plural form is wanted.
+/// A message to look up: a msgid, an optional context, and a number for a plural form.
 ///
 /// Wherever a `Question` is expected, a msgid alone works:
 ///
@@ -39,7 +39,7 @@ impl<'a> Question<'a> {
         }
     }
 
-    /// Returns the question for the message in this context. The empty context isn't no context.
+    /// Returns the question for the message in this context. An empty context differs from none.
     ///
     /// ```
     /// use kobdzila::Question;

@@ -9,10 +9,10 @@ use crate::names::Domain;
 use crate::question::Question;
 use crate::sys;
 
-/// What one thread looks up with in a [`Store`](crate::Store).
+/// One thread's access to a [`Store`](crate::Store).
 ///
-/// [`enter`](Reader::enter) returns a [`Snapshot`] of the newest version, which doesn't change until the next entry. So
-/// enter once for each request, and all of its answer is of one version. An entry allocates nothing, waits for nobody
+/// [`enter`](Reader::enter) returns a [`Snapshot`] of the newest version, which doesn't change until the next entry.
+/// Enter once for each request, so that the whole response is of one version. Entering allocates nothing, never blocks
 /// and can't fail. A reader's versions never decrease.
 ///
 /// ```
@@ -37,7 +37,7 @@ use crate::sys;
 /// assert!(first.version() <= second.version());
 /// ```
 ///
-/// It may move to another thread, but isn't shared; give each thread a reader of its own:
+/// A reader may be moved to another thread, but not shared; give each thread a reader of its own:
 ///
 /// ```compile_fail,E0277
 /// # let store = kobdzila::Store::new();
@@ -47,7 +47,7 @@ use crate::sys;
 /// });
 /// ```
 ///
-/// A reader keeps the set of its last entry from being freed, so drop a reader that has no more requests.
+/// A reader keeps the set of its last entry alive, so drop a reader that has no more requests.
 pub struct Reader(pub(crate) sys::Reader);
 
 impl Reader {
@@ -69,7 +69,7 @@ impl Reader {
     ///
     /// # Errors
     ///
-    /// The notice is of another store than the reader. It is left in the version that it has entered last.
+    /// The notice is of another store than the reader, which stays in the version that it entered last.
     ///
     /// ```
     /// use kobdzila::Store;
@@ -85,7 +85,7 @@ impl Reader {
         self.0.enter_after(&notice.0).map(Snapshot).ok_or(WrongStore)
     }
 
-    /// Returns the version that was entered last. A new reader has entered the one that was published then.
+    /// Returns the version that was entered last. A new reader starts in the one that is published when it is made.
     ///
     /// ```
     /// use kobdzila::{Catalogue, Domain, Options, Store};
@@ -112,7 +112,7 @@ impl fmt::Debug for Reader {
 
 /// Proof that a version was published, to be passed to another thread.
 ///
-/// If one thread publishes and then tells another one, a notice makes sure that the other one sees the publish:
+/// A thread that receives a notice, and enters after it, is guaranteed to see the publish:
 ///
 /// ```
 /// use kobdzila::{Catalogue, Domain, Notice, Options, Store};
@@ -134,7 +134,7 @@ impl fmt::Debug for Reader {
 /// # Ok::<(), Box<dyn std::error::Error>>(())
 /// ```
 ///
-/// A notice is in one call at a time. Make one for each thread that you tell:
+/// A notice is used by one thread at a time. Make one for each thread that you notify:
 ///
 /// ```compile_fail,E0277
 /// # let store = kobdzila::Store::new();
@@ -173,11 +173,11 @@ impl fmt::Display for WrongStore {
 
 impl Error for WrongStore {}
 
-/// The catalogues of one version of a store: what a [`Reader`] has entered.
+/// The catalogues of one version of a store, entered by a [`Reader`].
 ///
-/// [`languages`](Snapshot::languages) has its look-ups, as for a [`Set`](crate::Set#look-ups). It never changes,
-/// whatever is published meanwhile. A snapshot and its answers end with the entry, before the reader enters again or is
-/// dropped:
+/// Look up through [`languages`](Snapshot::languages), as for a [`Set`](crate::Set#look-ups). A snapshot never changes,
+/// whatever is published meanwhile. It and its answers are borrowed from the reader, so they end before the reader
+/// enters again or is dropped:
 ///
 /// ```compile_fail,E0499
 /// # let store = kobdzila::Store::new();
@@ -199,7 +199,7 @@ impl Error for WrongStore {}
 ///
 /// To keep an answer for longer, copy it with `to_owned()`. The store itself may be dropped while there are snapshots.
 ///
-/// A snapshot may move to another thread, but isn't shared, as its reader isn't:
+/// Like its reader, a snapshot may be moved to another thread, but not shared:
 ///
 /// ```compile_fail,E0277
 /// # let store = kobdzila::Store::new();
@@ -214,7 +214,7 @@ impl Error for WrongStore {}
 pub struct Snapshot<'a>(sys::Snapshot<'a>);
 
 impl<'a> Snapshot<'a> {
-    /// Returns the version: the number of loads published up to it.
+    /// Returns the version: the number of loads published up to this snapshot.
     ///
     /// ```
     /// # let store = kobdzila::Store::new();
@@ -231,7 +231,7 @@ impl<'a> Snapshot<'a> {
         self.0.version()
     }
 
-    /// Looks at a list of languages once, for many look-ups, such as those of one request. The list and its answers
+    /// Resolves a list of languages once, for many look-ups, such as those of one request. The list and its answers
     /// borrow the snapshot.
     ///
     /// ```
@@ -252,7 +252,7 @@ impl<'a> Snapshot<'a> {
     }
 
     /// Returns the translation of one message, if there is one. For several of them [`languages`](Snapshot::languages)
-    /// takes less time, since it looks at the list once. The answer lives as long as the entry.
+    /// is faster, since it resolves the list once. The answer lives as long as the entry.
     ///
     /// ```
     /// use kobdzila::{Domain, Reader};
@@ -268,7 +268,7 @@ impl<'a> Snapshot<'a> {
         self.0.find([domain.0, languages], &question.into())
     }
 
-    /// Looks at a list of languages once, in place of the snapshot. Its answers live as long as the entry.
+    /// Resolves a list of languages once, and consumes the snapshot. Its answers live as long as the entry.
     ///
     /// ```
     /// use kobdzila::{Domain, Reader};

@@ -1,4 +1,4 @@
-//! Why the library refuses a file, a text or a name.
+//! Why the library refuses a file, a PO text or a name.
 
 use std::error::Error;
 use std::fmt;
@@ -11,7 +11,7 @@ macro_rules! kinds {
     ($($(#[doc = $text:literal])+ $name:ident = $number:literal,)+) => {
         /// The reason of a refusal: the constants of `enum kob_fault` in `kobdzila.h`.
         ///
-        /// If several reasons hold, the first one of its group (`Mo..`, `Po..`) is reported. [`Display`](fmt::Display)
+        /// If several reasons apply, the first one of its group (`Mo..`, `Po..`) is reported. [`Display`](fmt::Display)
         /// writes the library's description.
         ///
         /// ```
@@ -24,7 +24,7 @@ macro_rules! kinds {
         #[non_exhaustive]
         pub enum Kind {
             $($(#[doc = $text])+ $name,)+
-            /// A reason that this version of the crate doesn't know, by its number. Only a later library has one.
+            /// A reason that this version of the crate doesn't know, by its number. Only a newer library reports one.
             Unknown(u32),
         }
 
@@ -64,7 +64,7 @@ kinds! {
     MoBounds = 5,
     /// A string of the MO file isn't terminated by NUL.
     MoNoNul = 6,
-    /// A string of the MO file isn't UTF-8, or a key holds byte 4 twice.
+    /// A string of the MO file isn't UTF-8, or a key contains byte 4 twice.
     MoBadText = 7,
     /// An entry has several plurals, or several forms and no plural.
     MoForms = 8,
@@ -84,39 +84,39 @@ kinds! {
     PoBadEscape = 103,
     /// A string isn't closed on its line.
     PoOpenString = 104,
-    /// A word that PO texts don't have.
+    /// A word that isn't part of the PO format.
     PoBadWord = 105,
-    /// A string holds NUL or isn't UTF-8, or a context or a msgid holds byte 4.
+    /// A string contains NUL or isn't UTF-8, or a context or a msgid contains byte 4.
     PoBadText = 106,
     /// The parts of an entry are in the wrong order, or one is missing.
     PoBadOrder = 107,
     /// The forms of an entry aren't numbered 0, 1, 2 and so on.
     PoBadIndex = 108,
-    /// A message is in the text twice.
+    /// A message occurs twice.
     PoDuplicate = 109,
     /// The header names a charset other than UTF-8 and US-ASCII.
     PoCharset = 110,
     /// A format has directives that depend on the system, such as `%<PRId64>`.
     PoSystemDependent = 111,
-    /// The text has a plural message and no plural rule.
+    /// There is a plural message and no plural rule.
     PoNoRule = 112,
     /// The plural rule of the header is malformed.
     PoBadRule = 113,
     /// A plural message has more or fewer forms than the header says.
     PoFormCount = 114,
-    /// The plural rule has no value for a number, or one that is no form.
+    /// The plural rule has no value for a number, or one that isn't the number of a form.
     PoPluralRange = 115,
     /// The arguments of a translation's format differ from those of its message.
     PoFormatMismatch = 116,
     /// Only one of a message and its translation begins, or ends, with a newline.
     PoNewlineMismatch = 117,
-    /// The charset that the header names has no character for a byte.
+    /// A byte has no character in the charset that the header names.
     PoNoCharacter = 119,
     /// The file couldn't be read: [`Error::source`] says why.
     Unreadable = 201,
     /// A text domain or a locale isn't 1 to 64 letters, digits and `_ - . @ +`.
     BadName = 202,
-    /// The store has taken 2^58 - 1 loads, and takes no more.
+    /// The store has accepted 2^58 - 1 loads, and accepts no more.
     VersionsSpent = 204,
 }
 
@@ -126,11 +126,11 @@ impl fmt::Display for Kind {
     }
 }
 
-/// Why there is no catalogue or set, or a [`Store`](crate::Store) took no load: the error of all calls that open, make
-/// or load something.
+/// Why there is no catalogue or set, or why a [`Store`](crate::Store) refused a load: the error of all calls that open,
+/// make or load something.
 ///
-/// It displays as the library describes the reason, without the name of the file, which the library may not know, and
-/// without the line. `{file}:{line}: {refused}` is a line that an editor can jump to.
+/// It displays as the library's description of the reason, without the line and without the name of the file, which the
+/// library may not know. `{file}:{line}: {refused}` is a line that an editor can jump to.
 ///
 /// ```
 /// use kobdzila::{Catalogue, Kind, Options};

@@ -15,9 +15,9 @@ use crate::refused::Kind;
 const MOST_BYTES: usize = 67_108_864 - GO.len();
 const GO: &str = "go\n";
 
-/// A process catsession, which answers from a store of its own while catalogues are replaced.
+/// A catsession process, which answers from a store of its own while catalogues are replaced.
 ///
-/// Take a [`Store`](crate::Store) unless you want the whole store proved, down to the program: a question to another
+/// Use a [`Store`](crate::Store) unless you want the whole store proved, down to the program: a question to another
 /// process takes some 10 microseconds. Any number of threads may use one session, in turn.
 ///
 /// ```no_run
@@ -88,7 +88,7 @@ impl Ask {
     }
 }
 
-/// An answer of a session, and the version that it is of.
+/// An answer of a session, and its version.
 ///
 /// ```no_run
 /// # use kobdzila::{Domain, Session};
@@ -151,8 +151,8 @@ pub struct LoadRefusal {
     pub domain: String,
     /// Its locale.
     pub locale: String,
-    /// The number of the refusal, as in the documents "PO files" and "MO files"; `None` if the domain or the locale is
-    /// no name.
+    /// The number of the refusal, as in the documents "PO files" and "MO files"; `None` if the domain or the locale
+    /// isn't a name.
     pub number: Option<u32>,
     /// The line of a PO text, if the refusal has one.
     pub line: Option<u32>,
@@ -188,7 +188,7 @@ impl fmt::Display for LoadRefusal {
 pub enum SessionError {
     /// The program couldn't be started, or a pipe failed.
     Io(io::Error),
-    /// The process has ended. The text is what it wrote on its error output.
+    /// The process has ended. The text is what it wrote to standard error.
     Ended(String),
     /// A name has a tab or an LF, a PO text isn't UTF-8, or a round would have more than 67,108,864 bytes.
     /// Nothing was sent.
@@ -363,7 +363,7 @@ impl Session {
     ///
     /// # Errors
     ///
-    /// [`SessionError::Unsendable`], and those of a process that has ended.
+    /// [`SessionError::Unsendable`], and the errors of a process that has ended.
     ///
     /// ```no_run
     /// # use kobdzila::{Ask, Domain, Session};
@@ -400,7 +400,7 @@ impl Session {
         self.ask_one(domain, languages, Ask::gettext(msgid))
     }
 
-    /// Returns the plural form for `n`. [`ask`](Session::ask) has the calls with a context, too.
+    /// Returns the plural form for `n`. For a message in a context use [`ask`](Session::ask).
     ///
     /// ```no_run
     /// # use kobdzila::{Domain, Session};
@@ -443,7 +443,7 @@ impl Process {
         }
         match self.exchange(lines, count) {
             Ok(said) if said.len() == count => Ok(said),
-            // (a round that isn't answered whole can't be made up for)
+            // (a round without all of its answers can't be recovered)
             Ok(_) => Err(SessionError::Ended(self.end())),
             Err(why) if why.kind() == io::ErrorKind::BrokenPipe => Err(SessionError::Ended(self.end())),
             Err(why) => {
@@ -469,7 +469,7 @@ impl Process {
         Ok(said)
     }
 
-    /// Ends the process, and returns what it wrote on its error output.
+    /// Ends the process, and returns what it wrote to standard error.
     fn end(&mut self) -> String {
         self.to = None;
         let _ = self.child.kill();

@@ -15,7 +15,7 @@ use crate::sys;
 /// Catalogues, each for a text domain and a locale.
 ///
 /// A set never changes: [`with`](Set::with) returns a new one, which shares all its other catalogues with the old one.
-/// Cloning a set counts a reference. To replace catalogues while threads look up in them, use a
+/// Cloning a set increments a reference count. To replace catalogues while threads use them, use a
 /// [`Store`](crate::Store).
 ///
 /// ```
@@ -29,10 +29,10 @@ use crate::sys;
 ///
 /// # Look-ups
 ///
-/// [`languages`](Set::languages) looks at a list of locales, which are separated by `:` as in the environment variable
-/// `LANGUAGE`; what it returns has the look-ups. The first locale whose catalogue has the message provides the
-/// translation, and the plural rule. `fr_CA` is followed by `fr` of itself, and
-/// `C` and `POSIX` end the list. An answer borrows the set:
+/// [`languages`](Set::languages) resolves a list of locales, separated by `:` as in the environment variable
+/// `LANGUAGE`; the look-ups are methods of what it returns. The first locale whose catalogue has the message provides
+/// the translation and the plural rule. `fr_CA` also stands for `fr` after it, and `C` and `POSIX` end the list. An
+/// answer borrows the set:
 ///
 /// ```compile_fail,E0505
 /// let set = kobdzila::Set::new();
@@ -60,8 +60,8 @@ impl Set {
         }
     }
 
-    /// Returns a new set that has `catalogue` for `domain` and `locale`, in place of the one that this set may have
-    /// there. This set is unchanged.
+    /// Returns a new set with `catalogue` for `domain` and `locale`, in place of any other there. This set is
+    /// unchanged.
     ///
     /// # Errors
     ///
@@ -99,7 +99,7 @@ impl Set {
         Ok(Set(self.0.with_installed(&folder, domain.0, locale)?))
     }
 
-    /// Returns how many catalogues were added to get from an empty set to this one, replaced ones included.
+    /// Returns the number of catalogues added from an empty set to this one, including replaced ones.
     ///
     /// ```
     /// use kobdzila::{Catalogue, Domain, Options, Set};
@@ -113,7 +113,7 @@ impl Set {
         self.0.version()
     }
 
-    /// Looks at a list of languages once, for several look-ups.
+    /// Resolves a list of languages once, for several look-ups.
     ///
     /// ```
     /// use kobdzila::{Catalogue, Domain, Options, Set};
@@ -129,8 +129,8 @@ impl Set {
         Languages(self.0.languages([domain.0, languages]))
     }
 
-    /// Returns the translation of one message, if there is one. For several of them [`languages`](Set::languages) takes
-    /// less time, since it looks at the list once.
+    /// Returns the translation of one message, if there is one. For several of them [`languages`](Set::languages) is
+    /// faster, since it resolves the list once.
     ///
     /// ```
     /// use kobdzila::{Catalogue, Domain, Options, Question, Set};
@@ -185,7 +185,7 @@ impl Catalogues for Set {
     }
 }
 
-/// Adds each catalogue in its turn, so the last one of a name stays.
+/// Adds the catalogues in order, so the last one of a name stays.
 ///
 /// If memory runs out, it ends the program, as [`Vec::extend`] does.
 impl<'a> Extend<(Name<'a>, Catalogue)> for Set {

@@ -1,4 +1,4 @@
-//! Live stores: sets of catalogues that are replaced while threads look up in them.
+//! Live stores: sets of catalogues that are replaced while threads use them.
 
 use std::alloc::{handle_alloc_error, Layout};
 use std::error::Error;
@@ -10,11 +10,11 @@ use crate::reader::{Notice, Reader};
 use crate::refused::Refused;
 use crate::sys;
 
-/// A set of catalogues that is replaced while threads look up in it.
+/// A set of catalogues that is replaced while threads use it.
 ///
 /// [`load`](Store::load) adds catalogues, which nobody sees until [`publish`](Store::publish) shows all of them in one
-/// step. Each thread that looks up has a [`Reader`] of its own. Readers never wait, neither for a publish nor for each
-/// other, and a publish never waits for readers.
+/// step. Each thread that looks up messages has a [`Reader`] of its own. Readers never block, neither on a publish nor
+/// on each other, and a publish never waits for readers.
 ///
 /// ```
 /// use kobdzila::{Catalogue, Domain, Options, Refused, Store};
@@ -37,9 +37,9 @@ use crate::sys;
 /// # Ok::<(), Box<dyn std::error::Error>>(())
 /// ```
 ///
-/// Any number of threads may use one store, by reference or in an [`Arc`](std::sync::Arc). A lock in the store puts
-/// their calls in order; readers don't take it to enter or to look up. The store may be dropped before its readers and
-/// notices: the readers keep working, in the version that was published last.
+/// Any number of threads may use one store, by reference or in an [`Arc`](std::sync::Arc). A lock in the store orders
+/// their calls; readers don't take it to enter or to look up. The store may be dropped before its readers and notices:
+/// the readers keep working, in the version that was published last.
 ///
 /// The text domain and the locale of a catalogue, and the list of languages of a look-up, are those of a
 /// [`Set`](crate::Set#look-ups).
@@ -60,9 +60,8 @@ impl Store {
         }
     }
 
-    /// Adds a load to those that are pending: from the next publish on, `catalogue` is the one for `domain` and
-    /// `locale`, in place of the one that the store may have there. The store shares the catalogue, so yours may be
-    /// dropped.
+    /// Adds a pending load: from the next publish on, `catalogue` is the one for `domain` and `locale`, in place of any
+    /// other there. The store shares the catalogue, so yours may be dropped.
     ///
     /// # Errors
     ///
@@ -84,7 +83,7 @@ impl Store {
     }
 
     /// Publishes all pending loads in one step, and returns the new version. A reader sees all of them or none. If no
-    /// load is pending it changes nothing, and returns the version that there is.
+    /// load is pending, it changes nothing and returns the current version.
     ///
     /// # Errors
     ///
@@ -134,10 +133,11 @@ impl Store {
         self.0.pending()
     }
 
-    /// Returns how many replaced sets are kept, since a reader still has them or no publish has freed them yet.
+    /// Returns the number of replaced sets that are still alive, since a reader has them or no publish has freed them
+    /// yet.
     ///
-    /// A reader has one set at a time, that of its last entry. If the number grows, more and more readers are kept that
-    /// don't enter any more.
+    /// A reader has one set at a time, that of its last entry. If the number grows, you keep more and more readers that
+    /// no longer enter.
     ///
     /// ```
     /// assert_eq!(kobdzila::Store::new().retained(), 0);
@@ -195,7 +195,7 @@ impl fmt::Debug for Store {
     }
 }
 
-/// A [`Store::publish`] that published nothing, since memory ran out or the store was busy.
+/// The error of a [`Store::publish`] that published nothing, since memory ran out or the store was busy.
 ///
 /// All loads are still pending, and you can publish again. A store is busy if some 60 readers were all interrupted at
 /// the same point of an entry, a few instructions long.

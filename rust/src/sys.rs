@@ -38,7 +38,7 @@ impl Refusal {
         Refusal::without_line(KOB_BAD_NAME)
     }
 
-    /// What a function means that returns NULL if memory runs out, and has no other reason.
+    /// The result of a function that returns NULL only if memory runs out.
     pub fn memory() -> Refusal {
         Refusal::without_line(KOB_MEMORY)
     }
@@ -52,7 +52,7 @@ impl Refusal {
         }
     }
 
-    /// What the library says of a file whose name it can't be asked for, since it has a NUL.
+    /// What the library says of a file whose name it can't be given, since it contains a NUL.
     pub fn name_with_nul() -> Refusal {
         Refusal::unreadable(io::Error::from(io::ErrorKind::InvalidInput))
     }
@@ -506,7 +506,7 @@ impl Drop for Notice {
     }
 }
 
-/// What one thread looks up with.
+/// One thread's access to a live store.
 pub struct Reader(NonNull<kob_reader>);
 
 // SAFETY: the header: a reader may move between threads. It is in one call at a time, so it isn't Sync.

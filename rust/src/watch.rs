@@ -1,4 +1,4 @@
-//! A thread that loads the catalogues of a folder into a store, and again when they change.
+//! A thread that loads the catalogues of a folder into a store, and reloads them when they change.
 
 use std::collections::hash_map::RandomState;
 use std::collections::{HashMap, HashSet};
@@ -25,13 +25,13 @@ use crate::sys::Refusal;
 
 /// How long a file that keeps changing delays the others.
 const PATIENCE: Duration = Duration::from_secs(5);
-/// A file that was written and not closed for so long isn't waited for: `truncate` closes none.
+/// How long to wait for a written file to be closed: `truncate` closes none.
 const LONGEST_WRITE: Duration = Duration::from_secs(60);
 /// How often to look if the system doesn't report changes.
 const UNREPORTED: Duration = Duration::from_secs(1);
 
-/// A folder whose catalogues are loaded into a store, and again when they change: `FOLDER/LOCALE/LC_MESSAGES/DOMAIN.mo`
-/// and `.po`.
+/// Loads the catalogues of a folder into a store, and reloads them when they change:
+/// `FOLDER/LOCALE/LC_MESSAGES/DOMAIN.mo` and `.po`.
 ///
 /// ```
 /// use kobdzila::{Domain, Store, WatchOptions};
@@ -60,13 +60,13 @@ const UNREPORTED: Duration = Duration::from_secs(1);
 /// # Ok::<(), Box<dyn std::error::Error>>(())
 /// ```
 ///
-/// What is there is loaded and published before [`start`](WatchOptions::start) returns. From then on a thread waits for
-/// changes, which the system reports (inotify), and publishes all that have come together in one step. A file counts as
-/// complete once nobody is writing it, and its size and times are the same at two looks. If there are both an MO file
-/// and a PO file, the one that was modified later is shown. A file that is removed stays loaded.
+/// The catalogues that are there are loaded and published before [`start`](WatchOptions::start) returns. From then on a
+/// thread waits for changes, which the system reports (inotify), and publishes those that arrive together in one step.
+/// A file counts as complete once nobody is writing it and two checks find the same size and times. If there are both
+/// an MO file and a PO file, the one that was modified last is used. A file that is removed stays loaded.
 ///
-/// A file that isn't loaded is reported once; the texts that were there before stay. Nothing that happens to a file
-/// ends the thread, nor does a panic of your function. Dropping the watch ends it.
+/// A file that is refused is reported once; the translations loaded before stay. File errors never stop the thread, nor
+/// does a panic in your function. Dropping the watch stops it.
 #[derive(Debug)]
 pub struct Watch {
     looking: Arc<Mutex<Looking>>,
@@ -75,7 +75,7 @@ pub struct Watch {
 }
 
 impl Watch {
-    /// Looks now, and returns the version that was published, or `None` if nothing has changed.
+    /// Checks for changes now, and returns the version that was published, or `None` if nothing has changed.
     ///
     /// ```
     /// # use kobdzila::{Store, WatchOptions};
@@ -94,7 +94,7 @@ impl Watch {
         locked(&self.looking).look()
     }
 
-    /// Ends the thread, and waits until it has ended. The store goes on with what was loaded.
+    /// Stops the thread, and waits until it has ended. The store keeps what was loaded.
     ///
     /// ```
     /// # use kobdzila::{Store, WatchOptions};
@@ -147,7 +147,7 @@ pub struct WatchOptions {
 type Report = Box<dyn FnMut(&FileRefused) + Send>;
 
 impl WatchOptions {
-    /// Returns the defaults for a folder, as the methods below say them.
+    /// Returns the options for a folder, with the defaults that the methods below describe.
     ///
     /// ```
     /// let options = kobdzila::WatchOptions::new("/usr/share/locale");
@@ -176,7 +176,7 @@ impl WatchOptions {
         self
     }
 
-    /// Says how to compile PO files. The default runs no checks and drops fuzzy messages.
+    /// Sets how to compile PO files. The default runs no checks and drops fuzzy messages.
     ///
     /// ```
     /// # let options = kobdzila::WatchOptions::new("locale");
@@ -187,8 +187,8 @@ impl WatchOptions {
         self
     }
 
-    /// Says how long a file has to stay as it is before it is loaded. Changes that come within this time of each other
-    /// are one publish. The default is 100 milliseconds.
+    /// Sets how long a file must be unchanged before it is loaded. Changes within this time of each other become one
+    /// publish. The default is 100 milliseconds.
     ///
     /// ```
     /// # let options = kobdzila::WatchOptions::new("locale");
@@ -199,8 +199,8 @@ impl WatchOptions {
         self
     }
 
-    /// Says how often to look even if the system reports no change, as for a folder of another machine. The default is
-    /// 10 seconds. If the system reports none at all, it is at most a second.
+    /// Sets how often to check even if the system reports no change, as for a folder of another machine. The default is
+    /// 10 seconds. If the system reports no changes at all, it is at most a second.
     ///
     /// ```
     /// # let options = kobdzila::WatchOptions::new("locale");
@@ -211,8 +211,8 @@ impl WatchOptions {
         self
     }
 
-    /// Says whether a file without a message replaces one that has some. The default is that it is refused, since it is
-    /// rather a mistake, such as a shell's `>`.
+    /// Sets whether a file without messages may replace one that has some. By default it is refused, since it is more
+    /// likely a mistake, such as a shell's `>`.
     ///
     /// ```
     /// # let options = kobdzila::WatchOptions::new("locale");
@@ -223,7 +223,7 @@ impl WatchOptions {
         self
     }
 
-    /// Sets what is called with each file that isn't loaded. By default that is printed on standard error.
+    /// Sets the function to call with each file that is refused. By default the refusal is printed to standard error.
     ///
     /// The first calls come from [`start`](WatchOptions::start), and later ones from the thread of the watch.
     ///
@@ -236,7 +236,7 @@ impl WatchOptions {
         self
     }
 
-    /// Loads and publishes what is there, and goes on doing so when it changes.
+    /// Loads and publishes the folder's catalogues, and starts the thread that reloads them when they change.
     ///
     /// # Errors
     ///
@@ -288,7 +288,7 @@ impl fmt::Debug for WatchOptions {
     }
 }
 
-/// A file of a watched folder that isn't loaded.
+/// A file of a watched folder that was refused.
 ///
 /// It displays as a line that an editor can jump to, such as `fr.po:3: duplicate message`.
 ///
@@ -325,7 +325,7 @@ impl FileRefused {
         &self.path
     }
 
-    /// Returns the reason; `None` if the file is only refused because it has no message.
+    /// Returns the reason; `None` if the file is refused only for having no messages.
     ///
     /// ```
     /// fn is_out_of_memory(file: &kobdzila::FileRefused) -> bool {
@@ -416,7 +416,7 @@ fn locked(looking: &Mutex<Looking>) -> MutexGuard<'_, Looking> {
     looking.lock().unwrap_or_else(|it| it.into_inner())
 }
 
-/// Looks whenever something has changed, until it is told to end.
+/// Checks whenever something has changed, until it is told to stop.
 fn run(looking: &Mutex<Looking>, changes: Option<&Changes>, ends: &UnixStream) {
     loop {
         let (time, settle) = {
@@ -431,7 +431,7 @@ fn run(looking: &Mutex<Looking>, changes: Option<&Changes>, ends: &UnixStream) {
             return;
         }
         let _ = catch_unwind(AssertUnwindSafe(|| locked(looking).look()));
-        // (a folder in which other files change all the time isn't looked at all the time)
+        // (a folder in which other files change all the time isn't checked all the time)
         if inotify::wait_for(ends, settle) {
             return;
         }
@@ -458,7 +458,7 @@ impl Looking {
         published.ok()
     }
 
-    /// The files that have changed and are complete. They are waited for, so that all are one publish.
+    /// The files that have changed, once they are complete, so that all of them are one publish.
     fn steady(&mut self) -> HashMap<PathBuf, Stamp> {
         let mut before = self.changed();
         let end = Instant::now() + PATIENCE;

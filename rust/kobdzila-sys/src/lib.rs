@@ -1,7 +1,7 @@
 //! The functions of `kobdzila.h`, the header of libkobdzila, as Rust declares them.
 //!
 //! The header and the manual page kobdzila(3) say what each function does, who owns what it returns, and what a caller
-//! has to keep to. The names are theirs, so an enum of C is a number here: a later library may return one that this
+//! must ensure. The names are those of C, and an enum of C is a number here: a newer library may return one that this
 //! crate doesn't know. The crate `kobdzila` is a safe interface over it.
 //!
 //! ```
@@ -25,8 +25,8 @@
 //!
 //! # Linking
 //!
-//! The build script links `libkobdzila.a` from the folder in the variable `KOBDZILA_LIB_DIR`, or from where pkg-config
-//! says. Without the feature `static`, which is on by default, it links the shared library.
+//! The build script links `libkobdzila.a` from the folder in the variable `KOBDZILA_LIB_DIR`, or from the one that
+//! pkg-config reports. Without the feature `static`, which is on by default, it links the shared library.
 
 #![allow(non_camel_case_types)]
 
@@ -85,7 +85,7 @@ pub const KOB_STRICT: c_uint = 4;
 pub const KOB_MO: c_uint = 0;
 pub const KOB_PO: c_uint = 1;
 
-/// An opaque type of C: it has no size that Rust knows, and only the library makes and frees it.
+/// An opaque type of C: its size isn't known to Rust, and only the library makes and frees it.
 #[repr(C)]
 pub struct kob_catalogue {
     _opaque: [u8; 0],

@@ -2,9 +2,8 @@
 //!
 //! Each string is an allocation of its own, and what a reader lends is copied at each entry and freed at the next one.
 //! So an answer that outlives its catalogue or its entry is a use after free, which Miri reports. A look-up in what a
-//! reader lends writes to the reader without a lock, so that two threads which look up there are a data race. The texts
-//! are those of the plainest PO files; there are no MO files, and the plural rule is `n != 1`, or `n > 1` if the header
-//! says so.
+//! reader lends writes to the reader without a lock, so that two threads which look up there are a data race. It reads
+//! only the plainest PO files, and no MO files. The plural rule is `n != 1`, or `n > 1` if the header says so.
 
 use std::collections::BTreeMap;
 use std::ffi::CStr;

@@ -64,7 +64,7 @@ impl Changes {
         Ok(Changes(unsafe { File::from_raw_fd(file) }))
     }
 
-    /// Reports the changes of this folder, too. Its number is the same if it was added before.
+    /// Also reports the changes of this folder. Its number is the same if it was added before.
     pub fn add(&self, folder: &Path) -> io::Result<i32> {
         let name = CString::new(folder.as_os_str().as_bytes())?;
         // SAFETY: the descriptor is open, and the name is terminated by NUL.
