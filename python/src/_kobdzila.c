@@ -1,7 +1,7 @@
 /* The extension module kobdzila._kobdzila: the catalogues of libkobdzila as a Python type, and the module itself. Its
  * stores are in store.c.
  *
- * It uses the limited API of Python 3.10, so one build serves each later version, too. The type has the look-ups of
+ * It uses the limited API of Python 3.10, so one build also serves each later version. The type has the look-ups of
  * the standard module gettext as methods in C; the classes of the package inherit them. */
 #include "module.h"
 #include "sorted.h"
@@ -144,7 +144,7 @@ static int options_of(PyObject *checked, PyObject *use_fuzzy, int *options) {
 
 PyDoc_STRVAR(from_po_text, "from_po($type, data, checked=False, use_fuzzy=False)\n--\n\n"
                            "Compile the PO text in `data`, a bytes-like object.\n\n"
-                           "`checked` runs the checks of `msgfmt -c`; `use_fuzzy` keeps fuzzy messages, too.");
+                           "`checked` runs the checks of `msgfmt -c`; `use_fuzzy` also keeps fuzzy messages.");
 
 static PyObject *from_po(PyObject *class, PyObject *const *args, Py_ssize_t given, PyObject *keywords) {
     static const char *const names[] = { "data", "checked", "use_fuzzy" };

@@ -1,4 +1,4 @@
-"""Message catalogues of GNU gettext by libkobdzila, with the interface of the standard module gettext.
+"""GNU gettext's message catalogues through libkobdzila, with the interface of the standard module gettext.
 
 >>> import kobdzila
 >>> french = kobdzila.Catalogue.from_po(b'''

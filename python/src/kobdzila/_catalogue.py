@@ -1,4 +1,5 @@
-"""Catalogues: the type of the extension module with what needs no speed, and the class of the standard gettext."""
+"""Catalogues: the type of the extension module with the methods that needn't be fast, and the class of the standard
+gettext."""
 from __future__ import annotations
 
 import gettext as python_gettext
@@ -42,8 +43,8 @@ TEXTS_OF_PYTHON = {Fault.MO_MAGIC: "Bad magic number", Fault.MO_BOUNDS: "File is
 
 
 class Entry(EntryFields):
-    """An entry of a catalogue: `context`, `msgid`, `plural` and `forms`, a tuple of str. The first and the third are
-    None if it has none.
+    """An entry of a catalogue: `context`, `msgid`, `plural` and `forms`, a tuple of str. `context` and `plural` are
+    None if the entry has none.
     """
 
     __slots__ = ()
@@ -61,7 +62,7 @@ class Catalogue(_kobdzila.Catalogue):
     """
 
     def __init__(self) -> None:
-        """Make an empty catalogue. The others come from open, from_po and from_mo."""
+        """Make an empty catalogue; open, from_po and from_mo make the others."""
 
     def entries(self) -> Iterator[Entry]:
         """Yield each entry, in ascending order of the keys.
@@ -73,7 +74,7 @@ class Catalogue(_kobdzila.Catalogue):
         return (Entry(*self._entry(place)) for place in range(self.count))
 
     def forms(self, msgid: str, context: str | None = None) -> tuple[str, ...]:
-        """Return all forms of a message: one if it has no plural, none if it isn't in the catalogue.
+        """Return all forms of a message: one if it has no plural, and none if it isn't in the catalogue.
 
         >>> Catalogue.from_po(b'msgid "hi"\\nmsgstr "salut"\\n').forms("hi")
         ('salut',)
@@ -82,7 +83,7 @@ class Catalogue(_kobdzila.Catalogue):
         return self._entry(place)[3] if place >= 0 else ()
 
     def info(self) -> dict[str, str]:
-        """Return the fields of the header, by their names in lower case."""
+        """Return the fields of the header, with their names in lower case as keys."""
         return self._info
 
     def charset(self) -> str | None:
@@ -121,7 +122,7 @@ class Catalogue(_kobdzila.Catalogue):
         return charset if found else None
 
     def _other_number(self, context: str | None, key: str | None, msgid1: str, msgid2: str, n: Any) -> str:
-        """Answer ngettext and npgettext for an `n` that isn't an int from 0 to 2**64 - 1, as the standard one does.
+        """Answer ngettext and npgettext for an `n` that isn't an int from 0 to 2**64 - 1, as the standard module does.
 
         `key` is the text of msgid1, or None if no text is equal to it.
         """
@@ -137,10 +138,10 @@ class Catalogue(_kobdzila.Catalogue):
 
 
 class Texts(AnyMapping):
-    """The texts of a catalogue as the standard class has them in its attribute `_catalog`: by message, or by message
-    and number of the form if the message has a plural. A context and byte 4 come before its message.
+    """The translations of a catalogue as the standard class has them in its attribute `_catalog`: by message, or by
+    message and form number if the message has a plural. A context and byte 4 precede the message.
 
-    They are made when they are read. A change puts them into a dict, in which the catalogue then looks up.
+    They are made when they are read. A change puts them into a dict, which the catalogue uses from then on.
     """
 
     __slots__ = ("_owner", "_dict")
@@ -149,7 +150,7 @@ class Texts(AnyMapping):
         self._owner, self._dict = owner, None  # type: tuple[GNUTranslations, dict[Any, Any] | None]
 
     def copy(self) -> dict[Any, Any]:
-        """Return them as a dict."""
+        """Return the translations as a dict."""
         return dict(self.items()) if self._dict is None else self._dict.copy()
 
     def __getitem__(self, key: Any) -> Any:
@@ -199,7 +200,7 @@ class Texts(AnyMapping):
 
 
 class ItemsOfTexts(AnyItems):
-    """The items, which are read one after another."""
+    """The items, read one after another."""
 
     _mapping: Texts
 
@@ -208,11 +209,11 @@ class ItemsOfTexts(AnyItems):
 
 
 class GNUTranslations(Catalogue, python_gettext.GNUTranslations):
-    """The catalogue of an MO file, with the interface of gettext.GNUTranslations, of which it is a subclass.
+    """The catalogue of an MO file: a subclass of gettext.GNUTranslations, with its interface.
 
-    `fp` is a file that is open for reading bytes, the path of a file, or the bytes themselves. A file that isn't whole
-    is an OSError, with the reason. Files that only Python reads (in another charset than UTF-8, or with strings that
-    depend on the system) are read by gettext.GNUTranslations, whose texts then answer.
+    `fp` is a file open for reading bytes, the path of a file, or the bytes themselves. A malformed file raises OSError
+    with the reason. Files that only Python can read (in a charset other than UTF-8, or with system-dependent strings)
+    are read by gettext.GNUTranslations, whose strings are then used.
 
     >>> import kobdzila
     >>> file = kobdzila.Catalogue.from_po(b'msgid "basket"\\nmsgstr "panier"\\n').mo_file()
@@ -239,7 +240,8 @@ class GNUTranslations(Catalogue, python_gettext.GNUTranslations):
 
     @property
     def _catalog(self) -> Any:
-        """The texts, as the standard class keeps them: a mapping, for programs that read or change this attribute."""
+        """The translations as the standard class keeps them: a mapping, for programs that read or change this
+        attribute."""
         return self.__dict__["_texts"] if self._is_by_dict else Texts(self)
 
     @_catalog.setter
@@ -273,7 +275,7 @@ class GNUTranslations(Catalogue, python_gettext.GNUTranslations):
 
 
 def fields_of(header: str) -> dict[str, str]:
-    """Return the fields of a header as the standard gettext reads them."""
+    """Return the fields of a header as the standard gettext parses them."""
     fields: dict[str, str] = {}
     last = None
     for line in map(str.strip, header.split("\n")):
@@ -307,7 +309,8 @@ def first_line(text: str) -> str:
 
 
 def as_int(n: Any) -> Any:
-    """Return `n`, a number that isn't an int, with the warning of the standard gettext. TypeError for anything else."""
+    """Return `n`, a number that isn't an int, as an int, with the warning of the standard gettext. TypeError for
+    anything else."""
     try:
         round(n)
     except TypeError:

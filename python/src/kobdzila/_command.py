@@ -29,11 +29,11 @@ A file that is refused is reported at the end, as FILE:LINE: REASON. Its MO file
 
 
 class Usage(Exception):
-    """Options that don't fit, or that name nothing."""
+    """Options that don't fit together, or that name nothing."""
 
 
 def main(words: Sequence[str] | None = None) -> int:
-    """Run a command, and return its status: 0, 1 if a file was refused, or 2 for wrong options."""
+    """Run a command and return its status: 0, 1 if a file was refused, or 2 for wrong options."""
     parser = argparse.ArgumentParser(prog="python -m kobdzila", description="Message catalogues of GNU gettext.")
     parser.add_argument("--version", action="version", version=f"kobdzila {_kobdzila.version}")
     command = add_compile(parser.add_subparsers(dest="command", required=True, metavar="compile"))
@@ -53,7 +53,7 @@ def main(words: Sequence[str] | None = None) -> int:
 
 def add_compile(commands: Any) -> argparse.ArgumentParser:
     parser: argparse.ArgumentParser = commands.add_parser(
-        "compile", help="compile PO files to MO files", description="Compile PO files to MO files, side by side.",
+        "compile", help="compile PO files to MO files", description="Compile PO files to MO files, in parallel.",
         epilog=EPILOG, formatter_class=argparse.RawDescriptionHelpFormatter)
     add = parser.add_argument
     add("files", nargs="*", metavar="FILE.po", help="PO files, each compiled next to itself")
@@ -65,9 +65,9 @@ def add_compile(commands: Any) -> argparse.ArgumentParser:
         help="one PO file, with -o, or with -d and -l; without these the same as --ignore")
     add("--ignore", action="append", default=[], metavar="PATTERN", help="skip folders with such names")
     add("-o", "--output-file", metavar="FILE", help="the MO file, for -i")
-    add("-f", "--use-fuzzy", action="store_true", help="compile fuzzy messages, too")
+    add("-f", "--use-fuzzy", action="store_true", help="also compile fuzzy messages")
     add("--check", action="store_true", help="run the checks of msgfmt -c, and those of Python's formats")
-    add("--statistics", action="store_true", help="print how many messages of each file are translated")
+    add("--statistics", action="store_true", help="print the number of translated messages of each file")
     add("-n", "--dry-run", action="store_true", help="write nothing")
     add("-j", "--jobs", type=int, default=os.cpu_count() or 1, metavar="N", help="files at a time (default: processors)")
     add("-q", "--quiet", action="store_true", help="print refusals only")
@@ -109,7 +109,7 @@ def domains_of(words: Iterable[str]) -> list[str]:
 
 
 def folders_of(asked: argparse.Namespace) -> Iterable[str]:
-    """Return the folders of locales: the one that is named, or those that Django looks in."""
+    """Return the folders of locales: the one given, or those that Django searches."""
     if asked.directory:
         if not os.path.isdir(asked.directory):
             raise Usage(f"there is no folder {asked.directory}")
@@ -130,7 +130,7 @@ def is_ignored(where: str, name: str, patterns: Sequence[str]) -> bool:
 
 
 def paths_of_django() -> list[str]:
-    """Return LOCALE_PATHS of the settings of Django that the environment names."""
+    """Return LOCALE_PATHS of the Django settings that the environment names."""
     if not os.environ.get("DJANGO_SETTINGS_MODULE"):
         return []
     sys.path.insert(0, os.getcwd())
@@ -159,7 +159,7 @@ def jobs_in(folders: Iterable[str], asked: argparse.Namespace) -> Iterator[Job]:
 
 
 class Bar:
-    """A progress bar on the error output, if that is a terminal."""
+    """A progress bar on standard error, if that is a terminal."""
 
     def __init__(self, count: int, is_shown: bool) -> None:
         self.count, self.done, self.drawn = count, 0, 0.0
@@ -193,7 +193,7 @@ def run(jobs: Sequence[Job], asked: argparse.Namespace) -> int:
 
 
 def report(done: Sequence[Done], asked: argparse.Namespace) -> None:
-    """Print what was asked for to the standard output, and all refusals after it to the error output."""
+    """Print what was requested to standard output, and then all refusals to standard error."""
     refused = [it for it in done if it.fault]
     for it in done:
         if it.counts and not it.fault:

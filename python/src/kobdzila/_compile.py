@@ -1,4 +1,4 @@
-"""Compiling PO files to MO files: one at a time, or all of a project."""
+"""Compiles PO files to MO files: one at a time, or all of a project."""
 from __future__ import annotations
 
 import contextlib
@@ -18,11 +18,11 @@ TOKEN = re.compile(rb'"(?:[^"\\\n]|\\.)*"|#[^\n]*|\bmsgid\b(?!_)')
 
 
 def compile_po(data: _kobdzila.Buffer, *, checked: bool = False, use_fuzzy: bool = False) -> bytes:
-    """Compile the PO text in `data`, a bytes-like object, and return the bytes of its MO file.
+    """Compile a PO file, given as the bytes-like object `data`, and return the bytes of its MO file.
 
-    `checked` runs the checks of `msgfmt -c` and, for messages with the flags python-format and python-brace-format,
-    compares the arguments that the translation takes. `use_fuzzy` keeps fuzzy messages, too. Raise Refused, with the
-    kind, the line and the reason, if the text isn't accepted.
+    `checked` runs the checks of `msgfmt -c`, and compares the arguments of messages flagged python-format or
+    python-brace-format with those of their translations. `use_fuzzy` also keeps fuzzy messages. Raise Refused, with the
+    kind, the line and the reason, if the file is refused.
 
     >>> import kobdzila
     >>> file = kobdzila.compile_po('msgid "basket"\\nmsgstr "panier"\\n'.encode())
@@ -38,7 +38,7 @@ def compile_po(data: _kobdzila.Buffer, *, checked: bool = False, use_fuzzy: bool
 
 
 def compiled(data: _kobdzila.Buffer, checked: bool, use_fuzzy: bool) -> Catalogue:
-    """Return the catalogue of a PO text, which has passed all checks."""
+    """Return the catalogue of a PO file that passes all checks."""
     if bytes(data[:3]) == BYTE_ORDER_MARK:
         raise Refused(Fault.PO_BAD_WORD, 1, "the file begins with a byte order mark: save it as UTF-8 without one")
     catalogue = Catalogue.from_po(data, checked, use_fuzzy)
@@ -52,14 +52,14 @@ def compiled(data: _kobdzila.Buffer, checked: bool, use_fuzzy: bool) -> Catalogu
 
 
 class Job(NamedTuple):
-    """A PO file, and the MO file that it becomes."""
+    """A PO file, and the MO file to write."""
 
     po: str
     mo: str
 
 
 class Options(NamedTuple):
-    """How PO files are compiled."""
+    """How to compile PO files."""
 
     checked: bool = False
     use_fuzzy: bool = False
@@ -68,7 +68,7 @@ class Options(NamedTuple):
 
 
 class Counts(NamedTuple):
-    """How many messages a PO file has, the header not counted, and how many of them are translated and fuzzy."""
+    """How many messages a PO file has, not counting the header, and how many are translated and fuzzy."""
 
     messages: int
     translated: int
@@ -81,7 +81,7 @@ class Counts(NamedTuple):
 
 
 class Done(NamedTuple):
-    """What became of a job: `fault` says why there is no new MO file, with the line if it has one."""
+    """The result of a job: `fault` says why there is no new MO file, with the line if there is one."""
 
     job: Job
     line: int = 0
@@ -97,9 +97,9 @@ class Ended(Exception):
 
 
 def compile_all(jobs: Sequence[Job], options: Options, processes: int) -> Iterator[Done]:
-    """Compile PO files, each once, in up to this many processes, and yield what became of each, in their order.
+    """Compile PO files, each once, in up to this many processes, and yield the results in order.
 
-    Small numbers of files are compiled in this process, since others take longer to start.
+    A few files are compiled in this process, since starting others takes longer.
     """
     work = partial(compile_file, options=options)
     processes = min(processes, len(jobs) // LEAST_JOBS)
@@ -141,7 +141,7 @@ def compile_file(job: Job, options: Options) -> Done:
 
 
 def replace(path: str, data: bytes) -> None:
-    """Put a file in place in one step."""
+    """Replace a file in one step."""
     folder, name = os.path.split(path)
     new = os.path.join(folder, f".{name}.{os.getpid()}.new")
     try:
@@ -160,7 +160,7 @@ def replace(path: str, data: bytes) -> None:
 
 
 def counts_of(data: bytes, use_fuzzy: bool, catalogue: Catalogue) -> Counts:
-    """Return the counts of a PO text that compiles."""
+    """Return the counts of a PO file that compiles."""
     messages = sum(token == b"msgid" for token in TOKEN.findall(data))
     header = 1 if catalogue.forms("") or re.search(rb'^msgid\s+""\s*\nmsgstr', data, re.M) else 0
     own = catalogue.count - len(catalogue.forms("")[:1])

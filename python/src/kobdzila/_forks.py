@@ -1,10 +1,10 @@
-"""Forks: what has locks or threads goes on in the child.
+"""Forks: objects with locks or threads keep working in the child.
 
-A child has one thread, the one that forked. Locks that other threads held at that moment would be held for ever, and
-their threads are gone. So a process forks while the thread that forks holds the locks of all that takes part; in the
-child each part then makes its locks anew, and starts its threads again.
+A child has one thread, the one that forked. The other threads are gone, and locks that they held would be held for
+ever. So the thread that forks first takes the locks of all parts; in the child each part then makes new locks and
+restarts its threads.
 
-A part is registered once it is whole, at the end of its `__init__`, and is forgotten when nobody else refers to it:
+A part is registered once it is complete, at the end of its `__init__`, and is forgotten when nothing else refers to it:
 
     class Follower:
         def __init__(self, store):
@@ -19,9 +19,9 @@ A part is registered once it is whole, at the end of its `__init__`, and is forg
             self._changed = threading.Condition()
             self._start()
 
-What holds such a lock again and again takes it by `with _forks.held(self._changed)`, which lets a fork go first.
+Code that takes such a lock again and again uses `with _forks.held(self._changed)`, which lets a fork go first.
 
-Parts are called in the order of their registration, so a store comes before what feeds it.
+Parts are called in the order of registration, so a store comes before what feeds it.
 """
 from __future__ import annotations
 
@@ -47,16 +47,16 @@ class Lock(Protocol):
 
 
 class Part(Protocol):
-    """What takes part in forks."""
+    """An object that takes part in forks."""
 
     def _fork_locks(self) -> Iterable[Lock]:
-        """Return the locks that the thread which forks holds meanwhile, so that nothing is half done in the child.
+        """Return the locks to hold during a fork, so that nothing is half done in the child.
 
-        Nobody may hold one of them while he waits for something.
+        No thread may hold one of them while it waits for something.
         """
 
     def _forked(self) -> None:
-        """Go on in the child: with new locks, and threads that are started again. No other thread runs."""
+        """Continue in the child: with new locks and restarted threads. No other thread runs."""
 
 
 _parts: dict[int, weakref.ref[Part]] = {}
@@ -67,16 +67,16 @@ _forking = False  # whether a thread has its turn
 
 
 def register(part: Part) -> None:
-    """Let `part` take part in all forks from now on."""
+    """Make `part` take part in all forks from now on."""
     number = next(_numbers)
     _parts[number] = weakref.ref(part, lambda _: _parts.pop(number, None))
 
 
 @contextmanager
 def held(lock: Lock) -> Iterator[None]:
-    """Hold a lock in a `with`. A thread that holds no other one waits first until no process is about to be forked.
+    """Hold a lock in a `with`. A thread that holds no other lock first waits until no fork is pending.
 
-    Without it, a thread that takes a lock again at once would keep the one that forks waiting.
+    Without that, a thread that takes a lock again at once would block the one that forks.
     """
     depth = getattr(_taken, "depth", 0)
     if _forking and depth == 0:

@@ -1,6 +1,6 @@
-"""What `msgfmt -c` checks of messages with the flags python-format and python-brace-format.
+"""The checks of `msgfmt -c` for messages with the flags python-format and python-brace-format.
 
-These flags are in the PO text alone, so it is scanned for them once it is known to compile.
+Only the PO file has these flags, so it is scanned for them once it is known to compile.
 """
 from __future__ import annotations
 
@@ -44,16 +44,16 @@ class Mismatch(NamedTuple):
 
 
 class Arguments(NamedTuple):
-    """What a format string takes: kinds by their names, or one after the other."""
+    """The arguments of a format string: kinds by name, or in order."""
 
     named: dict[str, str]
     unnamed: list[str]
 
 
 def first_mismatch(data: bytes, rule: Callable[[], Rule], use_fuzzy: bool) -> Mismatch | None:
-    """Return the first entry of a PO text whose translation takes other arguments than its message, or None.
+    """Return the first entry of a PO file whose translation takes other arguments than its message, or None.
 
-    `rule` makes the text's plural rule. The text is one that compiles.
+    `rule` returns the file's plural rule. The file must compile.
     """
     if b"python-" not in data:
         return None
@@ -75,7 +75,7 @@ def mismatches(data: bytes, rule: Callable[[], Rule], use_fuzzy: bool) -> Iterat
 
 
 def is_alike(entry: re.Match[bytes]) -> bool:
-    """Return whether all forms have the message's directives of `%`, written as there. Most translations have."""
+    """Return whether all forms have the message's `%` directives, spelled alike. Most translations do."""
     if OCTAL.search(entry[0]):
         return False
     wanted = WRITTEN.findall(entry["plural"] or entry["id"])
@@ -86,7 +86,7 @@ def is_alike(entry: re.Match[bytes]) -> bool:
 
 
 def wrong_form(entry: re.Match[bytes], arguments_of: Callable[[str], Arguments], rule: Callable[[], Rule]) -> str:
-    """Return what is wrong with the first form that doesn't fit, or ""."""
+    """Return what is wrong with the first form that doesn't match, or ""."""
     plural = entry["plural"]
     raw = plural or entry["id"]
     try:
@@ -110,7 +110,8 @@ def wrong_form(entry: re.Match[bytes], arguments_of: Callable[[str], Arguments],
 
 
 def difference(wanted: Arguments, found: Arguments, may_lack: Callable[[], bool]) -> str:
-    """Return what `found` has wrong, or "". A form that isn't used often, such as the one for 1, may lack arguments."""
+    """Return what is wrong with `found`, or "". A form that isn't used often, such as the one for 1, may lack
+    arguments."""
     if found == wanted:
         return ""
     if wanted.named and found.unnamed or wanted.unnamed and found.named:
@@ -133,12 +134,12 @@ def difference(wanted: Arguments, found: Arguments, may_lack: Callable[[], bool]
 
 @lru_cache(256)
 def is_often(rule: Rule, form: int) -> bool:
-    """Return whether a form is that of five or more of the numbers up to 1000, which is what GNU msgfmt calls often."""
+    """Return whether five or more of the numbers up to 1000 select a form, which is what GNU msgfmt calls often."""
     return sum(rule(n) == form for n in range(1001)) >= OFTEN
 
 
 def percents(text: str) -> Arguments:
-    """Return what a text takes for `%`. ValueError if it isn't such a format."""
+    """Return the arguments that a string takes for `%`. ValueError if it isn't such a format."""
     named: dict[str, str] = {}
     unnamed: list[str] = []
     if "%" not in text:
@@ -159,7 +160,7 @@ def percents(text: str) -> Arguments:
 
 
 def braces(text: str) -> Arguments:
-    """Return what a text takes for `str.format`. ValueError if it isn't such a format."""
+    """Return the arguments that a string takes for `str.format`. ValueError if it isn't such a format."""
     named: dict[str, str] = {}
     try:
         for _, field, form, _ in Formatter().parse(text):
@@ -172,7 +173,7 @@ def braces(text: str) -> Arguments:
 
 
 def text_of(strings: bytes) -> str:
-    """Return the text that a keyword's strings spell."""
+    """Return the string that the strings after a keyword spell."""
     whole = b"".join(PIECE.findall(strings))
     return (ESCAPE.sub(unescaped, whole) if b"\\" in whole else whole).decode(errors="replace")
 

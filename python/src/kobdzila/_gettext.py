@@ -1,6 +1,6 @@
-"""The functions of the standard module gettext, over the catalogues of this package.
+"""The functions of the standard module gettext, with the catalogues of this package.
 
-The text domain and its folders are those of the standard module, and each module sees what was set by the other: the
+The text domain and its folders are shared with the standard module, so each module sees what the other has set: the
 messages of argparse, optparse and getopt, which import the standard one, are in the domain that textdomain has set.
 """
 from __future__ import annotations
@@ -45,7 +45,7 @@ def translation(
 
 
 def _chain(found: Iterable[Any]) -> Any:
-    """Return copies of translations, of which each is the fallback of those before it."""
+    """Return copies of translations, each the fallback of those before it."""
     import copy
 
     first, *others = [copy.copy(it) for it in found]
@@ -69,12 +69,12 @@ Catalog = translation
 def install(
     domain: str, localedir: str | os.PathLike[str] | None = None, *, names: Container[str] | None = None
 ) -> None:
-    """Install `_`, and the functions in `names`, among the builtins."""
+    """Install `_`, and the functions in `names`, as builtins."""
     translation(domain, localedir, fallback=True).install(names)
 
 
 def textdomain(domain: str | None = None) -> str:
-    """Set the text domain of gettext and its kin, unless `domain` is None, and return it.
+    """Set the text domain of gettext and its variants, unless `domain` is None, and return it.
 
     >>> import kobdzila
     >>> kobdzila.textdomain()
@@ -91,7 +91,8 @@ def bindtextdomain(domain: str, localedir: str | None = None) -> str:
 
 
 class _Untranslated(NullTranslations):
-    """What a text domain without catalogues answers. As in Python 3.13, an `n` that isn't an int is a warning."""
+    """The translations of a text domain without catalogues. As in Python 3.13, an `n` that isn't an int is a
+    warning."""
 
     def ngettext(self, msgid1: str, msgid2: str, n: int) -> str:
         if not hasattr(n, "__index__"):
@@ -103,7 +104,7 @@ class _Untranslated(NullTranslations):
 
 
 def _translations_of(domain: str) -> Any:
-    """Return the translations of a text domain, to look up in them and no more: they are shared."""
+    """Return the translations of a text domain, only for look-ups: they are shared."""
     names = tuple(find(domain, PRIVATE._localedirs.get(domain), all=True))
     try:
         found = [_opened(GNUTranslations, name) for name in names]

@@ -1,4 +1,4 @@
-"""Which locales a reader is answered in: by a list, by the environment, or by the header Accept-Language of a request."""
+"""Which locales a reader gets: by a list, by the environment, or by a request's Accept-Language header."""
 from __future__ import annotations
 
 import os
@@ -26,12 +26,12 @@ class Answer(NamedTuple):
 def answer_of(
     languages: str | Iterable[str] | None, site: Site = NO_SITE, default: str | None = None, source: str | None = None
 ) -> Answer:
-    """Return in which locales of a site a reader of these languages is answered.
+    """Return the locales of a site for a reader of these languages.
 
     A string with a colon is a list of locales, unless it is an AcceptLanguage; so are None, which means the
-    environment, and any other iterable. Each message is looked up in all of a list. Any other string is a header
-    Accept-Language, or the name of one language: it is answered in one language, or in `default` if the site doesn't
-    have it. `source` is the language of messages that have no translation, which each site has.
+    environment, and any other iterable. Each message is looked up in the whole list. Any other string is an
+    Accept-Language header, or the name of one language: it selects one language, or `default` if the site doesn't have
+    it. `source` is the language of messages without a translation, which every site has.
 
     >>> site = Site(["pt", "pt_BR", "fr"], source="en")
     >>> answer_of("pt-BR, fr;q=0.5", site)
@@ -71,7 +71,7 @@ def _of_header(header: str, site: Site, default: str | None, source: str | None)
 
 
 def kin_of(name: str, site: Site) -> list[str]:
-    """Return a locale, and those that fill its gaps: of the same language, with fewer parts."""
+    """Return a locale, and those that fill its gaps: less specific ones of the same language."""
     return list(dict.fromkeys([*site.chain(name), *names_of(name)]))
 
 
@@ -80,7 +80,7 @@ def tag_of(name: str | None) -> str | None:
 
 
 def names_of(tag: str) -> list[str]:
-    """Return the locales where a language tag or the name of a locale is looked up, the nearest one first.
+    """Return the locales in which a language tag or the name of a locale is looked up, closest one first.
 
     >>> names_of("pt-BR")
     ['pt-BR', 'pt_BR', 'pt']
@@ -89,7 +89,7 @@ def names_of(tag: str) -> list[str]:
     >>> names_of("fr_CA.UTF-8")
     ['fr_CA.UTF-8', 'fr_CA', 'fr']
 
-    A look-up in `en_au` goes on with `en`, so the usual spelling of its country comes before it:
+    A look-up in `en_au` continues with `en`, so the usual spelling with the country comes before it:
 
     >>> names_of("en_au")
     ['en_AU', 'en', 'en_au']

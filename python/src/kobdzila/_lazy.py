@@ -1,4 +1,4 @@
-"""Texts that are looked up when they are used, in the snapshot of the moment."""
+"""Messages that are looked up when they are used, in the current snapshot."""
 from __future__ import annotations
 
 from collections.abc import Callable, Iterator
@@ -14,7 +14,8 @@ if TYPE_CHECKING:
 
 
 class Texts(Protocol):
-    """What `current_snapshot` has: a Snapshot or, under kobdzila.flask and kobdzila.django, the texts of the framework."""
+    """The value of `current_snapshot`: a Snapshot or, with kobdzila.flask and kobdzila.django, the framework's
+    translations."""
 
     def gettext(self, message: str) -> str: ...
     def pgettext(self, context: str, message: str) -> str: ...
@@ -30,7 +31,7 @@ kobdzila.django set it in each request, and `using` in a `with`. Elsewhere there
 
 @contextmanager
 def using(snapshot: Snapshot) -> Iterator[Snapshot]:
-    """Make `snapshot` the current one in a `with`, whose end closes it.
+    """Make `snapshot` the current one in a `with`, at whose end it is closed.
 
     >>> import kobdzila
     >>> store = kobdzila.Store("shop")
@@ -53,9 +54,10 @@ def using(snapshot: Snapshot) -> Iterator[Snapshot]:
 
 
 class LazyTranslations(_kobdzila.LazyTranslations):
-    """Translations that get a snapshot from `current` at each call, for objects that are set up before any request.
+    """Translations that get a snapshot from `current` at each call, for objects that are set up before any request
+    arrives.
 
-    By default `current` is the current snapshot of the context: see `using`.
+    By default `current` returns the current snapshot of the context: see `using`.
 
         environment.install_gettext_translations(
             kobdzila.LazyTranslations(lambda: request.environ["kobdzila.snapshot"]), newstyle=True)
@@ -66,9 +68,9 @@ class LazyTranslations(_kobdzila.LazyTranslations):
 
 
 class LazyText:
-    """A text that is looked up each time that it is used as a str: by `str`, in a format, a template or a comparison.
+    """A message that is looked up whenever it is used as a str: by `str`, in a format, a template or a comparison.
 
-    The functions lazy_gettext and so on make it.
+    lazy_gettext and the other lazy functions make it.
     """
 
     __slots__ = ("_call", "_words")
@@ -133,20 +135,21 @@ class LazyText:
 
 
 def lazy_gettext(message: str) -> LazyText:
-    """Return a text that is the translation of `message` in the snapshot that is current when the text is used."""
+    """Return a lazy translation of `message`: it is looked up, when it is used, in the snapshot that is current
+    then."""
     return LazyText("gettext", (message,))
 
 
 def lazy_pgettext(context: str, message: str) -> LazyText:
-    """Return a text that is the translation of `message` in `context`, like lazy_gettext."""
+    """Return a lazy translation of `message` in `context`, like lazy_gettext."""
     return LazyText("pgettext", (context, message))
 
 
 def lazy_ngettext(msgid1: str, msgid2: str, n: int) -> LazyText:
-    """Return a text that is the plural form for `n`, like lazy_gettext."""
+    """Return a lazy plural form for `n`, like lazy_gettext."""
     return LazyText("ngettext", (msgid1, msgid2, n))
 
 
 def lazy_npgettext(context: str, msgid1: str, msgid2: str, n: int) -> LazyText:
-    """Return a text that is the plural form for `n` of a message in `context`, like lazy_gettext."""
+    """Return a lazy plural form for `n` of a message in `context`, like lazy_gettext."""
     return LazyText("npgettext", (context, msgid1, msgid2, n))

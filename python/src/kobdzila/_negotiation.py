@@ -11,7 +11,7 @@ from functools import lru_cache
 from ._scripts import RIGHT_TO_LEFT, likely_country, likely_script
 
 LONGEST_HEADER = 500  # characters that are read of a header, which a stranger has written
-MOST_LANGUAGES = 20  # of a header, too
+MOST_LANGUAGES = 20  # that are read of a header
 RANGE = re.compile(r"[A-Za-z]{1,8}(?:[-_][A-Za-z0-9]{1,8})*")
 WEIGHT = re.compile(r"\s*[qQ]=(0(?:\.\d{0,3})?|1(?:\.0{0,3})?)\s*")
 VARIANT = re.compile(r"[a-z0-9]{5,8}|[0-9][a-z0-9]{3}")

@@ -1,4 +1,4 @@
-"""Why bytes are no catalogue."""
+"""Why bytes are refused."""
 from __future__ import annotations
 
 import enum

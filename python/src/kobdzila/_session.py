@@ -1,4 +1,4 @@
-"""Look-ups by a process catsession, from any number of threads, while catalogues are replaced."""
+"""Look-ups through a catsession process, from any number of threads, while catalogues are replaced."""
 from __future__ import annotations
 
 import os
@@ -24,14 +24,14 @@ BUNDLED = Path(__file__).with_name("bin") / "catsession"
 
 
 class Answer(NamedTuple):
-    """An answer, and the version that it is of."""
+    """An answer, and its version."""
 
     version: int
     text: str
 
 
 class Refusal(NamedTuple):
-    """Why a load was refused. `kind` is None if the domain or the locale is no name."""
+    """Why a load was refused. `kind` is None if the domain or the locale isn't a name."""
 
     domain: str
     locale: str
@@ -55,11 +55,11 @@ class LoadRefused(Exception):
 
 
 class SessionEnded(Exception):
-    """The process has ended. The text is what it wrote to its error output."""
+    """The process has ended. The text is what it wrote to standard error."""
 
 
 class Calls:
-    """The four calls of gettext, each a question to `ask`."""
+    """The four calls of gettext, each asked by `ask`."""
 
     def ask(self, domain: str, languages: str, *questions: tuple[str | int, ...]) -> list[Answer]:
         """Return the answers to several questions."""
@@ -83,13 +83,13 @@ class Calls:
 
 
 class Session(Closing, Calls):
-    """A process catsession. Its look-ups may come from any number of threads.
+    """A catsession process. Any number of threads may look up in it.
 
-    `program` is the path of catsession: by default the one in this package, or else the one on the PATH.
+    `program` is the path of catsession. The default is the one in this package, or else the one on the PATH.
 
-    A name with a tab or an LF, a number that isn't from 0 to 2**64 - 1 and a PO text that isn't UTF-8 are a ValueError.
-    Nothing of them is sent, and the session goes on. In a forked child the session has ended: the process is the
-    parent's. Start another one there.
+    A name with a tab or an LF, a number that isn't from 0 to 2**64 - 1, and a PO text that isn't UTF-8 raise
+    ValueError. Nothing is sent then, and the session stays usable. In a forked child the session has ended, since the
+    process belongs to the parent. Start another one there.
 
         with kobdzila.Session() as session:
             session.load("shop", "fr", Path("fr.po").read_bytes())
@@ -103,7 +103,7 @@ class Session(Closing, Calls):
         _forks.register(self)
 
     def _start(self) -> None:
-        """Start the process, which has no texts yet."""
+        """Start the process, which has no catalogues yet."""
         self._process = subprocess.Popen(
             [self._program or _program(), "--workers", "1"],
             stdin=subprocess.PIPE,
@@ -122,7 +122,7 @@ class Session(Closing, Calls):
         return [self._lock]  # (so no round is under way, and the pipes' buffers are empty)
 
     def _forked(self) -> None:
-        """Leave the pipes to the parent, whose process it is. `_start` gives the child one of its own."""
+        """Leave the pipes to the parent, which owns the process. `_start` gives the child one of its own."""
         self._lock = threading.Lock()
         if self._ended is None:
             self._ended = FORKED
@@ -135,13 +135,13 @@ class Session(Closing, Calls):
 
     @property
     def version(self) -> int:
-        """The number of loads that were published, and not refused."""
+        """The number of loads published so far; refused ones don't count."""
         return self._version
 
     def load(self, domain: str, locale: str, po: bytes, options: str = "-") -> None:
         """Keep a PO text, or an MO file, for the next publish.
 
-        `options` is for a PO text: `-`, `c` (checked), `f` (fuzzy messages, too) or `cf`.
+        `options` is for a PO text: `-`, `c` (checked), `f` (with fuzzy messages) or `cf`.
         """
         if options not in ("-", "c", "f", "cf"):
             raise ValueError(f"no such options: {options}")
@@ -157,7 +157,7 @@ class Session(Closing, Calls):
         self._keep(domain, locale, b"%s\t%s\n" % (_fields("loadmo", domain, locale), hexlify(mo)))
 
     def publish(self) -> int:
-        """Publish the loads that were kept, in one step, and return their version. LoadRefused lists those refused."""
+        """Publish the loads that were kept, in one step, and return the version. LoadRefused lists the refused ones."""
         with self._lock:
             loads, self._loads, self._size = self._loads, [], 0
             *reported, (_, version) = self._play([lines for _, _, lines in loads], len(loads) + 1)

@@ -1,4 +1,4 @@
-"""A live store: catalogues that are replaced while the threads of the process look up in them."""
+"""A live store: catalogues that are replaced while the threads of the process use them."""
 from __future__ import annotations
 
 import os
@@ -26,23 +26,24 @@ class Snapshot(_kobdzila.Snapshot, Closing):
     """Look-ups in one version of a store, made by Store.snapshot.
 
     gettext, pgettext, ngettext and npgettext look up in `domain`, and dgettext, dpgettext, dngettext and dnpgettext in
-    the domain that they are given, as in the standard module gettext. `languages` are the locales that are asked, in
-    their order. Threads may share a snapshot.
+    the domain that you pass, as in the standard module gettext. `languages` are the locales to search, in order.
+    Threads may share a snapshot.
 
-    Use it in a `with`, or call `close` when the request is done: after that, a look-up is a ValueError. A snapshot that
-    is forgotten closes itself. While it is open, the store keeps the catalogues of its version.
+    Use it in a `with`, or call `close` when the request is done: after that, a look-up raises ValueError. A snapshot
+    without references closes itself. While it is open, the store keeps the catalogues of its version.
     """
 
     __slots__ = ("_lang",)
     _lang: str | None  # of what the reader gets: a catalogue's, or that of the msgids
 
     def info(self, domain: str | None = None) -> dict[str, str]:
-        """Return the header's fields of the first catalogue that these languages have, by their names in lower case."""
+        """Return the header fields of the first catalogue that these languages have, with their names in lower case as
+        keys."""
         return fields_of(self.find(self.domain if domain is None else domain, self.languages, "") or "")
 
     @property
     def language(self) -> str | None:
-        """The language of the first catalogue that these languages have in `domain`, as its header or its name says."""
+        """The language of the first catalogue that these languages have in `domain`, by its header or its name."""
         for locale in self.languages.split(":"):
             header = self.find(self.domain, locale, "")
             if header is not None:
@@ -53,8 +54,8 @@ class Snapshot(_kobdzila.Snapshot, Closing):
     def lang(self) -> str | None:
         """The language tag of the page (RFC 5646), for the attribute `lang` of HTML and the header Content-Language.
 
-        It is that of the locale that was chosen, or the language of the msgids if there is no catalogue. None if that
-        isn't known, either.
+        It is the tag of the chosen locale, or of the msgids' language if there is no catalogue. None if that isn't
+        known either.
 
         >>> import kobdzila
         >>> store = kobdzila.Store("shop")
@@ -84,7 +85,7 @@ class Snapshot(_kobdzila.Snapshot, Closing):
         return msgid1 if n == 1 else msgid2
 
     def _counted(self, domain: str, languages: str, message: str, context: str | None, n: Any) -> str | None:
-        """Return the plural form for any `n` in languages that are the same str object each time, or None."""
+        """Return the plural form for any `n` in languages that are the same str object at each call, or None."""
         if isinstance(n, int) and 0 <= n < 1 << 64:
             return self._recall(domain, languages, message, context, n)
         return self._by_rule(domain, languages, message, context, n)
@@ -103,10 +104,9 @@ class Snapshot(_kobdzila.Snapshot, Closing):
 class Store(_kobdzila.Store):
     """A live store of catalogues, each for a text domain and a locale.
 
-    `domain` is the text domain of snapshots that name none. `source` is the language that the msgids are written in, or
-    None, and `default` the locale for a reader whose languages the store doesn't have, in place of untranslated
-    messages: see `snapshot`. Any number of threads may use a store. A forked child has a store of its own, which goes
-    on from the version that its parent's had.
+    `domain` is the default text domain of snapshots. `source` is the language of the msgids, or None, and `default` the
+    locale for a reader whose languages the store doesn't have, instead of untranslated messages: see `snapshot`. Any
+    number of threads may use a store. A forked child has a store of its own, which continues from its parent's version.
 
     >>> import kobdzila
     >>> store = kobdzila.Store("shop")
@@ -149,8 +149,8 @@ class Store(_kobdzila.Store):
     ) -> None:
         """Keep an MO file, a PO text or a Catalogue for the next publish.
 
-        The options are those of Catalogue.from_po. Raise Refused, with the kind and the line, if there is no such
-        catalogue or name. The store is then as it was.
+        The options are those of Catalogue.from_po. Raise Refused, with the kind and the line, if the catalogue or a
+        name is refused. The store is then unchanged.
 
         >>> import kobdzila
         >>> store = kobdzila.Store()
@@ -163,9 +163,11 @@ class Store(_kobdzila.Store):
         self._load(domain, locale, opened(data, checked, use_fuzzy))
 
     def publish(self) -> int:
-        """Show all loads since the last publish in one step, and return the version, the number of loads published.
+        """Show all loads since the last publish in one step, and return the version: the number of loads published so
+        far.
 
-        It waits for no snapshot. MemoryError if memory runs out: nothing is published, and the loads are still pending.
+        It doesn't wait for snapshots. Raise MemoryError if memory runs out: nothing is published, and the loads are
+        still pending.
         """
         with _forks.held(self._changed):
             version = self._publish()
@@ -192,17 +194,18 @@ class Store(_kobdzila.Store):
         at_least: int = 0,
         within: float = 0.0,
     ) -> Snapshot:
-        """Return look-ups in the newest version, which is never older than one that a publish returned.
+        """Return a snapshot of the newest version, which is never older than one that a publish has returned.
 
-        `languages` is the name of a language, or a header Accept-Language: the reader gets one language for all
-        messages, chosen as `negotiate` does among those that the store has, the language of the msgids included. If
-        there is none, that is the store's `default`, or the language of the msgids.
+        `languages` is the name of a language, or an Accept-Language header: the reader gets one language for all
+        messages, chosen as `negotiate` does from those that the store has, including the language of the msgids. If
+        none matches, it is the store's `default`, or the language of the msgids.
 
-        `languages` may also be a list of locales or language tags, as such or separated by colons. Each message is then
-        looked up in all of them in turn, as for the variable LANGUAGE. None means the environment variables LANGUAGE,
-        LC_ALL, LC_MESSAGES and LANG. Wrap a header in AcceptLanguage so that it never is a list.
+        `languages` may also be a list of locales or language tags, or a string of them separated by colons. Each
+        message is then looked up in all of them in turn, as for the variable LANGUAGE. None means the environment
+        variables LANGUAGE, LC_ALL, LC_MESSAGES and LANG. Wrap a header in AcceptLanguage so that it is never taken for
+        a list.
 
-        If the version is less than `at_least`, wait for a publish, at most `within` seconds, and raise TimeoutError.
+        If the version is less than `at_least`, wait up to `within` seconds for a publish, and then raise TimeoutError.
         """
         if at_least > self._shown:
             with self._changed:
@@ -223,7 +226,7 @@ class Store(_kobdzila.Store):
         at_least: int = 0,
         within: float = 0.0,
     ) -> Snapshot:
-        """Return what `snapshot` does. Only this coroutine waits, and neither the event loop nor a thread.
+        """Return what `snapshot` does. Only this coroutine waits; it blocks neither the event loop nor a thread.
 
         >>> import asyncio, kobdzila
         >>> store = kobdzila.Store("shop")
@@ -261,7 +264,7 @@ class Store(_kobdzila.Store):
         use_fuzzy: bool = False,
         allow_empty: bool = False,
     ) -> Watch:
-        """Load the catalogues of a folder, and go on loading what changes in it: see Watch for the options."""
+        """Load the catalogues of a folder, and reload them when they change: see Watch for the options."""
         from ._watch import Watch
 
         return Watch(
@@ -277,7 +280,7 @@ class Store(_kobdzila.Store):
         self._waiters = Waiters()
 
     def _publish_all(self, loads: Iterable[tuple[str, str, Catalogue]]) -> tuple[int, dict[int, Refused]]:
-        """Publish these loads, with none of them shown before the others. Return the version, and the loads that were refused."""
+        """Publish these loads in one step. Return the version, and the loads that were refused."""
         refusals: dict[int, Refused] = {}
         with _forks.held(self._changed):
             for number, load in enumerate(loads):
@@ -294,7 +297,7 @@ def rule_in(header: str) -> Callable[[int], int]:
 
 
 def opened(data: _kobdzila.Buffer | _kobdzila.Catalogue, checked: bool, use_fuzzy: bool) -> _kobdzila.Catalogue:
-    """Return the catalogue of an MO file, which begins with its magic number, or of a PO text."""
+    """Return the catalogue of an MO file, recognized by its magic number, or of a PO text."""
     if isinstance(data, _kobdzila.Catalogue):
         return data
     if bytes(data[:4]) in MO_MAGICS:

@@ -1,4 +1,4 @@
-"""Coroutines that wait for a publish, without a thread for each."""
+"""Lets coroutines wait for a publish, without a thread for each."""
 from __future__ import annotations
 
 import contextlib
@@ -16,13 +16,13 @@ class Waiters:
         self._events: set[tuple[AbstractEventLoop, Event]] = set()
 
     def wake(self) -> None:
-        """Let each of them look again."""
+        """Let each of them check again."""
         for loop, event in tuple(self._events):
             with contextlib.suppress(RuntimeError):  # (its loop was closed meanwhile)
                 loop.call_soon_threadsafe(event.set)
 
     async def wait_for(self, is_there: Callable[[], bool], within: float) -> bool:
-        """Wait until `is_there` returns True, for at most `within` seconds, and return what it says at the end."""
+        """Wait until `is_there` returns True, for at most `within` seconds, and return its last result."""
         import asyncio
 
         loop, event = asyncio.get_running_loop(), asyncio.Event()

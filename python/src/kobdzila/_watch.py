@@ -1,4 +1,4 @@
-"""A thread that loads the catalogues of a folder into a store, and again when they change."""
+"""A thread that loads the catalogues of a folder into a store, and reloads them when they change."""
 from __future__ import annotations
 
 import atexit
@@ -27,8 +27,8 @@ PATIENCE = 5.0  # seconds that a file which keeps changing delays the others
 
 
 class FileRefused(NamedTuple):
-    """A file that isn't loaded. `line` is 0 if the reason has none. `kind` is None if the library didn't refuse it: it
-    can't be read, or it has no messages any more.
+    """A file that was refused. `line` is 0 if the reason has none. `kind` is None if it wasn't the library that refused
+    the file: it can't be read, or it no longer has messages.
     """
 
     path: Path
@@ -57,21 +57,21 @@ class File(NamedTuple):
 
 
 class Watch(Closing):
-    """Loads the catalogues of a folder, FOLDER/LOCALE/LC_MESSAGES/DOMAIN.mo and .po, and again when they change.
+    """Loads the catalogues of a folder, FOLDER/LOCALE/LC_MESSAGES/DOMAIN.mo and .po, and reloads them when they change.
 
-    What is there is loaded and published before the call returns. From then on a thread looks every `every` seconds,
-    and publishes all that has changed in one step. A file counts as complete once its size and times were the same at
-    two looks, `settle` seconds apart, so replace a file by renaming another one if it takes long to write. If there
-    are both an MO file and a PO file, the one that was modified later is shown, and the other one when that is removed.
-    A file that is removed stays loaded if it was the only one. A file without a message doesn't replace one that has
-    messages, since it is often a mistake, such as a `>` of the shell; with `allow_empty` it does.
+    The catalogues that are there are loaded and published before the call returns. From then on a thread checks every
+    `every` seconds, and publishes everything that has changed in one step. A file counts as complete once its size and
+    times are the same at two checks, `settle` seconds apart; if writing takes longer, write another file and rename it.
+    If there are both an MO file and a PO file, the one that was modified last is used, and the other one if that is
+    removed. A file that is removed stays loaded if it was the only one. A file without messages doesn't replace one
+    that has some, since it is often a mistake, such as a shell's `>`; with `allow_empty` it does.
 
-    `refused` is called with a FileRefused for each file that isn't loaded, in the watching thread; the texts that were
-    there before stay. Without it, the file, the line and the reason are a warning of the logger `kobdzila`. `domains`
+    `refused` is called with a FileRefused for each refused file, in the watching thread; the translations loaded before
+    stay. Without it, the file, the line and the reason are logged as a warning by the logger `kobdzila`. `domains`
     limits the text domains. `checked` and `use_fuzzy` are those of Catalogue.from_po.
 
-    `stop` ends the thread; so do the end of a `with` and the end of the process. A forked child goes on watching, with
-    a thread of its own, unless the watch was stopped before the fork.
+    `stop` stops the thread, and so do the end of a `with` and the end of the process. A forked child keeps watching,
+    with a thread of its own, unless the watch was stopped before the fork.
 
         watch = store.watch("locale", refused=lambda file: print(file))
     """
@@ -105,16 +105,16 @@ class Watch(Closing):
         _forks.register(self)
 
     def look(self) -> int | None:
-        """Look now. Return the version that was published, or None if nothing has changed.
+        """Check now. Return the version that was published, or None if nothing has changed.
 
-        Any thread may call it, and wait for what it returns.
+        Any thread may call it, and waits for the result.
         """
         with self._looking:
             changed = self._steady()
             return self._load(changed) if changed else None
 
     def stop(self) -> None:
-        """End the thread, and wait until it has ended. The store goes on with what was loaded."""
+        """Stop the thread, and wait until it has ended. The store keeps what was loaded."""
         self._end.set()
         if threading.current_thread() is not self._thread:
             self._thread.join()
@@ -144,7 +144,7 @@ class Watch(Closing):
                 LOG.exception("a look at %s failed, and is made again", self.folder)
 
     def _steady(self) -> dict[str, Stamp]:
-        """Return the files that have changed and are complete. They are waited for, so that all are one publish."""
+        """Return the files that have changed, once they are complete, so that all of them are one publish."""
         before = self._changed()
         end = time.monotonic() + PATIENCE
         while before and not self._end.wait(self._settle):
@@ -208,9 +208,9 @@ class Watch(Closing):
                 (self._filled.add if has_messages(catalogue) else self._filled.discard)((domain, locale))
 
     def _opened(self, path: str, stamp: Stamp) -> tuple[Catalogue | None, File | None]:
-        """Return the file's catalogue, unless it is refused or the one that was seen, and what was looked at.
+        """Return the file's catalogue, unless it is refused or unchanged, and what was read.
 
-        A file that has changed once more is neither, and is looked at next time.
+        A file that has changed again meanwhile is neither, and is checked next time.
         """
         try:
             data = Path(path).read_bytes()

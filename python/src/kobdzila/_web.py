@@ -1,4 +1,4 @@
-"""Middleware for WSGI and ASGI: each request looks up in one version of a store, and in one language."""
+"""Middleware for WSGI and ASGI: each request uses one version of a store, and one language."""
 from __future__ import annotations
 
 from collections.abc import Awaitable, Callable, Iterable, Iterator, MutableMapping, Sequence
@@ -29,10 +29,10 @@ ACCEPT_LANGUAGE = "Accept-Language"
 
 
 def described(headers: Headers, vary: Iterable[str], lang: str | None) -> Headers:
-    """Return the headers of a response that depends on these headers of its request, and has this language.
+    """Return the headers of a response that depends on these headers of the request, and is in this language.
 
-    `Vary` (RFC 9110, section 12.5.5) gets what it lacks. `Content-Language` (section 8.5) is left as it is if the
-    application has written it.
+    Missing names are added to `Vary` (RFC 9110, section 12.5.5). A `Content-Language` (section 8.5) that the
+    application has set stays.
 
     >>> described([("Vary", "Cookie")], ["Accept-Language", "Cookie"], "fr")
     [('Vary', 'Cookie, Accept-Language'), ('Content-Language', 'fr')]
@@ -50,7 +50,7 @@ def described(headers: Headers, vary: Iterable[str], lang: str | None) -> Header
 
 @contextmanager
 def current(snapshot: Snapshot) -> Iterator[None]:
-    """Make `snapshot` the current one in a `with`, which doesn't close it."""
+    """Make `snapshot` the current one in a `with`, without closing it."""
     token = current_snapshot.set(snapshot)
     try:
         yield
@@ -59,25 +59,26 @@ def current(snapshot: Snapshot) -> Iterator[None]:
 
 
 class Middleware:
-    """What both kinds share: the store, and which headers of a request the choice of its language depends on."""
+    """The common part of both kinds: the store, and the headers of a request on which the choice of its language
+    depends."""
 
     def __init__(self, store: Store, domain: str | None, vary: Sequence[str] | None, is_header: bool) -> None:
         self.store, self.domain = store, domain
         self.vary = tuple(vary) if vary is not None else (ACCEPT_LANGUAGE,) if is_header else (ACCEPT_LANGUAGE, "Cookie")
 
     def snapshot(self, wanted: str | Iterable[str]) -> Snapshot:
-        """Return the snapshot of a request. A string is never a list here, since a stranger may have written it."""
+        """Return the snapshot of a request. Here a string is never a list, since a stranger may have written it."""
         return self.store.snapshot(AcceptLanguage(wanted) if isinstance(wanted, str) else wanted, self.domain)
 
 
 class WSGIMiddleware(Middleware):
     """Puts a Snapshot into the environment of each request, as `kobdzila.snapshot`.
 
-    It is the current snapshot of the request, too, in which lazy texts look up. Its language is chosen by the header Accept-Language, or by what `languages` returns for the environment: a language
-    or a header for one language, or a list of locales that are asked in turn. The response gets a header
-    Content-Language, unless the application has written one, and `Vary` names the headers of `vary`. These are by
-    default Accept-Language and, if there is a function `languages`, Cookie. The snapshot is closed when the server
-    closes the response.
+    It is also the current snapshot of the request, which lazy messages use. Its language is chosen by the
+    Accept-Language header, or by what `languages` returns for the environment: a language or a header for one language,
+    or a list of locales to search in turn. The response gets a Content-Language header, unless the application has set
+    one, and `Vary` names the headers of `vary`. By default these are Accept-Language and, if there is a function
+    `languages`, Cookie. The snapshot is closed when the server closes the response.
 
         application = kobdzila.WSGIMiddleware(application, store)
     """
@@ -111,7 +112,7 @@ class WSGIMiddleware(Middleware):
 
     @staticmethod
     def _note_files(environ: dict[str, Any], files: list[object]) -> None:
-        """Let `files` have what the server's file wrapper makes, if that is a function and no class."""
+        """Append to `files` what the server's file wrapper makes, if the wrapper is a function and not a class."""
         wrapper: Any = environ.get(FILE_WRAPPER, type)
         if isinstance(wrapper, type):
             return
@@ -124,10 +125,10 @@ class WSGIMiddleware(Middleware):
 
     @staticmethod
     def _closing(body: Iterable[bytes], snapshot: Snapshot, wrapper: object, files: list[object]) -> Iterable[bytes]:
-        """Return a body whose end closes the snapshot.
+        """Return a body at whose end the snapshot is closed.
 
         A server sends a file faster if the body is its own object (PEP 3333, "Optional Platform-Specific File
-        Handling"). There are no messages in a file, so its snapshot is closed at once.
+        Handling"). A file has no messages, so the snapshot is closed at once.
         """
         if isinstance(wrapper, type) and isinstance(body, wrapper) or any(body is it for it in files):
             snapshot.close()
@@ -136,7 +137,8 @@ class WSGIMiddleware(Middleware):
 
 
 class Body:
-    """The body of a response, whose end closes a snapshot. While a block is made the snapshot is the current one."""
+    """The body of a response, at whose end a snapshot is closed. While a block is produced, the snapshot is the current
+    one."""
 
     def __init__(self, body: Iterable[bytes], snapshot: Snapshot) -> None:
         self._body, self._snapshot = body, snapshot
@@ -164,7 +166,7 @@ class Body:
 
 
 class SizedBody(Body):
-    """A body of a number of blocks that is known. A server writes Content-Length for one block (PEP 3333)."""
+    """A body with a known number of blocks. A server writes Content-Length for a single block (PEP 3333)."""
 
     def __len__(self) -> int:
         size: int = getattr(self._body, "__len__")()
@@ -174,9 +176,9 @@ class SizedBody(Body):
 class ASGIMiddleware(Middleware):
     """Puts a Snapshot into the scope of each HTTP request and WebSocket, as `kobdzila.snapshot`.
 
-    Languages and headers are those of WSGIMiddleware; `languages` is called with the scope. If `watch` is a folder, its
-    catalogues are loaded when the server starts, and watched until it ends: the lifespan of ASGI, which each worker
-    process has. A folder that can't be read ends the start.
+    Languages and headers are as for WSGIMiddleware; `languages` is called with the scope. If `watch` is a folder, its
+    catalogues are loaded when the server starts, and watched until it stops: the lifespan of ASGI, in each worker
+    process. If the folder can't be read, the server doesn't start.
 
         application = kobdzila.ASGIMiddleware(application, store)
         application.add_middleware(kobdzila.ASGIMiddleware, store=store, watch="locale")  # Starlette, FastAPI
@@ -220,7 +222,7 @@ class ASGIMiddleware(Middleware):
                 for name, value in described(written, self.vary, lang)]
 
     async def _live(self, scope: Scope, receive: Receive, send: Send) -> None:
-        """Watch the folder while the application lives. One that knows no lifespan needn't, and gets none."""
+        """Watch the folder while the application lives. An application without a lifespan gets no events of it."""
         watches: list[Watch] = []
         asked = False
 
@@ -255,5 +257,5 @@ class ASGIMiddleware(Middleware):
 
 
 def languages_of(scope: Scope) -> str:
-    """Return the header Accept-Language of a request, which may have come in several lines."""
+    """Return the Accept-Language header of a request, which may have several lines."""
     return ",".join(value.decode("latin-1") for name, value in scope["headers"] if name == b"accept-language")

@@ -10,8 +10,8 @@
     store.watch("translations")
     kobdzila.flask.init_app(app, store)
 
-From then on `flask_babel.gettext` and its kin, lazy texts and Jinja2's `_` and `trans` look up in the store, in the
-locale that Flask-Babel has chosen, and in no file. So do kobdzila's own lazy texts. A request has one version.
+From then on `flask_babel.gettext` and its variants, lazy strings and Jinja2's `_` and `trans` look up in the store, in
+the locale that Flask-Babel has chosen, and in no file. So do kobdzila's own lazy messages. A request has one version.
 """
 from __future__ import annotations
 
@@ -28,7 +28,7 @@ KEY = "kobdzila.flask"
 
 
 def init_app(app: Any, store: Store) -> None:
-    """Let the application's text domain be a live one. Call it after `Babel(app)`."""
+    """Make the application's text domain a live one. Call it after `Babel(app)`."""
     extension = app.extensions.get("babel")
     if extension is None:
         raise RuntimeError("there is no Flask-Babel in this application: call flask_babel.Babel(app) first")
@@ -62,13 +62,14 @@ class Domain(flask_babel.Domain):  # type: ignore[misc]
 
 
 class Current:
-    """The texts of whichever request runs, in the locale that Flask-Babel has chosen at the time of the call."""
+    """The translations of the current request, in the locale that Flask-Babel has chosen at the time of the call."""
 
     def __init__(self, domain: Domain) -> None:
         self._domain = domain
 
     def begin(self) -> None:
-        """Be what lazy texts look up in. That may stay so: between requests there is no locale, and no translation."""
+        """Make this what lazy messages look up in. It may stay so: between requests there is no locale, and no
+        translation."""
         current_snapshot.set(self)
 
     def gettext(self, message: str) -> str:
@@ -129,7 +130,7 @@ _known: dict[str, str] = {}
 
 
 def _locales_of(locale: str) -> str:
-    """Return the locales where Babel's locale is looked up, the same str object each time."""
+    """Return the locales for Babel's locale, the same str object each time."""
     found = _known.get(locale)
     if found is None:
         found = _known[locale] = ":".join(names_of(locale))

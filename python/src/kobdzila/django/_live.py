@@ -1,4 +1,4 @@
-"""The texts of a request: those of the stores, and after them Django's own."""
+"""The translations of a request: those of the stores, and after them Django's own."""
 from __future__ import annotations
 
 import threading
@@ -26,7 +26,7 @@ _pinned: ContextVar[dict[int, Snapshot] | None] = ContextVar("kobdzila.django", 
 
 
 def start() -> None:
-    """Let Django's translations be live ones from now on."""
+    """Make Django's translations live from now on."""
     trans_real.translation = translation
     request_started.connect(_begin, dispatch_uid="kobdzila")
     request_finished.connect(_end, dispatch_uid="kobdzila")
@@ -35,7 +35,7 @@ def start() -> None:
 
 
 def translation(language: str) -> Live:
-    """Return what Django calls a translation object, for a language code. There is one of each."""
+    """Return what Django calls a translation object, for a language code. There is one for each."""
     known: dict[str, Any] = trans_real._translations
     found = known.get(language)
     if isinstance(found, Live):
@@ -45,7 +45,7 @@ def translation(language: str) -> Live:
 
 
 def stores() -> list[Store]:
-    """Return the stores. The first look-up makes them, so a command that needs no translation watches nothing."""
+    """Return the stores. The first look-up makes them, so a command without translations watches nothing."""
     global _stores
     if _stores is None:
         with _making:
@@ -55,7 +55,7 @@ def stores() -> list[Store]:
 
 
 def is_in_stores(language: str) -> bool:
-    """Return whether a store has texts of a language."""
+    """Return whether a store has translations for a language."""
     return any(name in store.locales(DOMAIN) for store in stores() for name in names_of(to_locale(language)))
 
 
@@ -81,7 +81,7 @@ def _made() -> list[Store]:
 def _begin(**ignored: Any) -> None:
     _end()
     _pinned.set({})
-    # (this may stay so: outside of requests Django's functions answer, too)
+    # (this may stay so: outside of requests Django's functions answer as well)
     current_snapshot.set(django_texts)
 
 
@@ -92,7 +92,7 @@ def _end(**ignored: Any) -> None:
 
 
 def _changed(setting: str, **ignored: Any) -> None:
-    """Begin anew when a test has other settings."""
+    """Start over when a test changes the settings."""
     global _stores
     if setting in ("LOCALE_PATHS", "KOBDZILA_STORE", "KOBDZILA_WATCH"):
         _end()
@@ -115,7 +115,7 @@ def _snapshot(store: Store) -> Snapshot:
 
 
 class _Own(trans_real.DjangoTranslation):  # type: ignore[misc]
-    """What Django itself reads for a language, without the folders that the stores have."""
+    """What Django itself reads for a language, without the folders of the stores."""
 
     def _add_local_translations(self) -> None:
         if getattr(settings, "KOBDZILA_STORE", None) is not None:
@@ -127,14 +127,14 @@ class _Own(trans_real.DjangoTranslation):  # type: ignore[misc]
 
 
 class Live:
-    """The translation object of a language: its texts in the stores, and then Django's."""
+    """The translation object of a language: its translations in the stores, and then Django's."""
 
     def __init__(self, language: str) -> None:
         self._own = _Own(language)
         self._locales = ":".join(names_of(to_locale(language)))
 
     def gettext(self, message: str) -> str:
-        """Return the translation of a message, whose context and byte 4 come before it."""
+        """Return the translation of a message, which may have its context and byte 4 before it."""
         context, msgid = parted(message)
         for store in stores() if message else ():
             found = _snapshot(store)._recall(DOMAIN, self._locales, msgid, context)

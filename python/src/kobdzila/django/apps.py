@@ -5,7 +5,7 @@ from django.apps import AppConfig
 
 
 class KobdzilaConfig(AppConfig):  # type: ignore[misc]
-    """Puts live texts before those that Django has read."""
+    """Puts live translations before those that Django has read."""
 
     name = "kobdzila.django"
     label = "kobdzila"

@@ -59,7 +59,7 @@ PLACES = {
 
 
 def __getattr__(name: str) -> Any:
-    """Import a name when it is asked for, so that `kob-fleet --help` works without psycopg."""
+    """Import a name when it is first used, so that `kob-fleet --help` works without psycopg."""
     for place, names in PLACES.items():
         if name in names:
             return getattr(import_module(f"{__name__}.{place}"), name)

@@ -100,7 +100,7 @@ def rollback(options: argparse.Namespace) -> int:
 
 
 def writable(options: argparse.Namespace) -> Log:
-    """Return the log for something to publish. Why it has to be tried again is said once."""
+    """Return the log, for a publish. Each reason for a retry is printed once."""
     said: set[str] = set()
 
     def once(text: str) -> None:
@@ -178,13 +178,13 @@ def print_machines(found: Status) -> None:
 
 
 def state_of(machine: Machine) -> str:
-    """The state that a machine reported, unless it is silent, and its trouble."""
+    """The state that a machine reported, or that it is silent, and its trouble."""
     state = "silent" if machine.seen > SILENT else machine.state
     return f"{state}: {escaped(machine.trouble)}" if machine.trouble else state
 
 
 def verdict(found: Status, late: float) -> int:
-    """The status of a check: the worst of what there is."""
+    """The status of a check: that of the worst problem."""
     if any(it.is_dead for it in found.machines):
         return DEAD
     return BEHIND if any(it.behind and it.late >= late or it.state == "trouble" for it in found.machines) else 0

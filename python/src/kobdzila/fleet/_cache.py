@@ -1,7 +1,7 @@
-"""A machine's cache: the last version that it showed, whole, in one file that is replaced in one step.
+"""A machine's cache: the last version that it showed, complete, in one file that is replaced atomically.
 
-The file begins with a line that names its form, a line of JSON, and the SHA-256 of both. The MO files follow, in the
-order of the JSON, which has the sum of each of them.
+The file begins with a line that names its format, a line of JSON, and the SHA-256 of both. The MO files follow, in the
+order of the JSON, which has the checksum of each.
 """
 from __future__ import annotations
 
@@ -28,7 +28,7 @@ Pair = tuple[str, str]
 
 
 class CacheRefused(Exception):
-    """A cache can't be used. The machine then waits for the log."""
+    """The cache can't be used. The machine then waits for the log."""
 
 
 class Place(NamedTuple):
@@ -40,7 +40,8 @@ class Place(NamedTuple):
 
 
 class Cached(NamedTuple):
-    """What a cache has. `past` are the epochs before the place's own, and `written` is a time of the machine's clock."""
+    """The contents of a cache. `past` are the epochs before the place's own, and `written` is a time by the machine's
+    clock."""
 
     place: Place
     past: Sequence[str]
@@ -57,9 +58,9 @@ class Entry(NamedTuple):
 
 
 class Cache:
-    """The file NAME.cache of a folder. Of several processes that have it, one writes.
+    """The file NAME.cache in a folder. If several processes use it, one of them writes.
 
-    `is_whole` says whether this process knows all that the machine shows, and can write it.
+    `is_whole` says whether this process knows everything that the machine shows, and can write it.
     """
 
     def __init__(self, folder: str | os.PathLike[str], name: str) -> None:
@@ -73,7 +74,7 @@ class Cache:
         self.is_whole = True
 
     def read(self) -> Cached | None:
-        """Return what the cache has, or None if there is none. CacheRefused if it isn't whole."""
+        """Return the contents of the cache, or None if there is none. CacheRefused if it isn't complete."""
         try:
             handle = os.open(self.path, os.O_RDONLY | os.O_CLOEXEC)
         except FileNotFoundError:
@@ -109,7 +110,7 @@ class Cache:
         return Cached(place, head["past"], head["written"], loads), entries
 
     def keep(self, loads: Iterable[Played], all_of_them: bool = False) -> None:
-        """Remember what the machine shows anew, for the next write."""
+        """Remember what is new on the machine, for the next write."""
         if all_of_them:
             self._entries, self.is_whole = {}, True
         if not self.is_ours():
@@ -119,7 +120,7 @@ class Cache:
         self._is_new = True
 
     def is_ours(self) -> bool:
-        """Whether this process is the one that writes; it then is until its end."""
+        """Whether this process is the one that writes; if so, it stays the writer until it ends."""
         if self._lock < 0:
             with contextlib.suppress(OSError):
                 self.folder.mkdir(mode=0o700, parents=True, exist_ok=True)
@@ -133,11 +134,11 @@ class Cache:
         return self._lock >= 0
 
     def seconds_left(self) -> float | None:
-        """In how many seconds there is something to write, or None."""
+        """The seconds until there is something to write, or None."""
         return max(0.0, self._due - time.monotonic()) if self._is_new else None
 
     def write(self, place: Place, past: Sequence[str]) -> None:
-        """Write all that was kept, if it is time. OSError if it can't be written."""
+        """Write what was kept, if it is time. OSError if that fails."""
         if not self.is_whole or self.seconds_left() != 0.0:
             return
         begun = time.monotonic()
@@ -159,7 +160,7 @@ class Cache:
         self._due = done + min(LONGEST, SHARE * (done - begun))
 
     def _fill(self, handle: int, place: Place, past: Sequence[str], pairs: Sequence[Pair]) -> dict[Pair, Entry]:
-        """Write a whole cache, and return where its files are."""
+        """Write a complete cache, and return where its files are."""
         parts = []
         for pair in pairs:
             new = self._pending.get(pair)
@@ -196,7 +197,7 @@ class Cache:
         self._release("_lock")
 
     def forked(self) -> None:
-        """This process is a child of the one that writes, which goes on to do so."""
+        """This process is a child of the one that writes, which remains the writer."""
         self.close()
         self._pending.clear()
         self._entries, self._is_new, self.is_whole = {}, False, False
@@ -220,7 +221,7 @@ def copied(source: int, entry: Entry, to: int) -> None:
 
 
 def sync(folder: Path) -> None:
-    """Let the name of a new file survive a power cut, where the file system can."""
+    """Make the name of a new file survive a power cut, if the file system can."""
     handle = os.open(folder, os.O_RDONLY | os.O_DIRECTORY | os.O_CLOEXEC)
     with contextlib.suppress(OSError):
         os.fsync(handle)

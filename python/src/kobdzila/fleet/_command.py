@@ -86,7 +86,7 @@ def add_init(added: argparse.ArgumentParser) -> None:
 def add_publish(added: argparse.ArgumentParser) -> None:
     added.add_argument("catalogues", nargs="+", metavar="DOMAIN/LOCALE=FILE", help="a PO file, or an MO file (*.mo)")
     added.add_argument("--no-check", action="store_true", help="skip the checks of msgfmt -c")
-    added.add_argument("-f", "--use-fuzzy", action="store_true", help="use fuzzy messages, too")
+    added.add_argument("-f", "--use-fuzzy", action="store_true", help="also use fuzzy messages")
     added.add_argument("--force", action="store_true", help="publish more than catsession takes in one step")
     add_publishing(added)
 

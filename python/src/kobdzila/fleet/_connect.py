@@ -1,7 +1,7 @@
-"""Connections to whichever server answers. Each host has a time of its own, and each wait an end.
+"""Connections to whichever server answers. Each host has its own timeout, and so has each wait.
 
-libpq goes on to the next host by itself, but psycopg 3.1 ends the attempt for all hosts when the time of the first one
-is over. And neither notices a server that keeps the connection and says nothing.
+libpq tries the next host by itself, but psycopg 3.1 gives up on all hosts when the first one times out. And neither
+notices a server that keeps the connection open and sends nothing.
 """
 from __future__ import annotations
 
@@ -46,11 +46,11 @@ class Silent(psycopg.OperationalError):
 
 
 class Interrupted(psycopg.OperationalError):
-    """The wait was ended because its thread is to end."""
+    """The wait was interrupted because its thread is to stop."""
 
 
 class Place(NamedTuple):
-    """A server: its name or the folder of its socket, its address if that is known, and its port."""
+    """A server: its name or the folder of its socket, its address if known, and its port."""
 
     host: str
     address: str
@@ -64,7 +64,7 @@ class Watched(psycopg.Connection[Any]):
     """A connection whose waits end: at the time `end`, after `limit` seconds without a byte, or soon after a byte comes
     from the pipe `wake`. It is closed then.
 
-    While a wait is long, the server is asked by a connection of its own whether it is there.
+    During a long wait, a connection of its own probes whether the server is there.
     """
 
     end = math.inf
@@ -86,7 +86,7 @@ class Watched(psycopg.Connection[Any]):
             raise
 
     def _ready(self, wanted: int) -> int:
-        """Wait until the socket is ready, and say for what."""
+        """Wait until the socket is ready, and return for what."""
         begun = time.monotonic()
         end, probe_at = min(self.end, begun + self.limit), begun + PROBE_AFTER
         while True:
@@ -125,10 +125,10 @@ def polled(handle: int, wanted: int, wake: int, seconds: float) -> tuple[int, bo
 def connect(
     database: str, attributes: str, *, wake: int = -1, end: float = math.inf, patience: float = 1.0
 ) -> Watched:
-    """Connect to the first server that answers and has these attributes, unless the string has others.
+    """Connect to the first server that answers and has these attributes, unless the string sets others.
 
-    `database` is a connection string of libpq, and `attributes` a value of target_session_attrs. Each address gets
-    `patience` times the usual time.
+    `database` is a libpq connection string, and `attributes` a value of target_session_attrs. Each address gets
+    `patience` times the usual timeout.
     """
     given = parameters(database)
     wanted = given.pop("target_session_attrs", attributes)
@@ -155,7 +155,8 @@ def parameters(database: str) -> dict[str, str]:
 
 
 def places_of(given: dict[str, str], wake: int, end: float, within: float, failures: list[str]) -> Iterator[Place]:
-    """Yield the servers that a connection string names, with each of their addresses; those that were silent last."""
+    """Yield the servers that a connection string names, with each of their addresses; those that didn't answer come
+    last."""
     hosts, addresses, ports = (given.get(name, "").split(",") for name in ("host", "hostaddr", "port"))
     count = max(len(hosts), len(addresses))
     if "service" in given or any(len(it) not in (1, count) for it in (hosts, addresses, ports)):
@@ -177,7 +178,8 @@ def places_of(given: dict[str, str], wake: int, end: float, within: float, failu
 
 
 def resolved(host: str, wake: int, end: float) -> list[str]:
-    """Return the addresses of a host, or "" for a folder of sockets. A name server that is silent doesn't hold us up."""
+    """Return the addresses of a host, or "" for a folder of sockets. A name server that doesn't answer doesn't
+    block."""
     if not host or host[0] in "/@":
         return [""]
     with contextlib.suppress(ValueError):
@@ -207,7 +209,7 @@ def resolved(host: str, wake: int, end: float) -> list[str]:
 
 
 def session(place: Place, given: dict[str, str], attributes: str, wake: int, end: float) -> Watched:
-    """Connect to one server, and see that its session has the attributes."""
+    """Connect to one server, and check that its session has the attributes."""
     own = {**given, "host": place.host, "hostaddr": place.address, "port": place.port, "target_session_attrs": "any"}
     own.pop("load_balance_hosts", None)
     text = conninfo.make_conninfo("", **{name: value for name, value in own.items() if value})
@@ -255,7 +257,7 @@ def started(place: Place, text: str, wake: int, end: float) -> pq.abc.PGconn:
 
 
 def check_attributes(connection: Watched, attributes: str) -> None:
-    """OperationalError if the session isn't what target_session_attrs asks for."""
+    """OperationalError if the session isn't what target_session_attrs requires."""
     wrong = {"read-write": connection.is_read_only and "it takes no writes",
              "read-only": not connection.is_read_only and "it takes writes",
              "primary": connection.is_standby and "it is a standby",
@@ -274,7 +276,7 @@ def note_silence(place: Place) -> None:
 
 
 def is_there(place: Place, within: float) -> bool:
-    """Whether a server says something when it is asked whether it takes TLS."""
+    """Whether a server responds when it is asked whether it supports TLS."""
     port = place.port or "5432"
     path = place.host or "/var/run/postgresql"
     try:

@@ -28,11 +28,11 @@ class Trouble(Exception):
 
 
 class Terminated(Exception):
-    """The program was asked to end, by SIGTERM."""
+    """SIGTERM told the program to end."""
 
 
 def say(text: str) -> None:
-    """Write a line to standard error, or nothing if nobody is there to read it."""
+    """Write a line to standard error, or nothing if nobody reads it."""
     with contextlib.suppress(OSError, ValueError):
         print(f"kob-fleet: {escaped(' '.join(text.split()))}", file=sys.stderr, flush=True)
 
@@ -61,9 +61,10 @@ def terminate(*_: object) -> None:
 
 
 def serve(follower: Follower) -> int:
-    """Tell systemd how it is, until SIGTERM, or until the follower has stopped for good: a restart joins anew.
+    """Report the state to systemd, until SIGTERM, or until the follower has stopped for good: a restart joins from
+    scratch.
 
-    If it is the log that has lost publishes, it goes on to answer.
+    If it is the log that has lost publishes, it keeps answering.
     """
     is_ready = False
     while not follower.has_failed:
@@ -80,7 +81,7 @@ def serve(follower: Follower) -> int:
 
 
 def notify(text: str) -> None:
-    """Say something to systemd, if it has started this (sd_notify)."""
+    """Send a message to systemd, if it has started this program (sd_notify)."""
     address = os.environ.get("NOTIFY_SOCKET", "")
     if address:
         with socket.socket(socket.AF_UNIX, socket.SOCK_DGRAM) as made, contextlib.suppress(OSError):
@@ -93,7 +94,7 @@ def notify(text: str) -> None:
 
 @contextlib.contextmanager
 def listening(options: argparse.Namespace, follower: Follower, session: Session) -> Iterator[None]:
-    """Answer on a socket meanwhile, if there is one: that of systemd, or one at a path."""
+    """Meanwhile answer on a socket, if there is one: that of systemd, or one at a path."""
     is_given = os.environ.get("LISTEN_PID") == str(os.getpid())
     if not (is_given or options.socket):
         yield

@@ -45,18 +45,18 @@ FORK_WITHIN = 10.0  # seconds that a fork waits for a store that is being change
 class Follower(Closing):
     """Plays the log's publishes into a store, in a thread of its own.
 
-    `store` is a kobdzila.Session or another Store. Nobody else may load into it after the start. Loads that it has
-    before that stay below those of the log. `database` is a connection string of libpq, as of Log. `machine` names
-    this follower in `kob-fleet status`; without it, it is the name of the host. Several followers may have one name.
+    `store` is a kobdzila.Session or another Store. Nothing else may load into it after the start; earlier loads stay
+    below those of the log. `database` is a libpq connection string, as for Log. `machine` names this follower in
+    `kob-fleet status`; the default is the name of the host. Several followers may have the same name.
 
     `cache` is a folder for the last version that the machine has shown, so that a restart needs no database. With
-    `go_over` the machine switches to a log that was restored to an earlier version; without it, it stops, says so, and
-    answers on. A follower of a standby reports to the primary among the string's hosts, or to `report_to`.
-    It looks at the log every `look_each` seconds if it hears nothing, and at a standby, which can't notify, every
-    `standby_look_each` seconds.
+    `go_over` the machine switches to a log that was restored to an earlier version; without it, it stops following,
+    says so, and keeps answering. A follower of a standby reports to the primary among the string's hosts, or to
+    `report_to`. It checks the log every `look_each` seconds if it isn't notified, and a standby, which can't notify,
+    every `standby_look_each` seconds.
 
-    `on_version` is called with each version that is shown, and `on_trouble` with a text when there is trouble, both
-    in the follower's thread. What they raise is logged (the logger is `kobdzila`), and the follower goes on.
+    `on_version` is called with each version that is shown, and `on_trouble` with a message when there is trouble, both
+    in the follower's thread. If they raise, that is logged (by the logger `kobdzila`), and the follower continues.
 
         with kobdzila.Session() as session, Follower(session, "host=db1,db2 dbname=texts") as follower:
             with follower.snapshot(within=30) as texts:
@@ -112,12 +112,12 @@ class Follower(Closing):
 
     @property
     def is_older(self) -> bool:
-        """Whether the store shows what the cache had, since the log hasn't answered after the start."""
+        """Whether the store shows what the cache had, because the log hasn't answered since the start."""
         return self._player.is_older
 
     @property
     def trouble(self) -> str | None:
-        """Why the follower doesn't follow at the moment, or None."""
+        """Why the follower isn't following at the moment, or None."""
         return self._trouble
 
     @property
@@ -127,16 +127,16 @@ class Follower(Closing):
 
     @property
     def has_failed(self) -> bool:
-        """Whether the follower has stopped for good, since its store isn't what the log says: it takes a new one.
+        """Whether the follower has stopped for good, since its store isn't what the log says: only a new one helps.
 
-        A log that has lost publishes may get well, by a new epoch. Then the follower goes on, or goes over.
+        A log that has lost publishes can recover with a new epoch. Then the follower continues, or switches to it.
         """
         why = self._stopped
         return why.is_final if isinstance(why, Difference) else why is not None
 
     @property
     def restarts(self) -> int:
-        """How often the thread met an exception that nobody foresaw, and began again."""
+        """How often an unexpected exception restarted the thread."""
         return self._restarts
 
     def health(self) -> Health:
@@ -146,12 +146,12 @@ class Follower(Closing):
                          is_alive=self._thread.is_alive() and not self._ending)
 
     def start(self) -> None:
-        """Begin to follow. In a child of this process, a fork of it, the follower begins anew by itself."""
+        """Start following. In a forked child the follower restarts by itself."""
         self._has_started = True
         self._thread.start()
 
     def close(self) -> None:
-        """Stop following, within a second. The store stays as it is."""
+        """Stop following, within a second. The store keeps what it has."""
         self._ending = True
         FOLLOWERS.discard(self)
         if self._woken >= 0:
@@ -168,10 +168,11 @@ class Follower(Closing):
         return self
 
     def wait_for(self, at_least: int | str = 0, within: float = 0.5) -> Version:
-        """Wait until the machine has joined and shows `at_least` this version, and return the one that it shows.
+        """Wait until the machine has joined and shows at least the version `at_least`, and return the one that it
+        shows.
 
-        `at_least` is a Version or a token, or a number of whatever epoch the machine is in. A version of an earlier
-        epoch of the log is shown by a machine that is in a later one. Behind after `within` seconds.
+        `at_least` is a Version or a token, or a number in whatever epoch the machine is in. A machine in a later epoch
+        of the log counts as showing every version of an earlier one. Raise Behind after `within` seconds.
         """
         wanted = version_of(at_least)
         if not self._player.shows(wanted):
@@ -181,7 +182,8 @@ class Follower(Closing):
         return self.version
 
     def snapshot(self, *, at_least: int | str = 0, within: float = 0.5, **options: Any) -> Snapshot:
-        """Return a context manager for look-ups in `at_least` this version. Behind after `within` seconds.
+        """Return a context manager for look-ups in a version of at least `at_least`. Raise Behind after `within`
+        seconds.
 
         `options` are those of the store's own `snapshot`.
         """
@@ -195,31 +197,32 @@ class Follower(Closing):
         raise TypeError(f"{type(self.store).__name__} has no snapshot")
 
     def unjoined(self, **options: Any) -> Snapshot:
-        """Return look-ups in the store as it is, even if the machine hasn't joined: with what it had before the start."""
+        """Return look-ups in the store as it is, even if the machine hasn't joined and has only what it had before the
+        start."""
         return Snapshot(self.store.snapshot(**options), self.log_version, True)  # type: ignore[attr-defined]
 
     def is_past(self, epoch: str) -> bool:
-        """Whether this is an epoch of the log before the one that the machine is in."""
+        """Whether this is an earlier epoch of the log than the machine's."""
         return epoch in self._player.past
 
     def log_version(self, version: int) -> Version:
         """Return the log's version for a version of the store.
 
-        A store counts the loads that it was given. A machine that joined late was given fewer than the log has.
+        A store counts its own loads. A machine that joined late has fewer than the log.
         """
         return self._player.log_version(version)
 
     # --- the thread
 
     def _run(self) -> None:
-        """Follow until the end. Whatever goes wrong is said, and after a pause the thread begins again."""
+        """Follow until the end. An error is reported, and after a pause the thread starts over."""
         while not self._ending:
             self._attempt()
         self._reporter.close()
         self._player.close()
 
     def _attempt(self) -> None:
-        """Follow as long as the connection holds, and rest after it was lost."""
+        """Follow as long as the connection lasts, and pause after it is lost."""
         try:
             self._join_from_cache()
             with self._connected() as connection:
@@ -236,7 +239,7 @@ class Follower(Closing):
         self._rest()
 
     def _rest(self) -> None:
-        """Wait before the next attempt, twice as long as before. 200 machines don't come all at once."""
+        """Wait before the next attempt, twice as long as before, so that 200 machines don't reconnect all at once."""
         poll = select.poll()
         poll.register(self._woken, select.POLLIN)
         poll.poll(1000 * self._pause * random.uniform(0.5, 1.0))
@@ -259,7 +262,7 @@ class Follower(Closing):
             connection.close()
 
     def _follow(self, connection: Watched) -> None:
-        """Play what comes, until the connection is lost or the follower ends."""
+        """Play what arrives, until the connection is lost or the follower ends."""
         connection.limit = LOOK_WITHIN
         check_layout(layout_of(connection))
         if not connection.is_pooled:
@@ -279,7 +282,8 @@ class Follower(Closing):
                 self._wait(connection)
 
     def _look_and_say(self, connection: Watched) -> None:
-        """Play what there is. What was heard is looked at at once; otherwise a heartbeat says whether there is more."""
+        """Play what there is. After a notification the log is read at once; otherwise a heartbeat says whether there is
+        more."""
         was_heard, self._heard = self._heard, False
         try:
             is_met = self.has_failed or not was_heard
@@ -306,7 +310,7 @@ class Follower(Closing):
         return goes_on
 
     def _show(self) -> None:
-        """Let those who wait for a version have it."""
+        """Wake those who wait for a version."""
         with self._changed:
             self._changed.notify_all()
         self._call(self._on_version, self.version)
@@ -356,7 +360,7 @@ class Follower(Closing):
             self._call(self._on_trouble, text)
 
     def _call(self, what: Callable[[Any], object], value: object) -> None:
-        """Call what the program gave us. What it raises isn't the follower's end."""
+        """Call a function of the program. If it raises, the follower doesn't end."""
         try:
             what(value)
         except BaseException:  # noqa: BLE001 (even SystemExit would end the thread without a word)
@@ -378,7 +382,7 @@ class Follower(Closing):
     # --- a fork of this process
 
     def _forked(self) -> None:
-        """Begin anew in a child: with a thread, a connection and a row of its own, from the texts that it has."""
+        """Start over in a child: with its own thread, connection and row, from the catalogues that it has."""
         if self._connection is not None:
             abandon(self._connection)
             self._connection = None
@@ -399,7 +403,8 @@ taken: list[Follower] = []  # those whose stores nobody changes during a fork
 
 
 def before_fork() -> None:
-    """Wait until no store is changed. This comes before the store's own locks are taken, since it was registered later."""
+    """Wait until no store is being changed. This comes before the store's own locks are taken, since it was registered
+    later."""
     for follower in list(FOLLOWERS):
         if follower._player.playing.acquire(timeout=FORK_WITHIN):
             taken.append(follower)

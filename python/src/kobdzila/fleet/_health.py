@@ -1,4 +1,4 @@
-"""Whether a machine can answer, and what keeps it from following: for load balancers and operators."""
+"""Whether a machine can answer, and why it isn't following: for load balancers and operators."""
 from __future__ import annotations
 
 import json
@@ -8,11 +8,11 @@ from ._report import Report
 
 
 class Health(NamedTuple):
-    """What a machine says of itself.
+    """What a machine reports about itself.
 
-    `state` is "joins" before it has texts, "follows", "older" while it shows what its cache had, "trouble", or "stopped".
-    `looked` is for how many seconds the log hasn't answered, or None if it never has. `is_ready` says whether it has
-    texts: a machine that doesn't follow answers on with those that it has.
+    `state` is "joins" before it has translations, "follows", "older" while it shows what its cache had, "trouble", or
+    "stopped". `looked` is the number of seconds since the log last answered, or None if it never has. `is_ready` says
+    whether the machine has translations: one that isn't following keeps answering with those that it has.
     """
 
     machine: str
@@ -33,7 +33,7 @@ class Health(NamedTuple):
         return 200 if self.is_ready else 503
 
     def json(self) -> str:
-        """Return it as one object of JSON."""
+        """Return the health as one JSON object."""
         return json.dumps(self._asdict())
 
 

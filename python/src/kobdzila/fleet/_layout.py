@@ -119,7 +119,7 @@ class Restored(NoLog):
 
 
 def create(connection: Connection, upgrade: bool) -> None:
-    """Create the tables, or bring those of an earlier layout to this one if `upgrade` says so. All or nothing."""
+    """Create the tables, or upgrade those of an earlier layout if `upgrade` says so. All or nothing."""
     with connection.transaction():
         connection.execute("select pg_advisory_xact_lock(hashtext('kobdzila'))")
         found = layout_of(connection)

@@ -42,10 +42,11 @@ Answer = TypeVar("Answer")
 
 
 class Unanswered(Exception):
-    """It isn't known whether the publish `id` is in the log, or whether it would outlive the primary.
+    """It isn't known whether the publish `id` is in the log, or whether it would survive the primary.
 
-    The connection was lost, or the wait for the synchronous standby was cancelled or took too long. To settle it,
-    publish the same loads with the same id: if they are in the log, nothing is added, and the standby is waited for.
+    The connection was lost, or the wait for the synchronous standby was cancelled or took too long. To find out,
+    publish the same loads with the same id: if they are in the log, nothing is added, and the call waits for the
+    standby.
     """
 
     id: uuid.UUID
@@ -59,7 +60,7 @@ class Unanswered(Exception):
 
 
 class NotReplicated(psycopg.OperationalError):
-    """The server ended its wait for the synchronous standby: the publish is in its own log alone."""
+    """The server stopped waiting for the synchronous standby: the publish is only in its own log."""
 
 
 class Held(errors.LockNotAvailable):
@@ -86,7 +87,7 @@ class Row(NamedTuple):
 
 
 class Machine(NamedTuple):
-    """What a follower reported last. `late` and `seen` are seconds; `late` is 0 if it has all publishes.
+    """The last report of a follower. `late` and `seen` are seconds; `late` is 0 if it has all publishes.
 
     `process` is HOST:PID:SUFFIX, and `version` is of the follower's epoch. If that isn't the log's, `behind` is at
     least 1. `state` is that of Health. The counts are since the follower's start.
@@ -122,10 +123,10 @@ class Status(NamedTuple):
 class Log(Closing):
     """The log of loads in a database: publish to it, and see what is in it.
 
-    `database` is a connection string of libpq, such as "host=db1,db2 dbname=texts user=kob". What it leaves out comes
-    from the environment (PGHOST and so on). Of several hosts the one that takes writes is used; one that is silent
-    costs 5 seconds (connect_timeout). Threads may share a Log. `on_trouble` is called with a text when a publish has to
-    try again.
+    `database` is a libpq connection string, such as "host=db1,db2 dbname=texts user=kob". Missing parameters come from
+    the environment (PGHOST and so on). Of several hosts the one that accepts writes is used; one that doesn't answer
+    costs 5 seconds (connect_timeout). Threads may share a Log. `on_trouble` is called with a message when a publish has
+    to be retried.
 
         with Log("host=db1,db2 dbname=texts") as log:
             version = log.publish([("shop", "fr", Path("fr.mo").read_bytes())])
@@ -138,11 +139,11 @@ class Log(Closing):
         self._owner = os.getpid()
 
     def init(self, *, upgrade: bool = False, roles: bool = False) -> None:
-        """Create the tables, in the schema `kobdzila`. Tables that are there stay as they are.
+        """Create the tables, in the schema `kobdzila`. Existing tables stay as they are.
 
-        `upgrade` brings the tables of an earlier layout to this one; without it they are refused (NoLog). `roles` also
-        creates the roles kobdzila_follower, kobdzila_publisher and kobdzila_operator, which have exactly the rights that
-        followers, publishers, and whoever compacts and restores need.
+        `upgrade` upgrades tables of an earlier layout; without it they are refused (NoLog). `roles` also creates the
+        roles kobdzila_follower, kobdzila_publisher and kobdzila_operator, with exactly the rights that followers,
+        publishers, and operators who compact and restore need.
         """
         def work(connection: Watched) -> None:
             create(connection, upgrade)
@@ -164,12 +165,12 @@ class Log(Closing):
 
         The publish is in the log exactly once if a version is returned, and on the synchronous standby if there is one.
         If the server can't be reached, is replaced by its standby, or another session holds the log's lock, publish
-        tries again for `within` seconds. After that it raises Unanswered, or another psycopg.Error if nothing can have
-        been published. To publish with an `id` that is in the log adds nothing, and returns its version.
+        retries for `within` seconds. Then it raises Unanswered, or another psycopg.Error if nothing can have been
+        published. Publishing with an `id` that is in the log adds nothing, and returns its version.
 
-        ValueError if there is no load, a name isn't one, or the loads are more than a Session takes in one step and
-        `force` isn't given; Refused (a ValueError) if a file is no catalogue. Restored if the log was restored from a
-        backup, and nobody has called `restore`.
+        Raise ValueError if there is no load, a domain or a locale isn't a name, or the loads are too large for one
+        round of a Session and `force` isn't given; Refused (a ValueError) if a file isn't a catalogue. Raise Restored
+        if the log was restored from a backup, and `restore` hasn't been called.
         """
         kept = [Load(*load) for load in loads]
         if not kept:
@@ -193,11 +194,11 @@ class Log(Closing):
     def rollback(
         self, version: int, *, id: uuid.UUID | None = None, note: str | None = None, within: float = 30.0
     ) -> Version:
-        """Publish the catalogues of an earlier version anew, and return the new version.
+        """Publish the catalogues of an earlier version again, and return the new version.
 
         Only domains and locales that differ are published, all in one publish. One that had no catalogue then gets an
-        empty one, which answers as none does. If nothing differs, nothing is published, and the version is the log's.
-        ValueError if the log has no publish with this version, or its loads were cut.
+        empty one. If nothing differs, nothing is published, and the version is the log's. Raise ValueError if the log
+        has no publish with this version, or its loads were compacted.
         """
         number = id or uuid.uuid4()
         words = f"rollback to {version}" if note is None else note
@@ -215,9 +216,9 @@ class Log(Closing):
     def remove(
         self, pairs: Iterable[tuple[str, str]], *, id: uuid.UUID | None = None, note: str = "", within: float = 30.0
     ) -> Version:
-        """Publish an empty catalogue, which answers as none does, for each of these pairs of a domain and a locale.
+        """Publish an empty catalogue for each of these pairs of a domain and a locale.
 
-        ValueError if the log has no catalogue for one of them.
+        Raise ValueError if the log has no catalogue for one of them.
         """
         kept, number, (nothing, empty) = sorted(set(pairs)), id or uuid.uuid4(), empty_file()
 
@@ -237,7 +238,7 @@ class Log(Closing):
         return self._once(lambda connection: version_with(connection, id))
 
     def history(self, last: int = 20) -> list[Row]:
-        """Return the last publishes, the newest first."""
+        """Return the last publishes, newest first."""
         rows = self._once(lambda connection: connection.execute(
             "select p.version, p.epoch, p.id, p.loads, p.published, p.note, array(select l.domain || '/' || l.locale"
             " from kobdzila.load l where l.version > p.version - p.loads and l.version <= p.version order by l.version)"
@@ -245,13 +246,14 @@ class Log(Closing):
         return [Row(Version(version, epoch), *others) for version, epoch, *others in rows]
 
     def status(self) -> Status:
-        """Return the log's version, and what each machine reported last."""
+        """Return the log's version, and the last report of each machine."""
         return self._once(status_of)
 
     def wait_for(self, version: int | str, within: float = 60.0, seen_within: float = DAY) -> list[Machine]:
-        """Wait until all machines show a version, at most `within` seconds, and return those that don't.
+        """Wait up to `within` seconds until all machines show a version, and return those that don't.
 
-        A number is one of the log's epoch. Machines that reported longer ago than `seen_within` seconds don't count.
+        A number is a version of the log's epoch. Machines whose last report is older than `seen_within` seconds don't
+        count.
         """
         end, wanted = time.monotonic() + within, version_of(version)
         while True:
@@ -268,21 +270,22 @@ class Log(Closing):
         """Delete loads that no machine needs, and files that no load names. Return the version up to which it is done.
 
         Up to that version only the last load of each domain and locale is kept. It is the version of the slowest
-        machine of those that reported in the last `seen_within` seconds, or `to`, if that is less. A machine that is
-        older takes the last loads at its next look. The rows of machines that reported longer ago are deleted.
+        machine of those that reported in the last `seen_within` seconds, or `to`, if that is less. A machine at an
+        earlier version takes the last loads when it next checks. The rows of machines whose last report is older are
+        deleted.
         """
         return self._once(lambda connection: compacted(connection, to, seen_within))
 
     def restore(self, note: str = "") -> Version:
         """Begin a new epoch, after the log was restored from a backup, and return the version in it.
 
-        Versions of the epoch before it, which the backup may lack, are then never confused with those of the new one.
-        What machines reported before the backup is deleted.
+        Versions of the previous epoch, which the backup may lack, are then never confused with those of the new one.
+        Reports of machines from before the backup are deleted.
         """
         return self._once(lambda connection: restored(connection, note))
 
     def forget(self, name: str) -> int:
-        """Delete what the machines of this name reported, and return how many there were."""
+        """Delete the reports of the machines with this name, and return how many there were."""
         def work(connection: Watched) -> int:
             return connection.execute("delete from kobdzila.machine where name = %s or process = %s",
                                       (name, name)).rowcount
@@ -299,7 +302,7 @@ class Log(Closing):
 
     @contextlib.contextmanager
     def _connected(self, end: float) -> Iterator[Watched]:
-        """A connection that no other thread has."""
+        """A connection that no other thread uses."""
         if self._owner != os.getpid():  # (a fork, whose parent uses the connections)
             self.close()
             self._room, self._owner = threading.BoundedSemaphore(MOST_CONNECTIONS), os.getpid()
@@ -324,7 +327,7 @@ class Log(Closing):
             self._room.release()
 
     def _layout_refused(self, trouble: psycopg.Error) -> Exception:
-        """Return what to say of a log that lacks a table or a column."""
+        """Return the error for a log that lacks a table or a column."""
         try:
             with self._connected(time.monotonic() + ANSWER_WITHIN) as connection:
                 check_layout(layout_of(connection))
@@ -333,7 +336,7 @@ class Log(Closing):
         return trouble
 
     def _once(self, work: Callable[[Watched], Answer]) -> Answer:
-        """Do what may be done twice. A connection that was lost since its last use is replaced."""
+        """Do work that may be repeated. A connection that was lost since its last use is replaced."""
         end = time.monotonic() + ANSWER_WITHIN
         while True:
             was_used = bool(self._free)
@@ -374,7 +377,7 @@ class Log(Closing):
 
 
 def attempt(connection: Watched, work: Callable[[Watched], Version], end: float, doubts: list[str]) -> Version:
-    """Do the work in a transaction. `doubts` gets a text if it may have been committed without an answer."""
+    """Do the work in a transaction. A message is added to `doubts` if it may have been committed without an answer."""
     connection.is_unreplicated = False
     try:
         with connection.transaction():
@@ -390,13 +393,13 @@ def attempt(connection: Watched, work: Callable[[Watched], Version], end: float,
 
 
 def note_wait(connection: Watched, notice: psycopg.errors.Diagnostic) -> None:
-    """A commit's wait for the standby that is cancelled is only a warning, after which the commit is answered."""
+    """A cancelled wait for the standby is only a warning, after which the commit is confirmed."""
     if notice.source_function == "SyncRepWaitForLSN":
         connection.is_unreplicated = True
 
 
 def limit_transaction(connection: Connection, end: float) -> None:
-    """Let the server end this transaction in time, and wait for its synchronous standby."""
+    """Make the server end this transaction in time, and wait for its synchronous standby."""
     left = max(200, int(1000 * (end - time.monotonic())))
     connection.execute(
         "select set_config('statement_timeout', %s, true), set_config('lock_timeout', %s, true),"
@@ -406,7 +409,7 @@ def limit_transaction(connection: Connection, end: float) -> None:
 
 
 def holders(connection: Connection) -> str:
-    """Say who holds the log's lock."""
+    """Describe who holds the log's lock."""
     rows = connection.execute(
         "select a.pid, a.application_name, a.state, extract(epoch from clock_timestamp() - a.xact_start)::float8"
         " from pg_stat_activity a where a.pid <> pg_backend_pid() and exists (select from pg_locks l where l.pid = a.pid"
@@ -424,7 +427,7 @@ def check_load(load: Load) -> None:
 
 
 def check_size(loads: Sequence[Load]) -> None:
-    """A Session takes a publish in one round, in which each byte of an MO file is two digits."""
+    """A Session publishes in one round, in which each byte of an MO file is two digits."""
     size = sum(2 * len(load.mo) + len(load.domain) + len(load.locale) + 10 for load in loads)
     if size > MOST_FOR_SESSIONS:
         raise ValueError(f"{sum(len(load.mo) for load in loads)} bytes of MO files are more than catsession takes in one "
@@ -447,7 +450,7 @@ def history_of(before: bytes, number: uuid.UUID, seals: Iterable[bytes]) -> byte
 
 
 def lock(connection: Connection, is_restoring: bool = False) -> None:
-    """Wait for the log's lock, which the transaction then has until its end."""
+    """Wait for the log's lock, which the transaction then holds until its end."""
     row = connection.execute(
         f"select layout, origin = {ORIGIN} from kobdzila.log for update".encode()).fetchone()
     check_layout(None if row is None else row[0])
@@ -461,7 +464,7 @@ def version_with(connection: Connection, number: uuid.UUID) -> Version | None:
 
 
 def found_again(connection: Connection, number: uuid.UUID) -> Version | None:
-    """Return the version of a publish that is in the log. To commit this waits for the standby, as the publish did."""
+    """Return the version of a publish that is in the log. Committing this waits for the standby, as the publish did."""
     done = version_with(connection, number)
     if done is not None:
         connection.execute("update kobdzila.log set touched = touched + 1")
@@ -541,7 +544,7 @@ def changes_back_to(connection: Connection, version: int) -> tuple[Version, list
 
 
 def empty_file() -> tuple[bytes, bytes]:
-    """Return the MO file that answers as none does, and its SHA-256."""
+    """Return the empty MO file, which has no translations, and its SHA-256."""
     nothing = Catalogue.from_po(b"").mo_file()
     return nothing, hashlib.sha256(nothing).digest()
 

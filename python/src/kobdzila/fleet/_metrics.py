@@ -46,7 +46,8 @@ def labels(**words: str) -> str:
 
 
 def served(address: tuple[str, int], text: Callable[[], str]) -> ThreadingHTTPServer:
-    """Return a server that answers each GET of /metrics with a text. What it raises is the text of a status 503."""
+    """Return a server that answers each GET of /metrics with the metrics. If these raise, the error is sent with status
+    503."""
 
     class Handler(BaseHTTPRequestHandler):
         timeout = 10
@@ -64,6 +65,6 @@ def served(address: tuple[str, int], text: Callable[[], str]) -> ThreadingHTTPSe
             self.wfile.write(data)
 
         def log_message(self, format: str, *words: object) -> None:
-            """Say nothing."""
+            """Log nothing."""
 
     return ThreadingHTTPServer(address, Handler)

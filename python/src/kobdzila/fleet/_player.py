@@ -1,4 +1,4 @@
-"""What plays the log into a store: a look at the log, and what is to be done about it."""
+"""Plays the log into a store: reads the log, and decides what to do."""
 from __future__ import annotations
 
 import contextlib
@@ -42,9 +42,9 @@ LOOK_WITHIN = 60.0  # seconds without a byte of an answer to a look
 
 
 class Difference(Exception):
-    """The store or the machine isn't where the log says. Nothing more is played; the store answers on.
+    """The store or the machine isn't where the log says. Nothing more is played; the store keeps answering.
 
-    `is_final` says that it is the store, which the follower can't mend. A log gets well by a new epoch.
+    `is_final` says that it is the store, which the follower can't repair. A log recovers with a new epoch.
     """
 
     def __init__(self, here: int, log: int, why: str, is_final: bool = False) -> None:
@@ -56,17 +56,17 @@ class Difference(Exception):
 
 
 class StoreFailed(Exception):
-    """The store refused a publish of the log. Nothing more is played; the store answers on."""
+    """The store refused a publish of the log. Nothing more is played; the store keeps answering."""
 
 
 class Lagging(Exception):
-    """A standby has not yet got what this machine shows."""
+    """A standby doesn't have yet what this machine shows."""
 
 
 class Player:
-    """Knows where in the log the store is, and takes it further.
+    """Knows where in the log the store is, and advances it.
 
-    One thread plays. `playing` is held while the store changes.
+    Only one thread plays. `playing` is held while the store changes.
     """
 
     def __init__(self, store: Store, cache: Cache | None, go_over: bool) -> None:
@@ -100,7 +100,7 @@ class Player:
     # --- a look at the log
 
     def is_met(self, connection: Watched) -> bool:
-        """Whether the log's head is what this machine shows. The server has to say so at once: it is the heartbeat."""
+        """Whether the log's head is what this machine shows. The server must answer at once: this is the heartbeat."""
         connection.limit = BEAT_WITHIN
         layout, epoch, newest, history = head_of(connection, self.place.version)
         check_layout(layout)
@@ -144,7 +144,7 @@ class Player:
                              "kob-fleet restore begins a new epoch, which it can switch to")
 
     def _change_epoch(self, connection: Watched, own: Publish, is_standby: bool) -> bool:
-        """The log has another epoch: go on in it if it has all that this machine shows, or switch to it."""
+        """The log has another epoch: continue in it if it has all that this machine shows, or switch to it."""
         epochs = epochs_of(connection)
         names = [epoch for epoch, _ in epochs]
         if self.place.epoch in names[:-1]:
@@ -163,7 +163,7 @@ class Player:
         return (own.version, own.history) == (self.place.version, self.place.history)
 
     def _set_epoch(self, names: Sequence[str]) -> None:
-        """Go on in the newest epoch, with the same texts."""
+        """Continue in the newest epoch, with the same catalogues."""
         self.past, epoch = list(names[:-1]), names[-1]
         here = self.store.version
         self._bases.append((here, self.place.version - here, epoch))
@@ -172,7 +172,7 @@ class Player:
             self.cache.keep(())
 
     def _taken(self, publish: Publish, rows: Iterable[Found]) -> list[Played] | None:
-        """Return the loads of the next publish, or None if this machine has to take the last loads instead."""
+        """Return the loads of the next publish, or None if this machine must take the last loads instead."""
         if publish.newest - self.place.version > MOST_LOADS:
             return None
         try:
@@ -185,9 +185,10 @@ class Player:
             return None  # (later loads for these names may be whole)
 
     def _jump(self, connection: Watched, anew: bool = False) -> bool:
-        """Take the last load of each domain and locale, and go on from the log's newest version.
+        """Take the last load of each domain and locale, and continue from the log's newest version.
 
-        `anew` leaves what this machine shows: it takes all of them, and an empty catalogue for what the log lacks.
+        `anew` replaces everything that this machine shows: it takes all of them, and an empty catalogue for what the
+        log lacks.
         """
         names = [epoch for epoch, _ in epochs_of(connection)]
         head, played = self._last(connection, 0 if anew else self.place.version)
@@ -214,7 +215,7 @@ class Player:
 
     def show(self, loads: Sequence[Played], version: int, history: bytes, *, epoch: str | None = None,
              jumps: bool = False) -> None:
-        """Load and publish; the version that the store answers has to be the log's."""
+        """Load and publish; the version that the store returns must be the log's."""
         with self.playing:
             before, base = self.store.version, self._bases[-1][1]
             if before + base != self.place.version:
@@ -244,7 +245,7 @@ class Player:
         return answered
 
     def _parts(self, loads: Sequence[Played]) -> list[list[Played]]:
-        """The loads of a machine that joins. A Session, whose rounds have a limit, takes them in several rounds."""
+        """The loads of a machine that joins. A Session, whose rounds have a limit, gets them in several rounds."""
         if not isinstance(self.store, Session):
             return [list(loads)]
         parts: list[list[Played]] = []
@@ -263,7 +264,8 @@ class Player:
             self.cache.close()
 
     def forked(self) -> None:
-        """This process is a child of the one that played. A Session is the parent's: the child gets another one, empty."""
+        """This process is a child of the one that played. A Session belongs to the parent: the child gets another one,
+        empty."""
         self.playing = threading.Lock()
         if self.cache:
             self.cache.forked()
@@ -281,12 +283,13 @@ class Player:
         return self.cache is not None and self.cache.seconds_left() is None
 
     def seconds_to_cache(self) -> float:
-        """In how many seconds there is something to write to the cache."""
+        """The seconds until there is something to write to the cache."""
         left = self.cache.seconds_left() if self.cache else None
         return math.inf if left is None else max(0.01, left)
 
     def join_from_cache(self) -> float | None:
-        """Show what the cache has, and return when it was written, or None if there is none. CacheRefused, StoreFailed."""
+        """Show what the cache has, and return when it was written, or None if there is none. Raise CacheRefused or
+        StoreFailed."""
         cached = self.cache.read() if self.cache and not self.has_joined else None
         if cached is None:
             return None
@@ -299,7 +302,7 @@ class Player:
         return cached.written
 
     def write_cache(self, connection: Watched) -> None:
-        """Write the cache if there is something new. OSError if it can't be written."""
+        """Write the cache if there is something new. OSError if that fails."""
         if self.cache is None or not self.has_joined:
             return
         if not self.cache.is_whole and self.cache.is_ours() and time.monotonic() > self._fill_at:
@@ -312,7 +315,7 @@ class Player:
 
 
 def emptied(pairs: Iterable[Pair]) -> list[Played]:
-    """Return empty catalogues, which answer as none does."""
+    """Return empty catalogues, which have no translations."""
     nothing = Catalogue.from_po(b"").mo_file()
     total = hashlib.sha256(nothing).digest()
     return [Played(*pair, nothing, total) for pair in sorted(pairs)]

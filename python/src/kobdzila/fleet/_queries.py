@@ -1,4 +1,4 @@
-"""What a follower asks of the log. Each question is one query, whose rows are checked while the next ones come."""
+"""A follower's queries to the log. The rows of a query are checked while the next ones arrive."""
 from __future__ import annotations
 
 import hashlib
@@ -64,11 +64,11 @@ select head.*, last.* from head left join lateral (
 
 
 class Damaged(Exception):
-    """A row of the log isn't as it was written. Nothing of it is played; the follower looks again."""
+    """A row of the log isn't as it was written. Nothing of it is played; the follower tries again."""
 
 
 class Cut(Exception):
-    """The loads of a publish were cut."""
+    """The loads of a publish were compacted."""
 
 
 class Found(NamedTuple):
@@ -121,13 +121,13 @@ COLUMNS = len(Publish._fields)  # of a Publish, and of a Head
 
 
 def prepare(connection: Connection) -> None:
-    """Let the server read and plan the queries, once for each connection."""
+    """Make the server parse and plan the queries, once for each connection."""
     for query in (HEAD, NEXT, LAST):
         connection.execute(query.encode())
 
 
 def asked(connection: Watched, query: str, *values: int) -> Generator[Found, None, None]:
-    """Yield the rows of a query, of which the server sends some while others are in use.
+    """Yield the rows of a query. The server sends the next ones while others are in use.
 
     Close it, which ends the query.
     """
@@ -145,7 +145,7 @@ def head_of(connection: Watched, version: int) -> tuple[int, str, int, bytes | N
 
 
 def text_of(connection: Watched, query: str, *values: int) -> bytes:
-    """Return a query that was prepared, or all of its text if a pooler is between: there nothing stays prepared."""
+    """Return a prepared query, or its full text if there is a pooler in between: there nothing stays prepared."""
     if not connection.is_pooled:
         return f"execute kobdzila_{query}({', '.join(map(str, values))})".encode()
     text = {"head": HEAD, "next": NEXT, "last": LAST}[query].partition(" as\n")[2]
@@ -155,13 +155,13 @@ def text_of(connection: Watched, query: str, *values: int) -> bytes:
 
 
 def epochs_of(connection: Connection) -> list[tuple[str, int]]:
-    """Return the log's epochs, the oldest first, and after which version each one began."""
+    """Return the log's epochs, oldest first, and after which version each one began."""
     rows = connection.execute("select epoch, after from kobdzila.epoch order by number")
     return [(str(epoch), int(after)) for epoch, after in rows]
 
 
 def check_count(head: Head, mine: int) -> None:
-    """No load of the log is missing but those that were cut."""
+    """Check that no load of the log is missing but those that were compacted."""
     first = max(head.cut, mine)
     parts = [(first, head.version, head.found, head.version - first)]
     if mine < head.cut:
@@ -192,7 +192,7 @@ def loads_of(publish: Publish, rows: Iterable[Found], mine: int, history: bytes)
 
 
 def checked(row: Found) -> Played:
-    """Return a load of the log, whose row and file have to be as they were written."""
+    """Return a load of the log, whose row and file must be as they were written."""
     version, domain, locale, total, seal = row.load
     if seal_of(version, domain, locale, total) != seal:
         raise Damaged(f"load {version} of the log, {domain}/{locale}: its row was changed")

@@ -23,7 +23,7 @@ REFUSALS = (psycopg.errors.ReadOnlySqlTransaction, psycopg.errors.InsufficientPr
 
 
 class Report(NamedTuple):
-    """What a row says. The counts are since the follower's start."""
+    """The contents of a row. The counts are since the follower's start."""
 
     version: Version
     epoch: str
@@ -37,8 +37,8 @@ class Report(NamedTuple):
 class Reporter:
     """Writes the row of one follower.
 
-    A standby takes no writes. There the row goes to the primary, by a connection of its own to `database`, unless that
-    is None.
+    A standby accepts no writes. Then the row is written to the primary, through a connection of its own to `database`,
+    unless that is None.
     """
 
     def __init__(self, machine: str, database: str | None) -> None:
@@ -56,12 +56,12 @@ class Reporter:
         return since >= ANEW_EACH or since >= REPORT_EACH and report != self._last
 
     def seconds_left(self, report: Report) -> float:
-        """In how many seconds there is something to write."""
+        """The seconds until there is something to write."""
         wanted = REPORT_EACH if report != self._last else ANEW_EACH
         return max(0.0, self._at + wanted - time.monotonic())
 
     def write(self, connection: Watched, report: Report, wake: int) -> None:
-        """Write the row by the follower's connection, or by one to the primary if it is to a standby.
+        """Write the row through the follower's connection, or through one to the primary if that is to a standby.
 
         psycopg.Error if the follower's own connection is lost.
         """
@@ -119,7 +119,7 @@ class Reporter:
             self._connection = None
 
     def forked(self) -> None:
-        """This process is a child: it has a row of its own, and its parent's connection isn't its."""
+        """This process is a child: it has a row of its own, and the connection belongs to its parent."""
         if self._connection is not None:
             abandon(self._connection)
         self._connection, self._last, self._at, self.process = None, None, 0.0, process_name()
@@ -127,7 +127,7 @@ class Reporter:
 
 @contextlib.contextmanager
 def planned_once(connection: Watched) -> Iterator[None]:
-    """Let the server keep the plans of statements, unless a pooler gives them other sessions."""
+    """Make the server keep the plans of statements, unless a pooler moves them between sessions."""
     connection.prepare_threshold = None if connection.is_pooled else 0
     try:
         yield
@@ -140,7 +140,7 @@ def process_name() -> str:
 
 
 def is_running(process: str) -> bool:
-    """Whether a process of this host is there. One that can't be asked is."""
+    """Whether a process of this host is running. One that can't be checked counts as running."""
     try:
         os.kill(int(process.split(":")[1]), 0)
     except ProcessLookupError:
@@ -151,6 +151,6 @@ def is_running(process: str) -> bool:
 
 
 def abandon(connection: Watched) -> None:
-    """Let go of a connection that is the parent's, without a word to the server."""
+    """Drop a connection that belongs to the parent, without telling the server."""
     with contextlib.suppress(OSError, psycopg.Error):
         os.close(connection.pgconn.socket)

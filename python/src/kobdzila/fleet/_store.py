@@ -1,4 +1,4 @@
-"""What a follower feeds, and what its readers get."""
+"""The stores that a follower can feed, and what their readers get."""
 from __future__ import annotations
 
 from collections.abc import Callable
@@ -15,14 +15,14 @@ if TYPE_CHECKING:
 
 
 class Store(Protocol):
-    """What a Follower can feed: a store that shows its loads all at once, and counts them.
+    """A store that a Follower can feed: it shows its loads all at once, and counts them.
 
-    kobdzila.Session is one. A store that has a method `snapshot` as well gives it to the readers of the follower.
+    kobdzila.Session is one. If a store also has a method `snapshot`, readers of the follower get its snapshots.
     """
 
     @property
     def version(self) -> int:
-        """The number of loads that were published, and not refused."""
+        """The number of loads published so far; refused ones don't count."""
 
     def load(self, domain: str, locale: str, data: bytes, /) -> object:
         """Keep an MO file for the next publish. Raise an exception if it is refused."""
@@ -34,7 +34,7 @@ class Store(Protocol):
 class Behind(Exception):
     """The machine hasn't reached a version in the time given.
 
-    `version` is the one that it has, and `trouble` says why it doesn't follow, or is None.
+    `version` is the one that it has, and `trouble` says why it isn't following, or is None.
     """
 
     version: Version
@@ -51,10 +51,10 @@ class Behind(Exception):
 
 
 class Snapshot:
-    """What a reader looks up in: the snapshot of the follower's store, whose methods this one has, too.
+    """A snapshot of the follower's store, with its methods.
 
-    `version` is the log's. `is_older` says that the texts are those of the machine's cache, since the log hasn't
-    answered after its start. If the store is a Session, the methods are those of SessionTexts.
+    `version` is the log's. `is_older` says that the translations are those of the machine's cache, because the log
+    hasn't answered since the start. If the store is a Session, the methods are those of SessionTexts.
     """
 
     def __init__(
@@ -65,7 +65,7 @@ class Snapshot:
 
     @property
     def version(self) -> Version:
-        """The log's version of the texts."""
+        """The log's version of the translations."""
         return self._log_version(int(self._texts.version))
 
     def __getattr__(self, name: str) -> Any:
@@ -86,7 +86,7 @@ class Snapshot:
 class SessionTexts(Closing, Calls):
     """Look-ups in a Session that a follower feeds. The versions of the answers are the log's.
 
-    All answers to one `ask` are of one version. A later `ask` may be of a later one.
+    All answers to one `ask` are of one version. A later `ask` may return a later one.
     """
 
     def __init__(self, session: Session, log_version: Callable[[int], Version]) -> None:
@@ -94,7 +94,7 @@ class SessionTexts(Closing, Calls):
         self.version = session.version  # (the session's; Snapshot turns it into the log's)
 
     def close(self) -> None:
-        """Do nothing: the session is the follower's."""
+        """Do nothing: the session belongs to the follower."""
 
     def ask(self, domain: str, languages: str, *questions: tuple[str | int, ...]) -> list[Answer]:
         """Return the answers to several questions, all of one version, such as ("ngettext", "file", "files", 2)."""

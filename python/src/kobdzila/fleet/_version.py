@@ -1,4 +1,4 @@
-"""Versions of a log: a number, and the epoch that it is of."""
+"""Versions of a log: a number and its epoch."""
 from __future__ import annotations
 
 import re
@@ -9,10 +9,10 @@ TOKEN = re.compile(rf"(?:({EPOCH.pattern})\.)?([0-9]{{1,18}})", re.ASCII)
 
 
 class Version(int):
-    """A version of a log: an int, with the `epoch` of the log that it is of.
+    """A version of a log: an int, with the `epoch` of the log that it belongs to.
 
-    An epoch is 16 hexadecimal digits. A log gets its first one from `init`, and another one from each `restore`. Numbers
-    of one epoch never go back; those of two epochs say nothing about each other. `token` has both, such as
+    An epoch is 16 hexadecimal digits. A log gets its first one from `init`, and another one from each `restore`.
+    Numbers within one epoch never decrease; numbers of two epochs can't be compared. `token` has both, such as
     "3f9a1c7e5b2d4860.9", for cookies and command lines.
     """
 
@@ -30,7 +30,7 @@ class Version(int):
 
     @classmethod
     def parse(cls, text: str) -> Version:
-        """Return the version of a token, or of a number alone, whose epoch is "". ValueError if it is neither."""
+        """Return the version of a token, or of a number alone, with the epoch "". ValueError if it is neither."""
         found = TOKEN.fullmatch(text.strip())
         if found is None:
             raise ValueError(f"not a version: {text!r}")
@@ -38,7 +38,7 @@ class Version(int):
 
 
 def version_of(value: int | str) -> Version:
-    """Return a Version: of a token, of a number, or as it is."""
+    """Return a Version from a token or a number; a Version is returned as it is."""
     if isinstance(value, Version):
         return value
     return Version.parse(value) if isinstance(value, str) else Version(value)
@@ -49,5 +49,5 @@ def new_epoch() -> str:
 
 
 def escaped(text: str) -> str:
-    """Return a text of somebody else on one line: what isn't printable, and a backslash, is escaped as in Python."""
+    """Return a string from outside on one line: unprintable characters and backslashes are escaped as in Python."""
     return "".join(it if it.isprintable() and it != "\\" else it.encode("unicode_escape").decode() for it in text)

@@ -1,4 +1,4 @@
-"""Middleware for WSGI and ASGI: each request gets a snapshot that is no older than what its visitor has seen."""
+"""Middleware for WSGI and ASGI: each request gets a snapshot no older than what its visitor has seen."""
 from __future__ import annotations
 
 import asyncio
@@ -33,19 +33,20 @@ ASGIApplication = Callable[[Message, Receive, Send], Awaitable[None]]
 
 
 class Middleware:
-    """What both kinds share.
+    """The common part of both kinds.
 
     A request's version is that of its header `Kobdzila-Version` or its cookie, whichever is greater. The request waits
-    at most `within` seconds until this machine shows it. If it doesn't, the answer is 503, so that a load balancer
-    tries another machine; with `serve_older` the application is called all the same, even with what the store had
-    before the start. The answer's version is in its header and its cookie, as a token (EPOCH.NUMBER). If its texts are
-    those of the machine's cache, it also has a header `Kobdzila-Older: 1`. An application that publishes gives the new
-    version's token in a header `Kobdzila-Version` of its own: its visitor then sees that version everywhere.
+    up to `within` seconds until this machine shows that version. If it doesn't, the response is 503, so that a load
+    balancer tries another machine; with `serve_older` the application is called nevertheless, even with what the store
+    had before the start. The version of the response is in its header and its cookie, as a token (EPOCH.NUMBER). If the
+    translations are those of the machine's cache, the response also has a header `Kobdzila-Older: 1`. An application
+    that publishes sets its own header `Kobdzila-Version` to the token of the new version: its visitor then sees that
+    version everywhere.
 
-    A request for the path `health` is answered with the follower's health, as JSON: with 200 if the machine has texts,
-    and 503 if not.
+    A request for the path `health` is answered with the follower's health as JSON: with status 200 if the machine has
+    translations, and 503 if not.
 
-    If the store's `snapshot` takes languages, they are those of the header Accept-Language, and `domain` is its domain.
+    If the store's `snapshot` takes languages, they come from the Accept-Language header, and `domain` is its domain.
     """
 
     def __init__(
@@ -68,11 +69,11 @@ class Middleware:
         return self.latest(*map(parsed, texts))
 
     def latest(self, *versions: Version) -> Version:
-        """Return the greatest version of the latest epoch: one that isn't in the past of this machine."""
+        """Return the greatest version of the latest epoch: one that isn't a past epoch of this machine."""
         return max(versions, key=lambda it: (bool(it.epoch) and not self.follower.is_past(it.epoch), it))
 
     def is_ready(self, at_least: Version) -> bool:
-        """Whether a snapshot of this version can be had at once."""
+        """Whether a snapshot of this version is available at once."""
         try:
             self.follower.wait_for(at_least, 0)
         except Behind:
@@ -80,7 +81,7 @@ class Middleware:
         return True
 
     def snapshot(self, at_least: Version, accepted: str) -> Snapshot | None:
-        """Return a snapshot, or None if the request has to be answered by 503. `accepted` is its Accept-Language."""
+        """Return a snapshot, or None if the request must be answered with 503. `accepted` is its Accept-Language."""
         if not self._waiting.acquire(blocking=False):
             return self._taken(at_least, 0, accepted)
         try:
@@ -96,7 +97,7 @@ class Middleware:
         return self.follower.unjoined(**options) if self.serve_older and self.follower.store.version else None
 
     def headers(self, snapshot: Snapshot, written: Iterable[tuple[str, str]]) -> list[tuple[str, str]]:
-        """Return the headers of an answer, for which the application has written these."""
+        """Return the headers of a response for which the application has set these."""
         versions, others, varies = [snapshot.version], [], [*self._varies]
         for name, value in written:
             if name.lower() == HEADER.lower() and (given := parsed(value)):
@@ -111,7 +112,8 @@ class Middleware:
         return [*others, (HEADER, token), *older, ("Vary", joined(varies)), ("Set-Cookie", kept)]
 
     def refusal(self, path: str) -> tuple[int, list[tuple[str, str]], bytes]:
-        """Return status, headers and body of the answer if there is no snapshot, or if the path is that of the health."""
+        """Return status, headers and body of the response if there is no snapshot, or if the path is that of the
+        health."""
         if path == self.health:
             health = self.follower.health()
             return health.status, [("Content-Type", "application/json"), ("Cache-Control", "no-store")], health.json().encode()
@@ -126,7 +128,7 @@ def parsed(text: str) -> Version:
 
 
 def joined(names: Iterable[str]) -> str:
-    """Return a header Vary with each name once."""
+    """Return a Vary header with each name once."""
     kept = {name.lower(): name for name in reversed([*names])}
     return "*" if "*" in kept else ", ".join(reversed(kept.values()))
 
@@ -204,7 +206,7 @@ class ASGIMiddleware(Middleware):
             await self.application({**scope, KEY: snapshot}, receive, sends)
 
     async def _made(self, scope: Message) -> Snapshot | None:
-        """Return a snapshot for a request. The event loop doesn't wait for it."""
+        """Return a snapshot for a request, without blocking the event loop."""
         def named(wanted: bytes, joint: str) -> str:
             return joint.join(value.decode("latin-1") for name, value in scope["headers"] if name.lower() == wanted)
 
