@@ -208,7 +208,7 @@ kob_set *kob_set_with(const kob_set *set, const char *domain, const char *locale
                       kob_refusal *why);
 
 /* Like kob_set_with, with the catalogue of the MO file FOLDER/LOCALE/LC_MESSAGES/DOMAIN.mo, which is where
- * catalogues are installed. Fails as kob_open_file does, too; `.` and `..` are KOB_BAD_NAME here. */
+ * catalogues are installed. Also fails as kob_open_file does; `.` and `..` are KOB_BAD_NAME here. */
 kob_set *kob_set_open(const kob_set *set, const char *folder, const char *domain, const char *locale, kob_refusal *why);
 
 /* Take another reference to `set` and return it, and drop a reference, as for a catalogue. A set that is borrowed from

@@ -193,8 +193,8 @@ static int is_po(PyObject *po, PyObject *name) {
 
 PyDoc_STRVAR(open_text, "open($type, path, po=None, checked=False, use_fuzzy=False)\n--\n\n"
                         "Open the MO file or PO file `path`.\n\n"
-                        "`po` says which of the two it is; if it is None, a name that ends in .po is a PO file.\n"
-                        "The other options are those of from_po. OSError if the file can't be read.");
+                        "`po` says which of the two it is; if it is None, a name that ends in .po means a PO file.\n"
+                        "The other options are those of from_po. Raise OSError if the file can't be read.");
 
 static PyObject *open_path(PyObject *class, PyObject *const *args, Py_ssize_t given, PyObject *keywords) {
     static const char *const names[] = { "path", "po", "checked", "use_fuzzy" };
@@ -576,8 +576,8 @@ static PyMethodDef catalogue_methods[] = {
 
 static PyGetSetDef catalogue_properties[] = {
     { "count", count_of, NULL, "The number of entries, including the header.", NULL },
-    { "_fallback", fallback_of, set_fallback, "The translations that are asked for what isn't found, or None.", NULL },
-    { "_is_by_dict", is_by_dict_of, set_is_by_dict, "Whether methods in Python answer, by a dict of the texts.", NULL },
+    { "_fallback", fallback_of, set_fallback, "The translations to search for what isn't found, or None.", NULL },
+    { "_is_by_dict", is_by_dict_of, set_is_by_dict, "Whether methods in Python answer, from a dict of the translations.", NULL },
     { NULL, NULL, NULL, NULL, NULL },
 };
 

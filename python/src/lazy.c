@@ -143,11 +143,11 @@ static PyMethodDef lazy_methods[] = {
 };
 
 static PyGetSetDef lazy_properties[] = {
-    { "current", current_of, set_current, "What is called for the snapshot of the moment.", NULL },
+    { "current", current_of, set_current, "The function that returns the current snapshot.", NULL },
     { NULL, NULL, NULL, NULL, NULL },
 };
 
-PyDoc_STRVAR(lazy_text, "Translations that ask for a snapshot at each call.");
+PyDoc_STRVAR(lazy_text, "Translations that get a snapshot at each call.");
 
 static PyType_Slot lazy_slots[] = {
     { Py_tp_doc, (void *)lazy_text },     { Py_tp_new, lazy_new },

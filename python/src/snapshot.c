@@ -99,7 +99,7 @@ static void snapshot_dealloc(PyObject *object) {
 }
 
 PyDoc_STRVAR(close_text, "close($self, /)\n--\n\n"
-                         "End the snapshot: a look-up is a ValueError from now on. Closing it again does nothing.");
+                         "Close the snapshot: from now on a look-up raises ValueError. Closing it again does nothing.");
 
 static PyObject *snapshot_close(PyObject *object, PyObject *unused) {
     (void)unused;
@@ -259,7 +259,7 @@ LOOK_UP(dnpgettext, IN_DOMAIN | IN_CONTEXT | WITH_NUMBER)
 
 PyDoc_STRVAR(find_text, "find($self, domain, languages, message, context=None, n=None)\n--\n\n"
                         "Return a translation, in its form for `n` unless that is None, or None if there is none.\n\n"
-                        "`languages` is a list of locales separated by colons, which is taken as it is.");
+                        "`languages` is a list of locales separated by colons, which is used as it is.");
 
 /* Store what a call of find asks. Return 0, or -1 with an exception. */
 static int take_question(PyObject *const *args, Py_ssize_t given, PyObject *keywords, struct question *asked) {
@@ -334,9 +334,9 @@ static PyMethodDef snapshot_methods[] = {
 };
 
 static PyGetSetDef snapshot_properties[] = {
-    { "version", snapshot_version, NULL, "The version that all answers are of.", NULL },
+    { "version", snapshot_version, NULL, "The version of all answers.", NULL },
     { "domain", snapshot_domain, NULL, "The text domain of the calls without one.", NULL },
-    { "languages", snapshot_languages, NULL, "The locales that are asked, in their order, separated by colons.", NULL },
+    { "languages", snapshot_languages, NULL, "The locales to search, in order, separated by colons.", NULL },
     { NULL, NULL, NULL, NULL, NULL },
 };
 

@@ -250,7 +250,7 @@ static int name_of(PyObject *object, const char **name) {
 }
 
 PyDoc_STRVAR(load_text, "_load($self, domain, locale, catalogue, /)\n--\n\n"
-                        "Keep a catalogue for the next publish. Refused if a name is bad.");
+                        "Keep a catalogue for the next publish. Raise Refused if a name isn't valid.");
 
 static PyObject *store_load(PyObject *object, PyObject *const *args, Py_ssize_t given, PyObject *keywords) {
     static const char *const names[] = { "domain", "locale", "catalogue" };
@@ -334,7 +334,7 @@ static PyMethodDef store_methods[] = {
 };
 
 static PyGetSetDef store_properties[] = {
-    { "version", store_version, NULL, "The version that is published: the number of loads published so far.", NULL },
+    { "version", store_version, NULL, "The published version: the number of loads published so far.", NULL },
     { "pending", store_pending, NULL, "The number of loads that the next publish will show.", NULL },
     { "retained", store_retained, NULL, "The number of replaced versions that a snapshot still has.", NULL },
     { NULL, NULL, NULL, NULL, NULL },
