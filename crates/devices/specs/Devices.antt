@@ -33,6 +33,15 @@ pub record OutputSeen : Type 0 where
   pub bytes : Option (List ℕ)
   pub failures : ℕ
 
+-- what is known of a reader, by the ghost functions of its type
+abbrev pub input_seen : {R : Type 0} → (R → Option (List ℕ)) → (R → ℕ) → (R → ℕ) → R → InputSeen
+input_seen remaining reads failures reader =
+    record { left = remaining reader; reads = reads reader; failures = failures reader }
+
+-- what is known of a writer, by the ghost functions of its type
+abbrev pub output_seen : {W : Type 0} → (W → Option (List ℕ)) → (W → ℕ) → W → OutputSeen
+output_seen contents failures writer = record { bytes = contents writer; failures = failures writer }
+
 -- a device that isn't read
 abbrev pub unread : InputSeen
 unread = record { left = None; reads = 0; failures = 0 }

@@ -7,9 +7,8 @@ use Rattle.catalogue.specs.Meaning.{Means, Refuses}
 use Rattle.catalogue.specs.declared.LoadFault.{LoadFault}
 use Rattle.catalogue.proofs.OneMeaning.{meaning_one, means_or_refuses, refusal_one}
 use Rattle.msgfmt_tool.specs.Words.{AreFaulty, AreTaken, AskForHelp, Asked, asked}
-use Rattle.devices.specs.Devices.{IsFront}
-use Rattle.msgfmt_tool.specs.Runs.{FilesSeen, InputSeen, IsRefused, MakesFile, Reads, Run, Runs}
-use Rattle.msgfmt_tool.specs.Runs.{is_standard, most_read}
+use Rattle.devices.specs.Devices.{IsFront, InputSeen}
+use Rattle.msgfmt_tool.specs.Runs.{FilesSeen, IsRefused, MakesFile, Reads, Run, Runs, is_standard, most_read}
 use Rattle.msgfmt_tool.specs.Laws.{BeginAlike, IsSettled}
 use Rattle.msgfmt_tool.specs.declared.outcome.Cause.TheVariants.{Words, NoInput, CannotRead, Refused, CannotWrite}
 use Rattle.msgfmt_tool.specs.declared.outcome.Cause.TheVariants.{ErrorOutput, Memory}

@@ -1,14 +1,13 @@
 -- What the steps of a run add up to.
 use Rattle.std.proofs.Common.{◌≡◌, ◌∙◌, ◌⊎◌, ◌≤◌, ◌++◌, ◌∷◌, [], ap, sym, subst, refl, inl, inr, arith, ℕ, Bool, true}
 use Rattle.std.proofs.Common.{false, List, Some, None, Result, Ok, Err, IsErrAnd, IsTrue}
-use Rattle.devices.specs.Devices.{RisesBy}
+use Rattle.devices.specs.Devices.{RisesBy, InputSeen, OutputSeen}
 use Rattle.devices.specs.Files.{KeepsLog, Log, Logs, MayLog}
 use Rattle.catalogue.specs.MoFile.{spelling}
 use Rattle.catalogue.specs.declared.Compiled.{Compiled}
 use Rattle.msgfmt_tool.specs.Words.{AreTaken, Asked, asked}
-use Rattle.msgfmt_tool.specs.Runs.{Change, Compiles, Fails, FailsToWarn, FailsToWrite, FilesSeen, InputSeen}
-use Rattle.msgfmt_tool.specs.Runs.{IsUnwritable, IsUnwritten, MakesFile, MakesFileFirst, OutputSeen, Run, Runs, Writes}
-use Rattle.msgfmt_tool.specs.Runs.{is_standard}
+use Rattle.msgfmt_tool.specs.Runs.{Change, Compiles, Fails, FailsToWarn, FailsToWrite, FilesSeen}
+use Rattle.msgfmt_tool.specs.Runs.{IsUnwritable, IsUnwritten, MakesFile, MakesFileFirst, Run, Runs, Writes, is_standard}
 use Rattle.msgfmt_tool.specs.RunSteps.{CompilesNamed, Delivers, EndsCompiling, EndsTelling, Tells, Works}
 use Rattle.msgfmt_tool.specs.RunSteps.{WritesCompiled}
 use Rattle.msgfmt_tool.specs.declared.outcome.Cause.{Cause}

@@ -9,9 +9,8 @@ use Rattle.clap.specs.declared.error.kind.ErrorKind.{ErrorKind}
 use Rattle.catalogue.specs.MoFile.{spelling}
 use Rattle.catalogue.proofs.SomeMeaning.{some_meaning}
 use Rattle.msgfmt_tool.specs.Words.{AreTaken, AskForHelp, asked, word_faults}
-use Rattle.devices.specs.Devices.{IsFront}
-use Rattle.msgfmt_tool.specs.Runs.{FilesSeen, InputSeen, OutputSeen, Reads, Run, Writes, is_standard}
-use Rattle.msgfmt_tool.specs.Runs.{most_read}
+use Rattle.devices.specs.Devices.{IsFront, InputSeen, OutputSeen}
+use Rattle.msgfmt_tool.specs.Runs.{FilesSeen, Reads, Run, Writes, is_standard, most_read}
 use Rattle.msgfmt_tool.specs.Laws.{SettledRun}
 use Rattle.msgfmt_tool.specs.declared.outcome.Cause.TheVariants.{Words, NoInput, Refused}
 use Rattle.msgfmt_tool.specs.declared.outcome.Status.TheVariants.{Done, Failed}

@@ -1,6 +1,7 @@
 -- Every command line has one outcome, unless a device fails or memory runs out.
 use Rattle.std.specs.Prelude.{◌≡◌, ⊤, ℕ, List, IsSome}
-use Rattle.msgfmt_tool.specs.Runs.{FilesSeen, InputSeen, MakesFile, OutputSeen, Run, Runs}
+use Rattle.msgfmt_tool.specs.Runs.{FilesSeen, MakesFile, Run, Runs}
+use Rattle.devices.specs.Devices.{InputSeen, OutputSeen}
 use Rattle.msgfmt_tool.specs.Words.{Asked}
 use Rattle.msgfmt_tool.specs.declared.outcome.Cause.TheVariants.{Words, NoInput, Refused}
 use Rattle.msgfmt_tool.specs.declared.outcome.Status.{Status}

@@ -1,15 +1,15 @@
 -- Private: what the steps of a run answer.
 use Rattle.std.specs.Prelude.{◌≡◌, ◌⊎◌, ℕ, ⊤, Bool, List, Result, Ok, Err, IsTrue}
 use Rattle.std.specs.Io.KnownBytes.{Appends}
-use Rattle.devices.specs.Devices.{RisesBy}
+use Rattle.devices.specs.Devices.{RisesBy, InputSeen, OutputSeen}
 use Rattle.catalogue.specs.Meaning.{Means, Refuses}
 use Rattle.catalogue.specs.MoFile.{spelling}
 use Rattle.catalogue.specs.declared.Options.{Options}
 use Rattle.catalogue.specs.declared.Compiled.{Compiled}
 use Rattle.catalogue.specs.declared.LoadFault.{LoadFault}
 use Rattle.msgfmt_tool.specs.Words.{Asked}
-use Rattle.msgfmt_tool.specs.Runs.{Change, Fails, FailsToRead, FailsToWrite, FilesSeen, InputSeen, IsUnwritten}
-use Rattle.msgfmt_tool.specs.Runs.{MakesFile, OutputSeen, Reads, Run, TellsAll, Writes, is_standard}
+use Rattle.msgfmt_tool.specs.Runs.{Change, Fails, FailsToRead, FailsToWrite, FilesSeen, IsUnwritten}
+use Rattle.msgfmt_tool.specs.Runs.{MakesFile, Reads, Run, TellsAll, Writes, is_standard}
 use Rattle.msgfmt_tool.specs.declared.outcome.Cause.{Cause}
 use Rattle.msgfmt_tool.specs.declared.outcome.Cause.TheVariants.{Words, CannotRead, CannotWrite, ErrorOutput, Memory}
 use Rattle.msgfmt_tool.specs.declared.outcome.Cause.TheVariants.{Refused}

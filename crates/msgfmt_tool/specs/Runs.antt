@@ -2,7 +2,7 @@
 use Rattle.std.specs.Prelude.{◌≡◌, ◌⊎◌, ℕ, Bool, true, false, List, Option, Some, None, IsTrue, codes}
 use Rattle.std.specs.Str.{bytes_eq}
 use Rattle.std.specs.Io.KnownBytes.{Appends, Consumes}
-use Rattle.devices.specs.Devices.{RisesBy, IsFront, most_reads}
+use Rattle.devices.specs.Devices.{InputSeen, IsFront, OutputSeen, RisesBy, most_reads}
 use Rattle.devices.specs.Files.{KeepsLog, Log, Logs, MayLog}
 use Rattle.catalogue.specs.MoFile.{spelling}
 use Rattle.catalogue.specs.Meaning.{Means, Refuses}
@@ -23,18 +23,6 @@ pub record FilesSeen : Type 0 where
   pub log : Log
   pub failures : ℕ
 
--- what is known of standard input: the bytes still to be read, if it reports them, and the counts of reads and of
--- failures
-pub record InputSeen : Type 0 where
-  pub left : Option (List ℕ)
-  pub reads : ℕ
-  pub failures : ℕ
-
--- what is known of standard output: the bytes that were written, if it reports them, and the count of failures
-pub record OutputSeen : Type 0 where
-  pub bytes : Option (List ℕ)
-  pub failures : ℕ
-
 -- what is known of a device before a run, and after it
 pub record Change (Seen : Type 0) : Type 0 where
   pub before : Seen
@@ -51,15 +39,6 @@ pub record Run : Type 0 where
 abbrev pub files_seen : {F : Type 0} → (F → List ℕ → Option (List ℕ)) → (F → Log) → (F → ℕ) → F → FilesSeen
 files_seen content written failures files =
     record { content = content files; log = written files; failures = failures files }
-
--- standard input now
-abbrev pub input_seen : {R : Type 0} → (R → Option (List ℕ)) → (R → ℕ) → (R → ℕ) → R → InputSeen
-input_seen remaining reads failures reader =
-    record { left = remaining reader; reads = reads reader; failures = failures reader }
-
--- standard output now
-abbrev pub output_seen : {W : Type 0} → (W → Option (List ℕ)) → (W → ℕ) → W → OutputSeen
-output_seen contents failures writer = record { bytes = contents writer; failures = failures writer }
 
 -- a device that came from one state to another, seen so
 abbrev pub change : {Device Seen : Type 0} → (Device → Seen) → Device → Device → Change Seen

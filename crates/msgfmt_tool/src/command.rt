@@ -1,7 +1,8 @@
 //! A run of the command.
 ghost use Rattle.std.specs.Prelude.{◌≡◌, ◌≤◌, map, string_bytes};
 ghost use Rattle.msgfmt_tool.specs.Requests.{asked_in};
-ghost use Rattle.msgfmt_tool.specs.Runs.{Runs, change, files_seen, input_seen, output_seen};
+ghost use Rattle.msgfmt_tool.specs.Runs.{Runs, change, files_seen};
+ghost use Rattle.devices.specs.Devices.{input_seen, output_seen};
 ghost use Rattle.msgfmt_tool.specs.RunSteps.{AnswersWords, Delivers, Tells, Works};
 
 use crate::outcome::{Cause, Status};

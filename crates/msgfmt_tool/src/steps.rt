@@ -1,8 +1,8 @@
 //! The steps of a run, in their order.
 ghost use Rattle.std.specs.Prelude.{◌≤◌, IfErr, IfOk, OnOk};
 ghost use Rattle.devices.specs.Files.{KeepsLog};
-ghost use Rattle.msgfmt_tool.specs.Runs.{Reads, TellsAll, Writes, change, files_seen, input_seen, is_standard};
-ghost use Rattle.msgfmt_tool.specs.Runs.{output_seen};
+ghost use Rattle.msgfmt_tool.specs.Runs.{Reads, TellsAll, Writes, change, files_seen, is_standard};
+ghost use Rattle.devices.specs.Devices.{input_seen, output_seen};
 ghost use Rattle.msgfmt_tool.specs.RunSteps.{CompilesNamed, EndsCompiling, EndsReading, EndsTelling, EndsWriting};
 
 use crate::outcome::Cause;
