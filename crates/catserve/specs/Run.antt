@@ -1,5 +1,5 @@
 -- What a run of a script does to the reader and the writer that it is given.
-use Rattle.std.specs.Prelude.{◌≡◌, ◌⊎◌, ℕ, ◌+◌, List, Option, Result, Ok, Err}
+use Rattle.std.specs.Prelude.{◌≡◌, ◌⊎◌, ℕ, ◌+◌, List, Result, Ok, Err}
 use Rattle.std.specs.Io.KnownBytes.{Appends, Consumes}
 use Rattle.devices.specs.Devices.{AppendsFront, InputSeen, IsFront, OutputSeen, RisesBy, most_reads}
 use Rattle.script_text.specs.declared.fault.ScriptFault.{ScriptFault}
@@ -9,15 +9,6 @@ use Rattle.script_text.specs.declared.fault.ScriptKind.TheVariants.{Memory}
 use Rattle.script_text.specs.Script.{ScriptValue}
 use Rattle.script_text.specs.Texts.{IsRefused, IsScript, most_script}
 use Rattle.catserve.specs.Rounds.{HasOutput}
-
--- what is known of a reader by the ghost functions of its type
-abbrev pub input_seen : {R : Type 0} → (R → Option (List ℕ)) → (R → ℕ) → (R → ℕ) → R → InputSeen
-input_seen remaining reads failures reader = record
-    { left = remaining reader; reads = reads reader; failures = failures reader }
-
--- what is known of a writer by the ghost functions of its type
-abbrev pub output_seen : {W : Type 0} → (W → Option (List ℕ)) → (W → ℕ) → W → OutputSeen
-output_seen contents failures writer = record { bytes = contents writer; failures = failures writer }
 
 -- the text was read: all that was left, or one byte more than a script may have if there are more
 pub record ReadsText (i i' : InputSeen) (text : List ℕ) : Type 0 where

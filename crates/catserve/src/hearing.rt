@@ -7,7 +7,7 @@ ghost use Rattle.script_text.specs.Texts.{most_script};
 ghost use Rattle.devices.specs.Incoming.{EndsLine};
 ghost use Rattle.devices.specs.Waiting.{ReadsWhile, StillCounts, StillWaits, WaitsUntil};
 ghost use Rattle.catserve.specs.Timing.{BeginsInTime, HearsInTime, ReadsText};
-ghost use Rattle.catserve.specs.Run.{input_seen};
+ghost use Rattle.devices.specs.Devices.{input_seen};
 ghost use Rattle.catserve.specs.Session.{most_lines, AnswersInTime};
 ghost use Rattle.catserve.specs.Hearing.{unheard, EndsNext, FailsFor, FailsInPreamble, HearsNothing, HearsNoText};
 ghost use Rattle.catserve.specs.Hearing.{commands_of, line_of_kind, size_behind, HearsText};

@@ -3,7 +3,7 @@ ghost use Rattle.std.specs.Prelude.{◌≡◌, ◌≤◌, IfOk, IfErr, OnOk, len
 ghost use Rattle.live_versions.specs.Store.{HasRoom};
 ghost use Rattle.script_text.specs.ScriptFields.{most_workers};
 ghost use Rattle.catserve.specs.Hearing.{command_of};
-ghost use Rattle.catserve.specs.Run.{output_seen};
+ghost use Rattle.devices.specs.Devices.{output_seen};
 ghost use Rattle.catserve.specs.Running.{HaveBook, IsPlayFault, load_of};
 ghost use Rattle.catserve.specs.Talking.{FailsToAnswer, GivesQuestion, IsFresh, MakesLoad};
 ghost use Rattle.catserve.specs.Timing.{GivesRound, GivesSome, RespondsInTime};

@@ -3,7 +3,8 @@ ghost use Rattle.std.specs.Prelude.{IfOk, IfErr, length};
 ghost use Rattle.std.specs.List.{flat_map};
 ghost use Rattle.script_text.specs.CommandValues.{listed};
 ghost use Rattle.catserve.specs.Rounds.{HasOutput};
-ghost use Rattle.catserve.specs.Run.{ReadsText, Runs, input_seen, output_seen};
+ghost use Rattle.catserve.specs.Run.{ReadsText, Runs};
+ghost use Rattle.devices.specs.Devices.{input_seen, output_seen};
 ghost use Rattle.catserve.specs.Running.{CutsShort, EndsPlaying, EndsReading, HasPlayedAll};
 ghost use Rattle.catserve.specs.Talking.{IsFresh};
 

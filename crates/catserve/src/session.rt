@@ -1,6 +1,6 @@
 //! A session: a script that is answered round by round, while it arrives.
 ghost use Rattle.std.specs.Prelude.{◌≡◌, ◌<◌};
-ghost use Rattle.catserve.specs.Run.{input_seen, output_seen};
+ghost use Rattle.devices.specs.Devices.{input_seen, output_seen};
 ghost use Rattle.catserve.specs.Session.{AnswersInTime, Converses};
 ghost use Rattle.catserve.specs.Talking.{Continues, IsFresh};
 ghost use Rattle.catserve.specs.Timing.{ContinuesInTime};

@@ -1,7 +1,6 @@
 use Rattle.std.proofs.Common.{◌∙◌, refl, sym, ap, length, arith, rules, length-append}
 use Rattle.std.specs.Vec.Iter.{into_iter_items}
-use Rattle.devices.specs.Devices.{OutputSeen}
-use Rattle.catserve.specs.Run.{output_seen}
+use Rattle.devices.specs.Devices.{OutputSeen, output_seen}
 use Rattle.catserve.proofs.ScriptTalk.{comes_more, comes_none, plays_idle, plays_last, room_for}
 use Rattle.catserve.proofs.Turns.{takes_one, takes_all}
 use Rattle.catserve.proofs.run.play_all.Goals as goal

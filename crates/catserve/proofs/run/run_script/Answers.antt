@@ -1,6 +1,5 @@
 use Rattle.std.proofs.Common.{◌≡◌, refl, rules, Err}
-use Rattle.devices.specs.Devices.{OutputSeen}
-use Rattle.catserve.specs.Run.{output_seen}
+use Rattle.devices.specs.Devices.{OutputSeen, output_seen}
 use Rattle.catserve.proofs.Stopping.{run_fails}
 use Rattle.catserve.proofs.run.run_script.Goals as goal
 

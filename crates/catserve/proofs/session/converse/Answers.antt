@@ -1,8 +1,7 @@
 use Rattle.std.proofs.Common.{◌∙◌, inr, sym, arith}
 use Rattle.std.proofs.lemmas.Result.{err_from_is_err_and}
 use Rattle.devices.specs.Logs.{Log}
-use Rattle.devices.specs.Devices.{InputSeen, OutputSeen}
-use Rattle.catserve.specs.Run.{input_seen, output_seen}
+use Rattle.devices.specs.Devices.{InputSeen, OutputSeen, input_seen, output_seen}
 use Rattle.catserve.specs.Hearing.{command_of}
 use Rattle.catserve.proofs.SessionEnds.{all_answered, fails_so, last_answered, none_ends, taken_stays}
 use Rattle.catserve.proofs.SessionInTime.{gives_none, reads_open, talks_last, talks_more, talks_none}

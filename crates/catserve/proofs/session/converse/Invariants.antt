@@ -1,5 +1,5 @@
 use Rattle.std.proofs.Common.{◌-◌}
-use Rattle.catserve.specs.Run.{input_seen, output_seen}
+use Rattle.devices.specs.Devices.{input_seen, output_seen}
 use Rattle.catserve.specs.Timing.{TalksInTime}
 use Rattle.catserve.proofs.session.converse.Given as goal
 

@@ -1,8 +1,7 @@
 use Rattle.std.proofs.Common.{◌∙◌, ℕ, Option, Some, None, refl, sym, subst}
 use Rattle.std.proofs.lemmas.Result.{err_from_is_err_and}
 use Rattle.devices.specs.Logs.{Log}
-use Rattle.devices.specs.Devices.{InputSeen, OutputSeen}
-use Rattle.catserve.specs.Run.{input_seen, output_seen}
+use Rattle.devices.specs.Devices.{InputSeen, OutputSeen, input_seen, output_seen}
 use Rattle.catserve.specs.Timing.{BeginsInTime}
 use Rattle.catserve.specs.Hearing.{HearingValue}
 use Rattle.catserve.proofs.SessionEnds.{begins_so, ends_at_once, front_ends}

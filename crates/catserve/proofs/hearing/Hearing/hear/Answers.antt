@@ -1,6 +1,5 @@
 use Rattle.std.proofs.Common.{◌∙◌, ap}
-use Rattle.devices.specs.Devices.{InputSeen}
-use Rattle.catserve.specs.Run.{input_seen}
+use Rattle.devices.specs.Devices.{InputSeen, input_seen}
 use Rattle.catserve.specs.Hearing.{HearingValue, line_of_kind}
 use Rattle.catserve.proofs.LinesTaken.{no_line}
 use Rattle.catserve.proofs.SessionHears.{hears_none, none_then}

@@ -1,5 +1,5 @@
 use Rattle.std.proofs.Common.{ℕ, List, ◌-◌, ◌≡◌}
-use Rattle.catserve.specs.Run.{input_seen}
+use Rattle.devices.specs.Devices.{input_seen}
 use Rattle.catserve.proofs.SessionInTime.{PassesInTime}
 use Rattle.catserve.proofs.hearing.Hearing.hear_preamble.Given as goal
 

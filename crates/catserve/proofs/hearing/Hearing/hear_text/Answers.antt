@@ -1,8 +1,7 @@
 use Rattle.std.proofs.Common.{◌≡◌, ◌-◌, ◌∙◌, [], ℕ, List, refl, ap, arith, take, drop}
 use Rattle.std.specs.Str.{IsUtf8}
 use Rattle.devices.proofs.Arriving.{both}
-use Rattle.devices.specs.Devices.{InputSeen}
-use Rattle.catserve.specs.Run.{input_seen}
+use Rattle.devices.specs.Devices.{InputSeen, input_seen}
 use Rattle.script_text.specs.Texts.{most_script}
 use Rattle.catserve.specs.Hearing.{HearingValue}
 use Rattle.catserve.proofs.LinesTaken.{nothing_heard, no_line, stays_whole, text_ends_within, text_within}
