@@ -25,10 +25,12 @@ MSGFMT_PAGE = "docs/man/msgfmt.1"
 CATSERVE_PAGE = "docs/man/catserve.1"
 SESSION_PAGE = "docs/man/catsession.1"
 DRIVER_PAGE = "docs/man/msgfmt-or-gnu.1"
+COMPILER_PAGE = "docs/man/kob-compile.1"
 LIBRARY_PAGE = "docs/man/kobdzila.3"
 DECISIONS = "docs/internals/decisions/README.md"
 TROUBLES = "docs/guide/troubleshooting.md"
 DRIVER_OPTIONS = "c/driver/or_gnu_words.c"
+COMPILER_OPTIONS = "c/compile/options.c"
 HEADER = "include/kobdzila.h"
 COMPLETION = "tools/completion"
 LEAST_LIMIT = 20_000_000  # a number of the documents from here on is one of the limits
@@ -191,6 +193,21 @@ def options_of_the_driver():
     )
     return differences(DRIVER_PAGE, in_page | by_letters, wanted) + differences(
         f"{COMPLETION}, msgfmt-or-gnu", in_completion - {"--summary"}, wanted)
+
+
+def options_of_the_compiler():
+    """the options of kob-compile: code, help, man page, completions"""
+    code = read(COMPILER_OPTIONS)
+    wanted = {f"--{name}" for name in re.findall(r'^    \{"([a-z-]+)",', code, re.M)}
+    wanted |= {f"-{letter}" for letter in re.search(r'getopt_long\(count, words, "([^"]*)"', code)[1] if letter != ":"}
+    told = re.search(r"help\[\] =\n(.*?);\n\n", code, re.S)[1]
+    heads = re.findall(r'^    "  +(-.*?)(?:  |\\n)', told, re.M)
+    manual = re.search(r"^\.SH OPTIONS\n(.*?)^\.SH JSON", read(COMPILER_PAGE), re.M | re.S)[1].replace("\\-", "-")
+    in_page = re.sub(r"\\f[A-Z]", "", " ".join(re.findall(r"^\.TP\n\.BI?R? (.*)$", manual, re.M))).replace('"', " ")
+    completed = re.search(r"kob_compile\(\).*?local options='([^']*)'", read(COMPLETION), re.S)[1]
+    found = [(f"{COMPILER_OPTIONS}, its help", " ".join(heads)), (COMPILER_PAGE, in_page),
+             (f"{COMPLETION}, kob-compile", completed)]
+    return [why for name, text in found for why in differences(name, options_in(text), wanted)]
 
 
 def warnings_of_the_driver():
@@ -635,6 +652,7 @@ RULES = (
     faults_of_the_header,
     functions_of_the_library,
     options_of_the_driver,
+    options_of_the_compiler,
     warnings_of_the_driver,
     lines_of_the_command,
     fields_of_a_header,

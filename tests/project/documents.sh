@@ -87,12 +87,16 @@ docs/man/catsession.1^round too large;^round is too large;
 docs/man/catsession.1^an MO file 268,435,456^an MO file 268,435,455
 docs/man/catsession.1^threads, 1 to 16;^threads, 1 to 17;
 docs/man/msgfmt-or-gnu.1^\-\-tcl^\-\-tk
+docs/man/kob-compile.1^.BI \-\-sarif^.BI \-\-log
 tools/completion^--use-fuzzy^--fuzzy
 include/kobdzila.h^KOB_MO_ORDER = 9^KOB_MO_ORDER = 8
 c/library/kobdzila.c^"newlines differ"^"lines differ"
 tools/completion^'--workers --help --version -h -V'^'--workers --help --version -h'
 tools/completion^--stringtable-input^--stringtable
+tools/completion^--exclude=^--leave-out=
 c/driver/or_gnu_words.c^{"java2",^{"java3",
+c/compile/options.c^{"watch",^{"follow",
+c/compile/options.c^--no-gnu  ^--only-us 
 c/driver/msgfmt_or_gnu.c^warning: header field^warning: field
 README.md^(docs/guide/rattle.md)^(docs/guide/rattles.md)
 docs/reference/po.md^(headers.md)^(headers.md#headings)

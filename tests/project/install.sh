@@ -20,27 +20,28 @@ made() {
 
 
 # (what is in C is installed where it was built)
-driver=''
+driver='' compiler=''
 [ ! -x bin/msgfmt-or-gnu ] || driver=msgfmt-or-gnu
+[ ! -x bin/kob-compile ] || compiler=kob-compile
 
 # pages NAME PREFIX: each program has its page, without a warning, and the documents that they name are there
 pages() {
   local at=$room/image$room/usr/share/man/man1 page wrong='' document
-  for page in msgfmt catserve catsession $driver; do
-    [ -s "$at/$2$page.1" ] || wrong+="no page of $page; "
+  for page in $2msgfmt $2catserve $2catsession ${driver:+$2$driver} $compiler; do
+    [ -s "$at/$page.1" ] || wrong+="no page of $page; "
   done
   if tests/lib/needs mandoc mandoc; then
-    wrong+=$(mandoc -T lint "$at/$2"*.1 2>&1 | head -n 2)
+    wrong+=$(mandoc -T lint "$at"/*.1 2>&1 | head -n 2)
   else
     skipped "$1, lint" 'no mandoc'
   fi
   if command -v groff > /dev/null; then
-    for page in "$at/$2"*.1; do wrong+=$(groff -t -man -ww -T utf8 -z "$page" 2>&1 | head -n 2); done
+    for page in "$at"/*.1; do wrong+=$(groff -t -man -ww -T utf8 -z "$page" 2>&1 | head -n 2); done
   else
     skipped "$1, groff" 'no groff'
   fi
-  for page in msgfmt catserve catsession $driver; do
-    document=$(sed 's/\\-/-/g' "$at/$2$page.1" | grep -o "$room/usr/share/doc/[^ ]*\.md" | head -n 1)
+  for page in $2msgfmt $2catserve $2catsession ${driver:+$2$driver} $compiler; do
+    document=$(sed 's/\\-/-/g' "$at/$page.1" | grep -o "$room/usr/share/doc/[^ ]*\.md" | head -n 1)
     [ -n "$document" ] && [ -s "$room/image$document" ] || wrong+="$page(1) names '$document', which isn't there; "
   done
   if [ -z "$wrong" ]; then ok "$1"; else failed "$1" "$wrong"; fi
@@ -124,6 +125,14 @@ installed() {
   else
     failed "$as: msgfmt-or-gnu runs" "$(cat "$room/err")"
   fi
+  if [ -z "$compiler" ]; then
+    skipped "$as: kob-compile" 'it was not built'
+  elif "$bin/kob-compile" -q --no-gnu --force "$room/project" 2> "$room/err" &&
+    cmp -s "$room/project/po/fr.mo" crates/msgfmt/stdout; then
+    ok "$as: kob-compile runs"
+  else
+    failed "$as: kob-compile runs" "$(cat "$room/err")"
+  fi
   unstripped=build/static/msgfmt
   [ -x $unstripped ] || unstripped=$program
   if ! command -v strip > /dev/null || [ "$(wc -c < "$bin/$1msgfmt")" -le "$(wc -c < "$unstripped")" ]; then
@@ -144,6 +153,12 @@ installed() {
     completes "$as: the value of one" 'little' "$1msgfmt-or-gnu" --endianness = l
     completes "$as: a folder" 'filenames: folder' "$1msgfmt-or-gnu" -D ''
   fi
+  if [ -n "$compiler" ]; then
+    completes "$as: an option of kob-compile" '--statistics' kob-compile --st
+    completes "$as: an option of kob-compile with a value" 'nospace: --exclude=' kob-compile --ex
+    completes "$as: a folder for kob-compile" 'filenames: folder' kob-compile -o ''
+    completes "$as: PO files and folders for kob-compile" 'filenames: a.po folder' kob-compile -c ''
+  fi
   completes "$as: the options of a session" '--help --version --workers -V -h' "$1catsession" ''
   completes "$as: a number of workers" '1 10 11 12 13 14 15 16' "$1catsession" --workers 1
   if [ -f build/lib/libkobdzila.so.0 ]; then
@@ -158,7 +173,8 @@ installed() {
   else failed "$as: nothing is left by uninstall" "$left"; fi
 }
 
-mkdir -p "$room/words/folder"
+mkdir -p "$room/words/folder" "$room/project/po"
+cp crates/msgfmt/stdin "$room/project/po/fr.po"
 touch "$room/words/a.po" "$room/words/a.mo"
 if tests/lib/needs make make; then
   installed ''

@@ -7,7 +7,7 @@ no_program=1
 # tarball FOLDER: what a user with umask 077 has unpacked; another user than this one, if this is root
 tarball() {
   mkdir -p "$1"/{bin,include,lib/kobdzila,lib/pkgconfig,tools,share/{man/man1,bash-completion/completions,doc/kobdzila/reference}}
-  for it in msgfmt catserve; do
+  for it in msgfmt catserve kob-compile; do
     printf '#!/bin/sh\necho %s\n' $it > "$1/bin/$it"
     cp docs/man/$it.1 "$1/share/man/man1"
   done
@@ -15,7 +15,7 @@ tarball() {
   cp include/kobdzila.h "$1/include"
   for it in libkobdzila.a libkobdzila.so.0 kobdzila/libkobdzila-intl.so pkgconfig/kobdzila.pc; do echo $it > "$1/lib/$it"; done
   ln -s libkobdzila.so.0 "$1/lib/libkobdzila.so"
-  cp tools/completion "$1/share/bash-completion/completions/msgfmt"
+  for it in msgfmt kob-compile; do cp tools/completion "$1/share/bash-completion/completions/$it"; done
   cp docs/reference/msgfmt.md "$1/share/doc/kobdzila/reference"
   cp tools/installed_page "$1/tools"
   cp packaging/install.sh VERSION "$1"
@@ -109,6 +109,9 @@ holds 'what was there before stays' test "$(listed)" = "$before"
 install
 PROGRAM_PREFIX=kob- install
 holds 'a prefix for the programs' test "$("$PREFIX/bin/kob-msgfmt")" = msgfmt
+holds 'kob-compile keeps its name' test -x "$PREFIX/bin/kob-compile" -a ! -e "$PREFIX/bin/kob-kob-compile"
+holds 'kob-compile keeps its name: its completions' grep -qx 'complete -F .* kob-compile' \
+  "$PREFIX/share/bash-completion/completions/kob-compile"
 PROGRAM_PREFIX=kob- install remove
 holds 'one is removed, and the programs of the other stay' test -x "$PREFIX/bin/msgfmt" -a ! -e "$PREFIX/bin/kob-msgfmt"
 install remove

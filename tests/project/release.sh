@@ -28,6 +28,12 @@ else
   skipped 'version: catsession' 'it was not built'
 fi
 
+if [ -x bin/kob-compile ]; then
+  says 'version: kob-compile' "kob-compile (Kobdzila) $version" "$(bin/kob-compile --version 2>&1)"
+else
+  skipped 'version: kob-compile' 'it was not built'
+fi
+
 # --- the C interface ----------------------------------------------------------------------------------------------
 
 if command -v python3 > /dev/null && command -v readelf > /dev/null && [ -f build/lib/libkobdzila.so.0 ]; then
@@ -162,6 +168,9 @@ else
   failed 'the image: each blob has the digest that is its name' "$(cat "$room/sums" 2>&1)"
 fi
 if [ "$(id -u)" = 0 ]; then
+  mkdir "$room/root/project" && cp crates/msgfmt/stdin "$room/root/project/fr.po"
+  chroot "$room/root" /usr/local/bin/kob-compile -q --no-gnu project > "$room/log" 2>&1
+  says 'the image: kob-compile compiles a project' "$(hex < crates/msgfmt/stdout)" "$(hex < "$room/root/project/fr.mo" 2>> "$room/log")"
   says 'the image: its command runs in it' "catsession (Kobdzila) $version" \
     "$(chroot "$room/root" "$(digest "$room/image/blobs/$(digest "$manifest" config digest)" config Entrypoint 0)" --version 2>&1)"
 else
@@ -270,10 +279,12 @@ fi
 program=$room/unpacked/$name/bin/msgfmt
 if [ "$(id -u)" = 0 ]; then
   mkdir "$room/nothing"
-  cp "$room/unpacked/$name/bin"/{msgfmt,catserve,catsession} "$room/nothing"
+  cp "$room/unpacked/$name/bin"/{msgfmt,catserve,catsession,kob-compile} "$room/nothing"
+  cp crates/msgfmt/stdin "$room/nothing/fr.po"
   if said=$(chroot "$room/nothing" /msgfmt -o - - < crates/msgfmt/stdin 2>&1 | cmp - crates/msgfmt/stdout 2>&1) &&
     [ "$(echo go | chroot "$room/nothing" /catserve)" = "$(printf 'version\t0')" ] &&
-    [ "$(echo go | chroot "$room/nothing" /catsession)" = "$(printf 'version\t0')" ]; then
+    [ "$(echo go | chroot "$room/nothing" /catsession)" = "$(printf 'version\t0')" ] &&
+    said=$(chroot "$room/nothing" /kob-compile -q fr.po 2>&1) && cmp -s "$room/nothing/fr.mo" crates/msgfmt/stdout; then
     ok 'the programs run in a folder without a C library'
   else
     failed 'the programs run in a folder without a C library' "$said"
@@ -291,7 +302,9 @@ installed() {
     return
   fi
   if "$to/bin/$1msgfmt" -o - - < crates/msgfmt/stdin | cmp -s - crates/msgfmt/stdout &&
-    "$to/bin/$1msgfmt-or-gnu" -o - - < crates/msgfmt/stdin | cmp -s - crates/msgfmt/stdout; then
+    "$to/bin/$1msgfmt-or-gnu" -o - - < crates/msgfmt/stdin | cmp -s - crates/msgfmt/stdout &&
+    cp crates/msgfmt/stdin "$room/home/fr.po" && "$to/bin/kob-compile" -q --force "$room/home/fr.po" &&
+    cmp -s "$room/home/fr.mo" crates/msgfmt/stdout; then
     ok "$as: the programs run"
   else
     failed "$as: the programs run" 'they answer otherwise'
