@@ -156,6 +156,22 @@ static void look_at_file(struct search *search, int folder, const char *path, co
     free(file);
 }
 
+/* Look at the PO file of a language that LINGUAS lists. That of a manual (GNOME's `help/LINGUAS`) is in a folder of the
+ * language, into which the search goes in any case. */
+static void look_at_language(struct search *search, int folder, const char *path, const char *language) {
+    char *po = text_of("%s.po", language), *in_folder = text_of("%s/%s.po", language, language);
+    if (faccessat(folder, po, F_OK, 0) == 0 || errno != ENOENT) {
+        look_at_file(search, folder, path, po);
+    } else if (faccessat(folder, in_folder, F_OK, 0) < 0) {
+        char *name = path_of(path, "LINGUAS");
+        tell("kob-compile: %s lists %s, and there is no %s", name, language, po);
+        search->status = TROUBLE;
+        free(name);
+    }
+    free(po);
+    free(in_folder);
+}
+
 /* Look at the PO files that LINGUAS lists: words, with comments from # to the end of the line. */
 static void look_at_linguas(struct search *search, int folder, const char *path) {
     char *name = path_of(path, "LINGUAS"), *bytes = NULL, *save = NULL;
@@ -168,16 +184,8 @@ static void look_at_linguas(struct search *search, int folder, const char *path)
     for (char *at = bytes; at && (at = strchr(at, '#'));)
         while (*at && *at != '\n')
             *at++ = ' ';
-    for (char *word = bytes ? strtok_r(bytes, " \t\r\n", &save) : NULL; word; word = strtok_r(NULL, " \t\r\n", &save)) {
-        char *po = text_of("%s.po", word);
-        if (faccessat(folder, po, F_OK, 0) < 0 && errno == ENOENT) {
-            tell("kob-compile: %s lists %s, and there is no %s", name, word, po);
-            search->status = TROUBLE;
-        } else {
-            look_at_file(search, folder, path, po);
-        }
-        free(po);
-    }
+    for (char *word = bytes ? strtok_r(bytes, " \t\r\n", &save) : NULL; word; word = strtok_r(NULL, " \t\r\n", &save))
+        look_at_language(search, folder, path, word);
     free(bytes);
     free(name);
 }
@@ -279,7 +287,8 @@ static void look_for_collisions(struct search *search) {
     qsort(sorted, all->count, sizeof *sorted, by_output);
     for (size_t place = 1; place < all->count; place++)
         if (!strcmp(sorted[place - 1]->mo, sorted[place]->mo) && search->collisions++ == 0)
-            tell("kob-compile: %s and %s would both be %s", sorted[place - 1]->po, sorted[place]->po, sorted[place]->mo);
+            tell("kob-compile: %s and %s would both be %s: name the folder of one of them", sorted[place - 1]->po,
+                 sorted[place]->po, sorted[place]->mo);
     free(sorted);
 }
 

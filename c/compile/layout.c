@@ -3,6 +3,7 @@
  *   .. / LANGUAGE / LC_MESSAGES / DOMAIN.po   the layout in which catalogues are installed (GNU gettext manual, "Locating
  *                                             Message Catalog Files"), as Django and Babel have it. DOMAIN may have
  *                                             slashes, as Sphinx has them
+ *   .. / po / LANGUAGE / DOMAIN.po            that of KDE, where LANGUAGE is written as a language is
  *   .. / LANGUAGE.po                          that of a folder po (the same manual, "Files You Must Create or Alter") */
 #include "compile.h"
 
@@ -39,21 +40,42 @@ static char *copy_of(const char *at, size_t len) {
     return copy;
 }
 
+/* Return where the component of a path begins that ends at `end`. */
+static const char *component_before(const char *path, const char *end) {
+    while (end > path && end[-1] != '/')
+        end--;
+    return end;
+}
+
+/* Whether a name is written as a language is: `de`, `pt_BR`, `sr@latin`, `zh-Hant` (the same manual, "Locale Names"). */
+static bool is_language(const char *at, const char *end) {
+    size_t letters = strspn(at, "abcdefghijklmnopqrstuvwxyz");
+    at += letters;
+    return (letters == 2 || letters == 3) && at <= end && (at == end || strchr("_-@", *at));
+}
+
+/* Find the LANGUAGE of `po/LANGUAGE/DOMAIN.po`, whose DOMAIN begins at `name`; NULL if the path isn't of this form. */
+static const char *find_language(const char *path, const char *name) {
+    if (name == path)
+        return NULL;
+    const char *first = component_before(path, name - 1);
+    bool is_in_po = first - path >= 3 && !strncmp(first - 3, "po/", 3) && (first - path == 3 || first[-4] == '/');
+    return is_in_po && is_language(first, name - 1) ? first : NULL;
+}
+
 /* Give the catalogue the language and the domain that its path names. */
 static void name_by_path(const struct options *options, struct catalogue *it) {
     const char *path = it->po, *end = path + stem_length(path), *found = find_messages(path);
-    if (!found) {
-        const char *slash = strrchr(path, '/'), *name = slash ? slash + 1 : path;
+    const char *name = found ? found + sizeof messages : component_before(path, end);
+    const char *last = found ? found - 1 : name - 1;
+    const char *first = found ? component_before(path, last) : find_language(path, name);
+    if (first) {
+        it->language = copy_of(first, (size_t)(last - first));
+        it->domain = copy_of(name, (size_t)(end - name));
+    } else {
         it->language = copy_of(name, (size_t)(end - name));
         it->domain = options->domain ? copy_of(options->domain, strlen(options->domain)) : NULL;
-        return;
     }
-    const char *last = found - 1, *first = last;
-    while (first > path && first[-1] != '/')
-        first--;
-    it->language = copy_of(first, (size_t)(last - first));
-    const char *name = found + sizeof messages;
-    it->domain = copy_of(name, (size_t)(end - name));
 }
 
 bool place_catalogue(const struct options *options, struct catalogue *it) {

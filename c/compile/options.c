@@ -14,7 +14,7 @@ static const char help[] =
     "(the current one, if none is). A PO file is compiled if it is newer than its MO file.\n"
     "\n"
     "  -o, --output=FOLDER   write FOLDER/LANGUAGE/LC_MESSAGES/DOMAIN.mo, and not next to each PO file\n"
-    "  -d, --domain=DOMAIN   the text domain of po/LANGUAGE.po; in LC_MESSAGES, compile DOMAIN.po alone\n"
+    "  -d, --domain=DOMAIN   the text domain of po/LANGUAGE.po; elsewhere compile DOMAIN.po alone\n"
     "      --exclude=NAME    don't look into folders that are called NAME; may be given several times\n"
     "      --force           compile all, newer or not\n"
     "  -c                    run the checks of `msgfmt -c`\n"
