@@ -94,7 +94,8 @@ void compile_all(struct run *run) {
     struct queue queue = {.run = run};
     off_t bytes = fill(&queue, &run->catalogues);
     unsigned jobs = run->options.jobs < queue.count ? run->options.jobs : (unsigned)queue.count;
-    pthread_t *threads = jobs > 1 && bytes > FEW_BYTES ? malloc(jobs * sizeof *threads) : NULL;
+    bool has_others = jobs > 1 || has_progress(); /* (this thread shows the progress of one, too) */
+    pthread_t *threads = has_others && bytes > FEW_BYTES ? malloc(jobs * sizeof *threads) : NULL;
     pthread_mutex_init(&queue.lock, NULL);
     pthread_cond_init(&queue.ended, NULL);
     unsigned count = threads ? start_threads(&queue, threads, jobs) : 0;
