@@ -102,7 +102,7 @@ says 'compile, -o without a domain' 2 'kob-compile: project/po/de.po: -o needs -
 kob-compile: and 1 more need -d DOMAIN' -o out3 project/po/de.po project/po/fr.po
 holds 'compile, -o without a domain: nothing is written' is_absent out3
 po one/locale/fr/LC_MESSAGES/x.po fr a && po two/locale/fr/LC_MESSAGES/x.po fr b
-says 'compile, two PO files for one MO file' 2 'kob-compile: one/locale/fr/LC_MESSAGES/x.po and two/locale/fr/LC_MESSAGES/x.po would both be out3/fr/LC_MESSAGES/x.mo' -o out3 one two
+says 'compile, two PO files for one MO file' 2 'kob-compile: one/locale/fr/LC_MESSAGES/x.po and two/locale/fr/LC_MESSAGES/x.po would both be out3/fr/LC_MESSAGES/x.mo: name the folder of one of them' -o out3 one two
 holds 'compile, two PO files for one MO file: nothing is written' is_absent out3
 (cd one && "$compiler" > ../out 2> ../err)
 holds 'compile, the current folder' is_as_msgfmt one/locale/fr/LC_MESSAGES/x.mo one/locale/fr/LC_MESSAGES/x.po
@@ -110,6 +110,17 @@ says 'compile, --exclude' 0 '' --force --exclude=other --exclude=po -q project
 rm project/po/fr.mo
 says 'compile, a file named, and its folder' 0 '' project/po/fr.po project/po/
 holds 'compile, a file named, and its folder: once' grep -qx '1 compiled, 1 up to date in .*' out
+po kde/po/de/kapp.po de a && po kde/po/pt_BR/kapp.po pt_BR b && po kde/po/de/kother.po de c
+says 'compile, po/LANGUAGE/DOMAIN.po' 0 '' -o out5 kde
+holds 'compile, po/LANGUAGE/DOMAIN.po: a row for each language' [ "$(awk 'NR > 1 && NR < 4 { print $1 }' out | xargs)" = 'de pt_BR' ]
+found=$(cd out5 && find . -type f | sort | xargs)
+holds 'compile, po/LANGUAGE/DOMAIN.po: where it writes' \
+  [ "$found" = './de/LC_MESSAGES/kapp.mo ./de/LC_MESSAGES/kother.mo ./pt_BR/LC_MESSAGES/kapp.mo' ]
+says 'compile, po/LANGUAGE/DOMAIN.po, -d' 0 '' -q -d kother kde/po
+holds 'compile, po/LANGUAGE/DOMAIN.po, -d: one domain' [ "$(cd kde && find . -name '*.mo')" = ./po/de/kother.mo ]
+po manual/help/de/de.po de a && printf 'de nl # a list\n' > manual/help/LINGUAS
+says 'compile, LINGUAS of a manual' 3 'kob-compile: manual/help/LINGUAS lists nl, and there is no nl.po' -q manual
+holds 'compile, LINGUAS of a manual: LANGUAGE/LANGUAGE.po' is_as_msgfmt manual/help/de/de.mo manual/help/de/de.po
 printf 'fr nl\n' > project/po/LINGUAS
 says 'compile, LINGUAS lists what is not there' 3 'kob-compile: project/po/LINGUAS lists nl, and there is no nl.po' -q project/po
 says 'compile, no such folder' 3 'kob-compile: cannot read none: No such file or directory' none
@@ -185,6 +196,9 @@ if [ "$(id -u)" != 0 ] || [ ${#as_user[@]} != 0 ]; then
   chmod 755 shut && chmod 444 shut/fr.mo
   says 'compile, an MO file that is read-only' 0 '' -q shut
   holds 'compile, an MO file that is read-only: it is replaced, and keeps its mode' [ "$(stat -c %a shut/fr.mo)" = 444 ]
+  mkdir shut/folder && echo fr > shut/LINGUAS && chmod 0 shut/folder shut/LINGUAS
+  says 'compile, a folder and a LINGUAS that are unreadable' 3 'kob-compile: cannot read shut/LINGUAS: Permission denied
+kob-compile: cannot read shut/folder: Permission denied' -q shut
   under=()
 else
   skipped 'compile, files without permission' 'there is no setpriv'
@@ -325,6 +339,9 @@ holds 'compile, --help' [ "$status" = 0 ] && holds 'compile, --help: its usage' 
 "$compiler" --version | grep -qxF "kob-compile (Kobdzila) $(cat "$top/VERSION")" && ok 'compile, --version' || failed 'compile, --version' ''
 "$compiler" --force again > /dev/full 2> err
 holds 'compile, a full output' [ $? = 3 ]
+says 'compile, a full disk for --sarif' 3 'kob-compile: cannot write /dev/full: No space left on device' -q --sarif=/dev/full again
+says 'compile, a file in the place of a folder' 3 \
+  'kob-compile: cannot write again/fr.po/fr/LC_MESSAGES/d.mo: Not a directory' -q -o again/fr.po -d d again/fr.po
 
 # --- GNU msgfmt ---------------------------------------------------------------------------------------------------------
 
@@ -391,6 +408,18 @@ if command -v script > /dev/null; then
   typed NO_COLOR=1 && holds 'compile, NO_COLOR: no colours' [ "$(grep -c "$escape" typed)" = 0 ]
   typed NO_COLOR= && holds 'compile, an empty NO_COLOR: colours' grep -q "$escape" typed
   terminal=dumb typed A=b && holds 'compile, a dumb terminal: no colours' [ "$(grep -c "$escape" typed)" = 0 ]
+  # (as many texts as take half a second: links to one file)
+  mkdir long
+  for jobs in 1 3; do
+    for last in 500 1000 2000 4000 8000; do
+      for it in $(seq $((last / 2)) "$last"); do ln -f many.po "long/$it.po"; done
+      env TERM=xterm script -qec "'$compiler' --check --no-gnu -q -j $jobs '$room/long'" typed > /dev/null < /dev/null
+      ! grep -q '\] [0-9]* of [0-9]*' typed || break
+    done
+    holds "compile, a terminal: a bar after half a second, -j $jobs" grep -q '\[#*\.*\] [0-9]* of [0-9]*' typed
+    holds "compile, a terminal: the bar is taken away, -j $jobs" grep -q "$(printf '\r')$escape\[K" typed
+  done
+  rm -r long
 else
   skipped 'compile, a terminal' 'there is no script'
 fi

@@ -75,9 +75,47 @@ def result_faults(result: dict, rules: list[dict]) -> list[str]:
     return []
 
 
+# Of the schema of SARIF 2.1.0: what an object has to have, and what each of its properties is, among those that are used
+# here. A schema's name in brackets is a list of such objects. The schema allows no other properties than its own.
+TEXT, COUNT = str, int
+SCHEMA = {
+    "log": ({"version", "runs"}, {"$schema": TEXT, "version": TEXT, "runs": ["run"]}),
+    "run": ({"tool"}, {"tool": "tool", "results": ["result"]}),
+    "tool": ({"driver"}, {"driver": "component"}),
+    "component": ({"name"}, {"name": TEXT, "version": TEXT, "rules": ["rule"]}),
+    "rule": ({"id"}, {"id": TEXT, "shortDescription": "multiformat"}),
+    "multiformat": ({"text"}, {"text": TEXT}),
+    "result": ({"message"}, {"ruleId": TEXT, "ruleIndex": COUNT, "level": TEXT, "message": "message",
+                             "locations": ["location"]}),
+    "message": ({"text"}, {"text": TEXT}),
+    "location": (set(), {"physicalLocation": "place"}),
+    "place": ({"artifactLocation"}, {"artifactLocation": "artifact", "region": "region"}),
+    "artifact": (set(), {"uri": TEXT, "uriBaseId": TEXT}),
+    "region": (set(), {"startLine": COUNT}),
+}
+
+
+def schema_faults(value: object, kind: object, path: str) -> list[str]:
+    """Where a value isn't as the schema says."""
+    if isinstance(kind, type):
+        return [] if type(value) is kind else [f"{path} is {value!r}"]
+    if isinstance(kind, list):
+        if not isinstance(value, list):
+            return [f"{path} is no list"]
+        return [it for number, one in enumerate(value) for it in schema_faults(one, kind[0], f"{path}[{number}]")]
+    required, known = SCHEMA[str(kind)]
+    if not isinstance(value, dict):
+        return [f"{path} is no object"]
+    wrong = [f"{path} has no {it}" for it in required - value.keys()]
+    wrong += [f"{path} has {it}, which the schema has not" for it in value.keys() - known.keys()]
+    return wrong + [it for name in value.keys() & known.keys()
+                    for it in schema_faults(value[name], known[name], f"{path}.{name}")]
+
+
 def look_at_sarif(name: str) -> None:
-    """The parts that the schema requires: version, runs, tool.driver.name; of a rule its id; of a result its message."""
+    """The schema's parts, the version, each rule once, and the results."""
     log = json.loads(Path(name).read_text(encoding="utf-8"))
+    judge("SARIF: as the schema requires", schema_faults(log, "log", "log"))
     (run,) = log["runs"]
     driver = run["tool"]["driver"]
     rules = driver["rules"]
