@@ -2,15 +2,17 @@
 from __future__ import annotations
 
 import gc
+import importlib
 import os
 import resource
 import threading
 import unittest
 from collections.abc import Callable
 from pathlib import Path
+from typing import Any
 
 try:
-    import _testcapi
+    _testcapi: Any = importlib.import_module("_testcapi")
 except ImportError:
     _testcapi = None
 

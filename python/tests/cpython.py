@@ -4,6 +4,7 @@ What differs is listed here with its reason, which docs/guide/python-gettext.md 
 one outside of it that fails, is a failure. The last line is `N tests, M differ as listed`.
 """
 import gettext
+import importlib
 import sys
 import types
 import unittest
@@ -45,8 +46,8 @@ def leaves(suite: unittest.TestSuite) -> Iterator[unittest.TestCase]:
 
 def main() -> int:
     with mock.patch.dict(sys.modules, {"gettext": stand_in()}):
-        from test import test_gettext
-    suite = unittest.defaultTestLoader.loadTestsFromModule(test_gettext)
+        module = importlib.import_module("test.test_gettext")
+    suite = unittest.defaultTestLoader.loadTestsFromModule(module)
     result = unittest.TestResult()
     tests = list(leaves(suite))
     suite.run(result)

@@ -7,6 +7,7 @@ import random
 import re
 import unittest
 from pathlib import Path
+from typing import Any
 
 import kobdzila
 from texts import ARABIC, FRENCH
@@ -30,7 +31,7 @@ def read(data: bytes) -> kobdzila.GNUTranslations | None:
         return None
 
 
-def form_count(translations: gettext.GNUTranslations) -> float:
+def form_count(translations: Any) -> float:
     """How many values of the rule count for both readers. A damaged header may have a rule for one of them alone.
 
     kobdzila takes the first form for a value that isn't below nplurals, and finds the rule in any line of the header.
@@ -42,9 +43,10 @@ def form_count(translations: gettext.GNUTranslations) -> float:
     return int(found[1]) if found and "plural=" in translations.info().get("plural-forms", "") else 0
 
 
-def differences(theirs: gettext.GNUTranslations, ours: kobdzila.GNUTranslations) -> list[str]:
+def differences(theirs: Any, ours: kobdzila.GNUTranslations) -> list[str]:
     """The look-ups that differ, of every message of Python's catalogue."""
-    wrong, forms = [], form_count(theirs)
+    wrong: list[str] = []
+    forms = form_count(theirs)
 
     def compare(call: str, *words: object) -> None:
         wanted, got = getattr(theirs, call)(*words), getattr(ours, call)(*words)
@@ -89,7 +91,7 @@ class AgainstPythonTest(unittest.TestCase):
             data = name.read_bytes()
             theirs, ours = read_by_python(data), read(data)
             if theirs is not None:
-                self.assertIsNotNone(ours, name)
+                assert ours is not None, name
                 self.assertEqual(differences(theirs, ours)[:3], [], name)
                 self.assertEqual((ours.info(), ours.charset()), (theirs.info(), theirs.charset()), name)
                 by_library += ours.count > 0

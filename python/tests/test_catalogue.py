@@ -14,7 +14,9 @@ import tempfile
 import unittest
 import warnings
 import weakref
+from collections.abc import Callable
 from pathlib import Path
+from typing import Any
 
 import kobdzila
 from common import OPENS, SANITIZED, assert_no_leak, failures_of, in_threads, needs_freed_memory, needs_testcapi
@@ -105,7 +107,8 @@ class OpeningTest(unittest.TestCase):
         text = b'#, fuzzy\nmsgid "a"\nmsgstr "x"\n'
         self.assertEqual(Catalogue.from_po(text).gettext("a"), "a")
         self.assertEqual(Catalogue.from_po(text, False, True).gettext("a"), "x")
-        self.assertEqual(Catalogue.from_po(text, use_fuzzy=1).gettext("a"), "x")
+        one: Any = 1
+        self.assertEqual(Catalogue.from_po(text, use_fuzzy=one).gettext("a"), "x")
 
     def test_refused_files(self) -> None:
         for data, kind in REFUSED_FILES:
@@ -114,25 +117,27 @@ class OpeningTest(unittest.TestCase):
             self.assertEqual((caught.exception.kind, caught.exception.line), (kind, 0))
 
     def test_wrong_arguments(self) -> None:
-        calls = [
-            lambda: Catalogue("fr.mo"),
-            lambda: Catalogue.from_mo("text"),
-            lambda: Catalogue.from_mo([1, 2]),
-            lambda: Catalogue.from_mo(3),
-            lambda: Catalogue.from_mo(),
-            lambda: Catalogue.from_po(),
-            lambda: Catalogue.from_po(b"", True, False, True),
-            lambda: Catalogue.from_po(b"", none=True),
-            lambda: Catalogue.from_po(b"", data=b""),
-            lambda: Catalogue.open(),
-            lambda: Catalogue.open(3),
-            lambda: french().gettext(),
-            lambda: french().gettext("a", "b"),
-            lambda: french().gettext(text="a"),
-            lambda: french().ngettext("a", "b"),
-            lambda: french().ngettext("a", "b", msgid1="c"),
-            lambda: french()._entry("a"),
-            lambda: french()._entry(),
+        made: Any = Catalogue  # (mypy would refuse these calls)
+        text: Any = french()
+        calls: list[Callable[[], object]] = [
+            lambda: made("fr.mo"),
+            lambda: made.from_mo("text"),
+            lambda: made.from_mo([1, 2]),
+            lambda: made.from_mo(3),
+            lambda: made.from_mo(),
+            lambda: made.from_po(),
+            lambda: made.from_po(b"", True, False, True),
+            lambda: made.from_po(b"", none=True),
+            lambda: made.from_po(b"", data=b""),
+            lambda: made.open(),
+            lambda: made.open(3),
+            lambda: text.gettext(),
+            lambda: text.gettext("a", "b"),
+            lambda: text.gettext(text="a"),
+            lambda: text.ngettext("a", "b"),
+            lambda: text.ngettext("a", "b", msgid1="c"),
+            lambda: text._entry("a"),
+            lambda: text._entry(),
         ]
         for number, call in enumerate(calls):
             with self.assertRaises(TypeError, msg=str(number)):
@@ -218,7 +223,7 @@ class LookUpTest(unittest.TestCase):
         self.assertIs(it.npgettext("menu", message, plural, 1), message)
 
     def test_strange_texts(self) -> None:
-        it = french()
+        it: Any = french()
         for text in ("bas\0ket", "basket\0", "%d file\0%d files", "\ud800", "basket\udfff", "a" * 10**5, "\U0010ffff"):
             self.assertIs(it.gettext(text), text)
             self.assertIs(it.pgettext("verb", text), text)
@@ -245,7 +250,8 @@ class LookUpTest(unittest.TestCase):
         for n in numbers:
             for words in (("%d file", "%d files", n), ("none", "nones", n)):
                 self.assertEqual(ours.ngettext(*words), theirs.ngettext(*words), n)
-        for n in (0.5, 1.0, 1.5, 2.0):
+        others: list[Any] = [0.5, 1.0, 1.5, 2.0]
+        for n in others:
             for words in (("%d file", "%d files", n), ("none", "nones", n)):
                 with warnings.catch_warnings():
                     warnings.simplefilter("ignore")
@@ -253,7 +259,8 @@ class LookUpTest(unittest.TestCase):
                 with self.assertWarns(DeprecationWarning) as caught:
                     self.assertEqual(ours.ngettext(*words), wanted)
                 self.assertEqual(caught.filename, __file__)
-        for n in (None, "1", [], 1j):
+        others = [None, "1", [], 1j]
+        for n in others:
             for translations in (theirs, ours):
                 with self.assertRaises(TypeError):
                     translations.ngettext("%d file", "%d files", n)
@@ -357,7 +364,8 @@ class ObjectTest(unittest.TestCase):
         self.assertEqual(it.npgettext("c", "a", "b", 2), "c b 2")
         self.assertEqual(it.npgettext("c", "a", "b", -2), "c b -2")
         self.assertEqual((it.ngettext("a", "b", 2), it.pgettext("c", "a")), ("b", "a"))
-        it.add_fallback(french())
+        fallback: Any = french()
+        it.add_fallback(fallback)
         self.assertEqual(it.gettext("cart"), "CART")
 
         class Failing(gettext.NullTranslations):
@@ -383,7 +391,8 @@ class ObjectTest(unittest.TestCase):
     def test_copy(self) -> None:
         it = GNUTranslations(french().mo_file())
         other = copy.copy(it)
-        other.add_fallback(Catalogue.from_po(b'msgid "cart"\nmsgstr "chariot"\n'))
+        fallback: Any = Catalogue.from_po(b'msgid "cart"\nmsgstr "chariot"\n')
+        other.add_fallback(fallback)
         self.assertEqual((it.gettext("cart"), other.gettext("cart")), ("cart", "chariot"))
         self.assertEqual(other.gettext("basket"), "panier")
 
@@ -407,9 +416,12 @@ class ObjectTest(unittest.TestCase):
     def test_reopened_while_it_is_listed(self) -> None:
         """A finalizer opens another file while an entry is read: the entry is of one of the two files, and is whole."""
         files = [forms_file(name) for name in ("fff", "a longer text")]
-        it, opened, numbers = GNUTranslations(files[0]), 0, random.Random(4)
+        opened, numbers = 0, random.Random(4)
+        it: Any = GNUTranslations(files[0])
 
         class Opens:
+            me: object
+
             def __del__(self) -> None:
                 nonlocal opened
                 opened += 1

@@ -70,15 +70,15 @@ class CompileTest(unittest.TestCase):
         self.assertIn(b"x", compile_po(b'#, fuzzy\nmsgid "a"\nmsgstr "x"\n', use_fuzzy=True))
 
     def test_refusals(self) -> None:
-        for text, options, kind, line in (
-            (BROKEN.encode(), {}, Fault.PO_OPEN_STRING, 2),
-            (b'msgid "a\\n"\nmsgstr "b"\n', {"checked": True}, Fault.PO_NEWLINE_MISMATCH, 1),
-            (b"\xef\xbb\xbf" + FRENCH.encode(), {}, Fault.PO_BAD_WORD, 1),
-            (b'\n\n#: x\n#, python-format\n#: y\nmsgid "%d"\nmsgstr "%s"\n', {"checked": True},
-             Fault.PO_FORMAT_MISMATCH, 6),
-        ):
+        rows: list[tuple[bytes, bool, Fault, int]] = [
+            (BROKEN.encode(), False, Fault.PO_OPEN_STRING, 2),
+            (b'msgid "a\\n"\nmsgstr "b"\n', True, Fault.PO_NEWLINE_MISMATCH, 1),
+            (b"\xef\xbb\xbf" + FRENCH.encode(), False, Fault.PO_BAD_WORD, 1),
+            (b'\n\n#: x\n#, python-format\n#: y\nmsgid "%d"\nmsgstr "%s"\n', True, Fault.PO_FORMAT_MISMATCH, 6),
+        ]
+        for text, checked, kind, line in rows:
             with self.assertRaises(Refused) as caught:
-                compile_po(text, **options)
+                compile_po(text, checked=checked)
             self.assertEqual((caught.exception.kind, caught.exception.line), (kind, line))
         self.assertIn("byte order mark", is_refused(b"\xef\xbb\xbf"))
         self.assertRaises(TypeError, compile_po, "text")
@@ -190,7 +190,7 @@ class CommandTest(unittest.TestCase):
         shop = ["locale/fr/LC_MESSAGES/shop.mo", "locale/pt_BR/LC_MESSAGES/shop.mo"]
         own = ["locale/fr/LC_MESSAGES/messages.mo", *shop]
         app, node = "app/locale/fr/LC_MESSAGES/django.mo", "node_modules/x/locale/fr/LC_MESSAGES/django.mo"
-        for words, files in (
+        rows: list[tuple[list[str], list[str]]] = [
             ([], [app, *own, node]),
             (["-d", "locale"], own),
             (["-d", "locale", "-D", "shop"], shop),
@@ -207,7 +207,8 @@ class CommandTest(unittest.TestCase):
             (["-i", "locale/fr/LC_MESSAGES/shop.po", "-d", "locale", "-l", "fr", "-D", "shop"], shop[:1]),
             (["locale/fr/LC_MESSAGES/shop.po", "app/locale/fr/LC_MESSAGES/django.po"], [app, shop[0]]),
             (["-n"], []),
-        ):
+        ]
+        for words, files in rows:
             status, out, err = self.call(*words)
             self.assertEqual((status, err), (0, ""), words)
             self.assertEqual(self.made(), files, words)
@@ -312,9 +313,9 @@ class CommandTest(unittest.TestCase):
                  'msgid "msgid \\"x\\""\nmsgstr "# msgid"\n\n# msgid "y"\n#~ msgid "z"\n#~ msgstr "z"\n')
         self.put("b.po", "")
         self.put("c.po", 'msgid "a"\nmsgid_plural "as"\nmsgstr[0] "b"\nmsgstr[1] "bs"\n')
-        for words, said in (([], "2 of 4 messages (50%) translated, 1 fuzzy in a.po"),
-                            (["-f"], "3 of 4 messages (75%) translated, 1 fuzzy in a.po")):
-            self.assertEqual(self.call("--statistics", *words, "a.po")[1].splitlines()[0], said)
+        for option, said in (((), "2 of 4 messages (50%) translated, 1 fuzzy in a.po"),
+                             (("-f",), "3 of 4 messages (75%) translated, 1 fuzzy in a.po")):
+            self.assertEqual(self.call("--statistics", *option, "a.po")[1].splitlines()[0], said)
         self.assertEqual(self.call("--statistics", "-n", "b.po", "c.po")[1].splitlines(), [
             "0 of 0 messages (0%) translated in b.po", "1 of 1 messages (100%) translated in c.po", "2 files checked"])
 
@@ -362,7 +363,8 @@ class CommandTest(unittest.TestCase):
     @unittest.skipUnless(importlib.util.find_spec("django") and GNU, "no Django, or no GNU msgfmt")
     def test_as_django(self) -> None:
         """compilemessages makes the same files."""
-        for words in ([], ["-l", "fr"], ["-x", "pt_BR"], ["-i", "node_modules", "-i", "app"], ["-f", "--locale=pt_BR"]):
+        for options in ("", "-l fr", "-x pt_BR", "-i node_modules -i app", "-f --locale=pt_BR"):
+            words = options.split()
             django = [sys.executable, "-W", "ignore", "-m", "django", "compilemessages", *words]
             subprocess.run(django, check=True, capture_output=True)
             names = self.made()

@@ -63,7 +63,8 @@ class Typist:
     """Someone who types a page: its commands into a shell, its sessions into Python, its programs into files."""
 
     def __init__(self, test: unittest.TestCase, page: Path) -> None:
-        self.test, self.page, self.names, self.printed = test, page, {}, ""
+        self.test, self.page, self.printed = test, page, ""
+        self.names: dict[str, object] = {}
         with socket.socket() as free:
             free.bind(("127.0.0.1", 0))
             self.port = str(free.getsockname()[1])  # (in place of 8000, since tests run side by side)

@@ -19,7 +19,7 @@ from pathlib import Path
 from typing import Any
 
 import kobdzila
-from kobdzila import Catalogue, GNUTranslations, Store
+from kobdzila import Catalogue, GNUTranslations, Snapshot, Store
 from texts import HEADER, mo
 
 PO = HEADER + r"""
@@ -132,8 +132,10 @@ class KeysTest(unittest.TestCase):
 
     def test_exceptions(self) -> None:
         for it in readers()[1:]:
-            for call in (lambda: it.gettext(Broken()), lambda: it.pgettext(Broken(), "order"),
-                         lambda: it.npgettext("menu", Broken(), "", 1), lambda: it.ngettext(Broken(), "", -1)):
+            calls: list[Callable[[], object]] = [
+                lambda: it.gettext(Broken()), lambda: it.pgettext(Broken(), "order"),
+                lambda: it.npgettext("menu", Broken(), "", 1), lambda: it.ngettext(Broken(), "", -1)]
+            for call in calls:
                 with self.assertRaises(LookupError):
                     call()
 
@@ -147,7 +149,7 @@ class KeysTest(unittest.TestCase):
                 return super().__hash__()
 
         ours, snapshot = readers()[1:]
-        work = lambda: ours.__init__(other)  # noqa: E731
+        work: Callable[[], object] = lambda: ours.__init__(other)  # noqa: E731
         self.assertEqual(ours.gettext(Opens("basket")), "Korb")
         work = snapshot.close
         with self.assertRaises(ValueError):
@@ -156,7 +158,7 @@ class KeysTest(unittest.TestCase):
 
 class CatalogTest(unittest.TestCase):
     def test_as_theirs(self) -> None:
-        theirs, ours = gettext.GNUTranslations(io.BytesIO(FILE)), GNUTranslations(FILE)
+        theirs, ours, _ = readers()
         self.assertEqual(dict(ours._catalog), theirs._catalog)
         self.assertEqual(ours._catalog.copy(), theirs._catalog)
         self.assertEqual((len(ours._catalog), bool(ours._catalog)), (len(theirs._catalog), True))
@@ -169,12 +171,14 @@ class CatalogTest(unittest.TestCase):
 
     def test_changed(self) -> None:
         """Who changes the texts, or sets others, is answered by them, as with the standard class."""
-        for change in (lambda it: it._catalog.update({"basket": "corbeille", ("%d file", 1): "%d fiches"}),
-                       lambda it: it._catalog.__setitem__("basket", "corbeille"),
-                       lambda it: it._catalog.__delitem__("basket"),
-                       lambda it: setattr(it, "_catalog", {"basket": "corbeille"}),
-                       lambda it: it._catalog.clear()):
-            theirs, ours = gettext.GNUTranslations(io.BytesIO(FILE)), GNUTranslations(FILE)
+        changes: list[Callable[[Any], object]] = [
+            lambda it: it._catalog.update({"basket": "corbeille", ("%d file", 1): "%d fiches"}),
+            lambda it: it._catalog.__setitem__("basket", "corbeille"),
+            lambda it: it._catalog.__delitem__("basket"),
+            lambda it: setattr(it, "_catalog", {"basket": "corbeille"}),
+            lambda it: it._catalog.clear()]
+        for change in changes:
+            theirs, ours, _ = readers()
             fallback = gettext.GNUTranslations(io.BytesIO(Catalogue.from_po(b'msgid "cart"\nmsgstr "chariot"\n').mo_file()))
             for it in (theirs, ours):
                 change(it)
@@ -203,8 +207,8 @@ class CatalogTest(unittest.TestCase):
 
     def test_subclasses(self) -> None:
         """Subclasses of both classes, as programs write them, see the same."""
-        def numbered(base: type) -> Any:
-            class Numbered(base):
+        def numbered(base: Any) -> Any:
+            class Numbered(base):  # type: ignore[misc]
                 def _parse(self, fp: Any) -> None:
                     super()._parse(fp)
                     self.number = len(self._catalog)
@@ -218,8 +222,7 @@ class CatalogTest(unittest.TestCase):
 
     def test_opened_again(self) -> None:
         other = Catalogue.from_po(b'msgid ""\nmsgstr "Language: de\\nPlural-Forms: nplurals=1; plural=0;\\n"\n').mo_file()
-        theirs, ours = gettext.GNUTranslations(io.BytesIO(FILE)), GNUTranslations(FILE)
-        for it in (theirs, ours):
+        for it in readers()[:2]:
             self.assertEqual((it.info()["language"], it.plural(2)), ("fr", 1))
             it.__init__(io.BytesIO(other))
             self.assertEqual((it.info()["language"], it.plural(2)), ("de", 0))
@@ -245,7 +248,8 @@ class OrderTest(unittest.TestCase):
         words = [little[at:at + 4] for at in range(0, 28 + 16 * len(pairs), 4)]
         big = b"".join(word[::-1] for word in words) + little[28 + 16 * len(pairs):]
         for data in (little, big):
-            theirs, ours = gettext.GNUTranslations(io.BytesIO(data)), GNUTranslations(data)
+            theirs: Any = gettext.GNUTranslations(io.BytesIO(data))
+            ours = GNUTranslations(data)
             self.assertEqual(dict(ours._catalog), theirs._catalog)
             self.assertEqual((ours.gettext("a"), ours.gettext("ab"), ours.pgettext("c", "a")), ("last", "AB", "CA"))
             self.assertEqual([ours.ngettext("x", "xs", n) for n in (1, 2)], ["un", "deux"])
@@ -343,7 +347,8 @@ class LazyTest(unittest.TestCase):
             basket = lazy[0]
             self.assertEqual((f"{basket:>8}", basket + "!", "le " + basket, basket.upper(), len(basket), basket[0], "n" in basket),
                              ("  panier", "panier!", "le panier", "PANIER", 6, "p", True))
-            self.assertEqual((lazy[2] % 3, {basket: 1}["panier"], basket == "panier", basket == lazy[0], "".join(basket)),
+            keys: dict[object, int] = {basket: 1}
+            self.assertEqual((lazy[2] % 3, keys["panier"], basket == "panier", basket == lazy[0], "".join(basket)),
                              ("3 fichiers", 1, True, True, "panier"))
             self.assertEqual(sorted([basket, lazy[1]])[0], "commander")
             self.assertIs(kobdzila.current_snapshot.get(), texts)
@@ -358,7 +363,7 @@ class LazyTest(unittest.TestCase):
         with self.assertRaises(LookupError):
             current.gettext("basket")
 
-        class Own(type(snapshot)):
+        class Own(Snapshot):
             def gettext(self, message: str) -> str:
                 return message.upper()
 

@@ -168,7 +168,11 @@ class StoreTest(unittest.TestCase):
         store.publish()
 
         def replaces(number: int) -> Callable[[], object]:
-            return lambda: (store.load("shop", "fr", files[number]), store.publish(), store.version, text(store))
+            def loads() -> object:
+                store.load("shop", "fr", files[number])
+                return store.publish(), store.version, text(store)
+
+            return loads
 
         ends: dict[str, int] = {}
         with in_background(replaces(0), replaces(1)):
@@ -280,7 +284,8 @@ class StoreTest(unittest.TestCase):
 
         part, store = Part(), Store("shop")
         _forks.register(part)
-        store._forked, later = None, Store("shop")  # (one that isn't callable fails, too)
+        setattr(store, "_forked", None)  # (one that isn't callable fails, too)
+        later = Store("shop")
         changed = later._changed
 
         def work() -> None:
@@ -409,8 +414,13 @@ class AllTest(Folder):
                 assert session.gettext("shop", "fr", "a").text == "one"
 
         names = itertools.cycle(("two", "one"))
+
+        def replaces() -> None:
+            self.put(po(next(names), 500))
+            watch.look()
+
         ends: dict[str, int] = {}
-        with in_background(asks, lambda: (self.put(po(next(names), 500)), watch.look())):
+        with in_background(asks, replaces):
             for _ in range(FORKS):
                 end = end_of(forked(work))
                 ends[end] = ends.get(end, 0) + 1

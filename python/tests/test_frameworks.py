@@ -1,14 +1,17 @@
-"""Jinja2, Flask and Babel, if they are installed."""
+"""Jinja2, Flask, Babel and Sphinx, if they are installed."""
 from __future__ import annotations
 
 import importlib.util
 import io
 import os
+import subprocess
+import sys
 import tempfile
 import unittest
 import warnings
 from datetime import date
 from pathlib import Path
+from typing import Any
 from unittest import mock
 
 import kobdzila
@@ -76,7 +79,7 @@ class JinjaTest(unittest.TestCase):
         from jinja2 import Environment
 
         for newstyle in (True, False):
-            environment = Environment(extensions=["jinja2.ext.i18n"])
+            environment: Any = Environment(extensions=["jinja2.ext.i18n"])
             translations = kobdzila.GNUTranslations.from_po(SHOP.encode())
             environment.install_gettext_translations(translations, newstyle=newstyle)
             for n, text in ((1, "panier 1 fichier"), (2, "panier 2 fichiers")):
@@ -91,7 +94,8 @@ class JinjaTest(unittest.TestCase):
         store.load("shop", "fr", SHOP.encode())
         store.publish()
         for newstyle in (True, False):
-            environment, snapshots = Environment(extensions=["jinja2.ext.i18n"]), [store.snapshot("fr")]
+            environment: Any = Environment(extensions=["jinja2.ext.i18n"])
+            snapshots = [store.snapshot("fr")]
             current = kobdzila.LazyTranslations(lambda: snapshots[-1])
             environment.install_gettext_translations(current, newstyle=newstyle)
             page, old = environment.from_string(TEMPLATE), environment.from_string("{{ pgettext('verb', 'order') }}")
@@ -113,6 +117,7 @@ class JinjaTest(unittest.TestCase):
 class FlaskTest(unittest.TestCase):
     def test_example(self) -> None:
         spec = importlib.util.spec_from_file_location("flask_shop", EXAMPLE)
+        assert spec and spec.loader
         module = importlib.util.module_from_spec(spec)
         spec.loader.exec_module(module)
         with tempfile.TemporaryDirectory() as room:
@@ -132,8 +137,9 @@ class FlaskTest(unittest.TestCase):
         """The application of someone who makes the five changes of the page."""
         difference = PAGE.read_text(encoding="utf-8").partition("```diff\n")[2].partition("```")[0]
         self.assertEqual(difference.count("\n+"), 5)
-        own, before, watches = {"TEMPLATE": TEMPLATE, "__name__": "shop"}, os.getcwd(), []
-        watch = kobdzila.Store.watch
+        own: dict[str, Any] = {"TEMPLATE": TEMPLATE, "__name__": "shop"}
+        watches: list[kobdzila.Watch] = []
+        before, watch = os.getcwd(), kobdzila.Store.watch
         with tempfile.TemporaryDirectory() as room, \
                 mock.patch.object(kobdzila.Store, "watch", lambda *words: watches.append(watch(*words))):
             file = Path(room, "locale", "fr", "LC_MESSAGES", "shop.mo")
@@ -162,17 +168,18 @@ class FlaskTest(unittest.TestCase):
         store = kobdzila.Store("shop")
         store.load("shop", "fr", SHOP.encode())
         store.publish()
-        app, kept = Flask(__name__), []
+        app: Any = Flask(__name__)
+        kept: list[kobdzila.Snapshot] = []
         app.wsgi_app = kobdzila.WSGIMiddleware(app.wsgi_app, store)
         app.jinja_env.add_extension("jinja2.ext.i18n")
         texts = kobdzila.LazyTranslations(lambda: request.environ["kobdzila.snapshot"])
         app.jinja_env.install_gettext_translations(texts, newstyle=True)
 
-        @app.get("/<int:n>")
         def page(n: int) -> str:
             kept.append(request.environ["kobdzila.snapshot"])
-            return render_template_string(TEMPLATE, n=n)
+            return str(render_template_string(TEMPLATE, n=n))
 
+        app.get("/<int:n>")(page)
         client = app.test_client()
         self.assertEqual(client.get("/2", headers={"Accept-Language": "fr-CA"}).text, "panier 2 fichiers")
         self.assertEqual(client.get("/2", headers={"Accept-Language": "en, fr;q=0.5"}).text, "basket 2 files")
@@ -203,7 +210,7 @@ class BabelTest(unittest.TestCase):
                 self.assertEqual(texts.gettext("basket"), text, preferred)
                 self.assertEqual(format_decimal(1.5, locale=texts.language or "en"), number, preferred)
         self.assertIsNone(Locale.negotiate(["sv"], ["fr"]))
-        self.assertEqual(format_date(date(2026, 3, 1), locale=store.snapshot("fr-CA").language), "1 mars 2026")
+        self.assertEqual(format_date(date(2026, 3, 1), locale=store.snapshot("fr-CA").language or ""), "1 mars 2026")
 
     def test_in_place_of_its_translations(self) -> None:
         """What Babel's Translations.load returns, and what kobdzila.translation does."""
@@ -230,7 +237,8 @@ class BabelTest(unittest.TestCase):
         from babel.support import Translations
 
         own = kobdzila.Catalogue.from_po(b'msgid "cart"\nmsgstr "chariot"\n').mo_file()
-        theirs, ours = Translations(io.BytesIO(own), "shop"), kobdzila.GNUTranslations.from_po(SHOP.encode())
+        theirs: Any = Translations(io.BytesIO(own), "shop")
+        ours: Any = kobdzila.GNUTranslations.from_po(SHOP.encode())
         theirs.add_fallback(ours)
         self.assertEqual((theirs.gettext("cart"), theirs.gettext("basket")), ("chariot", "panier"))
         self.assertEqual(theirs.npgettext("menu", "%d item", "", 2), "%d articles")
@@ -268,6 +276,45 @@ class BabelTest(unittest.TestCase):
         store.load("shop", "fr", file.getvalue())
         store.publish()
         self.assertEqual(store.snapshot("fr").pgettext("verb", "order"), "commander")
+
+
+# runs Sphinx, for `ours` with the package in place of the module gettext, and says how many catalogues the package opened
+SPHINX = """
+import sys, kobdzila
+if sys.argv.pop(1) == "ours":
+    sys.modules["gettext"] = kobdzila
+from sphinx.cmd.build import main
+status = main(sys.argv[1:])
+print(len(kobdzila._gettext._translations))
+sys.exit(status)
+"""
+DOCUMENT = {
+    "conf.py": 'project = "shop"\nlanguage = "fr"\nlocale_dirs = ["locale"]\n',
+    "index.rst": "Baskets\n=======\n\nA basket.\n\n.. note:: Two files.\n",
+    "locale/fr/LC_MESSAGES/index.po": SHOP + 'msgid "Baskets"\nmsgstr "Paniers"\n\nmsgid "A basket."\nmsgstr "Un panier."\n',
+}
+
+
+@unittest.skipUnless(there("sphinx"), "no Sphinx")
+class SphinxTest(unittest.TestCase):
+    def test_pages(self) -> None:
+        """A document in French has the same pages, in its own texts and in those of Sphinx."""
+        with tempfile.TemporaryDirectory() as name:
+            room, pages = Path(name), []
+            for path, text in DOCUMENT.items():
+                (room / path).parent.mkdir(parents=True, exist_ok=True)
+                (room / path).write_text(text, encoding="utf-8")
+            for which, opened in (("theirs", 0), ("ours", 2)):
+                words = [sys.executable, "-W", "ignore", "-c", SPHINX, which, "-q", "-E", "-b", "html", name, f"{name}/{which}"]
+                done = subprocess.run(words, env={**os.environ, "SOURCE_DATE_EPOCH": "0"}, capture_output=True, text=True,
+                                      check=False)
+                self.assertEqual((done.returncode, done.stderr), (0, ""))
+                self.assertGreaterEqual(int(done.stdout), opened)
+                made = sorted((room / which).glob("*.html"))
+                pages.append({it.name: it.read_text(encoding="utf-8") for it in made})
+        self.assertEqual(pages[0], pages[1])
+        for text in ("<h1>Paniers", "Un panier.", "Note", "Recherche"):
+            self.assertIn(text, pages[1]["index.html"])
 
 
 if __name__ == "__main__":

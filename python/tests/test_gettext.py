@@ -9,6 +9,7 @@ import os
 import tempfile
 import unittest
 from pathlib import Path
+from typing import Any
 from unittest import mock
 
 import kobdzila
@@ -94,8 +95,9 @@ class FunctionsTest(unittest.TestCase):
     def test_install(self) -> None:
         with mock.patch.dict(builtins.__dict__), mock.patch.dict(os.environ, {"LANGUAGE": "fr"}):
             kobdzila.install("shop", self.room, names=["ngettext", "other"])
-            self.assertEqual(_("basket"), "panier")  # noqa: F821
-            self.assertEqual(ngettext("%d file", "", 2), "%d fichiers supprimés")  # noqa: F821
+            installed: dict[str, Any] = vars(builtins)
+            self.assertEqual(installed["_"]("basket"), "panier")
+            self.assertEqual(installed["ngettext"]("%d file", "", 2), "%d fichiers supprimés")
             self.assertFalse(hasattr(builtins, "other"))
 
 
@@ -123,7 +125,8 @@ class ClassTest(unittest.TestCase):
                 self.assertEqual(it.pgettext("c", "d"), theirs.pgettext("c", "d"))
                 for n in (0, 1, 2, -1, 2**70):
                     self.assertEqual(it.ngettext("a", "b", n), theirs.ngettext("a", "b", n))
-            ours.add_fallback(kobdzila.Catalogue.from_po(b'msgid "cart"\nmsgstr "chariot"\n'))
+            fallback: Any = kobdzila.Catalogue.from_po(b'msgid "cart"\nmsgstr "chariot"\n')
+            ours.add_fallback(fallback)
             self.assertEqual(ours.gettext("cart"), "chariot")
 
     def test_refused(self) -> None:

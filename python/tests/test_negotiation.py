@@ -22,9 +22,9 @@ def rows() -> list[list[str]]:
     return [line.split("\t") for line in lines if not line.startswith("#")]
 
 
-def store_of(*locales: str, **options: object) -> Store:
+def store_of(*locales: str, source: str | None = "en", default: str | None = None) -> Store:
     """A store whose message `a` is the name of each locale, and `only NAME` is in one of them."""
-    store = Store("d", **options)
+    store = Store("d", source=source, default=default)
     for locale in locales:
         store.load("d", locale, f'msgid "a"\nmsgstr "{locale}"\nmsgid "only {locale}"\nmsgstr "!"\n'.encode())
     store.publish()
@@ -107,7 +107,8 @@ class LimitsTest(unittest.TestCase):
 
     def test_what_is_kept(self) -> None:
         """Long headers leave no more in the caches than short ones."""
-        _languages._of_header.cache_clear(), _languages._of_list.cache_clear()
+        _languages._of_header.cache_clear()
+        _languages._of_list.cache_clear()
         store = store_of("fr")
         for number in range(50):
             text = ":".join(f"l{number}x{it}" for it in range(20_000))

@@ -15,8 +15,9 @@ import time
 import unittest
 import urllib.request
 import warnings
-from collections.abc import AsyncIterator, Iterator
+from collections.abc import AsyncIterator, Callable, Iterator
 from pathlib import Path
+from typing import Any
 
 import kobdzila
 from texts import FRENCH
@@ -60,7 +61,7 @@ class Case(unittest.TestCase):
 
 @unittest.skipUnless(there("starlette", "httpx"), "no Starlette with its test client")
 class StarletteTest(Case):
-    def routes(self) -> list[object]:
+    def routes(self) -> list[Any]:
         from starlette.background import BackgroundTask
         from starlette.requests import Request
         from starlette.responses import PlainTextResponse, StreamingResponse
@@ -86,7 +87,7 @@ class StarletteTest(Case):
 
         return [Route("/", page), Route("/lazy", lazy), WebSocketRoute("/talk", talk)]
 
-    def applications(self) -> Iterator[object]:
+    def applications(self) -> Iterator[Any]:
         from starlette.applications import Starlette
         from starlette.middleware import Middleware
 
@@ -138,7 +139,7 @@ class FastAPITest(Case):
         application.add_middleware(kobdzila.ASGIMiddleware, store=self.store)
 
         def page(request: Request) -> str:
-            return request.scope["kobdzila.snapshot"].gettext("basket")
+            return str(request.scope["kobdzila.snapshot"].gettext("basket"))
 
         page.__annotations__["request"] = Request  # (the class isn't in this module's names)
         application.get("/")(page)
@@ -170,7 +171,7 @@ class ServersTest(Case):
         with urllib.request.urlopen(request, timeout=300) as page:
             return page.read().decode(), {name.lower(): value for name, value in page.headers.items()}
 
-    def until(self, works: object, server: subprocess.Popen[bytes]) -> None:
+    def until(self, works: Callable[[], object], server: subprocess.Popen[bytes]) -> None:
         end = time.monotonic() + 300
         while True:
             try:

@@ -4,7 +4,9 @@ from __future__ import annotations
 import os
 import tempfile
 import unittest
+from collections.abc import Callable
 from pathlib import Path
+from typing import Any
 from unittest import mock
 
 import kobdzila
@@ -56,15 +58,17 @@ class SessionTest(unittest.TestCase):
             self.assertEqual((caught.exception.version, caught.exception.refusals[0][:3]), (1, ("shop", "fr", 5)))
             self.assertEqual(caught.exception.refusals[1], ("a b", "de", None, None))
             self.assertIn("fr in shop: kind 5, line 3", str(caught.exception))
-            for call in (
+            two: Any = "2"
+            calls: list[Callable[[], object]] = [
                 lambda: session.load("shop", "fr", b"", "x"),
                 lambda: session.load("shop", "fr", b"\xff"),
                 lambda: session.load("sh\top", "fr", b""),
                 lambda: session.ngettext("shop", "fr", "a", "b", -1),
-                lambda: session.ngettext("shop", "fr", "a", "b", "2"),
+                lambda: session.ngettext("shop", "fr", "a", "b", two),
                 lambda: session.ask("shop", "fr", ("gettext", "a", "b")),
                 lambda: session.load_mo("shop", "fr", b"x" * 40_000_000),
-            ):
+            ]
+            for call in calls:
                 with self.assertRaises(ValueError):
                     call()
             self.assertEqual(session.gettext("shop", "fr", "a").text, "a")

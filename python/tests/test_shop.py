@@ -38,6 +38,13 @@ TEXTS = {
 VERSION = re.compile(r"<footer>\D*(\d+)</footer>")
 
 
+def version_of(page: str) -> int:
+    """The version that a page names."""
+    found = VERSION.search(page)
+    assert found, page
+    return int(found[1])
+
+
 @unittest.skipUnless(importlib.util.find_spec("flask"), "no Flask")
 class ShopTest(unittest.TestCase):
     def setUp(self) -> None:
@@ -69,7 +76,8 @@ class ShopTest(unittest.TestCase):
     def get(self, query: str = "", **headers: str) -> str:
         request = urllib.request.Request(f"{self.address}{query}", headers=headers)
         with urllib.request.urlopen(request, timeout=60) as page:
-            return page.read().decode()
+            text: str = page.read().decode()
+            return text
 
     def until(self, what: Callable[[], object]) -> None:
         end = time.monotonic() + 60
@@ -84,7 +92,7 @@ class ShopTest(unittest.TestCase):
                     self.assertIn(f">{text}<", page)
                 direction = "rtl" if language == "ar" else "ltr"
                 self.assertIn(f'<html lang="{language}" dir="{direction}">', page)
-                self.assertEqual(VERSION.search(page)[1], "4")
+                self.assertEqual(version_of(page), 4)
         self.assertIn("Fruit shop", self.get(**{"Accept-Language": "en-GB, de;q=0.9"}))
 
     def test_edited(self) -> None:
@@ -92,7 +100,7 @@ class ShopTest(unittest.TestCase):
         before = self.path("fr").read_text(encoding="utf-8")
         self.put("fr", before.replace("Fruiterie", "Fruits du jour"))
         self.until(lambda: "Fruits du jour" in self.get("?lang=fr"))
-        self.assertEqual(VERSION.search(self.get("?lang=fr"))[1], "5")
+        self.assertEqual(version_of(self.get("?lang=fr")), 5)
         broken = before.replace('msgstr "Fruiterie"', 'msgstr "Fruiterie')
         line = broken[:broken.index('msgstr "Fruiterie')].count("\n") + 1
         self.put("fr", broken)
@@ -101,11 +109,13 @@ class ShopTest(unittest.TestCase):
         self.assertIn(f"{self.path('fr')}:{line}: ", self.log())
         page = self.get("?lang=fr")
         self.assertIn("Fruits du jour", page)
-        self.assertEqual(VERSION.search(page)[1], "6")
+        self.assertEqual(version_of(page), 6)
 
     def test_clients(self) -> None:
         """8 clients, while both catalogues are replaced: each page is of one version, and versions don't go back."""
-        wrong, counts, versions = [], [0] * 8, set()
+        wrong: list[object] = []
+        versions: set[int] = set()
+        counts = [0] * 8
         originals = {it: self.path(it).read_text(encoding="utf-8") for it in ("fr", "sl")}
         end = time.monotonic() + SECONDS
 
@@ -118,7 +128,7 @@ class ShopTest(unittest.TestCase):
                     wrong.append(fault)
                     return
                 # (each message but the footer carries the number of its catalogue)
-                numbers, version = re.findall(r"@(\d+)", page), int(VERSION.search(page)[1])
+                numbers, version = re.findall(r"@(\d+)", page), version_of(page)
                 if len(set(numbers)) > 1 or len(numbers) not in (0, 9) or version < last:
                     wrong.append((version, last, numbers))
                 last = version
@@ -174,7 +184,7 @@ class ShopTest(unittest.TestCase):
         self.until(lambda: "Obst vom Markt" in self.get("?lang=de"))
         page = self.browse("?lang=de", "--dump-dom")
         self.assertIn("Obst vom Markt", page)
-        self.assertEqual(VERSION.search(page)[1], "5")
+        self.assertEqual(version_of(page), 5)
 
     def browse(self, query: str, *options: str) -> str:
         command = [str(BROWSER), *OPTIONS, f"--user-data-dir={self.room}/browser", *options, f"{self.address}{query}"]
@@ -193,10 +203,10 @@ class ShopTest(unittest.TestCase):
         from selenium.webdriver.chrome.options import Options
         from selenium.webdriver.chrome.service import Service
 
-        options = Options()
+        options: Any = Options()
         for it in (*OPTIONS, f"--user-data-dir={self.room}/driven"):
             options.add_argument(it)
-        driver = webdriver.Chrome(service=Service(shutil.which("chromedriver")), options=options)
+        driver = webdriver.Chrome(service=Service(str(shutil.which("chromedriver"))), options=options)
         driver.set_page_load_timeout(600)
         try:
             pictures = {self.looked_at(driver, language, width) for language in TEXTS for width in WIDTHS}

@@ -13,6 +13,8 @@ import threading
 import time
 import unittest
 import warnings
+from collections.abc import Callable
+from typing import Any
 
 import kobdzila
 from common import OPENS, SANITIZED, assert_no_leak, failures_of, in_threads, needs_freed_memory, needs_testcapi
@@ -29,7 +31,7 @@ def text_of(**messages: str) -> bytes:
     return "".join(f'msgid "{msgid}"\nmsgstr "{text}"\n\n' for msgid, text in messages.items()).encode()
 
 
-def store_with(*loads: tuple[str, str, bytes]) -> Store:
+def store_with(*loads: tuple[str, str, Any]) -> Store:
     store = Store("shop")
     for load in loads:
         store.load(*load)
@@ -51,7 +53,7 @@ class LoadTest(unittest.TestCase):
         store = Store("shop")
         self.assertEqual((store.version, store.pending, store.publish(), store.retained), (0, 0, 0, 0))
         for number in range(1, 4):
-            self.assertIsNone(store.load("shop", "fr", text_of(basket=f"panier {number}")))
+            store.load("shop", "fr", text_of(basket=f"panier {number}"))
             self.assertEqual((store.version, store.pending), (0, number))
         self.assertEqual(store.snapshot("fr").gettext("basket"), "basket")
         self.assertEqual((store.publish(), store.version, store.pending), (3, 3, 0))
@@ -91,9 +93,10 @@ class LoadTest(unittest.TestCase):
         self.assertEqual(store.publish(), 1)
 
     def test_wrong_arguments(self) -> None:
-        store = store_with(("shop", "fr", FRENCH.encode()))
+        store: Any = store_with(("shop", "fr", FRENCH.encode()))
         texts = store.snapshot("fr")
-        calls = [
+        snapshot: Any = kobdzila.Snapshot
+        calls: list[Callable[[], object]] = [
             lambda: store.load("shop", "fr"),
             lambda: store.load("shop", "fr", "text"),
             lambda: store.load("shop", "fr", None),
@@ -104,11 +107,11 @@ class LoadTest(unittest.TestCase):
             lambda: store._load("shop", "fr"),
             lambda: store.snapshot(3),
             lambda: store.snapshot("fr", 3),
-            lambda: kobdzila.Snapshot(),
-            lambda: kobdzila.Snapshot(store, "shop"),
-            lambda: kobdzila.Snapshot(texts, "shop", "fr"),
-            lambda: kobdzila.Snapshot(store, "shop", 3),
-            lambda: kobdzila.Snapshot(store, "shop", languages="fr"),
+            lambda: snapshot(),
+            lambda: snapshot(store, "shop"),
+            lambda: snapshot(texts, "shop", "fr"),
+            lambda: snapshot(store, "shop", 3),
+            lambda: snapshot(store, "shop", languages="fr"),
             lambda: texts.gettext(),
             lambda: texts.gettext("a", "b"),
             lambda: texts.dgettext("basket"),
@@ -142,7 +145,7 @@ class LookUpTest(unittest.TestCase):
         self.assertEqual(texts.dpgettext("mail", "verb", "order"), "order")
         self.assertEqual(texts.dngettext("shop", "%d file", "%d files", 2), "%d fichiers supprimés")
         self.assertEqual(texts.dngettext("mail", "%d file", "%d files", 2), "%d files")
-        named = {"domain": "shop", "context": "menu", "msgid1": "%d item", "msgid2": "", "n": 1}
+        named: dict[str, Any] = {"domain": "shop", "context": "menu", "msgid1": "%d item", "msgid2": "", "n": 1}
         self.assertEqual(texts.dnpgettext(**named), "%d article")
         self.assertEqual(texts.find("mail", "de:fr", "basket"), "corbeille")
         self.assertEqual(texts.find("shop", "fr", "%d item", "menu", 7), "%d articles")
@@ -152,7 +155,8 @@ class LookUpTest(unittest.TestCase):
         self.assertEqual((texts.info("none"), texts.info("mail")), ({}, {}))
 
     def test_not_found(self) -> None:
-        texts, message, plural = store_with(("shop", "fr", FRENCH.encode())).snapshot("fr"), "no such", "no such ones"
+        texts: Any = store_with(("shop", "fr", FRENCH.encode())).snapshot("fr")
+        message, plural = "no such", "no such ones"
         self.assertIs(texts.gettext(message), message)
         self.assertIs(texts.pgettext("noun", message), message)
         self.assertIs(texts.ngettext(message, plural, 1), message)
@@ -171,7 +175,8 @@ class LookUpTest(unittest.TestCase):
             for n in (-(2**70), -5, -1, 0, True, 1, 2, 127, 128, 2**63, 2**64 - 1, 2**64, 2**64 + 1, 10**100):
                 for words in (("%d file", "%d files", n), ("none", "nones", n)):
                     self.assertEqual(ours.ngettext(*words), theirs.ngettext(*words), n)
-            for n in (0.5, 1.0, 2.0):
+            numbers: list[Any] = [0.5, 1.0, 2.0]
+            for n in numbers:
                 with warnings.catch_warnings():
                     warnings.simplefilter("ignore")
                     wanted = theirs.ngettext("%d file", "%d files", n)
@@ -222,8 +227,10 @@ class SnapshotTest(unittest.TestCase):
         with texts as same:
             self.assertIs(same, texts)
         texts.close()
-        for call in (lambda: texts.gettext("basket"), lambda: texts.ngettext("%d file", "", -1), lambda: texts.version,
-                     lambda: texts.find("shop", "fr", "basket"), lambda: texts.language):
+        calls: list[Callable[[], object]] = [
+            lambda: texts.gettext("basket"), lambda: texts.ngettext("%d file", "", -1), lambda: texts.version,
+            lambda: texts.find("shop", "fr", "basket"), lambda: texts.language]
+        for call in calls:
             with self.assertRaises(ValueError):
                 call()
         self.assertEqual((texts.domain, texts.languages), ("shop", "fr"))
@@ -281,7 +288,8 @@ class SnapshotTest(unittest.TestCase):
     def test_copies(self) -> None:
         store = store_with(("shop", "fr", FRENCH.encode()))
         for it in (store, store.snapshot("fr")):
-            for copied in (copy.copy, copy.deepcopy, pickle.dumps):
+            ways: list[Callable[[object], object]] = [copy.copy, copy.deepcopy, pickle.dumps]
+            for copied in ways:
                 with self.assertRaises(TypeError):
                     copied(it)
 
@@ -416,8 +424,9 @@ class LanguagesTest(unittest.TestCase):
                 self.assertEqual(answer_of(None).locales, locales)
             self.assertEqual(store_with(("shop", "fr", FRENCH.encode())).snapshot().gettext("basket"), "panier")
         finally:
-            for name, value in before.items():
-                os.environ.pop(name, None) if value is None else os.environ.update({name: value})
+            os.environ.update({name: old for name, old in before.items() if old is not None})
+            for name in [name for name, old in before.items() if old is None]:
+                os.environ.pop(name, None)
 
     def test_requests(self) -> None:
         letters = {"fr": "f", "pt_BR": "b", "pt": "p"}
@@ -430,7 +439,8 @@ class LanguagesTest(unittest.TestCase):
 class ThreadsTest(unittest.TestCase):
     def test_readers_and_publishers(self) -> None:
         """Two publishers, each with texts of its own for two domains, and readers that compare them."""
-        store, wrong, end, count = Store("shop"), [], time.monotonic() + (6 if SANITIZED else 2), [0]
+        store, end, count = Store("shop"), time.monotonic() + (6 if SANITIZED else 2), [0]
+        wrong: list[object] = []
 
         def publish(locale: str) -> None:
             number = 0

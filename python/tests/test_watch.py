@@ -11,6 +11,8 @@ import time
 import unittest
 from collections.abc import Callable
 from pathlib import Path
+from typing import Any
+from unittest import mock
 
 import kobdzila
 from kobdzila import Catalogue, Fault, FileRefused, Store, Watch
@@ -39,7 +41,7 @@ class WatchTest(unittest.TestCase):
         self.folder.mkdir()
         self.refused: list[FileRefused] = []
 
-    def watch(self, every: float = 0.02, settle: float = 0.03, **options: object) -> Watch:
+    def watch(self, every: float = 0.02, settle: float = 0.03, **options: Any) -> Watch:
         watch = self.store.watch(self.folder, refused=self.refused.append, every=every, settle=settle, **options)
         self.addCleanup(watch.stop)
         return watch
@@ -256,14 +258,13 @@ class WatchTest(unittest.TestCase):
             watch = self.store.watch(self.folder, refused=lambda file: 1 / 0, every=0.02, settle=0.02)
             self.addCleanup(watch.stop)
         self.assertIn("ZeroDivisionError", logged.output[0])
-        publish, self.store._publish = self.store._publish, lambda: (_ for _ in ()).throw(MemoryError)
-        with self.assertLogs("kobdzila") as logged:
-            self.put(self.path("fr"), po("f1"))
-            self.until(lambda: logged.output)
-        self.assertIn("MemoryError", logged.output[0])
-        self.assertEqual(self.text(), "a")
+        with mock.patch.object(self.store, "_publish", side_effect=MemoryError):
+            with self.assertLogs("kobdzila") as logged:
+                self.put(self.path("fr"), po("f1"))
+                self.until(lambda: logged.output)
+            self.assertIn("MemoryError", logged.output[0])
+            self.assertEqual(self.text(), "a")
         with contextlib.suppress(AssertionError), self.assertLogs("kobdzila"):
-            self.store._publish = publish
             self.until(lambda: self.text() == "f1")
 
     def test_logged(self) -> None:

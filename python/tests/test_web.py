@@ -8,16 +8,21 @@ import tempfile
 import threading
 import unittest
 import urllib.request
-from collections.abc import Iterator
+from collections.abc import Callable, Iterable, Iterator
 from pathlib import Path
+from typing import Any
 from wsgiref.simple_server import WSGIRequestHandler, WSGIServer, make_server
 from wsgiref.util import FileWrapper
 from wsgiref.validate import validator
 
 import kobdzila
 from kobdzila import ASGIMiddleware, LazyTranslations, Snapshot, Store, WSGIMiddleware
-from kobdzila._web import described
+from kobdzila._web import ASGIApplication, Message, Scope, described
 from texts import FRENCH
+
+
+Environ = dict[str, Any]
+UNUSED: Any = None  # in place of a callable of the server's that nothing calls
 
 
 class Quiet(WSGIRequestHandler):
@@ -47,9 +52,10 @@ def is_closed(snapshot: Snapshot) -> bool:
 
 class WSGITest(unittest.TestCase):
     def setUp(self) -> None:
-        self.store, self.seen = shop(), []
+        self.store = shop()
+        self.seen: list[Snapshot] = []
 
-    def application(self, environ: dict, start_response: object) -> Iterator[bytes]:
+    def application(self, environ: Environ, start_response: Callable[..., Any]) -> Iterator[bytes]:
         """Say a word before and after a publish, in one response."""
         texts = environ["kobdzila.snapshot"]
         self.seen.append(texts)
@@ -62,7 +68,8 @@ class WSGITest(unittest.TestCase):
         threading.Thread(target=server.handle_request).start()
         request = urllib.request.Request(f"http://127.0.0.1:{server.server_port}/", headers=headers)
         with urllib.request.urlopen(request, timeout=30) as page:
-            return page.read().decode()
+            text: str = page.read().decode()
+            return text
 
     def test_server(self) -> None:
         for checked in (lambda it: it, validator):
@@ -78,23 +85,24 @@ class WSGITest(unittest.TestCase):
     def test_options(self) -> None:
         made = WSGIMiddleware(lambda environ, start: [environ["kobdzila.snapshot"].gettext("basket").encode()],
                               self.store, "mail", lambda environ: [environ["QUERY_STRING"]])
-        self.assertEqual(list(made({"QUERY_STRING": "fr"}, None)), [b"corbeille"])
+        self.assertEqual(list(made({"QUERY_STRING": "fr"}, UNUSED)), [b"corbeille"])
 
     def test_errors(self) -> None:
         """The snapshot is closed if the application fails, and if its body does."""
-        def fails(environ: dict, start_response: object) -> list[bytes]:
+        def fails(environ: Environ, start_response: object) -> list[bytes]:
             self.seen.append(environ["kobdzila.snapshot"])
             raise KeyError
 
-        class Body(list):
+        class Body(list[bytes]):
             def close(self) -> None:
                 raise KeyError
 
-        environ: dict = {}
+        environ: Environ = {}
         with self.assertRaises(KeyError):
-            WSGIMiddleware(fails, self.store)(environ, None)
+            WSGIMiddleware(fails, self.store)(environ, UNUSED)
+        body: Any = WSGIMiddleware(lambda *_: Body(), self.store)(environ, UNUSED)
         with self.assertRaises(KeyError):
-            WSGIMiddleware(lambda *_: Body(), self.store)(environ, None).close()
+            body.close()
         self.seen.append(environ["kobdzila.snapshot"])
         self.assertEqual([is_closed(it) for it in self.seen], [True, True])
 
@@ -104,7 +112,7 @@ class HeadersTest(unittest.TestCase):
 
     def test_described(self) -> None:
         both = ["Accept-Language", "Cookie"]
-        for before, vary, lang, after in (
+        rows: list[tuple[list[tuple[str, str]], list[str], str | None, list[tuple[str, str]]]] = [
             ([], both, "fr", [("Vary", "Accept-Language, Cookie"), ("Content-Language", "fr")]),
             ([("Vary", "accept-LANGUAGE")], both[:1], None, [("Vary", "accept-LANGUAGE")]),
             ([("vary", "Origin"), ("Vary", "Cookie")], both, None, [("Vary", "Origin, Cookie, Accept-Language")]),
@@ -112,13 +120,14 @@ class HeadersTest(unittest.TestCase):
             ([("Vary", "")], both[:1], None, [("Vary", "Accept-Language")]),
             ([("content-language", "de, fr")], [], "en", [("content-language", "de, fr")]),
             ([("X", "y")], [], None, [("X", "y")]),
-        ):
+        ]
+        for before, vary, lang, after in rows:
             self.assertEqual(described(list(before), vary, lang), after, before)
 
-    def wsgi(self, headers: list[tuple[str, str]], environ: dict[str, str], **options: object) -> dict[str, str]:
+    def wsgi(self, headers: list[tuple[str, str]], environ: Environ, **options: Any) -> dict[str, str]:
         said: list[tuple[str, str]] = []
 
-        def application(environ: dict, start_response: object) -> list[bytes]:
+        def application(environ: Environ, start_response: Callable[..., Any]) -> list[bytes]:
             start_response("200 OK", headers)
             return [b""]
 
@@ -126,17 +135,17 @@ class HeadersTest(unittest.TestCase):
         getattr(body, "close", lambda: None)()
         return dict(said)
 
-    def asgi(self, headers: list[tuple[bytes, bytes]], scope: dict, **options: object) -> dict[str, str]:
-        said: list[dict] = []
+    def asgi(self, headers: list[tuple[bytes, bytes]], scope: Scope, **options: Any) -> dict[str, str]:
+        said: list[Message] = []
 
-        async def application(scope: dict, receive: object, send: object) -> None:
+        async def application(scope: Scope, receive: Any, send: Any) -> None:
             await send({"type": "http.response.start", "status": 200, "headers": headers})
             await send({"type": "http.response.body", "body": b""})
 
-        async def send(message: dict) -> None:
+        async def send(message: Message) -> None:
             said.append(message)
 
-        asyncio.run(ASGIMiddleware(application, shop(), **options)({"type": "http", **scope}, None, send))
+        asyncio.run(ASGIMiddleware(application, shop(), **options)({"type": "http", **scope}, UNUSED, send))
         return {name.decode(): value.decode() for name, value in said[0]["headers"]}
 
     def test_wsgi(self) -> None:
@@ -160,21 +169,23 @@ class HeadersTest(unittest.TestCase):
 
     def test_no_list(self) -> None:
         """A request that names a list of locales gets none of them, not even through a function of the application."""
-        for options in ({}, {"languages": lambda it: it.get("HTTP_ACCEPT_LANGUAGE", "")}):
+        own: list[dict[str, Any]] = [{}, {"languages": lambda it: it.get("HTTP_ACCEPT_LANGUAGE", "")}]
+        for options in own:
             self.assertEqual(self.wsgi([], {"HTTP_ACCEPT_LANGUAGE": "de:fr"}, **options)["Content-Language"], "en")
 
 
 class FileTest(unittest.TestCase):
     """A server recognizes its own file wrapper (PEP 3333, "Optional Platform-Specific File Handling")."""
 
-    def answer(self, wrapper: object) -> tuple[object, list[Snapshot]]:
+    def answer(self, wrapper: object) -> tuple[Iterable[bytes], list[Snapshot]]:
         seen = []
 
-        def application(environ: dict, start_response: object) -> object:
+        def application(environ: Environ, start_response: object) -> Iterable[bytes]:
             seen.append(environ["kobdzila.snapshot"])
-            return environ["wsgi.file_wrapper"](io.BytesIO(b"x" * 10), 4)
+            body: Iterable[bytes] = environ["wsgi.file_wrapper"](io.BytesIO(b"x" * 10), 4)
+            return body
 
-        return WSGIMiddleware(application, shop())({"wsgi.file_wrapper": wrapper}, None), seen
+        return WSGIMiddleware(application, shop())({"wsgi.file_wrapper": wrapper}, UNUSED), seen
 
     def test_class(self) -> None:
         body, seen = self.answer(FileWrapper)
@@ -195,7 +206,7 @@ class FileTest(unittest.TestCase):
 
     def test_length(self) -> None:
         """A server writes the length of a body of one block, with the middleware as without."""
-        def application(environ: dict, start_response: object) -> list[bytes]:
+        def application(environ: Environ, start_response: Callable[..., Any]) -> list[bytes]:
             start_response("200 OK", [("Content-Type", "text/plain")])
             return [environ["kobdzila.snapshot"].gettext("basket").encode()]
 
@@ -215,28 +226,29 @@ class LifespanTest(unittest.TestCase):
         file = self.folder / "fr" / "LC_MESSAGES" / "shop.po"
         file.parent.mkdir(parents=True)
         file.write_text(FRENCH, encoding="utf-8")
-        self.store, self.said = Store("shop"), []
+        self.store = Store("shop")
+        self.said: list[tuple[str, str, int]] = []
 
-    async def live(self, application: object, folder: Path) -> None:
+    async def live(self, application: ASGIApplication, folder: Path) -> None:
         """Start and end the application. `said` gets its answers, the texts and the threads that watch at each."""
         asked = iter(["lifespan.startup", "lifespan.shutdown"])
 
-        async def receive() -> dict:
+        async def receive() -> Message:
             return {"type": next(asked)}
 
-        async def send(message: dict) -> None:
+        async def send(message: Message) -> None:
             watching = [it for it in threading.enumerate() if it.name.startswith(f"kobdzila watches {self.folder}")]
             self.said.append((message["type"], self.store.snapshot("fr").gettext("basket"), len(watching)))
 
         await ASGIMiddleware(application, self.store, watch=folder)({"type": "lifespan"}, receive, send)
 
     @staticmethod
-    async def knows(scope: dict, receive: object, send: object) -> None:
+    async def knows(scope: Scope, receive: Any, send: Any) -> None:
         for _ in range(2):
             await send({"type": (await receive())["type"] + ".complete"})
 
     @staticmethod
-    async def ignores(scope: dict, receive: object, send: object) -> None:
+    async def ignores(scope: Scope, receive: Any, send: Any) -> None:
         raise ValueError("this application answers HTTP alone")
 
     def test_watch(self) -> None:
@@ -256,7 +268,7 @@ class LifespanTest(unittest.TestCase):
             self.assertEqual(self.said, [("lifespan.startup.failed", "basket", 0)])
 
     def test_failing_application(self) -> None:
-        async def fails(scope: dict, receive: object, send: object) -> None:
+        async def fails(scope: Scope, receive: Any, send: Any) -> None:
             await receive()
             raise KeyError
 
@@ -315,9 +327,11 @@ class AsyncTest(unittest.TestCase):
 
 class ASGITest(unittest.TestCase):
     def test_requests(self) -> None:
-        store, seen, sent = shop(), [], []
+        store = shop()
+        seen: list[Snapshot | None] = []
+        sent: list[Message] = []
 
-        async def application(scope: dict, receive: object, send: object) -> None:
+        async def application(scope: Scope, receive: Any, send: Any) -> None:
             texts = scope.get("kobdzila.snapshot")
             seen.append(texts)
             if texts is None:
@@ -328,34 +342,34 @@ class ASGITest(unittest.TestCase):
             await send({"type": "http.response.start", "status": 200, "headers": []})
             await send({"type": "http.response.body", "body": json.dumps([first, texts.gettext("basket")]).encode()})
 
-        async def send(message: dict) -> None:
+        async def send(message: Message) -> None:
             sent.append(message)
 
         made = ASGIMiddleware(application, store)
         headers = [(b"host", b"x"), (b"accept-language", b"sv"), (b"accept-language", b"fr;q=0.5")]
-        scopes = [{"type": "http", "headers": headers}, {"type": "websocket", "headers": []},
-                  {"type": "http", "headers": [(b"accept-language", b"fr")]}]
+        scopes: list[Scope] = [{"type": "http", "headers": headers}, {"type": "websocket", "headers": []},
+                               {"type": "http", "headers": [(b"accept-language", b"fr")]}]
 
         async def all_at_once() -> None:
-            await asyncio.gather(*(made(scope, None, send) for scope in scopes))
-            await made({"type": "lifespan"}, None, send)
+            await asyncio.gather(*(made(scope, UNUSED, send) for scope in scopes))
+            await made({"type": "lifespan"}, UNUSED, send)
 
         asyncio.run(all_at_once())
         bodies = [json.loads(message["body"]) for message in sent if "body" in message]
         self.assertEqual(bodies, [["panier", "panier"], ["basket", "basket"], ["panier", "panier"]])
         self.assertNotIn("kobdzila.snapshot", scopes[0])
         self.assertIsNone(seen.pop())
-        self.assertEqual([is_closed(it) for it in seen], [True] * 3)
+        self.assertEqual([it is not None and is_closed(it) for it in seen], [True] * 3)
         self.assertEqual(store.snapshot("fr").gettext("basket"), "panier 4")
 
     def test_options(self) -> None:
         said = []
 
-        async def application(scope: dict, receive: object, send: object) -> None:
+        async def application(scope: Scope, receive: Any, send: Any) -> None:
             said.append(scope["kobdzila.snapshot"].gettext("basket"))
 
-        made = ASGIMiddleware(application, shop(), "mail", lambda scope: scope["path"])
-        asyncio.run(made({"type": "http", "path": "fr", "headers": []}, None, None))
+        made = ASGIMiddleware(application, shop(), "mail", lambda scope: str(scope["path"]))
+        asyncio.run(made({"type": "http", "path": "fr", "headers": []}, UNUSED, UNUSED))
         self.assertEqual(said, ["corbeille"])
 
 
@@ -388,11 +402,12 @@ class CurrentTest(unittest.TestCase):
             yield from Body(2)
 
         store = shop()
-        for body, closed in ((lambda: [self.texts().encode()] * 2, 0), (stream, 0), (lambda: Body(2), 1),
-                             (lambda: Sized(2), 1)):
+        bodies: list[tuple[Callable[[], Iterable[bytes]], int]] = [
+            (lambda: [self.texts().encode()] * 2, 0), (stream, 0), (lambda: Body(2), 1), (lambda: Sized(2), 1)]
+        for body, closed in bodies:
             said.clear()
             made = WSGIMiddleware(lambda environ, start: body(), store)
-            answers = [made({"HTTP_ACCEPT_LANGUAGE": it}, None) for it in ("fr", "en")]
+            answers: list[Any] = [made({"HTTP_ACCEPT_LANGUAGE": it}, UNUSED) for it in ("fr", "en")]
             blocks = list(zip(*answers))  # (the server goes on with both in turn)
             self.assertEqual(blocks, [(b"panier panier", b"basket basket")] * 2)
             self.assertIsNone(kobdzila.current_snapshot.get(None))
@@ -403,33 +418,34 @@ class CurrentTest(unittest.TestCase):
 
     def test_inner(self) -> None:
         """A snapshot that was the current one before is so again, also after an application that fails."""
-        def fails(environ: dict, start_response: object) -> list[bytes]:
+        def fails(environ: Environ, start_response: object) -> list[bytes]:
             raise KeyError(self.texts())
 
         store = shop()
         with kobdzila.using(store.snapshot("fr")), self.assertRaises(KeyError) as caught:
-            WSGIMiddleware(fails, store)({"HTTP_ACCEPT_LANGUAGE": "sv"}, None)
+            WSGIMiddleware(fails, store)({"HTTP_ACCEPT_LANGUAGE": "sv"}, UNUSED)
         self.assertEqual(caught.exception.args, ("basket basket",))
         with kobdzila.using(store.snapshot("fr")):
             with self.assertRaises(KeyError):
-                WSGIMiddleware(fails, store)({"HTTP_ACCEPT_LANGUAGE": "sv"}, None)
+                WSGIMiddleware(fails, store)({"HTTP_ACCEPT_LANGUAGE": "sv"}, UNUSED)
             self.assertEqual(self.texts(), "panier panier")
 
     def test_asgi(self) -> None:
         """Each of the requests of a loop has its own, and so do its tasks and threads."""
         said: dict[str, list[str]] = {}
 
-        async def application(scope: dict, receive: object, send: object) -> None:
+        async def application(scope: Scope, receive: Any, send: Any) -> None:
             mine = said[scope["path"]] = [self.texts()]
             await asyncio.sleep(0.01)
             mine.append(await asyncio.create_task(asyncio.to_thread(self.texts)))
             await asyncio.sleep(0.01)
             mine.append(self.texts())
 
-        made = ASGIMiddleware(application, shop(), languages=lambda scope: scope["path"])
+        made = ASGIMiddleware(application, shop(), languages=lambda scope: str(scope["path"]))
 
         async def both() -> None:
-            await asyncio.gather(*(made({"type": "http", "path": it, "headers": []}, None, None) for it in ("fr", "en")))
+            await asyncio.gather(*(made({"type": "http", "path": it, "headers": []}, UNUSED, UNUSED)
+                                   for it in ("fr", "en")))
             self.assertIsNone(kobdzila.current_snapshot.get(None))
 
         asyncio.run(both())

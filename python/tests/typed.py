@@ -1,5 +1,5 @@
-"""An application's use of the package, as mypy sees it: tests/python/python.sh checks this file with `mypy --strict`. Each call
-has the type that it promises. Nobody runs it.
+"""An application's use of the package, as mypy sees it: tests/python/python.sh checks this folder with `mypy --strict`.
+Here each call has the type that it promises. Nobody runs this file.
 """
 from __future__ import annotations
 
@@ -14,6 +14,7 @@ from typing_extensions import assert_type
 
 
 def catalogues(path: Path) -> None:
+    assert_type(kobdzila.__version__, str)
     assert_type(kobdzila.GNUTranslations(path), kobdzila.GNUTranslations)
     standard: gettext.GNUTranslations = kobdzila.GNUTranslations(b"")
     assert_type(standard.gettext("a"), str)

@@ -28,6 +28,8 @@ if [ -z "$first" ]; then
   tests/lib/needs "$room/debian" python3-dev python3-venv
   script frameworks '/usr/bin/python3 -c "import flask, jinja2, babel, flask_babel"'
   tests/lib/needs "$room/frameworks" python3-flask python3-jinja2 python3-babel python3-flask-babel
+  script sphinx '/usr/bin/python3 -W ignore -c "import sphinx"'
+  tests/lib/needs "$room/sphinx" python3-sphinx
   script servers '/usr/bin/python3 -W ignore -c "import django, fastapi, gunicorn, httpx, starlette, uvicorn"'
   tests/lib/needs "$room/servers" python3-django python3-fastapi python3-httpx python3-starlette gunicorn uvicorn
   tests/lib/needs msgfmt gettext && tests/lib/needs pre-commit pre-commit && tests/lib/needs git git && tests/lib/needs curl curl
@@ -247,10 +249,11 @@ if ! tests/lib/needs mypy mypy; then
   skipped 'the Python package, mypy --strict' 'no mypy, and it could not be installed'
 elif said=$(cd python && mypy --cache-dir="$room/mypy" 2>&1); then
   ok "the Python package, mypy --strict: $(tail -n 1 <<< "$said")"
-  if said=$(cd python && MYPYPATH=src mypy --strict --cache-dir="$room/mypy" tests/typed.py 2>&1); then
-    ok 'the Python package, mypy --strict: each call has the type that it promises'
+  # (among them typed.py, in which each call has the type that it promises)
+  if said=$(cd python && mypy --cache-dir="$room/mypy" tests/*.py 2>&1); then
+    ok "the Python package, mypy --strict of its tests: $(tail -n 1 <<< "$said")"
   else
-    failed 'the Python package, mypy --strict of python/tests/typed.py' "$(head -c 300 <<< "$said")"
+    failed 'the Python package, mypy --strict of its tests' "$(head -c 300 <<< "$said")"
   fi
   # (applications that use the installed package, of which each is a module of its own)
   for it in examples/shop/app.py examples/flask/shop.py examples/fastapi/shop.py; do

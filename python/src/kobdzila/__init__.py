@@ -37,7 +37,7 @@ from ._gettext import (
     textdomain,
     translation,
 )
-from ._kobdzila import version as __version__
+from ._kobdzila import version as _version
 from ._refused import Fault, Refused
 
 TYPE_CHECKING = False
@@ -62,6 +62,7 @@ if TYPE_CHECKING:
     from ._web import ASGIMiddleware, WSGIMiddleware
 
 Translations = GNUTranslations
+__version__ = _version
 
 __all__ = [
     "ASGIMiddleware",
