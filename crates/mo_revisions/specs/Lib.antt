@@ -1,0 +1,3 @@
+pub mod Revisions
+pub mod AnyReading
+pub mod Refusing

@@ -1,0 +1,98 @@
+//! Reading MO files of any revision.
+ghost use Rattle.std.specs.Prelude.{◌≡◌, ◌⊎◌, ◌↔◌, ◌≤◌, length, IsTrue, IfOk, IfErr};
+ghost use Rattle.byteorder.specs.Endian.{little_number};
+ghost use Rattle.mo_image.specs.MoFile.{header_len, magic_number, most_file};
+ghost use Rattle.mo_file.specs.MoReading.{file_by, file_of, Refused};
+ghost use Rattle.mo_segments.specs.MessageStrings.{strings_of};
+ghost use Rattle.mo_revisions.specs.Revisions.{HasMessages};
+ghost use Rattle.mo_revisions.specs.AnyReading.{AnyMo, IsCatalogueOf, MeansMessages};
+ghost use Rattle.mo_revisions.specs.Refusing.{AnyRefused, IsFaultBeyond, IsMessagesFault, HasNoCatalogue};
+
+use crate::dependent::with_dependent;
+use crate::fault::AnyMoFault;
+use crate::header::minor;
+use crate::statics::{check_static, static_messages};
+use byteorder::{BigEndian, ByteOrder, LittleEndian};
+use catalogue::Catalogue;
+use mo_file::{MoFault, read_mo};
+use mo_image::MAGIC;
+use mo_segments::{Strings, kept, write_flat};
+use std::alloc::Global;
+
+/// Reads the messages of a file in one byte order.
+fn messages_by<T: ByteOrder>(alloc: Global, bytes: &[u8]) -> Result<Vec<Strings>, AnyMoFault>
+    requires short { length bytes.now ≤ most_file }
+    requires long { header_len ≤ length bytes.now }
+    ensures ok { IfOk result (λ v. HasMessages (file_by T.number_of bytes.now) (strings_of v.items)) }
+    ensures err { IfErr result (IsMessagesFault (file_by T.number_of bytes.now)) }
+{
+    check_static::<T>(bytes)?;
+    let messages = static_messages::<T>(alloc, bytes)?;
+    if minor::<T>(bytes) == 0 {
+        return Ok(messages);
+    }
+    with_dependent::<T>(alloc, bytes, messages)
+}
+
+/// Whether the file is little-endian: its words have their low byte first.
+fn is_low_first(bytes: &[u8]) -> bool
+    requires { header_len ≤ length bytes.now }
+    ensures { IsTrue result ↔ (little_number 4 bytes.now ≡ magic_number) }
+{
+    LittleEndian::read_u32(bytes) == MAGIC
+}
+
+/// Reads the messages of a file in the byte order of its magic number.
+fn messages(alloc: Global, bytes: &[u8]) -> Result<Vec<Strings>, AnyMoFault>
+    requires short { length bytes.now ≤ most_file }
+    requires long { header_len ≤ length bytes.now }
+    ensures ok { IfOk result (λ v. HasMessages (file_of bytes.now) (strings_of v.items)) }
+    ensures err { IfErr result (IsMessagesFault (file_of bytes.now)) }
+{
+    if is_low_first(bytes) {
+        messages_by::<LittleEndian>(alloc, bytes)
+    } else {
+        messages_by::<BigEndian>(alloc, bytes)
+    }
+}
+
+/// The catalogue of messages: that of the file of revision 0.0 which has the first message of each key.
+fn catalogue_of(alloc: Global, messages: Vec<Strings>) -> Result<Catalogue, MoFault>
+    ensures ok { IfOk result (IsCatalogueOf (strings_of messages.items)) }
+    ensures err { IfErr result (HasNoCatalogue (strings_of messages.items)) }
+{
+    let kept = kept(alloc, messages)?;
+    match write_flat(alloc, kept.as_slice())? {
+        Some(file) => read_mo(alloc, file.as_slice()),
+        None => Err(MoFault::Swollen),
+    }
+}
+
+/// Reads a file that `read_mo` has refused for its revision.
+///
+/// The catalogue has the static messages and, if the minor revision is 1, the system-dependent ones as x86-64 Linux
+/// expands them. A message with a segment that the machine doesn't know is left out. Of messages with one key the first
+/// is kept.
+pub fn read_revised(alloc: Global, bytes: &[u8]) -> Result<Catalogue, AnyMoFault>
+    requires { Refused bytes.now MoFault.Revision }
+    ensures ok { IfOk result (MeansMessages bytes.now) }
+    ensures err { IfErr result (IsFaultBeyond bytes.now) }
+{
+    let messages = messages(alloc, bytes)?;
+    Ok(catalogue_of(alloc, messages)?)
+}
+
+/// Reads an MO file of revision 0.0, 0.1, 1.0 or 1.1, in either byte order (GNU gettext manual, "MO Files").
+///
+/// A file that `read_mo` reads is read as there, and one that it refuses for another reason than its revision is
+/// refused. For the others see [`read_revised`].
+pub fn read_any_mo(alloc: Global, bytes: &[u8]) -> Result<Catalogue, AnyMoFault>
+    ensures ok { IfOk result (AnyMo bytes.now) }
+    ensures err { IfErr result (AnyRefused bytes.now) }
+{
+    match read_mo(alloc, bytes) {
+        Ok(catalogue) => Ok(catalogue),
+        Err(MoFault::Revision) => read_revised(alloc, bytes),
+        Err(fault) => Err(AnyMoFault::Mo(fault)),
+    }
+}
