@@ -47,7 +47,7 @@ enum kob_fault {
     KOB_MO_TOO_LARGE = 1,   /* more than 268,435,456 bytes */
     KOB_MO_SHORT = 2,       /* fewer than 28 bytes */
     KOB_MO_MAGIC = 3,       /* no magic number, in either byte order */
-    KOB_MO_REVISION = 4,    /* the revision isn't 0 */
+    KOB_MO_REVISION = 4,    /* the revision isn't 0.0, 0.1, 1.0 or 1.1; with KOB_STRICT, isn't 0.0 */
     KOB_MO_BOUNDS = 5,      /* a table or a string isn't wholly inside the file */
     KOB_MO_NO_NUL = 6,      /* a string isn't terminated by NUL */
     KOB_MO_BAD_TEXT = 7,    /* a string isn't UTF-8, or a key holds byte 4 twice */
@@ -56,6 +56,14 @@ enum kob_fault {
     KOB_MO_CHARSET = 10,    /* the header names a charset other than UTF-8 and US-ASCII */
     KOB_MO_SWOLLEN = 11,    /* the MO file that kob_mo_file would return is too large */
     KOB_MEMORY = 12,        /* out of memory, which says nothing about the input */
+    /* MO files of minor revision 1: their system-dependent part */
+    KOB_MO_DEPENDENT_TABLES = 13,         /* the header isn't 48 bytes long, or a table isn't inside the file */
+    KOB_MO_DEPENDENT_SEGMENT = 14,        /* a segment isn't wholly inside the file, or isn't terminated by NUL */
+    KOB_MO_DEPENDENT_DESCRIPTOR = 15,     /* a string's descriptor isn't wholly inside the file */
+    KOB_MO_DEPENDENT_SEGMENT_NUMBER = 16, /* a descriptor names a segment that the file doesn't have */
+    KOB_MO_DEPENDENT_TEXT = 17,           /* a piece of a string isn't wholly inside the file */
+    KOB_MO_DEPENDENT_OPEN_TEXT = 18,      /* the last piece of a string isn't terminated by NUL */
+    KOB_MO_DEPENDENT_SWOLLEN = 19,        /* all these strings together have more than 268,435,456 bytes */
     /* PO files, with the line */
     KOB_PO_TOO_LARGE = 101, /* more than 67,108,864 bytes */
     KOB_PO_NOT_UTF8 = 102,
@@ -86,11 +94,12 @@ typedef struct {
     unsigned line; /* in a PO file; 0 if the fault has no line */
 } kob_refusal;
 
-/* How to compile a PO file: 0, or any of these combined with `|`. */
+/* How to compile a PO file: 0, or any of these combined with `|`. For an MO file only KOB_STRICT counts. */
 enum kob_options {
     KOB_CHECKED = 1,   /* run the checks of `msgfmt -c` */
     KOB_USE_FUZZY = 2, /* include fuzzy messages */
-    KOB_STRICT = 4     /* refuse a charset other than UTF-8 and US-ASCII, as `msgfmt` does */
+    KOB_STRICT = 4     /* refuse a PO file's charset other than UTF-8 and US-ASCII, as `msgfmt` does, and an MO file's
+                        * revision other than 0.0 */
 };
 
 /* The format of a file. */
@@ -102,7 +111,10 @@ const char *kob_fault_text(enum kob_fault fault);
 /* Open the MO file in `bytes` and return its catalogue, with one reference, which the caller releases with kob_release.
  * On failure, return NULL and store the reason in *why, unless `why` is NULL. The bytes are copied before they are
  * checked, so the caller may free them as soon as the call returns. If another thread writes to them meanwhile, the
- * copy is some mixture of old and new bytes, which is opened or refused as a whole. */
+ * copy is some mixture of old and new bytes, which is opened or refused as a whole.
+ *
+ * The file may be of revision 0.0, 0.1, 1.0 or 1.1. System-dependent strings have the values of <inttypes.h> on x86-64
+ * Linux: `PRIu64` stands for `lu`. A message with a segment of another name is left out. */
 kob_catalogue *kob_open_mo(const void *bytes, size_t len, kob_refusal *why);
 
 /* Compile the PO file in `bytes` and return its catalogue. `options` is 0 or a combination of enum kob_options.
@@ -113,7 +125,7 @@ kob_catalogue *kob_open_mo(const void *bytes, size_t len, kob_refusal *why);
  * References, failures and the bytes are treated as by kob_open_mo. */
 kob_catalogue *kob_open_po(const void *bytes, size_t len, unsigned options, kob_refusal *why);
 
-/* Open the file `name`, an MO file (KOB_MO) or a PO file (KOB_PO, compiled with `options`), and return its catalogue.
+/* Open the file `name`, an MO file (KOB_MO) or a PO file (KOB_PO), with `options`, and return its catalogue.
  * References and failures are treated as by kob_open_mo; after KOB_UNREADABLE errno says why, for example ENOENT, or
  * EMFILE if no file descriptor is left.
  *

@@ -1,5 +1,5 @@
 /* The catalogue of an MO file's bytes. Most are opened by libkobdzila as they are. Some of those that it refuses the C
- * library reads: in another charset, with system-dependent strings, with odd forms. Of these a file is made that
+ * library reads: in another charset, of another revision, with odd forms. Of these a file is made that
  * libkobdzila takes, so that no catalogue is ever shown to the C library, which trusts its files. */
 #define _POSIX_C_SOURCE 200809L
 #include "intl.h"
@@ -97,12 +97,19 @@ static int may_be_read(enum kob_fault fault) {
            fault == KOB_MO_CHARSET;
 }
 
+/* Whether a file has another revision than 0.0. libkobdzila reads such files; but the C library wants a hash table in
+ * them, and reads later minor revisions, so they are always read by their rows. */
+static int is_revised(const unsigned char *bytes) {
+    static const unsigned char low[] = { 0xde, 0x12, 0x04, 0x95 }, high[] = { 0x95, 0x04, 0x12, 0xde }, none[4] = { 0 };
+    return (!memcmp(bytes, low, 4) || !memcmp(bytes, high, 4)) && memcmp(bytes + 4, none, 4);
+}
+
 enum standing opened(const unsigned char *bytes, size_t len, struct catalogue **catalogue) {
     /* of a file that is too large, there is nothing in `bytes` */
     if (len < LEAST_MO || len > MOST_MO)
         return MISSING;
-    enum kob_fault fault;
-    enum standing standing = open_held(bytes, len, 0, catalogue, &fault);
+    enum kob_fault fault = KOB_MO_REVISION;
+    enum standing standing = is_revised(bytes) ? MISSING : open_held(bytes, len, 0, catalogue, &fault);
     if (standing != MISSING || !may_be_read(fault))
         return standing;
     struct rows rows;

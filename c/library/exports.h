@@ -44,7 +44,7 @@ enum { BUSY = 203 };
 
 /* ---- catalogues */
 size_t kobdzila_size(void);
-void kobdzila_open_mo(const unsigned char *bytes, size_t len, struct held_catalogue *out);
+void kobdzila_open_mo(const unsigned char *bytes, size_t len, uint32_t strict, struct held_catalogue *out);
 void kobdzila_open_po(const unsigned char *bytes, size_t len, uint32_t checked, uint32_t use_fuzzy, uint32_t strict,
                       struct held_catalogue *out);
 void kobdzila_close(struct held_catalogue *catalogue);

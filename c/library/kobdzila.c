@@ -28,14 +28,15 @@ static kob_catalogue *opened(kob_catalogue *c, kob_refusal *why) {
     return NULL;
 }
 
-/* Open an MO file in memory that nobody writes to meanwhile: it is read again after it was checked. */
-static kob_catalogue *open_own_mo(const unsigned char *bytes, size_t len, kob_refusal *why) {
+/* Open an MO file in memory that nobody writes to meanwhile: it is read again after it was checked. Of the options only
+ * KOB_STRICT counts. */
+static kob_catalogue *open_own_mo(const unsigned char *bytes, size_t len, unsigned options, kob_refusal *why) {
     if (len > MOST_MO)
         return refuse(why, KOB_MO_TOO_LARGE, 0);
     kob_catalogue *c = room_for_catalogue(why);
     if (!c)
         return NULL;
-    kobdzila_open_mo(bytes, len, held_catalogue(c));
+    kobdzila_open_mo(bytes, len, options & KOB_STRICT, held_catalogue(c));
     return opened(c, why);
 }
 
@@ -48,7 +49,7 @@ kob_catalogue *kob_open_mo(const void *bytes, size_t len, kob_refusal *why) {
         return refuse(why, KOB_MEMORY, 0);
     if (len)
         memcpy(copy, bytes, len);
-    kob_catalogue *c = open_own_mo(copy, len, why);
+    kob_catalogue *c = open_own_mo(copy, len, 0, why);
     free_quietly(copy);
     return c;
 }
@@ -70,7 +71,7 @@ kob_catalogue *kob_open_file(const char *name, enum kob_kind kind, unsigned opti
     unsigned char *bytes = file_bytes(name, ALL_FILES, kind == KOB_PO ? MOST_PO : MOST_MO, &len);
     if (!bytes)
         return refuse(why, errno == ENOMEM ? KOB_MEMORY : KOB_UNREADABLE, 0);
-    kob_catalogue *c = kind == KOB_PO ? kob_open_po(bytes, len, options, why) : open_own_mo(bytes, len, why);
+    kob_catalogue *c = kind == KOB_PO ? kob_open_po(bytes, len, options, why) : open_own_mo(bytes, len, options, why);
     free_quietly(bytes);
     return c;
 }
@@ -199,12 +200,15 @@ kob_text kob_mo_file(const kob_catalogue *c) { return text_at(c, FILE_BYTES, 0, 
 const char *kob_fault_text(enum kob_fault fault) {
     static const char *const mo[] = { "no fault", "file too large", "file too short", "not an MO file",
         "unknown revision", "out of bounds", "string not closed", "bad text", "wrong plural forms",
-        "keys out of order", "unsupported charset", "map too large", "out of memory" };
+        "keys out of order", "unsupported charset", "map too large", "out of memory",
+        "system-dependent tables out of bounds", "bad segment", "descriptor out of bounds", "unknown segment number",
+        "system-dependent string out of bounds", "system-dependent string not closed",
+        "system-dependent strings too large" };
     static const char *const po[] = { "file too large", "not UTF-8", "bad escape", "string not closed", "unknown word",
         "bad text", "out of order", "wrong plural index", "duplicate message", "unsupported charset",
         "system-dependent format", "plural message without a rule", "unreadable plural rule",
         "wrong number of plural forms", "plural rule fails", "format arguments differ", "newlines differ" };
-    if (fault >= KOB_NO_FAULT && fault <= KOB_MEMORY)
+    if (fault >= KOB_NO_FAULT && fault <= KOB_MO_DEPENDENT_SWOLLEN)
         return mo[fault];
     if (fault >= KOB_PO_TOO_LARGE && fault <= KOB_PO_NEWLINE_MISMATCH)
         return po[fault - KOB_PO_TOO_LARGE];

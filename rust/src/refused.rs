@@ -58,7 +58,7 @@ kinds! {
     MoShort = 2,
     /// The file doesn't begin with the magic number of MO files, in either byte order.
     MoMagic = 3,
-    /// The revision of the MO file isn't 0.
+    /// The revision of the MO file isn't 0.0, 0.1, 1.0 or 1.1.
     MoRevision = 4,
     /// A table or a string isn't wholly inside the MO file.
     MoBounds = 5,
@@ -76,6 +76,21 @@ kinds! {
     MoSwollen = 11,
     /// Memory ran out, which says nothing about the input.
     Memory = 12,
+    /// The header of an MO file of minor revision 1 isn't 48 bytes long, or a table of system-dependent strings isn't
+    /// inside the file.
+    MoDependentTables = 13,
+    /// A segment of system-dependent strings isn't wholly inside the MO file, or isn't terminated by NUL.
+    MoDependentSegment = 14,
+    /// The descriptor of a system-dependent string isn't wholly inside the MO file.
+    MoDependentDescriptor = 15,
+    /// A descriptor names a segment that the MO file doesn't have.
+    MoDependentSegmentNumber = 16,
+    /// A piece of a system-dependent string isn't wholly inside the MO file.
+    MoDependentText = 17,
+    /// The last piece of a system-dependent string isn't terminated by NUL.
+    MoDependentOpenText = 18,
+    /// The system-dependent strings of the MO file together have more than 268,435,456 bytes.
+    MoDependentSwollen = 19,
     /// The PO text has more than 67,108,864 bytes.
     PoTooLarge = 101,
     /// The PO text isn't UTF-8.
@@ -206,7 +221,7 @@ mod tests {
             .map(Kind::of_number)
             .filter(|it| !matches!(it, Kind::Unknown(_)))
             .collect();
-        assert!(known.len() >= 32);
+        assert!(known.len() >= 39);
         for kind in known {
             assert_eq!(Kind::of_number(kind.number()), kind);
             assert_ne!(kind.to_string(), "unknown fault");

@@ -499,7 +499,8 @@ static void mo_refusals(void) {
     refuses_mo((const unsigned char *)"", 268435457, KOB_MO_TOO_LARGE);
     refuses_mo(NULL, 0, KOB_MO_SHORT);
     refuses_changed(0, 1, KOB_MO_MAGIC);
-    refuses_changed(4, 1, KOB_MO_REVISION);
+    refuses_changed(4, 2, KOB_MO_REVISION);
+    refuses_changed(4, 1, KOB_MO_DEPENDENT_TABLES);
     refuses_changed(32, 1000, KOB_MO_BOUNDS);
     refuses_changed(28, 0, KOB_MO_NO_NUL);
     refuses_strings((struct string){ "\xff", 1 }, (struct string){ "b", 1 }, KOB_MO_BAD_TEXT);
@@ -513,7 +514,7 @@ static void mo_refusals(void) {
 
 static void fault_texts(void) {
     for (int fault = KOB_NO_FAULT; fault <= KOB_BAD_NAME; fault++) {
-        int known = fault <= KOB_MEMORY || (fault >= KOB_PO_TOO_LARGE && fault <= KOB_PO_NEWLINE_MISMATCH) ||
+        int known = fault <= KOB_MO_DEPENDENT_SWOLLEN || (fault >= KOB_PO_TOO_LARGE && fault <= KOB_PO_NEWLINE_MISMATCH) ||
                     fault == KOB_PO_NO_CHARACTER || fault == KOB_UNREADABLE || fault == KOB_BAD_NAME;
         is("a fault has a text", known == (strcmp(kob_fault_text((enum kob_fault)fault), "unknown fault") != 0));
     }
@@ -780,8 +781,13 @@ static void print_refusal(const char *name) {
     fclose(f);
     kob_refusal why;
     kob_catalogue *c = kob_open_mo(bytes, len, &why);
+    /* (the program that this is compared with reads revision 0.0 alone) */
+    int is_mo = len >= 28 && (!memcmp(bytes, "\xde\x12\x04\x95", 4) || !memcmp(bytes, "\x95\x04\x12\xde", 4));
+    int is_revised = is_mo && memcmp(bytes + 4, "\0\0\0", 4);
     munmap(room, whole + page);
-    if (c)
+    if (is_revised)
+        printf("refused %d\n", KOB_MO_REVISION);
+    else if (c)
         printf("accepted %zu\n", kob_count(c));
     else
         printf("refused %d\n", why.fault);

@@ -88,6 +88,8 @@ LOADS = ("crates/po_checks/src/fault.rt", "LoadKind")
 RECODED = ("crates/any_charset/src/fault.rt", "TextFault")
 TEXTS = ("crates/po_text/src/fault.rt", "PoKind")
 FILES = ("crates/mo_file/src/fault.rt", "MoFault")
+DEPENDENT = ("crates/mo_segments/src/fault.rt", "DependentFault")
+REVISED = ("crates/mo_revisions/src/fault.rt", "AnyMoFault")
 SCRIPTS = ("crates/script_text/src/fault.rt", "ScriptKind")
 
 
@@ -155,14 +157,20 @@ def faults_of_the_header():
         for number, (name, text) in faults.items():
             constant = re.sub(r"(?<!^)(?=[A-Z])", "_", name.split("(")[0]).upper().replace("U_T_F", "UTF")
             wanted[f"KOB_{front}_{constant}"] = (first + number, re.sub(r" at \{0\}", "", text))
+    revised = [("Tables", dict((name, text) for text, name in variants(*REVISED))["Tables"]), *kinds(*DEPENDENT).values()]
+    code = read("crates/kobdzila_c/src/numbers.rt")
+    numbers = {name: int(number) for name, number in re.findall(r" (DEPENDENT_\w+): u32 = (\d+);", code)}
+    for name, text in revised:
+        constant = "DEPENDENT_" + re.sub(r"(?<!^)(?=[A-Z])", "_", name).upper()
+        wanted[f"KOB_MO_{constant}"] = (numbers[constant], text)
     text = next(text for text, name in variants(*RECODED) if name == "NoCharacter")
-    number = re.search(r"NO_CHARACTER: u32 = (\d+);", read("crates/kobdzila_c/src/numbers.rt"))[1]
+    number = re.search(r"NO_CHARACTER: u32 = (\d+);", code)[1]
     wanted["KOB_PO_NO_CHARACTER"] = (int(number), text.removeprefix("line {0}: "))
     found = {name: int(number) for name, number in re.findall(r"(KOB_[MP]O_\w+) = (\d+)", read(HEADER))}
     lists = re.findall(r"const (?:mo|po)\[\] = \{(.*?)\};", read("c/library/kobdzila.c"), re.S)
     texts = [text for words in lists for text in re.findall(r'"([^"]*)"', words)]
     texts += re.findall(r'case KOB_[MP]O_\w+: return "([^"]*)"', read("c/library/kobdzila.c"))
-    told = [text for _, text in wanted.values()]
+    told = [text for _, text in sorted(wanted.values())]
     return differences(HEADER, found, {name: number for name, (number, _) in wanted.items()}) + differences(
         "c/library/kobdzila.c", [text for text in texts if text not in ("no fault", "out of memory")], told)
 

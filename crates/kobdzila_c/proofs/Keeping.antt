@@ -3,16 +3,16 @@ use Rattle.std.proofs.Common.{◌≡◌, ℕ, Bool, true, false, List, Option, S
 use Rattle.std.specs.Prelude.{MatchOption}
 use Rattle.std.specs.Arc.{arc_value}
 use Rattle.mo_image.specs.Entry.{Entry}
-use Rattle.mo_file.specs.MoReading.{Mo}
 use Rattle.mo_file.specs.declared.fault.MoFault.TheVariants as mo
 use Rattle.catalogue.specs.declared.compiler.Compiled.{Compiled}
 use Rattle.catalogue.specs.declared.compiler.Stats.{Stats}
+use Rattle.mo_revisions.specs.declared.fault.AnyMoFault.TheVariants.{Mo as OfMo}
 use Rattle.any_charset.specs.declared.fault.TextFault.TheVariants.{Load}
 use Rattle.po_checks.specs.Refusal.{out_of_memory}
 use Rattle.po_checks.specs.declared.options.Options.{Options}
 use Rattle.kobdzila_c.specs.declared.opened.Opened.{Opened}
-use Rattle.kobdzila_c.specs.Opening.{IsOpenedAs, IsOpenedMap, IsOpenedMo, IsOpenedPo, MeansMap, MeansText}
-use Rattle.kobdzila_c.specs.Opening.{RefusesText, no_stats}
+use Rattle.kobdzila_c.specs.Opening.{IsOpenedAs, IsOpenedMap, IsOpenedMo, IsOpenedPo, MeansMap, MeansMo}
+use Rattle.kobdzila_c.specs.Opening.{MeansText, RefusesMo, RefusesText, no_stats}
 
 through : {A : Type 0} (value : A → List Entry) (P : List Entry → Stats → Type 0) (m : List Entry)
     (stats counts : Stats) (o : Option A) → P m stats
@@ -28,12 +28,17 @@ held P m stats c so h = record {
   line_is = h.line_is;
 }
 
-pub kept_mo : (bytes : List ℕ) (m : List Entry) (c : Opened) → Mo bytes m → IsOpenedMap m no_stats c
-    → IsOpenedMo bytes c
-kept_mo bytes m c so (inl h) = inl (held (λ map counts. Mo bytes map × (counts ≡ no_stats)) m no_stats c (so, refl) h)
-kept_mo bytes m c so (inr refused) = inr (mo.Memory, (λ lt. absurd (omega (arith, lt))), refused)
-
 -- out of memory may stand for any refusal
+no_memory : (bytes : List ℕ) (is_strict : Bool) → RefusesMo bytes is_strict (OfMo mo.Memory)
+no_memory bytes true = λ lt. absurd (omega (arith, lt))
+no_memory bytes false = inl ((λ e. absurd (cc e)), (λ lt. absurd (omega (arith, lt))))
+
+pub kept_mo : (bytes : List ℕ) (is_strict : Bool) (m : List Entry) (c : Opened) → MeansMo bytes is_strict m
+    → IsOpenedMap m no_stats c → IsOpenedMo bytes is_strict c
+kept_mo bytes is_strict m c so (inl h) =
+    inl (held (λ map counts. MeansMo bytes is_strict map × (counts ≡ no_stats)) m no_stats c (so, refl) h)
+kept_mo bytes is_strict m c so (inr refused) = inr (OfMo mo.Memory, no_memory bytes is_strict, refused)
+
 memory : (text : List ℕ) (options : Options) (is_strict : Bool)
     → RefusesText text options is_strict (Load out_of_memory)
 memory text options true = inl refl

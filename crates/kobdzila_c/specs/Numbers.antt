@@ -9,6 +9,10 @@ no_fault = 0
 abbrev pub memory_fault : ℕ
 memory_fault = 12
 
+-- the tables of an MO file's system-dependent part don't lie in the file
+abbrev pub tables_fault : ℕ
+tables_fault = 13
+
 -- the ranks of a PO text's faults are counted from here
 abbrev pub po_faults : ℕ
 po_faults = 100

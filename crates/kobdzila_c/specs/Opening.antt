@@ -3,7 +3,12 @@ use Rattle.std.specs.Prelude.{◌≡◌, ◌⊎◌, ℕ, ◌+◌, ◌==◌, if�
 use Rattle.std.specs.Arc.{arc_value}
 use Rattle.mo_image.specs.Entry.{Entry}
 use Rattle.mo_file.specs.MoReading.{Mo, Refused, rank as mo_number}
-use Rattle.mo_file.specs.declared.fault.MoFault.{MoFault}
+use Rattle.mo_segments.specs.declared.fault.DependentFault.{DependentFault}
+use Rattle.mo_segments.specs.declared.fault.DependentFault.TheVariants as dependent
+use Rattle.mo_revisions.specs.AnyReading.{AnyMo}
+use Rattle.mo_revisions.specs.Refusing.{AnyRefused}
+use Rattle.mo_revisions.specs.declared.fault.AnyMoFault.{AnyMoFault}
+use Rattle.mo_revisions.specs.declared.fault.AnyMoFault.TheVariants.{Tables, Dependent, Mo as OfMo}
 use Rattle.catalogue.specs.Meaning.{Means, Refuses, rank}
 use Rattle.catalogue.specs.declared.compiler.Compiled.{Compiled}
 use Rattle.catalogue.specs.declared.compiler.Stats.{Stats}
@@ -11,16 +16,31 @@ use Rattle.any_charset.specs.Recoding.{MeansAny, RefusesAny}
 use Rattle.any_charset.specs.declared.fault.TextFault.{TextFault}
 use Rattle.any_charset.specs.declared.fault.TextFault.TheVariants.{Load, NoCharacter}
 use Rattle.po_checks.specs.Refusal.{out_of_memory}
-use Rattle.po_checks.specs.declared.fault.LoadFault.{LoadFault}
 use Rattle.po_checks.specs.declared.fault.LoadKind.{LoadKind}
 use Rattle.po_checks.specs.declared.fault.LoadKind.TheVariants.{Memory}
 use Rattle.po_checks.specs.declared.options.Options.{Options}
 use Rattle.kobdzila_c.specs.declared.opened.Opened.{Opened}
-use Rattle.kobdzila_c.specs.Numbers.{no_fault, memory_fault, po_faults, no_character_fault}
+use Rattle.kobdzila_c.specs.Numbers.{no_fault, memory_fault, tables_fault, po_faults, no_character_fault}
 
 -- the number of a fault of a PO text; out of memory has one number in both formats
 abbrev pub fault_number : LoadKind → ℕ
 fault_number kind = if rank kind == rank Memory then memory_fault else po_faults + rank kind
+
+-- the number of a fault of an MO file's system-dependent part: these follow that of the tables
+abbrev pub dependent_number : DependentFault → ℕ
+dependent_number dependent.Segment = tables_fault + 1
+dependent_number dependent.Descriptor = tables_fault + 2
+dependent_number dependent.SegmentNumber = tables_fault + 3
+dependent_number dependent.Text = tables_fault + 4
+dependent_number dependent.OpenText = tables_fault + 5
+dependent_number dependent.Swollen = tables_fault + 6
+dependent_number dependent.Memory = memory_fault
+
+-- the number of a fault of an MO file of any revision
+abbrev pub mo_fault_number : AnyMoFault → ℕ
+mo_fault_number Tables = tables_fault
+mo_fault_number (Dependent fault) = dependent_number fault
+mo_fault_number (OfMo fault) = mo_number fault
 
 -- the options given by two numbers: each is on if its number isn't 0
 abbrev pub options_of : ℕ → ℕ → Options
@@ -56,10 +76,25 @@ pub record IsOpenedAs (Is : List Entry → Stats → Type 0) (c : Opened) : Type
 abbrev pub IsOpenedMap : List Entry → Stats → Opened → Type 0
 IsOpenedMap m stats c = IsOpenedAs (λ map counts. (map ≡ m) × (counts ≡ stats)) c ⊎ IsRefused c memory_fault 0
 
+-- the bytes are an MO file of this map: if is_strict of revision 0.0, and otherwise of any revision
+abbrev pub MeansMo : List ℕ → Bool → List Entry → Type 0
+MeansMo bytes true m = Mo bytes m
+MeansMo bytes false m = AnyMo bytes m
+
+-- the bytes are refused by the reader of revision 0.0
+abbrev pub RefusesStrictMo : List ℕ → AnyMoFault → Type 0
+RefusesStrictMo bytes (OfMo fault) = Refused bytes fault
+RefusesStrictMo bytes _ = ⊥
+
+-- the bytes are refused: if is_strict by the reader of revision 0.0, and otherwise by that of all revisions
+abbrev pub RefusesMo : List ℕ → Bool → AnyMoFault → Type 0
+RefusesMo bytes true fault = RefusesStrictMo bytes fault
+RefusesMo bytes false fault = AnyRefused bytes fault
+
 -- the map of an MO file, or its first fault, or out of memory
-abbrev pub IsOpenedMo : List ℕ → Opened → Type 0
-IsOpenedMo bytes c = IsOpenedAs (λ map counts. Mo bytes map × (counts ≡ no_stats)) c
-    ⊎ (fault : MoFault) × Refused bytes fault × IsRefused c (mo_number fault) 0
+abbrev pub IsOpenedMo : List ℕ → Bool → Opened → Type 0
+IsOpenedMo bytes is_strict c = IsOpenedAs (λ map counts. MeansMo bytes is_strict map × (counts ≡ no_stats)) c
+    ⊎ (fault : AnyMoFault) × RefusesMo bytes is_strict fault × IsRefused c (mo_fault_number fault) 0
 
 -- the text compiles to this: if is_strict as UTF-8, and otherwise in any charset
 abbrev pub MeansText : List ℕ → Options → Bool → Compiled → Type 0

@@ -33,8 +33,8 @@ abbrev pub holds : Ptr → Opened → Fml
 holds p c = lies_at the_row full_share p c
 
 -- at out is the catalogue of an MO file, or why it is refused
-abbrev pub mo_opened_at : Ptr → List ℕ → Fml
-mo_opened_at out bytes = fex Opened (λ c. fex (IsOpenedMo bytes c) (λ _. holds out c))
+abbrev pub mo_opened_at : Ptr → List ℕ → Bool → Fml
+mo_opened_at out bytes is_strict = fex Opened (λ c. fex (IsOpenedMo bytes is_strict c) (λ _. holds out c))
 
 -- at out is the catalogue of a PO text, or why it is refused
 abbrev pub po_opened_at : Ptr → List ℕ → Options → Bool → Fml

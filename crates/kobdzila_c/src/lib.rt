@@ -62,13 +62,19 @@ pub extern "C" fn kobdzila_size() -> usize
     std::mem::size_of::<Opened>()
 }
 
-/// Opens an MO file, and writes its catalogue, or why it is refused, to `out`.
+/// Opens an MO file, and writes its catalogue, or why it is refused, to `out`. If `strict` isn't 0 its revision must be
+/// 0.0; otherwise it may be any that `mo_revisions` reads.
 #[unsafe(no_mangle)]
-pub unsafe extern "C" fn kobdzila_open_mo(alloc: Global, bytes: &[u8], out: *mut Opaque)
+pub unsafe extern "C" fn kobdzila_open_mo(
+    alloc: Global,
+    bytes: &[u8],
+    strict: u32,
+    out: *mut Opaque,
+)
     requires* { sem 𝓛 (room_at the_row out) }
-    ensures* { sem 𝓛 (mo_opened_at out bytes.now) }
+    ensures* { sem 𝓛 (mo_opened_at out bytes.now (nat_lt 0 strict)) }
 {
-    (out as *mut Opened).write(opened::open_mo(alloc, bytes));
+    (out as *mut Opened).write(opened::open_mo(alloc, bytes, strict));
 }
 
 /// Compiles a PO text, and writes its catalogue, or why it is refused, to `out`. An option is on if its argument isn't

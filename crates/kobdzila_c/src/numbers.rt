@@ -5,6 +5,21 @@ pub(crate) const NO_FAULT: u32 = 0;
 
 pub(crate) const MEMORY: u32 = 12;
 
+// Those of the system-dependent part of an MO file.
+pub(crate) const DEPENDENT_TABLES: u32 = 13;
+
+pub(crate) const DEPENDENT_SEGMENT: u32 = 14;
+
+pub(crate) const DEPENDENT_DESCRIPTOR: u32 = 15;
+
+pub(crate) const DEPENDENT_SEGMENT_NUMBER: u32 = 16;
+
+pub(crate) const DEPENDENT_TEXT: u32 = 17;
+
+pub(crate) const DEPENDENT_OPEN_TEXT: u32 = 18;
+
+pub(crate) const DEPENDENT_SWOLLEN: u32 = 19;
+
 // Those of a PO text have theirs from 100 on, but for memory, which is 18 there.
 pub(crate) const PO_FAULTS: u32 = 100;
 

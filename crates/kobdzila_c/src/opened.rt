@@ -5,12 +5,19 @@ ghost use Rattle.catalogue.specs.Meaning.{Means, Refuses};
 ghost use Rattle.po_checks.specs.Refusal.{out_of_memory};
 ghost use Rattle.kobdzila_c.specs.Opening.{IsOpenedMo, IsOpenedPo, IsOpenedMap, IsRefused, fault_number, no_stats};
 ghost use Rattle.kobdzila_c.specs.Opening.{MeansText, RefusesText, line_of, options_of, text_fault_number};
+ghost use Rattle.kobdzila_c.specs.Opening.{MeansMo, RefusesMo, dependent_number, mo_fault_number};
 
-use crate::numbers::{MEMORY, NO_CHARACTER, NO_FAULT, PO_FAULTS, PO_MEMORY};
+use crate::numbers::{
+    DEPENDENT_DESCRIPTOR, DEPENDENT_OPEN_TEXT, DEPENDENT_SEGMENT, DEPENDENT_SEGMENT_NUMBER,
+    DEPENDENT_SWOLLEN, DEPENDENT_TABLES, DEPENDENT_TEXT, MEMORY, NO_CHARACTER, NO_FAULT, PO_FAULTS,
+    PO_MEMORY,
+};
 use any_charset::{TextFault, compile_recoded, is_for_charset};
 use catalogue::{Catalogue, Compiled, LoadFault, LoadKind, Options, Stats, compile_owned};
 use live_loads::{mo_number, po_number};
 use mo_file::read_mo;
+use mo_revisions::{AnyMoFault, read_any_mo};
+use mo_segments::DependentFault;
 use std::alloc::{AllocError, Global};
 use std::sync::Arc;
 
@@ -78,13 +85,53 @@ fn kept(alloc: Global, catalogue: Catalogue, stats: Stats) -> Opened
     }
 }
 
-/// The catalogue of an MO file, or the first reason why it is refused.
-pub(crate) fn open_mo(alloc: Global, bytes: &[u8]) -> Opened
-    ensures { IsOpenedMo bytes.now result }
+/// The number in `kobdzila.h` of a fault of a file's system-dependent part.
+fn dependent_number(fault: DependentFault) -> u32
+    ensures { result ≡ dependent_number fault }
 {
+    match fault {
+        DependentFault::Segment => DEPENDENT_SEGMENT,
+        DependentFault::Descriptor => DEPENDENT_DESCRIPTOR,
+        DependentFault::SegmentNumber => DEPENDENT_SEGMENT_NUMBER,
+        DependentFault::Text => DEPENDENT_TEXT,
+        DependentFault::OpenText => DEPENDENT_OPEN_TEXT,
+        DependentFault::Swollen => DEPENDENT_SWOLLEN,
+        DependentFault::Memory => MEMORY,
+    }
+}
+
+/// The number in `kobdzila.h` of a fault of an MO file.
+fn mo_fault_number(fault: AnyMoFault) -> u32
+    ensures { result ≡ mo_fault_number fault }
+{
+    match fault {
+        AnyMoFault::Tables => DEPENDENT_TABLES,
+        AnyMoFault::Dependent(fault) => dependent_number(fault),
+        AnyMoFault::Mo(fault) => mo_number(fault),
+    }
+}
+
+/// Reads an MO file of any revision, or if `is_strict` of revision 0.0 alone.
+fn read_file(alloc: Global, bytes: &[u8], is_strict: bool) -> Result<Catalogue, AnyMoFault>
+    ensures ok { IfOk result (MeansMo bytes.now is_strict) }
+    ensures err { IfErr result (RefusesMo bytes.now is_strict) }
+{
+    if !is_strict {
+        return read_any_mo(alloc, bytes);
+    }
     match read_mo(alloc, bytes) {
+        Ok(catalogue) => Ok(catalogue),
+        Err(fault) => Err(AnyMoFault::Mo(fault)),
+    }
+}
+
+/// The catalogue of an MO file, or the first reason why it is refused. The option `strict` is on if it isn't 0.
+pub(crate) fn open_mo(alloc: Global, bytes: &[u8], strict: u32) -> Opened
+    ensures { IsOpenedMo bytes.now (nat_lt 0 strict) result }
+{
+    match read_file(alloc, bytes, strict > 0) {
         Ok(catalogue) => kept(alloc, catalogue, NO_STATS),
-        Err(fault) => refused(mo_number(fault), 0),
+        Err(fault) => refused(mo_fault_number(fault), 0),
     }
 }
 

@@ -33,8 +33,7 @@ else:
     AnyItems = ItemsView
     EntryFields = namedtuple("EntryFields", "context msgid plural forms")
 
-# Whole files that Python's reader may read: unknown revisions (strings that depend on the system), other charsets,
-# several plurals.
+# Whole files that Python's reader may read: later minor revisions, other charsets, several plurals.
 READ_BY_PYTHON = {Fault.MO_REVISION, Fault.MO_BAD_TEXT, Fault.MO_FORMS, Fault.MO_CHARSET}
 GERMANIC = "n != 1"  # the plural rule of a header without one
 OWN_FRAMES = ("kobdzila", "gettext")  # a warning names the caller outside of them

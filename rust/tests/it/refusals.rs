@@ -112,7 +112,13 @@ fn each_reason_of_an_mo_file() {
     refuses_mo(b"", Kind::MoShort, "file too short");
     refuses_mo(&[0; 27], Kind::MoShort, "file too short");
     refuses_changed(0, 1, Kind::MoMagic, "not an MO file");
-    refuses_changed(4, 1, Kind::MoRevision, "unknown revision");
+    refuses_changed(4, 2, Kind::MoRevision, "unknown revision");
+    refuses_changed(
+        4,
+        1,
+        Kind::MoDependentTables,
+        "system-dependent tables out of bounds",
+    );
     refuses_changed(32, 1000, Kind::MoBounds, "out of bounds");
     refuses_changed(28, 0, Kind::MoNoNul, "string not closed");
     refuses_mo(&mo_file(&[(b"\xff", b"b")]), Kind::MoBadText, "bad text");
