@@ -66,12 +66,29 @@ static void change_byte(struct bytes *b) {
     b->at[chance(b->len)] = chance(2) ? any : bytes[chance(sizeof bytes)];
 }
 
-static void change_header(struct bytes *b) { put_word(b, 4 * chance(7), odd_word(*b)); }
+/* Whether the file has a revision other than 0.0, and room for a header of twelve words. */
+static int has_long_header(struct bytes b) { return b.len >= 48 && word_at(b, 4); }
+
+static void change_header(struct bytes *b) { put_word(b, 4 * chance(has_long_header(*b) ? 12 : 7), odd_word(*b)); }
+
+/* a word of the segments, of the tables of descriptors, or of a descriptor */
+static void change_dependent(struct bytes *b) {
+    static const size_t tables[] = { 32, 40, 44 };
+    size_t at = word_at(*b, tables[chance(3)]) + 4 * chance(2 * (word_at(*b, 36) % 1000) + 2);
+    if (chance(2) && at + 4 <= b->len)
+        at = word_at(*b, at) + 4 * chance(5);
+    if (at + 4 <= b->len)
+        put_word(b, at, chance(2) ? odd_word(*b) : word_at(*b, at) + (uint32_t)chance(9) - 4);
+}
 
 /* a word of the tables of strings, changed by a little or to anything */
 static void change_table(struct bytes *b) {
     if (b->len < 36)
         return;
+    if (has_long_header(*b) && chance(2)) {
+        change_dependent(b);
+        return;
+    }
     size_t table = word_at(*b, chance(2) ? 12 : 16), rows = word_at(*b, 8);
     size_t at = table + 4 * chance(2 * (rows % 100000) + 1);
     if (at + 4 <= b->len)
@@ -174,10 +191,18 @@ static void ask_all(const kob_catalogue *c) {
     kob_set_release(set);
 }
 
+/* Whether catsession, which reads revision 0.0 alone, refuses the file for its revision. */
+static int is_revised(struct bytes b) {
+    static const unsigned char low[] = { 0xde, 0x12, 0x04, 0x95 }, high[] = { 0x95, 0x04, 0x12, 0xde };
+    return b.len >= 28 && (!memcmp(b.at, low, 4) || !memcmp(b.at, high, 4)) && word_at(b, 4);
+}
+
 static void tell(FILE *answers, struct bytes b) {
     kob_refusal why;
     kob_catalogue *c = kob_open_mo(b.at, b.len, &why);
-    if (answers && c)
+    if (answers && is_revised(b))
+        fprintf(answers, "refused %d\n", KOB_MO_REVISION);
+    else if (answers && c)
         fprintf(answers, "accepted %zu\n", kob_count(c));
     else if (answers)
         fprintf(answers, "refused %d\n", why.fault);

@@ -1,7 +1,8 @@
 #!/usr/bin/env bash
 # Opens 100,000 mutated MO files (bench/mutated/mutate.c, of 50 installed ones) by libkobdzila with the sanitizers, asks
 # those that are taken, and compares each answer with that of catsession: taken with as many entries, or refused for
-# the same reason. CATSESSION=PATH: another program. bench/mutated/run does the first part ten million times.
+# the same reason. CATSESSION=PATH: another program. bench/mutated/run does the first part ten million times. Then it
+# opens 100,000 mutated files with system-dependent strings, which catsession doesn't read.
 no_program=1
 catsession=${CATSESSION:+$(realpath "$CATSESSION")}
 . "$(dirname "$0")/../lib/common"
@@ -37,6 +38,35 @@ else
   failed "$name, sanitized" "$(head -c 600 <<< "$said")"
 fi
 wait
+
+# (GNU msgfmt makes them: revision 0.1, and 1.1 with the flag I, in each byte order)
+name_of_revised='100,000 mutated MO files of revisions 0.1 and 1.1, sanitized'
+gnu=$(tools/gnu-msgfmt)
+for flag in '' I; do
+  for order in little big; do
+    "$gnu" --endianness="$order" -o "$room/revised$flag.$order.mo" - <<END
+msgid ""
+msgstr "Content-Type: text/plain; charset=UTF-8\nPlural-Forms: nplurals=2; plural=(n != 1);\n"
+msgid "a"
+msgstr "b"
+#, c-format
+msgid "%<PRIu64> of %<PRIuMAX>"
+msgstr "%2\$<PRIuMAX> %1\$<PRIu64>"
+#, c-format
+msgctxt "menu"
+msgid "%<PRId8> file"
+msgid_plural "%<PRId8> files"
+msgstr[0] "%${flag}<PRId8> fichier"
+msgstr[1] "%${flag}<PRId8> fichiers"
+END
+  done
+done
+if said=$(timeout 300 "$room/mutate" 11 100000 - - "$room"/revised*.mo 2>&1); then
+  ok "$name_of_revised: ${said##*files, }"
+else
+  failed "$name_of_revised" "$(head -c 600 <<< "$said")"
+fi
+
 if [ "$lines" = - ]; then
   skipped "$name, beside catsession" "there is no $catsession"
 elif [ "$(wc -l < "$room/wanted")" = 100000 ] && cmp -s "$room/wanted" "$room/got"; then
