@@ -56,6 +56,13 @@ REFUSED_FILES = [
     (mo((b"", b"charset=KOI8-R")), Fault.MO_CHARSET),
 ]
 
+# What GNU msgfmt writes of a message and of one with %<PRIu64>, which has revision 0.1.
+SYSTEM_DEPENDENT = bytes.fromhex(
+    "de1204950100000001000000300000003800000005000000400000000100000054000000010000005c00000060000000"
+    "010000008c000000010000008e0000000100000000000000000000000000000000000000070000009000000064000000"
+    "7800000097000000030000000000000001000000ffffffff9b000000010000000000000003000000ffffffff73005300"
+    "505249753634006e20250025204e00"
+)
 FORMS = 25
 
 
@@ -68,6 +75,14 @@ def forms_file(text: str) -> bytes:
 
 
 class OpeningTest(unittest.TestCase):
+    def test_system_dependent(self) -> None:
+        catalogue = Catalogue.from_mo(SYSTEM_DEPENDENT)
+        self.assertEqual((catalogue.gettext("n %lu"), catalogue.gettext("s")), ("%lu N", "S"))
+        self.assertEqual(GNUTranslations(SYSTEM_DEPENDENT).gettext("n %lu"), "%lu N")
+        with self.assertRaises(Refused) as caught:
+            Catalogue.from_mo(SYSTEM_DEPENDENT[:28] + b"\xff" + SYSTEM_DEPENDENT[29:])
+        self.assertEqual(caught.exception.kind, Fault.MO_DEPENDENT_TABLES)
+
     def test_formats(self) -> None:
         file = french().mo_file()
         for data in (file, bytearray(file), memoryview(file)):

@@ -111,11 +111,12 @@ class ClassTest(unittest.TestCase):
                 self.assertEqual(GNUTranslations(source).gettext("basket"), "panier")
 
     def test_read_by_python(self) -> None:
-        """Other charsets, system-dependent strings: what Python's reader answers."""
+        """Other charsets, other revisions: what Python's reader answers."""
         header = (b"", b"Content-Type: text/plain; charset=ISO-8859-1\nPlural-Forms: nplurals=2; plural=n>1;\n")
         files = [
             mo(header, (b"a\0b", b"\xe9\0\xe8"), (b"c\x04d", b"\xe0")),
             mo((b"a", b"b"), revision=1),
+            mo((b"a", b"b"), revision=2),
         ]
         for data in files:
             theirs, ours = gettext.GNUTranslations(io.BytesIO(data)), GNUTranslations(data)

@@ -33,8 +33,10 @@ else:
     AnyItems = ItemsView
     EntryFields = namedtuple("EntryFields", "context msgid plural forms")
 
-# Whole files that Python's reader may read: later minor revisions, other charsets, several plurals.
+# Files that Python's reader may read: later minor revisions, other charsets, several plurals, and the static strings of
+# a file whose system-dependent part is damaged.
 READ_BY_PYTHON = {Fault.MO_REVISION, Fault.MO_BAD_TEXT, Fault.MO_FORMS, Fault.MO_CHARSET}
+READ_BY_PYTHON |= {it for it in Fault if it.name.startswith("MO_DEPENDENT_")}
 GERMANIC = "n != 1"  # the plural rule of a header without one
 OWN_FRAMES = ("kobdzila", "gettext")  # a warning names the caller outside of them
 PRIVATE: Any = python_gettext  # what the module has besides its documented names

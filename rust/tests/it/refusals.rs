@@ -135,6 +135,26 @@ fn each_reason_of_an_mo_file() {
     );
 }
 
+/// What GNU msgfmt writes of a message and of one with `%<PRIu64>`, which has revision 0.1.
+const SYSTEM_DEPENDENT: [u32; 35] = [
+    0x950412de, 1, 1, 48, 56, 5, 64, 1, 84, 1, 92, 96, 1, 140, 1, 142, 1, 0, 0, 0, 0, 7, 144, 100,
+    120, 151, 3, 0, 1, !0, 155, 1, 0, 3, !0,
+];
+
+#[test]
+fn strings_that_depend_on_the_system() {
+    let mut file: Vec<u8> = SYSTEM_DEPENDENT
+        .iter()
+        .flat_map(|word| word.to_le_bytes())
+        .collect();
+    file.extend(b"s\0S\0PRIu64\0n %\0% N\0");
+    let catalogue = Catalogue::from_mo(&file).unwrap();
+    assert_eq!(catalogue.gettext("n %lu"), "%lu N");
+    assert_eq!(catalogue.gettext("s"), "S");
+    file[84] = 0;
+    refuses_mo(&file, Kind::MoDependentSegment, "bad segment");
+}
+
 #[test]
 fn an_mo_file_that_is_too_large() {
     refuses_mo(&vec![0; 268_435_457], Kind::MoTooLarge, "file too large");

@@ -1,0 +1,127 @@
+/* A part of c_library.c: MO files that are made, opened and refused, a word or a string of each being changed. */
+#ifndef C_LIBRARY_MO_H
+#define C_LIBRARY_MO_H
+
+static void put(unsigned char *at, uint32_t word) {
+    for (int i = 0; i < 4; i++)
+        at[i] = (unsigned char)(word >> 8 * i);
+}
+
+/* An MO file of `count` entries with these strings. */
+struct string {
+    const char *at;
+    uint32_t len;
+};
+
+static unsigned char *mo_of(const struct string *originals, const struct string *translations, uint32_t n, size_t *len) {
+    uint32_t at = 28 + 16 * n;
+    *len = at;
+    for (uint32_t i = 0; i < n; i++)
+        *len += originals[i].len + translations[i].len + 2;
+    unsigned char *file = calloc(1, *len);
+    const uint32_t words[] = { 0x950412de, 0, n, 28, 28 + 8 * n, 0, at };
+    for (int i = 0; i < 7; i++)
+        put(file + 4 * i, words[i]);
+    for (uint32_t i = 0; i < 2 * n; i++) {
+        struct string s = i < n ? originals[i] : translations[i - n];
+        put(file + 28 + 8 * i, s.len);
+        put(file + 32 + 8 * i, at);
+        memcpy(file + at, s.at, s.len);
+        at += s.len + 1;
+    }
+    return file;
+}
+
+static void refuses_mo(const unsigned char *file, size_t len, enum kob_fault fault) {
+    kob_refusal why = { KOB_NO_FAULT, 0 };
+    kob_catalogue *c = kob_open_mo(file, len, &why);
+    if (c || why.fault != fault || why.line != 0) {
+        printf("wrong: an MO file is refused %d, and not %d (%s)\n", why.fault, fault, kob_fault_text(fault));
+        wrong = 1;
+        kob_release(c);
+    }
+}
+
+static void refuses_strings(struct string o, struct string t, enum kob_fault fault) {
+    size_t len;
+    unsigned char *file = mo_of(&o, &t, 1, &len);
+    refuses_mo(file, len, fault);
+    free(file);
+}
+
+/* The bytes of one entry, with one word or byte of the file changed. */
+static void refuses_changed(size_t place, uint32_t word, enum kob_fault fault) {
+    const struct string o = { "a", 1 }, t = { "b", 1 };
+    size_t len;
+    unsigned char *file = mo_of(&o, &t, 1, &len);
+    put(file + place, word);
+    refuses_mo(file, len, fault);
+    free(file);
+}
+
+/* 300 entries that share one translation of a million bytes. */
+static void refuses_swollen(void) {
+    const uint32_t n = 300, long_one = 1000000, at = 28 + 16 * n;
+    size_t len = at + 4 * n + long_one + 1;
+    unsigned char *file = calloc(1, len);
+    const uint32_t words[] = { 0x950412de, 0, n, 28, 28 + 8 * n, 0, at };
+    for (int i = 0; i < 7; i++)
+        put(file + 4 * i, words[i]);
+    for (uint32_t i = 0; i < n; i++) {
+        put(file + 28 + 8 * i, 3);
+        put(file + 32 + 8 * i, at + 4 * i);
+        snprintf((char *)file + at + 4 * i, 4, "%03u", i);
+        put(file + 28 + 8 * (n + i), long_one);
+        put(file + 32 + 8 * (n + i), at + 4 * n);
+    }
+    memset(file + at + 4 * n, 'x', long_one);
+    refuses_mo(file, len, KOB_MO_SWOLLEN);
+    free(file);
+}
+
+static void mo_refusals(void) {
+    const struct string falling[] = { { "b", 1 }, { "a", 1 } }, two[] = { { "c", 1 }, { "d", 1 } };
+    size_t len;
+    refuses_mo((const unsigned char *)"", 268435457, KOB_MO_TOO_LARGE);
+    refuses_mo(NULL, 0, KOB_MO_SHORT);
+    refuses_changed(0, 1, KOB_MO_MAGIC);
+    refuses_changed(4, 2, KOB_MO_REVISION);
+    refuses_changed(4, 1, KOB_MO_DEPENDENT_TABLES);
+    refuses_changed(32, 1000, KOB_MO_BOUNDS);
+    refuses_changed(28, 0, KOB_MO_NO_NUL);
+    refuses_strings((struct string){ "\xff", 1 }, (struct string){ "b", 1 }, KOB_MO_BAD_TEXT);
+    refuses_strings((struct string){ "a", 1 }, (struct string){ "b\0c", 3 }, KOB_MO_FORMS);
+    unsigned char *file = mo_of(falling, two, 2, &len);
+    refuses_mo(file, len, KOB_MO_ORDER);
+    free(file);
+    refuses_strings((struct string){ "", 0 }, (struct string){ "charset=KOI8-R\n", 15 }, KOB_MO_CHARSET);
+    refuses_swollen();
+}
+
+/* What GNU msgfmt writes of a message and of one with %<PRIu64>, which has revision 0.1. */
+static const uint32_t system_dependent[] = { 0x950412de, 1, 1, 48, 56, 5, 64, 1, 84, 1, 92, 96, 1, 140, 1, 142, 1, 0, 0,
+                                             0, 0, 7, 144, 100, 120, 151, 3, 0, 1, 0xffffffff, 155, 1, 0, 3, 0xffffffff };
+
+static void system_strings(const char *name) {
+    const char strings[] = "s\0S\0PRIu64\0n %\0% N";
+    unsigned char bytes[sizeof system_dependent + sizeof strings];
+    for (size_t i = 0; i < sizeof system_dependent / 4; i++)
+        put(bytes + 4 * i, system_dependent[i]);
+    memcpy(bytes + sizeof system_dependent, strings, sizeof strings);
+    kob_refusal why;
+    kob_catalogue *c = kob_open_mo(bytes, sizeof bytes, &why);
+    is("a file of revision 0.1 is opened", c && kob_count(c) == 2);
+    is("its string has the value of PRIu64", c && !strcmp(kob_gettext(c, "n %lu"), "%lu N"));
+    kob_release(c);
+    FILE *f = fopen(name, "wb");
+    is("it is written", f && fwrite(bytes, 1, sizeof bytes, f) == sizeof bytes && !fclose(f));
+    c = kob_open_file(name, KOB_MO, 0, &why);
+    is("it is opened by its name", c && kob_count(c) == 2);
+    kob_release(c);
+    is("KOB_STRICT refuses it", !kob_open_file(name, KOB_MO, KOB_STRICT, &why) && why.fault == KOB_MO_REVISION);
+    unlink(name);
+    put(bytes + 84, 0);
+    refuses_mo(bytes, sizeof bytes, KOB_MO_DEPENDENT_SEGMENT);
+}
+
+#endif
