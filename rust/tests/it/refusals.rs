@@ -113,12 +113,7 @@ fn each_reason_of_an_mo_file() {
     refuses_mo(&[0; 27], Kind::MoShort, "file too short");
     refuses_changed(0, 1, Kind::MoMagic, "not an MO file");
     refuses_changed(4, 2, Kind::MoRevision, "unknown revision");
-    refuses_changed(
-        4,
-        1,
-        Kind::MoDependentTables,
-        "system-dependent tables out of bounds",
-    );
+    refuses_changed(4, 1, Kind::MoDependentTables, "system-dependent tables out of bounds");
     refuses_changed(32, 1000, Kind::MoBounds, "out of bounds");
     refuses_changed(28, 0, Kind::MoNoNul, "string not closed");
     refuses_mo(&mo_file(&[(b"\xff", b"b")]), Kind::MoBadText, "bad text");
@@ -137,16 +132,13 @@ fn each_reason_of_an_mo_file() {
 
 /// What GNU msgfmt writes of a message and of one with `%<PRIu64>`, which has revision 0.1.
 const SYSTEM_DEPENDENT: [u32; 35] = [
-    0x950412de, 1, 1, 48, 56, 5, 64, 1, 84, 1, 92, 96, 1, 140, 1, 142, 1, 0, 0, 0, 0, 7, 144, 100,
-    120, 151, 3, 0, 1, !0, 155, 1, 0, 3, !0,
+    0x950412de, 1, 1, 48, 56, 5, 64, 1, 84, 1, 92, 96, 1, 140, 1, 142, 1, 0, 0, 0, 0, 7, 144, 100, 120, 151, 3, 0, 1,
+    !0, 155, 1, 0, 3, !0,
 ];
 
 #[test]
 fn strings_that_depend_on_the_system() {
-    let mut file: Vec<u8> = SYSTEM_DEPENDENT
-        .iter()
-        .flat_map(|word| word.to_le_bytes())
-        .collect();
+    let mut file: Vec<u8> = SYSTEM_DEPENDENT.iter().flat_map(|word| word.to_le_bytes()).collect();
     file.extend(b"s\0S\0PRIu64\0n %\0% N\0");
     let catalogue = Catalogue::from_mo(&file).unwrap();
     assert_eq!(catalogue.gettext("n %lu"), "%lu N");
