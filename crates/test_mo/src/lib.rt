@@ -1,5 +1,5 @@
-//! Tests of `mo_file` through its public functions: worked files, files whose strings overlap, look-ups in catalogues
-//! that were written and read back, and files of many sizes.
+//! Tests of `mo_file` and `mo_revisions` through their public functions: worked files, files whose strings overlap,
+//! look-ups in catalogues that were written and read back, and files of many sizes.
 //!
 //! The tests have a crate of their own, since a crate with tests is proved twice, with them and without.
 #![tactic(auto)]
@@ -14,6 +14,8 @@ mod files;
 mod lookups;
 #[cfg(test)]
 mod overlaps;
+#[cfg(test)]
+mod revisions;
 #[cfg(test)]
 mod sizes;
 #[cfg(test)]
