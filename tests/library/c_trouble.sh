@@ -43,7 +43,7 @@ fi
 name='the C library in a program with its own allocator'
 compiles "$name" own tests/library/c_own_memory.c "$library/libkobdzila.a" && runs "$name" "$room/own" "$room/large.mo"
 
-# The greatest stack that a call took was 99,552 bytes, for a rule of 999 `!`; kobdzila(3) says what is promised
+# The greatest stack that a call took was 100,560 bytes, for a rule of 999 `!`; kobdzila(3) says what is promised
 name='the stack of the C library' most=131072
 mkdir "$room/deep"
 python3 -B tests/msgfmt/make_deep.py "$room/deep"
