@@ -11,5 +11,5 @@ mod write;
 pub use fault::MoFault;
 pub use laws::{one_map, written_is_read};
 pub use read::{read_mo, reread};
-pub use refusals::check;
+pub use refusals::{check, is_low_first, passes_bounds, passes_closing, passes_size};
 pub use write::write_mo;

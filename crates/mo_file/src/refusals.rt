@@ -16,7 +16,7 @@ use mo_tables::{
 use std::alloc::{AllocError, Global};
 
 /// Whether both tables and all their strings lie in the file.
-fn passes_bounds<T: ByteOrder>(bytes: &[u8]) -> bool
+pub fn passes_bounds<T: ByteOrder>(bytes: &[u8]) -> bool
     requires { header_len ≤ length bytes.now }
     ensures { IsTrue result ↔ Passes (file_by T.number_of bytes.now) MoFault.Bounds }
 {
@@ -26,7 +26,7 @@ fn passes_bounds<T: ByteOrder>(bytes: &[u8]) -> bool
 }
 
 /// Whether every string is followed by a NUL.
-fn passes_closing<T: ByteOrder>(bytes: &[u8]) -> bool
+pub fn passes_closing<T: ByteOrder>(bytes: &[u8]) -> bool
     requires long { header_len ≤ length bytes.now }
     requires lies { Passes (file_by T.number_of bytes.now) MoFault.Bounds }
     ensures { IsTrue result ↔ Passes (file_by T.number_of bytes.now) MoFault.NoNul }
@@ -118,7 +118,7 @@ fn is_sound<T: ByteOrder>(bytes: &[u8]) -> bool
 }
 
 /// Whether the file that would be written of the map is within the size limit.
-fn passes_size<T: ByteOrder>(bytes: &[u8]) -> bool
+pub fn passes_size<T: ByteOrder>(bytes: &[u8]) -> bool
     requires short { length bytes.now ≤ most_file }
     requires long { header_len ≤ length bytes.now }
     requires lies { Passes (file_by T.number_of bytes.now) MoFault.Bounds }
@@ -175,7 +175,7 @@ fn check_file<T: ByteOrder>(alloc: Global, bytes: &[u8]) -> Result<(), MoFault>
 }
 
 /// Whether the file is little-endian: its words have their low byte first.
-pub(crate) fn is_low_first(bytes: &[u8]) -> bool
+pub fn is_low_first(bytes: &[u8]) -> bool
     requires { header_len ≤ length bytes.now }
     ensures { IsTrue result ↔ (little_number 4 bytes.now ≡ magic_number) }
 {

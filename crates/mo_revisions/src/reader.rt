@@ -1,7 +1,6 @@
 //! Reading MO files of any revision.
-ghost use Rattle.std.specs.Prelude.{◌≡◌, ◌⊎◌, ◌↔◌, ◌≤◌, length, IsTrue, IfOk, IfErr};
-ghost use Rattle.byteorder.specs.Endian.{little_number};
-ghost use Rattle.mo_image.specs.MoFile.{header_len, magic_number, most_file};
+ghost use Rattle.std.specs.Prelude.{◌≡◌, ◌⊎◌, ◌≤◌, length, IfOk, IfErr};
+ghost use Rattle.mo_image.specs.MoFile.{header_len, most_file};
 ghost use Rattle.mo_file.specs.MoReading.{file_by, file_of, Refused};
 ghost use Rattle.mo_segments.specs.MessageStrings.{strings_of};
 ghost use Rattle.mo_revisions.specs.Revisions.{HasMessages};
@@ -14,8 +13,7 @@ use crate::header::minor;
 use crate::statics::{check_static, static_messages};
 use byteorder::{BigEndian, ByteOrder, LittleEndian};
 use catalogue::Catalogue;
-use mo_file::{MoFault, read_mo};
-use mo_image::MAGIC;
+use mo_file::{MoFault, is_low_first, read_mo};
 use mo_segments::{Strings, kept, write_flat};
 use std::alloc::Global;
 
@@ -32,14 +30,6 @@ fn messages_by<T: ByteOrder>(alloc: Global, bytes: &[u8]) -> Result<Vec<Strings>
         return Ok(messages);
     }
     with_dependent::<T>(alloc, bytes, messages)
-}
-
-/// Whether the file is little-endian: its words have their low byte first.
-fn is_low_first(bytes: &[u8]) -> bool
-    requires { header_len ≤ length bytes.now }
-    ensures { IsTrue result ↔ (little_number 4 bytes.now ≡ magic_number) }
-{
-    LittleEndian::read_u32(bytes) == MAGIC
 }
 
 /// Reads the messages of a file in the byte order of its magic number.

@@ -9,44 +9,11 @@ ghost use Rattle.mo_revisions.specs.Refusing.{IsStaticFault};
 
 use crate::header::is_known_revision;
 use byteorder::ByteOrder;
-use mo_file::MoFault;
+use mo_file::{MoFault, passes_bounds, passes_closing, passes_size};
 use mo_image::{COUNT_AT, ORIGINALS_AT, ROW_LEN, TRANSLATIONS_AT};
 use mo_segments::Strings;
-use mo_tables::{all_closed, fits, keys_rise, string, table_lies, word};
+use mo_tables::{keys_rise, string, word};
 use std::alloc::{AllocError, Global};
-
-/// Whether both tables and all their strings lie in the file.
-fn passes_bounds<T: ByteOrder>(bytes: &[u8]) -> bool
-    requires { header_len ≤ length bytes.now }
-    ensures { IsTrue result ↔ Passes (file_by T.number_of bytes.now) MoFault.Bounds }
-{
-    let n = word::<T>(bytes, COUNT_AT);
-    table_lies::<T>(bytes, word::<T>(bytes, ORIGINALS_AT), n)
-        && table_lies::<T>(bytes, word::<T>(bytes, TRANSLATIONS_AT), n)
-}
-
-/// Whether the file that would be written of the strings is within the size limit.
-fn passes_size<T: ByteOrder>(bytes: &[u8]) -> bool
-    requires short { length bytes.now ≤ most_file }
-    requires long { header_len ≤ length bytes.now }
-    requires lies { Passes (file_by T.number_of bytes.now) MoFault.Bounds }
-    ensures { IsTrue result ↔ Passes (file_by T.number_of bytes.now) MoFault.Swollen }
-{
-    let n = word::<T>(bytes, COUNT_AT);
-    let originals = word::<T>(bytes, ORIGINALS_AT);
-    fits::<T>(bytes, originals, word::<T>(bytes, TRANSLATIONS_AT), n)
-}
-
-/// Whether every string is followed by a NUL.
-fn passes_closing<T: ByteOrder>(bytes: &[u8]) -> bool
-    requires long { header_len ≤ length bytes.now }
-    requires lies { Passes (file_by T.number_of bytes.now) MoFault.Bounds }
-    ensures { IsTrue result ↔ Passes (file_by T.number_of bytes.now) MoFault.NoNul }
-{
-    let n = word::<T>(bytes, COUNT_AT);
-    all_closed::<T>(bytes, word::<T>(bytes, ORIGINALS_AT), n)
-        && all_closed::<T>(bytes, word::<T>(bytes, TRANSLATIONS_AT), n)
-}
 
 /// Whether the keys rise.
 fn passes_order<T: ByteOrder>(bytes: &[u8]) -> bool
