@@ -203,7 +203,7 @@ impl fmt::Debug for Store {
 /// ```
 /// use kobdzila::{PublishError, Store};
 ///
-/// /// Publishes, and logs a failure: the next publish shows these loads, too.
+/// /// Publishes, and logs a failure: the next publish shows these loads.
 /// fn publish(store: &Store) -> Option<u64> {
 ///     let log = |why: PublishError| eprintln!("{} loads: {why}", store.pending());
 ///     store.publish().map_err(log).ok()

@@ -338,7 +338,7 @@ impl Set {
     pub fn with_installed(&self, folder: &CStr, domain: &str, locale: &str) -> Result<Set, Refusal> {
         let (domain, locale) = names(domain, locale)?;
         let set = self.0.as_ptr();
-        // SAFETY: as for `with`; the folder is terminated by NUL, too.
+        // SAFETY: as for `with`; the folder is terminated by NUL as well.
         returned(|why| unsafe { kob_set_open(set, folder.as_ptr(), domain.as_ptr(), locale.as_ptr(), why) }).map(Set)
     }
 
