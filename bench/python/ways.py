@@ -43,8 +43,9 @@ def plural_loop(call, messages):
         call(message, message, 5)
 
 
-def nothing(*words):
-    pass
+def empty_loop(messages):
+    for message in messages:
+        pass
 
 
 def spent(work, *words):
@@ -82,7 +83,7 @@ def medians(rounds, ways, looping, name, messages):
     """The median time of a look-up by each way, in ns."""
     taken = {way: [] for way in ways}
     for _ in range(rounds):
-        own = spent(loop, nothing, messages) if looping is loop else spent(plural_loop, nothing, messages)
+        own = spent(empty_loop, messages)
         for way, it in ways.items():
             call = getattr(it, name)
             # (the slow ones answer a tenth of them)
