@@ -176,12 +176,19 @@ static void print_round(const struct run *run) {
     fflush(stdout);
 }
 
-static void compile_round(struct run *run, struct watcher *watcher, bool is_first) {
+/* Compile what has changed. USAGE if no round is possible, such as for two PO files with one MO file: what changed is
+ * compiled when there is one. */
+static enum status compile_round(struct run *run, struct watcher *watcher, bool is_first) {
     struct catalogues before = run->catalogues;
     run->catalogues = (struct catalogues){0};
     run->finished = 0;
     clock_gettime(CLOCK_MONOTONIC, &run->start);
-    find_catalogues(run, watcher);
+    if (find_catalogues(run, watcher) == USAGE) {
+        free_catalogues(&run->catalogues);
+        run->catalogues = before;
+        watcher->has_news = false;
+        return USAGE;
+    }
     if (!is_first)
         leave_out(&run->catalogues, &before);
     free_catalogues(&before);
@@ -193,6 +200,7 @@ static void compile_round(struct run *run, struct watcher *watcher, bool is_firs
         print_round(run);
     report_troubles(run);
     print_for_machines(run, status_of(run));
+    return DONE;
 }
 
 enum status watch(struct run *run) {
@@ -204,14 +212,13 @@ enum status watch(struct run *run) {
     sigemptyset(&watcher.signals);
     for (const int *number = ending_signals; *number; number++)
         sigaddset(&watcher.signals, *number);
-    bool is_first = true;
-    do
-        compile_round(run, &watcher, is_first);
-    while (is_first = false, wait_for_changes(&watcher));
+    enum status status = compile_round(run, &watcher, true);
+    while (status == DONE && wait_for_changes(&watcher))
+        compile_round(run, &watcher, false);
     forget_changes(&watcher);
     for (size_t place = 0; place < watcher.folder_count; place++)
         free(watcher.folders[place]);
     free(watcher.folders);
     close(watcher.inotify);
-    return DONE;
+    return status;
 }
