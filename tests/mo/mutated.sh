@@ -44,7 +44,7 @@ name_of_revised='100,000 mutated MO files of revisions 0.1 and 1.1, sanitized'
 gnu=$(tools/gnu-msgfmt)
 for flag in '' I; do
   for order in little big; do
-    "$gnu" --endianness="$order" -o "$room/revised$flag.$order.mo" - <<END
+    [ -z "$gnu" ] || "$gnu" --endianness="$order" -o "$room/revised$flag.$order.mo" - <<END
 msgid ""
 msgstr "Content-Type: text/plain; charset=UTF-8\nPlural-Forms: nplurals=2; plural=(n != 1);\n"
 msgid "a"
@@ -61,7 +61,9 @@ msgstr[1] "%${flag}<PRId8> fichiers"
 END
   done
 done
-if said=$(timeout 300 "$room/mutate" 11 100000 - - "$room"/revised*.mo 2>&1); then
+if [ -z "$gnu" ]; then
+  skipped "$name_of_revised" 'no GNU msgfmt'
+elif said=$(timeout 300 "$room/mutate" 11 100000 - - "$room"/revised*.mo 2>&1); then
   ok "$name_of_revised: ${said##*files, }"
 else
   failed "$name_of_revised" "$(head -c 600 <<< "$said")"

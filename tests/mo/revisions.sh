@@ -36,12 +36,16 @@ compared "$name, each fault" 20 python3 -B tests/mo/revisions.py faults
 if ! getconf GNU_LIBC_VERSION > "$room/libc" 2>&1; then
   skipped "$name, beside glibc" 'the C library is another one'
   exit 0
+elif ! LC_ALL=C.UTF-8 locale charmap 2> /dev/null | grep -qx UTF-8; then
+  skipped "$name, beside glibc" 'no locale C.UTF-8'
+  exit 0
 fi
-GNU_MSGFMT=$(tools/gnu-msgfmt) && export GNU_MSGFMT
-if [ -n "$GNU_MSGFMT" ]; then
+if tests/lib/needs tools/gnu-msgfmt gettext; then
+  GNU_MSGFMT=$(tools/gnu-msgfmt)
+  export GNU_MSGFMT
   compared "$name, generated" 1000 python3 -B tests/mo/revisions.py made 300
 else
-  skipped "$name, generated" 'no GNU msgfmt'
+  skipped "$name, generated" 'no GNU msgfmt, and it could not be installed'
 fi
 
 # (the word of the revision is at byte 4; a process of Python for each 100 files, since glibc keeps what it has read)
