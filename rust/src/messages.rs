@@ -68,8 +68,8 @@ macro_rules! t {
 /// # Ok::<(), kobdzila::Refused>(())
 /// ```
 ///
-/// The number may be of any integer type; the plural form for -3 is that for 3. A form may omit `{n}`, as the one for 1
-/// does above. Everything else is as for [`t!`]. The keyword of xgettext is `tn!:1,2`.
+/// The number may be of any integer type up to 64 bits; the plural form for -3 is that for 3. A form may leave `{n}` out, as that for
+/// one does above. All else is as for [`t!`]. The keyword of xgettext is `tn!:1,2`.
 #[macro_export]
 macro_rules! tn {
     ($msgid:literal, $plural:literal, $n:expr $(, $($arguments:tt)*)?) => {
@@ -136,21 +136,18 @@ macro_rules! __text {
         $crate::__text!($texts $forms $asked {$($done)* $name = $name;} $(, $($rest)*)?)
     };
     ({$($texts:expr)?} [$msgid:literal] $asked:tt {$($name:ident = $value:expr;)*} $(,)?) => {{
-        const WANTED: u64 = $crate::messages::placeholders($msgid, &[$(stringify!($name)),*], "");
         $crate::messages::text(
             $crate::__texts!($($texts)?),
             &$crate::messages::Message {
                 question: $crate::__question!($asked),
                 original: $msgid,
-                wanted: WANTED,
+                wanted: $crate::__wanted!($msgid, [$($name)*], ""),
                 optional: 0,
             },
-            &[$((stringify!($name), &$value as &dyn ::std::fmt::Display)),*],
+            &[$((::std::stringify!($name), &$value as &dyn ::std::fmt::Display)),*],
         )
     }};
     ({$($texts:expr)?} [$msgid:literal, $plural:literal, $n:expr] $asked:tt {$($name:ident = $value:expr;)*} $(,)?) => {{
-        const WANTED: u64 = $crate::messages::placeholders($plural, &["n", $(stringify!($name)),*], "n");
-        const _: u64 = $crate::messages::placeholders($msgid, &["n", $(stringify!($name)),*], "n");
         let n = $n;
         let number = $crate::messages::Number::number(&n);
         $crate::messages::text(
@@ -158,11 +155,27 @@ macro_rules! __text {
             &$crate::messages::Message {
                 question: $crate::__question!($asked).number(number),
                 original: if number == 1 { $msgid } else { $plural },
-                wanted: WANTED & !1,
+                wanted: !1
+                    & ($crate::__wanted!($msgid, [n $($name)*], "n")
+                        | $crate::__wanted!($plural, [n $($name)*], "n")),
                 optional: 1,
             },
-            &[("n", &n as &dyn ::std::fmt::Display), $((stringify!($name), &$value as &dyn ::std::fmt::Display)),*],
+            &[
+                ("n", &n as &dyn ::std::fmt::Display),
+                $((::std::stringify!($name), &$value as &dyn ::std::fmt::Display)),*
+            ],
         )
+    }};
+}
+
+/// The arguments that a message names, as bits. (The constant is in a block of its own, where no argument is evaluated:
+/// one may be a constant of the same name)
+#[doc(hidden)]
+#[macro_export]
+macro_rules! __wanted {
+    ($message:literal, [$($name:ident)*], $optional:literal) => {{
+        const WANTED: u64 = $crate::messages::placeholders($message, &[$(::std::stringify!($name)),*], $optional);
+        WANTED
     }};
 }
 

@@ -4,6 +4,14 @@ use std::cell::Cell;
 use std::fmt;
 use std::sync::Mutex;
 
+/// The macros mean the macro of the standard library.
+#[allow(unused_macros)]
+macro_rules! stringify {
+    ($($name:tt)*) => {
+        "no name"
+    };
+}
+
 /// Messages with arguments: right ones, and some whose placeholders differ from those of the message.
 fn texts() -> Catalogue {
     compiled(
@@ -114,6 +122,18 @@ fn each_argument_is_evaluated_once() {
     // (no message of the test below: a process reports a mismatch once, and that test wants to see it)
     assert_eq!(t!(fr; "Gone {name}", name = next()), "Gone 1");
     assert_eq!(tnp!(fr; "bed", "{n} row", "{n} rows", next()), "2 rangées");
+}
+
+#[test]
+fn arguments_may_have_any_name_that_is_in_scope() {
+    // (these are names of the macros, too)
+    const WANTED: &str = "spade";
+    let (n, number, texts) = (7, 8, texts());
+    assert_eq!(t!("{it} is wanted", it = WANTED), "spade is wanted");
+    assert_eq!(
+        tn!(texts; "{n} of {all} {it}", "{n} of {all} {it}s", WANTED.len(), all = n + number, it = WANTED),
+        "5 of 15 spades"
+    );
 }
 
 #[test]
