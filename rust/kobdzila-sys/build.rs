@@ -4,10 +4,10 @@
 //! the variable `PKG_CONFIG` names.
 
 use std::env;
-use std::ffi::OsString;
-use std::os::unix::ffi::OsStringExt;
 use std::path::{Path, PathBuf};
 use std::process::Command;
+#[cfg(unix)]
+use std::{ffi::OsStr, os::unix::ffi::OsStrExt};
 
 const LIB_DIR: &str = "KOBDZILA_LIB_DIR";
 /// The first version of the library that has all that this crate declares.
@@ -92,8 +92,19 @@ fn folders_by_pkg_config() -> Result<Vec<PathBuf>, String> {
     Ok(words
         .iter()
         .filter_map(|word| word.strip_prefix(b"-L"))
-        .map(|folder| PathBuf::from(OsString::from_vec(folder.to_vec())))
+        .map(path_of)
         .collect())
+}
+
+#[cfg(unix)]
+fn path_of(bytes: &[u8]) -> PathBuf {
+    OsStr::from_bytes(bytes).into()
+}
+
+/// On another system, where the script only has to run: `lib.rs` says why there is no library.
+#[cfg(not(unix))]
+fn path_of(bytes: &[u8]) -> PathBuf {
+    String::from_utf8_lossy(bytes).into_owned().into()
 }
 
 /// The words of a line of the shell: pkg-config puts `\` before each blank, quote and `\` of a folder's name.

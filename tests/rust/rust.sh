@@ -224,15 +224,26 @@ for it in rust rust/kobdzila-sys; do
   said=$(sed -n 's/^version = "\(.*\)"/\1/p' $it/Cargo.toml)
   if [ "$said" = "$version" ]; then ok "$name"; else failed "$name" "$said and not $version"; fi
 done
-name='the Rust crates, another system'
-sed 's/target_os = "linux"/target_os = "none"/' rust/kobdzila-sys/src/lib.rs > "$crate/kobdzila-sys/src/other.rs"
-if ! (cd "$crate/kobdzila-sys" && rustc --edition 2021 --crate-type lib --emit metadata -o "$room/other" src/other.rs) \
-  2> "$room/log" && grep -q 'libkobdzila runs on 64-bit Linux' "$room/log"; then
+for it in target_os.linux target_pointer_width.64; do
+  name="the Rust crates, another ${it%.*}"
+  sed "s/${it%.*} = \"${it#*.}\"/${it%.*} = \"none\"/" rust/kobdzila-sys/src/lib.rs > "$crate/kobdzila-sys/src/other.rs"
+  if ! (cd "$crate/kobdzila-sys" && rustc --edition 2021 --crate-type lib --emit metadata -o "$room/other" src/other.rs) \
+    2> "$room/log" && grep -q 'libkobdzila runs on 64-bit Linux' "$room/log"; then
+    ok "$name"
+  else
+    failed "$name" "$(why)"
+  fi
+  rm "$crate/kobdzila-sys/src/other.rs"
+done
+# (there, too, the script is built and run before the message: it may use nothing that only Unix has)
+name='the Rust crates, the build script where there is no Unix'
+sed 's/\bunix\b/none/g' rust/kobdzila-sys/build.rs > "$room/build.rs"
+if rustc --edition 2021 -A unexpected_cfgs -o "$room/build_script" "$room/build.rs" 2> "$room/log" &&
+  (cd "$room" && env CARGO_CFG_TARGET_OS=none ./build_script) > "$room/log" 2>&1; then
   ok "$name"
 else
   failed "$name" "$(why)"
 fi
-rm "$crate/kobdzila-sys/src/other.rs"
 
 # --- the programs -------------------------------------------------------------------------------------------------
 
