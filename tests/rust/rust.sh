@@ -353,7 +353,8 @@ command_of() {
   awk -v first="$1" '$0 == "```" { on = 0 } on == 2; on == 1 { on = index($0, first) == 1 ? 2 : 0; if (on) print }
     $0 == "```sh" { on = 1 }' "$top/docs/guide/rust.md"
 }
-messages='"Hello, {name}!"
+messages='"Café {name}"
+"Hello, {name}!"
 "There are {n} beds to water."
 "There is {n} bed to water."'
 # extracts HOW COMMANDS: these commands write greeter.pot with the messages of the program
@@ -365,6 +366,8 @@ extracts() {
 }
 mkdir -p "$room/greeter/src"
 cp rust/examples/greeter.rs "$room/greeter/src/main.rs"
+# (a message in UTF-8, below a lifetime)
+printf 'fn more<%sa>(name: &%sa str) -> String {\n    t!("Caf\303\251 {name}", name)\n}\n' "'" "'" > "$room/greeter/src/more.rs"
 if ! tests/lib/needs xgettext gettext; then
   skipped 'the guide for Rust, messages by xgettext' 'no xgettext, and it could not be installed'
 else
@@ -374,6 +377,13 @@ else
     skipped 'the guide for Rust, messages by xgettext, which knows Rust' "$(xgettext --version | head -n 1) doesn't"
   fi
   extracts 'an older xgettext' "$(command_of for)"
+  name='the guide for Rust, msginit'
+  if (cd "$room/greeter" && bash -c "$(command_of msginit | sed -n 1p)") > "$room/log" 2>&1 &&
+    grep -q '^"Plural-Forms: nplurals=2;' "$room/greeter/fr.po"; then
+    ok "$name"
+  else
+    failed "$name" "$(why)"
+  fi
 fi
 name='the guide for Rust, the program for a terminal'
 cat > "$room/greeter/fr.po" << 'END'
