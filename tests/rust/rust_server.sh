@@ -49,5 +49,5 @@ if cargo clippy --version > /dev/null 2>&1; then
   fi
 fi
 mkdir "$room/files"
-timeout 300 python3 -B "$OLDPWD/tests/rust/rust_server.py" "$room/target/debug/garden-server" "$room/files" ||
+timeout 900 python3 -B "$OLDPWD/tests/rust/rust_server.py" "$room/target/debug/garden-server" "$room/files" ||
   failed "$name" "the program that talks to it ended with status $?"
