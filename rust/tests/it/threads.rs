@@ -1,7 +1,7 @@
 use crate::{compiled, GARDEN};
 use kobdzila::{
-    Catalogue, Domain, Entries, Entry, Forms, Notice, OwnedLanguages, PublishError, Reader, Set, Snapshot, Store,
-    WrongStore,
+    Catalogue, Domain, Entries, Entry, Format, Forms, Kind, Name, Notice, Options, OwnedLanguages, PublishError,
+    Question, Reader, Refused, Set, Snapshot, Store, WrongStore,
 };
 use std::sync::atomic::{AtomicBool, Ordering};
 use std::sync::RwLock;
@@ -19,10 +19,29 @@ fn types_that_may_be_sent_and_shared() {
     is_sent_and_shared::<Store>();
     is_sent_and_shared::<PublishError>();
     is_sent_and_shared::<WrongStore>();
-    #[cfg(feature = "session")]
-    is_sent_and_shared::<kobdzila::Session>();
-    #[cfg(feature = "watch")]
-    is_sent_and_shared::<kobdzila::Watch>();
+    is_sent_and_shared::<Refused>();
+    is_sent_and_shared::<(Domain<'_>, Name<'_>, Question<'_>)>();
+    is_sent_and_shared::<(Format, Kind, Options)>();
+}
+
+#[test]
+#[cfg(all(feature = "languages", feature = "macros"))]
+fn preferences_and_mismatches_may_be_sent_and_shared() {
+    fn is_sent_and_shared<T: Send + Sync>() {}
+    is_sent_and_shared::<(kobdzila::Preferences, kobdzila::Mismatch)>();
+}
+
+#[test]
+#[cfg(all(feature = "session", feature = "watch"))]
+fn sessions_and_watches_may_be_sent_and_shared() {
+    use kobdzila::{Answer, Ask, FileRefused, LoadRefusal, Session, SessionError, Watch, WatchOptions};
+    fn is_sent_and_shared<T: Send + Sync>() {}
+    is_sent_and_shared::<(Session, SessionError, LoadRefusal)>();
+    is_sent_and_shared::<(Ask, Answer)>();
+    is_sent_and_shared::<(Watch, FileRefused)>();
+    // (it has a function that is called by one thread)
+    fn is_sent<T: Send>() {}
+    is_sent::<WatchOptions>();
 }
 
 // (that they aren't shared is an example of each that doesn't compile)
