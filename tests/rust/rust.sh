@@ -74,7 +74,11 @@ prints() {
 
 # --- the tests ----------------------------------------------------------------------------------------------------
 
-export KOBDZILA_CATSESSION=$PWD/bin/catsession
+if [ -x bin/catsession ]; then
+  export KOBDZILA_CATSESSION=$PWD/bin/catsession
+else
+  skipped 'the Rust crate, sessions' 'catsession was not built'
+fi
 passes 'the Rust crates, tests with the static library' cargo test --workspace --all-features --lib --tests --examples
 passes 'the Rust crates, examples in the documentation' cargo test --workspace --all-features --doc
 passes 'the Rust crate, tests with the shared library' cargo test --no-default-features --test it

@@ -1,5 +1,5 @@
-//! Tests with the program that `KOBDZILA_CATSESSION` names, or the one on the PATH. Without one they do nothing, and say
-//! so.
+//! Tests with the program that `KOBDZILA_CATSESSION` names. Without this variable they take the one on the PATH; if there
+//! is none, they do nothing, and say so.
 
 use crate::{compiled, GARDEN};
 use kobdzila::{Ask, Domain, Options, Session, SessionError};
@@ -8,14 +8,14 @@ use std::thread;
 const DOMAIN: Domain<'static> = Domain("garden");
 
 fn session() -> Option<Session> {
-    let program = std::env::var_os("KOBDZILA_CATSESSION").unwrap_or_else(|| "catsession".into());
-    match Session::with_program(&program) {
-        Ok(session) => Some(session),
-        Err(why) => {
-            eprintln!("{program:?}: {why}");
-            None
-        }
+    if let Some(program) = std::env::var_os("KOBDZILA_CATSESSION") {
+        return Some(Session::with_program(&program).unwrap_or_else(|why| panic!("{program:?}: {why}")));
     }
+    let session = Session::new();
+    if let Err(why) = &session {
+        eprintln!("catsession: {why}");
+    }
+    session.ok()
 }
 
 macro_rules! session {
