@@ -112,7 +112,7 @@ fn what_is_there_is_shown_at_once_and_changes_follow() {
 fn files_that_come_together_are_one_publish() {
     const LOCALES: [&str; 3] = ["fr", "de", "sv"];
     let garden = Garden::new("together");
-    let (mut reader, settle) = (garden.store.reader().unwrap(), Duration::from_millis(200));
+    let (mut reader, settle) = (garden.store.reader().unwrap(), Duration::from_millis(400));
     let po = |locale: &str| format!("{locale}/LC_MESSAGES/garden.po");
     for locale in LOCALES {
         fs::create_dir_all(garden.path(&po(locale)).parent().unwrap()).unwrap();
@@ -123,8 +123,11 @@ fn files_that_come_together_are_one_publish() {
     for number in 0..100 {
         let (before, start) = (reader.enter().version(), Instant::now());
         for locale in LOCALES {
-            garden.write(&po(locale), winter(&format!("{locale} {number}")));
-            thread::sleep(Duration::from_millis(5));
+            // (moved from outside, so that the watch looks at the first one while the others are missing)
+            let new = garden.folder.with_extension("new");
+            fs::write(&new, winter(&format!("{locale} {number}"))).unwrap();
+            fs::rename(&new, garden.path(&po(locale))).unwrap();
+            thread::sleep(Duration::from_millis(50));
         }
         let written = start.elapsed();
         comes("a publish", || reader.enter().version() > before);
