@@ -68,8 +68,8 @@ macro_rules! t {
 /// # Ok::<(), kobdzila::Refused>(())
 /// ```
 ///
-/// The number may be of any integer type up to 64 bits; the plural form for -3 is that for 3. A form may leave `{n}` out, as that for
-/// one does above. All else is as for [`t!`]. The keyword of xgettext is `tn!:1,2`.
+/// The number may be of any integer type up to 64 bits; the plural form for -3 is that for 3. A form may omit `{n}`, as
+/// the one for 1 does above. Everything else is as for [`t!`]. The keyword of xgettext is `tn!:1,2`.
 #[macro_export]
 macro_rules! tn {
     ($msgid:literal, $plural:literal, $n:expr $(, $($arguments:tt)*)?) => {
