@@ -647,7 +647,8 @@ static void open_changing(enum kob_kind kind, const void *bytes, size_t len) {
     changing_len = len;
     atomic_store(&ended, 0);
     pthread_create(&thread, NULL, change, NULL);
-    for (int i = 0; i < OPENINGS; i++) {
+    /* (on a busy machine the other thread may rest while a byte is wrong: then there are more openings) */
+    for (int i = 0; i < OPENINGS || (!opened && i < 10000 * OPENINGS); i++) {
         kob_refusal why = { KOB_NO_FAULT, 0 };
         kob_catalogue *c = kind == KOB_MO ? kob_open_mo(changing, len, &why) : kob_open_po(changing, len, 0, &why);
         is("what isn't opened is refused", c || why.fault != KOB_NO_FAULT);
