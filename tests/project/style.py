@@ -25,7 +25,7 @@ PRIVATE = "-- Private: "
 MOST_WORDS = 35  # of the sentence that opens a file of specs/
 
 # Crates whose definitions follow a standard, and those of their files that define this project's own terms.
-ON_A_STANDARD = ("c_signature", "mo_file", "mo_image", "mo_tables", "po_checks", "po_header", "po_text")
+ON_A_STANDARD = ("c_signature", "mo_file", "mo_image", "mo_tables", "po_checks", "po_header", "po_text", "po_writing")
 OWN_WORDS = {
     ("po_checks", "Found"),
     ("po_checks", "Refusal"),
@@ -50,6 +50,7 @@ PARTS = (
     "Triggering",
     "c-format",
     "msgfmt Invocation",
+    "msgunfmt Invocation",
 )
 MANUAL = re.compile(r'GNU gettext manual, ((?:"[^"]+"(?:: [^;)"]+)?(?:; )?)+)')
 C_STANDARD = re.compile(r"C standard, [67]\.\d")

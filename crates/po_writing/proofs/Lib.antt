@@ -1,0 +1,10 @@
+pub mod Bytes
+pub mod Parts
+pub mod Digits
+pub mod Chained
+pub mod Found
+pub mod Utf8
+pub mod Told
+pub mod Lines
+pub mod Steps
+pub mod Compiled
