@@ -8,3 +8,4 @@ pub mod Told
 pub mod Lines
 pub mod Steps
 pub mod Compiled
+pub mod Accepted

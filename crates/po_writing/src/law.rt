@@ -1,9 +1,10 @@
 //! Laws of the definition of written texts, as functions whose contracts state them.
-ghost use Rattle.std.specs.Prelude.{◌≡◌, ◌≤◌, Bool, List, length};
+ghost use Rattle.std.specs.Prelude.{◌≡◌, ◌≤◌, ℕ, Bool, false, List, length};
 ghost use Rattle.message.specs.Message.{Entry};
 ghost use Rattle.mo_image.specs.Map.{IsLawful};
 ghost use Rattle.po_text.specs.Outcome.{max_text};
-ghost use Rattle.catalogue.specs.Meaning.{Means};
+ghost use Rattle.catalogue.specs.Meaning.{Means, Refuses};
+ghost use Rattle.po_checks.specs.declared.fault.LoadKind.{LoadKind};
 ghost use Rattle.catalogue.specs.declared.Compiled.{Compiled};
 ghost use Rattle.po_checks.specs.declared.options.Options.{Options};
 ghost use Rattle.po_writing.specs.Laws.{Tells, translated};
@@ -20,4 +21,11 @@ pub fn written_is_compiled()
     ensures { (escape : Bool) (m : List Entry) (options : Options) (compiled : Compiled) → IsLawful m
         → length (po_of escape m) ≤ max_text → Means (po_of escape m) options compiled
         → compiled.catalogue ≡ translated m }
+{}
+
+/// That text isn't refused, unless formats, newlines and plural rules are checked as well.
+pub fn written_is_accepted()
+    ensures { (escape : Bool) (m : List Entry) (options : Options) (kind : LoadKind) (line : ℕ) → IsLawful m
+        → length (po_of escape m) ≤ max_text → options.checked ≡ false
+        → ¬ Refuses (po_of escape m) options kind line }
 {}

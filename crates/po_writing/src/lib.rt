@@ -6,5 +6,5 @@ mod law;
 mod literals;
 mod write;
 
-pub use law::{written_is_compiled, written_is_read};
+pub use law::{written_is_accepted, written_is_compiled, written_is_read};
 pub use write::write_po;
