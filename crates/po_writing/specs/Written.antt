@@ -5,6 +5,7 @@ use Rattle.std.specs.Prelude.{Option, Some, None, codes}
 use Rattle.std.specs.List.{flat_map, onto_first}
 use Rattle.std.specs.Fmt.{decimal}
 use Rattle.message.specs.Message.{Entry, first_form}
+use Rattle.po_text.specs.Spelling.{line_feed, quote, backslash}
 
 -- ---- strings
 
@@ -14,12 +15,12 @@ letter_of b =
     if b == 7 then Some 97 else
     if b == 8 then Some 98 else
     if b == 9 then Some 116 else
-    if b == 10 then Some 110 else
+    if b == line_feed then Some 110 else
     if b == 11 then Some 118 else
     if b == 12 then Some 102 else
     if b == 13 then Some 114 else
-    if b == 34 then Some 34 else
-    if b == 92 then Some 92 else None
+    if b == quote then Some quote else
+    if b == backslash then Some backslash else None
 
 -- the three octal digits of a byte
 abbrev pub octal : ℕ → List ℕ
@@ -31,27 +32,29 @@ is_printable b = nat_le 32 b && nat_le b 126
 
 -- a byte that has no letter: three octal digits if it is to be escaped and isn't printable, else itself
 abbrev pub without_letter : Bool → ℕ → List ℕ
-without_letter escape b = if escape && not (is_printable b) then 92 ∷ octal b else b ∷ []
+without_letter escape b = if escape && not (is_printable b) then backslash ∷ octal b else b ∷ []
 
+-- a backslash and the letter, if there is one, or else the other spelling
 abbrev pub by_letter : Option ℕ → List ℕ → List ℕ
 by_letter None other = other
-by_letter (Some letter) other = 92 ∷ letter ∷ []
+by_letter (Some letter) other = backslash ∷ letter ∷ []
 
 -- a byte between the quotes of a string (C standard, 6.4.5); `escape` is msgunfmt's option `--escape`
 abbrev pub written_byte : Bool → ℕ → List ℕ
 written_byte escape b = by_letter (letter_of b) (without_letter escape b)
 
+-- what stands between the quotes
 abbrev pub written_bytes : Bool → List ℕ → List ℕ
 written_bytes escape bytes = flat_map (written_byte escape) bytes
 
 -- a part of a string in quotes, which ends its line
 abbrev pub literal : Bool → List ℕ → List ℕ
-literal escape part = 34 ∷ (written_bytes escape part ++ (34 ∷ 10 ∷ []))
+literal escape part = quote ∷ (written_bytes escape part ++ (quote ∷ line_feed ∷ []))
 
 -- the lines of a text, each with the LF that ends it; only the last may lack it
 abbrev pub lines_of : List ℕ → List (List ℕ)
 lines_of [] = []
-lines_of (b ∷ more) = if b == 10 then (b ∷ []) ∷ lines_of more else onto_first b (lines_of more)
+lines_of (b ∷ more) = if b == line_feed then (b ∷ []) ∷ lines_of more else onto_first b (lines_of more)
 
 -- the parts of a string, by its lines: a text of one line is one part; else an empty part comes first
 abbrev pub parts_by_lines : List (List ℕ) → List (List ℕ)
@@ -63,12 +66,17 @@ parts_by_lines (line ∷ next ∷ more) = [] ∷ line ∷ next ∷ more
 abbrev pub parts_of : List ℕ → List (List ℕ)
 parts_of text = parts_by_lines (lines_of text)
 
+-- the space
+abbrev pub space : ℕ
+space = 32
+
 -- a keyword, a space and a string
 abbrev pub written_string : Bool → List ℕ → List ℕ → List ℕ
-written_string escape keyword text = keyword ++ (32 ∷ flat_map (literal escape) (parts_of text))
+written_string escape keyword text = keyword ++ (space ∷ flat_map (literal escape) (parts_of text))
 
 -- ---- entries
 
+-- `msgctxt` and the context, if there is one
 abbrev pub written_context : Bool → Option (List ℕ) → List ℕ
 written_context escape None = []
 written_context escape (Some context) = written_string escape (codes "msgctxt") context
@@ -88,6 +96,7 @@ written_translation escape None forms = written_string escape (codes "msgstr") (
 written_translation escape (Some plural) forms =
     written_string escape (codes "msgid_plural") plural ++ written_forms escape 0 forms
 
+-- the context, the msgid and the translation
 abbrev pub written_entry : Bool → Entry → List ℕ
 written_entry escape e = written_context escape e.context
     ++ (written_string escape (codes "msgid") e.id ++ written_translation escape e.plural e.forms)
@@ -95,4 +104,4 @@ written_entry escape e = written_context escape e.context
 -- the entries in their order, with an empty line before each but the first
 abbrev pub po_of : Bool → List Entry → List ℕ
 po_of escape [] = []
-po_of escape (e ∷ more) = written_entry escape e ++ flat_map (λ f. 10 ∷ written_entry escape f) more
+po_of escape (e ∷ more) = written_entry escape e ++ flat_map (λ f. line_feed ∷ written_entry escape f) more
