@@ -1,4 +1,5 @@
 pub mod Arguments
+pub mod Bytes
 pub mod Text
 pub mod ArgumentViews
 pub mod Indexing

@@ -9,11 +9,13 @@ use std::alloc::{AllocError, AllocFailed};
 use thiserror::Error;
 
 mod agreement;
+mod bytes;
 mod index;
 mod kinds;
 mod text;
 
 pub use agreement::{agrees, is_consistent, lenient_kinds, strict_kinds};
+pub use bytes::{after_byte, split_byte};
 pub use text::next_directive;
 
 /// The kind of an argument, as GNU gettext tells them apart.

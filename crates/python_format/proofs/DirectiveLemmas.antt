@@ -8,9 +8,10 @@ use Rattle.std.proofs.lemmas.Bool.{cases_Bool}
 use Rattle.python_format.specs.declared.parts.Amount.TheVariants.{Star, Fixed}
 use Rattle.python_format.specs.PythonPieces.{is_modifier}
 use Rattle.python_format.specs.declared.parts.Amount.{Amount}
-use Rattle.python_format.specs.PythonPieces.{percent, is_flag, behind, NameAt, AmountAt, PrecisionAt, behind_modifier}
+use Rattle.python_format.specs.PythonPieces.{percent, is_flag, NameAt, AmountAt, PrecisionAt, behind_modifier}
 use Rattle.python_format.specs.PythonPieces.{kind_of}
 use Rattle.python_format.specs.PythonDirectives.{Directive, DirectiveAt}
+use Rattle.format_arguments.specs.Bytes.{behind}
 use Rattle.format_arguments.specs.Text.{AreDirectives}
 use Rattle.python_format.proofs.PartLemmas.{name_one, amount_one, precision_one}
 

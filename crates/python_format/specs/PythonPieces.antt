@@ -1,9 +1,10 @@
 -- The parts of a directive of Python's `%` (GNU gettext manual, "Python Format Strings"; Python's library reference,
 -- "printf-style String Formatting").
-use Rattle.std.specs.Prelude.{◌≡◌, ℕ, zero, suc, ◌+◌, Bool, not, ◌&&◌, ◌==◌, if◌then◌else◌, List, [], ◌∷◌, ◌++◌}
-use Rattle.std.specs.Prelude.{Option, None, Some, ◌⊎◌, codes, take, drop, length}
-use Rattle.std.specs.List.{fold, list_all, list_any, prefix_len}
+use Rattle.std.specs.Prelude.{◌≡◌, ℕ, zero, suc, ◌+◌, Bool, not, ◌&&◌, ◌==◌, if◌then◌else◌, List, ◌∷◌, ◌++◌}
+use Rattle.std.specs.Prelude.{Option, None, Some, ◌⊎◌, codes, length}
+use Rattle.std.specs.List.{fold, list_all, list_any}
 use Rattle.std.specs.Char.{is_ascii_digit}
+use Rattle.format_arguments.specs.Bytes.{run, behind, behind_one, BeginsNot}
 use Rattle.format_arguments.specs.declared.Kind.{Kind}
 use Rattle.format_arguments.specs.declared.Kind.TheVariants.{Any, Percent, Character, Text, Integer, Float}
 use Rattle.python_format.specs.declared.parts.Amount.{Amount}
@@ -25,19 +26,6 @@ star = 42
 
 abbrev pub dot : ℕ
 dot = 46
-
--- ---- runs
-
--- the bytes at the front that pass the test, as many as there are
-abbrev pub run : (ℕ → Bool) → List ℕ → List ℕ
-run test text = take (prefix_len test text) text
-
--- what follows them
-abbrev pub behind : (ℕ → Bool) → List ℕ → List ℕ
-behind test text = drop (prefix_len test text) text
-
-abbrev pub BeginsNot : ℕ → List ℕ → Type 0
-BeginsNot b text = (rest : List ℕ) → ¬ (text ≡ b ∷ rest)
 
 -- ---- names
 
@@ -88,8 +76,7 @@ PrecisionAt precision text rest =
 
 -- what follows one length modifier, which may be left out; it has no effect
 abbrev pub behind_modifier : List ℕ → List ℕ
-behind_modifier [] = []
-behind_modifier (b ∷ more) = if is_modifier b then more else b ∷ more
+behind_modifier text = behind_one is_modifier text
 
 -- ---- conversions
 

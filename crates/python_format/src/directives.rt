@@ -5,9 +5,9 @@ ghost use Rattle.python_format.specs.PythonPieces.{percent};
 ghost use Rattle.python_format.specs.PythonScanning.{directive_view};
 
 use crate::parts::{
-    Amount, kind_of, read_amount, read_name, read_precision, skip_flags, skip_modifier, split_byte,
+    Amount, kind_of, read_amount, read_name, read_precision, skip_flags, skip_modifier,
 };
-use format_arguments::Kind;
+use format_arguments::{Kind, split_byte};
 
 #[derive(Clone, Copy)]
 pub(crate) struct Directive<'a> {

@@ -4,11 +4,12 @@ ghost use Rattle.std.specs.Prelude.{◌≡◌, ◌<◌, ◌≢◌, ℕ, ◌∷�
 ghost use Rattle.std.specs.Prelude.{take, length, get_or};
 ghost use Rattle.std.specs.List.{prefix_len};
 ghost use Rattle.std.specs.Char.{is_ascii_digit};
-ghost use Rattle.python_format.specs.PythonPieces.{AmountAt, BeginsNot, IsBalanced, NameAt, PrecisionAt};
-ghost use Rattle.python_format.specs.PythonPieces.{close_parenthesis, is_flag, is_modifier, is_zero, run, behind};
+ghost use Rattle.format_arguments.specs.Bytes.{behind, run};
+ghost use Rattle.python_format.specs.PythonPieces.{AmountAt, IsBalanced, NameAt, PrecisionAt};
+ghost use Rattle.python_format.specs.PythonPieces.{close_parenthesis, is_flag, is_modifier, is_zero};
 ghost use Rattle.python_format.specs.PythonPieces as pieces;
 
-use format_arguments::Kind;
+use format_arguments::{Kind, after_byte, split_byte};
 
 /// How a width or a precision is given.
 #[derive(Clone, Copy)]
@@ -17,24 +18,6 @@ pub(crate) enum Amount {
     Star,
     /// Left out or in digits: whether there are digits, all of them 0.
     Fixed(bool),
-}
-
-/// Splits off the first byte.
-pub(crate) fn split_byte(text: &[u8]) -> Option<(u8, &[u8])>
-    ensures { MatchOption result (text.now ≡ []) (λ found. text.now ≡ found.0 ∷ found.1.now) }
-{
-    match text {
-        [] => None,
-        [byte, rest @ ..] => Some((*byte, rest)),
-    }
-}
-
-/// What follows this byte, if the text begins with it.
-pub(crate) fn after_byte(text: &[u8], byte: u8) -> Option<&[u8]>
-    ensures { MatchOption result (BeginsNot byte text.now) (λ rest. text.now ≡ byte ∷ rest.now) }
-{
-    let (first, rest) = split_byte(text)?;
-    if first == byte { Some(rest) } else { None }
 }
 
 /// The length of the name at the front, up to the `)` that closes it.

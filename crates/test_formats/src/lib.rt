@@ -4,4 +4,6 @@
 #![tactic(auto)]
 
 #[cfg(test)]
+mod brace;
+#[cfg(test)]
 mod python;

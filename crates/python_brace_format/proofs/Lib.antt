@@ -1,0 +1,5 @@
+pub mod FieldLemmas
+pub mod EndLemmas
+pub mod DirectiveLemmas
+pub mod ReaderLemmas
+pub mod Consistency

@@ -1,0 +1,5 @@
+pub mod BraceFields
+pub mod BraceSpecifiers
+pub mod BraceDirectives
+pub mod BraceAgreement
+pub mod Format
