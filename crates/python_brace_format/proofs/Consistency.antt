@@ -21,7 +21,8 @@ and_true a b e f = rw (e, f) refl
 or_true : (a b : Bool) → a ≡ true → (a || b) ≡ true
 or_true a b e = rw e refl
 
-any_compatible : (name : List ℕ) (others : List Argument) → list_all (λ other. compatible (any name) other) others ≡ true
+any_compatible : (name : List ℕ) (others : List Argument)
+    → list_all (λ other. compatible (any name) other) others ≡ true
 any_compatible name [] = refl
 any_compatible name (other ∷ others) = elim (cases_Bool (same_name (any name) other)) [
   | inl e ↦ rw e (any_compatible name others)

@@ -2,4 +2,4 @@ pub mod BraceFields
 pub mod BraceSpecifiers
 pub mod BraceDirectives
 pub mod BraceAgreement
-pub mod Format
+pub mod BraceFormat

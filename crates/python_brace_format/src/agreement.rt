@@ -18,7 +18,12 @@ pub fn agrees<'a>(
         ≡ agree (map argument_view original.now) (map argument_view translation.now) rule) }
 {
     match rule {
-        Strictness::Same => format_arguments::agrees(alloc, original, translation, Strictness::Same),
+        Strictness::Same => format_arguments::agrees(
+            alloc,
+            original,
+            translation,
+            Strictness::Same,
+        ),
         Strictness::Lenient => Ok(true),
     }
 }

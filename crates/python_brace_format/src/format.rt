@@ -5,7 +5,7 @@ ghost use Rattle.format_arguments.specs.Arguments.{Argument as Asked};
 ghost use Rattle.format_arguments.specs.ArgumentViews.{argument_view};
 ghost use Rattle.python_brace_format.specs.BraceSpecifiers.{open_brace};
 ghost use Rattle.python_brace_format.specs.BraceDirectives as spec;
-ghost use Rattle.python_brace_format.specs.Format.{HasFault, HasSignature};
+ghost use Rattle.python_brace_format.specs.BraceFormat.{HasFault, HasSignature};
 
 use crate::fields::after_field;
 use crate::specifiers::after_format;

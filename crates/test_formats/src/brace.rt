@@ -135,10 +135,10 @@ fn reads_brace_formats(rt: HostRuntime) {
 #[test]
 fn names_arguments_by_all_between_braces(rt: HostRuntime) {
     let names = match signature(rt.alloc(), b"{{ {a[0].b:>5} {c}") {
-        Ok(asked) => asked.iter().map(|argument| argument.name).eq([
-            Some(b"a[0].b:>5".as_slice()),
-            Some(b"c".as_slice()),
-        ]),
+        Ok(asked) => asked
+            .iter()
+            .map(|argument| argument.name)
+            .eq([Some(b"a[0].b:>5".as_slice()), Some(b"c".as_slice())]),
         Err(_) => false,
     };
     assert!(rt; names);

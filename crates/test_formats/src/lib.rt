@@ -6,4 +6,6 @@
 #[cfg(test)]
 mod brace;
 #[cfg(test)]
+mod checks;
+#[cfg(test)]
 mod python;

@@ -23,8 +23,8 @@ returns-in_default-read_directive-clause-err c = unreadable open_brace Directive
     c.in_default-read_directive.ensures
 
 pub directives-smaller : goal.directives-smaller
-directives-smaller c = step_shorter open_brace DirectiveAt are_directives asks c.directives.rest.now c.in-Some.behind.now
-    c.in-Some-read_directive.after.now _ c.in-Some.ensures c.in-Some-read_directive.ensures
+directives-smaller c = step_shorter open_brace DirectiveAt are_directives asks c.directives.rest.now
+    c.in-Some.behind.now c.in-Some-read_directive.after.now _ c.in-Some.ensures c.in-Some-read_directive.ensures
 
 pub directives-preserved : goal.directives-preserved
 directives-preserved c = reads_on open_brace DirectiveAt are_directives asks c.args.text.now c.directives.rest.now

@@ -1,0 +1,137 @@
+-- The faults of an entry, collected form by form.
+use Rattle.std.proofs.Common.{◌≡◌, ℕ, ◌+◌, Bool, true, false, List, [], ◌∷◌, ◌++◌, Option, None}
+use Rattle.std.proofs.Common.{refl, sym, ap, subst, ◌∙◌, append_assoc, inl, inr}
+use Rattle.std.proofs.lemmas.List.{append-nil}
+use Rattle.format_checks.specs.declared.Language.{Language}
+use Rattle.format_checks.specs.declared.Difference.{Difference}
+use Rattle.format_checks.specs.declared.Fault.{Fault}
+use Rattle.format_arguments.specs.declared.FormatFault.{FormatFault}
+use Rattle.format_arguments.specs.declared.FormatFault.TheVariants.{Invalid}
+use Rattle.format_arguments.specs.declared.Strictness.{Strictness}
+use Rattle.format_arguments.specs.Arguments.{Argument}
+use Rattle.format_checks.specs.declared.Language.TheVariants.{Python, PythonBrace}
+use Rattle.format_checks.specs.FormatLanguages.{Lists, HasFault, IsNoFormat}
+use Rattle.format_checks.specs.FormatFlags.{has}
+use Rattle.format_checks.specs.FlaggedEntries.{Entry, original, rule_for}
+use Rattle.format_checks.specs.FormatFaults.{Question, question, questions_from, questions, flagged_questions}
+use Rattle.format_checks.specs.FormatFaults.{IsDifference, HasVerdict}
+use Rattle.format_checks.specs.FormatFaults.{fault_of, list_of, AreFaults, AddsFaults}
+
+-- ---- lists of faults
+
+are_both : (line : ℕ) (qs rs : List Question) (f g : List Fault) → AreFaults line qs f → AreFaults line rs g
+    → AreFaults line (qs ++ rs) (f ++ g)
+are_both line [] rs f g none y = subst (λ (h : List Fault). AreFaults line rs (h ++ g)) (sym none) y
+are_both line (q ∷ qs) rs f g (verdict, rest, has, more, e) y = (
+  verdict,
+  rest ++ g,
+  has,
+  are_both line qs rs rest g more y,
+  ap (λ (h : List Fault). h ++ g) e ∙ append_assoc (list_of (fault_of line q.language q.form verdict)) rest g,
+)
+
+pub adds_both : (line : ℕ) (qs rs : List Question) (a b c : List Fault) → AddsFaults line qs a b
+    → AddsFaults line rs b c → AddsFaults line (qs ++ rs) a c
+adds_both line qs rs a b c (f, e, x) (g, h, y) = (
+  f ++ g,
+  h ∙ ap (λ (t : List Fault). t ++ g) e ∙ append_assoc a f g,
+  are_both line qs rs f g x y,
+)
+
+pub adds_nothing : (line : ℕ) (a : List Fault) → AddsFaults line [] a a
+adds_nothing line a = ([], sym (append-nil a), refl)
+
+pub adds_unflagged : (line : ℕ) (e : Entry) (often : List Bool) (language : Language) (a : List Fault)
+    → has e.flags language ≡ false → AddsFaults line (flagged_questions e often language) a a
+adds_unflagged line e often language a none = rw none (adds_nothing line a)
+
+pub adds_flagged : (line : ℕ) (e : Entry) (often : List Bool) (language : Language) (a b : List Fault)
+    → has e.flags language ≡ true → AddsFaults line (questions e often language) a b
+    → AddsFaults line (flagged_questions e often language) a b
+adds_flagged line e often language a b is adds = rw is adds
+
+none_from : (line : ℕ) (e : Entry) (often : List Bool) (language : Language) (form : ℕ) (forms : List (List ℕ))
+    → IsNoFormat language (original e) → AreFaults line (questions_from e often language form forms) []
+none_from line e often language form [] none = refl
+none_from line e often language form (t ∷ forms) none =
+    (None, [], inl (none, refl), none_from line e often language (form + 1) forms none, refl)
+
+-- an original that is no format is compared with nothing
+pub adds_none : (line : ℕ) (e : Entry) (often : List Bool) (language : Language) (a : List Fault)
+    → IsNoFormat language (original e) → AddsFaults line (questions e often language) a a
+adds_none line e often language a none = ([], sym (append-nil a), none_from line e often language 0 e.forms none)
+
+-- ---- form by form
+
+-- the forms up to this one were compared; these are left
+pub record HasCompared (line : ℕ) (e : Entry) (often : List Bool) (language : Language) (form : ℕ)
+    (left : List (List ℕ)) (old now : List Fault) : Type 0 where
+  pub found : List Fault
+  pub added : now ≡ old ++ found
+  pub on : (rest : List Fault) → AreFaults line (questions_from e often language form left) rest
+      → AreFaults line (questions e often language) (found ++ rest)
+
+pub compared_none : (line : ℕ) (e : Entry) (often : List Bool) (language : Language) (form : ℕ) (old : List Fault)
+    → form ≡ 0 → HasCompared line e often language form e.forms old old
+compared_none line e often language form old is = record {
+  found = [];
+  added = sym (append-nil old);
+  on = λ rest x. subst (λ (k : ℕ). AreFaults line (questions_from e often language k e.forms) rest) is x;
+}
+
+pub compared_more : (line : ℕ) (e : Entry) (often : List Bool) (language : Language) (form next : ℕ)
+    (left later : List (List ℕ)) (old now new : List Fault) (t : List ℕ) (verdict : Option Difference)
+    → HasCompared line e often language form left old now → left ≡ t ∷ later → next ≡ form + 1
+    → HasVerdict (question e often language form t) verdict
+    → new ≡ now ++ list_of (fault_of line language form verdict) → HasCompared line e often language next later old new
+compared_more line e often language form next left later old now new t verdict h cut after has is =
+    let more = list_of (fault_of line language form verdict) in
+    record {
+      found = h.found ++ more;
+      added = is ∙ ap (λ (f : List Fault). f ++ more) h.added ∙ append_assoc old h.found more;
+      on = λ rest x. subst (λ (f : List Fault). AreFaults line (questions e often language) f)
+          (sym (append_assoc h.found more rest))
+          (h.on (more ++ rest)
+          (subst (λ (forms : List (List ℕ)). AreFaults line (questions_from e often language form forms) (more ++ rest))
+          (sym cut) (
+            verdict,
+            rest,
+            has,
+            subst (λ (k : ℕ). AreFaults line (questions_from e often language k later) rest) after x,
+            refl,
+          )));
+    }
+
+pub compared_all : (line : ℕ) (e : Entry) (often : List Bool) (language : Language) (form : ℕ) (left : List (List ℕ))
+    (old now : List Fault) → HasCompared line e often language form left old now → left ≡ []
+    → AddsFaults line (questions e often language) old now
+compared_all line e often language form left old now h end = (
+  h.found,
+  h.added,
+  subst (λ (f : List Fault). AreFaults line (questions e often language) f) (append-nil h.found)
+      (h.on []
+      (subst (λ (forms : List (List ℕ)). AreFaults line (questions_from e often language form forms) []) (sym end)
+      refl)),
+)
+
+-- ---- reading formats
+
+pub no_format : (language : Language) (text : List ℕ) (fault : FormatFault) → fault ≡ Invalid
+    → HasFault language text fault → IsNoFormat language text
+no_format Python text fault is has = rw is at has
+no_format PythonBrace text fault is has = rw is at has
+
+pub verdict_of : (e : Entry) (often : List Bool) (language : Language) (form : ℕ) (t text : List ℕ) (rule : Strictness)
+    (asked given : List Argument) (found : Option Difference) → text ≡ original e → Lists language text asked
+    → rule ≡ rule_for e often form → given ≡ asked → IsDifference language rule given t found
+    → HasVerdict (question e often language form t) found
+verdict_of e often language form t text rule asked given found is lists rule_is same differs = inr (
+  asked,
+  subst (λ (x : List ℕ). Lists language x asked) is lists,
+  subst (λ (r : Strictness). IsDifference language r asked t found) rule_is
+      (subst (λ (a : List Argument). IsDifference language rule a t found) same differs),
+)
+
+pub none_of : (language : Language) (text other : List ℕ) → text ≡ other → IsNoFormat language text
+    → IsNoFormat language other
+none_of language text other is none = subst (λ (x : List ℕ). IsNoFormat language x) is none

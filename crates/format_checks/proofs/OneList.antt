@@ -1,0 +1,89 @@
+-- There is one list of faults.
+use Rattle.std.proofs.Common.{◌≡◌, ℕ, Bool, true, false, List, [], ◌∷◌, ◌++◌, Option, None, Some, refl, sym}
+use Rattle.std.proofs.Common.{ap, subst, ◌∙◌}
+use Rattle.std.proofs.Common.{inl, inr}
+use Rattle.std.specs.Prelude.{◌↔◌}
+use Rattle.std.specs.List.{AllByRecursion}
+use Rattle.format_arguments.specs.Arguments.{Argument}
+use Rattle.format_arguments.specs.declared.Strictness.{Strictness}
+use Rattle.format_arguments.proofs.TextLemmas.{one_signature}
+use Rattle.python_format.specs.PythonPieces.{percent}
+use Rattle.python_format.specs.PythonDirectives as python
+use Rattle.python_format.proofs.DirectiveLemmas as python_lemmas
+use Rattle.python_brace_format.specs.BraceSpecifiers.{open_brace}
+use Rattle.python_brace_format.specs.BraceDirectives as brace
+use Rattle.python_brace_format.proofs.DirectiveLemmas as brace_lemmas
+use Rattle.format_checks.specs.declared.Language.{Language}
+use Rattle.format_checks.specs.declared.Language.TheVariants.{Python, PythonBrace}
+use Rattle.format_checks.specs.declared.Difference.{Difference}
+use Rattle.format_checks.specs.declared.Difference.TheVariants.{Invalid, Arguments}
+use Rattle.format_checks.specs.declared.Fault.{Fault}
+use Rattle.format_checks.specs.FormatLanguages.{Lists, agree}
+use Rattle.format_checks.specs.FormatFaults.{Question, IsDifference, HasVerdict, IsAccepted, fault_of, list_of}
+use Rattle.format_checks.specs.FormatFaults.{AreFaults}
+
+one_arguments : (language : Language) (text : List ℕ) (a b : List Argument) → Lists language text a
+    → Lists language text b → a ≡ b
+one_arguments Python text a b x y =
+    one_signature percent python.DirectiveAt python_lemmas.are_directives python.asks text a b x y
+one_arguments PythonBrace text a b x y =
+    one_signature open_brace brace.DirectiveAt brace_lemmas.are_directives brace.asks text a b x y
+
+same_agreement : (language : Language) (rule : Strictness) (form : List ℕ) (original a b : List Argument) (x y : Bool)
+    → Lists language form a → Lists language form b → agree language original a rule ≡ x
+    → agree language original b rule ≡ y → x ≡ y
+same_agreement language rule form original a b x y f g e h =
+    sym e ∙ ap (λ (c : List Argument). agree language original c rule) (one_arguments language form a b f g) ∙ h
+
+one_difference : (language : Language) (rule : Strictness) (original : List Argument) (form : List ℕ)
+    (d e : Option Difference) → IsDifference language rule original form d → IsDifference language rule original form e
+    → d ≡ e
+one_difference language rule original form None None x y = refl
+one_difference language rule original form None (Some Arguments) (a, f, e) (b, g, h) =
+    absurd (cc (same_agreement language rule form original a b true false f g e h))
+one_difference language rule original form None (Some Invalid) (a, f, e) y = absurd (y a f)
+one_difference language rule original form (Some Arguments) None (a, f, e) (b, g, h) =
+    absurd (cc (same_agreement language rule form original a b false true f g e h))
+one_difference language rule original form (Some Arguments) (Some Arguments) x y = refl
+one_difference language rule original form (Some Arguments) (Some Invalid) (a, f, e) y = absurd (y a f)
+one_difference language rule original form (Some Invalid) None x (b, g, h) = absurd (x b g)
+one_difference language rule original form (Some Invalid) (Some Arguments) x (b, g, h) = absurd (x b g)
+one_difference language rule original form (Some Invalid) (Some Invalid) x y = refl
+
+one_verdict : (q : Question) (d e : Option Difference) → HasVerdict q d → HasVerdict q e → d ≡ e
+one_verdict q d e (inl (none, f)) (inl (also, g)) = f ∙ sym g
+one_verdict q d e (inl (none, f)) (inr (original, lists, y)) = absurd (none original lists)
+one_verdict q d e (inr (original, lists, x)) (inl (none, g)) = absurd (none original lists)
+one_verdict q d e (inr (a, f, x)) (inr (b, g, y)) =
+    let same : a ≡ b = one_arguments q.language q.original a b f g in
+    one_difference q.language q.rule b q.translation d e
+    (subst (λ (c : List Argument). IsDifference q.language q.rule c q.translation d) same x) y
+
+pub one_list : (line : ℕ) (asked : List Question) (found others : List Fault) → AreFaults line asked found
+    → AreFaults line asked others → found ≡ others
+one_list line [] found others e f = e ∙ sym f
+one_list line (q ∷ more) found others (d, rest, has, x, e) (c, rest2, also, y, f) =
+    let same : d ≡ c = one_verdict q d c has also in
+    let ih : rest ≡ rest2 = one_list line more rest rest2 x y in
+    e ∙ ap (λ (v : Option Difference). list_of (fault_of line q.language q.form v) ++ rest) same
+    ∙ ap (λ (r : List Fault). list_of (fault_of line q.language q.form c) ++ r) ih ∙ sym f
+
+no_fault : (line : ℕ) (q : Question) (d : Option Difference) (rest : List Fault)
+    → [] ≡ list_of (fault_of line q.language q.form d) ++ rest → (d ≡ None) × (rest ≡ [])
+no_fault line q None rest e = (refl, sym e)
+no_fault line q (Some d) rest e = absurd (cc e)
+
+all_accepted : (line : ℕ) (asked : List Question) → AreFaults line asked [] → AllByRecursion IsAccepted asked
+all_accepted line [] x = record {}
+all_accepted line (q ∷ more) (d, rest, has, x, e) =
+    let r = no_fault line q d rest e in (
+      subst (λ (v : Option Difference). HasVerdict q v) r.0 has,
+      all_accepted line more (subst (λ (f : List Fault). AreFaults line more f) r.1 x),
+    )
+
+none_found : (line : ℕ) (asked : List Question) → AllByRecursion IsAccepted asked → AreFaults line asked []
+none_found line [] x = refl
+none_found line (q ∷ more) (has, x) = (None, [], has, none_found line more x, refl)
+
+pub none_wrong : (line : ℕ) (asked : List Question) → AreFaults line asked [] ↔ AllByRecursion IsAccepted asked
+none_wrong line asked = (all_accepted line asked, none_found line asked)

@@ -1,0 +1,50 @@
+use Rattle.std.proofs.Common.{◌+◌, ◌++◌, ◌∙◌, ℕ, Option, map, drop, arith, ap, sym, refl}
+use Rattle.std.proofs.lemmas.List.{drop_more, drop_all}
+use Rattle.format_arguments.specs.ArgumentViews.{argument_view}
+use Rattle.format_checks.specs.FormatViews.{entry_view}
+use Rattle.format_checks.specs.declared.Fault.{Fault}
+use Rattle.format_checks.specs.FormatFaults.{list_of}
+use Rattle.format_checks.proofs.FaultLemmas.{adds_flagged, adds_none, compared_none, compared_more}
+use Rattle.format_checks.proofs.FaultLemmas.{compared_all, verdict_of, none_of}
+use Rattle.format_checks.proofs.faults.add_language_faults.Goals as goal
+
+pub returns-in_default : goal.returns-in_default
+returns-in_default c =
+    let e = entry_view c.args.entry in
+    adds_flagged c.args.entry.line e c.args.often.now c.args.language _ _ (sym c.if-not-has.ensures)
+    (adds_none c.args.entry.line e c.args.often.now c.args.language c.args.faults.now.items
+    (none_of c.args.language c.original.result.now _ c.original.ensures
+    (rw c.in_default.is at c.in_ok-original.ensures)))
+
+pub forms-init : goal.forms-init
+forms-init c = (
+  refl,
+  compared_none c.args.entry.line (entry_view c.args.entry) c.args.often.now c.args.language 0
+      c.args.faults.now.items refl,
+)
+
+pub forms-preserved : goal.forms-preserved
+forms-preserved c =
+    let e = entry_view c.args.entry in
+    let forms = c.args.entry.forms.now in
+    let index = c.forms.text-index in
+    let cut = drop_more forms index _ c.forms-test.true in
+    let verdict = verdict_of e c.args.often.now c.args.language c.forms.form _ c.original.result.now
+    c.rule_for-rule.result (map argument_view c.in-Some.original.items) _ c.in_ok-found.found c.original.ensures
+    (rw c.in-Some.is at c.in_ok-original.ensures) c.rule_for-rule.ensures (ap (map argument_view) c.deref.ensures.value)
+    c.in_ok-found.ensures in (
+      ap (λ (k : ℕ). k + 1) c.forms.invariant.0,
+      compared_more c.args.entry.line e c.args.often.now c.args.language c.forms.form (c.forms.form + 1)
+          (map (λ form. form.now) (drop index forms)) (map (λ form. form.now) (drop (index + 1) forms)) _ _ _ _
+          c.in_ok-found.found c.forms.invariant.1 (ap (map (λ form. form.now)) cut) refl verdict
+          (c.in_ok-add_fault.ensures ∙ ap (λ (f : Option Fault). c.forms.faults.items ++ list_of f) c.fault_of.ensures),
+    )
+
+pub returns : goal.returns
+returns c =
+    let e = entry_view c.args.entry in
+    let forms = c.args.entry.forms.now in
+    adds_flagged c.args.entry.line e c.args.often.now c.args.language _ _ (sym c.if-not-has.ensures)
+    (compared_all c.args.entry.line e c.args.often.now c.args.language c.forms.form
+    (map (λ form. form.now) (drop c.forms.text-index forms)) _ _ c.forms.invariant.1
+    (ap (map (λ form. form.now)) (drop_all c.forms.text-index forms (omega (arith, c.forms-test.false)))))

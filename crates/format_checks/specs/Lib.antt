@@ -1,0 +1,5 @@
+pub mod FormatFlags
+pub mod FormatLanguages
+pub mod FlaggedEntries
+pub mod FormatViews
+pub mod FormatFaults

@@ -1,0 +1,41 @@
+//! The checks of the formats of other languages than C: what is wrong with the forms of an entry that is flagged
+//! `python-format` or `python-brace-format` (GNU gettext manual, "Python Format Strings"; "PO Files").
+#![tactic(auto)]
+
+mod entry;
+mod faults;
+mod flags;
+mod languages;
+
+pub use entry::Entry;
+pub use faults::{add_faults, one_list};
+pub use flags::Flags;
+
+/// A language whose formats are checked.
+#[derive(Clone, Copy, Debug, PartialEq, Eq)]
+pub enum Language {
+    /// `python-format`: Python's `%` operator
+    Python,
+    /// `python-brace-format`: Python's `str.format`
+    PythonBrace,
+}
+
+/// What is wrong with a form whose original is a format.
+#[derive(Clone, Copy, Debug, PartialEq, Eq)]
+pub enum Difference {
+    /// The form is no format.
+    Invalid,
+    /// Its arguments don't agree with the original's.
+    Arguments,
+}
+
+/// A fault of one form.
+#[derive(Clone, Copy, Debug, PartialEq, Eq)]
+pub struct Fault {
+    /// The line of the entry's `msgstr`.
+    pub line: u32,
+    pub language: Language,
+    /// The index of the form, counted from 0.
+    pub form: usize,
+    pub difference: Difference,
+}
