@@ -1,16 +1,8 @@
 //! The first byte of a text.
-ghost use Rattle.std.specs.Prelude.{◌≡◌, [], ◌∷◌, MatchOption};
+ghost use Rattle.std.specs.Prelude.{◌≡◌, ◌∷◌, MatchOption};
 ghost use Rattle.format_arguments.specs.Bytes.{BeginsNot};
 
-/// Splits off the first byte.
-pub fn split_byte(text: &[u8]) -> Option<(u8, &[u8])>
-    ensures { MatchOption result (text.now ≡ []) (λ found. text.now ≡ found.0 ∷ found.1.now) }
-{
-    match text {
-        [] => None,
-        [byte, rest @ ..] => Some((*byte, rest)),
-    }
-}
+use byte_text::split_byte;
 
 /// What follows this byte, if the text begins with it.
 pub fn after_byte(text: &[u8], byte: u8) -> Option<&[u8]>

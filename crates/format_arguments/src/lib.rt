@@ -15,7 +15,7 @@ mod kinds;
 mod text;
 
 pub use agreement::{agrees, is_consistent, lenient_kinds, strict_kinds};
-pub use bytes::{after_byte, split_byte};
+pub use bytes::after_byte;
 pub use text::next_directive;
 
 /// The kind of an argument, as GNU gettext tells them apart.

@@ -6,7 +6,8 @@ ghost use Rattle.std.specs.Char.{is_ascii_digit};
 ghost use Rattle.format_arguments.specs.Bytes.{behind};
 ghost use Rattle.python_brace_format.specs.BraceFields as spec;
 
-use format_arguments::{after_byte, split_byte};
+use byte_text::split_byte;
+use format_arguments::after_byte;
 
 fn is_letter(byte: u8) -> bool
     ensures { result ≡ spec.is_letter byte }

@@ -7,7 +7,8 @@ ghost use Rattle.python_format.specs.PythonScanning.{directive_view};
 use crate::parts::{
     Amount, kind_of, read_amount, read_name, read_precision, skip_flags, skip_modifier,
 };
-use format_arguments::{Kind, split_byte};
+use byte_text::split_byte;
+use format_arguments::Kind;
 
 #[derive(Clone, Copy)]
 pub(crate) struct Directive<'a> {

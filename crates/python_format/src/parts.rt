@@ -9,7 +9,8 @@ ghost use Rattle.python_format.specs.PythonPieces.{AmountAt, IsBalanced, NameAt,
 ghost use Rattle.python_format.specs.PythonPieces.{close_parenthesis, is_flag, is_modifier, is_zero};
 ghost use Rattle.python_format.specs.PythonPieces as pieces;
 
-use format_arguments::{Kind, after_byte, split_byte};
+use byte_text::split_byte;
+use format_arguments::{Kind, after_byte};
 
 /// How a width or a precision is given.
 #[derive(Clone, Copy)]
