@@ -20,7 +20,7 @@ import kobdzila
 import proxies
 import servers
 from cases import LogCase
-from kobdzila.fleet import Behind, Difference, Follower, Log, NoLog, Unanswered, _connect, _player
+from kobdzila.fleet import Behind, Difference, Follower, Log, NoLog, Unanswered, _connect, _player, _report
 from stores import NO_SESSION, Catalogues, has_catsession, loads, mo, until
 
 SLOW = 3.0  # seconds that a busy machine may add
@@ -121,7 +121,7 @@ class HostsTest(LogCase):
                 self.assertEqual(log.publish(loads(1)), 2)
             with Log(f"host=127.0.0.1 {secure}") as log, self.assertRaisesRegex(psycopg.OperationalError, "certificate"):
                 log.status()
-            self.assertTrue(_connect.is_there(_connect.Place("localhost", "127.0.0.1", str(server.port)), 10))
+            self.assertTrue(_connect.is_there(_connect.Place("localhost", "127.0.0.1", str(server.port)), 10, -1))
 
     def test_the_server_watches_too(self) -> None:
         with _connect.connect(servers.shared().address, "any") as connection:
@@ -168,6 +168,33 @@ class SilenceTest(LogCase):
             follower.close()
             self.assertLess(time.monotonic() - begun, SLOW + 1)
             until(lambda: not follower._thread.is_alive(), SLOW + 1)
+            self.proxy.thaw()
+
+    def test_close_while_a_silent_server_is_asked(self) -> None:
+        """A follower that asks by another connection whether its server is there ends as soon as others."""
+        with (mock.patch.multiple(_connect, PROBE_AFTER=0.3, PROBE_WITHIN=60.0),
+              mock.patch.object(_player, "BEAT_WITHIN", 60.0), mock.patch.object(_report, "REPORT_WITHIN", 60.0)):
+            follower = Follower(Catalogues(), self.proxy.address, "m", look_each=0.3)
+            follower.start()
+            follower.wait_for(self.log.publish(loads(1)), 100)
+            self.proxy.freeze()
+            time.sleep(3)
+            begun = time.monotonic()
+            follower.close()
+            self.assertLess(time.monotonic() - begun, SLOW + 1)
+            until(lambda: not follower._thread.is_alive(), SLOW + 1)
+            self.proxy.thaw()
+
+    def test_a_wait_for_machines_is_kept(self) -> None:
+        """By a connection that falls silent, and by a new one."""
+        with Log(self.proxy.address) as log:
+            self.assertEqual(log.wait_for(0, within=60), [])
+            self.proxy.freeze()
+            for _ in range(2):
+                begun = time.monotonic()
+                with self.assertRaises(psycopg.OperationalError):
+                    log.wait_for(1, within=0.5)
+                self.assertLess(time.monotonic() - begun, SLOW + 1)
             self.proxy.thaw()
 
     def test_a_process_of_the_server_that_hangs(self) -> None:

@@ -102,7 +102,8 @@ class Watched(psycopg.Connection[Any]):
                 late = "in time" if now >= self.end else f"in {now - begun:.1f} s"
                 raise Silent(f"{self.place} hasn't answered {late}")
             elif now >= probe_at:
-                if not is_there(self.place, min(PROBE_WITHIN, max(0.0, end - now))) and time.monotonic() < end:
+                within = min(PROBE_WITHIN, max(0.0, end - now))
+                if not is_there(self.place, within, self.wake) and time.monotonic() < end:
                     note_silence(self.place)
                     raise Silent(f"{self.place} says nothing")
                 probe_at = time.monotonic() + PROBE_AFTER
@@ -275,19 +276,39 @@ def note_silence(place: Place) -> None:
     silent[place.host or place.address, place.port] = time.monotonic()
 
 
-def is_there(place: Place, within: float) -> bool:
-    """Whether a server responds when it is asked whether it supports TLS."""
-    port = place.port or "5432"
-    path = place.host or "/var/run/postgresql"
+def is_there(place: Place, within: float, wake: int) -> bool:
+    """Whether a server responds when it is asked whether it supports TLS. True if the wait was ended before that."""
+    end = time.monotonic() + within
     try:
-        if place.address:
-            made = socket.create_connection((place.address, int(port)), max(0.01, within))
-        else:
-            made = socket.socket(socket.AF_UNIX)
-            made.settimeout(max(0.01, within))
-            made.connect(f"{path}/.s.PGSQL.{port}" if path[0] == "/" else f"\0{path[1:]}/.s.PGSQL.{port}")
-        with made:
-            made.sendall(SSL_REQUEST)
+        with begun_to(place, within) as made:
+            for wanted in (2, 1):  # (it is connected, and has answered)
+                ready, is_woken = polled(made.fileno(), wanted, wake, max(0.0, end - time.monotonic()))
+                if is_woken or not ready:
+                    return is_woken
+                if wanted == 2:
+                    made.sendall(SSL_REQUEST)
             return bool(made.recv(1))
     except (OSError, ValueError):
         return False
+
+
+def begun_to(place: Place, within: float) -> socket.socket:
+    """Return a socket that doesn't block, and has begun to connect to a server."""
+    port = place.port or "5432"
+    if place.address:
+        family, kind, _, _, address = socket.getaddrinfo(
+            place.address, int(port), type=socket.SOCK_STREAM, flags=socket.AI_NUMERICHOST)[0]
+        made = socket.socket(family, kind)
+        made.setblocking(False)
+        made.connect_ex(address)
+        return made
+    path = place.host or "/var/run/postgresql"
+    made = socket.socket(socket.AF_UNIX)
+    try:  # (where its queue is full, only a call that blocks waits for room)
+        made.settimeout(max(0.01, within))
+        made.connect(f"{path}/.s.PGSQL.{port}" if path[0] == "/" else f"\0{path[1:]}/.s.PGSQL.{port}")
+        made.setblocking(False)
+    except OSError:
+        made.close()
+        raise
+    return made

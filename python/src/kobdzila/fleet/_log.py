@@ -4,6 +4,7 @@ from __future__ import annotations
 import contextlib
 import datetime
 import hashlib
+import math
 import os
 import re
 import threading
@@ -33,6 +34,7 @@ OTHER_LAYOUT = (errors.UndefinedTable, errors.UndefinedColumn)
 DAY = 86_400.0
 ANSWER_WITHIN = 30.0  # seconds for what only reads
 GRACE = 0.4  # seconds by which a server may be later than its own limits
+LOOK_WITHIN = 0.5  # seconds that a look at the machines has, even if less is left
 SILENT = 30.0  # seconds without a report, which comes every ten
 PART = 4 << 20  # bytes of files that are sent in one statement
 MOST_CONNECTIONS = 4  # of the threads that share a Log
@@ -253,11 +255,11 @@ class Log(Closing):
         """Wait up to `within` seconds until all machines show a version, and return those that don't.
 
         A number is a version of the log's epoch. Machines whose last report is older than `seen_within` seconds don't
-        count.
+        count. Raises psycopg.Error if the server can't be asked, or hasn't answered by then.
         """
         end, wanted = time.monotonic() + within, version_of(version)
         while True:
-            found = self.status()
+            found = self._once(status_of, max(end, time.monotonic() + LOOK_WITHIN))
             if wanted.epoch and wanted.epoch != found.version.epoch:
                 raise ValueError(f"the log is in epoch {found.version.epoch}, and not in {wanted.epoch}")
             lack = [it for it in found.machines if it.seen <= seen_within
@@ -335,9 +337,9 @@ class Log(Closing):
             return why
         return trouble
 
-    def _once(self, work: Callable[[Watched], Answer]) -> Answer:
+    def _once(self, work: Callable[[Watched], Answer], end: float = math.inf) -> Answer:
         """Do work that may be repeated. A connection that was lost since its last use is replaced."""
-        end = time.monotonic() + ANSWER_WITHIN
+        end = min(end, time.monotonic() + ANSWER_WITHIN)
         while True:
             was_used = bool(self._free)
             try:
