@@ -163,6 +163,25 @@ static bool is_well_formed(const uint8_t *bytes, size_t size) {
     return has_hash_table(&file, strings);
 }
 
+size_t LLVMFuzzerMutate(uint8_t *data, size_t size, size_t most) __attribute__((weak));
+size_t LLVMFuzzerCustomMutator(uint8_t *data, size_t size, size_t most, unsigned seed);
+
+/* Half of the changes are libFuzzer's own. The others move one word of the file by one or two, and most words are
+ * offsets and lengths: so strings and tables end next to the end of the file, which they rarely do by chance. */
+size_t LLVMFuzzerCustomMutator(uint8_t *data, size_t size, size_t most, unsigned seed) {
+    static const uint32_t steps[] = { 1, 2, UINT32_MAX, UINT32_MAX - 1 };
+    if (size <= LEAST_FILE || seed % 2 == 0)
+        return LLVMFuzzerMutate(data, size, most);
+    struct file file = { data + 1, size - 1, false };
+    has_header(&file);
+    uint64_t place = seed / 8 % (file.len / 4) * 4;
+    uint32_t moved = word(&file, place) + steps[seed / 2 % 4];
+    if (file.is_swapped)
+        moved = __builtin_bswap32(moved);
+    memcpy(data + 1 + place, &moved, sizeof moved);
+    return size;
+}
+
 /* Take the msgids that the file seems to have, and some that it hasn't. */
 static void find_ids(struct ids *ids, const uint8_t *bytes, size_t size) {
     static const char *const others[] = { "", "hi", "file", "no such message", "menu\4Open" };
