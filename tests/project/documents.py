@@ -651,6 +651,17 @@ def sentences():
     return wrong
 
 
+def reports_can_arrive():
+    """SECURITY.md names no address that receives no mail (RFC 2606), and says which versions get fixes, and when"""
+    text, address = read("SECURITY.md"), r"[\w.+-]+@[\w.-]+\.(?:example|invalid|localhost|test)\b"
+    wrong = [f"{it} receives no mail" for it in re.findall(address, text)]
+    wanted = ("## Reporting a vulnerability", "### Which versions get fixes", "### How a fix and an advisory are made")
+    wrong += [f"no heading {it!r}" for it in wanted if f"\n{it}\n" not in text]
+    if not re.search(r"^\| within .* \| an answer", text, re.MULTILINE):
+        wrong.append("it doesn't say when we answer")
+    return wrong
+
+
 RULES = (
     kinds_of_texts,
     kinds_of_files,
@@ -686,6 +697,7 @@ RULES = (
     promise,
     functions_that_wait,
     sentences,
+    reports_can_arrive,
 )
 
 
