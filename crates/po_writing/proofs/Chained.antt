@@ -6,7 +6,7 @@ use Rattle.std.specs.List.{AllByRecursion, flat_map, take_while}
 use Rattle.std.specs.Str.{IsUtf8}
 use Rattle.std.specs.Fmt.{decimal}
 use Rattle.message.specs.Message.{Entry, first_form, LacksByte}
-use Rattle.po_text.specs.Chain.{Chain}
+use Rattle.byte_text.specs.Chain.{Chain}
 use Rattle.po_text.specs.Spelling.{Token, Context, Id, Plural, Str, Number, Piece, White, Word, OpenBracket}
 use Rattle.po_text.specs.Spelling.{CloseBracket, Quoted, PieceAt, IsLawful, is_word_byte, word_token}
 use Rattle.po_text.proofs.Chains.{Chain-append}

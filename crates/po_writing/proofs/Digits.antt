@@ -9,7 +9,8 @@ use Rattle.std.proofs.lemmas.Bool.Decides.{nat_tests}
 use Rattle.std.proofs.lemmas.Fmt.{decimal_by_steps, length-decimal-le}
 use Rattle.std.proofs.lemmas.Nat.{div-add-mod'}
 use Rattle.std.proofs.lemmas.List.Sums.{take_while-cons}
-use Rattle.po_text.specs.Spelling.{Number, is_word_byte, word_token, decimal_value}
+use Rattle.byte_text.specs.Decimal.{decimal_value}
+use Rattle.po_text.specs.Spelling.{Number, is_word_byte, word_token}
 
 -- digits with this value
 record AreDigits (n : ℕ) (ds : List ℕ) : Type 0 where

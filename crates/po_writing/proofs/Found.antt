@@ -4,7 +4,7 @@ use Rattle.std.proofs.Common.{refl, sym, ap, ◌∙◌, subst, arith}
 use Rattle.std.specs.Prelude.{Contains, IfSome, option_map}
 use Rattle.std.specs.List.{AllByRecursion, flat_map, concat}
 use Rattle.message.specs.Message.{Entry, first_form, LacksByte, HasForms}
-use Rattle.po_text.specs.Chain.{Chain}
+use Rattle.byte_text.specs.Chain.{Chain}
 use Rattle.po_text.specs.Spelling.{Token, Context, Id, Plural, Str, Number, Open, Close, Text, Piece, White, Comment}
 use Rattle.po_text.specs.Spelling.{Word}
 use Rattle.po_text.specs.Spelling.{OpenBracket, CloseBracket, Quoted, Lexeme, lexemes, newlines}
