@@ -189,8 +189,9 @@ static void check_refusal(kob_refusal why, bool is_po, const uint8_t *bytes, siz
     for (size_t place = 0; place < len; place++)
         lines += bytes[place] == '\n';
     bool is_mo_fault = why.fault >= KOB_MO_TOO_LARGE && why.fault <= KOB_MO_DEPENDENT_SWOLLEN;
-    bool is_po_fault = why.fault >= KOB_PO_TOO_LARGE && why.fault <= KOB_PO_NEWLINE_MISMATCH;
-    REQUIRE(is_po ? is_po_fault || why.fault == KOB_MO_SWOLLEN : is_mo_fault);
+    bool is_po_fault = (why.fault >= KOB_PO_TOO_LARGE && why.fault <= KOB_PO_NEWLINE_MISMATCH) ||
+                       why.fault == KOB_PO_NO_CHARACTER || why.fault == KOB_MO_SWOLLEN;
+    REQUIRE(is_po ? is_po_fault : is_mo_fault);
     REQUIRE(why.line <= lines && (is_po || !why.line) && *kob_fault_text(why.fault));
 }
 
