@@ -171,6 +171,7 @@ def look_at_folders() -> None:
 
 
 def main() -> None:
+    signal.signal(signal.SIGINT, signal.SIG_DFL)  # (ignored in a background job of a shell, and so in its children)
     shutil.rmtree(ROOM, ignore_errors=True)
     ROOM.mkdir()
     watching = Watching()
