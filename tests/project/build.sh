@@ -113,9 +113,10 @@ tell 'an unknown target is refused' stops_with 1 'usage: tools/build'
 
 echo '// more' >> "$top/crates/low/src/lib.rt"
 : > "$NOTES"
-# (a shell gives its children in the background no interrupt, so Python starts the tool)
+# (a shell gives its children in the background no interrupt, so Python starts the tool, with the default of SIGINT)
 SLOW=20 timeout 60 python3 - "$top/tools/build" > "$room/said" 2>&1 << 'END'
 import signal, subprocess, sys, time
+signal.signal(signal.SIGINT, signal.SIG_DFL)
 with subprocess.Popen([sys.argv[1]]) as run:
     time.sleep(2)
     run.send_signal(signal.SIGINT)
