@@ -15,7 +15,7 @@
 #                   is given. PROGRAM_PREFIX=kob- names them kob-msgfmt and so on, next to GNU's; kob-compile keeps its
 #                   name. What is in C is installed, too, if it was built; `make install_library` installs the library
 #                   alone. LIBDIR is its folder (PREFIX/lib): LIBDIR=/usr/lib64, or /usr/lib/$(cc -print-multiarch) on
-#                   Debian
+#                   Debian. ZSHDIR is that of zsh's functions (PREFIX/share/zsh/site-functions)
 #   make dist       packs build/dist/kobdzila-VERSION-MACHINE-linux.tar.gz of what was built, with static programs
 #   make sign KEY=FILE   signs build/dist/SHA256SUMS with an SSH key; KEY=NAME does with a key of gpg's
 #   make wheel      packs the Python package into build/dist, of the library that was built; it needs Python's headers
@@ -55,7 +55,10 @@ COMPLETED = msgfmt msgfmt-or-gnu catsession
 bindir = $(PREFIX)/bin
 mandir = $(PREFIX)/share/man
 docdir = $(PREFIX)/share/doc/$(DOCUMENTS)
-completiondir = $(PREFIX)/share/bash-completion/completions
+bashdir = $(PREFIX)/share/bash-completion/completions
+zshdir = $(PREFIX)/share/zsh/site-functions
+ZSHDIR = $(zshdir)
+fishdir = $(PREFIX)/share/fish/vendor_completions.d
 
 includedir = $(PREFIX)/include
 # (the library that is put before a program's own has a folder of its own, where no linker looks for one)
@@ -64,7 +67,8 @@ SHARED = libkobdzila.so.0
 PRELOADED = libkobdzila-intl.so
 
 .PHONY: all $(PROGRAMS) programs examples compiled_examples driver library check fuzz bench dist sign wheel html deb
-.PHONY: verify install install_program install_compiler install_library uninstall uninstall_library clean
+.PHONY: verify install install_program install_compiler install_completions install_library uninstall uninstall_library
+.PHONY: uninstall_completions clean
 
 all:
 	@tools/build
@@ -130,7 +134,7 @@ verify:
 # (the pages and the completions name the programs and the documents as they are installed; without a program `strip`
 # the programs and libraries keep their symbols. Programs that were linked without libraries are the ones to install)
 page = tools/installed_page '$(PREFIX)' '$(PROGRAM_PREFIX)' '$(DOCUMENTS)'
-completions = sed 's|@PREFIX@|$(PROGRAM_PREFIX)|g' tools/completion
+completions = tools/completion/write
 to = $(DESTDIR)
 strip = ! command -v $(STRIP) > /dev/null || $(STRIP)
 
@@ -142,26 +146,33 @@ install: $(PROGRAMS:%=bin/%)
 	if [ -f bin/$(COMPILER) ]; then $(MAKE) -s install_compiler; fi
 	if [ -f build/lib/$(SHARED) ]; then $(MAKE) -s install_library; fi
 
-# one program, $(NAME), with its page and its completion
+# one program, $(NAME), with its page and its completions
 install_program:
-	install -d "$(to)$(bindir)" "$(to)$(mandir)/man1" "$(to)$(completiondir)"
+	install -d "$(to)$(bindir)" "$(to)$(mandir)/man1"
 	made=$(STATIC)/$(NAME); [ -n "$(STATIC)" ] && [ -x $$made ] || made=bin/$(NAME); \
 	install -m 755 $$made "$(to)$(bindir)/$(PROGRAM_PREFIX)$(NAME)"
 	$(strip) "$(to)$(bindir)/$(PROGRAM_PREFIX)$(NAME)"
 	$(page) docs/man/$(NAME).1 > "$(to)$(mandir)/man1/$(PROGRAM_PREFIX)$(NAME).1"
 	chmod 644 "$(to)$(mandir)/man1/$(PROGRAM_PREFIX)$(NAME).1"
 	case " $(COMPLETED) " in *" $(NAME) "*) \
-	  $(completions) > "$(to)$(completiondir)/$(PROGRAM_PREFIX)$(NAME)" && \
-	  chmod 644 "$(to)$(completiondir)/$(PROGRAM_PREFIX)$(NAME)" ;; esac
+	  $(MAKE) -s install_completions NAME=$(NAME) AS="$(PROGRAM_PREFIX)$(NAME)" ;; esac
 
 # the program whose name has no further prefix
 install_compiler:
-	install -d "$(to)$(bindir)" "$(to)$(mandir)/man1" "$(to)$(completiondir)"
+	install -d "$(to)$(bindir)" "$(to)$(mandir)/man1"
 	install -m 755 bin/$(COMPILER) "$(to)$(bindir)/$(COMPILER)"
 	$(strip) "$(to)$(bindir)/$(COMPILER)"
 	$(page) docs/man/$(COMPILER).1 > "$(to)$(mandir)/man1/$(COMPILER).1"
-	$(completions) > "$(to)$(completiondir)/$(COMPILER)"
-	chmod 644 "$(to)$(mandir)/man1/$(COMPILER).1" "$(to)$(completiondir)/$(COMPILER)"
+	chmod 644 "$(to)$(mandir)/man1/$(COMPILER).1"
+	$(MAKE) -s install_completions NAME=$(COMPILER) AS=$(COMPILER)
+
+# the completions of one program, $(NAME), which is called $(AS)
+install_completions:
+	install -d "$(to)$(bashdir)" "$(to)$(ZSHDIR)" "$(to)$(fishdir)"
+	$(completions) bash $(NAME) '$(PROGRAM_PREFIX)' > "$(to)$(bashdir)/$(AS)"
+	$(completions) zsh $(NAME) '$(PROGRAM_PREFIX)' > "$(to)$(ZSHDIR)/_$(AS)"
+	$(completions) fish $(NAME) '$(PROGRAM_PREFIX)' > "$(to)$(fishdir)/$(AS).fish"
+	chmod 644 "$(to)$(bashdir)/$(AS)" "$(to)$(ZSHDIR)/_$(AS)" "$(to)$(fishdir)/$(AS).fish"
 
 install_library:
 	install -d "$(to)$(LIBDIR)/pkgconfig" "$(to)$(preloaddir)" "$(to)$(includedir)" "$(to)$(mandir)/man3"
@@ -187,12 +198,16 @@ uninstall_library:
 	rmdir "$(to)$(preloaddir)" 2> /dev/null || true
 
 uninstall: uninstall_library
-	rm -f "$(to)$(bindir)/$(COMPILER)" "$(to)$(mandir)/man1/$(COMPILER).1" "$(to)$(completiondir)/$(COMPILER)"
+	rm -f "$(to)$(bindir)/$(COMPILER)" "$(to)$(mandir)/man1/$(COMPILER).1"
+	$(MAKE) -s uninstall_completions AS=$(COMPILER)
 	for name in $(PROGRAMS) $(DRIVER); do rm -f "$(to)$(bindir)/$(PROGRAM_PREFIX)$$name"; done
 	for name in $(PROGRAMS) $(DRIVER); do rm -f "$(to)$(mandir)/man1/$(PROGRAM_PREFIX)$$name.1"; done
-	for name in $(COMPLETED); do rm -f "$(to)$(completiondir)/$(PROGRAM_PREFIX)$$name"; done
+	for name in $(COMPLETED); do $(MAKE) -s uninstall_completions AS="$(PROGRAM_PREFIX)$$name" || exit 1; done
 	for page in $(notdir $(wildcard docs/reference/*.md)); do rm -f "$(to)$(docdir)/reference/$$page"; done
 	rmdir "$(to)$(docdir)/reference" "$(to)$(docdir)" 2> /dev/null || true
+
+uninstall_completions:
+	rm -f "$(to)$(bashdir)/$(AS)" "$(to)$(ZSHDIR)/_$(AS)" "$(to)$(fishdir)/$(AS).fish"
 
 clean:
 	rm -rf bin build crates/*/out

@@ -22,8 +22,9 @@ files=$(find bin include lib share ! -type d | LC_ALL=C sort)
 # target FILE: prints where a file of the tarball is installed
 target() {
   case $1 in
-    */kob-compile | */kob-compile.1) printf '%s\n' "$prefix/$1" ;; # (its name stays)
-    bin/* | share/man/man1/* | share/bash-completion/*) printf '%s\n' "$prefix/${1%/*}/$as${1##*/}" ;;
+    */kob-compile | */kob-compile.* | */_kob-compile) printf '%s\n' "$prefix/$1" ;; # (its name stays)
+    share/zsh/*) printf '%s\n' "$prefix/${1%/*}/_$as${1##*/_}" ;;
+    bin/* | share/man/man1/* | share/bash-completion/* | share/fish/*) printf '%s\n' "$prefix/${1%/*}/$as${1##*/}" ;;
     share/doc/*) printf '%s\n' "$prefix/share/doc/$as${1#share/doc/}" ;;
     *) printf '%s\n' "$prefix/$1" ;;
   esac
@@ -47,7 +48,7 @@ write() {
   rm -f "$2"
   case $1 in
     */man/*) tools/installed_page "$prefix" "$as" "${as}kobdzila" "$1" > "$2" ;;
-    */completions/*) sed "s|@PREFIX@|$as|g" "$1" > "$2" ;;
+    */completions/* | */site-functions/* | */vendor_completions.d/*) sed "s|@PREFIX@|$as|g" "$1" > "$2" ;;
     *) cp -P "$1" "$2" ;;
   esac || return
   [ -h "$2" ] || chmod "$(mode "$1")" "$2"

@@ -47,7 +47,17 @@ LEAST_GLIBC = 17  # no Linux that runs Python 3.10 has an older one than 2.17
 FLAGS = ("-std=c11", "-O2", "-fPIC", "-Wall", "-Wextra", "-Werror", "-fvisibility=hidden")
 LINKED = ("-shared", "-Wl,--exclude-libs,ALL", "-Wl,-z,text", "-Wl,-z,relro", "-Wl,-z,now", "-Wl,--build-id=none")
 OF_PACKAGE = (".py", ".pyi", ".typed")  # the endings of its files
-OUTSIDE = ("VERSION", "include/kobdzila.h", "tools/hardening", "docs/man/kob-fleet.1", "packaging/systemd")  # of python/
+# (outside of python/: files, and folders of services)
+OUTSIDE = (
+    "VERSION", "include/kobdzila.h", "tools/hardening", "tools/completion/words", "tools/completion/write",
+    "docs/man/kob-fleet.1", "packaging/systemd",
+)
+# where the completions of kob-fleet belong below the prefix of an installation
+COMPLETIONS = {
+    "bash": "bash-completion/completions/kob-fleet",
+    "zsh": "zsh/site-functions/_kob-fleet",
+    "fish": "fish/vendor_completions.d/kob-fleet.fish",
+}
 
 
 class Trouble(Exception):
@@ -113,6 +123,11 @@ def manual_page() -> str:
     return text.replace(" Kobdzila ", f' "Kobdzila {VERSION}" ', 1)
 
 
+def completions(shell: str) -> str:
+    """Return the completions of kob-fleet for a shell."""
+    return run(sys.executable, "-B", str(TOP / "tools" / "completion" / "write"), shell, "kob-fleet")
+
+
 # --- what pyproject.toml says ------------------------------------------------------------------------------------------
 
 
@@ -152,12 +167,14 @@ def members(extension: bytes, tag: str) -> dict[str, bytes]:
         with tempfile.TemporaryDirectory() as room:
             run("strip", "-o", f"{room}/catsession", str(program))
             files["kobdzila/bin/catsession"] = Path(room, "catsession").read_bytes()
-    info = f"kobdzila-{VERSION}.dist-info"
+    info, shared = f"kobdzila-{VERSION}.dist-info", f"kobdzila-{VERSION}.data/data/share"
     files[f"{info}/METADATA"] = metadata()
     files[f"{info}/entry_points.txt"] = entry_points()
-    files[f"kobdzila-{VERSION}.data/data/share/man/man1/kob-fleet.1"] = manual_page().encode()
+    files[f"{shared}/man/man1/kob-fleet.1"] = manual_page().encode()
+    for shell, place in COMPLETIONS.items():
+        files[f"{shared}/{place}"] = completions(shell).encode()
     for path in (TOP / "packaging" / "systemd").glob("*.service"):
-        files[f"kobdzila-{VERSION}.data/data/share/kobdzila/systemd/{path.name}"] = path.read_bytes()
+        files[f"{shared}/kobdzila/systemd/{path.name}"] = path.read_bytes()
     files[f"{info}/WHEEL"] = (
         f"Wheel-Version: 1.0\nGenerator: kobdzila ({VERSION})\nRoot-Is-Purelib: false\nTag: {tag}\n".encode()
     )
@@ -236,7 +253,7 @@ def build_sdist(sdist_directory: str, config_settings: object = None) -> str:
         for name, data in sorted(sources().items()):
             member = tarfile.TarInfo(f"{room}/{name}")
             member.size, member.mtime = len(data), made()
-            member.mode = 0o755 if name.endswith(("/hardening", "/catsession")) else 0o644
+            member.mode = 0o755 if name.endswith(("/hardening", "/write", "/catsession")) else 0o644
             archive.addfile(member, io.BytesIO(data))
     Path(sdist_directory).mkdir(parents=True, exist_ok=True)
     Path(sdist_directory, f"{room}.tar.gz").write_bytes(packed.getvalue())

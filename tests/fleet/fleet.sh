@@ -38,8 +38,11 @@ if ! said=$(PYTHON=$python tools/wheel "$room/wheel" 2>&1) ||
 fi
 export PATH="$room/venv/bin:$top/bin:$PATH" PYTHONDONTWRITEBYTECODE=1
 if said=$(kob-fleet --help 2>&1) && [ "$(kob-fleet --version)" = "kob-fleet (kobdzila) $(cat VERSION)" ] &&
-   grep -q "Kobdzila $(cat VERSION)" "$room/venv/share/man/man1/kob-fleet.1"; then
-  ok 'many machines, kob-fleet and its manual page in the wheel'
+   grep -q "Kobdzila $(cat VERSION)" "$room/venv/share/man/man1/kob-fleet.1" &&
+   grep -qx 'complete -F _kob_fleet kob-fleet' "$room/venv/share/bash-completion/completions/kob-fleet" &&
+   grep -qx '#compdef kob-fleet' "$room/venv/share/zsh/site-functions/_kob-fleet" &&
+   grep -q '^complete -c kob-fleet ' "$room/venv/share/fish/vendor_completions.d/kob-fleet.fish"; then
+  ok 'many machines, kob-fleet, its manual page and its completions in the wheel'
 else
   failed 'many machines, kob-fleet in the wheel' "$(head -c 300 <<< "$said")"
 fi

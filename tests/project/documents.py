@@ -6,9 +6,12 @@ limits with the code. Prints a line `ok documents: NAME` or `FAILED documents: N
 
 FOLDER is the top of the repository. MSGFMT and CATSESSION are the built programs, whose help is then looked at, too.
 """
+import argparse
+import importlib
 import re
 import subprocess
 import sys
+import types
 from pathlib import Path
 
 TOP = Path(sys.argv[1] if len(sys.argv) > 1 else ".")
@@ -32,7 +35,7 @@ TROUBLES = "docs/guide/troubleshooting.md"
 DRIVER_OPTIONS = "c/driver/or_gnu_words.c"
 COMPILER_OPTIONS = "c/compile/options.c"
 HEADER = "include/kobdzila.h"
-COMPLETION = "tools/completion"
+COMPLETION = "tools/completion/words"
 LEAST_LIMIT = 20_000_000  # a number of the documents from here on is one of the limits
 
 
@@ -188,6 +191,14 @@ def functions_of_the_library():
             + differences(LIBRARY_PAGE, described, wanted) + differences("c/library/kobdzila.map", listed, wanted))
 
 
+def completed(program, with_value=False):
+    """The options of a program that shells complete, all of them or those with a value."""
+    lines = re.search(rf"^@?{program}:.*\n((?:-.*\n)+)", read(COMPLETION), re.M)[1].splitlines()
+    words = [line.partition("  ")[0] for line in lines]
+    return {option for it in words if not with_value or re.search(r"[=A-Z{]", re.sub(r"-\w\b", "", it))
+            for option in options_in(it)}
+
+
 def options_of_the_driver():
     """the options of GNU msgfmt that msgfmt-or-gnu knows: code, man page, completions"""
     code = read(DRIVER_OPTIONS)
@@ -195,12 +206,34 @@ def options_of_the_driver():
     wanted |= {f"-{letter}" for letter in re.search(r'letters\[\] = "([^"]*)"', code)[1] if letter != ":"}
     table = re.search(r"^option of GNU msgfmt.*?^\.TE$", read(DRIVER_PAGE), re.M | re.S)[0].replace("\\-", "-")
     by_letters = {"--language", "--locale", "--resource", "--properties-input"}  # as the page names them
-    completed = re.search(r"msgfmt_or_gnu\(\).*?local options='([^']*)'", read(COMPLETION), re.S)[1]
-    in_page, in_completion = (
-        set(re.findall(r"(?<![\w-])(--?[A-Za-z][\w-]*)", text)) for text in (re.sub(r"\\f[A-Z]", " ", table), completed)
-    )
-    return differences(DRIVER_PAGE, in_page | by_letters, wanted) + differences(
-        f"{COMPLETION}, msgfmt-or-gnu", in_completion - {"--summary"}, wanted)
+    in_page = options_in(re.sub(r"\\f[A-Z]", " ", table))
+    with_value = {f"--{name}" for name in re.findall(r'^    \{"([a-z0-9-]+)", (?:required|optional)_', code, re.M)}
+    with_value |= {f"-{letter}" for letter in re.findall(r"([a-zA-Z]):", re.search(r'letters\[\] = "([^"]*)"', code)[1])}
+    return (differences(DRIVER_PAGE, in_page | by_letters, wanted)
+            + differences(f"{COMPLETION}, msgfmt-or-gnu", completed("msgfmt-or-gnu") - {"--summary"}, wanted)
+            + differences(f"{COMPLETION}, msgfmt-or-gnu, values", completed("msgfmt-or-gnu", True) - {"--summary"}, with_value))
+
+
+def parser_of_the_fleet():
+    """The parser of kob-fleet, without the package around it, which needs its extension."""
+    for name in ("kobdzila", "kobdzila.fleet"):
+        sys.modules[name] = types.ModuleType(name)
+        sys.modules[name].__path__ = [str(TOP / "python/src" / name.replace(".", "/"))]
+    sys.modules["kobdzila._kobdzila"] = types.SimpleNamespace(version="")
+    return importlib.import_module("kobdzila.fleet._command").parser()
+
+
+def options_of_the_fleet():
+    """the commands and options of kob-fleet: code, completions"""
+    parser = parser_of_the_fleet()
+    commands = next(it.choices for it in parser._actions if isinstance(it, argparse._SubParsersAction))
+    listed = set(re.findall(r"^kob-fleet (\w+):", read(COMPLETION), re.M))
+    found = differences(f"{COMPLETION}, the commands of kob-fleet", listed, set(commands))
+    for name, own in {"kob-fleet": parser, **{f"kob-fleet {it}": commands[it] for it in commands if it in listed}}.items():
+        for with_value in (False, True):
+            wanted = {option for it in own._actions for option in it.option_strings if it.nargs != 0 or not with_value}
+            found += differences(f"{COMPLETION}, {name}", completed(name, with_value), wanted)
+    return found
 
 
 def options_of_the_compiler():
@@ -212,10 +245,13 @@ def options_of_the_compiler():
     heads = re.findall(r'^    "  +(-.*?)(?:  |\\n)', told, re.M)
     manual = re.search(r"^\.SH OPTIONS\n(.*?)^\.SH JSON", read(COMPILER_PAGE), re.M | re.S)[1].replace("\\-", "-")
     in_page = re.sub(r"\\f[A-Z]", "", " ".join(re.findall(r"^\.TP\n\.BI?R? (.*)$", manual, re.M))).replace('"', " ")
-    completed = re.search(r"kob_compile\(\).*?local options='([^']*)'", read(COMPLETION), re.S)[1]
-    found = [(f"{COMPILER_OPTIONS}, its help", " ".join(heads)), (COMPILER_PAGE, in_page),
-             (f"{COMPLETION}, kob-compile", completed)]
-    return [why for name, text in found for why in differences(name, options_in(text), wanted)]
+    found = [(f"{COMPILER_OPTIONS}, its help", " ".join(heads)), (COMPILER_PAGE, in_page)]
+    letters = re.search(r'getopt_long\(count, words, "([^"]*)"', code)[1]
+    with_value = {f"--{name}" for name in re.findall(r'^    \{"([a-z-]+)", required_', code, re.M)}
+    with_value |= {f"-{letter}" for letter in re.findall(r"([a-zA-Z]):", letters)}
+    return ([why for name, text in found for why in differences(name, options_in(text), wanted)]
+            + differences(f"{COMPLETION}, kob-compile", completed("kob-compile"), wanted)
+            + differences(f"{COMPLETION}, kob-compile, values", completed("kob-compile", True), with_value))
 
 
 def warnings_of_the_driver():
@@ -270,8 +306,7 @@ def options():
     usage = re.search(r"((?:^    .*\n)+)", read(COMMAND), re.M)[1]
     manual = re.search(r"^\.SH OPTIONS\n(.*?)^\.PP\nOptions may", read(MSGFMT_PAGE), re.M | re.S)[1].replace("\\-", "-")
     heads = " ".join(re.findall(r"^\.TP\n\.BR? (.*)$", manual, re.M))
-    completed = re.search(r"local options='([^']*)'", read(COMPLETION))[1]
-    found = [(COMMAND, usage), (MSGFMT_PAGE, heads), (COMPLETION, completed)]
+    found = [(COMMAND, usage), (MSGFMT_PAGE, heads), (COMPLETION, " ".join(completed("msgfmt")))]
     if PROGRAM:
         found.append(("the help", " ".join(re.findall(r"^ +(-.*?)(?:  |$)", help_of(PROGRAM), re.M))))
     short = re.search(r"^\.SH SYNOPSIS\n(.*?)^\.SH", read(MSGFMT_PAGE), re.M | re.S)[1].replace("\\-", "-")
@@ -291,8 +326,8 @@ def options_of_a_session():
     wanted, manual = usage_of_a_session(), read(SESSION_PAGE).replace("\\-", "-")
     short = re.search(r"^\.SH SYNOPSIS\n(.*?)^\.SH", manual, re.M | re.S)[1]
     heads = " ".join(re.findall(r"^\.TP\n\.BI?R? (.*)$", manual.split(".SH EXIT")[0], re.M))
-    completed = re.search(r"compgen -W '(--workers[^']*)'", read(COMPLETION))[1]
-    found = [(f"{SESSION_PAGE}, its synopsis", short), (SESSION_PAGE, heads), (COMPLETION, completed)]
+    found = [(f"{SESSION_PAGE}, its synopsis", short), (SESSION_PAGE, heads),
+             (COMPLETION, " ".join(completed("catsession")))]
     if SESSION:
         found.append(("the help of catsession", help_of(SESSION)))
     if named := re.findall(r'"(--?[A-Za-z]+)"', code_of_a_session()):
@@ -671,6 +706,7 @@ RULES = (
     faults_of_the_header,
     functions_of_the_library,
     options_of_the_driver,
+    options_of_the_fleet,
     options_of_the_compiler,
     warnings_of_the_driver,
     lines_of_the_command,

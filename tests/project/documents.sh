@@ -88,12 +88,17 @@ docs/man/catsession.1^an MO file 268,435,456^an MO file 268,435,455
 docs/man/catsession.1^threads, 1 to 16;^threads, 1 to 17;
 docs/man/msgfmt-or-gnu.1^\-\-tcl^\-\-tk
 docs/man/kob-compile.1^.BI \-\-sarif^.BI \-\-log
-tools/completion^--use-fuzzy^--fuzzy
+tools/completion/words^--use-fuzzy^--fuzzy
 include/kobdzila.h^KOB_MO_ORDER = 9^KOB_MO_ORDER = 8
 c/library/kobdzila.c^"newlines differ"^"lines differ"
-tools/completion^'--workers --help --version -h -V'^'--workers --help --version -h'
-tools/completion^--stringtable-input^--stringtable
-tools/completion^--exclude=^--leave-out=
+tools/completion/words^-V --version                    Print^--version                       Print
+tools/completion/words^--stringtable-input^--stringtable
+tools/completion/words^--template=FILE^--template     
+tools/completion/words^--exclude=^--leave-out=
+tools/completion/words^--watch  ^--watch=N
+tools/completion/words^--seen-within=SECONDS^--seen-within        
+tools/completion/words^kob-fleet history:^kob-fleet past:   
+python/src/kobdzila/fleet/_command.py^"--go-over"^"--go"
 c/driver/or_gnu_words.c^{"java2",^{"java3",
 c/compile/options.c^{"watch",^{"follow",
 c/compile/options.c^--no-gnu  ^--only-us 

@@ -58,6 +58,17 @@ prefixed() {
   if [ -z "$found" ]; then ok "$1"; else failed "$1" "$found"; fi
 }
 
+# completions NAME PREFIX: each program has those of all shells (tests/project/completions.sh asks for some)
+completions() {
+  local at=$room/image$room/usr/share it wrong=''
+  for it in $2msgfmt $2catsession ${driver:+$2$driver} $compiler; do
+    grep -q "^complete .* $it\$" "$at/bash-completion/completions/$it" || wrong+="$it for bash; "
+    grep -qx "#compdef $it" "$at/zsh/site-functions/_$it" || wrong+="$it for zsh; "
+    grep -q "^complete -c $it " "$at/fish/vendor_completions.d/$it.fish" || wrong+="$it for fish; "
+  done
+  if [ -z "$wrong" ]; then ok "$1"; else failed "$1" "no completions of $wrong"; fi
+}
+
 # completed PROGRAM WORD..: what bash completes the last of these words to, in the order of the alphabet, after how they are
 # taken (filenames: quoted as names of files; nospace: with nothing after them)
 completed() {
@@ -142,6 +153,7 @@ installed() {
   fi
   pages "$as: man pages" "$1"
   [ -z "$1" ] || prefixed "$as: the programs' names in man pages" "$1"
+  completions "$as: completions for bash, zsh and fish" "$1"
   completes "$as: an option" '--statistics' "$1msgfmt" --st
   completes "$as: options" "$options" "$1msgfmt" -
   completes "$as: PO files and folders" 'filenames: a.po folder' "$1msgfmt" ''

@@ -6,7 +6,8 @@ no_program=1
 
 # tarball FOLDER: what a user with umask 077 has unpacked; another user than this one, if this is root
 tarball() {
-  mkdir -p "$1"/{bin,include,lib/kobdzila,lib/pkgconfig,tools,share/{man/man1,bash-completion/completions,doc/kobdzila/reference}}
+  mkdir -p "$1"/{bin,include,lib/kobdzila,lib/pkgconfig,tools,share/{man/man1,doc/kobdzila/reference}}
+  mkdir -p "$1"/share/{bash-completion/completions,zsh/site-functions,fish/vendor_completions.d}
   for it in msgfmt catserve kob-compile; do
     printf '#!/bin/sh\necho %s\n' $it > "$1/bin/$it"
     cp docs/man/$it.1 "$1/share/man/man1"
@@ -15,7 +16,11 @@ tarball() {
   cp include/kobdzila.h "$1/include"
   for it in libkobdzila.a libkobdzila.so.0 kobdzila/libkobdzila-intl.so pkgconfig/kobdzila.pc; do echo $it > "$1/lib/$it"; done
   ln -s libkobdzila.so.0 "$1/lib/libkobdzila.so"
-  for it in msgfmt kob-compile; do cp tools/completion "$1/share/bash-completion/completions/$it"; done
+  for it in msgfmt kob-compile; do
+    tools/completion/write bash $it > "$1/share/bash-completion/completions/$it"
+    tools/completion/write zsh $it > "$1/share/zsh/site-functions/_$it"
+    tools/completion/write fish $it > "$1/share/fish/vendor_completions.d/$it.fish"
+  done
   cp docs/reference/msgfmt.md "$1/share/doc/kobdzila/reference"
   cp tools/installed_page "$1/tools"
   cp packaging/install.sh VERSION "$1"
@@ -48,6 +53,12 @@ wrong() {
   find "$PREFIX" -type f ! -path '*/bin/*' ! -name '*.so*' ! -perm 0644 -print
 }
 all_right() { [ "$status" = 0 ] && [ -x "$PREFIX/bin/msgfmt" ] && [ -L "$PREFIX/lib/libkobdzila.so" ] && [ -z "$(wrong)" ]; }
+# complete NAME: there are completions of this name for each shell, and nothing is left to be put in
+complete() {
+  grep -qx "complete -F .* $1" "$PREFIX/share/bash-completion/completions/$1" &&
+    grep -qx "#compdef $1" "$PREFIX/share/zsh/site-functions/_$1" &&
+    grep -q "^complete -c $1 " "$PREFIX/share/fish/vendor_completions.d/$1.fish" && ! grep -rq '@PREFIX@' "$PREFIX/share"
+}
 is_gone() { [ "$status" = 0 ] && [ ! -e "$PREFIX" ]; }
 is_refused() { [ "$status" != 0 ] && [[ $said == *"nothing was installed below $PREFIX"* ]]; }
 
@@ -110,8 +121,9 @@ install
 PROGRAM_PREFIX=kob- install
 holds 'a prefix for the programs' test "$("$PREFIX/bin/kob-msgfmt")" = msgfmt
 holds 'kob-compile keeps its name' test -x "$PREFIX/bin/kob-compile" -a ! -e "$PREFIX/bin/kob-kob-compile"
-holds 'kob-compile keeps its name: its completions' grep -qx 'complete -F .* kob-compile' \
-  "$PREFIX/share/bash-completion/completions/kob-compile"
+holds 'kob-compile keeps its name: its completions' complete kob-compile
+holds 'a prefix for the programs: their completions' complete kob-msgfmt
+holds 'two installations: the completions of the other' complete msgfmt
 PROGRAM_PREFIX=kob- install remove
 holds 'one is removed, and the programs of the other stay' test -x "$PREFIX/bin/msgfmt" -a ! -e "$PREFIX/bin/kob-msgfmt"
 install remove

@@ -314,10 +314,13 @@ installed() {
   said=$(sed 's/\\-/-/g' "$to/share/man/man1/$1msgfmt.1" | grep -o "$to/share/doc/[^ ]*\.md" | head -n 1)
   if [ -s "$said" ]; then ok "$as: the document that the page names"
   else failed "$as: the document that the page names" "'$said'"; fi
-  if grep -q "^complete .* $1msgfmt\$" "$to/share/bash-completion/completions/$1msgfmt"; then
+  if grep -q "^complete .* $1msgfmt\$" "$to/share/bash-completion/completions/$1msgfmt" &&
+    grep -qx "#compdef $1msgfmt" "$to/share/zsh/site-functions/_$1msgfmt" &&
+    grep -q "^complete -c $1msgfmt " "$to/share/fish/vendor_completions.d/$1msgfmt.fish" &&
+    grep -qx '#compdef kob-compile' "$to/share/zsh/site-functions/_kob-compile"; then
     ok "$as: completions"
   else
-    failed "$as: completions" "$(grep ^complete "$to/share/bash-completion/completions/$1msgfmt")"
+    failed "$as: completions" "$(cd "$to/share" && find . -name '*msgfmt*' ! -path '*/man/*' | head -c 300)"
   fi
   if tests/lib/needs cc gcc libc6-dev && tests/lib/needs pkg-config pkg-config; then
     links "$as" "$to"
