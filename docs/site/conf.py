@@ -48,6 +48,7 @@ HEADING = re.compile(r"^## (.+)$|^- .*?\]\(([^)#]+\.md)\)|^- \[[^]]*\]\(([^)#]+\
 LINK = re.compile(r"\[([^]]*)\]\(([^)#:]+)\)")
 DECISION = re.compile(r"docs/internals/decisions/[\w-]+/")
 ANCHOR = re.compile(r'<a id="([\w-]+)"></a>')
+SIDEBARS: dict[tuple, str] = {}
 
 
 class RattleLexer(RustLexer):
@@ -95,8 +96,31 @@ def change_page(app, name: str, source: list[str]) -> None:
         source[0] += contents((SOURCE / "docs/index.md").read_text(encoding="utf-8"))
 
 
+def order_pages(app, env) -> None:
+    """Pages that were read in parallel come in any order, in which the search index would list its titles."""
+    env.all_docs = dict(sorted(env.all_docs.items()))
+
+
+def share_contents(app, name: str, template: str, context: dict, tree) -> None:
+    """The sidebar doesn't list the decisions, so it is the same on all their pages of one depth. Making it anew for each of
+    these hundreds was half of the time."""
+    if not DECISION.match(name):
+        return
+    make = context["toctree"]
+
+    def toctree(**options: object) -> str:
+        key = (name.count("/"), *sorted(options.items()))
+        if key not in SIDEBARS:
+            SIDEBARS[key] = make(**options)
+        return SIDEBARS[key]
+
+    context["toctree"] = toctree
+
+
 def setup(app) -> None:
     app.connect("source-read", change_page)
+    app.connect("env-updated", order_pages)
+    app.connect("html-page-context", share_contents, priority=400)
     app.add_object_type("rustitem", "rustitem", "pair: %s; Rust", objname="item of the crate for Rust")
     for name in ("rust", "rust,compile_fail"):
         app.add_lexer(name, RattleLexer)

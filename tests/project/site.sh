@@ -1,7 +1,7 @@
 #!/usr/bin/env bash
-# Makes the site of the documents (tools/site), without a warning of Sphinx; then: each public name of C, of the Python
-# package and of the crate for Rust is found by its search, each link leads somewhere, and no page is wider than a small
-# screen.
+# Makes the site of the documents (tools/site), without a warning of Sphinx; then: another one of another day has the same
+# bytes, each public name of C, of the Python package and of the crate for Rust is found by its search, each link leads
+# somewhere, and no page is wider than a small screen.
 no_program=1
 . "$(dirname "$0")/../lib/common"
 
@@ -21,6 +21,31 @@ if ! tools/site "$site" > "$room/log" 2>&1; then
   exit 0
 fi
 ok "site: $(tail -n 1 "$room/log" | sed 's/.*: //'), without a warning"
+
+# what made it, as Sphinx and the theme say themselves
+wanted=$(/usr/bin/python3 -B -c 'import sphinx, furo; print(f"Sphinx: {sphinx.__version__}\nfuro: {furo.__version__}")')
+if [ "$(grep -E '^(Sphinx|furo): ' "$site/made-by.txt" | sort)" = "$wanted" ] && ! grep -q unknown "$site/made-by.txt"; then
+  ok "site: made by ${wanted//$'\n'/, } and $(($(wc -l < "$site/made-by.txt") - 2)) more"
+else
+  failed 'site: made-by.txt' "$(tr '\n' ' ' < "$site/made-by.txt")"
+fi
+said=$(grep -rlF -e "$PWD" -e "$room" "$site" | head -n 3)
+if [ -z "$said" ]; then ok 'site: no path of this machine'
+else failed 'site: no path of this machine' "$said"; fi
+
+# the same bytes: in another folder and time zone, with another umask, and with another day for Sphinx to write on its pages
+mkdir -p "$room/another place"
+git clone -q -n --no-hardlinks . "$room/another place/clone"
+{ git ls-files -z; find build/lib build/static build/dist/*.whl -type f -print0 2> /dev/null; } |
+  tar --null -T - -cf - | tar -C "$room/another place/clone" --touch -xf -
+git -C "$room/another place/clone" add -A
+if ! said=$(umask 077 && cd "$room/another place/clone" && SOURCE_DATE_EPOCH=981173106 TZ=Asia/Kathmandu tools/site 2>&1); then
+  failed 'site: the same bytes in another folder, in 2001' "$(grep -v '^$' <<< "$said" | tail -n 3 | tr '\n' ' ')"
+elif said=$(diff -r -q "$site" "$room/another place/clone/build/html"); then
+  ok 'site: the same bytes in another folder, in 2001'
+else
+  failed 'site: the same bytes in another folder, in 2001' "$(head -n 3 <<< "$said" | tr '\n' ' ')"
+fi
 
 # found NAME WANTED..: each of the names is in the search index
 found() {
