@@ -19,7 +19,7 @@
 #   make dist       packs build/dist/kobdzila-VERSION-MACHINE-linux.tar.gz of what was built, with static programs
 #   make sign KEY=FILE   signs build/dist/SHA256SUMS with an SSH key; KEY=NAME does with a key of gpg's
 #   make wheel      packs the Python package into build/dist, of the library that was built; it needs Python's headers
-#   make html       makes the site of the documents, build/html, with a search, by Sphinx
+#   make html       makes the site of the documents, build/html, with a search, by Sphinx; `make dist` packs it as well
 #   make deb        packs it as three Debian packages, into build/deb
 #   make verify TARBALL=FILE   proves and builds the commit that a tarball names, and compares every byte
 #   make uninstall  removes what `make install` with the same variables has put there

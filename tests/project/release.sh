@@ -82,6 +82,13 @@ for it in docs/guide examples/c rust/src rust/kobdzila-sys/src python/src/kobdzi
   echo 'secret' > "$room/one/$it/stray.md"
 done
 copied "$room/another/folder" --touch
+# (a site of one page, as it is made; tests/project/site.sh makes all of it)
+for it in "$room/one" "$room/another/folder"; do
+  mkdir "$it/build/html"
+  echo '<!doctype html>' > "$it/build/html/index.html"
+  printf 'Sphinx: 5.3.0\nfuro: 2022.12.07\n' > "$it/build/html/made-by.txt"
+done
+touch -d '2001-02-03' "$room"/another/folder/build/html/*
 said=$(cd "$room/one" && tools/dist --as-built 2>&1)
 if [ ! -f "$room/one/build/dist/$name.tar.gz" ]; then
   failed 'the tarball' "$said"
@@ -97,6 +104,18 @@ if cmp "$tarball" "$other" > "$room/cmp" 2>&1; then
 else
   failed "the tarball: the same bytes in two folders, by $whom" "$(cat "$room/cmp"); $said"
 fi
+html=kobdzila-$version-html
+if cmp {"$room/one","$room/another/folder"}"/build/dist/$html.tar.gz" > "$room/cmp" 2>&1; then
+  ok "the site: the same bytes in two folders, by $whom"
+else
+  failed "the site: the same bytes in two folders, by $whom" "$(cat "$room/cmp")"
+fi
+# (the tarball has the owner and the time of its files, and the site has to have the same)
+says 'the site: packed as the tarball is, with its page and what made it' \
+  "$(tar --full-time --numeric-owner -tvzf "$tarball" "$name/README.md" | awk '{ print $2, $4, $5 }') $html/index.html $html/made-by.txt" \
+  "$(tar --full-time --numeric-owner -tvzf "$room/one/build/dist/$html.tar.gz" | awk '!/\/$/ { at = $2 " " $4 " " $5; names = names " " $6 } END { print at names }')"
+says 'the site: its line in SHA256SUMS' "$html.tar.gz: OK" \
+  "$(cd "$room/one/build/dist" && sha256sum -c SHA256SUMS 2>&1 | grep -F "$html")"
 mkdir "$room/published"
 cp "$room"/one/build/dist/* "$room/published" 2> /dev/null
 if said=$(cd "$room/one" && tools/verify_release --as-built "$room/published/$name.tar.gz" 2>&1); then
@@ -105,6 +124,14 @@ else
   failed 'the tarball and what comes with it: verified' "$said"
 fi
 printf x >> "$room/published/$name.oci.tar"
+# remade SED FOLDER: the site, of which other tools say that they made it, or which has another page, in FOLDER
+remade() {
+  mkdir -p "$2"
+  tar -xzf "$room/one/build/dist/$html.tar.gz" -C "$2"
+  sed -i "$1" "$2/$html"/*
+  tar -czf "$2/$html.tar.gz" -C "$2" "$html"
+}
+remade 's/^Sphinx: .*/Sphinx: 7.2.6/' "$room/published"
 if said=$(cd "$room/one" && tools/verify_release --as-built "$room/published/$name.tar.gz" 2>&1); then
   failed 'what comes with the tarball: a changed file is found' 'it passed'
 elif grep -qx "$name.oci.tar: it differs" <<< "$said"; then
@@ -112,6 +139,8 @@ elif grep -qx "$name.oci.tar: it differs" <<< "$said"; then
 else
   failed 'what comes with the tarball: a changed file is found' "$said"
 fi
+says 'the site: not compared where other tools made it' \
+  "$html.tar.gz: not compared, since other tools made it: Sphinx: 7.2.6; here: Sphinx: 5.3.0" "$(grep -F "$html" <<< "$said")"
 if ! cargo --version > /dev/null 2>&1; then
   skipped 'the crates for Rust' 'no cargo'
 else
@@ -237,6 +266,8 @@ cp -R "$room/unpacked/$name" "$room/changed"
 (cd "$room/changed/$name" && printf x >> bin/msgfmt &&
   find . -type f ! -name SHA256SUMS | sort | sed 's|^\./||' | xargs sha256sum > SHA256SUMS)
 (cd "$room/changed" && tar -czf "$name.tar.gz" "$name")
+remade 's/doctype/DOCTYPE/' "$room/changed"
+grep -F "$html" "$room/one/build/dist/SHA256SUMS" > "$room/changed/SHA256SUMS"
 if said=$(cd "$room/one" && tools/verify_release --as-built "$room/changed/$name.tar.gz" 2>&1); then
   failed 'the tarball: a changed program is found' 'it passed'
 elif grep -q 'bin/msgfmt differ' <<< "$said"; then
@@ -244,6 +275,7 @@ elif grep -q 'bin/msgfmt differ' <<< "$said"; then
 else
   failed 'the tarball: a changed program is found' "$said"
 fi
+says 'the site: a changed page is found' "$html.tar.gz: it differs" "$(grep -F "$html" <<< "$said")"
 
 # make verify, by a toolchain that doesn't prove: it hands out what was built here
 proved_before=yes
@@ -264,10 +296,16 @@ if [ -z "$proved_before" ] || [ ! -f crates/kobdzila_c/out/libkobdzila_c.a ]; th
   skipped 'make verify' 'no program of crates/ with its object file is here, as `make check` leaves them'
 else
   copied "$room/made"
-  git -C "$room/made" -c user.name=test -c user.email=test commit -q --allow-empty -m sources
+  # (in place of Sphinx, which takes a minute)
+  cat > "$room/made/tools/site" << 'END'
+#!/bin/sh
+[ "$1" = --needs ] || { mkdir "$1" && echo 'Sphinx: 5.3.0' > "$1/made-by.txt"; }
+END
+  git -C "$room/made" -c user.name=test -c user.email=test commit -q -a --allow-empty -m sources
   if said=$(cd "$room/made" && export RT=$room/rt && tools/dist 2>&1 &&
     timeout 300 tools/verify_release "build/dist/$name.tar.gz" 2>&1) &&
-    [ "$(tail -n 1 <<< "$said")" = "$name.tar.gz: every byte is the same" ]; then
+    [ "$(tail -n 1 <<< "$said")" = "$name.tar.gz: every byte is the same" ] &&
+    grep -qx "$html.tar.gz: every byte is the same" <<< "$said"; then
     ok 'make verify'
   else
     failed 'make verify' "$(tail -n 3 <<< "$said")"
