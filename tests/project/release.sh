@@ -95,7 +95,10 @@ if [ ! -f "$room/one/build/dist/$name.tar.gz" ]; then
   exit 0
 fi
 tarball=$room/one/build/dist/$name.tar.gz
-said=$(as_another "$room/another/folder" tools/dist --as-built 2>&1)
+# (the other user may have Debian's cargo alone, which can't pack a crate that needs the other one)
+mkdir "$room/no_cargo"
+script no_cargo/cargo 'exit 1'
+said=$(PATH=$room/no_cargo:$PATH as_another "$room/another/folder" tools/dist --as-built 2>&1)
 other=$room/another/folder/build/dist/$name.tar.gz
 whom='two users'
 [ "$(id -u)" = 0 ] || whom='one user'
@@ -108,7 +111,7 @@ html=kobdzila-$version-html
 if cmp {"$room/one","$room/another/folder"}"/build/dist/$html.tar.gz" > "$room/cmp" 2>&1; then
   ok "the site: the same bytes in two folders, by $whom"
 else
-  failed "the site: the same bytes in two folders, by $whom" "$(cat "$room/cmp")"
+  failed "the site: the same bytes in two folders, by $whom" "$(cat "$room/cmp"); $said"
 fi
 # (the tarball has the owner and the time of its files, and the site has to have the same)
 says 'the site: packed as the tarball is, with its page and what made it' \
