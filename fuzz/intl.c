@@ -3,7 +3,7 @@
  * The first byte says in which codeset the answers are wanted, and the rest is the file. It is asked for the msgids
  * that it seems to have and for some others, in this process by c/intl, whose functions are linked before the C
  * library's. This process must survive each file. If the file is as the GNU gettext manual describes MO files, the C
- * library alone is asked in a child. If the child survives, too, all answers must be the same.
+ * library alone is asked in a child. If the child survives as well, all answers must be the same.
  *
  * Both keep what they have read of a file. So each input has a folder of its own, and run ends a process after some
  * thousands of them. */

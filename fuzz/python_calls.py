@@ -156,7 +156,7 @@ class Session:
     def fall_back(self, of: Any, to: Any) -> None:
         """Give a catalogue a fallback, unless they would be a circle. A look-up in a circle recurses up to Python's
         limit; if a finalizer does so while Python makes the RecursionError, Python 3.11 ends (`Cannot recover from
-        stack overflow`), and it does so for functions in Python, too."""
+        stack overflow`), and it does so for functions in Python as well."""
         it = to
         while isinstance(it, _kobdzila.Catalogue) and it is not of:
             it = it._fallback

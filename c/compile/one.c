@@ -74,7 +74,7 @@ static void look_for_fields(const struct run *run, struct catalogue *it, const k
 
 /* ---- who compiles */
 
-/* Compile with GNU msgfmt what Kobdzila refused. If GNU's refuses it, too, the reason is Kobdzila's, unless the text has
+/* Compile with GNU msgfmt what Kobdzila refused. If GNU's refuses it as well, the reason is Kobdzila's, unless the text has
  * something that only GNU msgfmt serves. */
 static void hand_to_gnu(const struct run *run, struct catalogue *it, bool is_for_gnu) {
     struct gnu_answer answer = ask_gnu(run, it->po);

@@ -1,5 +1,5 @@
 /* The queue of catalogues, and the threads that work on it. The largest come first, so that no thread is left with a long
- * one at the end. A thread has one text at a time in memory, so that -j bounds the memory, too. */
+ * one at the end. A thread has one text at a time in memory, so that -j bounds the memory as well. */
 #include "compile.h"
 
 #include <pthread.h>
@@ -94,7 +94,7 @@ void compile_all(struct run *run) {
     struct queue queue = {.run = run};
     off_t bytes = fill(&queue, &run->catalogues);
     unsigned jobs = run->options.jobs < queue.count ? run->options.jobs : (unsigned)queue.count;
-    bool has_others = jobs > 1 || has_progress(); /* (this thread shows the progress of one, too) */
+    bool has_others = jobs > 1 || has_progress(); /* (this thread shows the progress of one as well) */
     pthread_t *threads = has_others && bytes > FEW_BYTES ? malloc(jobs * sizeof *threads) : NULL;
     pthread_mutex_init(&queue.lock, NULL);
     pthread_cond_init(&queue.ended, NULL);

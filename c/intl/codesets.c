@@ -95,7 +95,7 @@ const char *converted(const struct codeset *codeset, const char *text) {
 static void put(struct table *t, const char *text, const char *as) {
     struct slot *s = slot_of(t, text);
     if (atomic_load_explicit(&s->text, memory_order_relaxed))
-        return; /* another thread has converted it, too */
+        return; /* another thread has converted it as well */
     atomic_store_explicit(&s->as, as, memory_order_relaxed);
     atomic_store_explicit(&s->text, text, memory_order_release);
     t->count++;

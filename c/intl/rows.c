@@ -1,5 +1,5 @@
 /* The strings of MO files that libkobdzila doesn't read: those of revision 0 whose strings aren't UTF-8, and of the
- * revisions that the GNU C library knows, too. Its major revisions are 0 and 1, each with a minor one; 0.0 is GNU gettext
+ * revisions that the GNU C library knows as well. Its major revisions are 0 and 1, each with a minor one; 0.0 is GNU gettext
  * manual, "MO Files". From minor revision 1 on there must be a hash table, which isn't used here, and strings may have
  * system-dependent parts, such as the value of PRIu64; five more words of the header locate their tables.
  *

@@ -33,7 +33,7 @@ static const struct held_notice *read_notice(const kob_notice *notice) {
     return (const struct held_notice *)(const void *)(notice + 1);
 }
 
-/* Lock the store and return the proved library's. Calls that only read take the lock, too. */
+/* Lock the store and return the proved library's. Calls that only read take the lock as well. */
 static struct held_store *lock(const kob_store *store) {
     kob_store *locked = (kob_store *)store;
     pthread_mutex_lock(&locked->lock);

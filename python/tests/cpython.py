@@ -1,6 +1,6 @@
 """Runs CPython's own tests of the module gettext over kobdzila. Run by tests/python/python.sh.
 
-What differs is listed here with its reason, which docs/guide/python-gettext.md gives, too. A test of this list that passes, and
+What differs is listed here with its reason, which docs/guide/python-gettext.md gives as well. A test of this list that passes, and
 one outside of it that fails, is a failure. The last line is `N tests, M differ as listed`.
 """
 import gettext

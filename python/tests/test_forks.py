@@ -284,7 +284,7 @@ class StoreTest(unittest.TestCase):
 
         part, store = Part(), Store("shop")
         _forks.register(part)
-        setattr(store, "_forked", None)  # (one that isn't callable fails, too)
+        setattr(store, "_forked", None)  # (one that isn't callable fails as well)
         later = Store("shop")
         changed = later._changed
 

@@ -37,4 +37,4 @@ class LogCase(unittest.TestCase):
     def text(self, follower: Follower, domain: str = "app", at_least: int = 0) -> str:
         with follower.snapshot(at_least=at_least, within=100) as texts:
             found = texts.gettext(domain, "fr", "k1")
-            return str(getattr(found, "text", found))  # (a Session's answers have a version, too)
+            return str(getattr(found, "text", found))  # (a Session's answers have a version as well)

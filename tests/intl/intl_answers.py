@@ -388,7 +388,7 @@ def charsets(folder: Path) -> list[Case]:
 
 def system_charsets(folder: Path) -> list[Case]:
     """A file of minor revision 1 in Latin-1, and one in UTF-8, wanted in other codesets. Its parts are all of <inttypes.h>;
-    one message has an unknown part, which no system has a value for, and one is there without parts, too."""
+    one message has an unknown part, which no system has a value for, and one is there without parts as well."""
     names = [f"PRI{letter}{size}" for letter in "dioxuX" for size in ("8", "16", "32", "64", "LEAST8", "LEAST16", "LEAST32",
              "LEAST64", "FAST8", "FAST16", "FAST32", "FAST64", "MAX", "PTR")] + ["I", "PRIq8", "PRI", "PRId65"]
     cases = []

@@ -340,7 +340,7 @@ static void shared_runs(void) {
         const kob_set *set = kob_reader_enter(readers[i % READERS]);
         bytes = 0;
         kob_set *next = kob_set_with(set, "app", locale, c, NULL);
-        is("a set shares them, too", bytes < MOST_BYTES && says(next, locale, "one"));
+        is("a set shares them as well", bytes < MOST_BYTES && says(next, locale, "one"));
         kob_set_release(next);
     }
     for (int i = 0; i < READERS; i++)

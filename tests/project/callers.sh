@@ -1,7 +1,7 @@
 #!/usr/bin/env bash
 # Checks that the pages quote the sources: each program of README.md and docs/, and each clause of
 # docs/guide/rattle.md and docs/internals/proofs.md (tests/project/callers.py); and each definition and clause of
-# docs/internals/statement.md (tools/statement), where a changed word has to be found, too.
+# docs/internals/statement.md (tools/statement), where a changed word has to be found as well.
 no_program=1
 . "$(dirname "$0")/../lib/common"
 

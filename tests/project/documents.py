@@ -4,7 +4,7 @@ limits with the code. Prints a line `ok documents: NAME` or `FAILED documents: N
 
     tests/project/documents.py [FOLDER [MSGFMT [CATSESSION]]]
 
-FOLDER is the top of the repository. MSGFMT and CATSESSION are the built programs, whose help is then looked at, too.
+FOLDER is the top of the repository. MSGFMT and CATSESSION are the built programs, whose help is then looked at as well.
 """
 import argparse
 import importlib

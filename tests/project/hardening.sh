@@ -31,7 +31,7 @@ jumps() {
 }
 
 # flags FILE: whether its parts in C were compiled with the flags: what they call shows it in a library. A static program
-# has such calls of the C library's own, too; how its C is compiled is looked at below
+# has such calls of the C library's own as well; how its C is compiled is looked at below
 flags() {
   case $1 in
     bin/msgfmt-or-gnu | bin/kob-compile | build/static/*) echo yes ;;

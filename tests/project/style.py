@@ -3,7 +3,7 @@
 line for each rule, which names the first findings.
 
     tests/project/style.py          a line for each rule
-    tests/project/style.py --all    a line for each finding, too
+    tests/project/style.py --all    a line for each finding as well
 """
 import re
 import subprocess

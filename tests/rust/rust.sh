@@ -21,7 +21,7 @@ if [ ! -f build/lib/libkobdzila.so.0 ] || [ ! -f build/lib/libkobdzila.a ]; then
   exit 0
 fi
 
-# a copy, since cargo writes into the folder of a crate, too
+# a copy, since cargo writes into the folder of a crate as well
 tar cf - --exclude target --exclude Cargo.lock rust include tests/python/negotiation.tsv | tar xf - -C "$room"
 crate=$room/rust
 export CARGO_TARGET_DIR=$room/target CARGO_NET_OFFLINE=true CARGO_TERM_COLOR=never
@@ -239,7 +239,7 @@ for it in target_os.linux target_pointer_width.64; do
   fi
   rm "$crate/kobdzila-sys/src/other.rs"
 done
-# (there, too, the script is built and run before the message: it may use nothing that only Unix has)
+# (there as well, the script is built and run before the message: it may use nothing that only Unix has)
 name='the Rust crates, the build script where there is no Unix'
 sed 's/\bunix\b/none/g' rust/kobdzila-sys/build.rs > "$room/build.rs"
 if rustc --edition 2021 -A unexpected_cfgs -o "$room/build_script" "$room/build.rs" 2> "$room/log" &&

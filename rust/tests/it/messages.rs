@@ -126,7 +126,7 @@ fn each_argument_is_evaluated_once() {
 
 #[test]
 fn arguments_may_have_any_name_that_is_in_scope() {
-    // (these are names of the macros, too)
+    // (these are names of the macros as well)
     const WANTED: &str = "spade";
     let (n, number, texts) = (7, 8, texts());
     assert_eq!(t!("{it} is wanted", it = WANTED), "spade is wanted");
