@@ -4,6 +4,8 @@
 #                   of examples/ with it. The first build proves everything; tools/build shows its progress
 #   make msgfmt     builds bin/msgfmt alone; so do `make catserve` and `make catsession`
 #   make check      every check: the proofs and tests of the gate (rt ci), then the scripts of tests/
+#   make prove-anew  runs the gate without any earlier result of this machine, and prints each crate's verdict; it takes
+#                   hours, and a release names what it said
 #   make fuzz SECONDS=600   gives the C, and the proved part below it, that many seconds of chosen inputs for each target of
 #                   fuzz/; it needs clang
 #   make bench      times msgfmt compared with GNU msgfmt, scripts and a session; N=7 sets the number of rounds
@@ -66,8 +68,8 @@ preloaddir = $(LIBDIR)/kobdzila
 SHARED = libkobdzila.so.0
 PRELOADED = libkobdzila-intl.so
 
-.PHONY: all $(PROGRAMS) programs examples compiled_examples driver library check fuzz bench dist sign wheel html deb
-.PHONY: verify install install_program install_compiler install_completions install_library uninstall uninstall_library
+.PHONY: all $(PROGRAMS) programs examples compiled_examples driver library check prove-anew fuzz bench dist sign wheel
+.PHONY: html deb verify install install_program install_compiler install_completions install_library uninstall uninstall_library
 .PHONY: uninstall_completions clean
 
 all:
@@ -100,6 +102,9 @@ library:
 
 check:
 	@tests/run --gate
+
+prove-anew:
+	@tools/prove_anew
 
 fuzz: programs
 	@fuzz/proved

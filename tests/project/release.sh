@@ -89,6 +89,28 @@ for it in "$room/one" "$room/another/folder"; do
   printf 'Sphinx: 5.3.0\nfuro: 2022.12.07\n' > "$it/build/html/made-by.txt"
 done
 touch -d '2001-02-03' "$room"/another/folder/build/html/*
+# (a gate of two crates that read no earlier result)
+cat > "$room/anew" << 'END'
+fn one::first: proved
+logic=proved functions=12 sum=dac8208d650f15bf native=nat,char,string logic-built=trusted statements=trusted
+rt: one proved
+logic=proved tests=3 functions=5 axioms=9 sum=dac8208d650f15bf logic-built=trusted libraries-built=trusted
+rt: one: its tests are proved
+logic=proved functions=30 axioms=2 sum=dac8208d650f15bf logic-built=trusted
+rt: another_crate proved
+END
+(cat "$room/anew" && echo '6 passed, 1 failed') > "$room/anew_failed"
+echo '7 passed, 0 failed' >> "$room/anew"
+said=$(cd "$room/one" && tools/prove_anew --of "$room/anew_failed")
+says 'proved anew: a failure is the status' 1 $?
+says 'proved anew: a failure is not for a release' '' "$(cat "$room/one/build/anew" 2> /dev/null)"
+for it in "$room/one" "$room/another/folder"; do
+  said=$(cd "$it" && tools/prove_anew --of "$room/anew")
+done
+says 'proved anew: the verdict of each crate' 'one one,tests another_crate' \
+  "$(sed -n 's/ *\(.*\): logic=proved.*/\1/p' <<< "$said" | tr -d ' ' | paste -sd ' ')"
+anew='Anew:       2 crates, 47 functions; trusted: logic-built, statements, libraries-built; 7 passed, 0 failed'
+says 'proved anew: their sum' "$anew" "$(tail -n 1 <<< "$said")"
 said=$(cd "$room/one" && tools/dist --as-built 2>&1)
 if [ ! -f "$room/one/build/dist/$name.tar.gz" ]; then
   failed 'the tarball' "$said"
@@ -107,6 +129,7 @@ if cmp "$tarball" "$other" > "$room/cmp" 2>&1; then
 else
   failed "the tarball: the same bytes in two folders, by $whom" "$(cat "$room/cmp"); $said"
 fi
+says 'the tarball: it names the run that proved it anew' "$anew" "$(tar -xzOf "$tarball" "$name/PROVENANCE" | grep ^Anew)"
 html=kobdzila-$version-html
 if cmp {"$room/one","$room/another/folder"}"/build/dist/$html.tar.gz" > "$room/cmp" 2>&1; then
   ok "the site: the same bytes in two folders, by $whom"
