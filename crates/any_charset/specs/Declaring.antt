@@ -48,17 +48,25 @@ is_name_byte b = not (b == 32 || b == 9 || b == 10 || b == 92 || b == 34)
 abbrev pub name_len : List ℕ → ℕ
 name_len text = prefix_len is_name_byte text
 
--- the first `charset=` of the text is in its header and is followed by a name of the charset; renamed is the text with
+-- the first `charset=` of the text is at this offset, and is followed by a name of the charset; renamed is the text with
 -- `UTF-8` in place of the name
-pub record Declares (text : List ℕ) (charset : Charset) (renamed : List ℕ) : Type 0 where
-  pub at : ℕ
+pub record NamesAt (text : List ℕ) (at : ℕ) (charset : Charset) (renamed : List ℕ) : Type 0 where
   pub first : FindsNeedle text charset_mark 0 (Some at)
-  pub header : place_after Before (lines (take at text)) ≡ InHeader
   pub after : List ℕ
   pub after_is : after ≡ drop (at + length charset_mark) text
   pub named : IsNameOf charset (take (name_len after) after)
   pub renamed_is : renamed
       ≡ take (at + length charset_mark) text ++ codes "UTF-8" ++ drop (name_len after) after
+
+-- no charset that is known here follows the first `charset=` of the text
+abbrev pub NamesNone : List ℕ → Type 0
+NamesNone text = (at : ℕ) (charset : Charset) (renamed : List ℕ) → ¬ NamesAt text at charset renamed
+
+-- the charset that the first `charset=` of the text names, where that is in the header
+pub record Declares (text : List ℕ) (charset : Charset) (renamed : List ℕ) : Type 0 where
+  pub at : ℕ
+  pub names : NamesAt text at charset renamed
+  pub header : place_after Before (lines (take at text)) ≡ InHeader
 
 -- the text declares no charset that is known here
 abbrev pub DeclaresNone : List ℕ → Type 0

@@ -12,9 +12,6 @@ use catalogue::{Compiled, LoadFault, LoadKind, Options, compile, compile_owned};
 use charsets::{DecodeFault, decode};
 use std::alloc::{AllocError, Global};
 
-/// The name that takes the place of a header's charset.
-const UTF8: &[u8] = b"UTF-8";
-
 /// Whether a text that is refused as UTF-8 with this kind may be in another charset.
 pub fn is_for_charset(kind: LoadKind) -> bool
     ensures { IsTrue result ↔ IsForCharset kind }
@@ -32,24 +29,13 @@ fn line_at(text: &[u8], at: usize) -> u32
     before.iter().filter(|byte| **byte == b'\n').count() as u32 + 1
 }
 
-/// The text with `UTF-8` in place of the charset's name.
-fn renamed(alloc: Global, declared: &Declaration<'_>) -> Result<Vec<u8>, AllocError>
-    ensures { IfOk result (λ renamed. renamed.items ≡ renamed_of declared.now) }
-{
-    let mut text = Vec::new(alloc);
-    text.extend_from_slice(declared.before)?;
-    text.extend_from_slice(UTF8)?;
-    text.extend_from_slice(declared.after)?;
-    Ok(text)
-}
-
 /// Decodes a text, which is UTF-8 then, and says so.
 fn recode(alloc: Global, declared: &Declaration<'_>) -> Result<Vec<u8>, TextFault>
     requires { length (renamed_of declared.now) < 2 ^ 31 }
     ensures { MatchResult result (λ text. IsDecoded declared.now.charset (renamed_of declared.now) text.items)
         (λ fault. FailsToDecode declared.now.charset (renamed_of declared.now) fault) }
 {
-    let text = renamed(alloc, declared)?;
+    let text = declared.renamed(alloc)?;
     match decode(alloc, declared.charset, text.as_slice()) {
         Ok(text) => Ok(text.into_bytes()),
         Err(DecodeFault::NoCharacter(at)) => Err(TextFault::NoCharacter(line_at(

@@ -1,21 +1,41 @@
 //! The charset that a text declares in its header.
-ghost use Rattle.std.specs.Prelude.{◌≡◌, ◌≤◌, ◌+◌, ◌++◌, IfSome, MatchOption, codes, length};
-ghost use Rattle.any_charset.specs.Declaring.{Declares, DeclaresNone, is_name_byte, name_len};
+ghost use Rattle.std.specs.Prelude.{◌≡◌, ◌≤◌, ◌+◌, ◌++◌, IfOk, IfSome, MatchOption, codes, length};
+ghost use Rattle.any_charset.specs.Declaring.{Declares, DeclaresNone, NamesAt, NamesNone};
+ghost use Rattle.any_charset.specs.Declaring.{is_name_byte, name_len};
 
 use crate::front::leads_into_header;
 use charsets::{Charset, charset_of};
 use memchr::memmem;
+use std::alloc::{AllocError, Global};
 
 const MARK: &[u8] = b"charset=";
 
-/// The charset that a text declares, and the text around its name.
+/// The name that takes the place of a charset's.
+const UTF8: &[u8] = b"UTF-8";
+
+/// A charset that a text names, and the text around its name.
 #[derive(Drop)]
-pub(crate) struct Declaration<'a> {
-    pub(crate) charset: Charset,
+pub struct Declaration<'a> {
+    /// Where `charset=` begins.
+    pub at: usize,
+    pub charset: Charset,
     /// The text up to the name.
-    pub(crate) before: &'a [u8],
+    pub before: &'a [u8],
     /// The text after the name.
-    pub(crate) after: &'a [u8],
+    pub after: &'a [u8],
+}
+
+impl<'a> Declaration<'a> {
+    /// The text with `UTF-8` in place of the charset's name.
+    pub fn renamed(&self, alloc: Global) -> Result<Vec<u8>, AllocError>
+        ensures { IfOk result (λ renamed. renamed.items ≡ self.now.before.now ++ codes "UTF-8" ++ self.now.after.now) }
+    {
+        let mut text = Vec::new(alloc);
+        text.extend_from_slice(self.before)?;
+        text.extend_from_slice(UTF8)?;
+        text.extend_from_slice(self.after)?;
+        Ok(text)
+    }
 }
 
 fn is_name_byte(byte: u8) -> bool
@@ -25,17 +45,30 @@ fn is_name_byte(byte: u8) -> bool
 }
 
 /// The length of the name that a text begins with.
-#[tactic(auto, using(std::proofs::lemmas::List::Sums::prefix_len_is))]
 fn name_len(text: &[u8]) -> usize
     ensures len { result ≡ name_len text.now }
     ensures within { result ≤ length text.now }
 {
-    for (i, byte) in text.iter().enumerate() {
-        if !is_name_byte(*byte) {
-            return i;
-        }
-    }
-    text.len()
+    text.iter().take_while(|byte| is_name_byte(**byte)).count()
+}
+
+/// The charset that the first `charset=` of a text names, if it is a charset of `charsets`.
+pub fn named(text: &[u8]) -> Option<Declaration<'_>>
+    ensures within { IfSome result (λ d. d.at ≤ length text.now) }
+    ensures short { IfSome result (λ d. length d.before.now + length d.after.now ≤ length text.now) }
+    ensures names { MatchOption result (NamesNone text.now)
+        (λ d. NamesAt text.now d.at d.charset (d.before.now ++ codes "UTF-8" ++ d.after.now)) }
+{
+    let at = memmem::find(text, MARK)?;
+    let (before, named) = text.split_at(at + MARK.len());
+    let (name, after) = named.split_at(name_len(named));
+    let charset = charset_of(name)?;
+    Some(Declaration {
+        at,
+        charset,
+        before,
+        after,
+    })
 }
 
 /// The charset that a text declares in the header at its front, if it is a charset of `charsets`.
@@ -44,16 +77,9 @@ pub(crate) fn declared(text: &[u8]) -> Option<Declaration<'_>>
     ensures declares { MatchOption result (DeclaresNone text.now)
         (λ d. Declares text.now d.charset (d.before.now ++ codes "UTF-8" ++ d.after.now)) }
 {
-    let at = memmem::find(text, MARK)?;
-    if leads_into_header(&text[..at]) {
-        let (before, named) = text.split_at(at + MARK.len());
-        let (name, after) = named.split_at(name_len(named));
-        let charset = charset_of(name)?;
-        Some(Declaration {
-            charset,
-            before,
-            after,
-        })
+    let named = named(text)?;
+    if leads_into_header(&text[..named.at]) {
+        Some(named)
     } else {
         None
     }

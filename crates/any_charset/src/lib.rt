@@ -7,4 +7,5 @@ mod fault;
 mod front;
 
 pub use compiler::{compile_any, compile_recoded, is_for_charset};
+pub use declared::{Declaration, named};
 pub use fault::TextFault;

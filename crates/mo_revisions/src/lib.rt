@@ -9,4 +9,4 @@ mod reader;
 mod statics;
 
 pub use fault::AnyMoFault;
-pub use reader::{read_any_mo, read_revised};
+pub use reader::{catalogue_of, read_any_mo, read_messages, read_revised};

@@ -32,8 +32,11 @@ fn messages_by<T: ByteOrder>(alloc: Global, bytes: &[u8]) -> Result<Vec<Strings>
     with_dependent::<T>(alloc, bytes, messages)
 }
 
-/// Reads the messages of a file in the byte order of its magic number.
-fn messages(alloc: Global, bytes: &[u8]) -> Result<Vec<Strings>, AnyMoFault>
+/// Reads the messages of a file of any revision, in the byte order of its magic number: the static ones and, if the
+/// minor revision is 1, the system-dependent ones that the machine knows. Their bytes may be in any charset.
+///
+/// The file has at least the 28 bytes of a header, and at most 268,435,456.
+pub fn read_messages(alloc: Global, bytes: &[u8]) -> Result<Vec<Strings>, AnyMoFault>
     requires short { length bytes.now ≤ most_file }
     requires long { header_len ≤ length bytes.now }
     ensures ok { IfOk result (λ v. HasMessages (file_of bytes.now) (strings_of v.items)) }
@@ -47,7 +50,7 @@ fn messages(alloc: Global, bytes: &[u8]) -> Result<Vec<Strings>, AnyMoFault>
 }
 
 /// The catalogue of messages: that of the file of revision 0.0 which has the first message of each key.
-fn catalogue_of(alloc: Global, messages: Vec<Strings>) -> Result<Catalogue, MoFault>
+pub fn catalogue_of(alloc: Global, messages: Vec<Strings>) -> Result<Catalogue, MoFault>
     ensures ok { IfOk result (IsCatalogueOf (strings_of messages.items)) }
     ensures err { IfErr result (HasNoCatalogue (strings_of messages.items)) }
 {
@@ -68,7 +71,7 @@ pub fn read_revised(alloc: Global, bytes: &[u8]) -> Result<Catalogue, AnyMoFault
     ensures ok { IfOk result (MeansMessages bytes.now) }
     ensures err { IfErr result (IsFaultBeyond bytes.now) }
 {
-    let messages = messages(alloc, bytes)?;
+    let messages = read_messages(alloc, bytes)?;
     Ok(catalogue_of(alloc, messages)?)
 }
 

@@ -5,7 +5,7 @@ use Rattle.mo_file.proofs.ByteOrders.{order_low, order_high}
 use Rattle.mo_segments.specs.MessageStrings.{strings_of}
 use Rattle.mo_revisions.specs.Revisions.{HasMessages}
 use Rattle.mo_revisions.specs.Refusing.{IsMessagesFault}
-use Rattle.mo_revisions.proofs.reader.messages.Goals as goal
+use Rattle.mo_revisions.proofs.reader.read_messages.Goals as goal
 
 pub returns-then-is_low_first-clause-ok : goal.returns-then-is_low_first-clause-ok
 returns-then-is_low_first-clause-ok c =

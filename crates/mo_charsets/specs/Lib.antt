@@ -1,0 +1,2 @@
+pub mod Recoding
+pub mod Failing
