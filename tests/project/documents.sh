@@ -124,7 +124,7 @@ docs/internals/glossary.md^`crates/desks/src/desk.rt`^`crates/desks/src/desks.rt
 docs/internals/glossary.md^`crates/live_versions/src/seal.rt`^`crates/live_versions/src/notice.rt`
 tests/scripts/languages.sh^docs/reference/look-ups.md^docs/FORMATS.md
 docs/man/msgfmt.1^reference/gnu\-differences.md^reference/gnu\-msgfmt.md
-crates.txt^po_text: byte_text^po_words: byte_text
+crates.txt^po_text: format_flags^po_words: format_flags
 docs/internals/architecture.md^`Lexing`, ^
 CONTRIBUTING.md^in one document, and the others link to it. How to do something^in one document and in no more than this one, and the others link to it, and how to do something
 END

@@ -2,16 +2,16 @@
 use Rattle.std.proofs.Common.{◌≡◌, ℕ, ◌+◌, Bool, true, false, List, [], ◌∷◌, ◌++◌, Option, None}
 use Rattle.std.proofs.Common.{refl, sym, ap, subst, ◌∙◌, append_assoc, inl, inr}
 use Rattle.std.proofs.lemmas.List.{append-nil}
-use Rattle.format_checks.specs.declared.Language.{Language}
+use Rattle.format_flags.specs.declared.languages.Language.{Language}
 use Rattle.format_checks.specs.declared.Difference.{Difference}
 use Rattle.format_checks.specs.declared.Fault.{Fault}
 use Rattle.format_arguments.specs.declared.FormatFault.{FormatFault}
 use Rattle.format_arguments.specs.declared.FormatFault.TheVariants.{Invalid}
 use Rattle.format_arguments.specs.declared.Strictness.{Strictness}
 use Rattle.format_arguments.specs.Arguments.{Argument}
-use Rattle.format_checks.specs.declared.Language.TheVariants.{Python, PythonBrace}
+use Rattle.format_flags.specs.declared.languages.Language.TheVariants.{Python, PythonBrace}
 use Rattle.format_checks.specs.FormatLanguages.{Lists, HasFault, IsNoFormat}
-use Rattle.format_checks.specs.FormatFlags.{has}
+use Rattle.format_flags.specs.FormatFlags.{has}
 use Rattle.format_checks.specs.FlaggedEntries.{Entry, original, rule_for}
 use Rattle.format_checks.specs.FormatFaults.{Question, question, questions_from, questions, flagged_questions}
 use Rattle.format_checks.specs.FormatFaults.{IsDifference, HasVerdict}
@@ -120,6 +120,7 @@ pub no_format : (language : Language) (text : List ℕ) (fault : FormatFault) �
     → HasFault language text fault → IsNoFormat language text
 no_format Python text fault is has = rw is at has
 no_format PythonBrace text fault is has = rw is at has
+no_format _ text fault is has = λ asked none. none
 
 pub verdict_of : (e : Entry) (often : List Bool) (language : Language) (form : ℕ) (t text : List ℕ) (rule : Strictness)
     (asked given : List Argument) (found : Option Difference) → text ≡ original e → Lists language text asked

@@ -13,8 +13,8 @@ use Rattle.python_format.proofs.DirectiveLemmas as python_lemmas
 use Rattle.python_brace_format.specs.BraceSpecifiers.{open_brace}
 use Rattle.python_brace_format.specs.BraceDirectives as brace
 use Rattle.python_brace_format.proofs.DirectiveLemmas as brace_lemmas
-use Rattle.format_checks.specs.declared.Language.{Language}
-use Rattle.format_checks.specs.declared.Language.TheVariants.{Python, PythonBrace}
+use Rattle.format_flags.specs.declared.languages.Language.{Language}
+use Rattle.format_flags.specs.declared.languages.Language.TheVariants.{Python, PythonBrace}
 use Rattle.format_checks.specs.declared.Difference.{Difference}
 use Rattle.format_checks.specs.declared.Difference.TheVariants.{Invalid, Arguments}
 use Rattle.format_checks.specs.declared.Fault.{Fault}
@@ -28,6 +28,7 @@ one_arguments Python text a b x y =
     one_signature percent python.DirectiveAt python_lemmas.are_directives python.asks text a b x y
 one_arguments PythonBrace text a b x y =
     one_signature open_brace brace.DirectiveAt brace_lemmas.are_directives brace.asks text a b x y
+one_arguments _ text a b x y = absurd x
 
 same_agreement : (language : Language) (rule : Strictness) (form : List ℕ) (original a b : List Argument) (x y : Bool)
     → Lists language form a → Lists language form b → agree language original a rule ≡ x

@@ -3,7 +3,7 @@ use Rattle.std.specs.Prelude.{ℕ, nat_lt, Bool, false, ◌||◌, if◌then◌el
 use Rattle.std.specs.Option.{unwrap_or}
 use Rattle.format_arguments.specs.declared.Strictness.{Strictness}
 use Rattle.format_arguments.specs.declared.Strictness.TheVariants.{Same, Lenient}
-use Rattle.format_checks.specs.declared.flags.Flags.{Flags}
+use Rattle.format_flags.specs.declared.flags.Flags.{Flags}
 
 pub record Entry : Type 0 where
   pub line : ℕ

@@ -3,12 +3,12 @@ use Rattle.std.specs.Prelude.{◌≡◌, ◌⊎◌, ℕ, ◌+◌, Bool, true, fa
 use Rattle.std.specs.Prelude.{None, Some}
 use Rattle.format_arguments.specs.declared.Strictness.{Strictness}
 use Rattle.format_arguments.specs.Arguments.{Argument}
-use Rattle.format_checks.specs.declared.Language.{Language}
-use Rattle.format_checks.specs.declared.Language.TheVariants.{Python, PythonBrace}
+use Rattle.format_flags.specs.declared.languages.Language.{Language}
+use Rattle.format_flags.specs.declared.languages.Language.TheVariants.{Python, PythonBrace}
 use Rattle.format_checks.specs.declared.Difference.{Difference}
 use Rattle.format_checks.specs.declared.Difference.TheVariants.{Invalid, Arguments}
 use Rattle.format_checks.specs.declared.Fault.{Fault}
-use Rattle.format_checks.specs.FormatFlags.{has}
+use Rattle.format_flags.specs.FormatFlags.{has}
 use Rattle.format_checks.specs.FlaggedEntries as entries
 use Rattle.format_checks.specs.FlaggedEntries.{Entry, rule_for}
 use Rattle.format_checks.specs.FormatLanguages.{Lists, IsNoFormat, agree}

@@ -1,4 +1,3 @@
-pub mod FormatFlags
 pub mod FormatLanguages
 pub mod FlaggedEntries
 pub mod FormatViews

@@ -3,8 +3,8 @@ ghost use Rattle.std.specs.Prelude.{◌≡◌};
 ghost use Rattle.format_checks.specs.FormatViews.{entry_view};
 ghost use Rattle.format_checks.specs.FlaggedEntries as spec;
 
-use crate::Flags;
 use format_arguments::Strictness;
+use format_flags::Flags;
 
 /// An entry of a PO text, with the flags of its comments.
 #[derive(Clone, Copy)]

@@ -8,8 +8,9 @@ ghost use Rattle.format_checks.specs.FormatFaults as spec;
 
 use crate::entry::rule_for;
 use crate::languages::{agrees, arguments};
-use crate::{Difference, Entry, Fault, Language};
+use crate::{Difference, Entry, Fault};
 use format_arguments::{Argument, Strictness};
+use format_flags::Language;
 use std::alloc::{AllocError, Global};
 
 /// What is wrong with a form, given its original's arguments.

@@ -3,10 +3,11 @@ ghost use Rattle.std.specs.Prelude.{◌≡◌, IfOk, IfErr, MatchOption, map};
 ghost use Rattle.format_arguments.specs.ArgumentViews.{argument_view};
 ghost use Rattle.format_checks.specs.FormatLanguages as spec;
 
-use crate::Language;
 use format_arguments::{Argument, FormatFault, Strictness};
+use format_flags::Language;
 use std::alloc::{AllocError, Global};
 
+/// The arguments of a format of the language. No text is a format of a language that isn't checked yet.
 fn signature(
     alloc: Global,
     language: Language,
@@ -18,6 +19,7 @@ fn signature(
     match language {
         Language::Python => python_format::signature(alloc, text),
         Language::PythonBrace => python_brace_format::signature(alloc, text),
+        _ => Err(FormatFault::Invalid),
     }
 }
 
@@ -49,7 +51,7 @@ pub(crate) fn agrees<'a>(
         ≡ spec.agree language (map argument_view original.now) (map argument_view translation.now) rule) }
 {
     match language {
-        Language::Python => format_arguments::agrees(alloc, original, translation, rule),
         Language::PythonBrace => python_brace_format::agrees(alloc, original, translation, rule),
+        _ => format_arguments::agrees(alloc, original, translation, rule),
     }
 }

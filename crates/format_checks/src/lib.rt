@@ -4,21 +4,11 @@
 
 mod entry;
 mod faults;
-mod flags;
 mod languages;
 
 pub use entry::Entry;
 pub use faults::{add_faults, one_list};
-pub use flags::Flags;
-
-/// A language whose formats are checked.
-#[derive(Clone, Copy, Debug, PartialEq, Eq)]
-pub enum Language {
-    /// `python-format`: Python's `%` operator
-    Python,
-    /// `python-brace-format`: Python's `str.format`
-    PythonBrace,
-}
+pub use format_flags::{Flags, Language};
 
 /// What is wrong with a form whose original is a format.
 #[derive(Clone, Copy, Debug, PartialEq, Eq)]

@@ -30,12 +30,13 @@ use Rattle.po_checks.proofs.FirstLines.{any_right, any_append_cases, any_weaker}
 
 -- ---- one more entry
 
-kept_skip : (o : Options) (es : List po.Entry) (e : po.Entry) → is_kept o e ≡ false → kept o (es ++ e ∷ []) ≡ kept o es
+pub kept_skip : (o : Options) (es : List po.Entry) (e : po.Entry) → is_kept o e ≡ false → kept o (es ++ e ∷ [])
+    ≡ kept o es
 kept_skip o es e lacks = filter-append (is_kept o) es (e ∷ []) ∙ ap (λ b. kept o es ++ cond b (e ∷ []) []) lacks
     ∙ append-nil (kept o es)
 
-kept_more : (o : Options) (es : List po.Entry) (e : po.Entry) → is_kept o e ≡ true → kept o (es ++ e ∷ []) ≡ kept o es
-    ++ e ∷ []
+pub kept_more : (o : Options) (es : List po.Entry) (e : po.Entry) → is_kept o e ≡ true → kept o (es ++ e ∷ [])
+    ≡ kept o es ++ e ∷ []
 kept_more o es e kept_so = filter-append (is_kept o) es (e ∷ []) ∙ ap (λ b. kept o es ++ cond b (e ∷ []) []) kept_so
 
 pub found_skip : (o : Options) (es : List po.Entry) (e : po.Entry) (f : Findings) → is_kept o e ≡ false

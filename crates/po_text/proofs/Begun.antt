@@ -59,40 +59,41 @@ snoc_some : (xs : List ℕ) (x : ℕ) → xs ++ (x ∷ []) ≢ []
 snoc_some [] x e = absurd (cc e)
 snoc_some (y ∷ xs) x e = absurd (cc e)
 
-id_form : (p q : Place) (d : Draft) → step p Id ≡ Some q → opens_id p ≡ None → HasForm q (put Id p d)
+id_form : (line : ℕ) (p q : Place) (d : Draft) → step p Id ≡ Some q → opens_id p ≡ None → HasForm q (put Id line p d)
 unfolding step
-id_form ContextText q d e o = form_to d IdWord q e tt
-id_form p q d e o = absurd (cc o)
+id_form line ContextText q d e o = form_to d IdWord q e tt
+id_form line p q d e o = absurd (cc o)
 
-plural_form : (p q : Place) (d : Draft) → step p Plural ≡ Some q → HasForm q (put Plural p d)
+plural_form : (line : ℕ) (p q : Place) (d : Draft) → step p Plural ≡ Some q → HasForm q (put Plural line p d)
 unfolding step
-plural_form IdText q d e = form_to (put Plural IdText d) PluralWord q e tt
-plural_form p q d e = absurd (cc e)
+plural_form line IdText q d e = form_to (put Plural line IdText d) PluralWord q e tt
+plural_form line p q d e = absurd (cc e)
 
-str_form : (p q : Place) (d : Draft) → step p Str ≡ Some q → HasForm q (put Str p d)
+str_form : (line : ℕ) (p q : Place) (d : Draft) → step p Str ≡ Some q → HasForm q (put Str line p d)
 unfolding step
-str_form IdText q d e = form_to (put Str IdText d) FormWord q e (snoc_some d.starts (length d.flat))
-str_form PluralText q d e = form_to (put Str PluralText d) (IndexOpen 0) q e (snoc_some d.starts (length d.flat))
-str_form (IndexedText k) q d e = form_to (put Str (IndexedText k) d) (IndexOpen (k + 1)) q e
+str_form line IdText q d e = form_to (put Str line IdText d) FormWord q e (snoc_some d.starts (length d.flat))
+str_form line PluralText q d e = form_to (put Str line PluralText d) (IndexOpen 0) q e
     (snoc_some d.starts (length d.flat))
-str_form p q d e = absurd (cc e)
+str_form line (IndexedText k) q d e = form_to (put Str line (IndexedText k) d) (IndexOpen (k + 1)) q e
+    (snoc_some d.starts (length d.flat))
+str_form line p q d e = absurd (cc e)
 
 chosen : (b : Bool) (r q : Place) → (if b then Some r else None) ≡ Some q → Some r ≡ Some q
 chosen true r q e = e
 chosen false r q e = absurd (cc e)
 
 number_form : (n : ℕ) (p q : Place) (d : Draft) → step p (Number n) ≡ Some q → HasForm p d
-    → HasForm q (put (Number n) p d)
+    → HasForm q d
 unfolding step
 number_form n (IndexNumber k) q d e h = form_to d (IndexClose k) q (chosen (n == k) (IndexClose k) q e) h
 number_form n p q d e h = absurd (cc e)
 
-open_form : (p q : Place) (d : Draft) → step p Open ≡ Some q → HasForm p d → HasForm q (put Open p d)
+open_form : (p q : Place) (d : Draft) → step p Open ≡ Some q → HasForm p d → HasForm q d
 unfolding step
 open_form (IndexOpen k) q d e h = form_to d (IndexNumber k) q e h
 open_form p q d e h = absurd (cc e)
 
-close_form : (p q : Place) (d : Draft) → step p Close ≡ Some q → HasForm p d → HasForm q (put Close p d)
+close_form : (p q : Place) (d : Draft) → step p Close ≡ Some q → HasForm p d → HasForm q d
 unfolding step
 close_form (IndexClose k) q d e h = form_to d (IndexedWord k) q e h
 close_form p q d e h = absurd (cc e)
@@ -116,16 +117,16 @@ text_form bytes (IndexedText k) q d e h = form_to (put_text (IndexedText k) byte
 text_form bytes p q d e h = absurd (cc e)
 
 -- a token that opens no entry leads to a place where a form was begun, if it should be
-pub put_form : (p : Place) (t : Token) (q : Place) (d : Draft) → step p t ≡ Some q → opens t p ≡ None → HasForm p d
-    → HasForm q (put t p d)
-put_form p Context q d e o h = absurd (cc o)
-put_form p Id q d e o h = id_form p q d e o
-put_form p Plural q d e o h = plural_form p q d e
-put_form p Str q d e o h = str_form p q d e
-put_form p (Number n) q d e o h = number_form n p q d e h
-put_form p Open q d e o h = open_form p q d e h
-put_form p Close q d e o h = close_form p q d e h
-put_form p (Text bytes) q d e o h = text_form bytes p q d e h
+pub put_form : (line : ℕ) (p : Place) (t : Token) (q : Place) (d : Draft) → step p t ≡ Some q → opens t p ≡ None
+    → HasForm p d → HasForm q (put t line p d)
+put_form line p Context q d e o h = absurd (cc o)
+put_form line p Id q d e o h = id_form line p q d e o
+put_form line p Plural q d e o h = plural_form line p q d e
+put_form line p Str q d e o h = str_form line p q d e
+put_form line p (Number n) q d e o h = number_form n p q d e h
+put_form line p Open q d e o h = open_form p q d e h
+put_form line p Close q d e o h = close_form p q d e h
+put_form line p (Text bytes) q d e o h = text_form bytes p q d e h
 
 -- ---- where an entry opens
 

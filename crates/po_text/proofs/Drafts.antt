@@ -32,53 +32,82 @@ forms_one k (f ∷ f' ∷ fs) (g ∷ g' ∷ gs) e o =
     cc (same, rest)
 
 -- entries with equal fields are equal
-pub same_entry : (e e' : Entry) → e.line ≡ e'.line → e.fuzzy ≡ e'.fuzzy → e.c_format ≡ e'.c_format → e.context
-    ≡ e'.context → e.id ≡ e'.id → e.plural ≡ e'.plural → e.forms ≡ e'.forms → e ≡ e'
-same_entry e e' line fuzzy c_format context id plural forms =
+pub same_entry : (e e' : Entry) → e.line ≡ e'.line → e.form_line ≡ e'.form_line → e.fuzzy ≡ e'.fuzzy → e.c_format
+    ≡ e'.c_format → e.formats ≡ e'.formats → e.context ≡ e'.context → e.id ≡ e'.id → e.plural ≡ e'.plural → e.forms
+    ≡ e'.forms → e ≡ e'
+same_entry e e' line form_line fuzzy c_format formats context id plural forms =
     ap (λ (x : ℕ). record {
       line = x;
+      form_line = e.form_line;
       fuzzy = e.fuzzy;
       c_format = e.c_format;
+      formats = e.formats;
       context = e.context;
       id = e.id;
-      plural =
-          e.plural;
+      plural = e.plural;
       forms = e.forms;
     }) line
     ∙ ap (λ (x : _). record {
       line = e'.line;
-      fuzzy = x;
+      form_line = x;
+      fuzzy = e.fuzzy;
       c_format = e.c_format;
+      formats = e.formats;
       context = e.context;
       id = e.id;
-      plural =
-          e.plural;
+      plural = e.plural;
+      forms = e.forms;
+    }) form_line
+    ∙ ap (λ (x : _). record {
+      line = e'.line;
+      form_line = e'.form_line;
+      fuzzy = x;
+      c_format = e.c_format;
+      formats = e.formats;
+      context = e.context;
+      id = e.id;
+      plural = e.plural;
       forms = e.forms;
     }) fuzzy
     ∙ ap (λ (x : _). record {
       line = e'.line;
+      form_line = e'.form_line;
       fuzzy = e'.fuzzy;
       c_format = x;
+      formats = e.formats;
       context = e.context;
       id = e.id;
-      plural =
-          e.plural;
+      plural = e.plural;
       forms = e.forms;
     }) c_format
     ∙ ap (λ (x : _). record {
       line = e'.line;
+      form_line = e'.form_line;
       fuzzy = e'.fuzzy;
       c_format = e'.c_format;
+      formats = x;
+      context = e.context;
+      id = e.id;
+      plural = e.plural;
+      forms = e.forms;
+    }) formats
+    ∙ ap (λ (x : _). record {
+      line = e'.line;
+      form_line = e'.form_line;
+      fuzzy = e'.fuzzy;
+      c_format = e'.c_format;
+      formats = e'.formats;
       context = x;
       id = e.id;
-      plural =
-          e.plural;
+      plural = e.plural;
       forms = e.forms;
     }) context
     ∙ ap (λ (x : _). record {
       line = e'.line;
+      form_line = e'.form_line;
       fuzzy = e'.fuzzy;
       c_format = e'.c_format;
+      formats = e'.formats;
       context = e'.context;
       id = x;
       plural = e.plural;
@@ -86,29 +115,32 @@ same_entry e e' line fuzzy c_format context id plural forms =
     }) id
     ∙ ap (λ (x : _). record {
       line = e'.line;
+      form_line = e'.form_line;
       fuzzy = e'.fuzzy;
       c_format = e'.c_format;
+      formats = e'.formats;
       context = e'.context;
-      id =
-          e'.id;
+      id = e'.id;
       plural = x;
       forms = e.forms;
     }) plural
     ∙ ap (λ (x : _). record {
       line = e'.line;
+      form_line = e'.form_line;
       fuzzy = e'.fuzzy;
       c_format = e'.c_format;
+      formats = e'.formats;
       context = e'.context;
-      id =
-          e'.id;
+      id = e'.id;
       plural = e'.plural;
       forms = x;
     }) forms
 
 pub draft_one : (e e' : Entry) → draft_of e ≡ draft_of e' → e ≡ e'
 draft_one e e' same =
-    same_entry e e' (ap (λ (d : Draft). d.line) same) (ap (λ (d : Draft). d.flags.fuzzy) same)
-    (ap (λ (d : Draft). d.flags.c_format) same) (ap (λ (d : Draft). d.context) same) (ap (λ (d : Draft). d.id) same)
+    same_entry e e' (ap (λ (d : Draft). d.lines.entry) same) (ap (λ (d : Draft). d.lines.form) same)
+    (ap (λ (d : Draft). d.flags.fuzzy) same) (ap (λ (d : Draft). d.flags.c_format) same)
+    (ap (λ (d : Draft). d.flags.formats) same) (ap (λ (d : Draft). d.context) same) (ap (λ (d : Draft). d.id) same)
     (ap (λ (d : Draft). d.plural) same) (forms_one 0 e.forms e'.forms (ap (λ (d : Draft). d.flat) same)
     (ap (λ (d : Draft). d.starts) same))
 

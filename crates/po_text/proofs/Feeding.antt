@@ -5,12 +5,13 @@ use Rattle.std.specs.Option.{option_map}
 use Rattle.std.specs.List.{concat, flat_map, Contains, AllByRecursion}
 use Rattle.std.proofs.lemmas.List.{append-nil}
 use Rattle.po_text.specs.declared.flags.Flags.{Flags}
+use Rattle.po_text.specs.declared.buffer.Lines.{Lines}
 use Rattle.byte_text.specs.Chain.{Chain}
 use Rattle.po_text.specs.Spelling.{Token, Context, Id, Plural, Str, Number, Open, Close, Text, Mark, Lexeme}
 use Rattle.po_text.specs.Entries.{Strings, Part, PlainPart, PluralPart, Derivation, texts}
 use Rattle.po_text.specs.Entries.{context_tokens, form_tokens, part_tokens, tokens_of, IsOneOrMore, IsKeyText}
 use Rattle.po_text.specs.Entries.{IsLawfulContext, IsLawfulPart, IsLawfulEntry, Entry, joined_option, plural_of}
-use Rattle.po_text.specs.Entries.{forms_of, entry_of, EntryAt, Derives, all_tokens}
+use Rattle.po_text.specs.Entries.{forms_of, entry_of, EntryAt, Derives, all_tokens, first_form_line, is_form_word}
 use Rattle.po_text.specs.Places.{Place, Start, ContextWord, ContextText, IdWord, IdText, FormWord}
 use Rattle.po_text.specs.Places.{FormText, PluralWord, PluralText, IndexOpen, IndexNumber, IndexClose, IndexedWord}
 use Rattle.po_text.specs.Places.{IndexedText, IsBoundary, step, has_four, key_text}
@@ -147,7 +148,7 @@ grown_more (Some o) a b = ap Some (append_assoc o a b)
 context_adder : IsAdder add_context
 context_adder = record {
   nil = λ d. ap (λ (x : Option (List ℕ)). record {
-    line = d.line;
+    lines = d.lines;
     flags = d.flags;
     context = x;
     id = d.id;
@@ -157,7 +158,7 @@ context_adder = record {
     starts = d.starts;
   }) (grown_nil d.context);
   more = λ d a b. ap (λ (x : Option (List ℕ)). record {
-    line = d.line;
+    lines = d.lines;
     flags = d.flags;
     context = x;
     id = d.id;
@@ -171,7 +172,7 @@ context_adder = record {
 plural_adder : IsAdder add_plural
 plural_adder = record {
   nil = λ d. ap (λ (x : Option (List ℕ)). record {
-    line = d.line;
+    lines = d.lines;
     flags = d.flags;
     context = d.context;
     id = d.id;
@@ -180,7 +181,7 @@ plural_adder = record {
     starts = d.starts;
   }) (grown_nil d.plural);
   more = λ d a b. ap (λ (x : Option (List ℕ)). record {
-    line = d.line;
+    lines = d.lines;
     flags = d.flags;
     context = d.context;
     id = d.id;
@@ -193,7 +194,7 @@ plural_adder = record {
 id_adder : IsAdder add_id
 id_adder = record {
   nil = λ d. ap (λ (x : List ℕ). record {
-    line = d.line;
+    lines = d.lines;
     flags = d.flags;
     context = d.context;
     id = x;
@@ -203,7 +204,7 @@ id_adder = record {
     starts = d.starts;
   }) (append-nil d.id);
   more = λ d a b. ap (λ (x : List ℕ). record {
-    line = d.line;
+    lines = d.lines;
     flags = d.flags;
     context = d.context;
     id = x;
@@ -217,7 +218,7 @@ id_adder = record {
 form_adder : IsAdder add_form
 form_adder = record {
   nil = λ d. ap (λ (x : List ℕ). record {
-    line = d.line;
+    lines = d.lines;
     flags = d.flags;
     context = d.context;
     id = d.id;
@@ -227,7 +228,7 @@ form_adder = record {
     starts = d.starts;
   }) (append-nil d.flat);
   more = λ d a b. ap (λ (x : List ℕ). record {
-    line = d.line;
+    lines = d.lines;
     flags = d.flags;
     context = d.context;
     id = d.id;
@@ -328,10 +329,10 @@ form_feed k form [] more done d f w e some = absurd (cc e)
 form_feed k form (o ∷ []) more done d f w e some = absurd (cc e)
 form_feed k form (o ∷ n ∷ []) more done d f w e some = absurd (cc e)
 
--- the draft with these forms after its own
-abbrev with_forms : Draft → List (List ℕ) → Draft
-with_forms d forms = record {
-  line = d.line;
+-- the draft with these lines, and with these forms after its own
+abbrev with_forms : Lines → Draft → List (List ℕ) → Draft
+with_forms lines d forms = record {
+  lines = lines;
   flags = d.flags;
   context = d.context;
   id = d.id;
@@ -341,12 +342,12 @@ with_forms d forms = record {
   starts = d.starts ++ offsets (length d.flat) forms;
 }
 
-with_nil : (d : Draft) → with_forms d [] ≡ d
+with_nil : (d : Draft) → with_forms d.lines d [] ≡ d
 with_nil d = rw (append-nil d.flat, append-nil d.starts) refl
 
-with_cons : (d : Draft) (form : List ℕ) (forms : List (List ℕ)) → with_forms (add_form (new_form d) form) forms
-    ≡ with_forms d (form ∷ forms)
-with_cons d form forms = rw (
+with_cons : (lines : Lines) (d : Draft) (form : List ℕ) (forms : List (List ℕ))
+    → with_forms lines (add_form (new_form lines d) form) forms ≡ with_forms lines d (form ∷ forms)
+with_cons lines d form forms = rw (
   append_assoc d.flat form (concat forms),
   append_assoc d.starts (length d.flat ∷ [])
       (offsets (length (d.flat ++ form)) forms),
@@ -360,7 +361,7 @@ same_draft done d d' f f' o e g h = subst (λ (x : Draft). EndsAs done x f' o) e
 
 forms_feed : (k : ℕ) (forms : List Strings) (ls : List Lexeme) (done : List Draft) (d : Draft) (f : Flags) (w : ℕ)
     → all_tokens ls ≡ form_tokens (k + 1) forms → AllByRecursion IsOneOrMore forms
-    → EndsAs done (with_forms d (map concat forms)) (flags_through f ls)
+    → EndsAs done (with_forms d.lines d (map concat forms)) (flags_through f ls)
     (feeds (Some (at_state (IndexedText k) done d f w)) ls)
 unfolding step
 forms_feed k [] [] done d f w e all = (
@@ -377,20 +378,21 @@ forms_feed k (form ∷ forms) (l ∷ ls) done d f w e all =
     let (us, bs, is, front, back) = split_tokens ls (Open ∷ Number (k + 1) ∷ Close ∷ texts form)
     (form_tokens (k + 1 + 1) forms) (cc e) in
     let first = token_feed (at_state (IndexedText k) done d f w)
-    (at_state (IndexOpen (k + 1)) done (new_form d) (flags_over f l.marks) w) l ls Str (cc e) refl in
-    let second = ap (λ (x : List Lexeme). feeds (Some (at_state (IndexOpen (k + 1)) done (new_form d)
+    (at_state (IndexOpen (k + 1)) done (new_form d.lines d) (flags_over f l.marks) w) l ls Str (cc e) refl in
+    let second = ap (λ (x : List Lexeme). feeds (Some (at_state (IndexOpen (k + 1)) done (new_form d.lines d)
     (flags_over f l.marks) w)) x) is
-    ∙ form_feed (k + 1) form us bs done (new_form d) (flags_over f l.marks) w front all.0 in
-    let rest = forms_feed (k + 1) forms bs done (add_form (new_form d) (concat form))
+    ∙ form_feed (k + 1) form us bs done (new_form d.lines d) (flags_over f l.marks) w front all.0 in
+    let rest = forms_feed (k + 1) forms bs done (add_form (new_form d.lines d) (concat form))
     (flags_through (flags_over f l.marks) us) w back all.1 in
-    same_draft done _ _ _ _ _ (with_cons d (concat form) (map concat forms))
+    same_draft done _ _ _ _ _ (with_cons d.lines d (concat form) (map concat forms))
     (sym (flags_through-append (flags_over f l.marks) us bs)
     ∙ ap (λ (x : List Lexeme). flags_through (flags_over f l.marks) x) (sym is))
     (ends_from done _ _ _ _ (first ∙ second) rest)
 
-abbrev with_part : Draft → Part → Draft
-with_part d part = record {
-  line = d.line;
+-- the draft with this part, whose first `msgstr` is on this line
+abbrev with_part : ℕ → Draft → Part → Draft
+with_part line d part = record {
+  lines = record { entry = d.lines.entry; form = line };
   flags = d.flags;
   context = d.context;
   id = d.id;
@@ -401,7 +403,7 @@ with_part d part = record {
 
 abbrev bare : ℕ → Flags → Option (List ℕ) → List ℕ → Draft
 bare line flags context id = record {
-  line = line;
+  lines = record { entry = line; form = 0 };
   flags = flags;
   context = context;
   id = id;
@@ -410,19 +412,44 @@ bare line flags context id = record {
   starts = [];
 }
 
+-- ---- the line of the first `msgstr`
+
+form_word_line : (l : Lexeme) (ls : List Lexeme) → l.token ≡ Str → first_form_line (l ∷ ls) ≡ l.line
+form_word_line l ls e = rw e refl
+
+other_word_line : (l : Lexeme) (ls : List Lexeme) (t : Token) → l.token ≡ t → is_form_word t ≡ false
+    → first_form_line (l ∷ ls) ≡ first_form_line ls
+other_word_line l ls t e other = rw (e, other) refl
+
+-- strings come before it
+texts_line : (us bs : List Lexeme) (parts : Strings) → all_tokens us ≡ texts parts → first_form_line (us ++ bs)
+    ≡ first_form_line bs
+texts_line [] bs parts e = refl
+texts_line (l ∷ us) bs [] e = absurd (cc e)
+texts_line (l ∷ us) bs (b ∷ parts) e = other_word_line l (us ++ bs) (Text b) (cc e) refl
+    ∙ texts_line us bs parts (cc e)
+
+line_behind : (ls us bs : List Lexeme) (parts : Strings) → ls ≡ us ++ bs → all_tokens us ≡ texts parts
+    → first_form_line ls ≡ first_form_line bs
+line_behind ls us bs parts is e = ap first_form_line is ∙ texts_line us bs parts e
+
 part_feed : (part : Part) (ls : List Lexeme) (done : List Draft) (line : ℕ) (flags : Flags) (context : Option (List ℕ))
     (id : List ℕ) (f : Flags) (w : ℕ) → all_tokens ls ≡ part_tokens part → IsLawfulPart part
-    → EndsAs done (with_part (bare line flags context id) part) (flags_through f ls)
+    → EndsAs done (with_part (first_form_line ls) (bare line flags context id) part) (flags_through f ls)
     (feeds (Some (at_state IdText done (bare line flags context id) f w)) ls)
 unfolding step
 part_feed (PlainPart form) [] done line flags context id f w e some = absurd (cc e)
 part_feed (PlainPart form) (l ∷ ls) done line flags context id f w e some =
     let d = bare line flags context id in
-    let first = token_feed (at_state IdText done d f w) (at_state FormWord done (new_form d) (flags_over f l.marks) w) l
-    ls Str (cc e) refl in
+    let lines : Lines = record { entry = line; form = l.line } in
+    let first = token_feed (at_state IdText done d f w)
+    (at_state FormWord done (new_form lines d) (flags_over f l.marks) w) l ls Str (cc e) refl in
     let rest = some_feed FormWord FormText add_form Anything adds_form_word adds_form form_adder ls form done
-    (new_form d) (flags_over f l.marks) w (cc e) some (every form) in
-    same_draft done (add_form (new_form d) (concat form)) _ _ _ _ (rw (append-nil (concat form)) refl) refl
+    (new_form lines d) (flags_over f l.marks) w (cc e) some (every form) in
+    let same : add_form (new_form lines d) (concat form) ≡ with_part l.line d (PlainPart form)
+    = rw (append-nil (concat form)) refl in
+    same_draft done (add_form (new_form lines d) (concat form)) _ _ _ _
+    (same ∙ ap (λ (n : ℕ). with_part n d (PlainPart form)) (sym (form_word_line l ls (cc e)))) refl
     (FormText, w, tt, (λ e x. refl), first ∙ rest)
 part_feed (PluralPart plural []) ls done line flags context id f w e some = absurd (some.1 refl)
 part_feed (PluralPart plural (form ∷ forms)) [] done line flags context id f w e some = absurd (cc e)
@@ -436,27 +463,36 @@ part_feed (PluralPart plural (form ∷ forms)) (l ∷ ls) done line flags contex
     done (new_plural d) f1 w front some.0 (every plural) in
     let d1 = add_plural (new_plural d) (concat plural) in
     let third = rest_feed d1 bs (flags_through f1 us) back in
-    same_draft done _ _ _ _ _ (rw (zero-add (length (concat form))) refl)
+    let same : with_forms (record { entry = line; form = first_form_line bs }) d1 (map concat (form ∷ forms))
+    ≡ with_part (first_form_line bs) d (PluralPart plural (form ∷ forms)) = rw (zero-add (length (concat form))) refl in
+    let at : first_form_line (l ∷ ls) ≡ first_form_line bs = other_word_line l ls Plural (cc e) refl
+    ∙ line_behind ls us bs plural is front in
+    same_draft done _ _ _ _ _
+    (same ∙ ap (λ (n : ℕ). with_part n d (PluralPart plural (form ∷ forms))) (sym at))
     (sym (flags_through-append f1 us bs) ∙ ap (λ (x : List Lexeme). flags_through f1 x) (sym is))
     (ends_from done _ _ _ _ (first ∙ ap (λ (x : List Lexeme). feeds
     (Some (at_state PluralWord done (new_plural d) f1 w)) x) is ∙ feeds-append _ us bs
     ∙ ap (λ (x : Option State). feeds x bs) second) third)
   where
     rest_feed : (d1 : Draft) (bs : List Lexeme) (f2 : Flags) → all_tokens bs ≡ form_tokens 0 (form ∷ forms)
-        → EndsAs done (with_forms d1 (map concat (form ∷ forms))) (flags_through f2 bs)
+        → EndsAs done (with_forms (record { entry = d1.lines.entry; form = first_form_line bs }) d1
+        (map concat (form ∷ forms))) (flags_through f2 bs)
         (feeds (Some (at_state PluralText done d1 f2 w)) bs)
     rest_feed d1 [] f2 e = absurd (cc e)
     rest_feed d1 (l ∷ ls) f2 e =
         let (us, bs, is, front, back) = split_tokens ls (Open ∷ Number 0 ∷ Close ∷ texts form)
         (form_tokens (0 + 1) forms) (cc e) in
+        let lines : Lines = record { entry = d1.lines.entry; form = l.line } in
         let first = token_feed (at_state PluralText done d1 f2 w)
-        (at_state (IndexOpen 0) done (new_form d1) (flags_over f2 l.marks) w) l ls Str (cc e) refl in
-        let second = ap (λ (x : List Lexeme). feeds (Some (at_state (IndexOpen 0) done (new_form d1)
+        (at_state (IndexOpen 0) done (new_form lines d1) (flags_over f2 l.marks) w) l ls Str (cc e) refl in
+        let second = ap (λ (x : List Lexeme). feeds (Some (at_state (IndexOpen 0) done (new_form lines d1)
         (flags_over f2 l.marks) w)) x) is
-        ∙ form_feed 0 form us bs done (new_form d1) (flags_over f2 l.marks) w front some.2.0 in
-        let rest = forms_feed 0 forms bs done (add_form (new_form d1) (concat form))
+        ∙ form_feed 0 form us bs done (new_form lines d1) (flags_over f2 l.marks) w front some.2.0 in
+        let rest = forms_feed 0 forms bs done (add_form (new_form lines d1) (concat form))
         (flags_through (flags_over f2 l.marks) us) w back some.2.1 in
-        same_draft done _ _ _ _ _ (with_cons d1 (concat form) (map concat forms))
+        same_draft done _ _ _ _ _ (with_cons lines d1 (concat form) (map concat forms)
+        ∙ ap (λ (n : ℕ). with_forms (record { entry = d1.lines.entry; form = n }) d1 (map concat (form ∷ forms)))
+        (sym (form_word_line l ls (cc e))))
         (sym (flags_through-append (flags_over f2 l.marks) us bs)
         ∙ ap (λ (x : List Lexeme). flags_through (flags_over f2 l.marks) x) (sym is))
         (ends_from done _ _ _ _ (first ∙ second) rest)
@@ -465,13 +501,14 @@ part_feed (PluralPart plural (form ∷ forms)) (l ∷ ls) done line flags contex
 id_feed : (id : Strings) (part : Part) (ls : List Lexeme) (done : List Draft) (line : ℕ) (flags : Flags)
     (context : Option (List ℕ)) (f : Flags) (w : ℕ) → all_tokens ls ≡ texts id ++ part_tokens part → IsKeyText id
     → IsLawfulPart part
-    → EndsAs done (with_part (bare line flags context (concat id)) part) (flags_through f ls)
+    → EndsAs done (with_part (first_form_line ls) (bare line flags context (concat id)) part) (flags_through f ls)
     (feeds (Some (at_state IdWord done (begin line flags context) f w)) ls)
 id_feed id part ls done line flags context f w e key lawful =
     let (us, bs, is, front, back) = split_tokens ls (texts id) (part_tokens part) e in
     let first = some_feed IdWord IdText add_id NoFourIn adds_id_word adds_id id_adder us id done
     (begin line flags context) f w front key.0 (no_fours id key.1) in
-    same_draft done _ _ _ _ _ refl (sym (flags_through-append f us bs)
+    same_draft done _ _ _ _ _ (ap (λ (n : ℕ). with_part n (bare line flags context (concat id)) part)
+    (sym (line_behind ls us bs id is front))) (sym (flags_through-append f us bs)
     ∙ ap (λ (x : List Lexeme). flags_through f x) (sym is))
     (ends_from done _ _ _ _ (ap (λ (x : List Lexeme). feeds (Some (at_state IdWord done (begin line flags context) f w))
     x) is ∙ feeds-append _ us bs ∙ ap (λ (x : Option State). feeds x bs) first)
@@ -519,8 +556,9 @@ entry_feed : (context : Option Strings) (id : Strings) (part : Part) (first : Le
     (done : List Draft) (d : Draft) (f : Flags) (k : ℕ)
     → all_tokens (first ∷ others) ≡ context_tokens context ++ (Id ∷ texts id ++ part_tokens part)
     → IsLawfulContext context → IsKeyText id → IsLawfulPart part → IsBoundary p
-    → EndsAs (drafts_at p done d) (with_part (bare first.line (flags_over f first.marks) (joined_option context)
-    (concat id)) part) (flags_through no_flags others) (feeds (Some (at_state p done d f k)) (first ∷ others))
+    → EndsAs (drafts_at p done d) (with_part (first_form_line others) (bare first.line (flags_over f first.marks)
+    (joined_option context) (concat id)) part) (flags_through no_flags others)
+    (feeds (Some (at_state p done d f k)) (first ∷ others))
 entry_feed None id part first others p done d f k e lawful key part_lawful b =
     ends_from _ _ _ _ _ (token_feed (at_state p done d f k) _ first others Id (cc e)
     (open_with_id p done d f k first.marks first.line b))
@@ -537,22 +575,26 @@ entry_feed (Some parts) id part first others p done d f k e lawful key part_lawf
     let both = one ∙ ap (λ (x : List Lexeme). feeds (Some (at_state ContextWord (drafts_at p done d)
     (begin first.line ff (Some [])) no_flags first.line)) x) is ∙ feeds-append _ us bs
     ∙ ap (λ (x : Option State). feeds x bs) two in
-    same_draft (drafts_at p done d) _ _ _ _ _ refl (sym (flags_through-append no_flags us bs)
+    same_draft (drafts_at p done d) _ _ _ _ _ (ap (λ (n : ℕ). with_part n (bare first.line ff (Some (concat parts))
+    (concat id)) part) (sym (line_behind others us bs parts is front))) (sym (flags_through-append no_flags us bs)
     ∙ ap (λ (x : List Lexeme). flags_through no_flags x) (sym is))
     (ends_from _ _ _ _ _ both (behind bs ff (flags_through no_flags us) back))
   where
     behind : (bs : List Lexeme) (ff f2 : Flags) → all_tokens bs ≡ Id ∷ (texts id ++ part_tokens part)
-        → EndsAs (drafts_at p done d) (with_part (bare first.line ff (Some (concat parts)) (concat id)) part)
+        → EndsAs (drafts_at p done d) (with_part (first_form_line bs) (bare first.line ff (Some (concat parts))
+        (concat id)) part)
         (flags_through f2 bs) (feeds (Some (at_state ContextText (drafts_at p done d)
         (begin first.line ff (Some (concat parts))) f2 first.line)) bs)
     behind [] ff f2 e = absurd (cc e)
     behind (l ∷ ls) ff f2 e =
-        ends_from _ _ _ _ _ (token_feed (at_state ContextText (drafts_at p done d)
+        same_draft _ _ _ _ _ _ (ap (λ (n : ℕ). with_part n (bare first.line ff (Some (concat parts)) (concat id)) part)
+        (sym (other_word_line l ls Id (cc e) refl))) refl
+        (ends_from _ _ _ _ _ (token_feed (at_state ContextText (drafts_at p done d)
         (begin first.line ff (Some (concat parts))) f2 first.line) _ l ls Id (cc e)
         (id_in_context (drafts_at p done d) (begin first.line ff (Some (concat parts))) f2 first.line l.marks
         l.line))
         (id_feed id part ls (drafts_at p done d) first.line ff (Some (concat parts)) (flags_over f2 l.marks) l.line
-        (cc e) key part_lawful)
+        (cc e) key part_lawful))
 
 -- all entries
 abbrev pub EndsWith : List Draft → Option State → Type 0
@@ -580,9 +622,11 @@ chain_feeds (entry ∷ entries) marks later found ((marks2, found2), at, more) p
     let dv = at.derivation in
     let (q, k2, b2, last, is) = entry_feed dv.context dv.id dv.part at.first at.others p done d
     (flags_over no_flags marks) k at.tokens at.lawful.context at.lawful.id at.lawful.part b in
-    let draft_is : with_part (bare at.first.line (flags_over (flags_over no_flags marks) at.first.marks)
+    let draft_is : with_part (first_form_line at.others)
+    (bare at.first.line (flags_over (flags_over no_flags marks) at.first.marks)
     (joined_option dv.context) (concat dv.id)) dv.part ≡ draft_of entry
-    = ap (λ (x : Flags). with_part (bare at.first.line x (joined_option dv.context) (concat dv.id)) dv.part)
+    = ap (λ (x : Flags). with_part (first_form_line at.others)
+    (bare at.first.line x (joined_option dv.context) (concat dv.id)) dv.part)
     (sym (flags_over-append no_flags marks at.first.marks) ∙ flags_are (marks ++ at.first.marks))
     ∙ ap draft_of (sym at.entry) in
     let later_flags : flags_through no_flags at.others ≡ flags_over no_flags marks2 = flags_through_marks no_flags
@@ -627,7 +671,7 @@ chain_of (d ∷ ds) marks found all e =
     let (first, others, cut) = first_of d us front in
     let marks2 = flat_map (λ (l : Lexeme). l.marks) others in
     let (entries, later, more) = chain_of ds marks2 bs all.1 back in (
-      entry_of first.line (marks ++ first.marks) d ∷ entries,
+      entry_of first.line (first_form_line others) (marks ++ first.marks) d ∷ entries,
       later,
       (
         (marks2, bs),

@@ -13,6 +13,7 @@ use Rattle.std.proofs.lemmas.List.Elements.{Contains-append_cases}
 use Rattle.std.proofs.Math.Seq.{take-append_seam, drop-append_seam}
 use Rattle.po_text.specs.declared.buffer.EntryBuffer.TheInside.{Inside}
 use Rattle.po_text.specs.declared.flags.Flags.{Flags}
+use Rattle.po_text.specs.declared.buffer.Lines.{Lines}
 use Rattle.po_text.specs.Spelling.{IsLawful}
 use Rattle.po_text.specs.Entries.{Entry}
 use Rattle.po_text.specs.Lawful.{IsLawfulIf, HasNoFourIf, IsLawfulTexts}
@@ -57,8 +58,9 @@ cut_again forms flat starts e o = rw (e, o) (cut_behind [] forms)
 
 pub entry_is : (b : Inside) (e : Entry) → draft_in b ≡ draft_of e → entry_in b ≡ e
 entry_is b e same =
-    same_entry (entry_in b) e (ap (λ (d : Draft). d.line) same) (ap (λ (d : Draft). d.flags.fuzzy) same)
-    (ap (λ (d : Draft). d.flags.c_format) same) (ap (λ (d : Draft). d.context) same) (ap (λ (d : Draft). d.id) same)
+    same_entry (entry_in b) e (ap (λ (d : Draft). d.lines.entry) same) (ap (λ (d : Draft). d.lines.form) same)
+    (ap (λ (d : Draft). d.flags.fuzzy) same) (ap (λ (d : Draft). d.flags.c_format) same)
+    (ap (λ (d : Draft). d.flags.formats) same) (ap (λ (d : Draft). d.context) same) (ap (λ (d : Draft). d.id) same)
     (ap (λ (d : Draft). d.plural) same) (cut_again e.forms b.forms.items b.starts.items
     (ap (λ (d : Draft). d.flat) same) (ap (λ (d : Draft). d.starts) same))
 
@@ -84,8 +86,10 @@ none_free false = tt
 pub begun_lawful : (line : ℕ) (flags : Flags) (b : Bool) → IsLawfulTexts
     (record {
       line = line;
+      form_line = 0;
       fuzzy = flags.fuzzy;
       c_format = flags.c_format;
+      formats = flags.formats;
       context = some_if b [];
       id = [];
       plural =
@@ -149,8 +153,10 @@ form_added e bytes [] is l some h = absurd (some refl)
 form_added e bytes (f ∷ forms) is l some h = (
   record {
     line = e.line;
+    form_line = e.form_line;
     fuzzy = e.fuzzy;
     c_format = e.c_format;
+    formats = e.formats;
     context = e.context;
     id = e.id;
     plural = e.plural;
@@ -158,8 +164,8 @@ form_added e bytes (f ∷ forms) is l some h = (
   },
   rw is (
       ap (λ (x : List ℕ). record {
-        line = e.line;
-        flags = record { fuzzy = e.fuzzy; c_format = e.c_format };
+        lines = record { entry = e.line; form = e.form_line };
+        flags = record { fuzzy = e.fuzzy; c_format = e.c_format; formats = e.formats };
         context =
             e.context;
         id = e.id;
@@ -169,8 +175,8 @@ form_added e bytes (f ∷ forms) is l some h = (
       })
       (concat-add_last f forms bytes)
       ∙ ap (λ (x : List ℕ). record {
-        line = e.line;
-        flags = record { fuzzy = e.fuzzy; c_format = e.c_format };
+        lines = record { entry = e.line; form = e.form_line };
+        flags = record { fuzzy = e.fuzzy; c_format = e.c_format; formats = e.formats };
         context =
             e.context;
         id = e.id;
@@ -195,8 +201,10 @@ context_added : (e : Entry) (bytes : List ℕ) → IsLawful bytes → ¬ Contain
 context_added e bytes l free h = (
   record {
     line = e.line;
+    form_line = e.form_line;
     fuzzy = e.fuzzy;
     c_format = e.c_format;
+    formats = e.formats;
     context = grown e.context bytes;
     id = e.id;
     plural =
@@ -220,8 +228,10 @@ id_added : (e : Entry) (bytes : List ℕ) → IsLawful bytes → ¬ Contains byt
 id_added e bytes l free h = (
   record {
     line = e.line;
+    form_line = e.form_line;
     fuzzy = e.fuzzy;
     c_format = e.c_format;
+    formats = e.formats;
     context = e.context;
     id = e.id
         ++ bytes;
@@ -245,8 +255,10 @@ plural_added : (e : Entry) (bytes : List ℕ) → IsLawful bytes → IsLawfulTex
 plural_added e bytes l h = (
   record {
     line = e.line;
+    form_line = e.form_line;
     fuzzy = e.fuzzy;
     c_format = e.c_format;
+    formats = e.formats;
     context = e.context;
     id = e.id;
     plural = grown
@@ -294,20 +306,22 @@ new_lawful : (forms : List (List ℕ)) → AllByRecursion IsLawful forms → All
 new_lawful [] h = (lawful_nil, tt)
 new_lawful (f ∷ forms) h = (h.0, new_lawful forms h.1)
 
-pub form_begun : (e : Entry) → IsLawfulTexts e → Becomes (new_form (draft_of e))
-form_begun e h = (
+pub form_begun : (lines : Lines) (e : Entry) → IsLawfulTexts e → Becomes (new_form lines (draft_of e))
+form_begun lines e h = (
   record {
-    line = e.line;
+    line = lines.entry;
+    form_line = lines.form;
     fuzzy = e.fuzzy;
     c_format = e.c_format;
+    formats = e.formats;
     context = e.context;
     id = e.id;
     plural = e.plural;
     forms = e.forms ++ ([] ∷ []);
   },
   ap (λ (x : List ℕ). record {
-    line = e.line;
-    flags = record { fuzzy = e.fuzzy; c_format = e.c_format };
+    lines = lines;
+    flags = record { fuzzy = e.fuzzy; c_format = e.c_format; formats = e.formats };
     context =
         e.context;
     id = e.id;
@@ -317,8 +331,8 @@ form_begun e h = (
   })
       (concat-new e.forms)
       ∙ ap (λ (x : List ℕ). record {
-        line = e.line;
-        flags = record { fuzzy = e.fuzzy; c_format = e.c_format };
+        lines = lines;
+        flags = record { fuzzy = e.fuzzy; c_format = e.c_format; formats = e.formats };
         context =
             e.context;
         id = e.id;
@@ -385,7 +399,7 @@ grown_if false old bytes = refl
 pub context_grows : (p : code.Place) (k : ℕ) (ok : Bool) (new bytes : List ℕ) (b : Inside) → (p ≡ places.ContextWord)
     ⊎ (p ≡ places.ContextText) → new ≡ (if ok then b.context.items ++ bytes else b.context.items)
     → Grows ok (record {
-      line = b.line;
+      lines = b.lines;
       flags = b.flags;
       context = some_if b.has_context new;
       id = b.id.items;
@@ -397,7 +411,7 @@ pub context_grows : (p : code.Place) (k : ℕ) (ok : Bool) (new bytes : List ℕ
     (put_text (place_view p k) bytes (draft_in b))
 context_grows p k ok new bytes b is e =
     let make : List ℕ → Draft = λ x. record {
-      line = b.line;
+      lines = b.lines;
       flags = b.flags;
       context = some_if b.has_context x;
       id =
@@ -408,7 +422,7 @@ context_grows p k ok new bytes b is e =
     } in
     let at : make (b.context.items ++ bytes) ≡ put_text ContextWord bytes (draft_in b)
     = ap (λ (x : Option (List ℕ)). record {
-      line = b.line;
+      lines = b.lines;
       flags = b.flags;
       context = x;
       id = b.id.items;
@@ -428,7 +442,7 @@ context_grows p k ok new bytes b is e =
 pub id_grows : (p : code.Place) (k : ℕ) (ok : Bool) (new bytes : List ℕ) (b : Inside) → (p ≡ places.IdWord)
     ⊎ (p ≡ places.IdText) → new ≡ (if ok then b.id.items ++ bytes else b.id.items)
     → Grows ok (record {
-      line = b.line;
+      lines = b.lines;
       flags = b.flags;
       context = some_if b.has_context b.context.items;
       id = new;
@@ -439,7 +453,7 @@ pub id_grows : (p : code.Place) (k : ℕ) (ok : Bool) (new bytes : List ℕ) (b 
     (put_text (place_view p k) bytes (draft_in b))
 id_grows p k ok new bytes b is e =
     let make : List ℕ → Draft = λ x. record {
-      line = b.line;
+      lines = b.lines;
       flags = b.flags;
       context = some_if b.has_context
           b.context.items;
@@ -459,7 +473,7 @@ id_grows p k ok new bytes b is e =
 pub plural_grows : (p : code.Place) (k : ℕ) (ok : Bool) (new bytes : List ℕ) (b : Inside) → (p ≡ places.PluralWord)
     ⊎ (p ≡ places.PluralText) → new ≡ (if ok then b.plural.items ++ bytes else b.plural.items)
     → Grows ok (record {
-      line = b.line;
+      lines = b.lines;
       flags = b.flags;
       context = some_if b.has_context b.context.items;
       id =
@@ -471,7 +485,7 @@ pub plural_grows : (p : code.Place) (k : ℕ) (ok : Bool) (new bytes : List ℕ)
     (put_text (place_view p k) bytes (draft_in b))
 plural_grows p k ok new bytes b is e =
     let make : List ℕ → Draft = λ x. record {
-      line = b.line;
+      lines = b.lines;
       flags = b.flags;
       context = some_if b.has_context
           b.context.items;
@@ -482,7 +496,7 @@ plural_grows p k ok new bytes b is e =
     } in
     let at : make (b.plural.items ++ bytes) ≡ put_text PluralWord bytes (draft_in b)
     = ap (λ (x : Option (List ℕ)). record {
-      line = b.line;
+      lines = b.lines;
       flags = b.flags;
       context = some_if b.has_context
           b.context.items;
@@ -514,7 +528,7 @@ pub form_grows : (p : code.Place) (k : ℕ) (ok : Bool) (new bytes : List ℕ) (
     → p ≢ places.ContextText → p ≢ places.IdWord → p ≢ places.IdText → p ≢ places.PluralWord → p ≢ places.PluralText
     → new ≡ (if ok then b.forms.items ++ bytes else b.forms.items)
     → Grows ok (record {
-      line = b.line;
+      lines = b.lines;
       flags = b.flags;
       context = some_if b.has_context b.context.items;
       id =
@@ -526,7 +540,7 @@ pub form_grows : (p : code.Place) (k : ℕ) (ok : Bool) (new bytes : List ℕ) (
     (put_text (place_view p k) bytes (draft_in b))
 form_grows p k ok new bytes b c c' i i' q q' e =
     let make : List ℕ → Draft = λ x. record {
-      line = b.line;
+      lines = b.lines;
       flags = b.flags;
       context = some_if b.has_context
           b.context.items;
@@ -539,14 +553,14 @@ form_grows p k ok new bytes b c c' i i' q q' e =
     grew ok new b.forms.items bytes make (put_text (place_view p k) bytes (draft_in b))
     (form_place p k bytes (draft_in b) c c' i i' q q') e
 
-pub form_kept : (b new : Inside) (e : Entry) → entry_in b ≡ e → IsWellBuilt b → draft_in new ≡ new_form (draft_in b)
-    → IsWellBuilt new
-form_kept b new e view h is = kept_as new (new_form (draft_of e)) (is ∙ ap new_form (draft_of_view b e view h))
-    (form_begun e (lawful_view b e view h))
+pub form_kept : (lines : Lines) (b new : Inside) (e : Entry) → entry_in b ≡ e → IsWellBuilt b → draft_in new
+    ≡ new_form lines (draft_in b) → IsWellBuilt new
+form_kept lines b new e view h is = kept_as new (new_form lines (draft_of e))
+    (is ∙ ap (new_form lines) (draft_of_view b e view h)) (form_begun lines e (lawful_view b e view h))
 
-pub form_put : (b new : Inside) (e : Entry) → entry_in b ≡ e → IsWellBuilt b → IsWellBuilt new → draft_in new
-    ≡ new_form (draft_in b) → draft_of (entry_in new) ≡ new_form (draft_of e)
-form_put b new e view h h' is = draft_is new h' ∙ is ∙ ap new_form (draft_of_view b e view h)
+pub form_put : (lines : Lines) (b new : Inside) (e : Entry) → entry_in b ≡ e → IsWellBuilt b → IsWellBuilt new
+    → draft_in new ≡ new_form lines (draft_in b) → draft_of (entry_in new) ≡ new_form lines (draft_of e)
+form_put lines b new e view h h' is = draft_is new h' ∙ is ∙ ap (new_form lines) (draft_of_view b e view h)
 
 -- ---- one form of several
 

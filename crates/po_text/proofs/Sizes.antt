@@ -15,7 +15,7 @@ use Rattle.po_text.specs.Spelling.{UnitAt, UnitsAt, unit_value, Piece, White, Co
 use Rattle.po_text.specs.Spelling.{CloseBracket, Quoted, PieceAt, word_token, number_of, newlines, comment_marks}
 use Rattle.po_text.specs.Entries.{Strings, Part, PlainPart, PluralPart, Derivation, texts}
 use Rattle.po_text.specs.Entries.{context_tokens, form_tokens, part_tokens, tokens_of, Entry, joined_option}
-use Rattle.po_text.specs.Entries.{plural_of, forms_of, entry_of, Remaining, EntryAt, all_tokens}
+use Rattle.po_text.specs.Entries.{plural_of, forms_of, entry_of, Remaining, EntryAt, all_tokens, first_form_line}
 use Rattle.po_text.specs.Outcome.{Reads, Gives, body, byte_order_mark}
 
 -- ---- sizes in an MO file (GNU gettext manual, The Format of GNU MO Files)
@@ -160,9 +160,9 @@ part_size (PluralPart plural forms) = omega (
   indexed_size 0 forms,
 )
 
-derivation_size : (line : ℕ) (marks : List Mark) (d : Derivation)
-    → entry_size (entry_of line marks d) ≤ 2 * tokens_size (tokens_of d)
-derivation_size line marks d =
+derivation_size : (line form_line : ℕ) (marks : List Mark) (d : Derivation)
+    → entry_size (entry_of line form_line marks d) ≤ 2 * tokens_size (tokens_of d)
+derivation_size line form_line marks d =
     omega (
       arith,
       context_size d.context,
@@ -184,7 +184,7 @@ entry_at_size e now later at =
     omega (
       arith,
       ap entry_size at.entry,
-      derivation_size at.first.line (now.0 ++ at.first.marks) at.derivation,
+      derivation_size at.first.line (first_form_line at.others) (now.0 ++ at.first.marks) at.derivation,
       ap
           tokens_size at.tokens,
       ap (λ (ls : List Lexeme). tokens_size (all_tokens ls)) at.split,

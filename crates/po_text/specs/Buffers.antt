@@ -17,9 +17,11 @@ cut_forms flat (start ∷ later) = take (first_or later (length flat) - start) (
 -- the entry that the buffers hold
 abbrev pub entry_in : Inside → Entry
 entry_in b = record {
-  line = b.line;
+  line = b.lines.entry;
+  form_line = b.lines.form;
   fuzzy = b.flags.fuzzy;
   c_format = b.flags.c_format;
+  formats = b.flags.formats;
   context = some_if b.has_context b.context.items;
   id = b.id.items;
   plural = some_if b.has_plural b.plural.items;
@@ -29,7 +31,7 @@ entry_in b = record {
 -- the draft that the buffers hold, its forms uncut
 abbrev pub draft_in : Inside → Draft
 draft_in b = record {
-  line = b.line;
+  lines = b.lines;
   flags = b.flags;
   context = some_if b.has_context b.context.items;
   id = b.id.items;

@@ -1,17 +1,21 @@
 -- Private: entries built from one lexeme after another.
 use Rattle.std.specs.Prelude.{ℕ, ◌+◌, Bool, true, false, List, [], ◌∷◌, ◌++◌, length, Option, Some, None}
 use Rattle.std.specs.Option.{option_map}
-use Rattle.std.specs.List.{concat}
+use Rattle.std.specs.List.{concat, fold}
+use Rattle.format_flags.specs.FormatFlags as formats
 use Rattle.po_text.specs.declared.flags.Flags.{Flags}
-use Rattle.po_text.specs.Spelling.{Token, Context, Id, Plural, Str, Text, Mark, Fuzzy, CFormat, Clear, Lexeme}
-use Rattle.po_text.specs.Entries.{Entry}
-use Rattle.po_text.specs.Places.{Place, Start, ContextWord, ContextText, IdWord, IdText, PluralWord, PluralText, step}
+use Rattle.po_text.specs.declared.buffer.Lines.{Lines}
+use Rattle.po_text.specs.Spelling.{Token, Context, Id, Plural, Str, Text, Mark, Fuzzy, CFormat, Flag, Clear, Lexeme}
+use Rattle.po_text.specs.Entries.{Entry, formats_after}
+use Rattle.po_text.specs.Places.{Place, Start, ContextWord, ContextText, IdWord, IdText, PluralWord, PluralText}
+use Rattle.po_text.specs.Places.{IndexedText, step}
 
 -- whether the entry is fuzzy after these marks, mark by mark
 abbrev pub fuzzy_of : Bool → List Mark → Bool
 fuzzy_of flag [] = flag
 fuzzy_of flag (Fuzzy ∷ marks) = fuzzy_of true marks
 fuzzy_of flag (CFormat ∷ marks) = fuzzy_of flag marks
+fuzzy_of flag (Flag word ∷ marks) = fuzzy_of flag marks
 fuzzy_of flag (Clear ∷ marks) = fuzzy_of false marks
 
 -- whether the entry is flagged `c-format` after these marks, mark by mark
@@ -19,18 +23,23 @@ abbrev pub c_format_of : Bool → List Mark → Bool
 c_format_of flag [] = flag
 c_format_of flag (Fuzzy ∷ marks) = c_format_of flag marks
 c_format_of flag (CFormat ∷ marks) = c_format_of true marks
+c_format_of flag (Flag word ∷ marks) = c_format_of flag marks
 c_format_of flag (Clear ∷ marks) = c_format_of false marks
 
 -- the flags after these marks
 abbrev pub flags_over : Flags → List Mark → Flags
-flags_over f marks = record { fuzzy = fuzzy_of f.fuzzy marks; c_format = c_format_of f.c_format marks }
+flags_over f marks = record {
+  fuzzy = fuzzy_of f.fuzzy marks;
+  c_format = c_format_of f.c_format marks;
+  formats = fold formats_after f.formats marks;
+}
 
 abbrev pub no_flags : Flags
-no_flags = record { fuzzy = false; c_format = false }
+no_flags = record { fuzzy = false; c_format = false; formats = formats.no_flags }
 
 -- an entry as a buffer stores it: its forms back to back, and where each begins
 pub record Draft : Type 0 where
-  pub line : ℕ
+  pub lines : Lines
   pub flags : Flags
   pub context : Option (List ℕ)
   pub id : List ℕ
@@ -54,8 +63,8 @@ offsets k (form ∷ more) = k ∷ offsets (k + length form) more
 
 abbrev pub draft_of : Entry → Draft
 draft_of e = record {
-  line = e.line;
-  flags = record { fuzzy = e.fuzzy; c_format = e.c_format };
+  lines = record { entry = e.line; form = e.form_line };
+  flags = record { fuzzy = e.fuzzy; c_format = e.c_format; formats = e.formats };
   context = e.context;
   id = e.id;
   plural = e.plural;
@@ -65,8 +74,15 @@ draft_of e = record {
 
 -- an entry with only its opening keyword read
 abbrev pub begin : ℕ → Flags → Option (List ℕ) → Draft
-begin line flags context =
-    record { line = line; flags = flags; context = context; id = []; plural = None; flat = []; starts = [] }
+begin line flags context = record {
+  lines = record { entry = line; form = 0 };
+  flags = flags;
+  context = context;
+  id = [];
+  plural = None;
+  flat = [];
+  starts = [];
+}
 
 abbrev pub grown : Option (List ℕ) → List ℕ → Option (List ℕ)
 grown None bytes = None
@@ -74,7 +90,7 @@ grown (Some old) bytes = Some (old ++ bytes)
 
 abbrev pub add_context : Draft → List ℕ → Draft
 add_context d bytes = record {
-  line = d.line;
+  lines = d.lines;
   flags = d.flags;
   context = grown d.context bytes;
   id = d.id;
@@ -85,7 +101,7 @@ add_context d bytes = record {
 
 abbrev pub add_id : Draft → List ℕ → Draft
 add_id d bytes = record {
-  line = d.line;
+  lines = d.lines;
   flags = d.flags;
   context = d.context;
   id = d.id ++ bytes;
@@ -96,7 +112,7 @@ add_id d bytes = record {
 
 abbrev pub add_plural : Draft → List ℕ → Draft
 add_plural d bytes = record {
-  line = d.line;
+  lines = d.lines;
   flags = d.flags;
   context = d.context;
   id = d.id;
@@ -107,7 +123,7 @@ add_plural d bytes = record {
 
 abbrev pub add_form : Draft → List ℕ → Draft
 add_form d bytes = record {
-  line = d.line;
+  lines = d.lines;
   flags = d.flags;
   context = d.context;
   id = d.id;
@@ -118,7 +134,7 @@ add_form d bytes = record {
 
 abbrev pub new_plural : Draft → Draft
 new_plural d = record {
-  line = d.line;
+  lines = d.lines;
   flags = d.flags;
   context = d.context;
   id = d.id;
@@ -127,9 +143,14 @@ new_plural d = record {
   starts = d.starts;
 }
 
-abbrev pub new_form : Draft → Draft
-new_form d = record {
-  line = d.line;
+-- the lines of an entry after a `msgstr` on this line
+abbrev pub noted : Place → ℕ → Lines → Lines
+noted (IndexedText k) line old = old
+noted _ line old = record { entry = old.entry; form = line }
+
+abbrev pub new_form : Lines → Draft → Draft
+new_form lines d = record {
+  lines = lines;
   flags = d.flags;
   context = d.context;
   id = d.id;
@@ -148,12 +169,12 @@ put_text PluralWord bytes d = add_plural d bytes
 put_text PluralText bytes d = add_plural d bytes
 put_text _ bytes d = add_form d bytes
 
--- a token that doesn't open an entry
-abbrev pub put : Token → Place → Draft → Draft
-put (Text bytes) p d = put_text p bytes d
-put Plural p d = new_plural d
-put Str p d = new_form d
-put _ p d = d
+-- a token on this line that doesn't open an entry
+abbrev pub put : Token → ℕ → Place → Draft → Draft
+put (Text bytes) line p d = put_text p bytes d
+put Plural line p d = new_plural d
+put Str line p d = new_form (noted p line d.lines) d
+put _ line p d = d
 
 -- the state of the parser: what it has read so far
 pub record State : Type 0 where
@@ -190,7 +211,7 @@ abbrev pub after : Option (Option (List ℕ)) → State → List Mark → ℕ �
 after (Some context) s marks line t p =
     at_state p (drafts_at s.place s.done s.draft) (begin line (flags_over s.flags marks) context) no_flags line
 after None s marks line t p =
-    at_state p s.done (put t s.place s.draft) (flags_over s.flags marks) (keyword_line t line s.keyword)
+    at_state p s.done (put t line s.place s.draft) (flags_over s.flags marks) (keyword_line t line s.keyword)
 
 abbrev pub feed_at : State → List Mark → ℕ → Token → Option State
 feed_at s marks line t = option_map (λ p. after (opens t s.place) s marks line t p) (step s.place t)

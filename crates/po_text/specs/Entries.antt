@@ -1,12 +1,15 @@
 -- Which entries a list of lexemes derives, and which fault of grammar it has (GNU gettext manual, "PO Files").
 use Rattle.std.specs.Prelude.{◌≡◌, ◌≢◌, ℕ, ◌+◌, Bool, true, false, not, List}
-use Rattle.std.specs.Prelude.{[], ◌∷◌, ◌++◌, map, reverse, Option, None, Some, ◌⊎◌}
-use Rattle.std.specs.List.{concat, flat_map, list_any, take_while, Contains, AllByRecursion}
+use Rattle.std.specs.Prelude.{[], ◌∷◌, ◌++◌, map, reverse, Option, None, Some, ◌⊎◌, if◌then◌else◌}
+use Rattle.std.specs.Str.{bytes_eq}
+use Rattle.std.specs.List.{concat, flat_map, fold, list_any, take_while, Contains, AllByRecursion}
+use Rattle.format_flags.specs.declared.flags.Flags.{Flags}
+use Rattle.format_flags.specs.FormatFlags as formats
 use Rattle.po_text.specs.declared.fault.PoKind.{PoKind}
 use Rattle.po_text.specs.declared.fault.PoKind.TheVariants.{BadText, BadOrder, BadIndex}
 use Rattle.byte_text.specs.Chain.{Chain}
 use Rattle.po_text.specs.Spelling.{Token, Context, Id, Plural, Str, Number, Open}
-use Rattle.po_text.specs.Spelling.{Close, Text, Mark, Fuzzy, CFormat, Clear, Lexeme}
+use Rattle.po_text.specs.Spelling.{Close, Text, Mark, Fuzzy, CFormat, Flag, Clear, Lexeme}
 
 -- ---- the table
 
@@ -70,11 +73,14 @@ pub record IsLawfulEntry (d : Derivation) : Type 0 where
 
 -- ---- entries
 
--- the contents of an entry; an empty context differs from no context
+-- the contents of an entry, and the lines of its first keyword and of its first `msgstr`; an empty context differs from
+-- no context
 pub record Entry : Type 0 where
   pub line : ℕ
+  pub form_line : ℕ
   pub fuzzy : Bool
   pub c_format : Bool
+  pub formats : Flags
   pub context : Option (List ℕ)
   pub id : List ℕ
   pub plural : Option (List ℕ)
@@ -82,12 +88,23 @@ pub record Entry : Type 0 where
 
 -- the entry before anything is read
 abbrev pub no_entry : Entry
-no_entry = record { line = 0; fuzzy = false; c_format = false; context = None; id = []; plural = None; forms = [] }
+no_entry = record {
+  line = 0;
+  form_line = 0;
+  fuzzy = false;
+  c_format = false;
+  formats = formats.no_flags;
+  context = None;
+  id = [];
+  plural = None;
+  forms = [];
+}
 
 -- whether two marks are the same
 abbrev pub mark_eq : Mark → Mark → Bool
 mark_eq Fuzzy Fuzzy = true
 mark_eq CFormat CFormat = true
+mark_eq (Flag word) (Flag other) = bytes_eq word other
 mark_eq Clear Clear = true
 mark_eq _ _ = false
 
@@ -98,6 +115,25 @@ behind_clear marks = take_while (λ mark. not (mark_eq Clear mark)) (reverse mar
 -- whether the flag comes after the last Clear
 abbrev pub is_flagged : Mark → List Mark → Bool
 is_flagged flag marks = list_any (mark_eq flag) (behind_clear marks)
+
+-- the formats of other languages than C after a mark
+abbrev pub formats_after : Flags → Mark → Flags
+formats_after flags (Flag word) = formats.with_word flags word
+formats_after flags Clear = formats.no_flags
+formats_after flags _ = flags
+
+-- the formats of other languages than C after these marks: the last word that names a language decides
+abbrev pub formats_of : List Mark → Flags
+formats_of marks = fold formats_after formats.no_flags marks
+
+abbrev pub is_form_word : Token → Bool
+is_form_word Str = true
+is_form_word _ = false
+
+-- the line of the first `msgstr`
+abbrev pub first_form_line : List Lexeme → ℕ
+first_form_line [] = 0
+first_form_line (l ∷ more) = if is_form_word l.token then l.line else first_form_line more
 
 abbrev pub joined_option : Option Strings → Option (List ℕ)
 joined_option None = None
@@ -111,12 +147,15 @@ abbrev pub forms_of : Part → List (List ℕ)
 forms_of (PlainPart form) = concat form ∷ []
 forms_of (PluralPart plural forms) = map concat forms
 
--- the entry of this derivation, if its opening keyword is on this line after these marks
-abbrev pub entry_of : ℕ → List Mark → Derivation → Entry
-entry_of line marks d = record {
+-- the entry of this derivation, if its opening keyword is on this line after these marks, and its first `msgstr` on the
+-- other line
+abbrev pub entry_of : ℕ → ℕ → List Mark → Derivation → Entry
+entry_of line form_line marks d = record {
   line = line;
+  form_line = form_line;
   fuzzy = is_flagged Fuzzy marks;
   c_format = is_flagged CFormat marks;
+  formats = formats_of marks;
   context = joined_option d.context;
   id = concat d.id;
   plural = plural_of d.part;
@@ -135,7 +174,7 @@ pub record EntryAt (e : Entry) (now later : Remaining) : Type 0 where
   pub split : now.1 ≡ first ∷ others ++ later.1
   pub tokens : map (λ (l : Lexeme). l.token) (first ∷ others) ≡ tokens_of derivation
   pub lawful : IsLawfulEntry derivation
-  pub entry : e ≡ entry_of first.line (now.0 ++ first.marks) derivation
+  pub entry : e ≡ entry_of first.line (first_form_line others) (now.0 ++ first.marks) derivation
   pub marks : later.0 ≡ flat_map (λ (l : Lexeme). l.marks) others
 
 -- the lexemes derive these entries, one after another, and nothing is left over

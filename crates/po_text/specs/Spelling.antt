@@ -5,7 +5,7 @@
 use Rattle.std.specs.Prelude.{◌≡◌, ◌≢◌, ℕ, ◌+◌, ◌-◌, ◌*◌, ◌<◌, ◌≤◌, Bool, true}
 use Rattle.std.specs.Prelude.{false, not, ◌&&◌, ◌||◌, ◌==◌, nat_le, if◌then◌else◌, List, [], ◌∷◌}
 use Rattle.std.specs.Prelude.{◌++◌, map, length, take, Option, None, Some, ◌⊎◌, codes}
-use Rattle.std.specs.List.{take_while, filter_map, slice_split, fold, count_by, Contains, list_all}
+use Rattle.std.specs.List.{take_while, slice_split, fold, count_by, Contains, list_all}
 use Rattle.std.specs.Str.{IsUtf8, bytes_eq}
 use Rattle.std.specs.Char.{is_ascii_alphanumeric, is_ascii_digit}
 use Rattle.po_text.specs.declared.fault.PoKind.{PoKind}
@@ -168,23 +168,24 @@ word_token word =
 pub data Mark : Type 0 where
   Fuzzy : Mark
   CFormat : Mark
+  Flag : (word : List ℕ) → Mark
   Clear : Mark
 
 -- what separates the flags of a line: commas and white space
 abbrev pub is_separator : ℕ → Bool
 is_separator b = b == comma || is_white b
 
--- the flags `fuzzy` and `c-format`; other words have no meaning here
-abbrev pub flag_mark : List ℕ → Option Mark
+-- the flags `fuzzy` and `c-format`, or any other word
+abbrev pub flag_mark : List ℕ → Mark
 flag_mark word =
-    if bytes_eq word (codes "fuzzy") then Some Fuzzy else if bytes_eq word (codes "c-format") then Some CFormat
-    else None
+    if bytes_eq word (codes "fuzzy") then Fuzzy else if bytes_eq word (codes "c-format") then CFormat
+    else Flag word
 
 -- the marks of a comment, given what follows its `#`: flags after `#,`, Clear for `#~`, none for other comments
 abbrev pub comment_marks : List ℕ → List Mark
 comment_marks [] = []
 comment_marks (b ∷ more) =
-    if b == comma then filter_map flag_mark (slice_split is_separator more) else
+    if b == comma then map flag_mark (slice_split is_separator more) else
     if b == tilde then Clear ∷ [] else []
 
 -- ---- whole texts

@@ -3,13 +3,13 @@ ghost use Rattle.std.specs.Prelude.{◌≡◌, ℕ, ◌+◌, ◌-◌, ◌<◌, �
 ghost use Rattle.std.specs.Prelude.{take, OnOk, IfOk, Some, map, slice_get, slice_index, string_bytes};
 ghost use Rattle.std.specs.Option.{option_map};
 ghost use Rattle.std.specs.Str.{IsUtf8};
-ghost use Rattle.po_text.specs.Building.{begin, draft_of, first_or, put, put_text, some_if};
+ghost use Rattle.po_text.specs.Building.{begin, draft_of, first_or, noted, put, put_text, some_if};
 ghost use Rattle.po_text.specs.Entries.{no_entry};
 ghost use Rattle.po_text.specs.Lawful.{IsLawfulTexts};
 ghost use Rattle.po_text.specs.Lexing.{token_view};
 ghost use Rattle.po_text.specs.Places.{place_view};
 ghost use Rattle.po_text.specs.Spelling.{IsLawful};
-ghost use Rattle.po_text.specs.Views.{entry_view};
+ghost use Rattle.po_text.specs.Views.{content, entry_view};
 
 use crate::entry::PoEntry;
 use crate::flags::Flags;
@@ -18,6 +18,13 @@ use crate::places::Place;
 use std::alloc::{AllocError, Global};
 use std::marker::Model;
 
+/// The lines of an entry's first keyword and of its first `msgstr`.
+#[derive(Clone, Copy)]
+struct Lines {
+    entry: u32,
+    form: u32,
+}
+
 /// An entry in reusable buffers: reading allocates only when an entry is larger than those before it. Its plural forms
 /// are stored back to back.
 ///
@@ -25,7 +32,7 @@ use std::marker::Model;
 /// always UTF-8 without NUL, and the context and the msgid have no byte 4.
 #[derive(Drop)]
 pub struct EntryBuffer {
-    line: u32,
+    lines: Lines,
     flags: Flags,
     has_context: bool,
     context: Vec<u8>,
@@ -85,6 +92,19 @@ fn form_bounds(starts: &[usize], end: usize, k: usize) -> (usize, usize)
     (starts[k], form_end(&starts[k + 1..], end))
 }
 
+/// The lines of an entry after a `msgstr` on this line.
+fn lines_after(place: Place, line: u32, lines: Lines) -> Lines
+    ensures { (k : ℕ) → result ≡ noted (place_view place k) line lines }
+{
+    match place {
+        Place::IndexedText => lines,
+        _ => Lines {
+            form: line,
+            ..lines
+        },
+    }
+}
+
 /// An owned copy of a text, if there is one.
 fn copy_of(alloc: Global, text: Option<&str>) -> Result<Option<String>, AllocError>
     ensures { IfOk result (λ copy.
@@ -107,7 +127,7 @@ impl EntryBuffer {
         ensures { result ≡ no_entry }
     {
         EntryBuffer {
-            line: 0,
+            lines: Lines { entry: 0, form: 0 },
             flags: Flags::NONE,
             has_context: false,
             context: Vec::new(alloc),
@@ -123,7 +143,14 @@ impl EntryBuffer {
     pub fn line(&self) -> u32
         ensures { result ≡ self.now.line }
     {
-        self.line
+        self.lines.entry
+    }
+
+    /// The line of the entry's first `msgstr`, counted from 1.
+    pub fn form_line(&self) -> u32
+        ensures { result ≡ self.now.form_line }
+    {
+        self.lines.form
     }
 
     /// Whether the entry is flagged `fuzzy`.
@@ -138,6 +165,13 @@ impl EntryBuffer {
         ensures { result ≡ self.now.c_format }
     {
         self.flags.c_format
+    }
+
+    /// The other languages whose formats the entry is flagged with.
+    pub fn formats(&self) -> format_flags::Flags
+        ensures { result ≡ self.now.formats }
+    {
+        self.flags.formats
     }
 
     /// The entry's `msgctxt`, if it has one.
@@ -190,7 +224,7 @@ impl EntryBuffer {
 
     /// Copies the entry into strings of its own; fails only if memory runs out.
     pub fn to_entry(&self, alloc: Global) -> Result<PoEntry, AllocError>
-        ensures { IfOk result (λ entry. entry_view entry ≡ self.now) }
+        ensures { IfOk result (λ entry. entry_view entry ≡ content self.now) }
     {
         let context = copy_of(alloc, self.context())?;
         let id = String::from_str(alloc, self.id())?;
@@ -225,7 +259,10 @@ impl EntryBuffer {
     pub(crate) fn begin(&mut self, line: u32, flags: Flags, has_context: bool)
         ensures { draft_of self.new ≡ begin line flags (some_if has_context []) }
     {
-        self.line = line;
+        self.lines = Lines {
+            entry: line,
+            form: 0,
+        };
         self.flags = flags;
         self.has_context = has_context;
         self.context.clear();
@@ -251,12 +288,18 @@ impl EntryBuffer {
         }
     }
 
-    /// Adds a token that doesn't open an entry.
-    pub(crate) fn put(&mut self, place: Place, token: Token, bytes: &[u8]) -> Result<(), AllocError>
+    /// Adds a token on this line that doesn't open an entry.
+    pub(crate) fn put(
+        &mut self,
+        place: Place,
+        token: Token,
+        line: u32,
+        bytes: &[u8],
+    ) -> Result<(), AllocError>
         requires { (k : ℕ) →
             CanAdd (token_view token bytes.now) (place_view place k) (draft_of self.old) }
         ensures { (k : ℕ) → OnOk result (draft_of self.new
-            ≡ put (token_view token bytes.now) (place_view place k) (draft_of self.old)) }
+            ≡ put (token_view token bytes.now) line (place_view place k) (draft_of self.old)) }
     {
         match token {
             Token::Text => self.put_text(place, bytes),
@@ -266,6 +309,7 @@ impl EntryBuffer {
                 Ok(())
             }
             Token::Str => {
+                self.lines = lines_after(place, line, self.lines);
                 self.starts.push(self.forms.len())?;
                 Ok(())
             }

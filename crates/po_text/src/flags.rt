@@ -1,6 +1,6 @@
 //! The flags of an entry, and how comments set them.
-ghost use Rattle.std.specs.Prelude.{◌≡◌, ◌∷◌, []};
-ghost use Rattle.std.specs.List.{filter_map, prefix_len, slice_split};
+ghost use Rattle.std.specs.Prelude.{◌≡◌, ◌∷◌, [], map};
+ghost use Rattle.std.specs.List.{prefix_len, slice_split};
 ghost use Rattle.po_text.specs.Building.{flags_over};
 ghost use Rattle.po_text.specs.Lexing.{is_no_separator};
 ghost use Rattle.po_text.specs.Spelling.{comment_marks, flag_mark, is_separator};
@@ -13,12 +13,15 @@ use byte_text::split_byte;
 pub(crate) struct Flags {
     pub(crate) fuzzy: bool,
     pub(crate) c_format: bool,
+    /// The formats of other languages than C.
+    pub(crate) formats: format_flags::Flags,
 }
 
 impl Flags {
     pub(crate) const NONE: Flags = Flags {
         fuzzy: false,
         c_format: false,
+        formats: format_flags::Flags::NONE,
     };
 }
 
@@ -40,7 +43,7 @@ fn flag_len(words: &[u8]) -> usize
 
 /// The flags after one word of a flag line.
 fn flag_word(word: &[u8], flags: Flags) -> Flags
-    ensures { result ≡ flags_over flags (filter_map flag_mark (word.now ∷ [])) }
+    ensures { result ≡ flags_over flags (flag_mark word.now ∷ []) }
 {
     if word == b"fuzzy".as_slice() {
         Flags {
@@ -53,13 +56,16 @@ fn flag_word(word: &[u8], flags: Flags) -> Flags
             ..flags
         }
     } else {
-        flags
+        Flags {
+            formats: flags.formats.with_word(word),
+            ..flags
+        }
     }
 }
 
 /// The flags after the words of a flag line.
 fn flag_words(words: &[u8], flags: Flags) -> Flags
-    ensures { result ≡ flags_over flags (filter_map flag_mark (slice_split is_separator words.now)) }
+    ensures { result ≡ flags_over flags (map flag_mark (slice_split is_separator words.now)) }
 {
     let mut flags = flags;
     let mut rest = words;

@@ -1,7 +1,7 @@
 //! The lexer: splits a text into tokens, and skips the white space and comments between them.
 ghost use Rattle.std.specs.Prelude.{◌≡◌, ℕ, ◌+◌, ◌-◌, ◌*◌, ◌<◌, ◌≤◌, ◌^◌, ◌↔◌, ◌⊎◌, ◌++◌};
 ghost use Rattle.std.specs.Prelude.{◌∷◌, [], List, Bool, length, IfOk, IfErr, IfSome, IsTrue, MatchOption, false};
-ghost use Rattle.std.specs.List.{filter_map, prefix_len, slice_split, take_while};
+ghost use Rattle.std.specs.List.{prefix_len, slice_split, take_while};
 ghost use Rattle.po_text.specs.Building.{flags_over};
 ghost use Rattle.po_text.specs.Lexing.{is_no_separator, word_view, token_view, IsLawfulToken, StopsGap};
 ghost use Rattle.po_text.specs.Spelling.{comment_marks, flag_mark, is_separator, is_white, is_word_byte};

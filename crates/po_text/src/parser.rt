@@ -123,7 +123,7 @@ impl<'a> Parser<'a> {
         let before = self.place;
         self.place = place;
         if !opens_entry(before, token) {
-            into.put(before, token, self.bytes.as_slice())?;
+            into.put(before, token, self.lexer.line, self.bytes.as_slice())?;
             self.count = forms_after(before, token, self.count);
             self.keyword_line = keyword_after(token, self.lexer.line, self.keyword_line);
             return Ok(false);

@@ -5,7 +5,7 @@ ghost use Rattle.po_text.specs.declared.fault.PoKind.{PoKind as KindOfFault};
 ghost use Rattle.po_text.specs.Faults.{out_of_memory};
 ghost use Rattle.po_text.specs.Entries.{Entry};
 ghost use Rattle.po_text.specs.Outcome.{Gives, Refuses};
-ghost use Rattle.po_text.specs.Views.{entries_view};
+ghost use Rattle.po_text.specs.Views.{AreCopies};
 
 use crate::buffer::EntryBuffer;
 use crate::entry::PoEntry;
@@ -18,7 +18,8 @@ use std::alloc::Global;
 /// Refuses a text of more than 67,108,864 bytes or one that isn't UTF-8. Otherwise the first lexical fault is returned,
 /// or the first grammar fault if there is no lexical one. If memory runs out, the fault is `Memory`, on line 0.
 pub fn read_po(alloc: Global, text: &[u8]) -> Result<Vec<PoEntry>, PoFault>
-    ensures ok { IfOk result (λ entries. Gives text.now (entries_view entries.items)) }
+    ensures ok { IfOk result (λ copies.
+        (entries : List Entry) × Gives text.now entries × AreCopies copies.items entries) }
     ensures err { IfErr result (λ fault.
         (fault ≡ out_of_memory) ⊎ Refuses text.now fault.kind fault.line) }
 {

@@ -12,7 +12,7 @@ use Rattle.po_text.specs.Entries as po
 use Rattle.po_text.specs.Entries.{Strings, Part, PlainPart, PluralPart, Derivation, texts, context_tokens, form_tokens}
 use Rattle.po_text.specs.Entries.{part_tokens, tokens_of, IsLawfulEntry, IsKeyText, IsLawfulContext, IsLawfulPart}
 use Rattle.po_text.specs.Entries.{IsOneOrMore, entry_of, EntryAt, Remaining, joined_option, plural_of, forms_of}
-use Rattle.po_text.specs.Entries.{is_flagged}
+use Rattle.po_text.specs.Entries.{first_form_line, is_flagged}
 use Rattle.catalogue.specs.Meaning.{message_of}
 use Rattle.po_writing.specs.Written.{parts_of}
 use Rattle.po_writing.specs.Laws.{HasNoFlag}
@@ -253,7 +253,7 @@ entry_front : (e : Entry) (xs rest : List Lexeme) (m : List Entry) → IsDerivab
 entry_front e [] rest m h tokens none more = absurd (some_tokens (option_map parts_of e.context) _ tokens)
 entry_front e (first ∷ others) rest m h tokens none more =
     let d = derivation_of e in
-    let x = entry_of first.line ([] ++ first.marks) d in
+    let x = entry_of first.line (first_form_line others) ([] ++ first.marks) d in
     let at : EntryAt x ([], first ∷ others ++ rest) ([], rest) = record {
       first = first;
       others = others;
@@ -275,7 +275,10 @@ entry_front e (first ∷ others) rest m h tokens none more =
       entries = x ∷ more.entries;
       each = (([], rest), at, more.each);
       messages_are = rw (same, more.messages_are) refl;
-      no_flags = (record { not_fuzzy = rw unmarked refl; no_format = rw unmarked refl }, more.no_flags);
+      no_flags = (
+        record { not_fuzzy = rw unmarked refl; no_format = rw unmarked refl; no_formats = rw unmarked refl },
+        more.no_flags,
+      );
     }
 
 entry_found : (line : ℕ) (e : Entry) (ps : List Piece) (m : List Entry) → IsDerivable e

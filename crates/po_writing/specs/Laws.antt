@@ -1,6 +1,7 @@
 -- What a written PO text means (GNU gettext manual, "PO Files").
 use Rattle.std.specs.Prelude.{◌≡◌, ℕ, Bool, false, not, List, map}
 use Rattle.std.specs.List.{AllByRecursion, filter}
+use Rattle.format_flags.specs.FormatFlags.{no_flags}
 use Rattle.po_text.specs.Entries as po
 use Rattle.po_text.specs.Outcome.{Gives}
 use Rattle.message.specs.Message.{Entry}
@@ -11,6 +12,7 @@ use Rattle.catalogue.specs.Meaning.{message_of}
 pub record HasNoFlag (e : po.Entry) : Type 0 where
   pub not_fuzzy : e.fuzzy ≡ false
   pub no_format : e.c_format ≡ false
+  pub no_formats : e.formats ≡ no_flags
 
 -- the text can be read, and gives exactly the entries of the map, in their order and without flags
 pub record Tells (text : List ℕ) (m : List Entry) : Type 0 where

@@ -1,5 +1,5 @@
 use Rattle.format_checks.specs.FormatViews.{entry_view}
-use Rattle.format_checks.specs.declared.Language.TheVariants.{Python, PythonBrace}
+use Rattle.format_flags.specs.declared.languages.Language.TheVariants.{Python, PythonBrace}
 use Rattle.format_checks.specs.FormatFaults.{flagged_questions}
 use Rattle.format_checks.proofs.FaultLemmas.{adds_both}
 use Rattle.format_checks.proofs.faults.add_faults.Goals as goal

@@ -1,12 +1,12 @@
-use Rattle.std.proofs.Common.{◌≡◌, length}
-use Rattle.std.specs.List.{filter_map, slice_split}
+use Rattle.std.proofs.Common.{◌≡◌, length, map}
+use Rattle.std.specs.List.{slice_split}
 use Rattle.po_text.specs.Spelling.{flag_mark, is_separator}
 use Rattle.po_text.specs.Building.{flags_over}
 use Rattle.po_text.proofs.flags.flag_words.Given as goal
 
 abbrev pub invariant-words : goal.invariant-words
-invariant-words l = flags_over l.fn.flags (filter_map flag_mark (slice_split is_separator l.fn.words))
-    ≡ flags_over l.flags (filter_map flag_mark (slice_split is_separator l.rest))
+invariant-words l = flags_over l.fn.flags (map flag_mark (slice_split is_separator l.fn.words))
+    ≡ flags_over l.flags (map flag_mark (slice_split is_separator l.rest))
 
 abbrev pub decreases-words : goal.decreases-words
 decreases-words l = length l.rest

@@ -1,10 +1,13 @@
+use Rattle.std.proofs.Common.{List}
+use Rattle.po_text.specs.Entries.{Entry}
 use Rattle.po_text.specs.Outcome.{body}
 use Rattle.po_text.specs.Progress.{HasRead, left_of}
-use Rattle.po_text.specs.Views.{entries_view}
+use Rattle.po_text.specs.Views.{AreCopies}
 use Rattle.po_text.proofs.read.read_po.Given as goal
 
 abbrev pub invariant-entries : goal.invariant-entries
-invariant-entries l = HasRead (body l.text) (entries_view l.entries.items) l.reader
+invariant-entries l =
+    (entries : List Entry) × HasRead (body l.text) entries l.reader × AreCopies l.entries.items entries
 
 abbrev pub decreases-entries : goal.decreases-entries
 decreases-entries l = left_of l.reader

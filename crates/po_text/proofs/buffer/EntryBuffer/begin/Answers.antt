@@ -8,8 +8,10 @@ invariant_of-self c =
     let a = c.args in
     is_kept _ (record {
       line = a.line;
+      form_line = 0;
       fuzzy = a.flags.fuzzy;
       c_format = a.flags.c_format;
+      formats = a.flags.formats;
       context = some_if
           a.has_context [];
       id = [];

@@ -1,4 +1,8 @@
 use Rattle.std.proofs.Common.{◌≡◌, ℕ, ◌++◌, ◌∷◌, [], refl, ap, ◌∙◌, arith, length}
+use Rattle.po_text.specs.declared.buffer.Lines.{Lines}
+use Rattle.po_text.specs.Entries.{Entry}
+use Rattle.po_text.specs.Places.{place_view}
+use Rattle.po_text.specs.Building.{draft_of, new_form, noted}
 use Rattle.po_text.proofs.Kept.{form_kept, form_put}
 use Rattle.po_text.proofs.buffer.EntryBuffer.put.Goals as goal
 
@@ -10,12 +14,18 @@ invariant_of-self-in-Str c =
     let b = c.self-in-Str.inside in
     let at : c.push.new.self.items ≡ b.starts.items ++ (length b.forms.items ∷ []) = c.in_ok-push-in-Str.ensures.items
     ∙ ap (λ (n : ℕ). b.starts.items ++ (n ∷ [])) (omega (arith, c.len.ensures, b.forms.ok.0)) in
-    form_kept b _ c.args.self.now c.self-in-Str.view_is c.self-in-Str.invariant (rw at refl)
+    form_kept c.lines_after-self-inside.result b _ c.args.self.now c.self-in-Str.view_is c.self-in-Str.invariant
+    (rw at refl)
 
 pub returns-in_ok-push-in-Str : goal.returns-in_ok-push-in-Str
 returns-in_ok-push-in-Str c k =
     let b = c.self-in-Str.inside in
+    let e = c.args.self.now in
+    let p = place_view c.args.place k in
     let at : c.push.new.self.items ≡ b.starts.items ++ (length b.forms.items ∷ []) = c.in_ok-push-in-Str.ensures.items
     ∙ ap (λ (n : ℕ). b.starts.items ++ (n ∷ [])) (omega (arith, c.len.ensures, b.forms.ok.0)) in
-    rw c.in-Str.is (form_put b _ c.args.self.now c.self-in-Str.view_is c.self-in-Str.invariant
-    (invariant_of-self-in-Str c) (rw at refl))
+    let lines : c.lines_after-self-inside.result ≡ noted p c.args.line (draft_of e).lines
+    = c.lines_after-self-inside.ensures k
+    ∙ ap (λ (x : Entry). noted p c.args.line (draft_of x).lines) c.self-in-Str.view_is in
+    rw c.in-Str.is (form_put c.lines_after-self-inside.result b _ e c.self-in-Str.view_is c.self-in-Str.invariant
+    (invariant_of-self-in-Str c) (rw at refl) ∙ ap (λ (l : Lines). new_form l (draft_of e)) lines)

@@ -52,7 +52,7 @@ returns-then-not-opens_entry-clause-form c =
     let r = c.args.self.now in
     let t = token_view c.args.token (string_of r.bytes) in
     let put = rw c.as_slice.ensures at (c.in_ok-put.ensures r.count) in
-    rw (c.forms_after-self.ensures.is, put) (put_form (place_view r.place r.count) t
+    rw (c.forms_after-self.ensures.is, put) (put_form r.lexer.line (place_view r.place r.count) t
     (place_view c.args.place (next_count r.place c.args.token r.count)) (draft_of c.args.into.now) c.requires.stands
     (c.if-not-opens_entry.ensures (string_of r.bytes) r.count) c.requires.form)
 
