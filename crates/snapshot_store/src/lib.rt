@@ -9,6 +9,7 @@
 //! No call here takes a handle, so that a static library may have a store.
 #![tactic(auto)]
 
+mod away;
 mod book;
 mod entrance;
 mod fault;
@@ -20,6 +21,7 @@ mod shared;
 mod version;
 mod versions;
 
+pub use away::Away;
 pub use entrance::Entrance;
 pub use fault::{OpenFault, PublishFault};
 pub use notice::Notice;

@@ -110,10 +110,22 @@ impl Publisher {
         self.pending.len() as u64
     }
 
-    /// The number of versions that were replaced and that a reader may still have. A publish frees those that nobody
-    /// has.
+    /// The number of replaced versions that aren't freed. Right after `reclaim` these are the ones that a reader has.
     pub fn retained(&self) -> usize {
         self.versions.retained()
+    }
+
+    /// Frees the replaced versions that no reader has. Each publish does so as well.
+    pub fn reclaim(&mut self)
+        ensures { self.new ≡ self.old }
+    {
+        // A slot that isn't shown has nothing but versions that were replaced.
+        if self.versions.retained() == 0 {
+            return;
+        }
+        let (word, _) = shown_after(&self.shared.shown, &self.known);
+        self.shared.empty_others(word);
+        self.versions.reclaim();
     }
 
     /// A notice of what is published now.
@@ -196,6 +208,7 @@ impl Publisher {
         // It stays the publisher of the same store.
         ensures book { self.new.seen.book ≡ self.old.seen.book }
     {
+        self.reclaim();
         if !self.pending.is_empty() {
             self.publish_pending(alloc)?;
         }
@@ -218,6 +231,7 @@ impl Publisher {
         // Once the batch is in the book nothing may fail, so all memory is taken before.
         let set = self.versions.next_set(alloc, &self.pending)?;
         let mut place = Arc::new(alloc, Version::first(alloc, &self.beginning))?;
+        self.versions.make_room()?;
         let (word, _) = shown_after(&self.shared.shown, &self.known);
         if word / SLOTS > last {
             return Err(PublishFault::Memory);

@@ -4,6 +4,7 @@ ghost use Rattle.std.specs.Arc.{arc_value};
 ghost use Rattle.live_loads.specs.Batches.{StartsWith, version_of};
 ghost use Rattle.snapshot_store.specs.Holding.{IsSetOf};
 
+use crate::away::Away;
 use crate::book::{Known, Seen, shown_after, tie};
 use crate::notice::Notice;
 use crate::shared::{SLOTS, Shared};
@@ -106,6 +107,19 @@ impl Reader {
         self.version = version;
         self.known = found;
         true
+    }
+
+    /// Leaves the version, so that this reader keeps none alive. The publisher frees it, at its next publish or
+    /// `reclaim`, if no other reader is in it.
+    pub fn leave(self) -> Away
+        ensures { result ≡ self }
+    {
+        let Reader {
+            shared,
+            version,
+            known,
+        } = self;
+        Away::new(shared, version.version(), known)
     }
 
     /// The number of loads that are published in the version that was entered last.

@@ -177,15 +177,17 @@ impl Shared {
         None
     }
 
-    /// Empties all slots but this one. One in which someone is copying keeps its version until a later publish.
+    /// Empties all slots but this one. One in which someone is copying keeps its version until a later call.
     pub(crate) fn empty_others(&self, but: u64) {
         for turn in 1..SLOTS {
-            self.empty(slot_after(but, turn));
+            self.empty(slot_after(but, turn), but);
         }
     }
 
-    /// Empties a slot, unless nothing is in it or someone is copying what is.
-    fn empty(&self, at: u64) {
+    /// Empties a slot other than the shown one, unless nothing is in it or someone is copying what is.
+    fn empty(&self, at: u64, shown: u64)
+        requires { at ≢ shown % 64 }
+    {
         match self.slot(at) {
             Some(slot) if slot.load() % 4 != FREE => {}
             _ => return,

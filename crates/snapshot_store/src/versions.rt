@@ -16,7 +16,7 @@ use std::sync::Arc;
 #[derive(Drop)]
 pub(crate) struct Versions {
     current: Arc<Version>,
-    /// Older versions that a reader may have.
+    /// Older versions that a reader may have. Readers only let go of a version; what is freed, is freed here.
     retired: Vec<Arc<Version>>,
 }
 
@@ -48,7 +48,7 @@ impl Versions {
         &self.current
     }
 
-    /// The number of replaced versions that a reader may still have.
+    /// The number of replaced versions that aren't freed.
     pub(crate) fn retained(&self) -> usize {
         self.retired.len()
     }
@@ -72,8 +72,22 @@ impl Versions {
     {
         let was = replace(&mut self.current, version);
         batch.clear();
-        // Where memory is refused for the list, the last reader frees the version.
+        // `make_room` made sure that there is room.
         drop(self.retired.push(was));
+        self.reclaim();
+    }
+
+    /// Makes room in the list for one more version.
+    pub(crate) fn make_room(&mut self) -> Result<(), AllocError>
+        ensures { self.new ≡ self.old }
+    {
+        self.retired.reserve(1)
+    }
+
+    /// Frees the replaced versions that only this list has.
+    pub(crate) fn reclaim(&mut self)
+        ensures { self.new ≡ self.old }
+    {
         self.retired
             .retain(|version| Arc::strong_count(version) > 1);
     }

@@ -183,6 +183,44 @@ fn what_nobody_has_is_freed(rt: HostRuntime) {
     assert!(rt; is_freed(rt.alloc()));
 }
 
+/// Whether a reader that left keeps no version, and enters the newest one afterwards.
+fn leaves(alloc: Global, publisher: &mut Publisher, mut reader: Reader) -> bool {
+    if publish(alloc, publisher, SALUT) != 1 {
+        return false;
+    }
+    reader.enter();
+    let away = reader.leave();
+    if away.version() != 1 || !retains(alloc, publisher, 2, 0) {
+        return false;
+    }
+    match away.enter() {
+        Ok(reader) => reader.version() == 2 && shows(&reader, "salut", true),
+        Err(_) => false,
+    }
+}
+
+/// Whether what a reader left is freed without a publish.
+fn reclaims(alloc: Global, publisher: &mut Publisher, reader: Reader) -> bool {
+    if !retains(alloc, publisher, 1, 1) {
+        return false;
+    }
+    let away = reader.leave();
+    publisher.reclaim();
+    publisher.retained() == 0 && away.version() == 0
+}
+
+fn is_left(alloc: Global) -> bool {
+    let (Some((mut first, reader)), Some((mut second, other))) = (opened(alloc), opened(alloc)) else {
+        return false;
+    };
+    leaves(alloc, &mut first, reader) && reclaims(alloc, &mut second, other)
+}
+
+#[test]
+fn a_reader_that_left_keeps_no_version(rt: HostRuntime) {
+    assert!(rt; is_left(rt.alloc()));
+}
+
 /// Publishes each text in turn, so that odd versions say `salut` and even ones `bonjour`. Returns the version.
 fn publish_all(alloc: Global, publisher: &mut Publisher) -> u64 {
     for _ in 0..500u64 {
