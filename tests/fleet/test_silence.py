@@ -129,6 +129,11 @@ class HostsTest(LogCase):
                          "tcp_keepalives_idle"):
                 self.assertNotIn(connection.execute(f"show {name}").fetchone()[0], ("0", "7200"), name)
 
+    def test_no_query_is_compiled(self) -> None:
+        """A query that is compiled costs the server more than it does, for each of the machines that wake at once."""
+        with _connect.connect(servers.shared().address, "any") as connection:
+            self.assertEqual(connection.execute("show jit").fetchone()[0], "off")
+
 
 class SilenceTest(LogCase):
     """Connections that fall silent while they are used."""
@@ -312,7 +317,7 @@ class ReplicatedTest(unittest.TestCase):
         thread, number, begun = threading.Thread(target=cancel, daemon=True), uuid.uuid4(), time.monotonic()
         thread.start()
         with self.assertRaises(Unanswered) as caught:
-            log.publish(loads(2), id=number, within=0.6)
+            log.publish(loads(2), id=number, within=2)
         self.assertLess(time.monotonic() - begun, SLOW + 2)
         ending.set()
         thread.join()
@@ -327,7 +332,7 @@ class ReplicatedTest(unittest.TestCase):
             self.assertEqual(log.publish(loads(1)), 2)
             second.stop()
             with self.assertRaises(Unanswered):
-                log.publish(loads(2), within=0.6)
+                log.publish(loads(2), within=2)
 
 
 class ThreadTest(LogCase):

@@ -33,10 +33,12 @@ USUAL = {"keepalives_idle": "10", "keepalives_interval": "3", "keepalives_count"
 SSL_REQUEST = struct.pack("!II", 8, 80877103)  # which every server answers by one byte
 # What a session is: whether the server is a standby and takes writes, and the process that serves it
 SESSION = "select pg_is_in_recovery(), current_setting('transaction_read_only')::bool, pg_backend_pid()"
-# The server's own watch over this connection, in milliseconds and seconds
+# The server's own watch over this connection, in milliseconds and seconds. Its queries are short, and compiling them
+# would take longer than they do: 200 machines that wake at once would wait for 200 compilations
 SETTINGS = {"tcp_user_timeout": "10000", "tcp_keepalives_idle": "10", "tcp_keepalives_interval": "3",
             "tcp_keepalives_count": "3", "idle_in_transaction_session_timeout": "30000", "lock_timeout": "10000",
-            "statement_timeout": "600000"}
+            "statement_timeout": "600000",
+            "jit": "off"}
 
 silent: dict[tuple[str, str], float] = {}  # hosts and ports, and when they were silent
 
