@@ -188,7 +188,7 @@ static void check_refusal(kob_refusal why, bool is_po, const uint8_t *bytes, siz
     size_t lines = 1;
     for (size_t place = 0; place < len; place++)
         lines += bytes[place] == '\n';
-    bool is_mo_fault = why.fault >= KOB_MO_TOO_LARGE && why.fault <= KOB_MO_DEPENDENT_SWOLLEN;
+    bool is_mo_fault = why.fault >= KOB_MO_TOO_LARGE && why.fault <= KOB_MO_NO_CHARACTER;
     bool is_po_fault = (why.fault >= KOB_PO_TOO_LARGE && why.fault <= KOB_PO_NEWLINE_MISMATCH) ||
                        why.fault == KOB_PO_NO_CHARACTER || why.fault == KOB_MO_SWOLLEN;
     REQUIRE(is_po ? is_po_fault : is_mo_fault);

@@ -53,7 +53,7 @@ enum kob_fault {
     KOB_MO_BAD_TEXT = 7,    /* a string isn't UTF-8, or a key holds byte 4 twice */
     KOB_MO_FORMS = 8,       /* an entry has several plurals, or several forms and no plural */
     KOB_MO_ORDER = 9,       /* the keys aren't in strictly ascending order */
-    KOB_MO_CHARSET = 10,    /* the header names a charset other than UTF-8 and US-ASCII */
+    KOB_MO_CHARSET = 10,    /* the header names a charset that isn't decoded */
     KOB_MO_SWOLLEN = 11,    /* the MO file that kob_mo_file would return is too large */
     KOB_MEMORY = 12,        /* out of memory, which says nothing about the input */
     /* MO files of minor revision 1: their system-dependent part */
@@ -64,6 +64,8 @@ enum kob_fault {
     KOB_MO_DEPENDENT_TEXT = 17,           /* a piece of a string isn't wholly inside the file */
     KOB_MO_DEPENDENT_OPEN_TEXT = 18,      /* the last piece of a string isn't terminated by NUL */
     KOB_MO_DEPENDENT_SWOLLEN = 19,        /* all these strings together have more than 268,435,456 bytes */
+    /* MO files in another charset */
+    KOB_MO_NO_CHARACTER = 20, /* the charset that the header names has no character for a byte */
     /* PO files, with the line */
     KOB_PO_TOO_LARGE = 101, /* more than 67,108,864 bytes */
     KOB_PO_NOT_UTF8 = 102,
@@ -98,8 +100,8 @@ typedef struct {
 enum kob_options {
     KOB_CHECKED = 1,   /* run the checks of `msgfmt -c` */
     KOB_USE_FUZZY = 2, /* include fuzzy messages */
-    KOB_STRICT = 4     /* refuse a PO file's charset other than UTF-8 and US-ASCII, as `msgfmt` does, and an MO file's
-                        * revision other than 0.0 */
+    KOB_STRICT = 4     /* refuse a charset other than UTF-8 and US-ASCII, as `msgfmt` does, and an MO file's revision
+                        * other than 0.0 */
 };
 
 /* The format of a file. */
@@ -114,7 +116,10 @@ const char *kob_fault_text(enum kob_fault fault);
  * copy is some mixture of old and new bytes, which is opened or refused as a whole.
  *
  * The file may be of revision 0.0, 0.1, 1.0 or 1.1. System-dependent strings have the values of <inttypes.h> on x86-64
- * Linux: `PRIu64` stands for `lu`. A message with a segment of another name is left out. */
+ * Linux: `PRIu64` stands for `lu`. A message with a segment of another name is left out.
+ *
+ * If its strings aren't UTF-8, or its header names another charset, they are decoded from the charset that its header
+ * names, one of the single-byte charsets that kobdzila(3) lists, and the catalogue's header says `charset=UTF-8`. */
 kob_catalogue *kob_open_mo(const void *bytes, size_t len, kob_refusal *why);
 
 /* Compile the PO file in `bytes` and return its catalogue. `options` is 0 or a combination of enum kob_options.

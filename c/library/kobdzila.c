@@ -203,12 +203,12 @@ const char *kob_fault_text(enum kob_fault fault) {
         "keys out of order", "unsupported charset", "map too large", "out of memory",
         "system-dependent tables out of bounds", "bad segment", "descriptor out of bounds", "unknown segment number",
         "system-dependent string out of bounds", "system-dependent string not closed",
-        "system-dependent strings too large" };
+        "system-dependent strings too large", "byte without a character" };
     static const char *const po[] = { "file too large", "not UTF-8", "bad escape", "string not closed", "unknown word",
         "bad text", "out of order", "wrong plural index", "duplicate message", "unsupported charset",
         "system-dependent format", "plural message without a rule", "unreadable plural rule",
         "wrong number of plural forms", "plural rule fails", "format arguments differ", "newlines differ" };
-    if (fault >= KOB_NO_FAULT && fault <= KOB_MO_DEPENDENT_SWOLLEN)
+    if (fault >= KOB_NO_FAULT && fault <= KOB_MO_NO_CHARACTER)
         return mo[fault];
     if (fault >= KOB_PO_TOO_LARGE && fault <= KOB_PO_NEWLINE_MISMATCH)
         return po[fault - KOB_PO_TOO_LARGE];

@@ -91,6 +91,8 @@ kinds! {
     MoDependentOpenText = 18,
     /// The system-dependent strings of the MO file together have more than 268,435,456 bytes.
     MoDependentSwollen = 19,
+    /// A byte of the MO file has no character in the charset that the header names.
+    MoNoCharacter = 20,
     /// The PO text has more than 67,108,864 bytes.
     PoTooLarge = 101,
     /// The PO text isn't UTF-8.

@@ -420,10 +420,40 @@ static void po_refusals(void) {
 
 static void fault_texts(void) {
     for (int fault = KOB_NO_FAULT; fault <= KOB_BAD_NAME; fault++) {
-        int known = fault <= KOB_MO_DEPENDENT_SWOLLEN || (fault >= KOB_PO_TOO_LARGE && fault <= KOB_PO_NEWLINE_MISMATCH) ||
+        int known = fault <= KOB_MO_NO_CHARACTER || (fault >= KOB_PO_TOO_LARGE && fault <= KOB_PO_NEWLINE_MISMATCH) ||
                     fault == KOB_PO_NO_CHARACTER || fault == KOB_UNREADABLE || fault == KOB_BAD_NAME;
         is("a fault has a text", known == (strcmp(kob_fault_text((enum kob_fault)fault), "unknown fault") != 0));
     }
+}
+
+/* A file of two messages in a charset: "" and "a". */
+static kob_catalogue *in_charset(const char *charset, const char *translation, kob_refusal *why) {
+    unsigned char file[256] = { 0xde, 0x12, 0x04, 0x95 };
+    char header[64];
+    int len = snprintf(header, sizeof header, "charset=%s\n", charset);
+    unsigned words[] = { 0, 2, 28, 44, 0, 60, 0, 60, 1, 61, (unsigned)len, 63, (unsigned)strlen(translation),
+                         64 + (unsigned)len };
+    for (size_t i = 0; i < sizeof words / sizeof *words; i++)
+        file[4 + 4 * i] = (unsigned char)words[i];
+    file[61] = 'a';
+    memcpy(file + 63, header, (size_t)len + 1);
+    memcpy(file + 64 + len, translation, strlen(translation) + 1);
+    return kob_open_mo(file, 65 + (size_t)len + strlen(translation), why);
+}
+
+/* Files in KOI8-R and CP1252 are decoded; a byte without a character and an unknown charset are refused. */
+static void mo_charsets(void) {
+    kob_refusal why;
+    kob_catalogue *c = in_charset("KOI8-R", "\xc4\xc1", &why);
+    is("an MO file in KOI8-R is opened", c && !strcmp(kob_gettext(c, "a"), "\xd0\xb4\xd0\xb0"));
+    is("its header says UTF-8", c && !strcmp(kob_gettext(c, ""), "charset=UTF-8\n"));
+    kob_release(c);
+    c = in_charset("koi8-r", "ascii", &why);
+    is("one whose bytes are ASCII", c && !strcmp(kob_gettext(c, "a"), "ascii"));
+    kob_release(c);
+    is("a byte without a character", !in_charset("CP1252", "\x81", &why) && why.fault == KOB_MO_NO_CHARACTER);
+    is("a charset that isn't decoded", !in_charset("EUC-JP", "\xa4\xa2", &why) && why.fault == KOB_MO_BAD_TEXT);
+    is("and one that is ASCII", !in_charset("EUC-JP", "x", &why) && why.fault == KOB_MO_CHARSET);
 }
 
 /* A text in ISO-8859-1 is decoded, unless it has to be UTF-8. */
@@ -437,6 +467,7 @@ static void charsets(void) {
     kob_release(c);
     c = kob_open_po(latin, strlen(latin), KOB_STRICT, &why);
     is("a strict reader refuses it", !c && why.fault == KOB_PO_NOT_UTF8 && why.line == 4);
+    mo_charsets();
 }
 
 /* The counts that `msgfmt --statistics` prints of the same text. */

@@ -93,6 +93,7 @@ TEXTS = ("crates/po_text/src/fault.rt", "PoKind")
 FILES = ("crates/mo_file/src/fault.rt", "MoFault")
 DEPENDENT = ("crates/mo_segments/src/fault.rt", "DependentFault")
 REVISED = ("crates/mo_revisions/src/fault.rt", "AnyMoFault")
+RECODED_FILE = ("crates/mo_charsets/src/fault.rt", "RecodedFault")
 SCRIPTS = ("crates/script_text/src/fault.rt", "ScriptKind")
 
 
@@ -167,8 +168,10 @@ def faults_of_the_header():
         constant = "DEPENDENT_" + re.sub(r"(?<!^)(?=[A-Z])", "_", name).upper()
         wanted[f"KOB_MO_{constant}"] = (numbers[constant], text)
     text = next(text for text, name in variants(*RECODED) if name == "NoCharacter")
-    number = re.search(r"NO_CHARACTER: u32 = (\d+);", code)[1]
+    number = re.search(r" NO_CHARACTER: u32 = (\d+);", code)[1]
     wanted["KOB_PO_NO_CHARACTER"] = (int(number), text.removeprefix("line {0}: "))
+    text = next(text for text, name in variants(*RECODED_FILE) if name == "NoCharacter")
+    wanted["KOB_MO_NO_CHARACTER"] = (int(re.search(r"MO_NO_CHARACTER: u32 = (\d+);", code)[1]), text)
     found = {name: int(number) for name, number in re.findall(r"(KOB_[MP]O_\w+) = (\d+)", read(HEADER))}
     lists = re.findall(r"const (?:mo|po)\[\] = \{(.*?)\};", read("c/library/kobdzila.c"), re.S)
     texts = [text for words in lists for text in re.findall(r'"([^"]*)"', words)]

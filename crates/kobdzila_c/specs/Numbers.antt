@@ -13,6 +13,10 @@ memory_fault = 12
 abbrev pub tables_fault : ℕ
 tables_fault = 13
 
+-- a byte of an MO file has no character in the charset that the header names
+abbrev pub mo_no_character_fault : ℕ
+mo_no_character_fault = 20
+
 -- the ranks of a PO text's faults are counted from here
 abbrev pub po_faults : ℕ
 po_faults = 100

@@ -5,10 +5,12 @@ use Rattle.mo_image.specs.Entry.{Entry}
 use Rattle.mo_file.specs.MoReading.{Mo, Refused, rank as mo_number}
 use Rattle.mo_segments.specs.declared.fault.DependentFault.{DependentFault}
 use Rattle.mo_segments.specs.declared.fault.DependentFault.TheVariants as dependent
-use Rattle.mo_revisions.specs.AnyReading.{AnyMo}
-use Rattle.mo_revisions.specs.Refusing.{AnyRefused}
 use Rattle.mo_revisions.specs.declared.fault.AnyMoFault.{AnyMoFault}
 use Rattle.mo_revisions.specs.declared.fault.AnyMoFault.TheVariants.{Tables, Dependent, Mo as OfMo}
+use Rattle.mo_charsets.specs.Recoding.{AnyCharsetMo}
+use Rattle.mo_charsets.specs.Failing.{AnyCharsetRefused}
+use Rattle.mo_charsets.specs.declared.fault.RecodedFault.{RecodedFault}
+use Rattle.mo_charsets.specs.declared.fault.RecodedFault.TheVariants as recoded
 use Rattle.catalogue.specs.Meaning.{Means, Refuses, rank}
 use Rattle.catalogue.specs.declared.compiler.Compiled.{Compiled}
 use Rattle.catalogue.specs.declared.compiler.Stats.{Stats}
@@ -20,7 +22,8 @@ use Rattle.po_checks.specs.declared.fault.LoadKind.{LoadKind}
 use Rattle.po_checks.specs.declared.fault.LoadKind.TheVariants.{Memory}
 use Rattle.po_checks.specs.declared.options.Options.{Options}
 use Rattle.kobdzila_c.specs.declared.opened.Opened.{Opened}
-use Rattle.kobdzila_c.specs.Numbers.{no_fault, memory_fault, tables_fault, po_faults, no_character_fault}
+use Rattle.kobdzila_c.specs.Numbers.{no_fault, memory_fault, tables_fault, mo_no_character_fault, po_faults}
+use Rattle.kobdzila_c.specs.Numbers.{no_character_fault}
 
 -- the number of a fault of a PO text; out of memory has one number in both formats
 abbrev pub fault_number : LoadKind → ℕ
@@ -41,6 +44,11 @@ abbrev pub mo_fault_number : AnyMoFault → ℕ
 mo_fault_number Tables = tables_fault
 mo_fault_number (Dependent fault) = dependent_number fault
 mo_fault_number (OfMo fault) = mo_number fault
+
+-- the number of a fault of an MO file of any revision, in any charset
+abbrev pub file_fault_number : RecodedFault → ℕ
+file_fault_number (recoded.Any fault) = mo_fault_number fault
+file_fault_number recoded.NoCharacter = mo_no_character_fault
 
 -- the options given by two numbers: each is on if its number isn't 0
 abbrev pub options_of : ℕ → ℕ → Options
@@ -76,25 +84,26 @@ pub record IsOpenedAs (Is : List Entry → Stats → Type 0) (c : Opened) : Type
 abbrev pub IsOpenedMap : List Entry → Stats → Opened → Type 0
 IsOpenedMap m stats c = IsOpenedAs (λ map counts. (map ≡ m) × (counts ≡ stats)) c ⊎ IsRefused c memory_fault 0
 
--- the bytes are an MO file of this map: if is_strict of revision 0.0, and otherwise of any revision
+-- the bytes are an MO file of this map: if is_strict of revision 0.0 in UTF-8, and otherwise of any revision in any
+-- charset
 abbrev pub MeansMo : List ℕ → Bool → List Entry → Type 0
 MeansMo bytes true m = Mo bytes m
-MeansMo bytes false m = AnyMo bytes m
+MeansMo bytes false m = AnyCharsetMo bytes m
 
 -- the bytes are refused by the reader of revision 0.0
-abbrev pub RefusesStrictMo : List ℕ → AnyMoFault → Type 0
-RefusesStrictMo bytes (OfMo fault) = Refused bytes fault
+abbrev pub RefusesStrictMo : List ℕ → RecodedFault → Type 0
+RefusesStrictMo bytes (recoded.Any (OfMo fault)) = Refused bytes fault
 RefusesStrictMo bytes _ = ⊥
 
--- the bytes are refused: if is_strict by the reader of revision 0.0, and otherwise by that of all revisions
-abbrev pub RefusesMo : List ℕ → Bool → AnyMoFault → Type 0
+-- the bytes are refused: if is_strict by the reader of revision 0.0, and otherwise by that of all revisions and charsets
+abbrev pub RefusesMo : List ℕ → Bool → RecodedFault → Type 0
 RefusesMo bytes true fault = RefusesStrictMo bytes fault
-RefusesMo bytes false fault = AnyRefused bytes fault
+RefusesMo bytes false fault = AnyCharsetRefused bytes fault
 
 -- the map of an MO file, or its first fault, or out of memory
 abbrev pub IsOpenedMo : List ℕ → Bool → Opened → Type 0
 IsOpenedMo bytes is_strict c = IsOpenedAs (λ map counts. MeansMo bytes is_strict map × (counts ≡ no_stats)) c
-    ⊎ (fault : AnyMoFault) × RefusesMo bytes is_strict fault × IsRefused c (mo_fault_number fault) 0
+    ⊎ (fault : RecodedFault) × RefusesMo bytes is_strict fault × IsRefused c (file_fault_number fault) 0
 
 -- the text compiles to this: if is_strict as UTF-8, and otherwise in any charset
 abbrev pub MeansText : List ℕ → Options → Bool → Compiled → Type 0

@@ -20,6 +20,9 @@ pub(crate) const DEPENDENT_OPEN_TEXT: u32 = 18;
 
 pub(crate) const DEPENDENT_SWOLLEN: u32 = 19;
 
+// A byte of an MO file has no character in the charset that the header names.
+pub(crate) const MO_NO_CHARACTER: u32 = 20;
+
 // Those of a PO text have theirs from 100 on, but for memory, which is 18 there.
 pub(crate) const PO_FAULTS: u32 = 100;
 

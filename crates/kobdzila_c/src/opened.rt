@@ -5,18 +5,19 @@ ghost use Rattle.catalogue.specs.Meaning.{Means, Refuses};
 ghost use Rattle.po_checks.specs.Refusal.{out_of_memory};
 ghost use Rattle.kobdzila_c.specs.Opening.{IsOpenedMo, IsOpenedPo, IsOpenedMap, IsRefused, fault_number, no_stats};
 ghost use Rattle.kobdzila_c.specs.Opening.{MeansText, RefusesText, line_of, options_of, text_fault_number};
-ghost use Rattle.kobdzila_c.specs.Opening.{MeansMo, RefusesMo, dependent_number, mo_fault_number};
+ghost use Rattle.kobdzila_c.specs.Opening.{MeansMo, RefusesMo, dependent_number, file_fault_number, mo_fault_number};
 
 use crate::numbers::{
     DEPENDENT_DESCRIPTOR, DEPENDENT_OPEN_TEXT, DEPENDENT_SEGMENT, DEPENDENT_SEGMENT_NUMBER,
-    DEPENDENT_SWOLLEN, DEPENDENT_TABLES, DEPENDENT_TEXT, MEMORY, NO_CHARACTER, NO_FAULT, PO_FAULTS,
-    PO_MEMORY,
+    DEPENDENT_SWOLLEN, DEPENDENT_TABLES, DEPENDENT_TEXT, MEMORY, MO_NO_CHARACTER, NO_CHARACTER,
+    NO_FAULT, PO_FAULTS, PO_MEMORY,
 };
 use any_charset::{TextFault, compile_recoded, is_for_charset};
 use catalogue::{Catalogue, Compiled, LoadFault, LoadKind, Options, Stats, compile_owned};
 use live_loads::{mo_number, po_number};
+use mo_charsets::{RecodedFault, read_any_charset};
 use mo_file::read_mo;
-use mo_revisions::{AnyMoFault, read_any_mo};
+use mo_revisions::AnyMoFault;
 use mo_segments::DependentFault;
 use std::alloc::{AllocError, Global};
 use std::sync::Arc;
@@ -111,17 +112,27 @@ fn mo_fault_number(fault: AnyMoFault) -> u32
     }
 }
 
-/// Reads an MO file of any revision, or if `is_strict` of revision 0.0 alone.
-fn read_file(alloc: Global, bytes: &[u8], is_strict: bool) -> Result<Catalogue, AnyMoFault>
+/// The number in `kobdzila.h` of a fault of an MO file in any charset.
+fn file_fault_number(fault: RecodedFault) -> u32
+    ensures { result ≡ file_fault_number fault }
+{
+    match fault {
+        RecodedFault::Any(fault) => mo_fault_number(fault),
+        RecodedFault::NoCharacter => MO_NO_CHARACTER,
+    }
+}
+
+/// Reads an MO file of any revision in any charset, or if `is_strict` of revision 0.0 in UTF-8 alone.
+fn read_file(alloc: Global, bytes: &[u8], is_strict: bool) -> Result<Catalogue, RecodedFault>
     ensures ok { IfOk result (MeansMo bytes.now is_strict) }
     ensures err { IfErr result (RefusesMo bytes.now is_strict) }
 {
     if !is_strict {
-        return read_any_mo(alloc, bytes);
+        return read_any_charset(alloc, bytes);
     }
     match read_mo(alloc, bytes) {
         Ok(catalogue) => Ok(catalogue),
-        Err(fault) => Err(AnyMoFault::Mo(fault)),
+        Err(fault) => Err(RecodedFault::from(fault)),
     }
 }
 
@@ -131,7 +142,7 @@ pub(crate) fn open_mo(alloc: Global, bytes: &[u8], strict: u32) -> Opened
 {
     match read_file(alloc, bytes, strict > 0) {
         Ok(catalogue) => kept(alloc, catalogue, NO_STATS),
-        Err(fault) => refused(mo_fault_number(fault), 0),
+        Err(fault) => refused(file_fault_number(fault), 0),
     }
 }
 

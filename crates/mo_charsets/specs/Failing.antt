@@ -9,12 +9,12 @@ use Rattle.mo_file.specs.declared.fault.MoFault.{MoFault}
 use Rattle.mo_file.specs.declared.fault.MoFault.TheVariants.{Memory}
 use Rattle.mo_segments.specs.MessageStrings.{Strings}
 use Rattle.mo_revisions.specs.Revisions.{HasMessages}
-use Rattle.mo_revisions.specs.Refusing.{IsMessagesFault, HasNoCatalogue}
+use Rattle.mo_revisions.specs.Refusing.{AnyRefused, IsMessagesFault, HasNoCatalogue}
 use Rattle.mo_revisions.specs.declared.fault.AnyMoFault.{AnyMoFault}
 use Rattle.mo_revisions.specs.declared.fault.AnyMoFault.TheVariants.{Mo as OfMo}
 use Rattle.mo_charsets.specs.declared.fault.RecodedFault.{RecodedFault}
 use Rattle.mo_charsets.specs.declared.fault.RecodedFault.TheVariants.{Any, NoCharacter}
-use Rattle.mo_charsets.specs.Recoding.{header_of, IsForeign, NamesCharset, AreRecoded}
+use Rattle.mo_charsets.specs.Recoding.{header_of, IsForCharset, IsForeign, NamesCharset, AreRecoded}
 
 -- ---- decoding
 
@@ -79,3 +79,17 @@ abbrev pub RefusesRecoded : List ℕ → AnyMoFault → RecodedFault → Type 0
 RefusesRecoded bytes strict NoCharacter = HasNoCharacter bytes
 RefusesRecoded bytes strict (Any fault) = (fault ≡ OfMo Memory) ⊎ ((fault ≡ strict) × LacksCharset bytes)
     ⊎ IsMessagesFault (file_of bytes) fault ⊎ LacksRecodedCatalogue bytes fault
+
+-- the bytes are refused as they are, for another reason than their charset
+abbrev pub IsPlainRefusal : List ℕ → RecodedFault → Type 0
+IsPlainRefusal bytes (Any fault) = ¬ IsForCharset fault × AnyRefused bytes fault
+IsPlainRefusal bytes NoCharacter = ⊥
+
+-- the bytes are refused for their charset, and then for this
+abbrev pub IsForeignRefusal : List ℕ → RecodedFault → Type 0
+IsForeignRefusal bytes fault =
+    (strict : AnyMoFault) × IsForCharset strict × AnyRefused bytes strict × RefusesRecoded bytes strict fault
+
+-- why a file in any charset is refused
+abbrev pub AnyCharsetRefused : List ℕ → RecodedFault → Type 0
+AnyCharsetRefused bytes fault = IsPlainRefusal bytes fault ⊎ IsForeignRefusal bytes fault

@@ -9,7 +9,7 @@ use Rattle.mo_file.specs.MoReading.{file_of}
 use Rattle.mo_file.specs.declared.fault.MoFault.TheVariants.{BadText, Charset as UnknownCharset}
 use Rattle.mo_segments.specs.MessageStrings.{Strings}
 use Rattle.mo_revisions.specs.Revisions.{HasMessages}
-use Rattle.mo_revisions.specs.AnyReading.{IsCatalogueOf}
+use Rattle.mo_revisions.specs.AnyReading.{AnyMo, IsCatalogueOf}
 use Rattle.mo_revisions.specs.Refusing.{AnyRefused}
 use Rattle.mo_revisions.specs.declared.fault.AnyMoFault.{AnyMoFault}
 use Rattle.mo_revisions.specs.declared.fault.AnyMoFault.TheVariants.{Mo as OfMo}
@@ -67,3 +67,7 @@ pub record MeansRecoded (bytes : List ℕ) (m : List Entry) : Type 0 where
   pub recoded : List Strings
   pub recodes : AreRecoded messages recoded
   pub means : IsCatalogueOf recoded m
+
+-- the bytes are a file of this catalogue, as they are or decoded
+abbrev pub AnyCharsetMo : List ℕ → List Entry → Type 0
+AnyCharsetMo bytes m = AnyMo bytes m ⊎ MeansRecoded bytes m

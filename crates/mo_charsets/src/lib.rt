@@ -7,4 +7,4 @@ mod reader;
 mod recoding;
 
 pub use fault::RecodedFault;
-pub use reader::{is_for_charset, read_recoded};
+pub use reader::{read_any_charset, read_recoded};

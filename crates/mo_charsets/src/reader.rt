@@ -2,20 +2,20 @@
 ghost use Rattle.std.specs.Prelude.{◌≡◌, ◌↔◌, IfOk, IfErr, IsTrue, option_map};
 ghost use Rattle.mo_segments.specs.MessageStrings.{strings_of};
 ghost use Rattle.mo_revisions.specs.Refusing.{AnyRefused};
-ghost use Rattle.mo_charsets.specs.Recoding.{header_of, with_header, IsForCharset, MeansRecoded};
-ghost use Rattle.mo_charsets.specs.Failing.{RefusesRecoded};
+ghost use Rattle.mo_charsets.specs.Recoding.{header_of, with_header, AnyCharsetMo, IsForCharset, MeansRecoded};
+ghost use Rattle.mo_charsets.specs.Failing.{AnyCharsetRefused, RefusesRecoded};
 
 use crate::fault::RecodedFault;
 use crate::recoding::decode_messages;
 use any_charset::named;
 use catalogue::Catalogue;
 use mo_file::MoFault;
-use mo_revisions::{AnyMoFault, catalogue_of, read_messages};
+use mo_revisions::{AnyMoFault, catalogue_of, read_any_mo, read_messages};
 use mo_segments::Strings;
 use std::alloc::Global;
 
 /// Whether a file that is refused as UTF-8 for this may be in another charset.
-pub fn is_for_charset(fault: AnyMoFault) -> bool
+fn is_for_charset(fault: AnyMoFault) -> bool
     ensures { IsTrue result ↔ IsForCharset fault }
 {
     matches!(fault, AnyMoFault::Mo(MoFault::BadText | MoFault::Charset))
@@ -66,4 +66,20 @@ pub fn read_recoded(
     put_header(&mut messages, renamed);
     let decoded = decode_messages(alloc, charset, &messages)?;
     Ok(catalogue_of(alloc, decoded)?)
+}
+
+/// Reads an MO file of revision 0.0, 0.1, 1.0 or 1.1, in UTF-8 or in any charset of `charsets` (GNU gettext manual, "MO
+/// Files" and "Header Entry").
+///
+/// A file that `mo_revisions` reads is read as there, and one that it refuses for another reason than its charset is
+/// refused. For the others see [`read_recoded`].
+pub fn read_any_charset(alloc: Global, bytes: &[u8]) -> Result<Catalogue, RecodedFault>
+    ensures ok { IfOk result (AnyCharsetMo bytes.now) }
+    ensures err { IfErr result (AnyCharsetRefused bytes.now) }
+{
+    match read_any_mo(alloc, bytes) {
+        Ok(catalogue) => Ok(catalogue),
+        Err(fault) if is_for_charset(fault) => read_recoded(alloc, bytes, fault),
+        Err(fault) => Err(RecodedFault::Any(fault)),
+    }
 }

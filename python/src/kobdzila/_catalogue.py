@@ -5,6 +5,8 @@ from __future__ import annotations
 import gettext as python_gettext
 import io
 import os
+import re
+import struct
 import sys
 from collections import namedtuple
 from collections.abc import ItemsView, MutableMapping
@@ -36,7 +38,7 @@ else:
 # Files that Python's reader may read: later minor revisions, other charsets, several plurals, and the static strings of
 # a file whose system-dependent part is damaged.
 READ_BY_PYTHON = {Fault.MO_REVISION, Fault.MO_BAD_TEXT, Fault.MO_FORMS, Fault.MO_CHARSET}
-READ_BY_PYTHON |= {it for it in Fault if it.name.startswith("MO_DEPENDENT_")}
+READ_BY_PYTHON |= {it for it in Fault if it.name.startswith("MO_DEPENDENT_")} | {Fault.MO_NO_CHARACTER}
 GERMANIC = "n != 1"  # the plural rule of a header without one
 OWN_FRAMES = ("kobdzila", "gettext")  # a warning names the caller outside of them
 PRIVATE: Any = python_gettext  # what the module has besides its documented names
@@ -260,6 +262,18 @@ class GNUTranslations(Catalogue, python_gettext.GNUTranslations):
             if refused.kind not in READ_BY_PYTHON:
                 raise OSError(0, TEXTS_OF_PYTHON.get(refused.kind, refused.text), name) from refused
             self._read_by_python(data, name, refused)
+        else:
+            self._keep_header(header_in(data))
+
+    def _keep_header(self, header: bytes) -> None:
+        """Keep the header of a file in another charset as the file has it; the library's says that it is UTF-8."""
+        named = re.search(rb"charset=([^ \t\n]+)", header)
+        if named and named[1].upper() not in (b"UTF-8", b"UTF8"):
+            self._charset = named[1].decode("ascii", "replace")
+            try:
+                self._info = fields_of(header.decode(self._charset))
+            except (LookupError, UnicodeDecodeError):  # (a charset that Python doesn't have)
+                del self._charset
 
     def _read_by_python(self, data: bytes, name: str, refused: Refused) -> None:
         file = io.BytesIO(data)
@@ -273,6 +287,16 @@ class GNUTranslations(Catalogue, python_gettext.GNUTranslations):
         self._catalog = vars(reader)["_catalog"]
         self._info, self._charset = reader.info(), reader.charset()
         self.plural = with_own_warning(vars(reader)["plural"])
+
+
+def header_in(data: bytes) -> bytes:
+    """Return the header of an MO file: the translation of its first message, if the original is empty."""
+    order = "<" if data[:4] == b"\xde\x12\x04\x95" else ">"
+    count, originals, translations = struct.unpack_from(f"{order}3I", data, 8)
+    if not count or struct.unpack_from(f"{order}I", data, originals)[0]:
+        return b""
+    size, at = struct.unpack_from(f"{order}2I", data, translations)
+    return data[at:at + size]
 
 
 def fields_of(header: str) -> dict[str, str]:

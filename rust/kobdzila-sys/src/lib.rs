@@ -65,6 +65,7 @@ pub const KOB_MO_DEPENDENT_SEGMENT_NUMBER: c_uint = 16;
 pub const KOB_MO_DEPENDENT_TEXT: c_uint = 17;
 pub const KOB_MO_DEPENDENT_OPEN_TEXT: c_uint = 18;
 pub const KOB_MO_DEPENDENT_SWOLLEN: c_uint = 19;
+pub const KOB_MO_NO_CHARACTER: c_uint = 20;
 pub const KOB_PO_TOO_LARGE: c_uint = 101;
 pub const KOB_PO_NOT_UTF8: c_uint = 102;
 pub const KOB_PO_BAD_ESCAPE: c_uint = 103;
