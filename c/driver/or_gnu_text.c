@@ -1,5 +1,5 @@
-/* Scans a PO text for what only GNU msgfmt compiles or checks, before either program runs, so that none runs in vain.
- * A wrong guess only costs time: what Kobdzila's msgfmt refuses is given to GNU msgfmt. */
+/* Scans a PO text for what only GNU msgfmt compiles, checks or refuses, before either program runs, so that none runs in
+ * vain. A text that is given to GNU msgfmt without need only costs time; so does one that Kobdzila's refuses. */
 #include "or_gnu_text.h"
 #include "or_gnu.h"
 
@@ -8,43 +8,15 @@
 
 enum { MOST_OF_FLAG = 81 }; /* bytes of a flag, or of another piece of the text, that a reason shows, with its NUL */
 
-/* The state of the scan after the lines so far. */
+/* The state of the scan after the entries so far. */
 struct scan {
     const struct request *request;
     struct needs needs;
-    unsigned long long line;
-    bool has_macros; /* `<PRI` is somewhere in the text */
-    bool saw_charset;
-    bool flagged_c, flagged_fuzzy; /* flags in the comments before this entry */
-    bool has_msgstr;               /* this entry's msgstr has begun */
-    struct newlines newlines;
-    bool after_context;
-    enum { NO_HEADER, HEADER_ID, HEADER_TEXT, HEADER } header;
-    bool header_ended;
+    bool has_macros;   /* `<PRI` is somewhere in the text */
+    bool has_obsolete; /* and so is `#~` */
+    bool has_header, has_broken_rule;
+    struct keys keys;
 };
-
-static bool is_blank(char byte) { return byte == ' ' || byte == '\t' || byte == '\r' || byte == '\v' || byte == '\f'; }
-
-static struct part trimmed(struct part part) {
-    while (part.at < part.end && is_blank(*part.at))
-        part.at++;
-    while (part.at < part.end && is_blank(part.end[-1]))
-        part.end--;
-    return part;
-}
-
-bool begins(struct part part, const char *word) {
-    size_t len = strlen(word);
-    return (size_t)(part.end - part.at) >= len && !memcmp(part.at, word, len);
-}
-
-static bool is(struct part part, const char *word) {
-    return begins(part, word) && (size_t)(part.end - part.at) == strlen(word);
-}
-
-static const char *find(struct part part, const char *word) {
-    return memmem(part.at, (size_t)(part.end - part.at), word, strlen(word));
-}
 
 static void needs_gnu(struct scan *scan, const char *before, struct part what) {
     char *why = scan->needs.why;
@@ -54,158 +26,128 @@ static void needs_gnu(struct scan *scan, const char *before, struct part what) {
 
 static void needs_gnu_for(struct scan *scan, const char *why) { needs_gnu(scan, why, (struct part){why, why}); }
 
-/* Take in a flag of an entry. Only GNU msgfmt checks the formats of languages other than C. */
-static void look_at_flag(struct scan *scan, struct part flag) {
-    static const char ending[] = "-format";
-    size_t len = (size_t)(flag.end - flag.at), ending_len = sizeof ending - 1;
-    scan->flagged_c |= is(flag, "c-format");
-    scan->flagged_fuzzy |= is(flag, "fuzzy");
-    if (is(flag, "fuzzy") && scan->request->checks_compatibility)
-        needs_gnu_for(scan, "-C and a fuzzy message");
-    if (scan->request->checks_format && !is(flag, "c-format") && len > ending_len &&
-        !memcmp(flag.end - ending_len, ending, ending_len) && !begins(flag, "no-") && !begins(flag, "impossible-"))
-        needs_gnu(scan, "", flag);
+/* ---- the header */
+
+static bool is_name(struct part part, const char *name) {
+    return strlen(name) == (size_t)(part.end - part.at) && !strncasecmp(name, part.at, strlen(name));
 }
 
-/* Take in a comment, from its `#` on. Flags follow `#,` and `#=` (GNU gettext manual, "The Format of PO Files"). */
-static void look_at_comment(struct scan *scan, struct part comment) {
-    if (begins(comment, "#~")) /* the flags belonged to an obsolete entry */
-        scan->flagged_c = scan->flagged_fuzzy = false;
-    if (comment.end - comment.at < 2 || (comment.at[1] != ',' && comment.at[1] != '='))
+static bool is_ascii(struct part text) {
+    for (; text.at < text.end; text.at++)
+        if ((unsigned char)*text.at >= 0x80)
+            return false;
+    return true;
+}
+
+/* Copy the name of the charset that the header's text has, cut if it is long. False if it has none. */
+static bool copy_charset(struct part header, char *name, size_t room) {
+    struct spelled rest = spelled(header);
+    if (!skip_behind(&rest, "charset="))
+        return false;
+    for (int byte; (byte = next_byte(&rest)) > 0 && !strchr(" \t\n", byte) && room > 1; room--)
+        *name++ = (char)byte;
+    *name = '\0';
+    return true;
+}
+
+/* Decide by the header's charset whether the text is compiled as it is, converted, or given to GNU msgfmt, which also warns
+ * of a header without a charset. */
+static void look_for_charset(struct scan *scan, struct part header, struct part text) {
+    char name[MOST_OF_FLAG];
+    if (!copy_charset(header, name, sizeof name)) {
+        needs_gnu_for(scan, "no charset");
         return;
-    bool is_new = comment.at[1] == '=';
-    comment.at += 2;
-    while (comment.at < comment.end) {
-        const char *comma = memchr(comment.at, ',', (size_t)(comment.end - comment.at));
-        struct part flag = trimmed((struct part){comment.at, comma ? comma : comment.end});
-        if (is_new && flag.at < flag.end && scan->needs.line == 0)
-            scan->needs.line = scan->line;
-        look_at_flag(scan, flag);
-        comment.at = comma ? comma + 1 : comment.end;
     }
-}
-
-/* Find the comment at the end of a line with keywords and strings, or return NULL. */
-static const char *comment_in(struct part line) {
-    bool in_string = false;
-    if (!memchr(line.at, '#', (size_t)(line.end - line.at)))
-        return NULL;
-    for (const char *at = line.at; at < line.end; at++) {
-        if (in_string && *at == '\\')
-            at++;
-        else if (*at == '"')
-            in_string = !in_string;
-        else if (*at == '#' && !in_string)
-            return at;
-    }
-    return NULL;
-}
-
-/* Whether the string on a line, with or without a keyword, isn't empty. */
-static bool has_text(struct part line) {
-    const char *quote = memchr(line.at, '"', (size_t)(line.end - line.at));
-    return quote && quote + 1 < line.end && quote[1] != '"';
-}
-
-/* Follow whether the text has a header: an empty msgid without context, and its msgstr. */
-static void look_for_header(struct scan *scan, struct part line) {
-    if (scan->header == HEADER)
+    struct part copy = {name, name + strlen(name)};
+    if (is_name(copy, "UTF-8") || ((is_name(copy, "ASCII") || is_name(copy, "US-ASCII")) && is_ascii(text)))
         return;
-    if (begins(line, "msgctxt")) {
-        scan->after_context = true;
-    } else if (begins(line, "msgid") && !begins(line, "msgid_plural")) {
-        scan->header = has_text(line) || scan->after_context ? NO_HEADER : HEADER_ID;
-        scan->needs.header_line = scan->line;
-        scan->after_context = false;
-    } else if (begins(line, "msgstr")) {
-        if (scan->header == HEADER_ID)
-            scan->header = has_text(line) ? HEADER : HEADER_TEXT;
-    } else if (begins(line, "\"") && has_text(line)) {
-        scan->header = scan->header == HEADER_TEXT ? HEADER : NO_HEADER;
-    }
-}
-
-/* Whether the line is a part of the header's msgstr. */
-static bool is_in_header(const struct scan *scan, struct part line) {
-    return scan->has_msgstr && !scan->header_ended &&
-           (scan->header >= HEADER_TEXT || (scan->header == HEADER_ID && begins(line, "msgstr")));
-}
-
-/* Take in the charset of the header, which is the first one named in the text. */
-static void look_for_charset(struct scan *scan, struct part line) {
-    static const char *const accepted[] = {"UTF-8", "UTF8", "US-ASCII", "ASCII", "CHARSET"};
-    const char *at = find(line, "charset=");
-    if (!at)
+    const char *at = find(header, "charset=");
+    struct part there = {at ? at + strlen("charset=") : NULL, NULL};
+    there.end = there.at ? there.at + (copy.end - copy.at) : NULL;
+    const struct charset *charset = there.at && there.end <= header.end && is(there, name) ? charset_named(copy) : NULL;
+    if (!charset) {
+        needs_gnu(scan, "charset=", copy);
         return;
-    scan->saw_charset = true;
-    struct part name = {at + strlen("charset="), at + strlen("charset=")};
-    while (name.end < line.end && !strchr(" \t\\\"", *name.end))
-        name.end++;
-    for (size_t place = 0; place < sizeof accepted / sizeof *accepted; place++)
-        if (strlen(accepted[place]) == (size_t)(name.end - name.at) &&
-            !strncasecmp(accepted[place], name.at, (size_t)(name.end - name.at)))
-            return;
-    scan->needs.name = name;
-    scan->needs.charset = is_in_header(scan, line) ? charset_named(name) : NULL;
-    if (!scan->needs.charset)
-        needs_gnu(scan, "charset=", name);
+    }
+    scan->needs.charset = charset;
+    scan->needs.name = there;
 }
 
-/* End an entry: its msgstr is followed by a comment, by the next msgid or msgctxt, or by the end of the text. */
-static void leave_entry(struct scan *scan) {
-    if (end_entry(&scan->newlines) && (!scan->flagged_fuzzy || scan->request->keeps_fuzzy))
+static bool is_header(const struct entry *entry) {
+    struct spelled id = spelled(entry->id);
+    return !entry->context.at && next_byte(&id) < 0;
+}
+
+static void look_at_header(struct scan *scan, const struct entry *entry, struct part text) {
+    if (scan->has_header || !entry->is_translated)
+        return;
+    scan->has_header = true;
+    scan->needs.header_line = entry->line;
+    scan->has_broken_rule = has_broken_rule(entry->form);
+    look_for_charset(scan, entry->form, text);
+}
+
+/* ---- other entries */
+
+/* Take in an entry that is kept. */
+static void look_at_kept(struct scan *scan, const struct entry *entry) {
+    const struct flags *flags = &entry->flags;
+    struct spelled id = spelled(entry->id);
+    bool checks = scan->request->checks_format;
+    if (entry->newlines_differ && next_byte(&id) >= 0)
         needs_gnu_for(scan, "newlines differ");
-    scan->header_ended |= scan->has_msgstr && scan->header >= HEADER_TEXT;
-    scan->has_msgstr = scan->flagged_c = scan->flagged_fuzzy = false;
-}
-
-static void look_at_words(struct scan *scan, struct part line) {
-    if (scan->has_msgstr && *line.at != '"' && !begins(line, "msgstr"))
-        leave_entry(scan);
-    scan->has_msgstr |= begins(line, "msgstr");
-    look_for_newlines(&scan->newlines, line);
-    if (!scan->saw_charset)
-        look_for_charset(scan, line);
-    look_for_header(scan, line);
-    if (scan->has_macros && scan->flagged_c && find(line, "<PRI"))
+    if (checks && flags->other.at)
+        needs_gnu(scan, "", flags->other);
+    if (checks && flags->python)
+        needs_gnu_for(scan, "python-format");
+    if (scan->has_macros && flags->c_format && find(entry->whole, "<PRI"))
         needs_gnu_for(scan, "system-dependent format");
-    if (scan->request->checks_compatibility && begins(line, "msgid_plural"))
-        needs_gnu_for(scan, "-C and a plural message");
+    else if (flags->c_format != flags->our_c_format && checks)
+        needs_gnu_for(scan, "flags read otherwise by GNU");
 }
 
-static void look_at_line(struct scan *scan, struct part line) {
-    line = trimmed(line);
-    if (line.at == line.end)
-        return;
-    if (*line.at != '#') {
-        const char *comment = comment_in(line);
-        look_at_words(scan, (struct part){line.at, comment ? comment : line.end});
-        if (comment)
-            look_at_comment(scan, (struct part){comment, line.end});
+static void look_at_live(struct scan *scan, const struct entry *entry, struct part text) {
+    const struct flags *flags = &entry->flags;
+    bool has_id = !is_header(entry);
+    if (!has_id)
+        look_at_header(scan, entry, text);
+    if (flags->fuzzy != flags->our_fuzzy && has_id)
+        needs_gnu_for(scan, "flags read otherwise by GNU");
+    if (flags->fuzzy && has_id && scan->request->checks_compatibility)
+        needs_gnu_for(scan, "-C and a fuzzy message");
+    if (entry->plural.at && scan->request->checks_compatibility)
+        needs_gnu_for(scan, "-C and a plural message");
+    if (entry->is_translated && (!flags->fuzzy || !has_id || scan->request->keeps_fuzzy))
+        look_at_kept(scan, entry);
+}
+
+static void look_at_entry(struct scan *scan, const struct entry *entry, struct part text) {
+    if (entry->is_broken) {
+        if (entry->fault)
+            needs_gnu_for(scan, entry->fault);
         return;
     }
-    if (scan->has_msgstr)
-        leave_entry(scan);
-    look_at_comment(scan, line);
+    if (scan->has_obsolete)
+        add_key(&scan->keys, entry);
+    if (!entry->is_obsolete)
+        look_at_live(scan, entry, text);
 }
 
 struct needs needs_of(const struct request *request, const char *bytes, size_t len) {
-    struct scan scan = {.request = request, .newlines.is_empty = true};
-    struct part rest = {bytes, bytes + len};
-    scan.has_macros = find(rest, "<PRI") != NULL;
-    if (begins(rest, "\xef\xbb\xbf"))
+    struct part text = {bytes, bytes + len};
+    struct scan scan = {.request = request, .has_macros = find(text, "<PRI"), .has_obsolete = find(text, "#~")};
+    struct entry entry;
+    if (begins(text, "\xef\xbb\xbf"))
         needs_gnu_for(&scan, "a byte order mark");
-    while (rest.at < rest.end) {
-        const char *end = memchr(rest.at, '\n', (size_t)(rest.end - rest.at));
-        struct part line = {rest.at, end ? end : rest.end};
-        scan.line++;
-        look_at_line(&scan, line);
-        rest.at = end ? end + 1 : rest.end;
-    }
-    leave_entry(&scan);
-    if (scan.header != HEADER)
-        scan.needs.header_line = 0;
-    if (request->checks_header && scan.header != HEADER)
+    struct reader reader = read_text_from((struct part){text.at + (scan.needs.why[0] ? 3 : 0), text.end});
+    while (read_entry(&reader, &entry))
+        look_at_entry(&scan, &entry, text);
+    scan.needs.line = reader.flag_line;
+    if (has_obsolete_repeat(&scan.keys) || scan.keys.has_failed)
+        needs_gnu_for(&scan, "an obsolete duplicate");
+    if (request->checks_header && scan.has_broken_rule)
+        needs_gnu_for(&scan, "unreadable plural rule");
+    if (request->checks_header && !scan.has_header)
         needs_gnu_for(&scan, "no header");
     return scan.needs;
 }

@@ -1,4 +1,5 @@
-/* Pieces of a PO text, for the scan in or_gnu_text.c. */
+/* A PO text as GNU msgfmt reads it, for the scan in or_gnu_text.c: its tokens, its entries, and the bytes that strings
+ * stand for (GNU gettext manual, "PO Files"). */
 #ifndef OR_GNU_TEXT_H
 #define OR_GNU_TEXT_H
 
@@ -7,18 +8,97 @@
 #include <stdbool.h>
 
 bool begins(struct part part, const char *word);
+bool is(struct part part, const char *word);
+/* Return where a word first stands in a part, or NULL. */
+const char *find(struct part part, const char *word);
 
-/* What is known about the newlines of an entry after the lines so far. */
-struct newlines {
-    bool in_msgid, in_msgstr, in_context; /* which string the last keyword began */
-    bool is_empty, begins, ends;          /* of that string: nothing yet; a newline at its beginning; one at its end */
-    bool has_msgid, msgid_begins, msgid_ends;
-    bool has_msgstr, differ;
+/* ---- tokens (or_gnu_tokens.c) */
+
+enum kind { END, COMMENT, MSGCTXT, MSGID, MSGID_PLURAL, MSGSTR, DOMAIN, STRING, NUMBER, OPEN, CLOSE, JUNK };
+
+struct token {
+    enum kind kind;
+    struct part part;        /* of a string what is between its quotes, of a comment what follows its `#` */
+    unsigned long long line;
+    bool obsolete, previous; /* it stands behind `#~`, behind `#|`; behind `#~|` it is both */
 };
 
-/* Take in a line of an entry, without surrounding blanks: a keyword and its string, or a string. */
-void look_for_newlines(struct newlines *newlines, struct part line);
-/* End an entry. True if it is translated and its strings differ in a newline. */
-bool end_entry(struct newlines *newlines);
+struct lexer {
+    const char *at, *end;
+    unsigned long long line;
+    bool obsolete, previous;
+    bool saw_obsolete; /* there was a `#~` since this was last set to false */
+};
+
+struct token next_token(struct lexer *lexer);
+
+/* ---- strings (or_gnu_strings.c) */
+
+/* What is left of the strings of a keyword, from the first quote to the last one. */
+struct spelled {
+    struct part rest;
+    bool in_string;
+};
+
+struct spelled spelled(struct part strings);
+/* Return the next byte that the strings stand for, or -1 at their end. */
+int next_byte(struct spelled *strings);
+/* Go behind the first place where the strings have a word, which doesn't begin again inside of itself. False if there is
+ * none. */
+bool skip_behind(struct spelled *strings, const char *word);
+/* Whether the string between two quotes begins or ends with a newline. */
+bool begins_with_newline(struct part string);
+bool ends_with_newline(struct part string);
+
+/* ---- entries (or_gnu_entries.c) */
+
+/* The flags of an entry. */
+struct flags {
+    bool fuzzy, c_format; /* as GNU msgfmt has them: those of the last line of flags */
+    bool our_fuzzy, our_c_format; /* as Kobdzila's has them: those of all lines, up to the last `#~` */
+    bool python;          /* it may be flagged as a format of Python */
+    bool has_range;
+    struct part other;    /* the first flag of a format that only GNU msgfmt checks, or NULL */
+};
+
+struct entry {
+    unsigned long long line, msgstr_line; /* of the first keyword, and of the first `msgstr` */
+    struct part whole;                    /* its keywords and strings */
+    struct part context, id, plural, form; /* strings from the first quote to the last one, or NULL; the first form */
+    struct flags flags;
+    bool is_obsolete, is_translated, newlines_differ;
+    bool is_broken;    /* GNU msgfmt refuses it */
+    const char *fault; /* why, if Kobdzila's msgfmt doesn't */
+};
+
+struct reader {
+    struct lexer lexer;
+    struct token token;
+    struct flags flags; /* of the comments since the last entry */
+    bool in_previous;   /* what is read is the part behind `#|` */
+    unsigned long long flag_line; /* the number of the first `#=` line that has a flag, or 0 */
+};
+
+struct reader read_text_from(struct part text);
+/* Read the next entry, or a part of a text that isn't one. False at the end of the text. */
+bool read_entry(struct reader *reader, struct entry *entry);
+
+/* ---- keys (or_gnu_keys.c) */
+
+/* The keys of entries, those of obsolete ones among them. */
+struct keys {
+    struct key *at;
+    size_t count, room;
+    bool has_failed; /* memory ran out */
+};
+
+void add_key(struct keys *keys, const struct entry *entry);
+/* Whether an obsolete entry has the key of another one; it frees the keys. */
+bool has_obsolete_repeat(struct keys *keys);
+
+/* ---- the header (or_gnu_header.c) */
+
+/* Whether a plural rule stands in the header's text and can't be read. */
+bool has_broken_rule(struct part header);
 
 #endif

@@ -24,7 +24,7 @@ printf '\nmsgid "e"\nmsgstr ""\n' >> mixed.po
 { printf '\357\273\277' && cat ours.po; } > mark.po
 printf 'msgid "a"\nmsgstr ""\n' > nothing.po
 printf 'msgid "a"\nmsgstr "b"\n' > headless.po
-printf 'msgid ""\nmsgstr "Language: fr\\n"\n\nmsgid "a"\nmsgstr "b"\n' > fields.po
+printf 'msgid ""\nmsgstr "Content-Type: text/plain; charset=UTF-8\\n"\n\nmsgid "a"\nmsgstr "b"\n' > fields.po
 { header UTF-8 fr && printf '#= fuzzy\nmsgid "a"\nmsgstr "b"\n'; } > flags.po
 { header UTF-8 fr && printf 'msgid "#= fuzzy"\nmsgstr "#= x"\n#=\nmsgid "b"\nmsgstr "c"\n'; } > no_flags.po
 { header UTF-8 fr && printf 'msgid "a" #= fuzzy\nmsgstr "b"\n'; } > late_flags.po

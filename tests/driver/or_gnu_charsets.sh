@@ -63,13 +63,35 @@ for how in 'drive -o x.mo - < latin.po' 'cat latin.po | drive -o x.mo /dev/stdin
   if cmp -s x.mo wanted.mo; then ok "driver, converted: $how"; else failed "driver, converted: $how" "$(cat err)"; fi
 done
 
-# what isn't converted is GNU's: another name of the charset, a byte that has no character, a charset that isn't the
-# header's
+# what isn't converted is GNU's: another name of the charset, a byte that has no character
 header latin1 de > name.po
 printf 'msgid "a"\nmsgstr "\374"\n' >> name.po
 header CP1252 de > byte.po
 printf 'msgid "a"\nmsgstr "\201"\n' >> byte.po
-{ printf 'msgid "charset=ISO-8859-1"\nmsgstr "x"\n\n' && header ISO-8859-1 de; } > late.po
 is_of 'driver, a name that is not portable' 'GNU\t0\tcharset=latin1\tname.po' /dev/null "$gnu" -o x.mo name.po
 is_of 'driver, a byte that is no character' 'GNU\t1\ta byte that is no character\tbyte.po' /dev/null "$gnu" -o x.mo byte.po
-is_of 'driver, charset= before the header' 'GNU\t0\tcharset=ISO-8859-1\tlate.po' /dev/null "$gnu" -o x.mo late.po
+
+# the header isn't the first entry; another entry names a charset; lines end with CRLF; comments stand before the header
+{ printf 'msgid "a"\nmsgstr "\374"\n\n' && header ISO-8859-1 de; } > late.po
+converted 'a header that comes late' late.po
+{ header ISO-8859-1 de && printf 'msgid "charset=latin1"\nmsgstr "charset=EUC-JP \374"\n'; } > other.po
+converted 'charset= outside of the header' other.po
+sed 's/$/\r/' latin.po > crlf.po
+converted 'CRLF' crlf.po
+{ printf '# K\366rner\r\n#\r\n#, fuzzy\r\n' && sed 's/$/\r/' latin.po; } > comments.po
+converted 'CRLF and comments before the header' comments.po
+{ printf '# \301\n' && text ISO-8859-7; } > greek.po
+converted 'comments before the header' greek.po
+
+# comments that aren't of the header's charset: GNU msgfmt doesn't read them, and Kobdzila's does
+{ printf '# K\366rner\n' && header UTF-8 de && printf 'msgid "a"\nmsgstr "b"\n'; } > utf8.po
+is_of 'driver, comments that are not UTF-8' 'GNU\t0\tnot UTF-8\tutf8.po' /dev/null "$gnu" -o x.mo utf8.po
+{ printf '# \245\n' && header ISO-8859-3 de && printf 'msgid "a"\nmsgstr "b"\n'; } > maltese.po
+is_of 'driver, comments of another charset' 'GNU\t0\ta byte that is no character\tmaltese.po' /dev/null "$gnu" -o x.mo maltese.po
+missing='msgfmt-or-gnu: no GNU msgfmt on the PATH to run in its place'
+for it in 'utf8.po:1: not UTF-8' 'maltese.po:1: not UTF-8'; do
+  env -u GNU_MSGFMT PATH=/nonexistent "$driver" -o x.mo "${it%%:*}" 2> err
+  status=$?
+  if [ $status = 1 ] && [ "$(head -n 1 err)" = "$it" ] && sed -n 2p err | grep -q "^$missing"; then ok "driver, without GNU msgfmt, $it"
+  else failed "driver, without GNU msgfmt, $it" "$status, $(cat err)"; fi
+done

@@ -20,7 +20,7 @@ export TMPDIR=$room/tmp
 { header EUC-JP de && printf 'msgid "hi"\nmsgstr "hallo"\n'; } > charset.po
 { cat ours.po && printf 'msgid "hi"\nmsgstr "y"\n'; } > twice.po
 { cat ours.po && printf '\nmsgid "e"\nmsgstr ""\n'; } > half.po
-printf 'msgid ""\nmsgstr "Language: fr\\n"\n\nmsgid "a"\nmsgstr "b"\n' > fields.po
+printf 'msgid ""\nmsgstr "Content-Type: text/plain; charset=UTF-8\\n"\n\nmsgid "a"\nmsgstr "b"\n' > fields.po
 { cat fields.po && printf '#, c-format\nmsgid "%%d"\nmsgstr "%%s"\n'; } > formats.po
 { cat ours.po && for it in $(seq 2000); do printf 'msgid "%s"\nmsgstr "%s"\n' "$it" "$it$it$it"; done; } > large.po
 "$program" -o ours.mo ours.po

@@ -69,10 +69,17 @@ done
 files='#, c-format\nmsgid "%%d file"\nmsgid_plural "%%d files"\n'
 row 'a form of one number drops its argument' -c 0.0 0.0 <<< "$plural$files"'msgstr[0] "one"\nmsgstr[1] "%%d"\n'
 row 'a form of many numbers drops its argument' -c refused 0.0 <<< "$plural$files"'msgstr[0] "%%d"\nmsgstr[1] "more"\n'
+row 'a rule that cannot be read' -c refused 0.0 <<< "${head}Plural-Forms: nplurals=INTEGER; plural=n;\\\\n\"\n"'msgid "a"\nmsgstr "b"\n'
 row 'no header' -c refused 0.0 <<< 'msgid "a"\nmsgstr "b"\n'
 row 'no header' '' 0.0 0.0 <<< 'msgid "a"\nmsgstr "b"\n'
 both 'two obsolete entries of one key' refused 0.0 \
   <<< "$plain"'msgid "b"\nmsgstr "c"\n#~ msgid "a"\n#~ msgstr "c"\n#~ msgid "a"\n#~ msgstr "d"\n'
+both 'a live and an obsolete entry of one key' refused 0.0 <<< "$plain"'msgid "a"\nmsgstr "c"\n#~ msgid "a"\n#~ msgstr "d"\n'
+both 'a string after obsolete lines' refused 0.0 \
+  <<< "$plain"'msgid "a"\nmsgstr "b"\n#~ msgid "c"\n#~ msgstr "d"\n"e"\n'
+both 'a previous msgid that is not closed' refused 0.0 <<< "$plain"'#| msgid "x\nmsgid "a"\nmsgstr "b"\n'
+both 'ASCII with other bytes' refused 0.0 <<< "${plain/UTF-8/ASCII}"'msgid "a"\nmsgstr "\303\240"\n'
+both 'UTF8' 0.0 0.0 <<< "${plain/UTF-8/UTF8}"'msgid "a"\nmsgstr "b"\n'
 both 'an obsolete word' refused 0.0 <<< "$plain"'#~ msgidx "a"\nmsgid "b"\nmsgstr "c"\n'
 both 'a byte order mark' refused 0.0 <<< '\357\273\277'"$plain"
 both 'a comment inside an entry' refused 0.0 <<< "$plain"'msgid "a"\n# here\nmsgstr "b"\n'

@@ -1,0 +1,243 @@
+/* The entries of a PO text, by the grammar of GNU msgfmt. That has no comment inside an entry, and its obsolete entries and
+ * previous msgids have the same form as all others. */
+#include "or_gnu_text.h"
+
+#include <stdlib.h>
+#include <string.h>
+
+/* ---- flags */
+
+/* Whether a flag says that the texts are, or may be, formats of this language. */
+static bool says(struct part flag, const char *format) {
+    static const char possible[] = "possible-";
+    if (begins(flag, possible))
+        flag.at += sizeof possible - 1;
+    return is(flag, format);
+}
+
+static bool denies(struct part flag, const char *format) {
+    const char *dash = memchr(flag.at, '-', (size_t)(flag.end - flag.at));
+    return (begins(flag, "no-") || begins(flag, "impossible-")) && is((struct part){dash + 1, flag.end}, format);
+}
+
+/* Whether a flag is of a format that neither Kobdzila's msgfmt nor the driver checks. */
+static bool is_of_other(struct part flag) {
+    static const char ending[] = "-format";
+    size_t len = (size_t)(flag.end - flag.at), ending_len = sizeof ending - 1;
+    return len > ending_len && !memcmp(flag.end - ending_len, ending, ending_len) && !is(flag, "c-format") &&
+           !begins(flag, "no-") && !begins(flag, "impossible-");
+}
+
+static void take_flag(struct flags *flags, struct part flag) {
+    flags->fuzzy |= is(flag, "fuzzy");
+    if (says(flag, "c-format") || denies(flag, "c-format"))
+        flags->c_format = says(flag, "c-format");
+    flags->has_range |= is(flag, "range:");
+    if (says(flag, "python-format") || says(flag, "python-brace-format"))
+        flags->python = true;
+    else if (!flags->other.at && is_of_other(flag))
+        flags->other = flag;
+}
+
+/* Cut off the next flag. False if there is none; flags are separated by blanks and commas. */
+static bool next_flag(struct part *rest, struct part *flag) {
+    static const char separators[] = "\n \t\r\f\v,";
+    while (rest->at < rest->end && memchr(separators, *rest->at, sizeof separators))
+        rest->at++;
+    flag->at = rest->at;
+    while (rest->at < rest->end && !memchr(separators, *rest->at, sizeof separators))
+        rest->at++;
+    flag->end = rest->at;
+    return flag->at < flag->end;
+}
+
+/* Take in a comment: `#,` has flags, and in GNU msgfmt `#!` has them as well. */
+static void look_at_comment(struct reader *reader, const struct token *token) {
+    struct part rest = token->part, flag;
+    char mark = rest.at < rest.end ? *rest.at++ : '\0';
+    struct flags *flags = &reader->flags, now = {.our_fuzzy = flags->our_fuzzy, .our_c_format = flags->our_c_format};
+    if (mark == '=' && !reader->flag_line && next_flag(&rest, &flag))
+        reader->flag_line = token->line;
+    if (mark != ',' && mark != '!')
+        return;
+    bool is_ours = mark == ',' && !token->obsolete && !token->previous;
+    while (next_flag(&rest, &flag)) {
+        take_flag(&now, flag);
+        now.our_fuzzy |= is_ours && is(flag, "fuzzy");
+        now.our_c_format |= is_ours && is(flag, "c-format");
+    }
+    *flags = now;
+}
+
+/* ---- the tokens of an entry */
+
+static void advance(struct reader *reader) {
+    reader->token = next_token(&reader->lexer);
+    if (reader->lexer.saw_obsolete)
+        reader->flags.our_fuzzy = reader->flags.our_c_format = false;
+    reader->lexer.saw_obsolete = false;
+}
+
+struct reader read_text_from(struct part text) {
+    struct reader reader = {.lexer = {text.at, text.end, 1, false, false, false}};
+    advance(&reader);
+    return reader;
+}
+
+static bool is_at(const struct reader *reader, enum kind kind) {
+    return reader->token.kind == kind && reader->token.previous == reader->in_previous;
+}
+
+static bool refuse_for(struct entry *entry, const char *fault) {
+    entry->is_broken = true;
+    entry->fault = fault;
+    return false;
+}
+
+/* Note that GNU msgfmt refuses the entry at the current token; and why, if Kobdzila's doesn't. */
+static bool refuse(const struct reader *reader, struct entry *entry) {
+    const struct token *token = &reader->token;
+    if (token->obsolete != entry->is_obsolete && token->kind != END && token->kind != COMMENT)
+        return refuse_for(entry, "inconsistent use of #~");
+    if (entry->is_obsolete || token->obsolete || token->previous || reader->in_previous)
+        return refuse_for(entry, "a bad line #~ or #|");
+    return refuse_for(entry, token->kind == COMMENT ? "a comment inside an entry" : NULL);
+}
+
+/* Take a token of this kind, which has to be as obsolete as the entry. */
+static bool take(struct reader *reader, struct entry *entry, enum kind kind) {
+    if (!is_at(reader, kind) || reader->token.obsolete != entry->is_obsolete)
+        return refuse(reader, entry);
+    entry->whole.end = reader->token.part.end;
+    advance(reader);
+    return true;
+}
+
+/* What is known of the strings of a keyword. */
+struct ends {
+    bool is_empty, begins, ends; /* they begin and end with a newline */
+};
+
+static bool take_strings(struct reader *reader, struct entry *entry, struct part *strings, struct ends *ends) {
+    *ends = (struct ends){.is_empty = true};
+    if (is_at(reader, STRING))
+        strings->at = reader->token.part.at - 1;
+    do {
+        struct part string = reader->token.part;
+        if (!take(reader, entry, STRING))
+            return false;
+        strings->end = string.end + 1;
+        if (string.at == string.end)
+            continue;
+        if (ends->is_empty)
+            ends->begins = begins_with_newline(string);
+        ends->ends = ends_with_newline(string);
+        ends->is_empty = false;
+    } while (is_at(reader, STRING));
+    return true;
+}
+
+/* ---- the parts of an entry */
+
+/* Take a context, if there is one, and the msgid. */
+static bool take_id(struct reader *reader, struct entry *entry, struct ends *ends) {
+    if (is_at(reader, MSGCTXT) &&
+        (!take(reader, entry, MSGCTXT) || !take_strings(reader, entry, &entry->context, ends)))
+        return false;
+    return take(reader, entry, MSGID) && take_strings(reader, entry, &entry->id, ends);
+}
+
+static void compare(struct entry *entry, const struct ends *id, const struct ends *other) {
+    entry->newlines_differ |= id->begins != other->begins || id->ends != other->ends;
+}
+
+/* Take the strings of a form, of which the first one says whether the entry is translated. */
+static bool take_form(struct reader *reader, struct entry *entry, const struct ends *id) {
+    struct ends ends;
+    struct part form = {NULL, NULL};
+    if (!take_strings(reader, entry, &form, &ends))
+        return false;
+    if (!entry->form.at) {
+        entry->form = form;
+        entry->is_translated = !ends.is_empty;
+    }
+    compare(entry, id, &ends);
+    return true;
+}
+
+static bool take_index(struct reader *reader, struct entry *entry, unsigned long index) {
+    if (!take(reader, entry, OPEN))
+        return false;
+    if (is_at(reader, NUMBER) && strtoul(reader->token.part.at, NULL, 10) != index)
+        return refuse(reader, entry);
+    return take(reader, entry, NUMBER) && take(reader, entry, CLOSE);
+}
+
+static bool take_forms(struct reader *reader, struct entry *entry, const struct ends *id) {
+    struct ends plural;
+    if (!take(reader, entry, MSGID_PLURAL) || !take_strings(reader, entry, &entry->plural, &plural))
+        return false;
+    compare(entry, id, &plural);
+    entry->msgstr_line = reader->token.line;
+    unsigned long index = 0;
+    do
+        if (!take(reader, entry, MSGSTR) || !take_index(reader, entry, index++) || !take_form(reader, entry, id))
+            return false;
+    while (is_at(reader, MSGSTR));
+    return true;
+}
+
+/* Take what stands behind `#|`: a msgid with its context and its plural. */
+static bool take_previous(struct reader *reader, struct entry *entry) {
+    struct entry before = {.is_obsolete = reader->token.obsolete};
+    struct ends ends;
+    reader->in_previous = true;
+    bool done = take_id(reader, &before, &ends);
+    if (done && is_at(reader, MSGID_PLURAL))
+        done = take(reader, &before, MSGID_PLURAL) && take_strings(reader, &before, &before.plural, &ends);
+    if (done && (reader->token.kind == END || reader->token.kind == COMMENT))
+        done = refuse(reader, &before);
+    reader->in_previous = false;
+    if (!done)
+        return refuse_for(entry, before.fault);
+    return before.is_obsolete == reader->token.obsolete || refuse_for(entry, "inconsistent use of #~");
+}
+
+static bool take_entry(struct reader *reader, struct entry *entry) {
+    struct ends id;
+    if (reader->token.previous && !take_previous(reader, entry))
+        return false;
+    entry->line = reader->token.line;
+    entry->is_obsolete = reader->token.obsolete;
+    entry->whole = reader->token.part;
+    entry->flags = reader->flags;
+    reader->flags = (struct flags){0};
+    if (!take_id(reader, entry, &id))
+        return false;
+    if (is_at(reader, MSGID_PLURAL))
+        return take_forms(reader, entry, &id);
+    entry->msgstr_line = reader->token.line;
+    return take(reader, entry, MSGSTR) && take_form(reader, entry, &id);
+}
+
+/* Go on from a fault: to a comment, or to where an entry may begin. */
+static void recover(struct reader *reader) {
+    for (enum kind kind; (kind = reader->token.kind) != END && kind != COMMENT && kind != MSGID && kind != MSGCTXT;)
+        advance(reader);
+}
+
+bool read_entry(struct reader *reader, struct entry *entry) {
+    *entry = (struct entry){0};
+    while (reader->token.kind == COMMENT || reader->token.kind == DOMAIN) {
+        if (reader->token.kind == COMMENT)
+            look_at_comment(reader, &reader->token);
+        else
+            advance(reader);
+        advance(reader);
+    }
+    if (reader->token.kind == END)
+        return false;
+    if (!take_entry(reader, entry))
+        recover(reader);
+    return true;
+}

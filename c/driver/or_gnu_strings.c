@@ -1,0 +1,66 @@
+/* The bytes that the strings of a PO text stand for. */
+#include "or_gnu_text.h"
+
+#include <string.h>
+
+/* Return the byte for an escape, from behind its backslash on, and go behind it. (One with hexadecimal digits is refused by
+ * Kobdzila's msgfmt.) */
+static int escaped(struct part *rest) {
+    static const char letters[] = "ntbrfva", bytes[] = "\n\t\b\r\f\v\a";
+    int byte = (unsigned char)*rest->at++;
+    const char *letter = byte ? strchr(letters, byte) : NULL;
+    if (letter)
+        return bytes[letter - letters];
+    if (byte < '0' || byte > '7')
+        return byte;
+    byte -= '0';
+    for (int digits = 1; digits < 3 && rest->at < rest->end && *rest->at >= '0' && *rest->at <= '7'; digits++)
+        byte = 8 * byte + *rest->at++ - '0';
+    return byte & 0xff;
+}
+
+struct spelled spelled(struct part strings) { return (struct spelled){strings, false}; }
+
+int next_byte(struct spelled *strings) {
+    struct part *rest = &strings->rest;
+    while (rest->at < rest->end) {
+        char byte = *rest->at++;
+        if (byte == '"')
+            strings->in_string = !strings->in_string;
+        else if (strings->in_string)
+            return byte == '\\' && rest->at < rest->end ? escaped(rest) : (unsigned char)byte;
+    }
+    return -1;
+}
+
+bool skip_behind(struct spelled *strings, const char *word) {
+    const char *at = word;
+    for (int byte; *at && (byte = next_byte(strings)) >= 0;) {
+        if (byte != (unsigned char)*at)
+            at = word;
+        at += byte == (unsigned char)*at;
+    }
+    return !*at;
+}
+
+bool begins_with_newline(struct part string) {
+    if (string.end - string.at < 2 || *string.at != '\\')
+        return false;
+    string.at++;
+    return escaped(&string) == '\n';
+}
+
+/* A newline is always escaped, so it is the last escape. */
+bool ends_with_newline(struct part string) {
+    int byte = 0;
+    if (string.at == string.end)
+        return false;
+    while (string.at < string.end) {
+        const char *slash = memchr(string.at, '\\', (size_t)(string.end - string.at));
+        if (!slash)
+            return false;
+        string.at = slash + 1;
+        byte = string.at < string.end ? escaped(&string) : 0;
+    }
+    return byte == '\n';
+}

@@ -1,0 +1,147 @@
+#!/usr/bin/env bash
+# PO texts of which GNU msgfmt says something that Kobdzila's doesn't: lines of obsolete entries and of previous msgids, flags,
+# newlines, plural rules and charsets. bin/msgfmt-or-gnu has to answer as GNU msgfmt does, worked text by worked text and on
+# random ones (tests/driver/texts.py), and to give no text to GNU msgfmt for an entry that isn't kept.
+. "$(dirname "$0")/../lib/common"
+NAME=or_gnu_texts
+. tests/driver/begin
+cd "$room" || exit 1
+mkdir tmp
+export TMPDIR=$room/tmp
+
+# answers NAME LOG TEXT ARGUMENT..: status, output and MO file are GNU msgfmt's for TEXT, and the log has this line: `ours`
+# if Kobdzila's msgfmt is to compile the text, else GNU msgfmt's status and the reason
+answers() {
+  local name=$1 line=${2/#ours/ours\\t0\\t-} it=$3
+  { header UTF-8 fr && printf "$it"; } > in.po
+  shift 3
+  is_of "driver, texts, $name${*:+, $*}" "$line\tin.po" /dev/null "$gnu" --no-hash "$@" -o x.mo in.po
+}
+ab='msgid "a"\nmsgstr "b"\n' mark='GNU\t1\ta bad line #~ or #|'
+mixed='GNU\t1\tinconsistent use of #~' twice='GNU\t1\tan obsolete duplicate'
+
+# --- lines of obsolete entries and of previous msgids -------------------------------------------------------------------
+
+answers 'obsolete' ours "$ab"'#~ msgid "x"\n#~ "y"\n#~ msgstr "z"\n'
+answers 'an obsolete plural' ours "$ab"'#~ msgctxt "c"\n#~ msgid "x"\n#~ msgid_plural "y"\n#~ msgstr[0] "z"\n#~ msgstr[1] "z"\n'
+answers 'a string after an obsolete msgstr' "$mixed" "$ab"'#~ msgid "x"\n#~ msgstr "y"\n"c"\n'
+answers 'a string after an obsolete msgid' "$mixed" "$ab"'#~ msgid "x"\n"z"\n#~ msgstr "y"\n'
+answers 'an obsolete string after a msgstr' "$mixed" "$ab"'#~ "c"\n'
+answers 'a msgstr after an obsolete msgid' "$mixed" "$ab"'#~ msgid "x"\nmsgstr "y"\n'
+answers 'an obsolete word' "$mark" "$ab"'#~ msgidx "x"\n'
+answers 'an obsolete string that is not closed' "$mark" "$ab"'#~ msgid "x\n#~ msgstr "y"\n'
+answers 'an obsolete escape that is none' "$mark" "$ab"'#~ msgid "\\q"\n#~ msgstr "y"\n'
+answers 'an obsolete index' "$mark" "$ab"'#~ msgid "x"\n#~ msgid_plural "y"\n#~ msgstr[1] "z"\n'
+answers 'an obsolete msgid alone' "$mark" "$ab"'#~ msgid "x"\n'
+answers 'an obsolete domain' ours "$ab"'#~ domain "x"\n'
+answers 'live, then obsolete' "$twice" "$ab"'#~ msgid "a"\n#~ msgstr "c"\n'
+answers 'obsolete, then live' "$twice" '#~ msgid "a"\n#~ msgstr "c"\n'"$ab"
+answers 'obsolete twice' "$twice" "$ab"'#~ msgid "x"\n#~ msgstr "c"\n#~ msgid ""\n#~ "\\170"\n#~ msgstr "d"\n'
+answers 'obsolete, the context differs' ours "$ab"'#~ msgctxt ""\n#~ msgid "a"\n#~ msgstr "c"\n'
+answers 'obsolete, newlines that differ' ours "$ab"'#~ msgid "x\\n"\n#~ msgstr "c"\n'
+answers 'previous' ours '#| msgctxt "c"\n#| msgid "x"\n#| "y"\n#| msgid_plural "z"\n'"$ab"
+answers 'previous and obsolete' ours "$ab"'#~| msgid "x"\n#~ msgid "y"\n#~ msgstr "z"\n'
+answers 'a previous word' "$mark" '#| msgidx "x"\n'"$ab"
+answers 'a previous msgstr' "$mark" '#| msgid "x"\n#| msgstr "y"\n'"$ab"
+answers 'previous, not closed' "$mark" '#| msgid "x\n'"$ab"
+answers 'previous, before its comments' "$mark" '#| msgid "x"\n# c\n'"$ab"
+answers 'previous, at the end' "$mark" "$ab"'#| msgid "x"\n'
+answers 'previous of an obsolete entry' "$mixed" '#~| msgid "x"\n'"$ab"
+answers 'a comment inside an entry' 'GNU\t1\ta comment inside an entry' 'msgid "a"\n# c\nmsgstr "b"\n'
+answers 'a comment after an entry' ours 'msgid "a"\nmsgstr "b" # c\n'
+
+# --- flags --------------------------------------------------------------------------------------------------------------
+
+formats='msgid "%%d"\nmsgstr "%%s"\n' php='GNU\t1\tphp-format' other='GNU\t0\tflags read otherwise by GNU'
+answers 'flags separated by blanks' "$php" '#, no-wrap\tphp-format foo\n'"$formats" -c
+answers 'a flag and a carriage return' "$php" '#,php-format\r\n'"$formats" --check-format
+answers 'a denied flag' ours '#, no-php-format\n'"$formats" -c
+answers 'a flag without -c' ours '#, php-format\n'"$formats"
+answers 'a flag, fuzzy' ours "$ab"'#, fuzzy, php-format\n'"$formats" -c
+answers 'a flag, fuzzy' "$php" "$ab"'#, fuzzy, php-format\n'"$formats" -c -f
+answers 'a flag, untranslated' ours "$ab"'#, php-format\nmsgid "%%d"\nmsgstr ""\n' -c
+answers 'a flag, obsolete' ours "$ab"'#, php-format\n#~ msgid "%%d"\n#~ msgstr "%%s"\n' -c
+answers 'a flag of the obsolete entry before' ours '#, php-format\n#~ msgid "x"\n#~ msgstr "y"\n'"$formats" -c
+answers 'a flag after a msgstr' "$php" 'msgid "a"\nmsgstr "b" #, php-format\n'"$formats" -c
+answers 'two lines of flags' "$other" "$ab"'#, fuzzy\n#, no-wrap\nmsgid "c"\nmsgstr "d"\n' --statistics
+answers 'two lines of flags, of no consequence' ours "$ab"'#, no-wrap\n#, fuzzy\nmsgid "c"\nmsgstr "d"\n'
+answers 'flags as in Emacs 19' "$other" "$ab"'#! fuzzy\nmsgid "c"\nmsgstr "d"\n' --statistics
+answers 'flags behind #~' "$other" "$ab"'#~ #, fuzzy\nmsgid "c"\nmsgstr "d"\n' --statistics
+answers 'flags before an empty #~' "$other" "$ab"'#, fuzzy\n#~\nmsgid "c"\nmsgstr "d"\n' --statistics
+answers 'c-format and then not' "$other" '#, c-format, no-c-format\n'"$formats" -c
+answers 'possible-c-format' 'GNU\t1\tpossible-c-format' '#, possible-c-format\n'"$formats" -c
+macro='msgid "%%<PRId64>"\nmsgstr "%%<PRId64>"\n' system='GNU\t0\tsystem-dependent format'
+answers 'a macro' "$system" '#, c-format\n'"$macro"
+answers 'a macro, possibly' "$system" '#, possible-c-format\n'"$macro"
+answers 'a macro, fuzzy' ours "$ab"'#, c-format, fuzzy\n'"$macro"
+answers 'a macro, untranslated' ours "$ab"'#, c-format\nmsgid "%%<PRId64>"\nmsgstr ""\n'
+answers 'a macro, obsolete' ours "$ab"'#, c-format\n#~ msgid "%%<PRId64>"\n#~ msgstr "%%<PRId64>"\n'
+answers 'a macro without the flag' ours "$macro"
+
+# --- newlines without -c ------------------------------------------------------------------------------------------------
+
+newlines='GNU\t1\tnewlines differ'
+answers 'newline, octal and n' ours 'msgid "a\\012"\nmsgstr "b\\n"\n'
+answers 'newline, octal' "$newlines" 'msgid "a\\012"\nmsgstr "b"\n'
+answers 'newline, octal in the msgstr' "$newlines" 'msgid "a"\nmsgstr "b\\12"\n'
+answers 'newline, octal at the beginning' "$newlines" 'msgid "a"\nmsgstr "\\012b"\n'
+answers 'newline, digits that are none' ours 'msgid "a"\nmsgstr "\\\\012"\n'
+answers 'newline, an empty form' "$newlines" \
+  'msgid "a\\n"\nmsgid_plural "b\\n"\nmsgstr[0] "c\\n"\nmsgstr[1] ""\n'
+answers 'newline, an empty msgid with a context' ours 'msgctxt "c"\nmsgid ""\nmsgstr "b\\n"\n'
+
+# --- the header: plural rules and charsets ------------------------------------------------------------------------------
+
+# rule NAME LOG RULE ARGUMENT..: as answers, of a text whose header has this rule and that has no plural message
+rule() {
+  local name=$1 line=${2/#ours/ours\\t0\\t-} it=$3
+  { header UTF-8 fr | sed '2s/"$//' | sed '2s/$/Plural-Forms: RULE\\n"/' && printf "$ab"; } > in.po
+  sed -i "s/RULE/$(printf "$it" | sed 's/[&/]/\\&/g')/" in.po
+  shift 3
+  is_of "driver, texts, a rule, $name${*:+, $*}" "$line\tin.po" /dev/null "$gnu" --no-hash "$@" -o x.mo in.po
+}
+broken='GNU\t1\tunreadable plural rule'
+rule 'of a template' "$broken" 'nplurals=INTEGER; plural=EXPRESSION;' -c
+rule 'of a template' "$broken" 'nplurals=INTEGER; plural=EXPRESSION;' --check-header
+rule 'of a template' ours 'nplurals=INTEGER; plural=EXPRESSION;' --check-format
+rule 'of a template' ours 'nplurals=INTEGER; plural=EXPRESSION;'
+rule 'with a no-break space' "$broken" 'nplurals=2; plural=\302\240n!=1;' -c
+rule 'without an operand' "$broken" 'nplurals=2; plural=n!=;' -c
+rule 'with two operands' "$broken" 'nplurals=2; plural=n 1;' -c
+rule 'with one =' "$broken" 'nplurals=2; plural=n=1;' -c
+rule 'not closed' "$broken" 'nplurals=2; plural=(n!=1;' -c
+rule 'half a choice' "$broken" 'nplurals=2; plural=n?1;' -c
+rule 'crossed' "$broken" 'nplurals=2; plural=(n?1):0;' -c
+rule 'good' ours 'nplurals= 2; plural=n%%10 == 1 && n %% 100!=11 ? (n<=1||!n ? 0:1) : 1 ;' -c
+rule 'without a semicolon' ours 'nplurals=2; plural=(n != 1)' -c
+rule 'without plural=' ours 'nplurals=x;' -c
+
+# charset NAME LOG CHARSET [TEXT]: as answers, of a text in this charset, without -c
+charset() {
+  local line=${2/#ours/ours\\t0\\t-}
+  { header "$3" fr && printf "${4:-$ab}"; } > in.po
+  is_of "driver, texts, charset, $1" "$line\tin.po" /dev/null "$gnu" --no-hash -o x.mo in.po
+}
+charset 'in small letters' ours utf-8
+charset 'ASCII' ours ASCII
+charset 'ASCII with other bytes' 'GNU\t1\tcharset=ASCII' ASCII 'msgid "a"\nmsgstr "\303\240"\n'
+charset 'UTF8' 'GNU\t0\tcharset=UTF8' UTF8
+charset 'of a template' 'GNU\t0\tcharset=CHARSET' CHARSET
+charset 'with a carriage return' 'GNU\t0\tcharset=UTF-8\\r' 'UTF-8\r'
+charset 'in quotes' 'GNU\t0\tcharset="UTF-8"' '\"UTF-8\"'
+printf 'msgid ""\nmsgstr "Language: fr\\n"\n\n'"$ab" > in.po
+is_of 'driver, texts, no charset' 'GNU\t0\tno charset\tin.po' /dev/null "$gnu" --no-hash -o x.mo in.po
+{ printf 'msgid "charset=latin1"\nmsgstr "charset=latin1"\n' && header UTF-8 fr; } > in.po
+is_of 'driver, texts, charset= outside of the header' 'ours\t0\t-\tin.po' /dev/null "$gnu" --no-hash -o x.mo in.po
+{ printf '#~ msgid ""\n#~ msgstr "Content-Type: text/plain; charset=latin1\\n"\n' && printf "$ab"; } > in.po
+is_of 'driver, texts, an obsolete header' 'ours\t0\t-\tin.po' /dev/null "$gnu" --no-hash -o x.mo in.po
+
+# --- random texts -------------------------------------------------------------------------------------------------------
+
+unset MSGFMT_OR_GNU_LOG
+for it in '' -c '--statistics --use-fuzzy'; do
+  read -r -a words <<< "$it"
+  mkdir random
+  python3 -B "$top/tests/driver/texts.py" "$driver" "$gnu" random --texts "${TEXTS:-700}" "${words[@]}"
+  rm -r random
+done
