@@ -86,13 +86,13 @@ both 'a comment inside an entry' refused 0.0 <<< "$plain"'msgid "a"\n# here\nmsg
 row 'nothing is translated' '' nothing 0.0 <<< 'msgid "a"\nmsgstr ""\n'
 both 'default values in the header' 0.0 0.0 <<< 'msgid ""\nmsgstr "Project-Id-Version: PACKAGE VERSION\\n"\n'
 
-# the header field POT-Creation-Date, and how it is dropped, from lines that end with LF and with CRLF
-for ending in LF CRLF; do
+# the header field POT-Creation-Date, and how it is dropped, from lines that end with LF, with CRLF and with a blank
+for ending in '' '\r' ' ' '\t '; do
   printf "$plain"'"POT-Creation-Date: 2020-01-01\\n"\nmsgid "a"\nmsgstr "b"\n' > in.po
-  [ "$ending" = LF ] || sed -i 's/$/\r/' in.po
+  sed -i "s/$/$ending/" in.po
   "$gnu" --no-hash -o theirs.mo in.po
   "$program" -o ours.mo in.po
-  sed '/^"POT-Creation-Date:.*\\n"\r*$/d' in.po | "$program" -o dropped.mo -
-  if ! cmp -s theirs.mo ours.mo && cmp -s theirs.mo dropped.mo; then ok "beside GNU, POT-Creation-Date, $ending"
-  else failed "beside GNU, POT-Creation-Date, $ending" 'dropping it does not give the same bytes'; fi
+  sed '/^"POT-Creation-Date:.*\\n"[[:space:]]*$/d' in.po | "$program" -o dropped.mo -
+  if ! cmp -s theirs.mo ours.mo && cmp -s theirs.mo dropped.mo; then ok "beside GNU, POT-Creation-Date, lines that end with '$ending'"
+  else failed "beside GNU, POT-Creation-Date, lines that end with '$ending'" 'dropping it does not give the same bytes'; fi
 done
