@@ -3,6 +3,7 @@
 #define COMPILE_H
 
 #include "kobdzila.h"
+#include "replace.h"
 
 #include <signal.h>
 #include <stdatomic.h>
@@ -80,10 +81,6 @@ struct run {
 extern volatile sig_atomic_t stopped_by;
 extern const int ending_signals[];
 
-_Noreturn void stop_for_memory(void);
-/* Return `words` formatted; it ends the run if memory runs out. */
-char *text_of(const char *words, ...) __attribute__((format(printf, 1, 2)));
-
 /* ---- finding PO files (find.c, layout.c) */
 
 /* What a search is told about the folders that it enters, and which files it has to compile in any case. */
@@ -100,7 +97,7 @@ bool is_po_name(const char *name);
 /* Return the path of a name in a folder. */
 char *path_of(const char *folder, const char *name);
 
-/* ---- compiling (queue.c, one.c, gnu.c, statistics.c, replace.c) */
+/* ---- compiling (queue.c, one.c, gnu.c, statistics.c) */
 
 /* Compile the catalogues that need it, several at once, the largest first. */
 void compile_all(struct run *run);
@@ -121,11 +118,6 @@ struct gnu_answer ask_gnu(const struct run *run, char *name);
 char *why_no_gnu_for_flag_lines(void);
 /* Return the counts of a compiled PO text. */
 kob_counts statistics_of(const kob_catalogue *catalogue);
-/* Write a file in one step: a reader has the whole old file or the whole new one. Returns 0, or the errno of why it
- * can't be written, which leaves the old file as it was. */
-int write_in_one_step(const char *name, const char *bytes, size_t len, mode_t mode);
-/* Make the folders that lead to a file. Returns 0 or an errno. */
-int make_folders(const char *name);
 
 /* The fields that a header is expected to have, in the order in which msgfmt looks for them. */
 enum { FIELD_COUNT = 8 };

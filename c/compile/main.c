@@ -4,7 +4,6 @@
 
 #include <malloc.h>
 #include <signal.h>
-#include <stdarg.h>
 #include <stdlib.h>
 #include <string.h>
 #include <sys/stat.h>
@@ -17,17 +16,6 @@ const int ending_signals[] = {SIGHUP, SIGINT, SIGQUIT, SIGTERM, 0};
 void stop_for_memory(void) {
     tell("kob-compile: out of memory");
     _exit(TROUBLE);
-}
-
-char *text_of(const char *words, ...) {
-    char *text = NULL;
-    va_list values;
-    va_start(values, words);
-    int len = vasprintf(&text, words, values);
-    va_end(values);
-    if (len < 0)
-        stop_for_memory();
-    return text;
 }
 
 /* ---- signals */

@@ -1,11 +1,13 @@
 /* Writing a file in one step: under a temporary name next to it, which then takes its place. A run that fails removes the
  * temporary file; what a killed run left, the next run for the same file takes over. So runs at the same time need
  * names of their own: a temporary file is locked as long as it is written. */
-#include "compile.h"
+#include "replace.h"
 #include "or_gnu.h"
 
 #include <errno.h>
 #include <fcntl.h>
+#include <stdarg.h>
+#include <stdio.h>
 #include <stdlib.h>
 #include <string.h>
 #include <sys/file.h>
@@ -13,6 +15,17 @@
 #include <unistd.h>
 
 enum { MOST_NAMES = 16, MOST_OF_NAME = 100 }; /* temporary names for one file; bytes of its name in them */
+
+char *text_of(const char *words, ...) {
+    char *text = NULL;
+    va_list values;
+    va_start(values, words);
+    int len = vasprintf(&text, words, values);
+    va_end(values);
+    if (len < 0)
+        stop_for_memory();
+    return text;
+}
 
 /* A temporary file. */
 struct temporary {
@@ -53,7 +66,8 @@ static int claim(const char *name) {
 static int open_temporary(struct temporary *temporary, const char *name) {
     const char *slash = strrchr(name, '/'), *base = slash ? slash + 1 : name;
     for (int number = 0; number < MOST_NAMES; number++) {
-        temporary->name = text_of("%.*s.%.*s.kob-compile-%d", (int)(base - name), name, MOST_OF_NAME, base, number);
+        temporary->name = text_of("%.*s.%.*s.%s-%d", (int)(base - name), name, MOST_OF_NAME, base, program_name,
+                                  number);
         temporary->file = claim(temporary->name);
         if (temporary->file >= 0)
             return 0;

@@ -1,9 +1,12 @@
 /* A msgfmt for build systems. It takes GNU msgfmt's options and runs Kobdzila's msgfmt if that can serve them, and GNU
  * msgfmt otherwise, and for every text that Kobdzila's refuses. See msgfmt-or-gnu(1). */
 #include "or_gnu.h"
+#include "replace.h"
 
 #include <errno.h>
 #include <fcntl.h>
+#include <poll.h>
+#include <signal.h>
 #include <stdio.h>
 #include <stdlib.h>
 #include <string.h>
@@ -18,6 +21,7 @@ static const char version_line[] = "msgfmt-or-gnu (Kobdzila) " KOBDZILA_VERSION 
 static const char help_lines[] =
     "\nThis is msgfmt-or-gnu: Kobdzila's msgfmt compiles what it can, and GNU msgfmt everything else.\n"
     "msgfmt-or-gnu --summary LOG prints the table of a log (MSGFMT_OR_GNU_LOG). Its page is msgfmt-or-gnu(1).\n";
+static const char unwritten[] = "msgfmt: cannot write "; /* what Kobdzila's msgfmt says of FILE */
 static const char in_gettext[] = "; it is in the package gettext";
 enum { TEXT_LIMIT = 67108864, EMPTY_MO = 28 }; /* bytes of the largest PO text, and of an empty MO file */
 
@@ -40,7 +44,7 @@ _Noreturn static void stop(const char *what, const char *why) {
     _exit(1);
 }
 
-_Noreturn static void stop_for_memory(void) { stop("out of memory", ""); }
+_Noreturn void stop_for_memory(void) { stop("out of memory", ""); }
 
 static double milliseconds_of(const struct run *run) {
     struct timespec now;
@@ -115,6 +119,11 @@ _Noreturn static void end_without_gnu(struct run *run) {
 /* --- the PO file ------------------------------------------------------------------------------------------------ */
 
 static bool is_standard_input(const char *name) { return !strcmp(name, "-") || !strcmp(name, "/dev/stdin"); }
+
+static bool is_standard_output(const char *name) {
+    return name && (!strcmp(name, "-") || !strcmp(name, "/dev/stdout") || !strcmp(name, "/dev/fd/1") ||
+                    !strcmp(name, "/proc/self/fd/1"));
+}
 
 /* Open the PO file as GNU msgfmt looks for it: in each folder of -D, under its name and with .po and .pot added. */
 static int open_input(struct run *run) {
@@ -286,23 +295,54 @@ static bool leaves_messages_out(const struct run *run, const struct answer *answ
     return run->request->checks_compatibility && memmem(answer->said, answer->len, ", ", 2);
 }
 
+static const char *output_of(const struct run *run) {
+    return run->request->output ? run->request->output : "messages.mo";
+}
+
+/* Whether there is a regular file that may not be written. GNU msgfmt replaces it if its folder may be written;
+ * Kobdzila's opens it first. */
+static bool is_read_only(const char *name) {
+    struct stat old;
+    return stat(name, &old) == 0 && S_ISREG(old.st_mode) && access(name, W_OK) < 0 && errno == EACCES;
+}
+
+/* Put the MO file that was compiled to memory in the place of the output. */
+static void replace_output(const struct run *run, struct answer *answer, int memory) {
+    const char *name = output_of(run);
+    size_t len = 0;
+    lseek(memory, 0, SEEK_SET);
+    char *bytes = read_all(memory, &len);
+    int cause = bytes ? write_in_one_step(name, bytes, len, 0666) : errno;
+    free(bytes);
+    if (!cause)
+        return;
+    free(answer->said);
+    answer->ending = (struct ending){.status = 1, .cause = cause};
+    answer->said = text_of("%s%s\n", unwritten, name);
+    answer->len = strlen(answer->said);
+}
+
 /* Compile the text. It is compiled to memory first if there may be no file to write: like GNU msgfmt, the driver writes
  * none without -o if nothing is translated; and with -C GNU msgfmt takes over if messages are left out. */
 static struct answer compile(struct run *run) {
     struct stat made;
     const char *output = run->request->output;
-    if (output && !run->request->checks_compatibility)
+    bool replaces = is_read_only(output_of(run));
+    if (output && !run->request->checks_compatibility && !replaces)
         return run_ours(run, output, -1);
     int memory = unnamed_file();
     if (memory < 0)
         stop("cannot keep an MO file: ", strerror(errno));
     struct answer answer = run_ours(run, "-", memory);
     bool is_empty = !output && fstat(memory, &made) == 0 && made.st_size <= EMPTY_MO;
+    bool writes = !answer.ending.failure && !answer.ending.status && !is_empty && !leaves_messages_out(run, &answer);
+    if (writes && replaces)
+        replace_output(run, &answer, memory);
     close(memory);
-    if (answer.ending.failure || answer.ending.status || is_empty || leaves_messages_out(run, &answer))
+    if (!writes || replaces)
         return answer;
     free(answer.said);
-    return run_ours(run, output ? output : "messages.mo", -1);
+    return run_ours(run, output_of(run), -1);
 }
 
 /* Return the reason why the text was refused, from `NAME:LINE: REASON`, or NULL if the run failed for another
@@ -384,16 +424,27 @@ static int why_not_written(struct run *run, const char *name) {
     return cause;
 }
 
+static bool has_not_written(const struct answer *answer) {
+    return answer->ending.status && !strncmp(answer->said, unwritten, strlen(unwritten));
+}
+
 static void say_why_not_written(struct run *run, const struct answer *answer) {
-    static const char unwritten[] = "msgfmt: cannot write ";
-    const char *name = run->request->output ? run->request->output : "messages.mo";
-    if (answer->ending.status == 0 || strncmp(answer->said, unwritten, strlen(unwritten)))
+    const char *name = output_of(run);
+    if (!has_not_written(answer))
         return;
     int cause = answer->ending.cause;
     if (!cause && run->ours && strcmp(name, "-"))
         cause = why_not_written(run, name);
     if (cause)
         tell("msgfmt-or-gnu: %s: %s", strcmp(name, "-") ? name : "standard output", strerror(cause));
+}
+
+/* Whether nobody reads standard output any more, which ends a program that doesn't ignore the signal for that. */
+static bool has_lost_reader(const struct run *run) {
+    struct pollfd output = {.fd = STDOUT_FILENO, .events = POLLOUT};
+    struct sigaction now;
+    return is_standard_output(run->request->output) && poll(&output, 1, 0) == 1 && (output.revents & POLLERR) &&
+           sigaction(SIGPIPE, NULL, &now) == 0 && now.sa_handler == SIG_DFL;
 }
 
 /* End a run that Kobdzila's msgfmt has served, with its output and exit status. */
@@ -404,9 +455,13 @@ _Noreturn static void end_by_ours(struct run *run, struct answer *answer, const 
         tell("msgfmt-or-gnu: cannot run %s: %s", run->ours, strerror(answer->ending.failure));
         _exit(1);
     }
-    if (!pass_on(run, answer) && answer->ending.status == 0)
-        answer->ending.status = 1;
-    say_why_not_written(run, answer);
+    if (has_not_written(answer) && has_lost_reader(run)) { /* (Kobdzila's msgfmt ignores the signal) */
+        answer->ending = (struct ending){.status = 128 + SIGPIPE, .signal = SIGPIPE};
+    } else {
+        if (!pass_on(run, answer) && answer->ending.status == 0)
+            answer->ending.status = 1;
+        say_why_not_written(run, answer);
+    }
     char reason[WHY_SIZE + sizeof "; no GNU msgfmt"];
     snprintf(reason, sizeof reason, "%s%s", why, *why ? "; no GNU msgfmt" : "");
     if (*why)

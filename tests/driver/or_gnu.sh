@@ -384,12 +384,33 @@ unwritten 'No such file or directory' none/x.mo
 unwritten 'Not a directory' ours.po/x.mo
 unwritten 'Is a directory' po
 if [ "$(id -u)" = 0 ] && "$top/tests/lib/needs" setpriv util-linux; then
-  mkdir locked && chmod 755 "$room" locked && chmod 644 ours.po && chmod 666 "$MSGFMT_OR_GNU_LOG"
+  mkdir locked open && chmod 755 "$room" locked && chmod 777 open && chmod 644 ours.po mixed.po && chmod 666 "$MSGFMT_OR_GNU_LOG"
   under=(setpriv --reuid=65534 --clear-groups)
   unwritten 'Permission denied' locked/x.mo
+  # replaces NAME PROGRAM: an old MO file that may only be read is replaced, and keeps its mode
+  replaces() {
+    rm -f open/x.mo
+    printf old > open/x.mo
+    chmod 444 open/x.mo && chown 65534 open/x.mo
+    "${under[@]}" "$2" -o open/x.mo ours.po 2> err
+    status=$?
+    judge "driver, a read-only MO file, $1" 0 '' &&
+      if [ "$(stat -c %a open/x.mo)" != 444 ] || ! cmp -s open/x.mo wanted.mo || [ "$(ls open)" != x.mo ]; then
+        failed "driver, a read-only MO file, $1" "$(ls -l open)"
+      else ok "driver, a read-only MO file, $1"; fi
+  }
+  "$gnu" --no-hash -o wanted.mo ours.po
+  replaces 'replaced' "$driver"
+  (unset KOBDZILA_MSGFMT && cp "$program" open.msgfmt && KOBDZILA_MSGFMT=$room/open.msgfmt replaces 'by a msgfmt that is started' "$driver")
+  "$gnu" -o wanted.mo ours.po
+  replaces "as GNU msgfmt does" "$gnu"
+  cp ours.po locked/x.mo && chmod 444 locked/x.mo
+  unwritten 'Permission denied' locked/x.mo
+  if cmp -s locked/x.mo ours.po; then ok 'driver, unwritten: a read-only MO file in a folder that is read-only stays'
+  else failed 'driver, unwritten: a read-only MO file in a folder that is read-only stays' 'it was changed'; fi
   under=()
 else
-  skipped 'driver, unwritten, Permission denied' 'only root can become another user'
+  skipped 'driver, unwritten, Permission denied, and a read-only MO file' 'only root can become another user'
 fi
 
 (for it in $(seq 10000); do export "variable_$it=$it"; done; exec "$driver" --statistics -o x.mo charset.po) 2> err

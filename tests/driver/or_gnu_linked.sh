@@ -127,18 +127,22 @@ closed 'a refusal, no streams' '"$driver" -o x.mo twice.po <&- >&- 2>&-'
 closed 'statistics to a full device' '"$driver" --statistics -o x.mo ours.po 2> /dev/full'
 closed 'statistics to nowhere' '"$driver" --statistics -o x.mo ours.po 2>&-'
 
-# a reader that is gone ends the driver as it ends a program that doesn't ignore the signal
-python3 - "$driver" large.po << 'END' > piped
+# a reader that is gone ends the driver as it ends a program that doesn't ignore the signal: GNU msgfmt, too. Where the
+# signal is ignored, it's an error.
+python3 - "$driver" "$program" "$gnu" large.po << 'END' > piped
 import os, signal, subprocess, sys
 read, write = os.pipe()
 os.close(read)
-signal.signal(signal.SIGPIPE, signal.SIG_DFL)
-for words in (["-o", "/dev/null", "--statistics"], ["-o", "-"]):
-    streams = {"stderr": write} if "--statistics" in words else {"stdout": write, "stderr": subprocess.DEVNULL}
-    print(subprocess.run([sys.argv[1], *words, sys.argv[2]], **streams).returncode)
+driver, msgfmt, gnu, text = sys.argv[1:]
+for handler in (signal.SIG_DFL, signal.SIG_IGN):
+    signal.signal(signal.SIGPIPE, handler)
+    for words in ([driver, "--statistics", "-o", "/dev/null"], [driver, "-o", "-"], ["KOBDZILA_MSGFMT", "-o", "-"], [gnu, "-o", "-"]):
+        streams = {"stderr": write} if "--statistics" in words else {"stdout": write, "stderr": subprocess.DEVNULL}
+        started = {**os.environ, "KOBDZILA_MSGFMT": msgfmt} if words[0] == "KOBDZILA_MSGFMT" else None
+        command = [driver, *words[1:], text] if started else [*words, text]
+        print(subprocess.run(command, env=started, restore_signals=False, **streams).returncode)
 END
-# (the driver prints the statistics; what is on standard output is msgfmt's, which ends with 1 there)
-if [ "$(tr '\n' ' ' < piped)" = '-13 1 ' ]; then ok 'linked driver, a reader that is gone'
+if [ "$(tr '\n' ' ' < piped)" = '-13 -13 -13 -13 1 1 1 1 ' ]; then ok 'linked driver, a reader that is gone'
 else failed 'linked driver, a reader that is gone' "$(tr '\n' ' ' < piped)"; fi
 
 # a run that waits for the reader of a FIFO is in the call: signals end it there, or don't reach it
