@@ -20,7 +20,7 @@ static bool denies(struct part flag, const char *format) {
     return (begins(flag, "no-") || begins(flag, "impossible-")) && is((struct part){dash + 1, flag.end}, format);
 }
 
-/* Whether a flag is of a format that neither Kobdzila's msgfmt nor the driver checks. */
+/* Whether a flag is of another format than C's. */
 static bool is_of_other(struct part flag) {
     static const char ending[] = "-format";
     size_t len = (size_t)(flag.end - flag.at), ending_len = sizeof ending - 1;
@@ -33,19 +33,17 @@ static void take_flag(struct flags *flags, struct part flag) {
     if (says(flag, "c-format") || denies(flag, "c-format"))
         flags->c_format = says(flag, "c-format");
     flags->has_range |= is(flag, "range:");
-    if (says(flag, "python-format") || says(flag, "python-brace-format"))
-        flags->python = true;
-    else if (!flags->other.at && is_of_other(flag))
+    if (!flags->other.at && is_of_other(flag))
         flags->other = flag;
 }
 
 /* Cut off the next flag. False if there is none; flags are separated by blanks and commas. */
 static bool next_flag(struct part *rest, struct part *flag) {
     static const char separators[] = "\n \t\r\f\v,";
-    while (rest->at < rest->end && memchr(separators, *rest->at, sizeof separators))
+    while (rest->at < rest->end && memchr(separators, *rest->at, sizeof separators - 1))
         rest->at++;
     flag->at = rest->at;
-    while (rest->at < rest->end && !memchr(separators, *rest->at, sizeof separators))
+    while (rest->at < rest->end && !memchr(separators, *rest->at, sizeof separators - 1))
         rest->at++;
     flag->end = rest->at;
     return flag->at < flag->end;
@@ -66,6 +64,7 @@ static void look_at_comment(struct reader *reader, const struct token *token) {
         now.our_fuzzy |= is_ours && is(flag, "fuzzy");
         now.our_c_format |= is_ours && is(flag, "c-format");
     }
+    reader->has_fuzzy |= now.fuzzy;
     *flags = now;
 }
 
@@ -88,6 +87,10 @@ static bool is_at(const struct reader *reader, enum kind kind) {
     return reader->token.kind == kind && reader->token.previous == reader->in_previous;
 }
 
+/* What GNU msgfmt refuses, as the log says it. */
+static const char mixed[] = "inconsistent use of #~", bad_line[] = "a bad line #~ or #|";
+static const char in_entry[] = "a comment inside an entry";
+
 static bool refuse_for(struct entry *entry, const char *fault) {
     entry->is_broken = true;
     entry->fault = fault;
@@ -98,10 +101,10 @@ static bool refuse_for(struct entry *entry, const char *fault) {
 static bool refuse(const struct reader *reader, struct entry *entry) {
     const struct token *token = &reader->token;
     if (token->obsolete != entry->is_obsolete && token->kind != END && token->kind != COMMENT)
-        return refuse_for(entry, "inconsistent use of #~");
+        return refuse_for(entry, mixed);
     if (entry->is_obsolete || token->obsolete || token->previous || reader->in_previous)
-        return refuse_for(entry, "a bad line #~ or #|");
-    return refuse_for(entry, token->kind == COMMENT ? "a comment inside an entry" : NULL);
+        return refuse_for(entry, bad_line);
+    return refuse_for(entry, token->kind == COMMENT ? in_entry : NULL);
 }
 
 /* Take a token of this kind, which has to be as obsolete as the entry. */
@@ -200,18 +203,29 @@ static bool take_previous(struct reader *reader, struct entry *entry) {
     reader->in_previous = false;
     if (!done)
         return refuse_for(entry, before.fault);
-    return before.is_obsolete == reader->token.obsolete || refuse_for(entry, "inconsistent use of #~");
+    return before.is_obsolete == reader->token.obsolete || refuse_for(entry, mixed);
+}
+
+/* Refuse a token that begins no entry. Behind a comment, Kobdzila's msgfmt goes on with the entry before it. */
+static bool refuse_start(const struct reader *reader, struct entry *entry, bool has_previous) {
+    bool is_live = !has_previous && !reader->token.obsolete && !reader->token.previous;
+    if (is_live && (reader->token.kind == STRING || reader->token.kind == MSGSTR))
+        return refuse_for(entry, in_entry);
+    return is_live ? refuse(reader, entry) : refuse_for(entry, bad_line);
 }
 
 static bool take_entry(struct reader *reader, struct entry *entry) {
     struct ends id;
-    if (reader->token.previous && !take_previous(reader, entry))
+    bool has_previous = reader->token.previous;
+    if (has_previous && !take_previous(reader, entry))
         return false;
     entry->line = reader->token.line;
     entry->is_obsolete = reader->token.obsolete;
     entry->whole = reader->token.part;
     entry->flags = reader->flags;
     reader->flags = (struct flags){0};
+    if (!is_at(reader, MSGCTXT) && !is_at(reader, MSGID))
+        return refuse_start(reader, entry, has_previous);
     if (!take_id(reader, entry, &id))
         return false;
     if (is_at(reader, MSGID_PLURAL))
@@ -229,11 +243,13 @@ static void recover(struct reader *reader) {
 bool read_entry(struct reader *reader, struct entry *entry) {
     *entry = (struct entry){0};
     while (reader->token.kind == COMMENT || reader->token.kind == DOMAIN) {
-        if (reader->token.kind == COMMENT)
+        bool is_domain = reader->token.kind == DOMAIN;
+        reader->has_domain |= is_domain;
+        if (!is_domain)
             look_at_comment(reader, &reader->token);
-        else
-            advance(reader);
         advance(reader);
+        if (is_domain && reader->token.kind == STRING)
+            advance(reader);
     }
     if (reader->token.kind == END)
         return false;

@@ -1,22 +1,12 @@
 /* The keys of entries: an obsolete entry counts for GNU msgfmt, which refuses two entries with one key. */
 #include "or_gnu_text.h"
 
-#include <stdint.h>
 #include <stdlib.h>
 
 struct key {
     uint64_t hash;
     struct part context, id;
-    bool is_obsolete;
 };
-
-/* FNV-1a (Fowler, Noll and Vo). */
-static uint64_t hash_of(uint64_t hash, struct part strings) {
-    struct spelled rest = spelled(strings);
-    for (int byte; (byte = next_byte(&rest)) >= 0;)
-        hash = (hash ^ (uint64_t)byte) * 1099511628211u;
-    return hash;
-}
 
 void add_key(struct keys *keys, const struct entry *entry) {
     enum { FIRST_ROOM = 256 };
@@ -29,8 +19,13 @@ void add_key(struct keys *keys, const struct entry *entry) {
         keys->at = at;
         keys->room = room;
     }
-    uint64_t hash = hash_of(hash_of(14695981039346656037u, entry->context), entry->id);
-    keys->at[keys->count++] = (struct key){hash, entry->context, entry->id, entry->is_obsolete};
+    uint64_t hash = hash_strings(hash_strings(1, entry->context) + 1, entry->id);
+    struct key *to = &keys->at[keys->count++];
+    if (entry->is_obsolete) { /* (those come first) */
+        *to = keys->at[keys->obsolete];
+        to = &keys->at[keys->obsolete++];
+    }
+    *to = (struct key){hash, entry->context, entry->id};
 }
 
 static int by_hash(const void *one, const void *two) {
@@ -48,20 +43,30 @@ static bool are_equal(struct part one, struct part two) {
     return true;
 }
 
-/* Whether two keys are the same, and one of them is that of an obsolete entry. */
-static bool is_repeat(const struct key *one, const struct key *two) {
-    return (one->is_obsolete || two->is_obsolete) && !one->context.at == !two->context.at &&
-           are_equal(one->context, two->context) && are_equal(one->id, two->id);
+static bool is_same(const struct key *one, const struct key *two) {
+    return one->hash == two->hash && !one->context.at == !two->context.at && are_equal(one->context, two->context) &&
+           are_equal(one->id, two->id);
+}
+
+/* Whether a key is among the obsolete ones, which are sorted; it isn't compared with itself. */
+static bool is_among(const struct keys *keys, const struct key *key) {
+    const struct key *end = keys->at + keys->obsolete;
+    const struct key *found = bsearch(key, keys->at, keys->obsolete, sizeof *key, by_hash);
+    while (found && found > keys->at && found[-1].hash == key->hash)
+        found--;
+    for (; found && found < end && found->hash == key->hash; found++)
+        if (found != key && is_same(found, key))
+            return true;
+    return false;
 }
 
 bool has_obsolete_repeat(struct keys *keys) {
-    bool found = false;
-    if (keys->count)
-        qsort(keys->at, keys->count, sizeof *keys->at, by_hash);
-    for (size_t place = 0; place < keys->count && !found; place++)
-        for (size_t other = place + 1; other < keys->count && keys->at[other].hash == keys->at[place].hash; other++)
-            found |= is_repeat(&keys->at[place], &keys->at[other]);
+    bool is_found = false;
+    if (keys->obsolete)
+        qsort(keys->at, keys->obsolete, sizeof *keys->at, by_hash);
+    for (size_t place = 0; place < keys->count && keys->obsolete && !is_found; place++)
+        is_found = is_among(keys, &keys->at[place]);
     free(keys->at);
     *keys = (struct keys){0};
-    return found;
+    return is_found;
 }

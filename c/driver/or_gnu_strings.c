@@ -33,6 +33,39 @@ int next_byte(struct spelled *strings) {
     return -1;
 }
 
+/* Add bytes to a hash. It is a polynomial, so that it doesn't depend on how a text is cut into strings. */
+static uint64_t hash_bytes(uint64_t hash, struct part bytes) {
+    enum { AT_ONCE = 4 };
+    const uint64_t base = 0x9E3779B97F4A7C15, square = base * base, cube = square * base, fourth = cube * base;
+    const unsigned char *at = (const unsigned char *)bytes.at, *end = (const unsigned char *)bytes.end;
+    for (; end - at >= AT_ONCE; at += AT_ONCE)
+        hash = hash * fourth + at[0] * cube + at[1] * square + at[2] * base + at[3];
+    for (; at < end; at++)
+        hash = hash * base + *at;
+    return hash;
+}
+
+uint64_t hash_strings(uint64_t hash, struct part strings) {
+    while (strings.at < strings.end) {
+        struct part piece = {memchr(strings.at, '"', (size_t)(strings.end - strings.at)), strings.end};
+        if (!piece.at)
+            break;
+        strings.at = ++piece.at;
+        while (strings.at < strings.end && *strings.at != '"') {
+            size_t left = (size_t)(strings.end - strings.at);
+            const char *quote = memchr(strings.at, '"', left), *slash = memchr(strings.at, '\\', (size_t)(quote - strings.at));
+            hash = hash_bytes(hash, (struct part){strings.at, slash ? slash : quote});
+            strings.at = slash ? slash + 1 : quote;
+            if (slash) {
+                unsigned char byte = (unsigned char)escaped(&strings);
+                hash = hash_bytes(hash, (struct part){(const char *)&byte, (const char *)&byte + 1});
+            }
+        }
+        strings.at++;
+    }
+    return hash;
+}
+
 bool skip_behind(struct spelled *strings, const char *word) {
     const char *at = word;
     for (int byte; *at && (byte = next_byte(strings)) >= 0;) {

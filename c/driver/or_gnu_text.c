@@ -1,7 +1,6 @@
 /* Scans a PO text for what only GNU msgfmt compiles, checks or refuses, before either program runs, so that none runs in
  * vain. A text that is given to GNU msgfmt without need only costs time; so does one that Kobdzila's refuses. */
 #include "or_gnu_text.h"
-#include "or_gnu.h"
 
 #include <string.h>
 #include <strings.h>
@@ -61,7 +60,7 @@ static void look_for_charset(struct scan *scan, struct part header, struct part 
     struct part copy = {name, name + strlen(name)};
     if (is_name(copy, "UTF-8") || ((is_name(copy, "ASCII") || is_name(copy, "US-ASCII")) && is_ascii(text)))
         return;
-    const char *at = find(header, "charset=");
+    const char *at = find(header, "charset=", 0);
     struct part there = {at ? at + strlen("charset=") : NULL, NULL};
     there.end = there.at ? there.at + (copy.end - copy.at) : NULL;
     const struct charset *charset = there.at && there.end <= header.end && is(there, name) ? charset_named(copy) : NULL;
@@ -98,9 +97,7 @@ static void look_at_kept(struct scan *scan, const struct entry *entry) {
         needs_gnu_for(scan, "newlines differ");
     if (checks && flags->other.at)
         needs_gnu(scan, "", flags->other);
-    if (checks && flags->python)
-        needs_gnu_for(scan, "python-format");
-    if (scan->has_macros && flags->c_format && find(entry->whole, "<PRI"))
+    if (scan->has_macros && flags->c_format && find(entry->whole, "<PRI", 0))
         needs_gnu_for(scan, "system-dependent format");
     else if (flags->c_format != flags->our_c_format && checks)
         needs_gnu_for(scan, "flags read otherwise by GNU");
@@ -113,8 +110,6 @@ static void look_at_live(struct scan *scan, const struct entry *entry, struct pa
         look_at_header(scan, entry, text);
     if (flags->fuzzy != flags->our_fuzzy && has_id)
         needs_gnu_for(scan, "flags read otherwise by GNU");
-    if (flags->fuzzy && has_id && scan->request->checks_compatibility)
-        needs_gnu_for(scan, "-C and a fuzzy message");
     if (entry->plural.at && scan->request->checks_compatibility)
         needs_gnu_for(scan, "-C and a plural message");
     if (entry->is_translated && (!flags->fuzzy || !has_id || scan->request->keeps_fuzzy))
@@ -135,7 +130,7 @@ static void look_at_entry(struct scan *scan, const struct entry *entry, struct p
 
 struct needs needs_of(const struct request *request, const char *bytes, size_t len) {
     struct part text = {bytes, bytes + len};
-    struct scan scan = {.request = request, .has_macros = find(text, "<PRI"), .has_obsolete = find(text, "#~")};
+    struct scan scan = {.request = request, .has_macros = find(text, "<PRI", 0), .has_obsolete = find(text, "#~", 1)};
     struct entry entry;
     if (begins(text, "\xef\xbb\xbf"))
         needs_gnu_for(&scan, "a byte order mark");
@@ -143,6 +138,10 @@ struct needs needs_of(const struct request *request, const char *bytes, size_t l
     while (read_entry(&reader, &entry))
         look_at_entry(&scan, &entry, text);
     scan.needs.line = reader.flag_line;
+    if (request->checks_compatibility && reader.has_fuzzy)
+        needs_gnu_for(&scan, "-C and a fuzzy message");
+    if (reader.has_domain)
+        needs_gnu_for(&scan, "a domain line");
     if (has_obsolete_repeat(&scan.keys) || scan.keys.has_failed)
         needs_gnu_for(&scan, "an obsolete duplicate");
     if (request->checks_header && scan.has_broken_rule)

@@ -6,11 +6,20 @@
 #include "or_gnu.h"
 
 #include <stdbool.h>
+#include <stdint.h>
+#include <string.h>
 
-bool begins(struct part part, const char *word);
-bool is(struct part part, const char *word);
-/* Return where a word first stands in a part, or NULL. */
-const char *find(struct part part, const char *word);
+static inline bool begins(struct part part, const char *word) {
+    size_t len = strlen(word);
+    return (size_t)(part.end - part.at) >= len && !memcmp(part.at, word, len);
+}
+
+static inline bool is(struct part part, const char *word) {
+    return (size_t)(part.end - part.at) == strlen(word) && begins(part, word);
+}
+
+/* Return where a word first stands in a part, or NULL. Its byte number `rare` is the one to look for. */
+const char *find(struct part part, const char *word, size_t rare);
 
 /* ---- tokens (or_gnu_tokens.c) */
 
@@ -41,6 +50,8 @@ struct spelled {
 };
 
 struct spelled spelled(struct part strings);
+/* Add the bytes that strings stand for to a hash. */
+uint64_t hash_strings(uint64_t hash, struct part strings);
 /* Return the next byte that the strings stand for, or -1 at their end. */
 int next_byte(struct spelled *strings);
 /* Go behind the first place where the strings have a word, which doesn't begin again inside of itself. False if there is
@@ -56,7 +67,6 @@ bool ends_with_newline(struct part string);
 struct flags {
     bool fuzzy, c_format; /* as GNU msgfmt has them: those of the last line of flags */
     bool our_fuzzy, our_c_format; /* as Kobdzila's has them: those of all lines, up to the last `#~` */
-    bool python;          /* it may be flagged as a format of Python */
     bool has_range;
     struct part other;    /* the first flag of a format that only GNU msgfmt checks, or NULL */
 };
@@ -77,6 +87,8 @@ struct reader {
     struct flags flags; /* of the comments since the last entry */
     bool in_previous;   /* what is read is the part behind `#|` */
     unsigned long long flag_line; /* the number of the first `#=` line that has a flag, or 0 */
+    bool has_fuzzy;  /* there was a flag `fuzzy`, of whatever entry */
+    bool has_domain; /* there was a `domain` line, perhaps an obsolete one */
 };
 
 struct reader read_text_from(struct part text);
@@ -88,7 +100,7 @@ bool read_entry(struct reader *reader, struct entry *entry);
 /* The keys of entries, those of obsolete ones among them. */
 struct keys {
     struct key *at;
-    size_t count, room;
+    size_t obsolete, count, room; /* obsolete ones, which come first, and all */
     bool has_failed; /* memory ran out */
 };
 

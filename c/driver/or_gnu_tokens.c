@@ -4,17 +4,15 @@
 
 #include <string.h>
 
-bool begins(struct part part, const char *word) {
-    size_t len = strlen(word);
-    return (size_t)(part.end - part.at) >= len && !memcmp(part.at, word, len);
-}
-
-bool is(struct part part, const char *word) {
-    return begins(part, word) && (size_t)(part.end - part.at) == strlen(word);
-}
-
-const char *find(struct part part, const char *word) {
-    return memmem(part.at, (size_t)(part.end - part.at), word, strlen(word));
+const char *find(struct part part, const char *word, size_t rare) {
+    size_t len = strlen(word), room = (size_t)(part.end - part.at);
+    const char *from = part.at + rare, *end = part.end - (len - rare - 1);
+    while (len <= room && from < end && (from = memchr(from, word[rare], (size_t)(end - from)))) {
+        if (!memcmp(from - rare, word, len))
+            return from - rare;
+        from++;
+    }
+    return NULL;
 }
 
 static bool is_blank(char byte) { return byte == ' ' || byte == '\t' || byte == '\r' || byte == '\v' || byte == '\f'; }
@@ -22,7 +20,16 @@ static bool is_blank(char byte) { return byte == ' ' || byte == '\t' || byte == 
 static bool is_digit(char byte) { return byte >= '0' && byte <= '9'; }
 
 static bool is_in_word(char byte) {
-    return (byte >= 'a' && byte <= 'z') || (byte >= 'A' && byte <= 'Z') || byte == '_' || byte == '$' || is_digit(byte);
+    static const bool are[256] = {
+        ['$'] = 1, ['_'] = 1, ['0'] = 1, ['1'] = 1, ['2'] = 1, ['3'] = 1, ['4'] = 1, ['5'] = 1, ['6'] = 1, ['7'] = 1,
+        ['8'] = 1, ['9'] = 1, ['A'] = 1, ['B'] = 1, ['C'] = 1, ['D'] = 1, ['E'] = 1, ['F'] = 1, ['G'] = 1, ['H'] = 1,
+        ['I'] = 1, ['J'] = 1, ['K'] = 1, ['L'] = 1, ['M'] = 1, ['N'] = 1, ['O'] = 1, ['P'] = 1, ['Q'] = 1, ['R'] = 1,
+        ['S'] = 1, ['T'] = 1, ['U'] = 1, ['V'] = 1, ['W'] = 1, ['X'] = 1, ['Y'] = 1, ['Z'] = 1, ['a'] = 1, ['b'] = 1,
+        ['c'] = 1, ['d'] = 1, ['e'] = 1, ['f'] = 1, ['g'] = 1, ['h'] = 1, ['i'] = 1, ['j'] = 1, ['k'] = 1, ['l'] = 1,
+        ['m'] = 1, ['n'] = 1, ['o'] = 1, ['p'] = 1, ['q'] = 1, ['r'] = 1, ['s'] = 1, ['t'] = 1, ['u'] = 1, ['v'] = 1,
+        ['w'] = 1, ['x'] = 1, ['y'] = 1, ['z'] = 1,
+    };
+    return are[(unsigned char)byte];
 }
 
 /* Take a `#~`, `#|` or `#~|`, after its `#`. False if there is none. */
@@ -82,15 +89,15 @@ static void take_string(struct lexer *lexer, struct token *token) {
 }
 
 static enum kind keyword_of(struct part word, bool is_previous) {
-    static const struct {
-        const char *word;
-        enum kind kind;
-    } keywords[] = {{"msgid", MSGID}, {"msgid_plural", MSGID_PLURAL}, {"msgctxt", MSGCTXT}, {"msgstr", MSGSTR},
-                    {"domain", DOMAIN}};
-    for (size_t place = 0; place < (is_previous ? 3 : 5); place++)
-        if (is(word, keywords[place].word))
-            return keywords[place].kind;
-    return JUNK;
+    if (is(word, "msgid"))
+        return MSGID;
+    if (is(word, "msgid_plural"))
+        return MSGID_PLURAL;
+    if (is(word, "msgctxt"))
+        return MSGCTXT;
+    if (is_previous)
+        return JUNK;
+    return is(word, "msgstr") ? MSGSTR : is(word, "domain") ? DOMAIN : JUNK;
 }
 
 static void take_word(struct lexer *lexer, struct token *token) {

@@ -44,7 +44,7 @@ flag() {
   drive -c -o x.mo flag.po
   one_line "driver's log, $1" "$3"
 }
-flag 'a tab in a flag' 'a\tours-format' 'a\tours-format'
+flag 'a tab between flags' 'a\tours-format' 'ours-format'
 flag 'ESC in a flag' '\033[1mbold-format' '\033[1mbold-format'
 flag 'a NUL in a flag' 'a\0000b-format' 'a\000b-format'
 flag 'a line end of Unicode in a flag' '\0342\0200\0250x-format' '\342\200\250x-format'

@@ -33,7 +33,7 @@ answers 'an obsolete string that is not closed' "$mark" "$ab"'#~ msgid "x\n#~ ms
 answers 'an obsolete escape that is none' "$mark" "$ab"'#~ msgid "\\q"\n#~ msgstr "y"\n'
 answers 'an obsolete index' "$mark" "$ab"'#~ msgid "x"\n#~ msgid_plural "y"\n#~ msgstr[1] "z"\n'
 answers 'an obsolete msgid alone' "$mark" "$ab"'#~ msgid "x"\n'
-answers 'an obsolete domain' ours "$ab"'#~ domain "x"\n'
+answers 'an obsolete domain' 'GNU\t0\ta domain line' "$ab"'#~ domain "x"\n'
 answers 'live, then obsolete' "$twice" "$ab"'#~ msgid "a"\n#~ msgstr "c"\n'
 answers 'obsolete, then live' "$twice" '#~ msgid "a"\n#~ msgstr "c"\n'"$ab"
 answers 'obsolete twice' "$twice" "$ab"'#~ msgid "x"\n#~ msgstr "c"\n#~ msgid ""\n#~ "\\170"\n#~ msgstr "d"\n'
