@@ -135,6 +135,26 @@ static void ask_many(const struct places *in, size_t count) {
     free(questions);
 }
 
+/* The catalogue as a PO file: opened again, each translated entry is there. */
+static void ask_for_text(const kob_catalogue *catalogue, size_t count) {
+    kob_po_file *file = kob_write_po(catalogue, count % 2 ? KOB_ESCAPED : 0);
+    kob_text text = kob_po_text(file);
+    kob_catalogue *again = kob_open_po(text.at, text.len, 0, NULL);
+    REQUIRE(again || text.len > 67108864);
+    for (size_t place = 0, kept = 0; again && place < count; place++) {
+        kob_entry one, two;
+        REQUIRE(kob_entry_at(catalogue, place, &one));
+        if (!kob_form_at(catalogue, place, 0).len)
+            continue;
+        REQUIRE(kob_entry_at(again, kept, &two) && is_same(one.msgid, two.msgid) && one.forms == two.forms);
+        for (size_t form = 0; form < one.forms; form++)
+            REQUIRE(is_same(kob_form_at(catalogue, place, form), kob_form_at(again, kept, form)));
+        kept++;
+    }
+    kob_release(again);
+    kob_po_free(file);
+}
+
 /* The catalogue as an MO file has the same entries, and is itself again. */
 static void ask_for_file(const kob_catalogue *catalogue, size_t count) {
     kob_refusal why;
@@ -217,6 +237,7 @@ int LLVMFuzzerTestOneInput(const uint8_t *data, size_t size) {
     REQUIRE(why.fault == KOB_NO_FAULT && !kob_entry_at(catalogue, count, &none));
     ask_everywhere(catalogue, count);
     ask_for_file(catalogue, count);
+    ask_for_text(catalogue, count);
     kob_release(catalogue);
     return 0;
 }

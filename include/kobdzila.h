@@ -211,6 +211,26 @@ void kob_statistics(const kob_catalogue *catalogue, kob_counts *counts);
  * catalogue. */
 kob_text kob_mo_file(const kob_catalogue *catalogue);
 
+/* A PO file that was written of a catalogue. It is immutable, and needs the catalogue no more. */
+typedef struct kob_po_file kob_po_file;
+
+/* How to write a PO file: 0, or KOB_ESCAPED. */
+enum kob_po_options {
+    KOB_ESCAPED = 1 /* write octal escapes for bytes other than printable ASCII */
+};
+
+/* Write the PO file of `catalogue`, whichever format it was opened from, or return NULL if memory runs out. It has the
+ * entries in their order, as `msgunfmt --force-po --no-wrap` writes them, and no comments and flags. kob_open_po opens
+ * it as the same catalogue, but for entries whose translation is empty, if it has at most 67,108,864 bytes. The caller
+ * frees it with kob_po_free. */
+kob_po_file *kob_write_po(const kob_catalogue *catalogue, unsigned options);
+
+/* Return the bytes of a PO file, which don't end in NUL. They are borrowed from it. */
+kob_text kob_po_text(const kob_po_file *file);
+
+/* Free a PO file. No other call may be using it. */
+void kob_po_free(kob_po_file *file);
+
 /* A set of catalogues, each for a text domain and a locale. It is immutable and reference-counted. To replace
  * catalogues while threads look up in them, use a kob_store. */
 typedef struct kob_set kob_set;

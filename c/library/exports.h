@@ -8,8 +8,10 @@
 #include <stddef.h>
 #include <stdint.h>
 
-/* A catalogue or why it was refused; a set, a reader that lends one, or why there is none; and a live store's parts. */
+/* A catalogue or why it was refused; what was made of one; a set, a reader that lends one, or why there is none; and a
+ * live store's parts. */
 struct held_catalogue;
+struct held_output;
 struct held_set;
 struct held_store;
 struct held_notice;
@@ -58,6 +60,13 @@ void kobdzila_answer(const struct held_catalogue *catalogue, const unsigned char
                      struct lent *out);
 uint64_t kobdzila_hint(const struct held_catalogue *catalogue, const unsigned char *context, size_t context_len,
                        const unsigned char *msgid, size_t msgid_len, uint32_t call);
+
+/* ---- what is made of catalogues */
+size_t kobdzila_output_size(void);
+void kobdzila_write_po(const struct held_catalogue *catalogue, uint32_t escape, struct held_output *out);
+uint64_t kobdzila_output_number(const struct held_output *output, uint32_t which);
+void kobdzila_output_text(const struct held_output *output, struct lent *out);
+void kobdzila_output_close(struct held_output *output);
 
 /* ---- sets, and the sets that readers lend */
 bool kobdzila_is_name(const unsigned char *bytes, size_t len);

@@ -77,6 +77,28 @@ static void texts(const kob_catalogue *c) {
     is("an entry too many", !kob_entry_at(c, 4, &e));
 }
 
+/* what is written of a catalogue is opened as the same */
+static void po_files(void) {
+    static const char entry[] = "\nmsgctxt \"disk\"\nmsgid \"file\"\nmsgid_plural \"files\"\n";
+    kob_catalogue *c = kob_open_po(po, strlen(po), 0, NULL);
+    kob_po_file *plain = kob_write_po(c, 0), *escaped = kob_write_po(c, KOB_ESCAPED);
+    kob_text text = kob_po_text(plain), ascii = kob_po_text(escaped);
+    kob_catalogue *again = kob_open_po(text.at, text.len, 0, NULL), *same_again = kob_open_po(ascii.at, ascii.len, 0, NULL);
+    kob_text file = kob_mo_file(c);
+    is("the PO file reads back", again && kob_mo_file(again).len == file.len &&
+       !memcmp(kob_mo_file(again).at, file.at, file.len));
+    is("the escaped one as well", same_again && kob_mo_file(same_again).len == file.len &&
+       !memcmp(kob_mo_file(same_again).at, file.at, file.len));
+    is("an entry of it", memmem(text.at, text.len, entry, sizeof entry - 1) != NULL);
+    kob_release(c);
+    is("a PO file stays when its catalogue is released", text.len && !memcmp(text.at, "msgid \"\"\n", 9));
+    kob_release(again);
+    kob_release(same_again);
+    kob_po_free(plain);
+    kob_po_free(escaped);
+    kob_po_free(NULL);
+}
+
 static void files(const kob_catalogue *c, const char *name) {
     kob_text file = kob_mo_file(c);
     kob_refusal why;
@@ -490,6 +512,7 @@ static void calls(void) {
     look_ups(c);
     texts(c);
     files(c, "c_library.mo");
+    po_files();
     is("retain", kob_retain(c) == c);
     kob_release(c);
     is("one holder is left", !strcmp(kob_gettext(c, "hi"), "hi"));

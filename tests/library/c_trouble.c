@@ -223,6 +223,23 @@ static void sweep_sizes(void) {
     }
 }
 
+/* the PO file of a catalogue */
+static void sweep_po_file(void) {
+    unsigned long before = blocks;
+    for (unsigned long k = 1;; k++) {
+        requests = 0;
+        refused = k;
+        kob_po_file *file = kob_write_po(given, 0);
+        int was_refused = requests >= k;
+        refused = 0;
+        is("a PO file", file ? kob_po_text(file).len > 100 : was_refused);
+        kob_po_free(file);
+        is("nothing is leaked of a PO file", blocks == before);
+        if (!was_refused || wrong)
+            break;
+    }
+}
+
 static void memory(void) {
     char name[4200];
     given = kob_open_po(po, strlen(po), 0, NULL);
@@ -245,6 +262,7 @@ static void memory(void) {
     sweep("kob_set_with", set_with, set_is_right);
     sweep("kob_set_open", set_open, opened_set_is_right);
     sweep_sizes();
+    sweep_po_file();
     kob_release(given);
     kob_set_release(given_set);
     is("all blocks were freed", blocks == 0);

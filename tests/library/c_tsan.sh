@@ -62,7 +62,7 @@ void *__tsan_memmove(void *to, const void *from, size_t len) { return memmove(to
 void *__tsan_memset(void *to, int byte, size_t len) { return memset(to, byte, len); }
 END
 cc -O2 -c -o "$room/names.o" "$room/names.c"
-compiles "$name" races tests/library/c_store_threads.c -Ic/library -fsanitize=thread c/library/kobdzila.c c/library/set.c c/library/store.c c/library/file_bytes.c \
+compiles "$name" races tests/library/c_store_threads.c -Ic/library -fsanitize=thread c/library/kobdzila.c c/library/output.c c/library/set.c c/library/store.c c/library/file_bytes.c \
   c/library/memory.c "$room/module.o" "$room/names.o" "$kit/c/liblibc_c.a" -Wl,--wrap=malloc,--wrap=realloc,--wrap=free || exit 1
 if ! nm "$room/module.o" | grep -q 'U __tsan_atomic'; then
   failed "$name" 'the proved part has no checks'

@@ -5,4 +5,5 @@ pub mod Listing
 pub mod Making
 pub mod Storing
 pub mod NamedPlaces
+pub mod Outputs
 pub mod Shared

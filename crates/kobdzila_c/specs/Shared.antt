@@ -20,6 +20,8 @@ use Rattle.kobdzila_c.specs.declared.stores.HeldNotice.{HeldNotice}
 use Rattle.kobdzila_c.specs.contracts.stores.HeldNotice.{the_row as notice_row}
 use Rattle.kobdzila_c.specs.declared.stores.HeldEntrance.{HeldEntrance}
 use Rattle.kobdzila_c.specs.contracts.stores.HeldEntrance.{the_row as entrance_row}
+use Rattle.kobdzila_c.specs.declared.outputs.HeldOutput.{HeldOutput}
+use Rattle.kobdzila_c.specs.contracts.outputs.HeldOutput.{the_row as output_row}
 use Rattle.live_set.specs.declared.places.Places.{Places}
 use Rattle.live_set.specs.contracts.places.Places.{the_row as places_row}
 use Rattle.kobdzila_c.specs.Answering.{IsClosedAnswer, Question, map_of}
@@ -27,6 +29,7 @@ use Rattle.kobdzila_c.specs.Listing.{text}
 use Rattle.kobdzila_c.specs.Making.{IsSetAnswer}
 use Rattle.kobdzila_c.specs.Opening.{IsOpenedMo, IsOpenedPo}
 use Rattle.kobdzila_c.specs.NamedPlaces.{IsSetAnswerAt}
+use Rattle.kobdzila_c.specs.Outputs.{text_in}
 
 -- what was opened is at p, and its holder alone may use it
 abbrev pub holds : Ptr → Opened → Fml
@@ -127,3 +130,21 @@ places_at out Are = fex Places (λ p. fex (Are p) (λ _. lies_at places_row full
 abbrev pub set_answered_at : Lft → Ptr → HeldSet → List ℕ → Question → Fml
 set_answered_at κ out s places q = fex (Bor (List ℕ)) (λ r. fex (IsSetAnswerAt s places q r.now)
     (λ _. lies_at (Text κ) full_share out r))
+
+-- ---- what is made of a catalogue
+
+-- what was made is at p, and its holder alone may use it
+abbrev pub holds_output : Ptr → HeldOutput → Fml
+holds_output p o = lies_at output_row full_share p o
+
+-- at p is something made, with this property
+abbrev pub output_at : Ptr → (HeldOutput → Type 0) → Fml
+output_at p Is = fex HeldOutput (λ o. fex (Is o) (λ _. holds_output p o))
+
+-- the right to read what was made: it is shared at p for the lifetime κ, and a share q of κ's token shows that κ lasts
+abbrev pub reads_output : Lft → Share → Ptr → HeldOutput → Fml
+reads_output κ q p o = fsep (lent_at output_row p o κ) (flft κ q)
+
+-- at out are the bytes of the PO text, shared for as long as κ
+abbrev pub text_lent : Lft → Ptr → HeldOutput → Fml
+text_lent κ out o = fex (Bor (List ℕ)) (λ r. fex (r.now ≡ text_in o.output) (λ _. lies_at (Text κ) full_share out r))

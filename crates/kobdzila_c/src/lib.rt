@@ -34,16 +34,22 @@ ghost use Rattle.kobdzila_c.specs.NamedPlaces.{AreSetPlaces};
 ghost use Rattle.kobdzila_c.specs.Shared.{places_at, set_answered_at};
 ghost use Rattle.kobdzila_c.specs.Shared.{entrance_at, holds_entrance, reads_entrance};
 ghost use Rattle.kobdzila_c.specs.Shared.{holds_notice, holds_store, notice_at, reads_notice, reads_store, store_at};
+ghost use Rattle.kobdzila_c.specs.contracts.outputs.HeldOutput.{the_row as output_row};
+ghost use Rattle.kobdzila_c.specs.declared.outputs.HeldOutput.{HeldOutput as AnOutput};
+ghost use Rattle.kobdzila_c.specs.Outputs.{IsPoText, output_number};
+ghost use Rattle.kobdzila_c.specs.Shared.{holds_output, output_at, reads_output, text_lent};
 
 mod answers;
 mod numbers;
 mod opened;
+mod outputs;
 mod places;
 mod sets;
 mod stores;
 
 use live_set::Places;
 pub use opened::Opened;
+pub use outputs::{HeldOutput, Output};
 pub use sets::{HeldSet, Origin};
 use std::alloc::Global;
 pub use stores::{HeldEntrance, HeldNotice, HeldStore};
@@ -541,4 +547,64 @@ pub unsafe extern "C" fn kobdzila_reader_enter_after(
         (held as *mut HeldSet).read(),
         &*(notice as *const HeldNotice),
     ));
+}
+
+/// The type that C's pointers to an output have: to what was made of a catalogue. C must not read or write its bytes.
+pub struct OpaqueOutput {
+    byte: u8,
+}
+
+/// The number of bytes that C allocates for an output. `malloc` aligns them well enough.
+#[unsafe(no_mangle)]
+pub extern "C" fn kobdzila_output_size() -> usize
+    ensures size { result ≡ size (layout output_row) }
+    ensures alignment { align (layout output_row) ≤ 16 }
+{
+    std::mem::size_of::<HeldOutput>()
+}
+
+/// Writes the PO text of the catalogue at `held` to `out`, or why there is none. If `escape` isn't 0, bytes other than
+/// printable ASCII are octal escapes.
+#[unsafe(no_mangle)]
+pub unsafe extern "C" fn kobdzila_write_po(
+    alloc: Global,
+    held: *const Opaque,
+    escape: u32,
+    out: *mut OpaqueOutput,
+)
+    ghost g: { Lft × Share × Held }
+    requires* { sem 𝓛 (reads g.0 g.1 held g.2) ∗ sem 𝓛 (room_at output_row out) }
+    ensures* { sem 𝓛 (flft g.0 g.1) ∗ sem 𝓛 (output_at out (IsPoText (nat_lt 0 escape) g.2)) }
+{
+    (out as *mut HeldOutput).write(outputs::write_text(alloc, &*(held as *const Opened), escape));
+}
+
+/// A number (`numbers`) of the output at `held`: its `FAULT`, or the fault's `LINE`.
+#[unsafe(no_mangle)]
+pub unsafe extern "C" fn kobdzila_output_number(held: *const OpaqueOutput, which: u32) -> u64
+    ghost g: { Lft × Share × AnOutput }
+    requires* { sem 𝓛 (reads_output g.0 g.1 held g.2) }
+    ensures* { sem 𝓛 (flft g.0 g.1) ∗ ⌜ result ≡ output_number g.2 which ⌝ }
+{
+    outputs::output_number(&*(held as *const HeldOutput), which)
+}
+
+/// Writes the bytes of the PO text at `held` to `out`; none if there is no PO text.
+#[unsafe(no_mangle)]
+pub unsafe extern "C" fn kobdzila_output_text(held: *const OpaqueOutput, out: *mut &[u8])
+    ghost g: { Lft × Share × AnOutput }
+    requires* { sem 𝓛 (reads_output g.0 g.1 held g.2) ∗ sem 𝓛 (room_at (Text g.0) out) }
+    ensures* { sem 𝓛 (flft g.0 g.1) ∗ sem 𝓛 (text_lent g.0 out g.2) }
+{
+    *out = outputs::output_text(&*(held as *const HeldOutput));
+}
+
+/// Drops the output at `held`, and gives its memory back to C.
+#[unsafe(no_mangle)]
+pub unsafe extern "C" fn kobdzila_output_close(held: *mut OpaqueOutput)
+    ghost value: { AnOutput }
+    requires* { sem 𝓛 (holds_output held value) }
+    ensures* { sem 𝓛 (room_at output_row held) }
+{
+    outputs::close_output((held as *mut HeldOutput).read());
 }
