@@ -9,15 +9,16 @@
 #   make fuzz SECONDS=600   gives the C, and the proved part below it, that many seconds of chosen inputs for each target of
 #                   fuzz/; it needs clang
 #   make bench      times msgfmt compared with GNU msgfmt, scripts and a session; N=7 sets the number of rounds
-#   make driver     builds bin/msgfmt-or-gnu, the msgfmt for build systems, and bin/kob-compile, which compiles projects,
-#                   if there is a C compiler; `make` does too
+#   make driver     builds bin/msgfmt-or-gnu, the msgfmt for build systems, bin/kob-compile, which compiles projects, and
+#                   bin/kob-msgunfmt, which writes PO texts of MO files, if there is a C compiler; `make` does too
 #   make library    builds libkobdzila, the look-ups for C, into build/lib, if there is a C compiler; `make` does too.
 #                   CC, CPPFLAGS, CFLAGS and LDFLAGS count
 #   make install    installs the programs, their man pages and completions under PREFIX (/usr/local), below DESTDIR if it
-#                   is given. PROGRAM_PREFIX=kob- names them kob-msgfmt and so on, next to GNU's; kob-compile keeps its
-#                   name. What is in C is installed, too, if it was built; `make install_library` installs the library
-#                   alone. LIBDIR is its folder (PREFIX/lib): LIBDIR=/usr/lib64, or /usr/lib/$(cc -print-multiarch) on
-#                   Debian. ZSHDIR is that of zsh's functions (PREFIX/share/zsh/site-functions)
+#                   is given. PROGRAM_PREFIX=kob- names them kob-msgfmt and so on, next to GNU's; kob-compile and
+#                   kob-msgunfmt keep their names. What is in C is installed, too, if it was built; `make
+#                   install_library` installs the library alone. LIBDIR is its folder (PREFIX/lib): LIBDIR=/usr/lib64,
+#                   or /usr/lib/$(cc -print-multiarch) on Debian. ZSHDIR is that of zsh's functions
+#                   (PREFIX/share/zsh/site-functions)
 #   make dist       packs build/dist/kobdzila-VERSION-MACHINE-linux.tar.gz of what was built, with static programs
 #   make sign KEY=FILE   signs build/dist/SHA256SUMS with an SSH key; KEY=NAME does with a key of gpg's
 #   make wheel      packs the Python package into build/dist, of the library that was built; it needs Python's headers
@@ -51,7 +52,7 @@ functions = $(shell sed -n 's/^    \(kob_[a-z_]*\);/\1/p' c/library/kobdzila.map
 EXAMPLES = fr pl
 PROGRAMS = msgfmt catserve catsession
 DRIVER = msgfmt-or-gnu
-COMPILER = kob-compile
+KEPT_NAMES = kob-compile kob-msgunfmt
 COMPLETED = msgfmt msgfmt-or-gnu catsession
 
 bindir = $(PREFIX)/bin
@@ -69,7 +70,7 @@ SHARED = libkobdzila.so.0
 PRELOADED = libkobdzila-intl.so
 
 .PHONY: all $(PROGRAMS) programs examples compiled_examples driver library check prove-anew fuzz bench dist sign wheel
-.PHONY: html deb verify install install_program install_compiler install_completions install_library uninstall uninstall_library
+.PHONY: html deb verify install install_program install_kept install_completions install_library uninstall uninstall_library
 .PHONY: uninstall_completions clean
 
 all:
@@ -148,7 +149,7 @@ install: $(PROGRAMS:%=bin/%)
 	install -m 644 docs/reference/*.md "$(to)$(docdir)/reference"
 	for name in $(PROGRAMS); do $(MAKE) -s install_program NAME=$$name || exit 1; done
 	if [ -f bin/$(DRIVER) ]; then $(MAKE) -s install_program NAME=$(DRIVER); fi
-	if [ -f bin/$(COMPILER) ]; then $(MAKE) -s install_compiler; fi
+	for name in $(KEPT_NAMES); do [ ! -f bin/$$name ] || $(MAKE) -s install_kept NAME=$$name || exit 1; done
 	if [ -f build/lib/$(SHARED) ]; then $(MAKE) -s install_library; fi
 
 # one program, $(NAME), with its page and its completions
@@ -162,14 +163,14 @@ install_program:
 	case " $(COMPLETED) " in *" $(NAME) "*) \
 	  $(MAKE) -s install_completions NAME=$(NAME) AS="$(PROGRAM_PREFIX)$(NAME)" ;; esac
 
-# the program whose name has no further prefix
-install_compiler:
+# a program, $(NAME), whose name has no further prefix
+install_kept:
 	install -d "$(to)$(bindir)" "$(to)$(mandir)/man1"
-	install -m 755 bin/$(COMPILER) "$(to)$(bindir)/$(COMPILER)"
-	$(strip) "$(to)$(bindir)/$(COMPILER)"
-	$(page) docs/man/$(COMPILER).1 > "$(to)$(mandir)/man1/$(COMPILER).1"
-	chmod 644 "$(to)$(mandir)/man1/$(COMPILER).1"
-	$(MAKE) -s install_completions NAME=$(COMPILER) AS=$(COMPILER)
+	install -m 755 bin/$(NAME) "$(to)$(bindir)/$(NAME)"
+	$(strip) "$(to)$(bindir)/$(NAME)"
+	$(page) docs/man/$(NAME).1 > "$(to)$(mandir)/man1/$(NAME).1"
+	chmod 644 "$(to)$(mandir)/man1/$(NAME).1"
+	$(MAKE) -s install_completions NAME=$(NAME) AS=$(NAME)
 
 # the completions of one program, $(NAME), which is called $(AS)
 install_completions:
@@ -203,8 +204,8 @@ uninstall_library:
 	rmdir "$(to)$(preloaddir)" 2> /dev/null || true
 
 uninstall: uninstall_library
-	rm -f "$(to)$(bindir)/$(COMPILER)" "$(to)$(mandir)/man1/$(COMPILER).1"
-	$(MAKE) -s uninstall_completions AS=$(COMPILER)
+	for name in $(KEPT_NAMES); do rm -f "$(to)$(bindir)/$$name" "$(to)$(mandir)/man1/$$name.1"; done
+	for name in $(KEPT_NAMES); do $(MAKE) -s uninstall_completions AS=$$name || exit 1; done
 	for name in $(PROGRAMS) $(DRIVER); do rm -f "$(to)$(bindir)/$(PROGRAM_PREFIX)$$name"; done
 	for name in $(PROGRAMS) $(DRIVER); do rm -f "$(to)$(mandir)/man1/$(PROGRAM_PREFIX)$$name.1"; done
 	for name in $(COMPLETED); do $(MAKE) -s uninstall_completions AS="$(PROGRAM_PREFIX)$$name" || exit 1; done

@@ -1,7 +1,7 @@
 #!/bin/sh
 # Installs Kobdzila below PREFIX, which is /usr/local if it isn't given; without root: PREFIX=$HOME/.local ./install.sh
-# PROGRAM_PREFIX=kob- names the programs kob-msgfmt and so on, next to GNU's (kob-compile is that). `./install.sh remove` with the same
-# variables removes the files again, and the folders that were made for them.
+# PROGRAM_PREFIX=kob- names the programs kob-msgfmt and so on, next to GNU's; what is called kob- already keeps its name.
+# `./install.sh remove` with the same variables removes the files again, and the folders that were made for them.
 #
 # What is installed belongs to whoever runs this, whoever unpacked the tarball. Programs and shared libraries have the mode
 # 0755, other files 0644, folders 0755, under any umask. If something can't be written, nothing is installed.
@@ -22,7 +22,7 @@ files=$(find bin include lib share ! -type d | LC_ALL=C sort)
 # target FILE: prints where a file of the tarball is installed
 target() {
   case $1 in
-    */kob-compile | */kob-compile.* | */_kob-compile) printf '%s\n' "$prefix/$1" ;; # (its name stays)
+    bin/kob-* | share/man/man1/kob-* | share/zsh/*/_kob-* | share/*completions*/kob-*) printf '%s\n' "$prefix/$1" ;; # (its name stays)
     share/zsh/*) printf '%s\n' "$prefix/${1%/*}/_$as${1##*/_}" ;;
     bin/* | share/man/man1/* | share/bash-completion/* | share/fish/*) printf '%s\n' "$prefix/${1%/*}/$as${1##*/}" ;;
     share/doc/*) printf '%s\n' "$prefix/share/doc/$as${1#share/doc/}" ;;

@@ -76,7 +76,7 @@ static int look_at(int file, unsigned *mode, unsigned long long *size) {
     return 1;
 }
 
-static unsigned char *read_opened(int file, enum kinds_of_files kinds, size_t most, size_t *len) {
+unsigned char *opened_bytes(int file, enum kinds_of_files kinds, size_t most, size_t *len) {
     unsigned mode;
     unsigned long long size;
     if (!look_at(file, &mode, &size))
@@ -107,7 +107,7 @@ unsigned char *file_bytes(const char *name, enum kinds_of_files kinds, size_t mo
     int cancelled_how;
     pthread_setcancelstate(PTHREAD_CANCEL_DISABLE, &cancelled_how);
     int file = open_to_read(name);
-    unsigned char *bytes = file < 0 ? NULL : read_opened(file, kinds, most, len);
+    unsigned char *bytes = file < 0 ? NULL : opened_bytes(file, kinds, most, len);
     int cause = errno;
     if (file >= 0)
         close(file);

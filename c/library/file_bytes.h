@@ -14,4 +14,7 @@ enum kinds_of_files { REGULAR_FILES, ALL_FILES };
  * files are wanted and this is another kind. No call waits for a FIFO's writer: a FIFO without one counts as empty. */
 unsigned char *file_bytes(const char *name, enum kinds_of_files kinds, size_t most, size_t *len);
 
+/* Read an open file likewise, from its position on. */
+unsigned char *opened_bytes(int file, enum kinds_of_files kinds, size_t most, size_t *len);
+
 #endif

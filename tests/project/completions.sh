@@ -3,7 +3,7 @@
 # offer is one and the same in all three. Then each option that a program's --help names is offered.
 . "$(dirname "$0")/../lib/common"
 
-programs='msgfmt msgfmt-or-gnu catsession kob-compile'
+programs='msgfmt msgfmt-or-gnu catsession kob-compile kob-msgunfmt'
 share=$room/usr/share
 bash_files=$share/bash-completion/completions zsh_files=$share/zsh/site-functions fish_files=$share/fish/vendor_completions.d
 
@@ -85,6 +85,9 @@ kob-compile --exclude ^
 kob-compile -o ^folder
 kob-compile --sarif=a^a.mo a.po
 kob-compile -c ^a.po folder
+kob-msgunfmt --w^--width
+kob-msgunfmt --output-file=a^a.mo a.po
+kob-msgunfmt ^a.mo a.po folder
 kob-fleet ^compact follow forget history init metrics publish remove restore rollback status wait
 kob-fleet -^--database --help --version -V -d -h
 kob-fleet -d host=db1 pub^publish
@@ -97,7 +100,7 @@ kob-fleet follow --cache=^folder
 kob-fleet follow --s^--socket
 kob-fleet wait ^
 END_OF_LINES
-  for it in msgfmt catsession kob-compile; do
+  for it in msgfmt catsession kob-compile kob-msgunfmt; do
     if [ -x "bin/$it" ]; then
       offers $shell "$(named $it) -" "$(options $it | paste -sd ' ')"
     else

@@ -28,12 +28,11 @@ MSGFMT_PAGE = "docs/man/msgfmt.1"
 CATSERVE_PAGE = "docs/man/catserve.1"
 SESSION_PAGE = "docs/man/catsession.1"
 DRIVER_PAGE = "docs/man/msgfmt-or-gnu.1"
-COMPILER_PAGE = "docs/man/kob-compile.1"
 LIBRARY_PAGE = "docs/man/kobdzila.3"
 DECISIONS = "docs/internals/decisions/README.md"
 TROUBLES = "docs/guide/troubleshooting.md"
 DRIVER_OPTIONS = "c/driver/or_gnu_words.c"
-COMPILER_OPTIONS = "c/compile/options.c"
+OPTIONS_IN_C = {"kob-compile": "c/compile/options.c", "kob-msgunfmt": "c/unfmt/options.c"}
 HEADER = "include/kobdzila.h"
 COMPLETION = "tools/completion/words"
 LEAST_LIMIT = 20_000_000  # a number of the documents from here on is one of the limits
@@ -239,22 +238,27 @@ def options_of_the_fleet():
     return found
 
 
-def options_of_the_compiler():
-    """the options of kob-compile: code, help, man page, completions"""
-    code = read(COMPILER_OPTIONS)
-    wanted = {f"--{name}" for name in re.findall(r'^    \{"([a-z-]+)",', code, re.M)}
+def options_in_c(program):
+    """The differences between the options of a program in C: code, help, man page, completions."""
+    code, page_name = read(OPTIONS_IN_C[program]), f"docs/man/{program}.1"
+    wanted = {f"--{name}" for name in re.findall(r'^    \{"([a-z-]+)", (?!.*FOR_GNU)', code, re.M)}
     wanted |= {f"-{letter}" for letter in re.search(r'getopt_long\(count, words, "([^"]*)"', code)[1] if letter != ":"}
     told = re.search(r"help\[\] =\n(.*?);\n\n", code, re.S)[1]
     heads = re.findall(r'^    "  +(-.*?)(?:  |\\n)', told, re.M)
-    manual = re.search(r"^\.SH OPTIONS\n(.*?)^\.SH JSON", read(COMPILER_PAGE), re.M | re.S)[1].replace("\\-", "-")
+    manual = re.search(r"^\.SH OPTIONS\n(.*?)^\.SH ", read(page_name), re.M | re.S)[1].replace("\\-", "-")
     in_page = re.sub(r"\\f[A-Z]", "", " ".join(re.findall(r"^\.TP\n\.BI?R? (.*)$", manual, re.M))).replace('"', " ")
-    found = [(f"{COMPILER_OPTIONS}, its help", " ".join(heads)), (COMPILER_PAGE, in_page)]
+    found = [(f"{OPTIONS_IN_C[program]}, its help", " ".join(heads)), (page_name, in_page)]
     letters = re.search(r'getopt_long\(count, words, "([^"]*)"', code)[1]
     with_value = {f"--{name}" for name in re.findall(r'^    \{"([a-z-]+)", required_', code, re.M)}
     with_value |= {f"-{letter}" for letter in re.findall(r"([a-zA-Z]):", letters)}
     return ([why for name, text in found for why in differences(name, options_in(text), wanted)]
-            + differences(f"{COMPLETION}, kob-compile", completed("kob-compile"), wanted)
-            + differences(f"{COMPLETION}, kob-compile, values", completed("kob-compile", True), with_value))
+            + differences(f"{COMPLETION}, {program}", completed(program), wanted)
+            + differences(f"{COMPLETION}, {program}, values", completed(program, True), with_value))
+
+
+def options_of_programs_in_c():
+    """the options of kob-compile and kob-msgunfmt: code, help, man page, completions"""
+    return [why for program in OPTIONS_IN_C for why in options_in_c(program)]
 
 
 def warnings_of_the_driver():
@@ -710,7 +714,7 @@ RULES = (
     functions_of_the_library,
     options_of_the_driver,
     options_of_the_fleet,
-    options_of_the_compiler,
+    options_of_programs_in_c,
     warnings_of_the_driver,
     lines_of_the_command,
     fields_of_a_header,

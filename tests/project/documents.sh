@@ -88,6 +88,7 @@ docs/man/catsession.1^an MO file 268,435,456^an MO file 268,435,455
 docs/man/catsession.1^threads, 1 to 16;^threads, 1 to 17;
 docs/man/msgfmt-or-gnu.1^\-\-tcl^\-\-tk
 docs/man/kob-compile.1^.BI \-\-sarif^.BI \-\-log
+docs/man/kob-msgunfmt.1^.B \-\-no\-wrap^.B \-\-nowrap
 tools/completion/words^--use-fuzzy^--fuzzy
 include/kobdzila.h^KOB_MO_ORDER = 9^KOB_MO_ORDER = 8
 c/library/kobdzila.c^"newlines differ"^"lines differ"
@@ -101,6 +102,7 @@ tools/completion/words^kob-fleet history:^kob-fleet past:
 python/src/kobdzila/fleet/_command.py^"--go-over"^"--go"
 c/driver/or_gnu_words.c^{"java2",^{"java3",
 c/compile/options.c^{"watch",^{"follow",
+c/unfmt/options.c^{"no-wrap",^{"nowrap",
 c/compile/options.c^--no-gnu  ^--only-us 
 c/driver/msgfmt_or_gnu.c^warning: header field^warning: field
 README.md^(docs/guide/rattle.md)^(docs/guide/rattles.md)

@@ -34,7 +34,7 @@ jumps() {
 # has such calls of the C library's own as well; how its C is compiled is looked at below
 flags() {
   case $1 in
-    bin/msgfmt-or-gnu | bin/kob-compile | build/static/*) echo yes ;;
+    bin/msgfmt-or-gnu | bin/kob-* | build/static/*) echo yes ;;
     *.so*) yes_if grep -qE "$2" <(readelf -W --dyn-syms "$1") ;;
     *) echo 'no C' ;;
   esac
@@ -106,10 +106,12 @@ if [ -f crates/kobdzila_c/out/libkobdzila_c.a ]; then
   cp crates/kobdzila_c/out/libkobdzila_c.a "$room/tree/crates/kobdzila_c/out"
   "$room/tree/tools/build_library" --made > "$room/log" 2>&1
   compiled 'libkobdzila is compiled with the flags'
-  PROGRAM=kob-compile "$room/tree/tools/build_driver" > "$room/log" 2>&1
-  compiled 'kob-compile is compiled with the flags'
+  for it in kob-compile kob-msgunfmt; do
+    PROGRAM=$it "$room/tree/tools/build_driver" > "$room/log" 2>&1
+    compiled "$it is compiled with the flags"
+  done
 else
-  skipped 'hardening: libkobdzila and kob-compile are compiled with the flags' 'its proved part is not here, as make or make check leaves it'
+  skipped 'hardening: libkobdzila and the programs over it are compiled with the flags' 'its proved part is not here, as make or make check leaves it'
 fi
 if [ -f build/lib/libkobdzila.a ] && said=$(tools/wheel "$room/wheel" 2>&1); then
   compiled 'the Python extension is compiled with the flags'

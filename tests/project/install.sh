@@ -20,14 +20,15 @@ made() {
 
 
 # (what is in C is installed where it was built)
-driver='' compiler=''
+driver='' compiler='' writer=''
 [ ! -x bin/msgfmt-or-gnu ] || driver=msgfmt-or-gnu
 [ ! -x bin/kob-compile ] || compiler=kob-compile
+[ ! -x bin/kob-msgunfmt ] || writer=kob-msgunfmt
 
 # pages NAME PREFIX: each program has its page, without a warning, and the documents that they name are there
 pages() {
   local at=$room/image$room/usr/share/man/man1 page wrong='' document
-  for page in $2msgfmt $2catserve $2catsession ${driver:+$2$driver} $compiler; do
+  for page in $2msgfmt $2catserve $2catsession ${driver:+$2$driver} $compiler $writer; do
     [ -s "$at/$page.1" ] || wrong+="no page of $page; "
   done
   if tests/lib/needs mandoc mandoc; then
@@ -40,7 +41,7 @@ pages() {
   else
     skipped "$1, groff" 'no groff'
   fi
-  for page in $2msgfmt $2catserve $2catsession ${driver:+$2$driver} $compiler; do
+  for page in $2msgfmt $2catserve $2catsession ${driver:+$2$driver} $compiler $writer; do
     document=$(sed 's/\\-/-/g' "$at/$page.1" | grep -o "$room/usr/share/doc/[^ ]*\.md" | head -n 1)
     [ -n "$document" ] && [ -s "$room/image$document" ] || wrong+="$page(1) names '$document', which isn't there; "
   done
@@ -61,7 +62,7 @@ prefixed() {
 # completions NAME PREFIX: each program has those of all shells (tests/project/completions.sh asks for some)
 completions() {
   local at=$room/image$room/usr/share it wrong=''
-  for it in $2msgfmt $2catsession ${driver:+$2$driver} $compiler; do
+  for it in $2msgfmt $2catsession ${driver:+$2$driver} $compiler $writer; do
     grep -q "^complete .* $it\$" "$at/bash-completion/completions/$it" || wrong+="$it for bash; "
     grep -qx "#compdef $it" "$at/zsh/site-functions/_$it" || wrong+="$it for zsh; "
     grep -q "^complete -c $it " "$at/fish/vendor_completions.d/$it.fish" || wrong+="$it for fish; "
@@ -143,6 +144,13 @@ installed() {
     ok "$as: kob-compile runs"
   else
     failed "$as: kob-compile runs" "$(cat "$room/err")"
+  fi
+  if [ -z "$writer" ]; then
+    skipped "$as: kob-msgunfmt" 'it was not built'
+  elif "$bin/kob-msgunfmt" crates/msgfmt/stdout 2> "$room/err" | "$bin/$1msgfmt" -o - - | cmp -s - crates/msgfmt/stdout; then
+    ok "$as: kob-msgunfmt runs"
+  else
+    failed "$as: kob-msgunfmt runs" "$(cat "$room/err")"
   fi
   unstripped=build/static/msgfmt
   [ -x $unstripped ] || unstripped=$program

@@ -3,7 +3,7 @@
 # (tests/project/pages.py). Then it sees that a page is refused whose block is wrong, for each kind of block.
 . "$(dirname "$0")/../lib/common"
 
-for it in catserve catsession msgfmt-or-gnu kob-compile; do
+for it in catserve catsession msgfmt-or-gnu kob-compile kob-msgunfmt; do
   if [ ! -x "bin/$it" ]; then
     failed pages "there is no bin/$it: make builds it"
     exit 0

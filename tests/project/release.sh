@@ -28,11 +28,13 @@ else
   skipped 'version: catsession' 'it was not built'
 fi
 
-if [ -x bin/kob-compile ]; then
-  says 'version: kob-compile' "kob-compile (Kobdzila) $version" "$(bin/kob-compile --version 2>&1)"
-else
-  skipped 'version: kob-compile' 'it was not built'
-fi
+for it in kob-compile kob-msgunfmt; do
+  if [ -x bin/$it ]; then
+    says "version: $it" "$it (Kobdzila) $version" "$(bin/$it --version 2>&1)"
+  else
+    skipped "version: $it" 'it was not built'
+  fi
+done
 
 # --- the C interface ----------------------------------------------------------------------------------------------
 
@@ -343,12 +345,13 @@ fi
 program=$room/unpacked/$name/bin/msgfmt
 if [ "$(id -u)" = 0 ]; then
   mkdir "$room/nothing"
-  cp "$room/unpacked/$name/bin"/{msgfmt,catserve,catsession,kob-compile} "$room/nothing"
+  cp "$room/unpacked/$name/bin"/{msgfmt,catserve,catsession,kob-compile,kob-msgunfmt} "$room/nothing"
   cp crates/msgfmt/stdin "$room/nothing/fr.po"
   if said=$(chroot "$room/nothing" /msgfmt -o - - < crates/msgfmt/stdin 2>&1 | cmp - crates/msgfmt/stdout 2>&1) &&
     [ "$(echo go | chroot "$room/nothing" /catserve)" = "$(printf 'version\t0')" ] &&
     [ "$(echo go | chroot "$room/nothing" /catsession)" = "$(printf 'version\t0')" ] &&
-    said=$(chroot "$room/nothing" /kob-compile -q fr.po 2>&1) && cmp -s "$room/nothing/fr.mo" crates/msgfmt/stdout; then
+    said=$(chroot "$room/nothing" /kob-compile -q fr.po 2>&1) && cmp -s "$room/nothing/fr.mo" crates/msgfmt/stdout &&
+    chroot "$room/nothing" /kob-msgunfmt fr.mo | "$program" -o - - | cmp -s - crates/msgfmt/stdout; then
     ok 'the programs run in a folder without a C library'
   else
     failed 'the programs run in a folder without a C library' "$said"
