@@ -15,7 +15,7 @@ use Rattle.format_arguments.specs.Arguments.{Argument, HasKind, is_any, same_kin
 use Rattle.format_arguments.specs.Arguments.{covered}
 use Rattle.format_arguments.specs.Arguments.{named_agree}
 
-all_at : {X : Type 0} (p : X → Bool) (xs : List X) (x : X) → list_all p xs ≡ true → Contains xs x → p x ≡ true
+pub all_at : {X : Type 0} (p : X → Bool) (xs : List X) (x : X) → list_all p xs ≡ true → Contains xs x → p x ≡ true
 all_at p xs x h (k, lt, e) = elim (cases_Bool (p x)) [
   | inl passing ↦ passing
   | inr failing ↦ let none = list_all_at p xs k x lt (subst (λ y. p y ≡ false) (sym e) failing) in absurd (cc (h, none))
@@ -39,7 +39,7 @@ any_is : (k : Kind) → is_any k ≡ true → k ≡ Any
 any_is Any h = refl
 any_is _ h = absurd (cc h)
 
-kind_is : (a b : Kind) → same_kind a b ≡ true → a ≡ b
+pub kind_is : (a b : Kind) → same_kind a b ≡ true → a ≡ b
 kind_is Any Any h = refl
 kind_is Percent Percent h = refl
 kind_is Character Character h = refl

@@ -91,9 +91,9 @@ module _ {D : Type 0} (mark : ℕ) (At : D → List ℕ → List ℕ → Type 0)
       let same : at ≡ mark ∷ behind = begin.1 ∙ ap (λ (t : List ℕ). mark ∷ t) (sym behinds) in
       (d, more, after, refl, subst (λ (t : List ℕ). At d t after) same x, others)
 
-  module _ (asks : D → List Argument) where
+  module _ {A : Type 0} (asks : D → List A) where
     -- up to rest these directives were read: the text is a format in the ways that rest is one
-    pub record HasRead (text rest : List ℕ) (asked : List Argument) : Type 0 where
+    pub record HasRead (text rest : List ℕ) (asked : List A) : Type 0 where
       pub directives : List D
       pub on : (more : List D) → IsFormat mark At more rest → IsFormat mark At (directives ++ more) text
       pub back : (all : List D) → IsFormat mark At all text → (more : List D) × (all ≡ directives ++ more)
@@ -108,7 +108,7 @@ module _ {D : Type 0} (mark : ℕ) (At : D → List ℕ → List ℕ → Type 0)
       asked_is = refl;
     }
 
-    pub reads_on : (text rest behind after : List ℕ) (d : D) (old new : List Argument) → HasRead text rest old
+    pub reads_on : (text rest behind after : List ℕ) (d : D) (old new : List A) → HasRead text rest old
         → SkipsPlain mark rest (mark ∷ behind) → At d (mark ∷ behind) after → new ≡ old ++ asks d
         → HasRead text after new
     reads_on text rest behind after d old new so_far plain x e = record {
@@ -117,7 +117,7 @@ module _ {D : Type 0} (mark : ℕ) (At : D → List ℕ → List ℕ → Type 0)
           (sym (append_assoc so_far.directives (d ∷ []) more))
           (so_far.on (d ∷ more) (mark ∷ behind, after, plain, x, f));
       back = λ all f. back all f;
-      asked_is = e ∙ ap (λ (asked : List Argument). asked ++ asks d) so_far.asked_is
+      asked_is = e ∙ ap (λ (asked : List A). asked ++ asks d) so_far.asked_is
           ∙ flat_map_more asks [] so_far.directives d;
     }
       where
@@ -136,10 +136,10 @@ module _ {D : Type 0} (mark : ℕ) (At : D → List ℕ → List ℕ → Type 0)
 
     -- ---- the outcome
 
-    pub unreadable : (text rest behind : List ℕ) (old : List Argument) → HasRead text rest old
+    pub no_format : (text rest behind : List ℕ) (old : List A) → HasRead text rest old
         → SkipsPlain mark rest (mark ∷ behind) → ((d : D) (after : List ℕ) → At d (mark ∷ behind) after → ⊥)
-        → (asked : List Argument) → Asks mark At asks text asked → ⊥
-    unreadable text rest behind old so_far plain none asked (ds, format, same, consistent) =
+        → (ds : List D) → IsFormat mark At ds text → ⊥
+    no_format text rest behind old so_far plain none ds format =
         let p = so_far.back ds format in
         let q = begins_with p.0 rest behind plain p.2 in
         none q.0 q.2 q.4
@@ -151,25 +151,18 @@ module _ {D : Type 0} (mark : ℕ) (At : D → List ℕ → List ℕ → Type 0)
         absurd (never_plain mark skips.plain begin.0 end.plain end.no_mark
         (ap (λ (t : List ℕ). skips.plain ++ t) (sym begin.1) ∙ sym skips.text_is ∙ end.text_is ∙ append-nil end.plain))
 
-    pub has_signature : (text rest : List ℕ) (asked : List Argument) → HasRead text rest asked → SkipsPlain mark rest []
-        → is_consistent asked ≡ true → Asks mark At asks text asked
-    has_signature text rest asked so_far end consistent = (
-      so_far.directives,
-      subst (λ (ds : List D). IsFormat mark At ds text) (append-nil so_far.directives) (so_far.on [] end),
-      so_far.asked_is,
-      consistent,
-    )
+    pub read_all : (text rest : List ℕ) (asked : List A) (so_far : HasRead text rest asked) → SkipsPlain mark rest []
+        → IsFormat mark At so_far.directives text
+    read_all text rest asked so_far end =
+        subst (λ (ds : List D). IsFormat mark At ds text) (append-nil so_far.directives) (so_far.on [] end)
 
-    pub inconsistent : (text rest : List ℕ) (asked : List Argument) → HasRead text rest asked → SkipsPlain mark rest []
-        → is_consistent asked ≡ false → (others : List Argument) → Asks mark At asks text others → ⊥
-    inconsistent text rest asked so_far end bad others (ds, format, same, consistent) =
+    pub asked_by_all : (text rest : List ℕ) (asked : List A) → HasRead text rest asked → SkipsPlain mark rest []
+        → (ds : List D) → IsFormat mark At ds text → flat_map asks ds ≡ asked
+    asked_by_all text rest asked so_far end ds format =
         let p = so_far.back ds format in
         let directives : ds ≡ so_far.directives = p.1 ∙ ap (λ (more : List D). so_far.directives ++ more)
         (ended rest p.0 end p.2) ∙ append-nil so_far.directives in
-        let equal : others ≡ asked = same ∙ ap (λ (ds : List D). flat_map asks ds) directives ∙ sym so_far.asked_is in
-        let here : is_consistent asked ≡ true =
-        subst (λ (a : List Argument). is_consistent a ≡ true) equal consistent in
-        absurd (cc (here, bad))
+        ap (λ (es : List D). flat_map asks es) directives ∙ sym so_far.asked_is
 
     pub step_shorter : (text behind after : List ℕ) (d : D) → SkipsPlain mark text (mark ∷ behind)
         → At d (mark ∷ behind) after → length after < length text
@@ -194,7 +187,34 @@ module _ {D : Type 0} (mark : ℕ) (At : D → List ℕ → List ℕ → Type 0)
         let ih = one_format ds q.1 after others (subst (λ (t : List ℕ). IsFormat mark At q.1 t) (sym same.1) q.5) in
         ap (λ (c : D). c ∷ ds) same.0 ∙ ap (λ (more : List D). q.0 ∷ more) ih ∙ sym q.3
 
+    pub one_asked : (ds es : List D) (text : List ℕ) → IsFormat mark At ds text → IsFormat mark At es text
+        → flat_map asks ds ≡ flat_map asks es
+    one_asked ds es text f g = ap (λ (directives : List D). flat_map asks directives) (one_format ds es text f g)
+
+  -- ---- arguments with names
+
+  module _ (asks : D → List Argument) where
+    pub unreadable : (text rest behind : List ℕ) (old : List Argument) → HasRead asks text rest old
+        → SkipsPlain mark rest (mark ∷ behind) → ((d : D) (after : List ℕ) → At d (mark ∷ behind) after → ⊥)
+        → (asked : List Argument) → Asks mark At asks text asked → ⊥
+    unreadable text rest behind old so_far plain none asked (ds, format, same, consistent) =
+        no_format asks text rest behind old so_far plain none ds format
+
+    pub has_signature : (text rest : List ℕ) (asked : List Argument) → HasRead asks text rest asked
+        → SkipsPlain mark rest [] → is_consistent asked ≡ true → Asks mark At asks text asked
+    has_signature text rest asked so_far end consistent =
+        (so_far.directives, read_all asks text rest asked so_far end, so_far.asked_is, consistent)
+
+    pub inconsistent : (text rest : List ℕ) (asked : List Argument) → HasRead asks text rest asked
+        → SkipsPlain mark rest [] → is_consistent asked ≡ false → (others : List Argument)
+        → Asks mark At asks text others → ⊥
+    inconsistent text rest asked so_far end bad others (ds, format, same, consistent) =
+        let equal : others ≡ asked = same ∙ asked_by_all asks text rest asked so_far end ds format in
+        let here : is_consistent asked ≡ true =
+        subst (λ (a : List Argument). is_consistent a ≡ true) equal consistent in
+        absurd (cc (here, bad))
+
     pub one_signature : (text : List ℕ) (asked others : List Argument) → Asks mark At asks text asked
         → Asks mark At asks text others → asked ≡ others
     one_signature text asked others (ds, f, e, consistent) (es, g, h, also) =
-        e ∙ ap (λ (directives : List D). flat_map asks directives) (one_format ds es text f g) ∙ sym h
+        e ∙ one_asked asks ds es text f g ∙ sym h

@@ -11,7 +11,7 @@ pub(crate) fn is_any(kind: Kind) -> bool
     matches!(kind, Kind::Any)
 }
 
-pub(crate) fn same_kind(one: Kind, other: Kind) -> bool
+pub fn same_kind(one: Kind, other: Kind) -> bool
     ensures { result ≡ spec.same_kind one other }
 {
     match one {

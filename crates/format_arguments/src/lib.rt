@@ -16,6 +16,7 @@ mod text;
 
 pub use agreement::{agrees, is_consistent, lenient_kinds, strict_kinds};
 pub use bytes::after_byte;
+pub use kinds::same_kind;
 pub use text::next_directive;
 
 /// The kind of an argument, as GNU gettext tells them apart.
