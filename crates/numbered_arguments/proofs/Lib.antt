@@ -1,0 +1,4 @@
+pub mod NumberLemmas
+pub mod NumberedLemmas
+pub mod KindLemmas
+pub mod NumberedTextLemmas

@@ -1,0 +1,4 @@
+pub mod NumberedArguments
+pub mod NumberedText
+pub mod NumberingStates
+pub mod NumberedIndex
