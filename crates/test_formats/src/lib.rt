@@ -8,4 +8,6 @@ mod brace;
 #[cfg(test)]
 mod checks;
 #[cfg(test)]
+mod php;
+#[cfg(test)]
 mod python;

@@ -1,0 +1,2 @@
+pub mod PhpPartLemmas
+pub mod PhpDirectiveLemmas

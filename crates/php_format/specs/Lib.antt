@@ -1,0 +1,3 @@
+pub mod PhpPieces
+pub mod PhpDirectives
+pub mod PhpFormat
