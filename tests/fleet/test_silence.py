@@ -314,15 +314,27 @@ class ReplicatedTest(unittest.TestCase):
                 while not ending.wait(0.01):
                     connection.execute(f"select pg_{how}_backend(pid) from pg_stat_activity where wait_event = 'SyncRep'")
 
-        thread, number, begun = threading.Thread(target=cancel, daemon=True), uuid.uuid4(), time.monotonic()
+        thread, number = threading.Thread(target=cancel, daemon=True), uuid.uuid4()
         thread.start()
         with self.assertRaises(Unanswered) as caught:
-            log.publish(loads(2), id=number, within=2)
-        self.assertLess(time.monotonic() - begun, SLOW + 2)
+            self.publish_soon(log, number)
         ending.set()
         thread.join()
         self.assertEqual(caught.exception.id, number)
         return number
+
+    def publish_soon(self, log: Log, number: uuid.UUID) -> None:
+        """Publish within a second. A machine that is too busy even to connect is tried again: nothing was sent."""
+        for _ in range(30):
+            begun = time.monotonic()
+            try:
+                log.publish(loads(2), id=number, within=0.6)
+                return
+            except psycopg.OperationalError as trouble:
+                if "no answer in" not in str(trouble):
+                    raise
+            finally:
+                self.assertLess(time.monotonic() - begun, SLOW + 2)
 
     def test_a_role_that_waits_for_nothing(self) -> None:
         with servers.pair() as (first, second), Log(first.address) as log:
@@ -332,7 +344,7 @@ class ReplicatedTest(unittest.TestCase):
             self.assertEqual(log.publish(loads(1)), 2)
             second.stop()
             with self.assertRaises(Unanswered):
-                log.publish(loads(2), within=2)
+                self.publish_soon(log, uuid.uuid4())
 
 
 class ThreadTest(LogCase):
