@@ -48,8 +48,8 @@ is_name_byte b = not (b == 32 || b == 9 || b == 10 || b == 92 || b == 34)
 abbrev pub name_len : List ℕ → ℕ
 name_len text = prefix_len is_name_byte text
 
--- the first `charset=` of the text is at this offset, and is followed by a name of the charset; renamed is the text with
--- `UTF-8` in place of the name
+-- the first `charset=` of the text is at this offset, and is followed by a name of the charset; renamed is the text
+-- with `UTF-8` in place of the name
 pub record NamesAt (text : List ℕ) (at : ℕ) (charset : Charset) (renamed : List ℕ) : Type 0 where
   pub first : FindsNeedle text charset_mark 0 (Some at)
   pub after : List ℕ

@@ -7,8 +7,8 @@ use Rattle.mo_segments.specs.declared.fault.DependentFault.{DependentFault}
 use Rattle.mo_segments.specs.declared.fault.DependentFault.TheVariants as dependent
 use Rattle.mo_revisions.specs.declared.fault.AnyMoFault.{AnyMoFault}
 use Rattle.mo_revisions.specs.declared.fault.AnyMoFault.TheVariants.{Tables, Dependent, Mo as OfMo}
-use Rattle.mo_charsets.specs.Recoding.{AnyCharsetMo}
-use Rattle.mo_charsets.specs.Failing.{AnyCharsetRefused}
+use Rattle.mo_charsets.specs.MoRecoding.{AnyCharsetMo}
+use Rattle.mo_charsets.specs.MoFailing.{AnyCharsetRefused}
 use Rattle.mo_charsets.specs.declared.fault.RecodedFault.{RecodedFault}
 use Rattle.mo_charsets.specs.declared.fault.RecodedFault.TheVariants as recoded
 use Rattle.catalogue.specs.Meaning.{Means, Refuses, rank}
@@ -95,7 +95,8 @@ abbrev pub RefusesStrictMo : List ℕ → RecodedFault → Type 0
 RefusesStrictMo bytes (recoded.Any (OfMo fault)) = Refused bytes fault
 RefusesStrictMo bytes _ = ⊥
 
--- the bytes are refused: if is_strict by the reader of revision 0.0, and otherwise by that of all revisions and charsets
+-- the bytes are refused: if is_strict by the reader of revision 0.0, and otherwise by that of all revisions and
+-- charsets
 abbrev pub RefusesMo : List ℕ → Bool → RecodedFault → Type 0
 RefusesMo bytes true fault = RefusesStrictMo bytes fault
 RefusesMo bytes false fault = AnyCharsetRefused bytes fault

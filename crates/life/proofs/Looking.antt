@@ -2,7 +2,7 @@
 use Rattle.std.proofs.Common.{◌≡◌, ℕ, List, subst}
 use Rattle.mo_image.specs.Entry.{Entry}
 use Rattle.live_set.specs.Asks.{QueryValue, HasValue, HasAnswer, IsAnswer, answering, key_of}
-use Rattle.live_set.specs.Languages.{named}
+use Rattle.live_set.specs.LanguageList.{named}
 use Rattle.live_set.specs.Loads.{LoadValue, map_of}
 use Rattle.live_set.specs.Sets.{SetValue, fold, map_in}
 use Rattle.live_versions.specs.Batches.{joined}

@@ -3,7 +3,7 @@ use Rattle.std.proofs.Common.{◌≡◌, ℕ, List, [], ◌∷◌, map, refl, ap
 use Rattle.catalogue.specs.Entry.{Entry}
 use Rattle.live_set.specs.Loads.{LoadValue, map_of}
 use Rattle.live_set.specs.Asks.{AreAnswers, HasValue, HaveAnswers, QueryValue, first_with, key_of}
-use Rattle.live_set.specs.Languages.{named}
+use Rattle.live_set.specs.LanguageList.{named}
 use Rattle.live_set.specs.Sets.{fold, map_in}
 use Rattle.live_set.proofs.Folding.{map_in-fold}
 

@@ -10,8 +10,8 @@ use Rattle.std.proofs.lemmas.List.Splits.{slice_split_first}
 use Rattle.std.proofs.lemmas.List.Sums.{take_while-cons, passes_at_first}
 use Rattle.std.proofs.lemmas.List.Folds.{list_any_at, Any-from_list_any}
 use Rattle.live_set.specs.Names.{IsName, is_name_byte}
-use Rattle.live_set.specs.Languages.{is_colon, is_text, translates, members, is_underscore, begins_detail}
-use Rattle.live_set.specs.Languages.{has_only_territory}
+use Rattle.live_set.specs.LanguageList.{is_colon, is_text, translates, members, is_underscore, begins_detail}
+use Rattle.live_set.specs.LanguageList.{has_only_territory}
 
 -- ---- a search that finds nothing, and one that finds
 

@@ -8,7 +8,7 @@ use Rattle.std.proofs.lemmas.Bool.{cases_lt, false≢true}
 use Rattle.std.proofs.lemmas.List.{append-nil, append_assoc, map-append, length-append}
 use Rattle.catalogue.specs.Entry.{Entry}
 use Rattle.live_set.specs.Asks.{has_key, map_with, maps_named}
-use Rattle.live_set.specs.Languages.{members, locales_of, named}
+use Rattle.live_set.specs.LanguageList.{members, locales_of, named}
 use Rattle.live_set.specs.Loads.{LoadValue, is_for, map_or_empty}
 use Rattle.live_set.specs.SetPlaces.{IsListed, listed, loads_of, loads_named, map_among, map_at, most_places}
 use Rattle.live_set.specs.Placing.{IsExtended, IsPlaceFor, IsPushed}

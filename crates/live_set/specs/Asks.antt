@@ -6,7 +6,7 @@ use Rattle.catalogue.specs.Entry.{Entry, key_bytes}
 use Rattle.catalogue.specs.Map.{entry_at}
 use Rattle.catalogue.specs.Value.{IsFirstForm, IsCounted, text_by}
 use Rattle.live_set.specs.Loads.{LoadValue, map_of}
-use Rattle.live_set.specs.Languages.{named}
+use Rattle.live_set.specs.LanguageList.{named}
 use Rattle.live_set.specs.declared.query.Ask.{Ask}
 use Rattle.live_set.specs.declared.query.Ask.TheVariants as ask
 use denote.Ref.{Bor}

@@ -3,7 +3,7 @@ use Rattle.std.specs.Prelude.{◌≡◌, ℕ, List, [], ◌∷◌, Option, Some,
 use Rattle.catalogue.specs.Entry.{Entry}
 use Rattle.catalogue.specs.Map.{entry_at}
 use Rattle.live_set.specs.Asks.{has_key}
-use Rattle.live_set.specs.Languages.{members}
+use Rattle.live_set.specs.LanguageList.{members}
 use denote.Ref.{Bor}
 
 -- the first of the members that count, and the rest of the list

@@ -1,7 +1,7 @@
 pub mod Names
 pub mod Loads
 pub mod Laws
-pub mod Languages
+pub mod LanguageList
 pub mod Asks
 pub mod FirstFound
 pub mod Slots

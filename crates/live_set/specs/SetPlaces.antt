@@ -3,7 +3,7 @@
 use Rattle.std.specs.Prelude.{◌≡◌, ℕ, ◌<◌, ◌≤◌, List, length, map, take, slice_get, Some, find, filter_map}
 use Rattle.catalogue.specs.Entry.{Entry}
 use Rattle.live_set.specs.Asks.{first_with, map_with}
-use Rattle.live_set.specs.Languages.{named}
+use Rattle.live_set.specs.LanguageList.{named}
 use Rattle.live_set.specs.Loads.{LoadValue, is_for, map_or_empty}
 use Rattle.live_set.specs.Sets.{map_in}
 use Rattle.live_set.specs.declared.places.Places.{Places}

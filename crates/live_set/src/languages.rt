@@ -3,8 +3,8 @@ ghost use Rattle.std.specs.Prelude.{◌≡◌, ◌<◌, false, true, [], ◌∷�
 ghost use Rattle.std.specs.Prelude.{IfSome};
 ghost use Rattle.std.specs.List.{before_first, list_any};
 ghost use Rattle.catalogue.specs.Entry.{key_bytes};
-ghost use Rattle.live_set.specs.Languages.{is_colon, is_underscore, has_only_territory, translates, language_behind};
-ghost use Rattle.live_set.specs.Languages.{locales_of};
+ghost use Rattle.live_set.specs.LanguageList.{is_colon, is_underscore, has_only_territory, translates, language_behind};
+ghost use Rattle.live_set.specs.LanguageList.{locales_of};
 ghost use Rattle.live_set.specs.Asks.{has_key, maps_named};
 ghost use Rattle.live_set.specs.Names.{IsName};
 ghost use Rattle.live_set.specs.Sets.{map_in};

@@ -4,7 +4,7 @@ ghost use Rattle.catalogue.specs.Entry.{key_bytes};
 ghost use Rattle.catalogue.specs.Map.{entry_at};
 ghost use Rattle.catalogue.specs.Value.{IsTranslatedClosed};
 ghost use Rattle.live_set.specs.FirstFound.{IsFoundIn};
-ghost use Rattle.live_set.specs.Languages.{locales_of};
+ghost use Rattle.live_set.specs.LanguageList.{locales_of};
 ghost use Rattle.live_set.specs.SetPlaces.{IsListed, listed, map_among, map_at, most_places};
 ghost use Rattle.live_set.specs.Placing.{IsExtended, IsPushed};
 

@@ -11,8 +11,8 @@ use Rattle.mo_revisions.specs.declared.fault.AnyMoFault.{AnyMoFault}
 use Rattle.mo_revisions.specs.declared.fault.AnyMoFault.TheVariants.{Mo as OfMo}
 use Rattle.mo_charsets.specs.declared.fault.RecodedFault.{RecodedFault}
 use Rattle.mo_charsets.specs.declared.fault.RecodedFault.TheVariants.{Any, NoCharacter}
-use Rattle.mo_charsets.specs.Recoding.{IsForCharset, IsForeign, NamesCharset}
-use Rattle.mo_charsets.specs.Failing.{FailsForMessages, NamesNoCharset, RefusesRecoded}
+use Rattle.mo_charsets.specs.MoRecoding.{IsForCharset, IsForeign, NamesCharset}
+use Rattle.mo_charsets.specs.MoFailing.{FailsForMessages, NamesNoCharset, RefusesRecoded}
 
 passes_front : (bytes : List ℕ) (fault : MoFault) → 2 < rank fault → rank fault < 12 → AnyRefused bytes (OfMo fault)
     → PassesBelow (file_of bytes) 3
@@ -21,8 +21,10 @@ passes_front bytes fault more known (inr beyond) other lt = (beyond.refused (ome
 
 pub passes_size : (bytes : List ℕ) (fault : AnyMoFault) → IsForCharset fault → AnyRefused bytes fault
     → PassesBelow (file_of bytes) 3
-passes_size bytes fault (inl is) h = passes_front bytes BadText (omega arith) (omega arith) (subst (AnyRefused bytes) is h)
-passes_size bytes fault (inr is) h = passes_front bytes UnknownCharset (omega arith) (omega arith) (subst (AnyRefused bytes) is h)
+passes_size bytes fault (inl is) h =
+    passes_front bytes BadText (omega arith) (omega arith) (subst (AnyRefused bytes) is h)
+passes_size bytes fault (inr is) h =
+    passes_front bytes UnknownCharset (omega arith) (omega arith) (subst (AnyRefused bytes) is h)
 
 -- the messages of the file name no charset
 pub no_charset : (bytes : List ℕ) (messages : List Strings) (strict : AnyMoFault) → HasMessages (file_of bytes) messages

@@ -10,8 +10,8 @@ use Rattle.mo_segments.specs.declared.messages.Strings.{Strings as Held}
 use Rattle.mo_segments.specs.MessageStrings.{Strings, strings_in, strings_of}
 use Rattle.mo_charsets.specs.declared.fault.RecodedFault.{RecodedFault}
 use Rattle.mo_charsets.specs.declared.fault.RecodedFault.TheVariants.{Any, NoCharacter}
-use Rattle.mo_charsets.specs.Recoding.{IsMessageDecoded, AreDecoded}
-use Rattle.mo_charsets.specs.Failing.{FailsForMessage, FailsForMessages}
+use Rattle.mo_charsets.specs.MoRecoding.{IsMessageDecoded, AreDecoded}
+use Rattle.mo_charsets.specs.MoFailing.{FailsForMessage, FailsForMessages}
 
 pub one_fails : (charset : Charset) (messages : List Held) (i : ℕ) (message : Held) (fault : RecodedFault)
     → i < length messages → message ≡ get_or messages i message → FailsForMessage charset (strings_in message) fault
@@ -32,7 +32,8 @@ pub one_more : (charset : Charset) (messages : List Held) (i n : ℕ) (message :
     → AreDecoded charset (strings_of (take n messages)) (strings_of (done ++ decoded ∷ []))
 one_more charset messages i n message done decoded next lt is before h =
     let front : strings_of (take n messages) ≡ strings_of (take i messages) ++ strings_in message ∷ [] =
-    ap (λ (k : ℕ). strings_of (take k messages)) next ∙ ap strings_of (take-suc messages i message lt ∙ ap (λ (m : Held). take i messages ++ m ∷ []) (sym is))
+    ap (λ (k : ℕ). strings_of (take k messages)) next
+    ∙ ap strings_of (take-suc messages i message lt ∙ ap (λ (m : Held). take i messages ++ m ∷ []) (sym is))
     ∙ map-append strings_in (take i messages) (message ∷ []) in
     let back = map-append strings_in done (decoded ∷ []) in
     subst (λ (ms : List Strings). AreDecoded charset ms (strings_of (done ++ decoded ∷ []))) (sym front) (

@@ -1,2 +1,2 @@
-pub mod Recoding
-pub mod Failing
+pub mod MoRecoding
+pub mod MoFailing

@@ -2,8 +2,8 @@
 ghost use Rattle.std.specs.Prelude.{◌≡◌, ◌↔◌, IfOk, IfErr, IsTrue, option_map};
 ghost use Rattle.mo_segments.specs.MessageStrings.{strings_of};
 ghost use Rattle.mo_revisions.specs.Refusing.{AnyRefused};
-ghost use Rattle.mo_charsets.specs.Recoding.{header_of, with_header, AnyCharsetMo, IsForCharset, MeansRecoded};
-ghost use Rattle.mo_charsets.specs.Failing.{AnyCharsetRefused, RefusesRecoded};
+ghost use Rattle.mo_charsets.specs.MoRecoding.{header_of, with_header, AnyCharsetMo, IsForCharset, MeansRecoded};
+ghost use Rattle.mo_charsets.specs.MoFailing.{AnyCharsetRefused, RefusesRecoded};
 
 use crate::fault::RecodedFault;
 use crate::recoding::decode_messages;

@@ -2,8 +2,8 @@
 ghost use Rattle.std.specs.Prelude.{◌≡◌, MatchResult};
 ghost use Rattle.charsets.specs.Decoding.{IsDecoded};
 ghost use Rattle.mo_segments.specs.MessageStrings.{strings_in, strings_of};
-ghost use Rattle.mo_charsets.specs.Recoding.{AreDecoded, IsMessageDecoded};
-ghost use Rattle.mo_charsets.specs.Failing.{FailsToDecode, FailsForMessage, FailsForMessages};
+ghost use Rattle.mo_charsets.specs.MoRecoding.{AreDecoded, IsMessageDecoded};
+ghost use Rattle.mo_charsets.specs.MoFailing.{FailsToDecode, FailsForMessage, FailsForMessages};
 
 use crate::fault::RecodedFault;
 use charsets::{Charset, DecodeFault, decode};

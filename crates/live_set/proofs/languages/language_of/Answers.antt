@@ -1,5 +1,5 @@
 use Rattle.std.proofs.Common.{◌≡◌, ◌∙◌, arith, true, false, MatchOption, List, ℕ, sym, Bor, subst, Option}
-use Rattle.live_set.specs.Languages.{is_underscore, has_only_territory}
+use Rattle.live_set.specs.LanguageList.{is_underscore, has_only_territory}
 use Rattle.std.specs.List.{before_first}
 use Rattle.std.proofs.lemmas.Str.Pattern.{contains_char}
 use Rattle.std.proofs.lemmas.Bool.{true≢false}

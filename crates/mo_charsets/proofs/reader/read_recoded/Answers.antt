@@ -3,7 +3,7 @@ use Rattle.std.proofs.lemmas.Result.{err_from_is_err_and}
 use Rattle.any_charset.specs.Declaring.{NamesNone}
 use Rattle.mo_file.specs.declared.fault.MoFault.TheVariants.{TooLarge, Short}
 use Rattle.mo_segments.specs.MessageStrings.{strings_of}
-use Rattle.mo_charsets.specs.Recoding.{header_of}
+use Rattle.mo_charsets.specs.MoRecoding.{header_of}
 use Rattle.mo_charsets.proofs.Files.{passes_size, no_charset, not_decoded}
 use Rattle.mo_charsets.proofs.reader.read_recoded.Goals as goal
 

@@ -2,7 +2,7 @@ use Rattle.std.proofs.Common.{◌≡◌, Bor, ℕ, List, [], ◌∷◌, ◌++◌
 use Rattle.std.specs.Prelude.{option_map}
 use Rattle.catalogue.specs.Entry.{key_bytes}
 use Rattle.live_set.specs.Asks.{has_key}
-use Rattle.live_set.specs.Languages.{language_behind, locales_of, named}
+use Rattle.live_set.specs.LanguageList.{language_behind, locales_of, named}
 use Rattle.live_set.specs.Sets.{map_in}
 use Rattle.live_set.proofs.Listing.{members_of_name, find_first}
 use Rattle.live_set.proofs.set.CatalogueSet.find_by_hint.Goals as goal

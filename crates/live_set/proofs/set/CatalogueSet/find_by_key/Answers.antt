@@ -1,6 +1,6 @@
 use Rattle.std.proofs.Common.{◌≡◌, ℕ, List, [], ◌∷◌, ◌++◌, Some, map, find, flat_map, sym, ap, subst, ◌∙◌}
 use Rattle.live_set.specs.Asks.{has_key}
-use Rattle.live_set.specs.Languages.{language_behind, locales_of, named}
+use Rattle.live_set.specs.LanguageList.{language_behind, locales_of, named}
 use Rattle.live_set.specs.Sets.{map_in}
 use Rattle.live_set.proofs.Listing.{members_of_name, find_first}
 use Rattle.live_set.proofs.set.CatalogueSet.find_by_key.Goals as goal

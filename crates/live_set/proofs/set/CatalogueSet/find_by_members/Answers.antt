@@ -4,7 +4,7 @@ use Rattle.std.proofs.lemmas.List.{append-nil}
 use Rattle.catalogue.specs.Entry.{Entry}
 use Rattle.catalogue.specs.Map.{entry_at}
 use Rattle.live_set.specs.Asks.{has_key}
-use Rattle.live_set.specs.Languages.{members, language_behind, locales_of, named}
+use Rattle.live_set.specs.LanguageList.{members, language_behind, locales_of, named}
 use Rattle.live_set.specs.Sets.{map_in}
 use Rattle.live_set.proofs.Listing.{only_member, find_next}
 use Rattle.live_set.proofs.set.CatalogueSet.find_by_members.Goals as goal

@@ -1,6 +1,6 @@
 use Rattle.std.proofs.Common.{length}
 use Rattle.std.specs.Str.{IsUtf8}
-use Rattle.live_set.specs.Languages.{named}
+use Rattle.live_set.specs.LanguageList.{named}
 use Rattle.live_set.specs.SetPlaces.{IsListed}
 use Rattle.live_set.specs.Placing.{IsExtended}
 use Rattle.live_set.specs.declared.places.Places.{Places}

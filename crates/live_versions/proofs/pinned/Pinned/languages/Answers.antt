@@ -1,6 +1,6 @@
 use Rattle.std.proofs.Common.{ap, ◌∙◌}
 use Rattle.live_set.specs.Asks.{maps_named}
-use Rattle.live_set.specs.Languages.{named}
+use Rattle.live_set.specs.LanguageList.{named}
 use Rattle.live_set.specs.Sets.{map_in}
 use Rattle.live_loads.specs.Batches.{joined}
 use Rattle.live_versions.specs.Entering.{entry_of}

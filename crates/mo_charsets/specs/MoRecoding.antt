@@ -47,7 +47,8 @@ pub record NamesCharset (messages : List Strings) (charset : Charset) (named : L
 -- the messages, decoded from the charset that their header names
 abbrev pub AreRecoded : List Strings → List Strings → Type 0
 AreRecoded messages recoded =
-    (charset : Charset) × (named : List Strings) × NamesCharset messages charset named × AreDecoded charset named recoded
+    (charset : Charset) × (named : List Strings) × NamesCharset messages charset named
+    × AreDecoded charset named recoded
 
 -- ---- the catalogue
 

@@ -14,7 +14,7 @@ use Rattle.mo_revisions.specs.declared.fault.AnyMoFault.{AnyMoFault}
 use Rattle.mo_revisions.specs.declared.fault.AnyMoFault.TheVariants.{Mo as OfMo}
 use Rattle.mo_charsets.specs.declared.fault.RecodedFault.{RecodedFault}
 use Rattle.mo_charsets.specs.declared.fault.RecodedFault.TheVariants.{Any, NoCharacter}
-use Rattle.mo_charsets.specs.Recoding.{header_of, IsForCharset, IsForeign, NamesCharset, AreRecoded}
+use Rattle.mo_charsets.specs.MoRecoding.{header_of, IsForCharset, IsForeign, NamesCharset, AreRecoded}
 
 -- ---- decoding
 
