@@ -77,8 +77,12 @@ means_the_same() {
 }
 
 # is_explained FILE: GNU's text differs for a reason that docs/reference/msgunfmt.md lists: strings that depend on the
-# system (a file of minor revision 1), or keys and charsets that are refused
+# system (a file of minor revision 1), keys and charsets that are refused, or a charset that is converted
 is_explained() {
+  case $("$gnu" "$1" 2> /dev/null | grep -aom 1 'charset=[^\" ]*') in
+    '' | *[Uu][Tt][Ff]-8) ;;
+    *) [ "$status" = 0 ] && return ;;
+  esac
   [ "$status" = 1 ] && grep -qE ': (unsupported charset|keys out of order|bad text|wrong plural forms)' err && return
   case $(od -An -tx1 -j4 -N4 "$1" | tr -d ' ') in 0100???? | ????0001) return 0 ;; esac
   return 1
@@ -124,8 +128,14 @@ holds 'unfmt, a file that is not there: nothing is written' [ "$(cat kept.po)" =
 says 'unfmt, a PO file' 1 'kob-msgunfmt: layouts.po: not an MO file: name a file that msgfmt has written' layouts.po
 says 'unfmt, an empty file' 1 'kob-msgunfmt: standard input: file too short' < /dev/null
 printf 'msgid ""\nmsgstr "charset=ISO-8859-1\\n"\nmsgid "a"\nmsgstr "\344"\n' > latin.po
-if [ -n "$gnu" ] && "$(dirname "$gnu")/msgfmt" -o latin.mo latin.po 2> gnu-said; then
-  says 'unfmt, another charset' 1 'kob-msgunfmt: latin.mo: bad text: use GNU msgunfmt, and msgconv -t UTF-8 on what it writes' latin.mo
+sed 's/ISO-8859-1/EUC-JP/; s/\xe4/\xa4\xa2/' latin.po > japanese.po
+if [ -n "$gnu" ] && "$(dirname "$gnu")/msgfmt" -o latin.mo latin.po 2> gnu-said &&
+  "$(dirname "$gnu")/msgfmt" -o japanese.mo japanese.po 2> gnu-said && "$gnu" latin.mo | msgconv -t UTF-8 -o utf8.po; then
+  says 'unfmt, ISO-8859-1' 0 '' -o latin-as-utf8.po latin.mo
+  holds 'unfmt, ISO-8859-1: the text in UTF-8, as msgconv writes it' cmp -s utf8.po latin-as-utf8.po
+  says 'unfmt, a charset of several bytes' 1 'kob-msgunfmt: japanese.mo: bad text: use GNU msgunfmt, and msgconv -t UTF-8 on what it writes' japanese.mo
+else
+  skipped 'unfmt, other charsets' 'no GNU msgunfmt'
 fi
 says 'unfmt, a folder for -o' 1 'kob-msgunfmt: cannot write .: Is a directory' -o . layouts.mo
 says 'unfmt, a folder that is not there' 1 'kob-msgunfmt: cannot write no/such.po: No such file or directory' -o no/such.po layouts.mo
