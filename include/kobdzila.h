@@ -250,7 +250,7 @@ kob_set *kob_set_open(const kob_set *set, const char *folder, const char *domain
 
 /* Take another reference to `set` and return it, and drop a reference, as for a catalogue. A set that is borrowed from
  * a reader has no reference count: for it, kob_set_retain returns the set and kob_set_release does nothing, and it
- * becomes invalid when the reader enters again. */
+ * becomes invalid when the reader enters again or leaves. */
 kob_set *kob_set_retain(kob_set *set);
 void kob_set_release(kob_set *set);
 
@@ -285,9 +285,9 @@ typedef struct kob_languages {
 } kob_languages;
 
 /* Resolve a list of languages: find the catalogues that it names. The result is valid as long as `set` is (if it is
- * borrowed from a reader, until the reader enters again), and as long as the bytes of `domain` and `languages` are: a
- * list that names more than 16 catalogues of the set is resolved again at each look-up. This allocates nothing and
- * can't fail. */
+ * borrowed from a reader, until the reader enters again or leaves), and as long as the bytes of `domain` and
+ * `languages` are: a list that names more than 16 catalogues of the set is resolved again at each look-up. This
+ * allocates nothing and can't fail. */
 kob_languages kob_set_languages(const kob_set *set, kob_text domain, kob_text languages);
 
 /* Return what the functions for a set return for its text domain and list of languages. They are faster, since they
@@ -340,7 +340,8 @@ unsigned long long kob_store_version(const kob_store *store);
 /* Return the number of loads that the next publish will show. */
 unsigned long long kob_store_pending(const kob_store *store);
 
-/* Return how many replaced sets are still in memory, because a reader uses them or no publish has freed them yet. */
+/* Free the replaced sets that no reader is in, and return how many are left: those that some reader is in. A publish
+ * frees such sets as well; a reader that leaves one frees nothing, so that it needn't wait for that. */
 size_t kob_store_retained(const kob_store *store);
 
 /* Return a notice of the version that is published now, or NULL if memory runs out. */
@@ -351,13 +352,18 @@ kob_notice *kob_store_notice(const kob_store *store);
 kob_reader *kob_store_reader(const kob_store *store);
 
 /* Enter the newest version, and return its set. The set is borrowed: it and every string from it are valid until this
- * reader enters again or is freed, whatever is published meanwhile. kob_set_retain doesn't keep it longer. Entering
- * allocates nothing and can't fail. A reader's versions never decrease. */
+ * reader enters again, leaves or is freed, whatever is published meanwhile. kob_set_retain doesn't keep it longer.
+ * Entering allocates nothing and can't fail. A reader's versions never decrease. */
 const kob_set *kob_reader_enter(kob_reader *reader);
 
 /* Like kob_reader_enter, but the set is never older than the version of `notice`. Return NULL if the notice is of
  * another store; the set that was entered before then stays valid. */
 const kob_set *kob_reader_enter_after(kob_reader *reader, const kob_notice *notice);
+
+/* Leave the set that was entered last, so that the reader keeps none in memory; to leave twice does nothing. Call it if
+ * the reader may be idle for long. Leaving never blocks, and frees nothing unless the store was freed. Until the reader
+ * enters again, which takes a little longer then, its set is empty. */
+void kob_reader_leave(kob_reader *reader);
 
 /* Return the version that the reader entered last, which is also kob_set_version of its set. */
 unsigned long long kob_reader_version(const kob_reader *reader);

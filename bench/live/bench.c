@@ -77,6 +77,12 @@ static size_t look_set(struct thread *me, unsigned i) {
 
 static size_t look_store(struct thread *me, unsigned i) { return look_in(kob_reader_enter(me->reader), i); }
 
+static size_t look_and_leave(struct thread *me, unsigned i) {
+    size_t found = look_store(me, i);
+    kob_reader_leave(me->reader);
+    return found;
+}
+
 static size_t look_rwlock(struct thread *me, unsigned i) {
     (void)me;
     pthread_rwlock_rdlock(&rwlock);
@@ -150,6 +156,7 @@ struct way {
 static const struct way set_alone = { "kob_set_find", look_set, NULL };
 static const struct way ways[] = {
     { "kob_store", look_store, publish_store },
+    { "and leaving", look_and_leave, publish_store },
     { "pthread_rwlock", look_rwlock, publish_rwlock },
     { "pthread_mutex", look_mutex, publish_mutex },
 #ifdef WITH_URCU

@@ -90,12 +90,13 @@ uint64_t kobdzila_set_hint(const struct held_set *set, const unsigned *places, s
                            const unsigned char *context, size_t context_len, const unsigned char *msgid,
                            size_t msgid_len, uint32_t call);
 
-/* ---- live stores, notices and readers; a reader is a set, that of its version */
+/* ---- live stores, notices and readers; a reader is a set, that of its version, or the empty one once it has left */
 size_t kobdzila_store_size(void);
 void kobdzila_store_open(struct held_store *out);
 void kobdzila_store_load(const unsigned char *domain, size_t domain_len, const unsigned char *locale,
                          size_t locale_len, const struct held_catalogue *catalogue, struct held_store *store);
 void kobdzila_store_publish(struct held_store *store);
+void kobdzila_store_reclaim(struct held_store *store);
 uint64_t kobdzila_store_number(const struct held_store *store, uint32_t which);
 void kobdzila_store_close(struct held_store *store);
 size_t kobdzila_notice_size(void);
@@ -105,6 +106,7 @@ size_t kobdzila_entrance_size(void);
 void kobdzila_store_entrance(const struct held_store *store, struct held_entrance *out);
 void kobdzila_entrance_reader(const struct held_entrance *entrance, struct held_set *out);
 void kobdzila_entrance_close(struct held_entrance *entrance);
+void kobdzila_reader_leave(struct held_set *reader);
 uint32_t kobdzila_reader_is_current(const struct held_set *reader);
 void kobdzila_reader_enter(struct held_set *reader);
 void kobdzila_reader_enter_after(struct held_set *reader, const struct held_notice *notice);

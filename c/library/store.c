@@ -101,7 +101,14 @@ unsigned long long kob_store_version(const kob_store *store) { return number(sto
 
 unsigned long long kob_store_pending(const kob_store *store) { return number(store, PENDING); }
 
-size_t kob_store_retained(const kob_store *store) { return (size_t)number(store, RETAINED); }
+/* (What is freed first is no part of what the store answers.) */
+size_t kob_store_retained(const kob_store *store) {
+    struct held_store *held = lock(store);
+    kobdzila_store_reclaim(held);
+    size_t retained = (size_t)kobdzila_store_number(held, RETAINED);
+    unlock(store);
+    return retained;
+}
 
 kob_notice *kob_store_notice(const kob_store *store) {
     kob_notice *notice = malloc(sizeof *notice + kobdzila_notice_size());
@@ -141,6 +148,8 @@ const kob_set *kob_reader_enter_after(kob_reader *reader, const kob_notice *noti
     kobdzila_reader_enter_after(held_set(&reader->lent), read_notice(notice));
     return kobdzila_set_number(read_set(&reader->lent), FAULT) == KOB_NO_FAULT ? &reader->lent : NULL;
 }
+
+void kob_reader_leave(kob_reader *reader) { kobdzila_reader_leave(held_set(&reader->lent)); }
 
 unsigned long long kob_reader_version(const kob_reader *reader) { return kob_set_version(&reader->lent); }
 

@@ -41,8 +41,8 @@ void __wrap_free(void *block) {
 
 /* ---- the calls */
 
-enum call { NEW, LOAD, PUBLISH, FREE, NOTICE, READER, ENTER, AFTER, END, RETAIN_LENT, RELEASE_LENT, WITH, RETAIN, RELEASE,
-            END_NOTICE, END_CATALOGUE };
+enum call { NEW, LOAD, PUBLISH, FREE, NOTICE, READER, ENTER, AFTER, LEAVE, END, RETAIN_LENT, RELEASE_LENT, WITH, RETAIN,
+            RELEASE, END_NOTICE, END_CATALOGUE };
 
 static const struct step {
     enum call call;
@@ -50,14 +50,15 @@ static const struct step {
 } STEPS[] = {
     { NEW, 0, 0 }, { NEW, 0, 1 }, { LOAD, 0, 0 }, { LOAD, 0, 1 }, { PUBLISH, 0, 0 }, { PUBLISH, 0, 1 }, { FREE, 0, 0 },
     { FREE, 0, 1 }, { NOTICE, 0, 0 }, { NOTICE, 0, 1 }, { READER, 0, 0 }, { READER, 0, 1 }, { READER, 1, 0 },
-    { READER, 1, 1 }, { ENTER, 0, 0 }, { ENTER, 1, 0 }, { AFTER, 0, 0 }, { AFTER, 1, 0 }, { END, 0, 0 }, { END, 1, 0 },
-    { RETAIN_LENT, 0, 0 }, { RETAIN_LENT, 1, 0 }, { RELEASE_LENT, 0, 0 }, { RELEASE_LENT, 1, 0 }, { WITH, 0, 0 },
-    { WITH, 1, 0 }, { RETAIN, 0, 0 }, { RELEASE, 0, 0 }, { END_NOTICE, 0, 0 }, { END_CATALOGUE, 0, 0 },
+    { READER, 1, 1 }, { ENTER, 0, 0 }, { ENTER, 1, 0 }, { AFTER, 0, 0 }, { AFTER, 1, 0 }, { LEAVE, 0, 0 },
+    { LEAVE, 1, 0 }, { END, 0, 0 }, { END, 1, 0 }, { RETAIN_LENT, 0, 0 }, { RETAIN_LENT, 1, 0 },
+    { RELEASE_LENT, 0, 0 }, { RELEASE_LENT, 1, 0 }, { WITH, 0, 0 }, { WITH, 1, 0 }, { RETAIN, 0, 0 }, { RELEASE, 0, 0 },
+    { END_NOTICE, 0, 0 }, { END_CATALOGUE, 0, 0 },
 };
 enum { STEP_COUNT = sizeof STEPS / sizeof *STEPS };
 
-static const char *const NAMES[] = { "new", "load", "publish", "free", "notice", "reader", "enter", "enter after", "end",
-    "retain lent", "release lent", "with", "retain", "release", "end of notice", "end of catalogue" };
+static const char *const NAMES[] = { "new", "load", "publish", "free", "notice", "reader", "enter", "enter after",
+    "leave", "end", "retain lent", "release lent", "with", "retain", "release", "end of notice", "end of catalogue" };
 
 /* ---- the handles, and the model of what they answer: load number J of a store is for the locale lJ */
 
@@ -71,7 +72,9 @@ static struct state {
     struct store stores[2];
     int instances, pending[MOST_CALLS], published[MOST_CALLS]; /* by instance */
     kob_reader *readers[2];
-    int of[2], at[2]; /* the instance of a reader's store, and its version */
+    int of[2], at[2];       /* the instance of a reader's store, and its version */
+    const kob_set *lent[2]; /* the set of a reader, if it has entered */
+    int is_away[2];         /* whether the reader has left */
     kob_set *set;
     int set_holders, set_at;
     kob_notice *notice;
@@ -105,6 +108,7 @@ static int is_possible(const struct step *step) {
     case NOTICE: return store && !now.notice;
     case READER: return store && !reader && (step->reader == 0 || now.readers[0]);
     case ENTER:
+    case LEAVE:
     case END:
     case RETAIN_LENT:
     case RELEASE_LENT: return reader != NULL;
@@ -162,13 +166,22 @@ static void make_reader(int number, const struct store *store) {
     now.readers[number] = kob_store_reader(store->handle);
     now.of[number] = store->instance;
     now.at[number] = now.published[store->instance];
+    now.lent[number] = NULL;
+    now.is_away[number] = 0;
     is("a reader is made", now.readers[number] || was_refused(before));
+}
+
+/* The set that the reader lends, after an entry. */
+static kob_set *lent_by(int number) {
+    now.lent[number] = kob_reader_enter(now.readers[number]);
+    now.at[number] = now.published[now.of[number]];
+    now.is_away[number] = 0;
+    return (kob_set *)now.lent[number];
 }
 
 static void make_set(int number) {
     unsigned long before = requests;
-    const kob_set *lent = kob_reader_enter(now.readers[number]);
-    now.at[number] = now.published[now.of[number]];
+    const kob_set *lent = lent_by(number);
     now.set = kob_set_with(lent, "more", "fr", now.catalogue, NULL);
     now.set_holders = 1;
     now.set_at = now.at[number];
@@ -185,15 +198,11 @@ static void make_notice(const struct store *store) {
 static void enter_after(int number) {
     const kob_set *set = kob_reader_enter_after(now.readers[number], now.notice);
     is("an entry after a notice of its store", (set != NULL) == (now.of[number] == now.notice_of));
-    if (set)
-        now.at[number] = now.published[now.of[number]];
-}
-
-/* The set that the reader lends, without an entry that finds something new. */
-static kob_set *lent_by(int number) {
-    kob_set *lent = (kob_set *)kob_reader_enter(now.readers[number]);
+    if (!set)
+        return;
     now.at[number] = now.published[now.of[number]];
-    return lent;
+    now.lent[number] = set;
+    now.is_away[number] = 0;
 }
 
 static void release_set(void) {
@@ -218,6 +227,7 @@ static void make(const struct step *step) {
     case FREE: kob_store_free(store->handle), store->handle = NULL; break;
     case ENTER: lent_by(step->reader); break;
     case AFTER: enter_after(step->reader); break;
+    case LEAVE: kob_reader_leave(now.readers[step->reader]), now.is_away[step->reader] = 1; break;
     case END: kob_reader_free(now.readers[step->reader]), now.readers[step->reader] = NULL; break;
     case RETAIN_LENT: is("a lent set is itself", kob_set_retain(lent_by(step->reader)) == lent_by(step->reader)); break;
     case RELEASE_LENT: kob_set_release(lent_by(step->reader)); break;
@@ -240,8 +250,10 @@ static void compare(void) {
                    kob_store_pending(store->handle) == (unsigned)now.pending[store->instance]);
         if (now.readers[i]) {
             is("the version of a reader", kob_reader_version(now.readers[i]) == (unsigned)now.at[i]);
-            if (now.at[i] == now.published[now.of[i]])
-                is("what a reader finds", is_at(kob_reader_enter(now.readers[i]), now.at[i]));
+            if (now.is_away[i])
+                is("what a reader that has left finds", !now.lent[i] || is_at(now.lent[i], 0));
+            else if (now.at[i] == now.published[now.of[i]])
+                is("what a reader finds", is_at(lent_by(i), now.at[i]));
         }
     }
     if (now.set)

@@ -203,7 +203,7 @@ static void refusals(void) {
     kob_release(c);
 }
 
-/* A replaced set lasts while a reader has it, and no longer than the publish after that. */
+/* A replaced set lasts while a reader has it, and no longer than the next publish or count after that. */
 static void retained(void) {
     kob_store *store = kob_store_new();
     show(store, "fr", "one");
@@ -211,14 +211,86 @@ static void retained(void) {
     const char *text = kob_set_gettext(kob_reader_enter(reader), "app", "fr", "file");
     for (int i = 0; i < 100; i++)
         show(store, "fr", "two");
-    is("a reader's set is retained", kob_store_retained(store) >= 1 && !strcmp(text, "one"));
-    is("a reader holds one set", kob_store_retained(store) <= 3);
+    is("a reader holds one set", kob_store_retained(store) == 1 && !strcmp(text, "one"));
     long before = blocks;
     kob_reader_enter(reader);
     for (int i = 0; i < 100; i++)
         show(store, "fr", "two");
-    is("a set that nobody has is freed", kob_store_retained(store) <= 2 && blocks <= before);
+    is("a set that nobody has is freed", kob_store_retained(store) == 1 && blocks <= before);
+    kob_reader_enter(reader);
+    is("and without a publish", kob_store_retained(store) == 0 && blocks < before);
     kob_reader_free(reader);
+    kob_store_free(store);
+}
+
+/* A reader that has left holds no set, and its own is empty until it enters again. */
+static void leaving(void) {
+    kob_store *store = kob_store_new();
+    kob_reader *reader = kob_store_reader(store);
+    kob_reader_leave(reader);
+    is("a reader leaves before it enters", kob_reader_version(reader) == 0);
+    show(store, "fr", "one");
+    const kob_set *set = kob_reader_enter(reader);
+    is("it enters the newest", says(set, "fr", "one"));
+    kob_catalogue *c = catalogue_of("zwei", "zweien");
+    for (int times = 0; times < 2; times++) {
+        kob_reader_leave(reader);
+        is("a set that was left is empty", says(set, "fr", "file"));
+        is("its version stays", kob_reader_version(reader) == 1 && kob_set_version(set) == 1);
+        kob_languages list = kob_set_languages(set, (kob_text){ "app", 3 }, (kob_text){ "fr:de", 5 });
+        is("so are its lists", !strcmp(kob_languages_gettext(&list, "file"), "file"));
+        kob_set *more = kob_set_with(set, "app", "de", c, NULL);
+        is("a set is made of it", says(more, "de", "zwei") && says(more, "fr", "file") && kob_set_version(more) == 1);
+        kob_set_release(more);
+    }
+    is("it enters the same again", says(kob_reader_enter(reader), "fr", "one"));
+    kob_reader_leave(reader);
+    show(store, "fr", "two");
+    kob_notice *notice = kob_store_notice(store);
+    is("what it left was freed", kob_store_retained(store) == 0);
+    is("it enters a newer one", says(kob_reader_enter(reader), "fr", "two") && kob_reader_version(reader) == 2);
+    kob_reader_leave(reader);
+    show(store, "fr", "three");
+    is("it enters after a notice", says(kob_reader_enter_after(reader, notice), "fr", "three"));
+    kob_reader_leave(reader);
+    kob_store *other = kob_store_new();
+    kob_notice *strange = kob_store_notice(other);
+    is("not after a strange one", !kob_reader_enter_after(reader, strange) && kob_reader_version(reader) == 3);
+    kob_store_free(other);
+    kob_store_free(store);
+    is("nor with the store", says(kob_reader_enter(reader), "fr", "three"));
+    kob_reader_leave(reader);
+    kob_reader_free(reader);
+    kob_notice_free(notice);
+    kob_notice_free(strange);
+    kob_release(c);
+}
+
+/* Readers in different versions, which all leave: the memory of these versions is back at the next count. */
+static void all_left(void) {
+    enum { COUNT = 20 };
+    kob_reader *readers[COUNT];
+    kob_store *store = kob_store_new();
+    for (int i = 0; i < COUNT; i++)
+        readers[i] = kob_store_reader(store);
+    for (int i = 0; i < COUNT; i++) {
+        show(store, "fr", "one");
+        is("an entry in each", says(kob_reader_enter(readers[i]), "fr", "one"));
+    }
+    show(store, "fr", "two");
+    is("each version is retained", kob_store_retained(store) == COUNT);
+    long before = blocks;
+    for (int i = 0; i < COUNT; i++) {
+        kob_reader_leave(readers[i]);
+        is("a reader that leaves frees nothing", blocks == before);
+    }
+    is("none is retained", kob_store_retained(store) == 0 && blocks < before - COUNT);
+    before = blocks;
+    for (int i = 0; i < COUNT; i++)
+        is("each enters the newest", says(kob_reader_enter(readers[i]), "fr", "two"));
+    is("that takes no memory", blocks == before && kob_store_retained(store) == 0);
+    for (int i = 0; i < COUNT; i++)
+        kob_reader_free(readers[i]);
     kob_store_free(store);
 }
 
@@ -355,6 +427,8 @@ static void calls(void) {
     notices();
     refusals();
     retained();
+    leaving();
+    all_left();
     lent_sets();
     orders();
     many_readers();
@@ -444,7 +518,9 @@ static int enter(void) {
     const kob_set *set = kob_reader_enter(given_reader);
     int is_right = says(set, "fr", "one") && kob_set_version(set) == kob_reader_version(given_reader) &&
                    kob_store_version(given) > 0 && kob_store_retained(given) < 9;
-    is("an entry, look-ups and numbers allocate nothing", requests == 0);
+    kob_reader_leave(given_reader);
+    is_right = is_right && says(kob_reader_enter(given_reader), "fr", "one");
+    is("an entry, leaving, look-ups and numbers allocate nothing", requests == 0);
     return is_right;
 }
 

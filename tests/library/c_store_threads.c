@@ -9,8 +9,8 @@
  * Each request for memory whose number is a multiple of EACH is refused, and what failed is done again. Each catalogue
  * has one text, the number of its publish. What the readers check: a version never falls, both texts are of one
  * publish, it is the publish that the version says, and it isn't older than one that they know of. A quarter of them
- * makes readers anew all the time, a quarter stays in its entries, and a quarter is given notices. Signals stop all of
- * them for some milliseconds, wherever they are. A publisher that is stopped goes on once each reader has entered: none
+ * makes readers anew all the time, a quarter stays in its entries, and a quarter is given notices. Each fifth entry of
+ * any of them ends with leaving. Signals stop all of them for some milliseconds, wherever they are. A publisher that is stopped goes on once each reader has entered: none
  * may wait for it.
  *
  * It prints what is wrong, and nothing else; with VERBOSE=1 also what was done. */
@@ -183,6 +183,15 @@ static void look(struct asking *me, const kob_set *set, unsigned long long versi
         fault("the version of a set", kob_set_version(set), version);
 }
 
+/* A reader that has left keeps its version's number, and finds nothing. */
+static void leave(struct asking *me, const kob_set *set, unsigned long long version) {
+    kob_reader_leave(me->reader);
+    if (kob_reader_version(me->reader) != version)
+        fault("leaving changes the version", kob_reader_version(me->reader), version);
+    if (number_in(set, "app", "a"))
+        fault("a text of a set that was left", number_in(set, "app", "a"), 0);
+}
+
 static void ask_once(struct asking *me) {
     unsigned long long least;
     const kob_set *set = enter(me, &least);
@@ -199,6 +208,8 @@ static void ask_once(struct asking *me) {
         pause_for(300000);
         look(me, set, version);
     }
+    if (me->entries % 5 == 0)
+        leave(me, set, version);
     if (me->kind == ANEW && me->entries % 64 == 0) {
         kob_reader_free(me->reader);
         me->reader = new_reader();
@@ -317,7 +328,7 @@ static void one(unsigned long publishes) {
         fault("blocks in use", (unsigned long long)after.blocks, (unsigned long long)before.blocks);
     if (after.bytes > before.bytes + 65536)
         fault("bytes in use", (unsigned long long)after.bytes, (unsigned long long)before.bytes);
-    if (most_retained > 2 * READERS + 64)
+    if (most_retained > 2 * READERS) /* (a reader has one, and may be copying another one) */
         fault("sets are retained", most_retained, 2 * READERS);
     end(stopping);
     if (getenv("VERBOSE")) {
@@ -374,6 +385,8 @@ static void *ask_several(void *arg) {
         }
         if (++me->entries == 1)
             atomic_fetch_add(&arrived, 1);
+        if (me->entries % 5 == 0)
+            kob_reader_leave(me->reader);
         if (me->entries % 64 == 0 && me->kind == ANEW) {
             kob_reader_free(me->reader);
             me->reader = new_reader();
@@ -529,6 +542,10 @@ int main(int argc, char **argv) {
     else
         stopped(publishes);
     each = 0;
+    for (int i = 0; i < count_of_readers; i++)
+        kob_reader_leave(asking[i].reader);
+    if (kob_store_retained(store))
+        fault("sets are retained though all readers left", kob_store_retained(store), 0);
     kob_store_free(store);
     for (int i = 0; i < count_of_readers; i++)
         kob_reader_free(asking[i].reader);

@@ -10,7 +10,7 @@ use Rattle.live_loads.proofs.Looking.{searched}
 use Rattle.kobdzila_c.specs.Answering.{IsClosedAnswer, Question, key_of}
 use Rattle.kobdzila_c.specs.Making.{IsAnswerFrom, IsAnswerIn, IsAnswerOver, set_in}
 use Rattle.kobdzila_c.specs.declared.sets.Origin.{Origin}
-use Rattle.kobdzila_c.specs.declared.sets.Origin.TheVariants.{Made, Lent, Refused}
+use Rattle.kobdzila_c.specs.declared.sets.Origin.TheVariants.{Made, Lent, Left, Refused}
 use Rattle.mo_image.specs.Entry.{Entry}
 
 same_map : (loads : List LoadValue) (domain languages : List ℕ) (q : Question)
@@ -32,4 +32,5 @@ pub answered_from : (origin : Origin) (domain languages : List ℕ) (q : Questio
     → IsAnswerFrom origin domain languages q text
 answered_from (Made set) domain languages q text h = h
 answered_from (Lent reader) domain languages q text h = answered_over (joined reader.batches) domain languages q text h
+answered_from (Left reader set) domain languages q text h = h
 answered_from Refused domain languages q text h = h

@@ -14,7 +14,7 @@ use Rattle.live_loads.specs.Seen.{SeenValue}
 use Rattle.kobdzila_c.specs.declared.opened.Opened.{Opened}
 use Rattle.kobdzila_c.specs.declared.sets.HeldSet.{HeldSet}
 use Rattle.kobdzila_c.specs.declared.sets.Origin.{Origin}
-use Rattle.kobdzila_c.specs.declared.sets.Origin.TheVariants.{Made, Lent, Refused}
+use Rattle.kobdzila_c.specs.declared.sets.Origin.TheVariants.{Made, Lent, Left, Refused}
 use Rattle.kobdzila_c.specs.Answering.{IsClosedAnswer, Question, key_of}
 use Rattle.kobdzila_c.specs.Numbers.{no_fault, memory_fault, name_fault, the_fault, the_version}
 
@@ -23,16 +23,28 @@ abbrev pub name_number : NameFault → ℕ
 name_number BadName = name_fault
 name_number Memory = memory_fault
 
--- the set that was made, or that of the version that the reader entered last; none if it was refused
+-- the set that was made, or that of the version that the reader is in, or that of one that left; none if it was refused
 abbrev pub set_in : Origin → Option SetValue
 set_in (Made set) = Some set
 set_in (Lent reader) = Some (fold (joined reader.batches))
+set_in (Left reader set) = Some set
 set_in Refused = None
 
--- the reader that lends the set
+-- the reader that lends the set of the version that it is in
 abbrev pub reader_in : Origin → Option SeenValue
 reader_in (Lent reader) = Some reader
 reader_in _ = None
+
+-- the reader that left; it has seen the version that it left
+abbrev pub left_in : Origin → Option SeenValue
+left_in (Left reader set) = Some reader
+left_in _ = None
+
+-- the reader, wherever it is
+abbrev pub any_reader_in : Origin → Option SeenValue
+any_reader_in (Lent reader) = Some reader
+any_reader_in (Left reader set) = Some reader
+any_reader_in _ = None
 
 -- no set, for this reason
 pub record IsWithout (fault : ℕ) (s : HeldSet) : Type 0 where
@@ -78,10 +90,12 @@ abbrev pub IsWith : HeldSet → List ℕ → List ℕ → Opened → HeldSet →
 IsWith old domain locale opened new = MatchOption (set_in old.origin) (IsWithout old.fault new)
     (λ set. IsWithSet set domain locale opened new)
 
--- how many maps were added to a set that was made, or how many loads are published in the reader's version
+-- how many maps were added to a set that was made, or how many loads are published in the version that the reader
+-- entered last
 abbrev pub version_in : Origin → ℕ
 version_in (Made set) = set.version
 version_in (Lent reader) = version_of reader.batches
+version_in (Left reader set) = version_of reader.batches
 version_in Refused = 0
 
 -- a number of a set: why it was refused, or why its reader's last call failed, and its version
@@ -110,10 +124,12 @@ pub record IsAnswerOver (loads : List LoadValue) (domain languages : List ℕ) (
   pub no_domain : ¬ IsUtf8 domain → text ≡ []
   pub no_languages : ¬ IsUtf8 languages → text ≡ []
 
--- the answer in a set that was made, or over the loads that are published in the reader's version
+-- the answer in a set that was made or that of a reader that left, or over the loads that are published in the version
+-- that the reader is in
 abbrev pub IsAnswerFrom : Origin → List ℕ → List ℕ → Question → List ℕ → Type 0
 IsAnswerFrom (Made set) domain languages q text = IsAnswerIn set domain languages q text
 IsAnswerFrom (Lent reader) domain languages q text = IsAnswerOver (joined reader.batches) domain languages q text
+IsAnswerFrom (Left reader set) domain languages q text = IsAnswerIn set domain languages q text
 IsAnswerFrom Refused domain languages q text = text ≡ []
 
 -- the answer to a question to a set that C holds

@@ -3,6 +3,7 @@ use Rattle.std.specs.Prelude.{◌≡◌, ◌≢◌, ◌⊎◌, ⊤, ℕ, List, [
 use Rattle.std.specs.Option.{option_map, option_map_or}
 use Rattle.std.specs.Arc.{arc_value}
 use Rattle.mo_image.specs.Entry.{Entry}
+use Rattle.live_set.specs.Sets.{no_loads}
 use Rattle.live_loads.specs.Batches.{StartsWith, published, version_of}
 use Rattle.live_loads.specs.Seen.{SeenValue}
 use Rattle.live_loads.specs.Store.{StoreValue, AddsLoad}
@@ -16,7 +17,9 @@ use Rattle.kobdzila_c.specs.declared.sets.HeldSet.{HeldSet}
 use Rattle.kobdzila_c.specs.declared.stores.HeldStore.{HeldStore}
 use Rattle.kobdzila_c.specs.declared.stores.HeldNotice.{HeldNotice}
 use Rattle.kobdzila_c.specs.declared.stores.HeldEntrance.{HeldEntrance}
-use Rattle.kobdzila_c.specs.Making.{IsWithout, reader_in}
+use Rattle.kobdzila_c.specs.declared.sets.Origin.{Origin}
+use Rattle.kobdzila_c.specs.declared.sets.Origin.TheVariants.{Left}
+use Rattle.kobdzila_c.specs.Making.{IsWithout, any_reader_in, left_in, reader_in}
 use Rattle.kobdzila_c.specs.Numbers.{no_fault, memory_fault, name_fault, busy_fault, spent_fault}
 use Rattle.kobdzila_c.specs.Numbers.{the_fault, the_version, the_pending}
 
@@ -76,6 +79,10 @@ abbrev pub IsPublished : HeldStore → HeldStore → Type 0
 IsPublished before after = MatchOption before.publisher ((after.publisher ≡ None) × (after.fault ≡ memory_fault))
     (λ old. IsPublishedIn old after)
 
+-- what freeing replaced versions does to the store: nothing
+abbrev pub IsReclaimed : HeldStore → HeldStore → Type 0
+IsReclaimed before after = after ≡ before
+
 abbrev pub store_version : Option StoreValue → ℕ
 store_version s = option_map_or (λ p. version_of p.seen.batches) s 0
 
@@ -109,14 +116,33 @@ IsReaderFrom entrance reader = MatchOption (reader_in reader.origin) (IsWithout 
 abbrev pub IsLater : SeenValue → HeldSet → Type 0
 IsLater r after = MatchOption (reader_in after.origin) ⊥ (λ r'. (r'.book ≡ r.book) × StartsWith r'.batches r.batches)
 
+-- the reader is still out, and has seen the same version or a later one of the same store
+abbrev pub IsStillOut : SeenValue → HeldSet → Type 0
+IsStillOut r after = MatchOption (left_in after.origin) ⊥ (λ r'. (r'.book ≡ r.book) × StartsWith r'.batches r.batches)
+
+-- a reader that left is in the version that it left or in a later one; if it is told to be busy, it is still out
+abbrev pub IsBack : SeenValue → HeldSet → Type 0
+IsBack r after = (IsLater r after × (after.fault ≡ no_fault)) ⊎ (IsStillOut r after × (after.fault ≡ busy_fault))
+
 -- what an entry does to the reader; without a reader, nothing
 abbrev pub IsEntered : HeldSet → HeldSet → Type 0
-IsEntered before after = MatchOption (reader_in before.origin) (after ≡ before)
+IsEntered before after = MatchOption (reader_in before.origin)
+    (MatchOption (left_in before.origin) (after ≡ before) (λ r. IsBack r after))
     (λ r. IsLater r after × (after.fault ≡ no_fault))
+
+-- the reader keeps what it has seen, and its set is empty
+abbrev pub HasLeft : SeenValue → Origin → Type 0
+HasLeft r (Left r' set) = (r' ≡ r) × (set ≡ no_loads)
+HasLeft r _ = ⊥
+
+-- what leaving does to the reader; without a reader, nothing
+abbrev pub IsLeft : HeldSet → HeldSet → Type 0
+IsLeft before after = MatchOption (any_reader_in before.origin) (after ≡ before)
+    (λ r. HasLeft r after.origin × (after.fault ≡ no_fault))
 
 -- the reader and the notice are of one store
 abbrev pub AreOfOne : HeldSet → HeldNotice → Type 0
-AreOfOne reader notice = MatchOption (reader_in reader.origin) ⊤
+AreOfOne reader notice = MatchOption (any_reader_in reader.origin) ⊤
     (λ r. MatchOption notice.notice ⊤ (λ n. n.book ≡ r.book))
 
 -- the reader is in a version that isn't older than the notice; if it is told to be busy, it is where it was
@@ -124,7 +150,17 @@ abbrev pub IsAfter : SeenValue → SeenValue → HeldSet → Type 0
 IsAfter r n after = MatchOption (reader_in after.origin) ⊥
     (λ r'. ((after.fault ≡ no_fault) × StartsWith r'.batches n.batches) ⊎ ((after.fault ≡ busy_fault) × (r' ≡ r)))
 
+-- a reader that left is in a version that isn't older than the notice; if it is told to be busy, it is still out
+abbrev pub IsBackAfter : SeenValue → SeenValue → HeldSet → Type 0
+IsBackAfter r n after = IsBack r after × (after.fault ≡ no_fault → MatchOption (reader_in after.origin) ⊥
+    (λ r'. StartsWith r'.batches n.batches))
+
+-- what an entry after a notice does to a reader that left; without one, nothing
+abbrev pub IsOutEnteredAfter : HeldSet → HeldNotice → HeldSet → Type 0
+IsOutEnteredAfter before notice after = MatchOption (left_in before.origin) (after ≡ before)
+    (λ r. MatchOption notice.notice (IsBack r after) (λ n. IsBackAfter r n after))
+
 -- what an entry after a notice does to the reader; without a reader, nothing
 abbrev pub IsEnteredAfter : HeldSet → HeldNotice → HeldSet → Type 0
-IsEnteredAfter before notice after = MatchOption (reader_in before.origin) (after ≡ before) (λ r. IsLater r after
-    × MatchOption notice.notice (after.fault ≡ no_fault) (λ n. IsAfter r n after))
+IsEnteredAfter before notice after = MatchOption (reader_in before.origin) (IsOutEnteredAfter before notice after)
+    (λ r. IsLater r after × MatchOption notice.notice (after.fault ≡ no_fault) (λ n. IsAfter r n after))

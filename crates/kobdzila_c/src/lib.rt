@@ -29,6 +29,7 @@ ghost use Rattle.kobdzila_c.specs.Storing.{AreOfOne, IsEntered, IsEnteredAfter, 
 ghost use Rattle.kobdzila_c.specs.contracts.stores.HeldEntrance.{the_row as entrance_row};
 ghost use Rattle.kobdzila_c.specs.declared.stores.HeldEntrance.{HeldEntrance as AnEntrance};
 ghost use Rattle.kobdzila_c.specs.Storing.{IsEntranceOf, IsPublished, IsReaderFrom, IsStoreNumber};
+ghost use Rattle.kobdzila_c.specs.Storing.{IsLeft, IsReclaimed};
 ghost use Rattle.live_set.specs.contracts.places.Places.{the_row as places_row};
 ghost use Rattle.kobdzila_c.specs.NamedPlaces.{AreSetPlaces};
 ghost use Rattle.kobdzila_c.specs.Shared.{places_at, set_answered_at};
@@ -439,8 +440,18 @@ pub unsafe extern "C" fn kobdzila_store_publish(alloc: Global, held: *mut Opaque
     (held as *mut HeldStore).write(stores::publish(alloc, (held as *mut HeldStore).read()));
 }
 
+/// Frees the replaced versions of the store at `held` that no reader has. The store is as it was.
+#[unsafe(no_mangle)]
+pub unsafe extern "C" fn kobdzila_store_reclaim(held: *mut OpaqueStore)
+    ghost value: { AStore }
+    requires* { sem 𝓛 (holds_store held value) }
+    ensures* { sem 𝓛 (store_at held (IsReclaimed value)) }
+{
+    (held as *mut HeldStore).write(stores::reclaim((held as *mut HeldStore).read()));
+}
+
 /// A number (`numbers`) of the store at `held`: the `FAULT` of the last call, its `VERSION`, which is how many loads
-/// are published, how many are `PENDING`, or how many replaced versions a reader may still have (`RETAINED`).
+/// are published, how many are `PENDING`, or how many replaced versions aren't freed (`RETAINED`).
 #[unsafe(no_mangle)]
 pub unsafe extern "C" fn kobdzila_store_number(held: *const OpaqueStore, which: u32) -> u64
     ghost g: { Lft × Share × AStore }
@@ -520,6 +531,16 @@ pub unsafe extern "C" fn kobdzila_reader_is_current(held: *const OpaqueSet) -> u
     ensures* { sem 𝓛 (flft g.0 g.1) ∗ ⌜ result ≤ 1 ⌝ }
 {
     stores::is_current(&*(held as *const HeldSet))
+}
+
+/// The reader at `held` leaves its version, so that it keeps none alive. Its set is empty until it enters again.
+#[unsafe(no_mangle)]
+pub unsafe extern "C" fn kobdzila_reader_leave(alloc: Global, held: *mut OpaqueSet)
+    ghost value: { ASet }
+    requires* { sem 𝓛 (holds_set held value) }
+    ensures* { sem 𝓛 (set_at held (IsLeft value)) }
+{
+    (held as *mut HeldSet).write(stores::leave(alloc, (held as *mut HeldSet).read()));
 }
 
 /// The reader at `held` enters the newest version of its store.

@@ -1,5 +1,5 @@
 //! Sets of catalogues as C holds them. A set never changes: adding a catalogue makes a new set. A reader of a live
-//! store is the set of the version that it entered last.
+//! store is the set of the version that it entered last, or the empty set once it has left.
 ghost use Rattle.std.specs.Prelude.{◌≡◌, ◌↔◌, IfOk, IsTrue, option_map};
 ghost use Rattle.std.specs.Arc.{arc_value};
 ghost use Rattle.live_set.specs.Names.{IsName};
@@ -13,7 +13,7 @@ use crate::answers::{context_in, number_in};
 use crate::numbers::{BAD_NAME, FAULT, MEMORY, NO_FAULT, VERSION};
 use catalogue::Catalogue;
 use live_set::{CatalogueSet, Load, Name, NameFault, is_name};
-use snapshot_store::Reader;
+use snapshot_store::{Away, Reader};
 use std::alloc::Global;
 use std::str::from_utf8;
 use std::sync::Arc;
@@ -25,6 +25,8 @@ pub enum Origin {
     Made(CatalogueSet),
     /// It is that of the version that this reader entered last.
     Lent(Reader),
+    /// It is empty, since its reader left.
+    Left(Away, CatalogueSet),
     /// There is none.
     Refused,
 }
@@ -45,6 +47,7 @@ pub(crate) fn set_of(held: &HeldSet) -> Option<&CatalogueSet>
     match &held.origin {
         Origin::Made(set) => Some(set),
         Origin::Lent(reader) => Some(reader.set()),
+        Origin::Left(_, set) => Some(set),
         Origin::Refused => None,
     }
 }
@@ -192,14 +195,15 @@ pub(crate) fn close_set(held: HeldSet) {
     drop(held);
 }
 
-/// How many catalogues were added to the set, replaced ones included: in a reader's version, how many loads are
-/// published.
+/// How many catalogues were added to the set, replaced ones included: in the version that a reader entered last, how
+/// many loads are published.
 fn version(held: &HeldSet) -> u64
     ensures { result ≡ version_in held.now.origin }
 {
     match &held.origin {
         Origin::Made(set) => set.version(),
         Origin::Lent(reader) => reader.version(),
+        Origin::Left(away, _) => away.version(),
         Origin::Refused => 0,
     }
 }

@@ -3,12 +3,13 @@ ghost use Rattle.std.specs.Prelude.{◌≡◌, ◌≤◌, Some, None, IfErr, OnE
 ghost use Rattle.std.specs.Arc.{arc_value};
 ghost use Rattle.live_loads.specs.Store.{AddsLoad};
 ghost use Rattle.snapshot_store.specs.Holding.{IsRefusedShared};
-ghost use Rattle.kobdzila_c.specs.Numbers.{memory_fault, no_fault};
-ghost use Rattle.kobdzila_c.specs.Storing.{AreOfOne, IsAfter, IsEntered, IsEnteredAfter, IsLater, IsLoadIn, IsLoaded};
+ghost use Rattle.kobdzila_c.specs.Numbers.{busy_fault, memory_fault, no_fault};
+ghost use Rattle.kobdzila_c.specs.Storing.{AreOfOne, IsAfter, IsBack, IsBackAfter, IsEntered, IsEnteredAfter, IsLater};
+ghost use Rattle.kobdzila_c.specs.Storing.{HasLeft, IsLeft, IsLoadIn, IsLoaded, IsReclaimed};
 ghost use Rattle.kobdzila_c.specs.Storing.{IsEntranceOf, IsNewStore, IsNoticeOf, IsPublished, IsPublishedIn};
 ghost use Rattle.kobdzila_c.specs.Storing.{IsReaderFrom, IsStoreNumber, load_number, publish_number};
 ghost use Rattle.kobdzila_c.specs.Storing.{store_pending, store_version};
-ghost use Rattle.kobdzila_c.specs.declared.sets.Origin.TheVariants.{Lent};
+ghost use Rattle.kobdzila_c.specs.declared.sets.Origin.TheVariants.{Left, Lent};
 
 use crate::Opened;
 use crate::numbers::{
@@ -17,7 +18,8 @@ use crate::numbers::{
 use crate::sets::{HeldSet, Origin, without};
 use catalogue::Catalogue;
 use live_loads::StoreFault;
-use snapshot_store::{Entrance, Notice, PublishFault, Publisher, Reader, open_store};
+use live_set::CatalogueSet;
+use snapshot_store::{Away, Entrance, Notice, PublishFault, Publisher, Reader, open_store};
 use std::alloc::Global;
 use std::str::from_utf8;
 use std::sync::Arc;
@@ -181,6 +183,27 @@ pub(crate) fn publish(alloc: Global, store: HeldStore) -> HeldStore
     }
 }
 
+fn reclaimed(mut publisher: Publisher, fault: u32) -> HeldStore
+    ensures { (result.publisher ≡ Some publisher) × (result.fault ≡ fault) }
+{
+    publisher.reclaim();
+    store_of(publisher, fault)
+}
+
+/// Frees the replaced versions that no reader has.
+pub(crate) fn reclaim(store: HeldStore) -> HeldStore
+    ensures { IsReclaimed store result }
+{
+    let HeldStore { publisher, fault } = store;
+    match publisher {
+        Some(publisher) => reclaimed(publisher, fault),
+        None => HeldStore {
+            publisher: None,
+            fault,
+        },
+    }
+}
+
 /// The number of loads that are published.
 fn version(store: &HeldStore) -> u64
     ensures { result ≡ store_version store.now.publisher }
@@ -201,7 +224,7 @@ fn pending(store: &HeldStore) -> u64
     }
 }
 
-/// The number of replaced versions that a reader may still have.
+/// The number of replaced versions that aren't freed.
 fn retained(store: &HeldStore) -> u64 {
     match &store.publisher {
         Some(publisher) => publisher.retained() as u64,
@@ -210,7 +233,7 @@ fn retained(store: &HeldStore) -> u64 {
 }
 
 /// A number of a store: the `FAULT` of the last call, its `VERSION`, which is how many loads are published, how many
-/// are `PENDING`, or how many replaced versions a reader may still have (`RETAINED`).
+/// are `PENDING`, or how many replaced versions aren't freed (`RETAINED`).
 pub(crate) fn store_number(store: &HeldStore, which: u32) -> u64
     ensures { IsStoreNumber store.now which result }
 {
@@ -294,6 +317,25 @@ fn entered(mut reader: Reader) -> HeldSet
     reader_of(reader, NO_FAULT)
 }
 
+/// A reader that left and couldn't enter.
+fn still_out(away: Away, set: CatalogueSet) -> HeldSet
+    ensures { (result.origin ≡ Left away set) × (result.fault ≡ busy_fault) }
+{
+    HeldSet {
+        origin: Origin::Left(away, set),
+        fault: BUSY,
+    }
+}
+
+fn back(away: Away, set: CatalogueSet) -> HeldSet
+    ensures { IsBack away result }
+{
+    match away.enter() {
+        Ok(reader) => reader_of(reader, NO_FAULT),
+        Err(away) => still_out(away, set),
+    }
+}
+
 /// Enters the newest version.
 pub(crate) fn enter(held: HeldSet) -> HeldSet
     ensures { IsEntered held result }
@@ -301,6 +343,28 @@ pub(crate) fn enter(held: HeldSet) -> HeldSet
     let HeldSet { origin, fault } = held;
     match origin {
         Origin::Lent(reader) => entered(reader),
+        Origin::Left(away, set) => back(away, set),
+        origin => HeldSet { origin, fault },
+    }
+}
+
+fn left(alloc: Global, away: Away) -> HeldSet
+    ensures { HasLeft away result.origin × (result.fault ≡ no_fault) }
+{
+    HeldSet {
+        origin: Origin::Left(away, CatalogueSet::new(alloc)),
+        fault: NO_FAULT,
+    }
+}
+
+/// Leaves the version that was entered last.
+pub(crate) fn leave(alloc: Global, held: HeldSet) -> HeldSet
+    ensures { IsLeft held result }
+{
+    let HeldSet { origin, fault } = held;
+    match origin {
+        Origin::Lent(reader) => left(alloc, reader.leave()),
+        Origin::Left(away, _) => left(alloc, away),
         origin => HeldSet { origin, fault },
     }
 }
@@ -317,6 +381,16 @@ fn entered_after(mut reader: Reader, notice: &Notice) -> HeldSet
     }
 }
 
+fn back_after(away: Away, set: CatalogueSet, notice: &Notice) -> HeldSet
+    requires { notice.now.book ≡ away.book }
+    ensures { IsBackAfter away notice.now result }
+{
+    match away.enter_after(notice) {
+        Ok(reader) => reader_of(reader, NO_FAULT),
+        Err(away) => still_out(away, set),
+    }
+}
+
 /// Enters the newest version, which isn't older than the notice.
 pub(crate) fn enter_after(held: HeldSet, notice: &HeldNotice) -> HeldSet
     requires { AreOfOne held notice.now }
@@ -327,6 +401,10 @@ pub(crate) fn enter_after(held: HeldSet, notice: &HeldNotice) -> HeldSet
         Origin::Lent(reader) => match &notice.notice {
             Some(notice) => entered_after(reader, notice),
             None => entered(reader),
+        },
+        Origin::Left(away, set) => match &notice.notice {
+            Some(notice) => back_after(away, set, notice),
+            None => back(away, set),
         },
         origin => HeldSet { origin, fault },
     }
