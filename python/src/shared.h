@@ -46,8 +46,7 @@ struct shared *shared_of(PyObject *store);
 /* Drop a reference; NULL does nothing. */
 void drop_shared(struct shared *shared);
 
-/* Return a reader that nobody else has, or NULL if memory runs out. give_back ends its use: a reader that waits for the
- * next snapshot keeps no replaced catalogues, so the next publish frees them. */
+/* Return a reader that nobody else has, or NULL if memory runs out. give_back ends its use: it leaves its version. */
 kob_reader *take_reader(struct shared *shared);
 void give_back(struct shared *shared, kob_reader *reader);
 

@@ -1,8 +1,9 @@
 /* The live store of libkobdzila as a Python type, and what it shares with its snapshots, which are in snapshot.c.
  *
  * A snapshot has a reader of its own as long as it is open, since a reader's answers are valid until its next entry.
- * Readers that no snapshot has are kept for the next one, so a snapshot allocates nothing in the library. Look-ups hold
- * the interpreter's lock; loads and publishes release it. */
+ * Readers that no snapshot has are kept for the next one, so a snapshot allocates nothing in the library; they have left
+ * their version, so they keep no catalogues. Look-ups and new readers, which wait for nobody, hold the interpreter's
+ * lock; loads and publishes release it. */
 #include "shared.h"
 
 #include <string.h>
@@ -105,13 +106,7 @@ void drop_shared(struct shared *shared) {
 }
 
 kob_reader *take_reader(struct shared *shared) {
-    if (shared->idle_count)
-        return shared->idle[--shared->idle_count];
-    kob_reader *reader;
-    BEGIN_CALLS(shared)
-    reader = kob_store_reader(shared->store);
-    END_CALLS(shared)
-    return reader;
+    return shared->idle_count ? shared->idle[--shared->idle_count] : kob_store_reader(shared->store);
 }
 
 /* Keep the notice of a publish, unless a later one was kept meanwhile. */
@@ -134,15 +129,8 @@ void give_back(struct shared *shared, kob_reader *reader) {
         kob_reader_free(reader);
         return;
     }
-    if (kob_reader_version(reader) < shared->noticed)
-        enter(shared, reader);
+    kob_reader_leave(reader);
     shared->idle[shared->idle_count++] = reader;
-}
-
-/* Let the idle readers enter, so that they keep no replaced catalogues. */
-static void refresh_idle(struct shared *shared) {
-    for (size_t k = 0; k < shared->idle_count; k++)
-        enter(shared, shared->idle[k]);
 }
 
 static struct texts *new_texts(unsigned long long version, PyObject *domain, PyObject *languages) {
@@ -296,11 +284,11 @@ static PyObject *store_publish(PyObject *object, PyObject *unused) {
         return NULL;
     }
     keep_notice(shared, notice, version);
-    refresh_idle(shared);
     return PyLong_FromUnsignedLongLong(version);
 }
 
-/* Return a number of the store. Another thread may hold the store's lock, so the interpreter's is released. */
+/* Return a number of the store. Another thread may hold the store's lock, and `retained` frees catalogues, so the
+ * interpreter's lock is released. */
 static PyObject *number_from(PyObject *object, unsigned long long (*number)(const kob_store *)) {
     struct shared *shared = store_of(object)->shared;
     unsigned long long value;

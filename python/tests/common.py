@@ -1,6 +1,7 @@
 """What the tests share: threads, memory, and calls in which memory is refused."""
 from __future__ import annotations
 
+import ctypes
 import gc
 import importlib
 import os
@@ -35,6 +36,21 @@ def resident() -> int:
     return int(Path("/proc/self/statm").read_text().split()[1]) * resource.getpagesize()
 
 
+class MallocNumbers(ctypes.Structure):
+    """What the C library's mallinfo2 returns, by the names of its manual page."""
+
+    _fields_ = [(name, ctypes.c_size_t) for name in (
+        "arena", "ordblks", "smblks", "hblks", "hblkhd", "usmblks", "fsmblks", "uordblks", "fordblks", "keepcost")]
+
+
+def allocated() -> int:
+    """The bytes that malloc has given out and that aren't freed. (Freed memory may stay with the process.)"""
+    ask = ctypes.CDLL(None).mallinfo2
+    ask.restype = MallocNumbers
+    numbers = ask()
+    return int(numbers.uordblks + numbers.hblkhd)
+
+
 def assert_no_leak(test: unittest.TestCase, round_of: Callable[[int], None], count: int) -> None:
     """Rounds, with their numbers, leave no memory."""
     for number in range(2_000):
@@ -65,3 +81,5 @@ def failures_of(test: unittest.TestCase, is_well: Callable[[], bool], most: int)
 
 needs_testcapi = unittest.skipIf(_testcapi is None, "this Python has no _testcapi")
 needs_freed_memory = unittest.skipIf(SANITIZED, "AddressSanitizer keeps freed memory for a while")
+HAS_MALLINFO = not SANITIZED and hasattr(ctypes.CDLL(None), "mallinfo2")
+needs_mallinfo = unittest.skipUnless(HAS_MALLINFO, "malloc isn't that of glibc 2.33 or later, which has mallinfo2")

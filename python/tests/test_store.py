@@ -17,7 +17,8 @@ from collections.abc import Callable
 from typing import Any
 
 import kobdzila
-from common import OPENS, SANITIZED, assert_no_leak, failures_of, in_threads, needs_freed_memory, needs_testcapi
+from common import OPENS, SANITIZED, assert_no_leak, failures_of, in_threads
+from common import allocated, needs_freed_memory, needs_mallinfo, needs_testcapi
 from kobdzila import Catalogue, Fault, Refused, Store
 from kobdzila import accepted
 from kobdzila._languages import answer_of, names_of
@@ -248,24 +249,43 @@ class SnapshotTest(unittest.TestCase):
                 store.snapshot("fr").gettext("a")
                 store.load("shop", "fr", text_of(a=f"a{number}"))
                 store.publish()
-            self.assertLess(store.retained, 5)
+                self.assertEqual(store.retained, 1)
+            self.assertEqual(store.retained, 0)
         many = []
         for number in range(200):
             many.append(store.snapshot("fr"))
             store.load("shop", "fr", text_of(a=f"a{number}"))
             store.publish()
-        self.assertGreater(store.retained, 100)
+        self.assertEqual(store.retained, 200)
         for texts in many:
             texts.close()
-        store.load("shop", "fr", text_of(a="a199"))
-        store.publish()
-        self.assertEqual(store.retained, 1)  # (the one that was just replaced)
+        self.assertEqual(store.retained, 0)
         kept = store.snapshot("fr")
         for _ in range(3):
             store.load("shop", "fr", text_of(a="last"))
             store.publish()
-        self.assertGreater(store.retained, 0)
-        self.assertEqual(kept.gettext("a"), "a199")
+        self.assertEqual((store.retained, kept.gettext("a")), (1, "a199"))
+
+    @needs_mallinfo
+    def test_memory_of_closed_snapshots(self) -> None:
+        """Once the snapshots of 20 versions are closed, a look at the store frees all of their memory."""
+        store = Store("shop")
+        large = b"".join(b'msgid "m%d"\nmsgstr "%0200d"\n\n' % (number, number) for number in range(10000))
+        store.load("shop", "fr", large)
+        store.publish()
+        before = allocated()
+        many = []
+        for _ in range(20):
+            store.load("shop", "fr", large)
+            store.publish()
+            many.append(store.snapshot("fr"))
+        store.load("shop", "fr", large)
+        store.publish()
+        self.assertGreater(allocated() - before, 20 * len(large) // 2)
+        for texts in many:
+            texts.close()
+        self.assertEqual(store.retained, 0)
+        self.assertLess(allocated() - before, len(large) // 2)
 
     def test_at_least(self) -> None:
         store = store_with(("shop", "fr", text_of(a="a1")))

@@ -15,6 +15,7 @@ from typing import Any
 from unittest import mock
 
 import kobdzila
+from common import allocated, needs_mallinfo
 from kobdzila import Catalogue, Fault, FileRefused, Store, Watch
 
 END_OF_PROCESS = """
@@ -227,6 +228,22 @@ class WatchTest(unittest.TestCase):
         self.assertEqual((self.store.version, len(self.refused), self.text()), (1, 1, "f"))
         self.put(self.path("fr"), po("g"))
         self.assertEqual((watch.look(), self.text()), (2, "g"))
+
+    @needs_mallinfo
+    def test_memory(self) -> None:
+        """A watch frees a replaced version once its last snapshot is closed, though nothing is published."""
+        text = b'msgid "m%d"\nmsgstr "%01000d"\n\n'
+        self.store.load("shop", "fr", b"".join(text % (number, number) for number in range(10000)))
+        self.store.publish()
+        self.watch()
+        texts = self.store.snapshot("fr")
+        self.store.load("shop", "fr", po("f1"))
+        self.store.publish()
+        before = allocated()
+        time.sleep(0.2)
+        self.assertGreater(allocated(), before - 1_000_000)
+        texts.close()
+        self.until(lambda: allocated() < before - 9_000_000)
 
     def test_no_file(self) -> None:
         """A folder that can't be read, or a link to nothing, changes nothing."""

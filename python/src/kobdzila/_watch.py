@@ -140,6 +140,7 @@ class Watch(Closing):
         while not self._end.wait(self._every):
             try:
                 self.look()
+                getattr(self.store, "retained", 0)  # (this frees what no snapshot has any more)
             except Exception:
                 LOG.exception("a look at %s failed, and is made again", self.folder)
 
