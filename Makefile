@@ -32,6 +32,10 @@
 # valgrind; tests/lib/needs installs what is missing if it can, otherwise that part is skipped. A release needs git, gcc
 # and binutils, and `make deb` debhelper. With cargo the crate for Rust is checked, and `make dist` packs it as well.
 # STATIC= installs the programs that use the shared C library.
+#
+# MACHINE=aarch64 builds, installs and packs for that machine, into build/aarch64 (tools/machine): it needs Debian's
+# gcc-aarch64-linux-gnu and libc6-dev-arm64-cross. The libraries in Rattle are proved once for all machines, and what is
+# compiled from them for each.
 
 PREFIX = /usr/local
 DESTDIR =
@@ -39,8 +43,13 @@ PROGRAM_PREFIX =
 DOCUMENTS = $(PROGRAM_PREFIX)kobdzila
 libdir = $(PREFIX)/lib
 LIBDIR = $(libdir)
-STATIC = build/static
-STRIP = strip
+MACHINE =
+export MACHINE
+BUILD := $(shell MACHINE=$(MACHINE) tools/machine build)
+BIN := $(shell MACHINE=$(MACHINE) tools/machine bin)
+$(if $(BIN),,$(error there is nothing for this machine))
+STATIC = $(BUILD)/static
+STRIP := $(shell MACHINE=$(MACHINE) tools/machine prefix)strip
 N = 7
 SECONDS = 600
 RT = rt
@@ -92,7 +101,7 @@ compiled_examples:
 	  echo "build/examples/$$name.mo: $$(wc -c < build/examples/$$name.mo) bytes, compiled from examples/$$name.po"; \
 	done
 
-$(PROGRAMS:%=bin/%):
+$(PROGRAMS:%=$(BIN)/%):
 	@tools/build $(@F)
 
 driver:
@@ -119,10 +128,10 @@ bench: programs
 dist:
 	@tools/dist
 
-build/lib/libkobdzila.a:
+$(BUILD)/lib/libkobdzila.a:
 	@tools/build library
 
-wheel: build/lib/libkobdzila.a
+wheel: $(BUILD)/lib/libkobdzila.a
 	@tools/wheel
 
 sign:
@@ -144,18 +153,18 @@ completions = tools/completion/write
 to = $(DESTDIR)
 strip = ! command -v $(STRIP) > /dev/null || $(STRIP)
 
-install: $(PROGRAMS:%=bin/%)
+install: $(PROGRAMS:%=$(BIN)/%)
 	install -d "$(to)$(docdir)/reference"
 	install -m 644 docs/reference/*.md "$(to)$(docdir)/reference"
 	for name in $(PROGRAMS); do $(MAKE) -s install_program NAME=$$name || exit 1; done
-	if [ -f bin/$(DRIVER) ]; then $(MAKE) -s install_program NAME=$(DRIVER); fi
-	for name in $(KEPT_NAMES); do [ ! -f bin/$$name ] || $(MAKE) -s install_kept NAME=$$name || exit 1; done
-	if [ -f build/lib/$(SHARED) ]; then $(MAKE) -s install_library; fi
+	if [ -f $(BIN)/$(DRIVER) ]; then $(MAKE) -s install_program NAME=$(DRIVER); fi
+	for name in $(KEPT_NAMES); do [ ! -f $(BIN)/$$name ] || $(MAKE) -s install_kept NAME=$$name || exit 1; done
+	if [ -f $(BUILD)/lib/$(SHARED) ]; then $(MAKE) -s install_library; fi
 
 # one program, $(NAME), with its page and its completions
 install_program:
 	install -d "$(to)$(bindir)" "$(to)$(mandir)/man1"
-	made=$(STATIC)/$(NAME); [ -n "$(STATIC)" ] && [ -x $$made ] || made=bin/$(NAME); \
+	made=$(STATIC)/$(NAME); [ -n "$(STATIC)" ] && [ -x $$made ] || made=$(BIN)/$(NAME); \
 	install -m 755 $$made "$(to)$(bindir)/$(PROGRAM_PREFIX)$(NAME)"
 	$(strip) "$(to)$(bindir)/$(PROGRAM_PREFIX)$(NAME)"
 	$(page) docs/man/$(NAME).1 > "$(to)$(mandir)/man1/$(PROGRAM_PREFIX)$(NAME).1"
@@ -166,7 +175,7 @@ install_program:
 # a program, $(NAME), whose name has no further prefix
 install_kept:
 	install -d "$(to)$(bindir)" "$(to)$(mandir)/man1"
-	install -m 755 bin/$(NAME) "$(to)$(bindir)/$(NAME)"
+	install -m 755 $(BIN)/$(NAME) "$(to)$(bindir)/$(NAME)"
 	$(strip) "$(to)$(bindir)/$(NAME)"
 	$(page) docs/man/$(NAME).1 > "$(to)$(mandir)/man1/$(NAME).1"
 	chmod 644 "$(to)$(mandir)/man1/$(NAME).1"
@@ -182,11 +191,11 @@ install_completions:
 
 install_library:
 	install -d "$(to)$(LIBDIR)/pkgconfig" "$(to)$(preloaddir)" "$(to)$(includedir)" "$(to)$(mandir)/man3"
-	install -m 644 build/lib/libkobdzila.a "$(to)$(LIBDIR)/libkobdzila.a"
+	install -m 644 $(BUILD)/lib/libkobdzila.a "$(to)$(LIBDIR)/libkobdzila.a"
 	$(strip) --strip-debug "$(to)$(LIBDIR)/libkobdzila.a"
-	install -m 755 build/lib/$(SHARED) "$(to)$(LIBDIR)/$(SHARED)"
+	install -m 755 $(BUILD)/lib/$(SHARED) "$(to)$(LIBDIR)/$(SHARED)"
 	ln -sf $(SHARED) "$(to)$(LIBDIR)/libkobdzila.so"
-	install -m 755 build/lib/$(PRELOADED) "$(to)$(preloaddir)/$(PRELOADED)"
+	install -m 755 $(BUILD)/lib/$(PRELOADED) "$(to)$(preloaddir)/$(PRELOADED)"
 	$(strip) --strip-unneeded "$(to)$(LIBDIR)/$(SHARED)" "$(to)$(preloaddir)/$(PRELOADED)"
 	install -m 644 include/kobdzila.h "$(to)$(includedir)/kobdzila.h"
 	sed -e 's|@PREFIX@|$(PREFIX)|g' -e 's|@LIBDIR@|$(LIBDIR:$(PREFIX)/%=$${prefix}/%)|g' -e 's|@VERSION@|$(version)|' \

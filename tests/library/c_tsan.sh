@@ -51,6 +51,14 @@ rm -f build/tsan.a
 
 # its functions are given the attribute by which clang adds its checks
 "$clang" --no-default-config -x ir "$room/module.bc" -S -emit-llvm -O0 -Xclang -disable-llvm-passes -o "$room/plain.ll"
+# (x86-64 gives a step more order than it asks for, and so ThreadSanitizer doesn't see it as other machines would)
+steps=$(grep -E '^ .* (load|store) atomic |^ .*\b(cmpxchg|atomicrmw|fence) ' "$room/plain.ll")
+weak=$(grep -vE ' seq_cst(,| seq_cst,|$)' <<< "$steps")
+if [ -n "$steps" ] && [ -z "$weak" ]; then
+  ok "$name: each of $(wc -l <<< "$steps") atomic steps is sequentially consistent for the compiler"
+else
+  failed "$name: each atomic step is sequentially consistent for the compiler" "${weak:-there is none}"
+fi
 sed -E 's/^(attributes #[0-9]+ = \{ )/\1sanitize_thread /' "$room/plain.ll" > "$room/module.ll"
 "$clang" --no-default-config --target="$(uname -m)-unknown-linux-gnu" -fsanitize=thread -x ir "$room/module.ll" -c -O2 \
   -fPIC -o "$room/module.o" 2> "$room/log" || { failed "$name" "$(head -n 2 "$room/log")" && exit 1; }
@@ -63,7 +71,7 @@ void *__tsan_memset(void *to, int byte, size_t len) { return memset(to, byte, le
 END
 cc -O2 -c -o "$room/names.o" "$room/names.c"
 compiles "$name" races tests/library/c_store_threads.c -Ic/library -fsanitize=thread c/library/kobdzila.c c/library/output.c c/library/set.c c/library/store.c c/library/file_bytes.c \
-  c/library/memory.c "$room/module.o" "$room/names.o" "$kit/c/liblibc_c.a" -Wl,--wrap=malloc,--wrap=realloc,--wrap=free || exit 1
+  c/library/memory.c c/machine/heap.c "$room/module.o" "$room/names.o" -Wl,--wrap=malloc,--wrap=realloc,--wrap=free || exit 1
 if ! nm "$room/module.o" | grep -q 'U __tsan_atomic'; then
   failed "$name" 'the proved part has no checks'
   exit 1

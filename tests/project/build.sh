@@ -6,8 +6,9 @@ no_program=1
 
 top=$room/top
 mkdir -p "$top/tools" "$top/crates" "$room/kit"
-cp -r tools/build Makefile examples "$top"
-mv "$top/build" "$top/tools/build"
+cp -r Makefile examples "$top"
+cp tools/{build,machine,over_gate,hardening,machine_archive} "$top/tools"
+cp -r c "$top"
 echo 'Handles allowed: none.' > "$top/HANDLES"
 cat > "$top/crates.txt" << 'END'
 # -- what a program needs, lowest first
@@ -110,6 +111,37 @@ build
 tell 'an edit makes anew what needs it, and not msgfmt' test -n "$(noted 'ends catserve_program')" -a -z "$(noted 'begins msgfmt')"
 build perl
 tell 'an unknown target is refused' stops_with 1 'usage: tools/build'
+
+# for another machine: the compiler and binutils only pretend, too
+MACHINE=vax build
+tell 'an unknown machine is refused' stops_with 1 'MACHINE is vax, and not x86_64 or aarch64'
+MACHINE=aarch64 build
+tell 'another machine needs its compiler' stops_with 1 'there is no .*/no-compiler with binutils'
+mkdir -p "$room/kit/bin" "$room/cross"
+for it in gcc objcopy ar; do
+  printf '#!/bin/sh\nfor to; do [ "$last" != -o ] || : > "$to"; last=$to; done\n' > "$room/cross/aarch64-linux-gnu-$it"
+done
+cat > "$room/kit/bin/rattle" << 'END'
+#!/bin/sh
+echo "compiles $*" >> "$NOTES"
+while [ "$1" != -o ]; do shift; done
+: > "$2"
+echo 'logic=proved target=aarch64-unknown-linux-gnu' >&2
+END
+chmod +x "$room"/cross/* "$room/kit/bin/rattle"
+plain=$PATH compiler=$CC
+export MACHINE=aarch64 PATH=$room/cross:$PATH CC=
+build catsession
+compiled=$(sed -n 's/^compiles build --crate-name \([a-z]*\) .* --target \([^ ]*\) .*/\1 for \2/p' "$NOTES")
+tell 'for another machine only the crate of the program is compiled' \
+  test "$status $compiled" = '0 catsession for aarch64-unknown-linux-gnu'
+tell 'and no library is proved once more' test -z "$(noted 'proves shared')$(noted 'proves low')"
+tell 'its verdict is kept' grep -q target=aarch64 "$top/build/aarch64/proved/catsession.o.verdict"
+tell 'what was built is in its folder' test -e "$top/build/aarch64/bin/catsession" -a -e "$top/build/aarch64/static/catsession"
+build catsession
+tell 'and it is built once' stops_with 0 'catsession: nothing to do'
+unset MACHINE
+PATH=$plain CC=$compiler
 
 echo '// more' >> "$top/crates/low/src/lib.rt"
 : > "$NOTES"

@@ -95,11 +95,11 @@ cp -r c include tools crates.txt VERSION "$room/tree"
 export CC=$room/cc
 "$room/tree/tools/build_driver" > "$room/log" 2>&1
 compiled 'msgfmt-or-gnu is compiled with the flags'
-if ! command -v python3 > /dev/null || ! tests/lib/needs objcopy binutils || ! command -v ${RT:-rt} > /dev/null; then
-  skipped 'hardening: the static programs are compiled with the flags' 'no python3, no objcopy or no toolchain'
+if ! command -v python3 > /dev/null || ! tests/lib/needs ar binutils; then
+  skipped 'hardening: the static programs are compiled with the flags' 'no python3, or no ar'
 else
   python3 -B -c 'import importlib.machinery, sys
-importlib.machinery.SourceFileLoader("build", sys.argv[1]).load_module().archives_to_link()' "$room/tree/tools/build" > "$room/log" 2>&1
+importlib.machinery.SourceFileLoader("build", sys.argv[1]).load_module().machine_archive()' "$room/tree/tools/build" > "$room/log" 2>&1
   compiled 'the static programs are compiled with the flags'
 fi
 if [ -f crates/kobdzila_c/out/libkobdzila_c.a ]; then
