@@ -11,7 +11,7 @@ built here: the proved part needs its own compiler. On another kind of machine K
 has a libkobdzila.a.
 
 CC names the C compiler if it isn't cc, and CFLAGS adds to its options. KOBDZILA_BUILD is the build folder if it isn't
-build/ of the repository.
+build/ of the repository. MACHINE names another machine to build the wheel for (tools/machine).
 """
 from __future__ import annotations
 
@@ -20,7 +20,6 @@ import gzip
 import hashlib
 import io
 import os
-import platform
 import re
 import shlex
 import subprocess
@@ -40,8 +39,6 @@ except ImportError:  # (Python 3.10)
 
 HERE = Path(__file__).resolve().parent
 TOP = HERE if (HERE / "PKG-INFO").is_file() else HERE.parent  # (of a source distribution, or of the repository)
-BUILD = Path(os.environ.get("KOBDZILA_BUILD", TOP / "build"))
-BUNDLED = HERE / "lib" / platform.machine()  # (in a source distribution)
 VERSION = (TOP / "VERSION").read_text(encoding="utf-8").strip()
 LEAST_GLIBC = 17  # no Linux that runs Python 3.10 has an older one than 2.17
 FLAGS = ("-std=c11", "-O2", "-fPIC", "-Wall", "-Wextra", "-Werror", "-fvisibility=hidden")
@@ -49,8 +46,8 @@ LINKED = ("-shared", "-Wl,--exclude-libs,ALL", "-Wl,-z,text", "-Wl,-z,relro", "-
 OF_PACKAGE = (".py", ".pyi", ".typed")  # the endings of its files
 # (outside of python/: files, and folders of services)
 OUTSIDE = (
-    "VERSION", "include/kobdzila.h", "tools/hardening", "tools/completion/words", "tools/completion/write",
-    "docs/man/kob-fleet.1", "packaging/systemd",
+    "VERSION", "include/kobdzila.h", "tools/hardening", "tools/machine", "tools/completion/words",
+    "tools/completion/write", "docs/man/kob-fleet.1", "packaging/systemd",
 )
 # where the completions of kob-fleet belong below the prefix of an installation
 COMPLETIONS = {
@@ -74,27 +71,54 @@ def run(*command: str) -> str:
 # --- what is built of ------------------------------------------------------------------------------------------------
 
 
+def of_machine(what: str) -> str:
+    """Return what depends on the machine that is built for, by its name in tools/machine."""
+    return run("sh", str(TOP / "tools/machine"), what).strip()
+
+
+def build_folder() -> Path:
+    """Return the folder of what was built for that machine."""
+    return Path(os.environ.get("KOBDZILA_BUILD", TOP / of_machine("build")))
+
+
+def bundled() -> Path:
+    """Return the folder of a source distribution with what was built for that machine."""
+    return HERE / "lib" / of_machine("machine")
+
+
 def library() -> Path:
     """Return the path of libkobdzila.a: that of KOBDZILA_LIB_DIR, the one that was built, or that of the distribution."""
     named = os.environ.get("KOBDZILA_LIB_DIR")
-    places = [Path(named)] if named else [BUILD / "lib", BUNDLED]
+    places = [Path(named)] if named else [build_folder() / "lib", bundled()]
     for place in places:
         if (place / "libkobdzila.a").is_file():
             return place.resolve() / "libkobdzila.a"
     if named:
         raise Trouble(f"KOBDZILA_LIB_DIR is {named}, which has no libkobdzila.a")
     if TOP != HERE:
-        raise Trouble(f"there is no {BUILD / 'lib' / 'libkobdzila.a'}: make library builds it")
+        raise Trouble(f"there is no {build_folder() / 'lib' / 'libkobdzila.a'}: make library builds it")
     raise Trouble(
-        f"this source distribution has no libkobdzila for {platform.machine()}: set KOBDZILA_LIB_DIR to the folder that "
-        "has libkobdzila.a, such as `lib` of an unpacked release"
+        f"this source distribution has no libkobdzila for {of_machine('machine')}: set KOBDZILA_LIB_DIR to the folder "
+        "that has libkobdzila.a, such as `lib` of an unpacked release"
     )
 
 
 def catsession() -> Path | None:
     """Return the path of the program that Session starts, or None if it isn't there."""
-    found = [it for it in (BUILD / "static" / "catsession", BUNDLED / "catsession") if it.is_file()]
+    found = [it for it in (build_folder() / "static" / "catsession", bundled() / "catsession") if it.is_file()]
     return found[0] if found else None
+
+
+def configuration(headers: Path, room: Path) -> list[str]:
+    """Return the flags by which each compiler finds Python's pyconfig.h. Debian has one for each machine, in a folder of its
+    name, where a compiler for another machine or for musl doesn't look. That of this machine serves, since the sizes in it
+    are the same (python/src/module.h compares them)."""
+    own = Path("/usr/include", f"{os.uname().machine}-linux-gnu", headers.name, "pyconfig.h")
+    found = Path(room, f"{of_machine('machine')}-linux-gnu", headers.name, "pyconfig.h")
+    if own.is_file():
+        found.parent.mkdir(parents=True)
+        found.symlink_to(own)
+    return [f"-I{room}"]
 
 
 def compile_extension(to: Path, *more: str) -> None:
@@ -102,19 +126,20 @@ def compile_extension(to: Path, *more: str) -> None:
     archive, headers = library(), Path(sysconfig.get_path("include"))
     if not (headers / "Python.h").is_file():
         raise Trouble(f"there is no Python.h in {headers}: Debian has it in python3-dev")
-    compiler = shlex.split(os.environ.get("CC", "cc"))
+    compiler = shlex.split(of_machine("cc"))
     hardened = run("sh", str(TOP / "tools/hardening"), *compiler).split()
     # (the names of the sources, which an error message may have, are those of the repository)
     flags = [*FLAGS, *hardened, f"-ffile-prefix-map={HERE}=./python", *shlex.split(os.environ.get("CFLAGS", "")), *more]
-    run(*compiler, *flags, f"-I{TOP / 'include'}", f"-I{headers}",
+    run(*compiler, *flags, f"-I{TOP / 'include'}", f"-I{headers}", *configuration(headers, to.parent),
         *map(str, sorted((HERE / "src").glob("*.c"))), str(archive), *LINKED, "-o", str(to))
 
 
 def tag_of(extension: Path) -> str:
-    """Return the wheel's tag, with the version of the C library that the extension needs."""
-    needed = re.findall(r"\(GLIBC_2\.(\d+)", run("objdump", "-T", str(extension)))
-    glibc = max([LEAST_GLIBC, *map(int, needed)])
-    return f"cp310-abi3-manylinux_2_{glibc}_{platform.machine()}"
+    """Return the wheel's tag, with the version of the C library that the extension needs: none of glibc's if it was compiled
+    for musl, whose tag has the version of PEP 656."""
+    needed = re.findall(r"\(GLIBC_2\.(\d+)", run(f"{of_machine('prefix')}objdump", "-T", str(extension)))
+    c_library = f"manylinux_2_{max([LEAST_GLIBC, *map(int, needed)])}" if needed else "musllinux_1_2"
+    return f"cp310-abi3-{c_library}_{of_machine('machine')}"
 
 
 def manual_page() -> str:
@@ -165,7 +190,7 @@ def members(extension: bytes, tag: str) -> dict[str, bytes]:
     program = catsession()
     if program:
         with tempfile.TemporaryDirectory() as room:
-            run("strip", "-o", f"{room}/catsession", str(program))
+            run(f"{of_machine('prefix')}strip", "-o", f"{room}/catsession", str(program))
             files["kobdzila/bin/catsession"] = Path(room, "catsession").read_bytes()
     info, shared = f"kobdzila-{VERSION}.dist-info", f"kobdzila-{VERSION}.data/data/share"
     files[f"{info}/METADATA"] = metadata()
@@ -207,7 +232,7 @@ def build_wheel(wheel_directory: str, config_settings: object = None, metadata_d
     with tempfile.TemporaryDirectory() as room:
         extension = Path(room, "_kobdzila.abi3.so")
         compile_extension(extension)
-        run("strip", "--strip-unneeded", str(extension))
+        run(f"{of_machine('prefix')}strip", "--strip-unneeded", str(extension))
         tag = tag_of(extension)
         files = members(extension.read_bytes(), tag)
     name = f"kobdzila-{VERSION}-{tag}.whl"
@@ -238,10 +263,11 @@ def sources() -> dict[str, bytes]:
         for path in [TOP / name, *(TOP / name).glob("*.service")]:
             if path.is_file():
                 paths[path.relative_to(TOP).as_posix()] = path
-    paths[f"lib/{platform.machine()}/libkobdzila.a"] = library()
+    machine = of_machine("machine")
+    paths[f"lib/{machine}/libkobdzila.a"] = library()
     program = catsession()
     if program:
-        paths[f"lib/{platform.machine()}/catsession"] = program
+        paths[f"lib/{machine}/catsession"] = program
     return {"PKG-INFO": metadata(), **{name: path.read_bytes() for name, path in paths.items()}}
 
 
@@ -253,7 +279,7 @@ def build_sdist(sdist_directory: str, config_settings: object = None) -> str:
         for name, data in sorted(sources().items()):
             member = tarfile.TarInfo(f"{room}/{name}")
             member.size, member.mtime = len(data), made()
-            member.mode = 0o755 if name.endswith(("/hardening", "/write", "/catsession")) else 0o644
+            member.mode = 0o755 if name.endswith(("/hardening", "/machine", "/write", "/catsession")) else 0o644
             archive.addfile(member, io.BytesIO(data))
     Path(sdist_directory).mkdir(parents=True, exist_ok=True)
     Path(sdist_directory, f"{room}.tar.gz").write_bytes(packed.getvalue())
@@ -262,8 +288,8 @@ def build_sdist(sdist_directory: str, config_settings: object = None) -> str:
 
 def main(words: list[str]) -> int:
     build = build_sdist if "--sdist" in words else build_wheel
-    folder = next((it for it in words if it != "--sdist"), str(BUILD / "dist"))
     try:
+        folder = next((it for it in words if it != "--sdist"), str(build_folder() / "dist"))
         name = build(folder)
     except Trouble as trouble:
         print(f"tools/wheel: {trouble}", file=sys.stderr)

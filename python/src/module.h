@@ -4,6 +4,11 @@
 
 #include "answers.h"
 
+/* (Python's pyconfig.h may be that of the machine on which this is compiled for another one) */
+_Static_assert(SIZEOF_VOID_P == sizeof(void *) && SIZEOF_SIZE_T == sizeof(size_t) && SIZEOF_LONG == sizeof(long) &&
+                   SIZEOF_LONG_LONG == sizeof(long long) && SIZEOF_WCHAR_T == sizeof(wchar_t),
+               "pyconfig.h is that of a machine with other sizes");
+
 /* ------------------------------------------------------------------------------------------------ arguments */
 
 /* The arguments of a function: its name for messages, their names, and how many must be given. */
