@@ -1,5 +1,6 @@
 -- What follows for a file that is refused for its charset, and why it is refused further on.
 use Rattle.std.proofs.Common.{ℕ, ◌<◌, List, subst, arith, inl, inr, refl}
+use Rattle.std.specs.Prelude.{Result, Ok, Err, IfErr}
 use Rattle.charsets.specs.declared.kinds.Charset.{Charset}
 use Rattle.mo_file.specs.MoReading.{file_of, rank, PassesBelow}
 use Rattle.mo_file.specs.declared.fault.MoFault.{MoFault}
@@ -12,7 +13,7 @@ use Rattle.mo_revisions.specs.declared.fault.AnyMoFault.TheVariants.{Mo as OfMo}
 use Rattle.mo_charsets.specs.declared.fault.RecodedFault.{RecodedFault}
 use Rattle.mo_charsets.specs.declared.fault.RecodedFault.TheVariants.{Any, NoCharacter}
 use Rattle.mo_charsets.specs.MoRecoding.{IsForCharset, IsForeign, NamesCharset}
-use Rattle.mo_charsets.specs.MoFailing.{FailsForMessages, NamesNoCharset, RefusesRecoded}
+use Rattle.mo_charsets.specs.MoFailing.{AnyCharsetRefused, FailsForMessages, NamesNoCharset, RefusesRecoded}
 
 passes_front : (bytes : List ℕ) (fault : MoFault) → 2 < rank fault → rank fault < 12 → AnyRefused bytes (OfMo fault)
     → PassesBelow (file_of bytes) 3
@@ -45,3 +46,10 @@ not_decoded bytes messages named charset strict NoCharacter foreign has names la
   lacks = lacks;
 }
 not_decoded bytes messages named charset strict (Any fault) foreign has names memory = inl (let e = memory in cc e)
+
+-- the file is in another charset, and is refused for that
+pub foreign_fails : {X : Type 0} (bytes : List ℕ) (strict : AnyMoFault) (r : Result X RecodedFault)
+    → IsForCharset strict → AnyRefused bytes strict → IfErr r (RefusesRecoded bytes strict)
+    → IfErr r (AnyCharsetRefused bytes)
+foreign_fails bytes strict (Ok x) is refused h = tt
+foreign_fails bytes strict (Err fault) is refused h = inr (strict, is, refused, h)
