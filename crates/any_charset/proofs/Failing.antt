@@ -3,17 +3,15 @@ use Rattle.std.proofs.Common.{◌≡◌, ℕ, List, inl}
 use Rattle.po_checks.specs.declared.options.Options.{Options}
 use Rattle.charsets.specs.declared.kinds.Charset.{Charset}
 use Rattle.any_charset.specs.Declaring.{Declares}
-use Rattle.any_charset.specs.Recoding.{IsForeign, RefusesAny}
+use Rattle.any_charset.specs.Recoding.{CannotRecode, IsForeign, RefusesAny}
 use Rattle.any_charset.specs.Renaming.{FailsToDecode}
 use Rattle.any_charset.specs.declared.fault.TextFault.{TextFault}
 use Rattle.any_charset.specs.declared.fault.TextFault.TheVariants.{Load, NoCharacter}
 
-pub failed : (text : List ℕ) (options : Options) (charset : Charset) (renamed : List ℕ) (fault : TextFault)
-    → IsForeign text options → Declares text charset renamed → FailsToDecode charset renamed fault
-    → RefusesAny text options fault
-failed text options charset renamed (Load fault) foreign declares h = inl h
-failed text options charset renamed (NoCharacter line) foreign declares (at, first, is) = record {
-  foreign = foreign;
+pub undecoded : (text : List ℕ) (charset : Charset) (renamed : List ℕ) (fault : TextFault)
+    → Declares text charset renamed → FailsToDecode charset renamed fault → CannotRecode text fault
+undecoded text charset renamed (Load fault) declares h = h
+undecoded text charset renamed (NoCharacter line) declares (at, first, is) = record {
   charset = charset;
   renamed = renamed;
   declares = declares;
@@ -21,3 +19,8 @@ failed text options charset renamed (NoCharacter line) foreign declares (at, fir
   first = first;
   line_is = is;
 }
+
+pub failed : (text : List ℕ) (options : Options) (fault : TextFault) → IsForeign text options
+    → CannotRecode text fault → RefusesAny text options fault
+failed text options (Load fault) foreign h = inl h
+failed text options (NoCharacter line) foreign h = record { foreign = foreign; lacks = h }

@@ -29,6 +29,20 @@ abbrev pub IsRecoded : List ℕ → List ℕ → Type 0
 IsRecoded text recoded =
     (charset : Charset) × (renamed : List ℕ) × Declares text charset renamed × IsDecoded charset renamed recoded
 
+-- the charset that the text declares has no character for a byte; the line is that of the first such byte
+pub record LacksCharacter (text : List ℕ) (line : ℕ) : Type 0 where
+  pub charset : Charset
+  pub renamed : List ℕ
+  pub declares : Declares text charset renamed
+  pub at : ℕ
+  pub first : IsFirstWithNone charset renamed at
+  pub line_is : line ≡ newlines (take at renamed) + 1
+
+-- the text can't be decoded from the charset that it declares, or memory ran out
+abbrev pub CannotRecode : List ℕ → TextFault → Type 0
+CannotRecode text (Load fault) = fault ≡ out_of_memory
+CannotRecode text (NoCharacter line) = LacksCharacter text line
+
 -- a text in another charset, which compiles to this once it is recoded
 pub record MeansRecoded (text : List ℕ) (options : Options) (compiled : Compiled) : Type 0 where
   pub foreign : IsForeign text options
@@ -52,15 +66,10 @@ pub record RefusesRecoded (text : List ℕ) (options : Options) (fault : LoadFau
   pub recodes : IsRecoded text recoded
   pub refuses : Refuses recoded options fault.kind fault.line
 
--- the text is in another charset, which has no character for a byte; the line is that of the first such byte
+-- the text is in another charset, which has no character for a byte
 pub record HasNoCharacter (text : List ℕ) (options : Options) (line : ℕ) : Type 0 where
   pub foreign : IsForeign text options
-  pub charset : Charset
-  pub renamed : List ℕ
-  pub declares : Declares text charset renamed
-  pub at : ℕ
-  pub first : IsFirstWithNone charset renamed at
-  pub line_is : line ≡ newlines (take at renamed) + 1
+  pub lacks : LacksCharacter text line
 
 -- why a text in any charset is refused
 abbrev pub RefusesAny : List ℕ → Options → TextFault → Type 0

@@ -1,9 +1,12 @@
 //! Compiling.
-ghost use Rattle.std.specs.Prelude.{◌≡◌, ◌+◌, ◌<◌, ◌≤◌, ◌^◌, ◌↔◌, IfOk, IfErr, IsTrue, MatchResult, length, take};
+ghost use Rattle.std.specs.Prelude.{◌≡◌, ◌+◌, ◌<◌, ◌≤◌, ◌^◌, ◌↔◌, IfOk, IfErr, IsTrue, MatchOption, MatchResult};
+ghost use Rattle.std.specs.Prelude.{length, take};
+ghost use Rattle.po_text.specs.Outcome.{max_text};
 ghost use Rattle.po_text.specs.Spelling.{newlines};
 ghost use Rattle.catalogue.specs.Meaning.{Refuses};
 ghost use Rattle.charsets.specs.Decoding.{IsDecoded};
-ghost use Rattle.any_charset.specs.Recoding.{IsForCharset, MeansAny, MeansRecoded, RefusesAny};
+ghost use Rattle.any_charset.specs.Declaring.{DeclaresNone};
+ghost use Rattle.any_charset.specs.Recoding.{CannotRecode, IsForCharset, IsRecoded, MeansAny, MeansRecoded, RefusesAny};
 ghost use Rattle.any_charset.specs.Renaming.{FailsToDecode, renamed_of};
 
 use crate::declared::{Declaration, declared};
@@ -49,6 +52,24 @@ fn recode(alloc: Global, declared: &Declaration<'_>) -> Result<Vec<u8>, TextFaul
     }
 }
 
+/// Decodes a text from the charset that the header at its front declares, and puts `UTF-8` in place of that charset's
+/// name. None if the text declares no charset of `charsets`.
+#[tactic(auto, using(crate::proofs::Failing::undecoded))]
+pub fn recoded(alloc: Global, text: &[u8]) -> Result<Option<Vec<u8>>, TextFault>
+    requires { length text.now ≤ max_text }
+    ensures ok { IfOk result (λ recoded. MatchOption recoded (DeclaresNone text.now)
+        (λ recoded. IsRecoded text.now recoded.items)) }
+    ensures err { IfErr result (CannotRecode text.now) }
+{
+    let Some(declared) = declared(text) else {
+        return Ok(None)
+    };
+    match recode(alloc, &declared) {
+        Ok(recoded) => Ok(Some(recoded)),
+        Err(fault) => Err(fault),
+    }
+}
+
 /// Compiles a PO text in another charset, which was refused as UTF-8 with `strict`.
 ///
 /// The text is decoded and its header then says `charset=UTF-8`, as GNU msgfmt does since 0.22; the result is what
@@ -66,11 +87,9 @@ pub fn compile_recoded(
     ensures ok { IfOk result (MeansRecoded text.now options) }
     ensures err { IfErr result (RefusesAny text.now options) }
 {
-    let Some(declared) = declared(text) else {
-        return Err(TextFault::Load(strict))
-    };
-    let recoded = match recode(alloc, &declared) {
-        Ok(recoded) => recoded,
+    let recoded = match recoded(alloc, text) {
+        Ok(Some(recoded)) => recoded,
+        Ok(None) => return Err(TextFault::Load(strict)),
         Err(fault) => return Err(fault),
     };
     match compile_owned(alloc, recoded, options) {

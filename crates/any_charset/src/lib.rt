@@ -6,6 +6,6 @@ mod declared;
 mod fault;
 mod front;
 
-pub use compiler::{compile_any, compile_recoded, is_for_charset};
+pub use compiler::{compile_any, compile_recoded, is_for_charset, recoded};
 pub use declared::{Declaration, named};
 pub use fault::TextFault;

@@ -11,3 +11,5 @@ mod checks;
 mod php;
 #[cfg(test)]
 mod python;
+#[cfg(test)]
+mod texts;

@@ -1,0 +1,5 @@
+pub mod Gathering
+pub mod HeaderLemmas
+pub mod OneList
+pub mod PlainLemmas
+pub mod AnyLemmas
