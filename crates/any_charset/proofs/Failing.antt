@@ -1,5 +1,5 @@
 -- A text that can't be decoded is refused.
-use Rattle.std.proofs.Common.{◌≡◌, ℕ, List, inl}
+use Rattle.std.proofs.Common.{ℕ, List, inl}
 use Rattle.po_checks.specs.declared.options.Options.{Options}
 use Rattle.charsets.specs.declared.kinds.Charset.{Charset}
 use Rattle.any_charset.specs.Declaring.{Declares}

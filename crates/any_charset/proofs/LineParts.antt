@@ -1,6 +1,5 @@
 -- The lines of a text, one after another.
-use Rattle.std.proofs.Common.{◌≡◌, ℕ, ◌+◌, ◌-◌, ◌<◌, ◌≤◌, List, [], ◌∷◌, length, take, drop, refl, sym, ap, ◌∙◌, arith}
-use Rattle.std.specs.List.{position_or_len}
+use Rattle.std.proofs.Common.{◌≡◌, ℕ, ◌+◌, ◌<◌, List, [], ◌∷◌, length, take, drop, sym, ◌∙◌}
 use Rattle.std.proofs.lemmas.List.Splits.{slice_split_first}
 use Rattle.byte_text.specs.Cut.{place_of}
 use Rattle.po_header.proofs.FieldLemmas.{one_line}

@@ -3,7 +3,7 @@
 -- The header is looked for where PO files have it, at the front of the text: comments and empty lines, a line
 -- `msgid ""`, and the lines of its msgstr, each with one string. A header in another form declares nothing (ours).
 use Rattle.std.specs.Prelude.{◌≡◌, ℕ, ◌+◌, ◌==◌, ◌||◌, not, nat_eq, Bool, if◌then◌else◌, List, [], ◌∷◌, ◌++◌}
-use Rattle.std.specs.Prelude.{Some, None, Option, length, take, drop, codes}
+use Rattle.std.specs.Prelude.{Some, length, take, drop, codes}
 use Rattle.std.specs.List.{starts_with, slice_split, prefix_len}
 use Rattle.std.specs.Str.{bytes_eq}
 use Rattle.memchr.specs.Find.{FindsNeedle}

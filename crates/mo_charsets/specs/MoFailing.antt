@@ -1,5 +1,5 @@
 -- Why an MO file in another charset is refused.
-use Rattle.std.specs.Prelude.{◌≡◌, ◌⊎◌, ℕ, List, Option, Some}
+use Rattle.std.specs.Prelude.{◌≡◌, ◌⊎◌, ℕ, List, Some}
 use Rattle.std.specs.List.{Any as AnyOf}
 use Rattle.charsets.specs.declared.kinds.Charset.{Charset}
 use Rattle.charsets.specs.Decoding.{IsFirstWithNone}

@@ -1,4 +1,3 @@
-use Rattle.std.proofs.Common.{◌≡◌, ℕ, sym, ◌∙◌}
 use Rattle.any_charset.specs.Declaring.{charset_mark}
 use Rattle.any_charset.proofs.Placing.{place_one}
 use Rattle.any_charset.proofs.declared.declared.Goals as goal

@@ -1,5 +1,4 @@
-use Rattle.std.proofs.Common.{◌≡◌, ℕ, ◌+◌, List, length, take, drop, ap, sym, ◌∙◌, arith}
-use Rattle.charsets.specs.Naming.{IsNameOf}
+use Rattle.std.proofs.Common.{◌≡◌, ℕ, ◌+◌, length, take, drop, ap, sym, ◌∙◌}
 use Rattle.any_charset.specs.Declaring.{charset_mark, name_len}
 use Rattle.any_charset.proofs.Placing.{place_none, place_one}
 use Rattle.any_charset.proofs.declared.named.Goals as goal
