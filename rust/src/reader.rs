@@ -47,7 +47,8 @@ use crate::sys;
 /// });
 /// ```
 ///
-/// A reader keeps the set of its last entry alive, so drop a reader that has no more requests.
+/// A reader keeps the set of its last entry alive, so let a reader that may be idle for long
+/// [`leave`](Reader::leave), and drop one that has no more requests.
 pub struct Reader(pub(crate) sys::Reader);
 
 impl Reader {
@@ -83,6 +84,37 @@ impl Reader {
     #[inline]
     pub fn enter_after(&mut self, notice: &Notice) -> Result<Snapshot<'_>, WrongStore> {
         self.0.enter_after(&notice.0).map(Snapshot).ok_or(WrongStore)
+    }
+
+    /// Leaves the version that was entered last, so that the reader keeps no set alive until it enters again.
+    ///
+    /// It never blocks, and frees nothing: the next [`publish`](crate::Store::publish) or
+    /// [`retained`](crate::Store::retained) frees a replaced set that all readers have left, and so does the thread of
+    /// a watch from time to time. The next entry takes a little longer, as after a publish. Dropping a [`Snapshot`]
+    /// doesn't leave, since its answers live as long as the entry.
+    ///
+    /// ```
+    /// # let empty = kobdzila::Catalogue::from_po(b"", kobdzila::Options::new())?;
+    /// # let store = kobdzila::Store::new();
+    /// let mut reader = store.reader()?;
+    /// reader.enter();
+    /// store.load(kobdzila::Domain("garden"), "fr", &empty)?;
+    /// store.publish()?;
+    /// assert_eq!(store.retained(), 1); // the reader is still in version 0
+    /// reader.leave();
+    /// assert_eq!(store.retained(), 0);
+    /// # Ok::<(), Box<dyn std::error::Error>>(())
+    /// ```
+    ///
+    /// ```compile_fail,E0499
+    /// # let store = kobdzila::Store::new();
+    /// # let mut reader = store.reader().unwrap();
+    /// let now = reader.enter();
+    /// reader.leave(); // error: the snapshot is used below
+    /// println!("{}", now.version());
+    /// ```
+    pub fn leave(&mut self) {
+        self.0.leave();
     }
 
     /// Returns the version that was entered last. A new reader starts in the one that is published when it is made.

@@ -133,11 +133,10 @@ impl Store {
         self.0.pending()
     }
 
-    /// Returns the number of replaced sets that are still alive, since a reader has them or no publish has freed them
-    /// yet.
+    /// Frees the replaced sets that no reader is in, and returns how many are left: those that some reader is in.
     ///
-    /// A reader has one set at a time, that of its last entry. If the number grows, you keep more and more readers that
-    /// no longer enter.
+    /// A publish frees such sets as well. A reader has one set at a time, that of its last entry, until it
+    /// [leaves](Reader::leave). If the number grows, you keep more and more readers that neither enter nor leave.
     ///
     /// ```
     /// assert_eq!(kobdzila::Store::new().retained(), 0);

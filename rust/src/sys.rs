@@ -543,6 +543,12 @@ impl Reader {
         })
     }
 
+    pub fn leave(&mut self) {
+        // SAFETY: `self` keeps the reader alive. No snapshot of an entry is left, since it would borrow `self`, and so
+        // no answer of one.
+        unsafe { kob_reader_leave(self.0.as_ptr()) }
+    }
+
     pub fn version(&self) -> u64 {
         // SAFETY: `self` keeps the reader alive.
         unsafe { kob_reader_version(self.0.as_ptr()) }

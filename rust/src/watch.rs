@@ -430,7 +430,11 @@ fn run(looking: &Mutex<Looking>, changes: Option<&Changes>, ends: &UnixStream) {
         if is_end {
             return;
         }
-        let _ = catch_unwind(AssertUnwindSafe(|| locked(looking).look()));
+        let _ = catch_unwind(AssertUnwindSafe(|| {
+            let mut looking = locked(looking);
+            looking.look();
+            looking.store.retained(); // (this frees what no reader is in any more)
+        }));
         // (a folder in which other files change all the time isn't checked all the time)
         if inotify::wait_for(ends, settle) {
             return;

@@ -336,6 +336,7 @@ extern "C" {
     pub fn kob_store_reader(store: *const kob_store) -> *mut kob_reader;
     pub fn kob_reader_enter(reader: *mut kob_reader) -> *const kob_set;
     pub fn kob_reader_enter_after(reader: *mut kob_reader, notice: *const kob_notice) -> *const kob_set;
+    pub fn kob_reader_leave(reader: *mut kob_reader);
     pub fn kob_reader_version(reader: *const kob_reader) -> c_ulonglong;
     pub fn kob_notice_free(notice: *mut kob_notice);
     pub fn kob_reader_free(reader: *mut kob_reader);

@@ -504,6 +504,20 @@ pub unsafe fn kob_reader_enter_after(reader: *mut kob_reader, notice: *const kob
     }
 }
 
+pub unsafe fn kob_reader_leave(reader: *mut kob_reader) {
+    // SAFETY: the reader is in this call alone, and what it lent is no longer used.
+    unsafe {
+        let reader = &mut *reader.cast::<Reader>();
+        *reader.calls += 1;
+        let left = Box::from_raw(reader.lent);
+        let empty = Set {
+            version: left.set.version,
+            ..Set::default()
+        };
+        reader.lent = held(empty, Some(reader.calls));
+    }
+}
+
 pub unsafe fn kob_reader_version(reader: *const kob_reader) -> c_ulonglong {
     // SAFETY: the reader is alive.
     unsafe { (*(*reader.cast::<Reader>()).lent).set.version }

@@ -194,12 +194,49 @@ fn a_reader_keeps_one_set() {
         show(&store, "two");
     }
     assert_eq!(answer, "one");
-    // (that of the reader, and those that no publish has freed yet)
-    assert!((1..=3).contains(&store.retained()), "{}", store.retained());
+    assert_eq!(store.retained(), 1);
     reader.enter();
-    show(&store, "three");
-    show(&store, "three");
-    assert!(store.retained() <= 2, "{}", store.retained());
+    assert_eq!(store.retained(), 0);
+}
+
+#[test]
+#[cfg_attr(miri, ignore)]
+fn readers_that_leave_keep_no_set() {
+    let store = Store::new();
+    let mut readers: Vec<_> = (0..20).map(|_| store.reader().unwrap()).collect();
+    for reader in &mut readers {
+        show(&store, "one");
+        reader.enter();
+    }
+    show(&store, "two");
+    assert_eq!(store.retained(), 20);
+    readers.iter_mut().for_each(Reader::leave);
+    assert_eq!(store.retained(), 0);
+    assert_eq!(winter(&mut readers[0]), ("two", 21));
+}
+
+#[test]
+fn a_reader_that_leaves_enters_no_older_version() {
+    let store = Store::new();
+    let mut reader = store.reader().unwrap();
+    show(&store, "one");
+    assert_eq!(winter(&mut reader), ("one", 1));
+    reader.leave();
+    reader.leave();
+    assert_eq!(reader.version(), 1);
+    assert_eq!(winter(&mut reader), ("one", 1));
+    reader.leave();
+    show(&store, "two");
+    let notice = store.notice().unwrap();
+    assert_eq!(reader.enter_after(&notice).unwrap().version(), 2);
+    reader.leave();
+    assert_eq!(
+        reader.enter_after(&Store::new().notice().unwrap()).err(),
+        Some(WrongStore)
+    );
+    drop(store);
+    assert_eq!(winter(&mut reader), ("two", 2));
+    reader.leave();
 }
 
 #[test]
