@@ -104,9 +104,9 @@ holds 'compile, -o without a domain: nothing is written' is_absent out3
 po one/locale/fr/LC_MESSAGES/x.po fr a && po two/locale/fr/LC_MESSAGES/x.po fr b
 says 'compile, two PO files for one MO file' 2 'kob-compile: one/locale/fr/LC_MESSAGES/x.po and two/locale/fr/LC_MESSAGES/x.po would both be out3/fr/LC_MESSAGES/x.mo: name the folder of one of them' -o out3 one two
 holds 'compile, two PO files for one MO file: nothing is written' is_absent out3
-(cd project && timeout 60 "$compiler" --watch -o ../out3 po > ../out 2> ../err)
+(cd project && timeout 60 "$tested" --watch -o ../out3 po > ../out 2> ../err)
 holds 'compile, --watch, -o without a domain: it ends' [ $? = 2 ]
-(cd one && "$compiler" > ../out 2> ../err)
+(cd one && "$tested" > ../out 2> ../err)
 holds 'compile, the current folder' is_as_msgfmt one/locale/fr/LC_MESSAGES/x.mo one/locale/fr/LC_MESSAGES/x.po
 says 'compile, --exclude' 0 '' --force --exclude=other --exclude=po -q project
 rm project/po/fr.mo
@@ -209,7 +209,7 @@ fi
 po mode/fr.po fr a && run -q mode && chmod 640 mode/fr.mo && run -q --force mode
 holds 'compile, the mode is kept' [ "$(stat -c %a mode/fr.mo)" = 640 ]
 rm mode/fr.mo
-(umask 027 && "$compiler" -q mode)
+(umask 027 && "$tested" -q mode)
 holds 'compile, a new file has the mode that the umask leaves' [ "$(stat -c %a mode/fr.mo)" = 640 ]
 mv mode/fr.mo mode/target && ln -s target mode/fr.mo && po mode/fr.po fr b && run -q --force mode
 holds 'compile, a symbolic link is followed' [ -L mode/fr.mo ] 
@@ -255,7 +255,7 @@ if [ "$(id -u)" = 0 ] && mkdir full && mount -t tmpfs -o size=400k tmpfs full 2>
 else
   skipped 'compile, a full disk' 'only root can mount a small file system'
 fi
-(ulimit -f 8 && exec "$compiler" -q --force many > out 2> err)
+(ulimit -f 8 && exec "$tested" -q --force many > out 2> err)
 status=$?
 holds 'compile, files that are too large for the limit' [ "$status" = 3 ]
 holds 'compile, files that are too large: a line for each' [ "$(grep -c 'kob-compile: cannot write many/l[0-9]*.mo: File too large' err)" = 30 ]
@@ -288,11 +288,11 @@ for signal in INT TERM KILL; do
   for it in 0 1 2 4 6 8; do
     old_files
     set -m # (otherwise a shell has its background ignore SIGINT)
-    "$compiler" -q --force -j 2 many > out 2> err &
+    "$tested" -q --force -j 2 many > out 2> err &
     pid=$!
     set +m
     # (a shell that hasn't become the program yet would end this script's room)
-    until [ "$(readlink "/proc/$pid/exe")" = "$(readlink -f "$compiler")" ] || ! kill -0 $pid 2> kill; do sleep 0.001; done
+    until [ "$(readlink "/proc/$pid/exe")" = "$(readlink -f "$tested")" ] || ! kill -0 $pid 2> kill; do sleep 0.001; done
     sleep "0.00$it"
     kill -$signal $pid 2> kill
     wait $pid 2> kill
@@ -313,7 +313,7 @@ holds 'compile, signals came in the middle' [ $interrupted -gt 3 ]
 old_files
 pids=()
 for it in $(seq 6); do
-  "$compiler" -q --force many > "stdout$it" 2> "stderr$it" &
+  "$tested" -q --force many > "stdout$it" 2> "stderr$it" &
   pids+=($!)
 done
 wrong=''
@@ -338,8 +338,8 @@ holds 'compile, an option that it has not' [ "$status" = 2 ]
 says 'compile, --check and -o' 2 'kob-compile: --check writes nothing, so it takes no -o; try --help' --check -o x
 run --help
 holds 'compile, --help' [ "$status" = 0 ] && holds 'compile, --help: its usage' grep -q '^usage: kob-compile' out
-"$compiler" --version | grep -qxF "kob-compile (Kobdzila) $(cat "$top/VERSION")" && ok 'compile, --version' || failed 'compile, --version' ''
-"$compiler" --force again > /dev/full 2> err
+"$tested" --version | grep -qxF "kob-compile (Kobdzila) $(cat "$top/VERSION")" && ok 'compile, --version' || failed 'compile, --version' ''
+"$tested" --force again > /dev/full 2> err
 holds 'compile, a full output' [ $? = 3 ]
 says 'compile, a full disk for --sarif' 3 'kob-compile: cannot write /dev/full: No space left on device' -q --sarif=/dev/full again
 says 'compile, a file in the place of a folder' 3 \
@@ -369,12 +369,12 @@ if [ -n "$gnu" ]; then
   "$gnu" -o none.mo euc/fr.po 2> said
   run -q euc/fr.po
   holds "compile, another charset that GNU's refuses: its first line" [ "$(head -n 1 said | sed 's/:[0-9]*: /: /')" = "$(sed 's/:[0-9]*: /: /' err)" ]
-  (unset GNU_MSGFMT && PATH=$room/none && "$compiler" -q --force euc/ja.po) 2> err
+  (unset GNU_MSGFMT && PATH=$room/none && "$tested" -q --force euc/ja.po) 2> err
   status=$?
   judge 'compile, another charset, no GNU msgfmt' 1 "euc/ja.po:5: not UTF-8
 kob-compile: GNU msgfmt may compile 1 of these, and there is none on the PATH; it is in the package gettext" &&
     ok 'compile, another charset, no GNU msgfmt'
-  (unset GNU_MSGFMT && PATH=$room/none && "$compiler" -q flags.po) 2> err
+  (unset GNU_MSGFMT && PATH=$room/none && "$tested" -q flags.po) 2> err
   status=$?
   judge 'compile, flags in #=, no GNU msgfmt' 1 "flags.po:4: flags in a line #= are known to GNU msgfmt since 0.26, and there is none on the PATH; it is in the package gettext" &&
     ok 'compile, flags in #=, no GNU msgfmt'
@@ -400,7 +400,7 @@ holds 'compile, --sarif=-' python3 -c 'import json,sys; json.load(open(sys.argv[
 
 # coloured NAME SETTING: what a terminal gets, with this setting, is in $room/typed
 typed() {
-  env "$@" TERM="${terminal:-xterm}" script -qec "'$compiler' --force '$room/json/fr.po'" typed > /dev/null < /dev/null
+  env "$@" TERM="${terminal:-xterm}" script -qec "'$tested' --force '$room/json/fr.po'" typed > /dev/null < /dev/null
 }
 if command -v script > /dev/null; then
   escape=$(printf '\033')
@@ -415,7 +415,7 @@ if command -v script > /dev/null; then
   for jobs in 1 3; do
     for last in 500 1000 2000 4000 8000; do
       for it in $(seq $((last / 2)) "$last"); do ln -f many.po "long/$it.po"; done
-      env TERM=xterm script -qec "'$compiler' --check --no-gnu -q -j $jobs '$room/long'" typed > /dev/null < /dev/null
+      env TERM=xterm script -qec "'$tested' --check --no-gnu -q -j $jobs '$room/long'" typed > /dev/null < /dev/null
       ! grep -q '\] [0-9]* of [0-9]*' typed || break
     done
     holds "compile, a terminal: a bar after half a second, -j $jobs" grep -q '\[#*\.*\] [0-9]* of [0-9]*' typed
@@ -434,12 +434,12 @@ holds 'compile, the table begins with its heads' cmp -s <(head -n 1 out) table
 
 # --- watching -----------------------------------------------------------------------------------------------------------
 
-if python3 -B "$top/tests/compile/watching.py" "$compiler" "$program" "${EDITS:-100}" > watching 2>&1; then cat watching
+if python3 -B "$top/tests/compile/watching.py" "$tested" "$program" "${EDITS:-100}" > watching 2>&1; then cat watching
 else failed 'compile, --watch' "$(tail -n 3 watching)"; fi
 
 # --- under the sanitizers and valgrind ----------------------------------------------------------------------------------
 
-# checks NAME: the program $compiler, which looks at itself, does the work of a few runs
+# checks NAME: the program $tested, which looks at itself, does the work of a few runs
 checks() {
   local wrong='' it
   rm -rf checked && cp -r project checked && cp euc/ja.po checked/po/de.po && cp bad/fr.po checked/refused.po
@@ -452,19 +452,19 @@ checks() {
   done
   if [ -z "$wrong" ]; then ok "compile, $1"; else failed "compile, $1" "${wrong:0:300}"; fi
 }
-built=$compiler
+of_sources=$tested
 for it in address,undefined thread; do
   if (cd "$top" && PROGRAM=kob-compile tools/build_driver "$room/sanitized" -g -fsanitize=$it) > gcc 2>&1; then
-    compiler=$room/sanitized
+    tested=$room/sanitized
     checks "-fsanitize=$it"
   else
     skipped "compile, -fsanitize=$it" "it can't be linked: $(tail -n 1 gcc)"
   fi
 done
 if "$top/tests/lib/needs" valgrind valgrind libc6-dbg && (cd "$top" && PROGRAM=kob-compile tools/build_driver "$room/plain" -g) > gcc 2>&1; then
-  compiler=$room/plain under=(valgrind -q --leak-check=full --error-exitcode=99 --child-silent-after-fork=yes)
+  tested=$room/plain under=(valgrind -q --leak-check=full --error-exitcode=99 --child-silent-after-fork=yes)
   checks valgrind
 else
   skipped 'compile, valgrind' 'no valgrind, and it could not be installed'
 fi
-compiler=$built under=()
+tested=$of_sources under=()
