@@ -8,9 +8,8 @@ use Rattle.format_checks.specs.declared.Fault.{Fault}
 use Rattle.format_arguments.specs.declared.FormatFault.{FormatFault}
 use Rattle.format_arguments.specs.declared.FormatFault.TheVariants.{Invalid}
 use Rattle.format_arguments.specs.declared.Strictness.{Strictness}
-use Rattle.format_arguments.specs.Arguments.{Argument}
-use Rattle.format_flags.specs.declared.languages.Language.TheVariants.{Python, PythonBrace}
-use Rattle.format_checks.specs.FormatLanguages.{Lists, HasFault, IsNoFormat}
+use Rattle.format_flags.specs.declared.languages.Language.TheVariants.{Python, PythonBrace, Php}
+use Rattle.format_checks.specs.FormatLanguages.{Asked, Named, Numbered, Lists, HasFault, IsNoFormat}
 use Rattle.format_flags.specs.FormatFlags.{has}
 use Rattle.format_checks.specs.FlaggedEntries.{Entry, original, rule_for}
 use Rattle.format_checks.specs.FormatFaults.{Question, question, questions_from, questions, flagged_questions}
@@ -116,21 +115,34 @@ compared_all line e often language form left old now h end = (
 
 -- ---- reading formats
 
+no_python : (text : List ℕ) → HasFault Python text Invalid → (asked : Asked) → Lists Python text asked → ⊥
+no_python text none (Named asked) x = none asked x
+no_python text none (Numbered asked) x = x
+
+no_brace : (text : List ℕ) → HasFault PythonBrace text Invalid → (asked : Asked) → Lists PythonBrace text asked → ⊥
+no_brace text none (Named asked) x = none asked x
+no_brace text none (Numbered asked) x = x
+
+no_php : (text : List ℕ) → HasFault Php text Invalid → (asked : Asked) → Lists Php text asked → ⊥
+no_php text none (Named asked) x = x
+no_php text none (Numbered asked) x = none asked x
+
 pub no_format : (language : Language) (text : List ℕ) (fault : FormatFault) → fault ≡ Invalid
     → HasFault language text fault → IsNoFormat language text
-no_format Python text fault is has = rw is at has
-no_format PythonBrace text fault is has = rw is at has
+no_format Python text fault is has = no_python text (rw is at has)
+no_format PythonBrace text fault is has = no_brace text (rw is at has)
+no_format Php text fault is has = no_php text (rw is at has)
 no_format _ text fault is has = λ asked none. none
 
 pub verdict_of : (e : Entry) (often : List Bool) (language : Language) (form : ℕ) (t text : List ℕ) (rule : Strictness)
-    (asked given : List Argument) (found : Option Difference) → text ≡ original e → Lists language text asked
+    (asked given : Asked) (found : Option Difference) → text ≡ original e → Lists language text asked
     → rule ≡ rule_for e often form → given ≡ asked → IsDifference language rule given t found
     → HasVerdict (question e often language form t) found
 verdict_of e often language form t text rule asked given found is lists rule_is same differs = inr (
   asked,
   subst (λ (x : List ℕ). Lists language x asked) is lists,
   subst (λ (r : Strictness). IsDifference language r asked t found) rule_is
-      (subst (λ (a : List Argument). IsDifference language rule a t found) same differs),
+      (subst (λ (a : Asked). IsDifference language rule a t found) same differs),
 )
 
 pub none_of : (language : Language) (text other : List ℕ) → text ≡ other → IsNoFormat language text

@@ -4,7 +4,6 @@ use Rattle.std.proofs.Common.{ap, subst, ◌∙◌}
 use Rattle.std.proofs.Common.{inl, inr}
 use Rattle.std.specs.Prelude.{◌↔◌}
 use Rattle.std.specs.List.{AllByRecursion}
-use Rattle.format_arguments.specs.Arguments.{Argument}
 use Rattle.format_arguments.specs.declared.Strictness.{Strictness}
 use Rattle.format_arguments.proofs.TextLemmas.{one_signature}
 use Rattle.python_format.specs.PythonPieces.{percent}
@@ -13,30 +12,45 @@ use Rattle.python_format.proofs.DirectiveLemmas as python_lemmas
 use Rattle.python_brace_format.specs.BraceSpecifiers.{open_brace}
 use Rattle.python_brace_format.specs.BraceDirectives as brace
 use Rattle.python_brace_format.proofs.DirectiveLemmas as brace_lemmas
+use Rattle.format_arguments.specs.Arguments.{Argument}
+use Rattle.numbered_arguments.specs.declared.Numbered as code_numbered
+use Rattle.numbered_arguments.specs.NumberedArguments.{list_of as requests_of}
+use Rattle.numbered_arguments.proofs.NumberedTextLemmas.{one_list as one_list_of}
+use Rattle.php_format.specs.PhpDirectives as php
+use Rattle.php_format.specs.PhpFormat as php_format
+use Rattle.php_format.proofs.PhpDirectiveLemmas as php_lemmas
 use Rattle.format_flags.specs.declared.languages.Language.{Language}
-use Rattle.format_flags.specs.declared.languages.Language.TheVariants.{Python, PythonBrace}
+use Rattle.format_flags.specs.declared.languages.Language.TheVariants.{Python, PythonBrace, Php}
 use Rattle.format_checks.specs.declared.Difference.{Difference}
 use Rattle.format_checks.specs.declared.Difference.TheVariants.{Invalid, Arguments}
 use Rattle.format_checks.specs.declared.Fault.{Fault}
-use Rattle.format_checks.specs.FormatLanguages.{Lists, agree}
+use Rattle.format_checks.specs.FormatLanguages.{Asked, Named, Numbered, Lists, agree}
 use Rattle.format_checks.specs.FormatFaults.{Question, IsDifference, HasVerdict, IsAccepted, fault_of, list_of}
 use Rattle.format_checks.specs.FormatFaults.{AreFaults}
 
-one_arguments : (language : Language) (text : List ℕ) (a b : List Argument) → Lists language text a
+one_arguments : (language : Language) (text : List ℕ) (a b : Asked) → Lists language text a
     → Lists language text b → a ≡ b
-one_arguments Python text a b x y =
-    one_signature percent python.DirectiveAt python_lemmas.are_directives python.asks text a b x y
-one_arguments PythonBrace text a b x y =
-    one_signature open_brace brace.DirectiveAt brace_lemmas.are_directives brace.asks text a b x y
+one_arguments Python text (Named a) (Named b) x y = ap (λ (asked : List Argument). Named asked)
+    (one_signature percent python.DirectiveAt python_lemmas.are_directives python.asks text a b x y)
+one_arguments Python text (Named a) (Numbered b) x y = absurd y
+one_arguments Python text (Numbered a) b x y = absurd x
+one_arguments PythonBrace text (Named a) (Named b) x y = ap (λ (asked : List Argument). Named asked)
+    (one_signature open_brace brace.DirectiveAt brace_lemmas.are_directives brace.asks text a b x y)
+one_arguments PythonBrace text (Named a) (Numbered b) x y = absurd y
+one_arguments PythonBrace text (Numbered a) b x y = absurd x
+one_arguments Php text (Numbered a) (Numbered b) x y = ap (λ (asked : List code_numbered.Numbered). Numbered asked)
+    (one_list_of percent php.DirectiveAt php_lemmas.are_directives requests_of php_format.fits text a b x y)
+one_arguments Php text (Numbered a) (Named b) x y = absurd y
+one_arguments Php text (Named a) b x y = absurd x
 one_arguments _ text a b x y = absurd x
 
-same_agreement : (language : Language) (rule : Strictness) (form : List ℕ) (original a b : List Argument) (x y : Bool)
+same_agreement : (language : Language) (rule : Strictness) (form : List ℕ) (original a b : Asked) (x y : Bool)
     → Lists language form a → Lists language form b → agree language original a rule ≡ x
     → agree language original b rule ≡ y → x ≡ y
 same_agreement language rule form original a b x y f g e h =
-    sym e ∙ ap (λ (c : List Argument). agree language original c rule) (one_arguments language form a b f g) ∙ h
+    sym e ∙ ap (λ (c : Asked). agree language original c rule) (one_arguments language form a b f g) ∙ h
 
-one_difference : (language : Language) (rule : Strictness) (original : List Argument) (form : List ℕ)
+one_difference : (language : Language) (rule : Strictness) (original : Asked) (form : List ℕ)
     (d e : Option Difference) → IsDifference language rule original form d → IsDifference language rule original form e
     → d ≡ e
 one_difference language rule original form None None x y = refl
@@ -58,7 +72,7 @@ one_verdict q d e (inr (original, lists, x)) (inl (none, g)) = absurd (none orig
 one_verdict q d e (inr (a, f, x)) (inr (b, g, y)) =
     let same : a ≡ b = one_arguments q.language q.original a b f g in
     one_difference q.language q.rule b q.translation d e
-    (subst (λ (c : List Argument). IsDifference q.language q.rule c q.translation d) same x) y
+    (subst (λ (c : Asked). IsDifference q.language q.rule c q.translation d) same x) y
 
 pub one_list : (line : ℕ) (asked : List Question) (found others : List Fault) → AreFaults line asked found
     → AreFaults line asked others → found ≡ others

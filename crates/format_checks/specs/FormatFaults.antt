@@ -2,16 +2,15 @@
 use Rattle.std.specs.Prelude.{◌≡◌, ◌⊎◌, ℕ, ◌+◌, Bool, true, false, if◌then◌else◌, List, [], ◌∷◌, ◌++◌, Option}
 use Rattle.std.specs.Prelude.{None, Some}
 use Rattle.format_arguments.specs.declared.Strictness.{Strictness}
-use Rattle.format_arguments.specs.Arguments.{Argument}
 use Rattle.format_flags.specs.declared.languages.Language.{Language}
-use Rattle.format_flags.specs.declared.languages.Language.TheVariants.{Python, PythonBrace}
+use Rattle.format_flags.specs.declared.languages.Language.TheVariants.{Python, PythonBrace, Php}
 use Rattle.format_checks.specs.declared.Difference.{Difference}
 use Rattle.format_checks.specs.declared.Difference.TheVariants.{Invalid, Arguments}
 use Rattle.format_checks.specs.declared.Fault.{Fault}
 use Rattle.format_flags.specs.FormatFlags.{has}
 use Rattle.format_checks.specs.FlaggedEntries as entries
 use Rattle.format_checks.specs.FlaggedEntries.{Entry, rule_for}
-use Rattle.format_checks.specs.FormatLanguages.{Lists, IsNoFormat, agree}
+use Rattle.format_checks.specs.FormatLanguages.{Asked, Lists, IsNoFormat, agree}
 
 -- ---- what is compared
 
@@ -47,21 +46,22 @@ flagged_questions e often language = if has e.flags language then questions e of
 -- those of each language that the entry is flagged with
 abbrev pub all_questions : Entry → List Bool → List Question
 all_questions e often = flagged_questions e often Python ++ flagged_questions e often PythonBrace
+    ++ flagged_questions e often Php
 
 -- ---- what is wrong
 
 -- the form is a format whose arguments agree with these, or it isn't, or it is none
-abbrev pub IsDifference : Language → Strictness → List Argument → List ℕ → Option Difference → Type 0
+abbrev pub IsDifference : Language → Strictness → Asked → List ℕ → Option Difference → Type 0
 IsDifference language rule original form None =
-    (asked : List Argument) × Lists language form asked × (agree language original asked rule ≡ true)
+    (asked : Asked) × Lists language form asked × (agree language original asked rule ≡ true)
 IsDifference language rule original form (Some Arguments) =
-    (asked : List Argument) × Lists language form asked × (agree language original asked rule ≡ false)
+    (asked : Asked) × Lists language form asked × (agree language original asked rule ≡ false)
 IsDifference language rule original form (Some Invalid) = IsNoFormat language form
 
 -- an original that is no format is compared with nothing
 abbrev pub HasVerdict : Question → Option Difference → Type 0
 HasVerdict q verdict = (IsNoFormat q.language q.original × (verdict ≡ None))
-    ⊎ ((original : List Argument) × Lists q.language q.original original
+    ⊎ ((original : Asked) × Lists q.language q.original original
     × IsDifference q.language q.rule original q.translation verdict)
 
 -- nothing is wrong with the form

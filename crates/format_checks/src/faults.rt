@@ -1,15 +1,15 @@
 //! The faults of an entry's forms.
-ghost use Rattle.std.specs.Prelude.{◌≡◌, ◌↔◌, ◌++◌, [], ℕ, IfOk, OnOk, List, map};
+ghost use Rattle.std.specs.Prelude.{◌≡◌, ◌↔◌, ◌++◌, [], ℕ, IfOk, OnOk, List};
 ghost use Rattle.std.specs.List.{AllByRecursion};
-ghost use Rattle.format_arguments.specs.ArgumentViews.{argument_view};
+ghost use Rattle.format_checks.specs.AskedViews.{asked_view};
 ghost use Rattle.format_checks.specs.FormatViews.{entry_view};
 ghost use Rattle.format_checks.specs.declared.Fault.{Fault as FaultValue};
 ghost use Rattle.format_checks.specs.FormatFaults as spec;
 
 use crate::entry::rule_for;
-use crate::languages::{agrees, arguments};
+use crate::languages::{Asked, agrees, arguments};
 use crate::{Difference, Entry, Fault};
-use format_arguments::{Argument, Strictness};
+use format_arguments::Strictness;
 use format_flags::Language;
 use std::alloc::{AllocError, Global};
 
@@ -18,10 +18,10 @@ fn difference<'a>(
     alloc: Global,
     language: Language,
     rule: Strictness,
-    original: &[Argument<'a>],
+    original: &Asked<'a>,
     form: &'a [u8],
 ) -> Result<Option<Difference>, AllocError>
-    ensures { IfOk result (λ found. spec.IsDifference language rule (map argument_view original.now) form.now found) }
+    ensures { IfOk result (λ found. spec.IsDifference language rule (asked_view original.now) form.now found) }
 {
     let Some(asked) = arguments(alloc, language, form)? else {
         return Ok(Some(Difference::Invalid))
@@ -85,9 +85,9 @@ fn add_language_faults(
     Ok(())
 }
 
-/// Adds the faults of an entry: those of `python-format`, then those of `python-brace-format`, each in the order of the
-/// forms. `often` says which forms serve five numbers or more, as far as that is known. The only error is a failed
-/// allocation.
+/// Adds the faults of an entry: those of `python-format`, of `python-brace-format`, then of `php-format`, each in the
+/// order of the forms. `often` says which forms serve five numbers or more, as far as that is known. The only error is a
+/// failed allocation.
 pub fn add_faults(
     faults: &mut Vec<Fault>,
     alloc: Global,
@@ -99,6 +99,7 @@ pub fn add_faults(
 {
     add_language_faults(faults, alloc, entry, Language::Python, often)?;
     add_language_faults(faults, alloc, entry, Language::PythonBrace, often)?;
+    add_language_faults(faults, alloc, entry, Language::Php, often)?;
     Ok(())
 }
 

@@ -2,23 +2,31 @@
 ghost use Rattle.std.specs.Prelude.{◌≡◌, IfOk, IfErr, MatchOption, map};
 ghost use Rattle.format_arguments.specs.ArgumentViews.{argument_view};
 ghost use Rattle.format_checks.specs.FormatLanguages as spec;
+ghost use Rattle.format_checks.specs.AskedViews.{asked_view};
 
 use format_arguments::{Argument, FormatFault, Strictness};
 use format_flags::Language;
+use numbered_arguments::Numbered;
 use std::alloc::{AllocError, Global};
 
+/// The arguments of a format, as its language has them.
+#[derive(Drop)]
+pub(crate) enum Asked<'a> {
+    /// by their names, or in the order of the text
+    Named(Vec<Argument<'a>>),
+    /// by their numbers
+    Numbered(Vec<Numbered>),
+}
+
 /// The arguments of a format of the language. No text is a format of a language that isn't checked yet.
-fn signature(
-    alloc: Global,
-    language: Language,
-    text: &[u8],
-) -> Result<Vec<Argument<'_>>, FormatFault>
-    ensures ok { IfOk result (λ asked. spec.Lists language text.now (map argument_view asked.items)) }
+fn signature(alloc: Global, language: Language, text: &[u8]) -> Result<Asked<'_>, FormatFault>
+    ensures ok { IfOk result (λ asked. spec.Lists language text.now (asked_view asked)) }
     ensures err { IfErr result (λ fault. spec.HasFault language text.now fault) }
 {
     match language {
-        Language::Python => python_format::signature(alloc, text),
-        Language::PythonBrace => python_brace_format::signature(alloc, text),
+        Language::Python => Ok(Asked::Named(python_format::signature(alloc, text)?)),
+        Language::PythonBrace => Ok(Asked::Named(python_brace_format::signature(alloc, text)?)),
+        Language::Php => Ok(Asked::Numbered(php_format::signature(alloc, text)?)),
         _ => Err(FormatFault::Invalid),
     }
 }
@@ -28,9 +36,9 @@ pub(crate) fn arguments(
     alloc: Global,
     language: Language,
     text: &[u8],
-) -> Result<Option<Vec<Argument<'_>>>, AllocError>
+) -> Result<Option<Asked<'_>>, AllocError>
     ensures { IfOk result (λ found. MatchOption found (spec.IsNoFormat language text.now)
-        (λ asked. spec.Lists language text.now (map argument_view asked.items))) }
+        (λ asked. spec.Lists language text.now (asked_view asked))) }
 {
     match signature(alloc, language, text) {
         Ok(asked) => Ok(Some(asked)),
@@ -39,19 +47,43 @@ pub(crate) fn arguments(
     }
 }
 
-/// Whether a translation's arguments agree with its original's. The only error is a failed allocation.
-pub(crate) fn agrees<'a>(
+fn named_agree<'a>(
     alloc: Global,
     language: Language,
     original: &[Argument<'a>],
     translation: &[Argument<'a>],
     rule: Strictness,
 ) -> Result<bool, AllocError>
-    ensures { IfOk result (λ agrees. agrees
-        ≡ spec.agree language (map argument_view original.now) (map argument_view translation.now) rule) }
+    ensures { IfOk result (λ agree. agree
+        ≡ spec.named_agree language (map argument_view original.now) (map argument_view translation.now) rule) }
 {
     match language {
         Language::PythonBrace => python_brace_format::agrees(alloc, original, translation, rule),
         _ => format_arguments::agrees(alloc, original, translation, rule),
+    }
+}
+
+/// Whether a translation's arguments agree with its original's. The only error is a failed allocation.
+pub(crate) fn agrees<'a>(
+    alloc: Global,
+    language: Language,
+    original: &Asked<'a>,
+    translation: &Asked<'a>,
+    rule: Strictness,
+) -> Result<bool, AllocError>
+    ensures { IfOk result (λ agree. agree
+        ≡ spec.agree language (asked_view original.now) (asked_view translation.now) rule) }
+{
+    match original {
+        Asked::Named(original) => match translation {
+            Asked::Named(translation) => named_agree(alloc, language, original, translation, rule),
+            Asked::Numbered(_) => Ok(false),
+        },
+        Asked::Numbered(original) => match translation {
+            Asked::Named(_) => Ok(false),
+            Asked::Numbered(translation) => {
+                numbered_arguments::agrees(alloc, original, translation, rule)
+            }
+        },
     }
 }

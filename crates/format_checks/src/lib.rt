@@ -1,5 +1,6 @@
 //! The checks of the formats of other languages than C: what is wrong with the forms of an entry that is flagged
-//! `python-format` or `python-brace-format` (GNU gettext manual, "Python Format Strings"; "PO Files").
+//! `python-format`, `python-brace-format` or `php-format` (GNU gettext manual, "Python Format Strings"; "PHP Format
+//! Strings"; "PO Files").
 #![tactic(auto)]
 
 mod entry;

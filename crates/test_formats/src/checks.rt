@@ -46,8 +46,12 @@ const PYTHON: &[&str] = &["python-format"];
 
 const BRACE: &[&str] = &["python-brace-format"];
 
+const PHP: &[&str] = &["php-format"];
+
+const PHP_AND_BRACE: &[&str] = &["php-format", "python-brace-format"];
+
 /// The rule of these is `n==1 ? 0 : n==2 ? 1 : 2`.
-const CASES: [Case; 9] = [
+const CASES: [Case; 12] = [
     Case {
         flags: BOTH,
         id: b"one",
@@ -119,6 +123,30 @@ const CASES: [Case; 9] = [
         forms: &[b"%s"],
         count: 0,
         first: None,
+    },
+    Case {
+        flags: PHP_AND_BRACE,
+        id: b"one",
+        plural: Some(b"%s %d {a}"),
+        forms: &[b"%d {a}", b"%s %d", b"%s {b}"],
+        count: 3,
+        first: Some((Language::PythonBrace, 2, Difference::Arguments)),
+    },
+    Case {
+        flags: PHP,
+        id: b"one",
+        plural: Some(b"%s %d"),
+        forms: &[b"%2$d", b"%E", b"%2$d"],
+        count: 2,
+        first: Some((Language::Php, 1, Difference::Invalid)),
+    },
+    Case {
+        flags: PHP,
+        id: b"%s",
+        plural: None,
+        forms: &[b"%2$s"],
+        count: 1,
+        first: Some((Language::Php, 0, Difference::Arguments)),
     },
 ];
 

@@ -1,6 +1,6 @@
 use Rattle.std.proofs.Common.{◌+◌, ◌++◌, ◌∙◌, ℕ, Option, map, drop, arith, ap, sym, refl}
 use Rattle.std.proofs.lemmas.List.{drop_more, drop_all}
-use Rattle.format_arguments.specs.ArgumentViews.{argument_view}
+use Rattle.format_checks.specs.AskedViews.{asked_view}
 use Rattle.format_checks.specs.FormatViews.{entry_view}
 use Rattle.format_checks.specs.declared.Fault.{Fault}
 use Rattle.format_checks.specs.FormatFaults.{list_of}
@@ -21,6 +21,7 @@ forms-init c = (
   refl,
   compared_none c.args.entry.line (entry_view c.args.entry) c.args.often.now c.args.language 0
       c.args.faults.now.items refl,
+  refl,
 )
 
 pub forms-preserved : goal.forms-preserved
@@ -30,14 +31,15 @@ forms-preserved c =
     let index = c.forms.text-index in
     let cut = drop_more forms index _ c.forms-test.true in
     let verdict = verdict_of e c.args.often.now c.args.language c.forms.form _ c.original.result.now
-    c.rule_for-rule.result (map argument_view c.in-Some.original.items) _ c.in_ok-found.found c.original.ensures
-    (rw c.in-Some.is at c.in_ok-original.ensures) c.rule_for-rule.ensures (ap (map argument_view) c.deref.ensures.value)
+    c.rule_for-rule.result (asked_view c.in-Some.original) _ c.in_ok-found.found c.original.ensures
+    (rw c.in-Some.is at c.in_ok-original.ensures) c.rule_for-rule.ensures (ap asked_view c.forms.invariant.2)
     c.in_ok-found.ensures in (
       ap (λ (k : ℕ). k + 1) c.forms.invariant.0,
       compared_more c.args.entry.line e c.args.often.now c.args.language c.forms.form (c.forms.form + 1)
           (map (λ form. form.now) (drop index forms)) (map (λ form. form.now) (drop (index + 1) forms)) _ _ _ _
           c.in_ok-found.found c.forms.invariant.1 (ap (map (λ form. form.now)) cut) refl verdict
           (c.in_ok-add_fault.ensures ∙ ap (λ (f : Option Fault). c.forms.faults.items ++ list_of f) c.fault_of.ensures),
+      c.forms.invariant.2,
     )
 
 pub returns : goal.returns
