@@ -86,8 +86,8 @@ fn add_language_faults(
 }
 
 /// Adds the faults of an entry: those of `python-format`, of `python-brace-format`, then of `php-format`, each in the
-/// order of the forms. `often` says which forms serve five numbers or more, as far as that is known. The only error is a
-/// failed allocation.
+/// order of the forms. `often` says which forms serve five numbers or more, as far as that is known. The only error is
+/// a failed allocation.
 pub fn add_faults(
     faults: &mut Vec<Fault>,
     alloc: Global,
