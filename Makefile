@@ -43,7 +43,7 @@ PROGRAM_PREFIX =
 DOCUMENTS = $(PROGRAM_PREFIX)kobdzila
 libdir = $(PREFIX)/lib
 LIBDIR = $(libdir)
-MACHINE =
+MACHINE ?=
 export MACHINE
 BUILD := $(shell MACHINE=$(MACHINE) tools/machine build)
 BIN := $(shell MACHINE=$(MACHINE) tools/machine bin)

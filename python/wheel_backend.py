@@ -111,7 +111,7 @@ def catsession() -> Path | None:
 
 def configuration(headers: Path, room: Path) -> list[str]:
     """Return the flags by which each compiler finds Python's pyconfig.h. Debian has one for each machine, in a folder of its
-    name, where a compiler for another machine or for musl doesn't look. That of this machine serves, since the sizes in it
+    name, where a compiler for another machine doesn't look. That of this machine serves, since the sizes in it
     are the same (python/src/module.h compares them)."""
     own = Path("/usr/include", f"{os.uname().machine}-linux-gnu", headers.name, "pyconfig.h")
     found = Path(room, f"{of_machine('machine')}-linux-gnu", headers.name, "pyconfig.h")
@@ -135,11 +135,10 @@ def compile_extension(to: Path, *more: str) -> None:
 
 
 def tag_of(extension: Path) -> str:
-    """Return the wheel's tag, with the version of the C library that the extension needs: none of glibc's if it was compiled
-    for musl, whose tag has the version of PEP 656."""
+    """Return the wheel's tag, with the version of the C library that the extension needs."""
     needed = re.findall(r"\(GLIBC_2\.(\d+)", run(f"{of_machine('prefix')}objdump", "-T", str(extension)))
-    c_library = f"manylinux_2_{max([LEAST_GLIBC, *map(int, needed)])}" if needed else "musllinux_1_2"
-    return f"cp310-abi3-{c_library}_{of_machine('machine')}"
+    glibc = max([LEAST_GLIBC, *map(int, needed)])
+    return f"cp310-abi3-manylinux_2_{glibc}_{of_machine('machine')}"
 
 
 def manual_page() -> str:
