@@ -1,0 +1,181 @@
+#!/usr/bin/env bash
+# What was built for aarch64 (`make MACHINE=aarch64`, which leaves it in build/aarch64), by an emulator of the first
+# processor that has this machine's instructions: the scripts about msgfmt, catserve and catsession; the C library with
+# threads, as a static and as a shared library; libkobdzila-intl.so beside the C library's gettext; msgfmt-or-gnu and
+# kob-compile. The orders of the proved part's atomic steps and the hardening are read from the files.
+#
+# The emulator keeps the order of this machine's own memory, which is stronger than that of aarch64: a step that lacks its
+# order would not show when it runs, and so it is looked for in the instructions.
+no_program=1
+. "$(dirname "$0")/../lib/common"
+export MACHINE=aarch64
+eval "$(tools/machine)"
+top=$PWD
+
+# has_all: all is built, of these sources; else it is skipped
+has_all() {
+  local it newer
+  for it in "$bin"/{msgfmt,catserve,catsession,msgfmt-or-gnu,kob-compile} "$build"/static/{msgfmt,catserve,catsession} \
+    "$build"/lib/{libkobdzila.a,libkobdzila.so.0,libkobdzila-intl.so} "$build"/proved/libkobdzila_c.a; do
+    [ -f "$it" ] || { skipped aarch64 "there is no $it: make MACHINE=aarch64 builds it"; return 1; }
+  done
+  newer=$(find crates c include tools/machine_archive '(' -name '*.rt' -o -name '*.antt' -o -name '*.[ch]' ')' \
+    -newer "$bin/kob-compile" -print -quit)
+  [ -z "$newer" ] || { skipped aarch64 "$newer is newer than $bin: make MACHINE=aarch64 builds it"; return 1; }
+}
+
+if [ -z "$other" ]; then
+  skipped aarch64 'this is such a machine: the other scripts run what is built for it'
+  exit 0
+fi
+has_all || exit 0
+if ! tests/lib/needs "${cc%% *}" gcc-aarch64-linux-gnu libc6-dev-arm64-cross || ! tests/lib/needs "${prefix}readelf" binutils-aarch64-linux-gnu; then
+  skipped aarch64 "no ${cc%% *} with binutils, and it could not be installed"
+  exit 0
+fi
+if ! qemu=$(command -v qemu-aarch64-static || command -v qemu-aarch64); then
+  if ! tests/lib/needs qemu-aarch64-static qemu-user-static; then
+    skipped aarch64 'no qemu-aarch64, and it could not be installed'
+    exit 0
+  fi
+  qemu=qemu-aarch64-static
+fi
+# (where the C library of that machine lies, for the programs that aren't static)
+libraries=$(dirname "$(dirname "$("$cc" -print-file-name=libc.so.6)")")
+emulator=("$qemu" -cpu cortex-a53 -L "$libraries")
+
+# emulated NAME FILE: makes a program $room/NAME that runs the file by the emulator
+emulated() { script "$1" "exec ${emulated_by[*]} '$top/$2' \"\$@\""; }
+emulated_by=("${emulator[@]}")
+
+# runs NAME WORD..: the words end well within five minutes, in $room, and say nothing
+runs() {
+  local name=$1 said
+  shift
+  if said=$(cd "$room" && timeout 300 "${emulator[@]}" "$@" 2>&1) && [ -z "$said" ]; then
+    ok "aarch64, $name"
+  else
+    failed "aarch64, $name" "'$(head -c 400 <<< "$said")'"
+  fi
+}
+
+# compiles TO WORD..: compiles C for aarch64 to $room/TO by these words
+compiles() {
+  local to=$1
+  shift
+  "$cc" -std=c11 -O2 -g -Wall -Wextra -Werror -pthread -Iinclude -o "$room/$to" "$@" > "$room/cc" 2>&1 && return
+  failed "aarch64, $to" "it doesn't compile: $(head -c 300 "$room/cc")"
+  return 1
+}
+
+# lines_of NAME SCRIPT: the lines of another script, which runs what is emulated
+lines_of() { EMULATED=1 "tests/$2.sh" 2>&1 < /dev/null | sed -E "s/^(ok|FAILED|skipped) /\1 aarch64, $1/"; }
+
+# --- the programs -------------------------------------------------------------------------------------------------
+
+for it in msgfmt catserve catsession; do emulated "$it" "$build/static/$it" && emulated "dynamic_$it" "$bin/$it"; done
+export MSGFMT=$room/msgfmt CATSERVE=$room/catserve SESSION=$room/catsession
+lines_of '' msgfmt/rows
+lines_of '' scripts/stored
+lines_of '' scripts/scripts
+lines_of '' scripts/session
+unset MSGFMT CATSERVE SESSION
+
+# wrote NAME MO WANTED WORD..: the words end well, say nothing, and the file MO has the bytes of WANTED
+wrote() {
+  if said=$(timeout 60 "${@:4}" 2>&1) && [ -z "$said" ] && cmp -s "$2" "$3"; then ok "aarch64, $1"
+  else failed "aarch64, $1" "$said"; fi
+}
+for it in msgfmt-or-gnu kob-compile; do emulated "$it" "$bin/$it"; done
+if tests/lib/needs tools/gnu-msgfmt gettext; then
+  GNU_MSGFMT=$(tools/gnu-msgfmt)
+  export MSGFMT_OR_GNU_LOG=$room/log
+  mkdir "$room/project"
+  for it in fr pl; do cp "examples/$it.po" "$room/project" && "$GNU_MSGFMT" --no-hash -o "$room/$it.wanted" "examples/$it.po"; done
+  printf 'msgid ""\nmsgstr "Content-Type: text/plain; charset=EUC-JP\\n"\n\nmsgid "hi"\nmsgstr "\244\242"\n' > "$room/japanese.po"
+  "$GNU_MSGFMT" -o "$room/japanese.wanted" "$room/japanese.po" 2> "$room/err"
+  wrote 'msgfmt, which is not static' "$room/mo" "$room/pl.wanted" "$room/dynamic_msgfmt" -c -o "$room/mo" examples/pl.po
+  wrote 'msgfmt-or-gnu calls the msgfmt in it' "$room/mo" "$room/fr.wanted" \
+    env GNU_MSGFMT=/none "$room/msgfmt-or-gnu" -c -o "$room/mo" examples/fr.po
+  wrote "msgfmt-or-gnu runs GNU's" "$room/mo" "$room/japanese.wanted" \
+    env GNU_MSGFMT="$GNU_MSGFMT" "$room/msgfmt-or-gnu" -o "$room/mo" "$room/japanese.po"
+  logged=$(cut -f 1 "$room/log" | tr '\n' ' ')
+  if [ "$logged" = 'ours GNU ' ]; then ok 'aarch64, the log of msgfmt-or-gnu'; else failed 'aarch64, the log of msgfmt-or-gnu' "$logged"; fi
+  for it in fr pl; do
+    wrote "kob-compile, $it" "$room/project/$it.mo" "$room/$it.wanted" "$room/kob-compile" -q --no-gnu --force "$room/project"
+  done
+else
+  skipped 'aarch64, msgfmt-or-gnu and kob-compile' 'no GNU gettext, and it could not be installed'
+fi
+
+# --- the C library ------------------------------------------------------------------------------------------------
+
+static=$build/lib/libkobdzila.a wrapped=-Wl,--wrap=malloc,--wrap=realloc,--wrap=free
+compiles c_machine -static -Ic/machine -Ic/library tests/library/c_machine.c c/machine/*.c c/library/memory.c \
+  -Wl,--wrap=malloc,--wrap=realloc &&
+  for it in memory 'words a bc' cause; do runs "c/machine, $it" "$room/c_machine" $it; done
+compiles c_library -static tests/library/c_library.c "$static" && {
+  runs 'the C library, each function and each refusal' "$room/c_library" calls
+  runs 'the C library, 4 threads and 10,000 swaps' "$room/c_library" threads
+  runs 'the C library, bytes that change meanwhile' "$room/c_library" changing
+}
+compiles c_store -static tests/library/c_store.c "$static" $wrapped && {
+  runs 'the live store, each function and each refusal' "$room/c_store" calls
+  runs 'the live store, each request for memory refused' "$room/c_store" memory
+}
+compiles c_store_threads -static tests/library/c_store_threads.c "$static" $wrapped && {
+  runs 'the live store, 1,000 publishes and 16 threads' "$room/c_store_threads" one 1000
+  runs 'the live store, the same with memory refused' "$room/c_store_threads" one 200 97
+  runs 'the live store, four threads that publish' "$room/c_store_threads" several 100
+  runs 'the live store, a publisher that is stopped' "$room/c_store_threads" stopped 100
+}
+emulator+=(-E "LD_LIBRARY_PATH=$top/$build/lib")
+compiles shared tests/library/c_library.c -L"$build/lib" -lkobdzila &&
+  runs 'the shared library, each function and each refusal' "$room/shared" calls
+if said=$(tests/library/c_interface.py "$build/lib/libkobdzila.so.0" 2>&1); then ok "aarch64, the C interface: $said"
+else failed 'aarch64, the C interface' "$said"; fi
+
+# a program that was compiled for the C library's gettext answers the same by libkobdzila-intl.so
+mkdir -p "$room/locale/fr/LC_MESSAGES"
+"$room/msgfmt" -o "$room/locale/fr/LC_MESSAGES/garden.mo" examples/fr.po
+words=(env LANGUAGE fr locale C.UTF-8 bind garden "$room/locale" domain garden ask - Winter ask garden Summer plural garden 1
+  plural garden 5 ask none Winter ask - 'not there')
+if compiles ask tests/intl/ask_gettext.c; then
+  "${emulator[@]}" "$room/ask" "${words[@]}" > "$room/glibc" 2>&1
+  "${emulator[@]}" -E LD_PRELOAD="$top/$build/lib/libkobdzila-intl.so" "$room/ask" "${words[@]}" > "$room/ours" 2>&1
+  bound=$("${emulator[@]}" -E LD_DEBUG=bindings -E LD_PRELOAD="$top/$build/lib/libkobdzila-intl.so" "$room/ask" "${words[@]}" 2>&1 |
+    grep -c 'libkobdzila-intl.so .*dcgettext\|libkobdzila-intl.so .*gettext')
+  if ! grep -q Hiver "$room/glibc"; then
+    skipped 'aarch64, gettext of other programs' "the C library's own finds nothing: $(head -n 2 "$room/glibc" | tr '\n' ' ')"
+  elif [ "$bound" != 0 ] && cmp -s "$room/glibc" "$room/ours"; then
+    ok "aarch64, gettext of other programs: $(wc -l < "$room/ours") lines as without libkobdzila-intl.so"
+  else
+    failed 'aarch64, gettext of other programs' "$bound bound; $(diff "$room/glibc" "$room/ours" | head -n 4 | tr '\n' ' ')"
+  fi
+fi
+
+# --- the files ----------------------------------------------------------------------------------------------------
+
+# has_orders FILE: each atomic step in the proved part of FILE is ordered as one that is sequentially consistent: its
+# load acquires, its store releases
+atomic='^((ld|st)[a-z]*x[rp][bh]?|ldap?u?r[bh]?|stll?u?r[bh]?|(cas|swp|ld(add|clr|eor|set|[su]max|[su]min))[a-z]*)$'
+ordered=' (ldax[rp][bh]?|stlx[rp][bh]?|ldar[bh]?|stlr[bh]?)$'
+has_orders() {
+  local all weak
+  all=$("${prefix}objdump" -d --no-show-raw-insn "$1" | cut -s -f 2 | tr -d ' ' | grep -E "$atomic" | sort | uniq -c)
+  weak=$(grep -vE "$ordered" <<< "$all")
+  if [ -n "$all" ] && [ -z "$weak" ]; then ok "aarch64, the orders in $(basename "$1"): $(echo $all)"
+  else failed "aarch64, the orders in $(basename "$1")" "$(echo ${weak:-no atomic step})"; fi
+}
+has_orders "$build/proved/libkobdzila_c.a"
+has_orders "$build/proved/catsession.o"
+
+for it in "$bin"/* "$build"/static/{msgfmt,catserve,catsession} "$build"/lib/*.so.0 "$build"/lib/*-intl.so; do
+  head=$("${prefix}readelf" -hlW "$it")
+  if grep -q 'Machine: *AArch64' <<< "$head" && grep -q 'Type: *DYN' <<< "$head" && grep -q GNU_RELRO <<< "$head" &&
+    "${prefix}readelf" -dW "$it" | grep -qE 'BIND_NOW|Flags:.*NOW' && grep -q 'GNU_STACK .* RW ' <<< "$head" && ! grep -q ' RWE ' <<< "$head"; then
+    ok "aarch64, $it: any address, read-only tables, no code on the stack"
+  else
+    failed "aarch64, $it: any address, read-only tables, no code on the stack" "$(grep -E 'Type:|Machine:|RELRO|STACK' <<< "$head" | tr -s ' \n' ' ')"
+  fi
+done
