@@ -1,3 +1,4 @@
+pub mod Checking
 pub mod Gathering
 pub mod HeaderLemmas
 pub mod OneList
