@@ -231,6 +231,53 @@ kob_text kob_po_text(const kob_po_file *file);
 /* Free a PO file. No other call may be using it. */
 void kob_po_free(kob_po_file *file);
 
+/* The language of a format, by the flag of its entry: KOB_PYTHON_FORMAT is `python-format`. */
+enum kob_format_language {
+    KOB_OBJC_FORMAT = 0, KOB_CXX_FORMAT = 1, KOB_PYTHON_FORMAT = 2, KOB_PYTHON_BRACE_FORMAT = 3, KOB_JAVA_FORMAT = 4,
+    KOB_JAVA_PRINTF_FORMAT = 5, KOB_CSHARP_FORMAT = 6, KOB_JAVASCRIPT_FORMAT = 7, KOB_SCHEME_FORMAT = 8,
+    KOB_LISP_FORMAT = 9, KOB_ELISP_FORMAT = 10, KOB_LIBREP_FORMAT = 11, KOB_RUST_FORMAT = 12, KOB_GO_FORMAT = 13,
+    KOB_RUBY_FORMAT = 14, KOB_SH_FORMAT = 15, KOB_SH_PRINTF_FORMAT = 16, KOB_AWK_FORMAT = 17, KOB_LUA_FORMAT = 18,
+    KOB_OBJECT_PASCAL_FORMAT = 19, KOB_MODULA2_FORMAT = 20, KOB_D_FORMAT = 21, KOB_OCAML_FORMAT = 22,
+    KOB_SMALLTALK_FORMAT = 23, KOB_QT_FORMAT = 24, KOB_QT_PLURAL_FORMAT = 25, KOB_KDE_FORMAT = 26,
+    KOB_KDE_KUIT_FORMAT = 27, KOB_BOOST_FORMAT = 28, KOB_TCL_FORMAT = 29, KOB_PERL_FORMAT = 30,
+    KOB_PERL_BRACE_FORMAT = 31, KOB_PHP_FORMAT = 32, KOB_GCC_INTERNAL_FORMAT = 33, KOB_GFC_INTERNAL_FORMAT = 34,
+    KOB_YCP_FORMAT = 35
+};
+
+/* What is wrong with a form whose original is a format. */
+enum kob_format_difference {
+    KOB_FORMAT_INVALID = 0,  /* it is no format */
+    KOB_FORMAT_ARGUMENTS = 1 /* its arguments don't agree with the original's */
+};
+
+/* A fault of one form. */
+typedef struct {
+    unsigned line; /* of the entry's msgstr */
+    enum kob_format_language language;
+    unsigned form; /* counted from 0; 0 if the entry has no plural */
+    enum kob_format_difference difference;
+} kob_format_fault;
+
+/* The faults of the formats in a PO file. It is immutable. */
+typedef struct kob_format_faults kob_format_faults;
+
+/* List the faults of the formats in the PO file in `bytes`, as `msgfmt --check-format` of GNU gettext finds them: of each
+ * entry that is flagged `python-format` or `python-brace-format` and that is in the catalogue with these options, of
+ * which KOB_STRICT doesn't count. Formats of C are checked by kob_open_po with KOB_CHECKED. Return the list, which may
+ * be empty, and which the caller frees with kob_format_faults_free. If the file is refused, return NULL and store the
+ * reason in *why, as kob_open_po does; of an entry's content nothing else is checked. */
+kob_format_faults *kob_check_formats(const void *bytes, size_t len, unsigned options, kob_refusal *why);
+
+/* Return how many faults there are. */
+size_t kob_format_fault_count(const kob_format_faults *faults);
+
+/* Store fault number `place` in *fault and return 1, or return 0 if there is none. Faults are numbered from 0, in the
+ * order of the file. */
+int kob_format_fault_at(const kob_format_faults *faults, size_t place, kob_format_fault *fault);
+
+/* Free a list of faults. No other call may be using it. */
+void kob_format_faults_free(kob_format_faults *faults);
+
 /* A set of catalogues, each for a text domain and a locale. It is immutable and reference-counted. To replace
  * catalogues while threads look up in them, use a kob_store. */
 typedef struct kob_set kob_set;

@@ -8,7 +8,7 @@
 #include <stddef.h>
 #include <stdint.h>
 
-/* A catalogue or why it was refused; what was made of one; a set, a reader that lends one, or why there is none; and a
+/* A catalogue or why it was refused; what was made of one or of a PO text; a set, a reader that lends one, or why there is none; and a
  * live store's parts. */
 struct held_catalogue;
 struct held_output;
@@ -40,6 +40,7 @@ enum { GETTEXT = 0, IN_CONTEXT = 1, WITH_NUMBER = 2 };
 enum { FAULT = 0 };
 enum { LINE = 1, COUNT = 2, FORMS = 3, HAS_CONTEXT = 4, HAS_PLURAL = 5 };
 enum { TRANSLATED = 6, FUZZY = 7, UNTRANSLATED = 8 };
+enum { FAULT_LINE = 3, FAULT_LANGUAGE = 4, FAULT_FORM = 5, FAULT_DIFFERENCE = 6 };
 enum { VERSION = 1, PENDING = 2, RETAINED = 3 };
 enum { FILE_BYTES = 0, CONTEXT = 1, MSGID = 2, PLURAL = 3, FORM = 4 };
 enum { BUSY = 203 };
@@ -61,10 +62,12 @@ void kobdzila_answer(const struct held_catalogue *catalogue, const unsigned char
 uint64_t kobdzila_hint(const struct held_catalogue *catalogue, const unsigned char *context, size_t context_len,
                        const unsigned char *msgid, size_t msgid_len, uint32_t call);
 
-/* ---- what is made of catalogues */
+/* ---- what is made of catalogues and PO texts */
 size_t kobdzila_output_size(void);
 void kobdzila_write_po(const struct held_catalogue *catalogue, uint32_t escape, struct held_output *out);
-uint64_t kobdzila_output_number(const struct held_output *output, uint32_t which);
+void kobdzila_format_faults(const unsigned char *bytes, size_t len, uint32_t checked, uint32_t use_fuzzy,
+                            struct held_output *out);
+uint64_t kobdzila_output_number(const struct held_output *output, uint32_t which, uint64_t place);
 void kobdzila_output_text(const struct held_output *output, struct lent *out);
 void kobdzila_output_close(struct held_output *output);
 

@@ -11,6 +11,10 @@
 #include <stdlib.h>
 #include <string.h>
 
+/* How many bytes of an MO file and of a PO file are read. */
+#define MOST_MO 268435456
+#define MOST_PO 67108864
+
 /* Each handle is followed by a value of the proved library, for which the handle leaves room that is aligned as malloc
  * aligns. */
 struct kob_catalogue {

@@ -3,9 +3,6 @@
 #include "held.h"
 #include "memory.h"
 
-#define MOST_MO 268435456
-#define MOST_PO 67108864
-
 const char *kob_version(void) { return KOB_VERSION; }
 
 /* Allocate room for a catalogue, with one reference; NULL and the reason if memory runs out. */

@@ -1,33 +1,72 @@
-/* What is made of a catalogue, the C part: memory. The texts are made in crates/kobdzila_c (exports.h). */
+/* What is made of a catalogue or a PO file, the C part: memory. The texts and lists are made in crates/kobdzila_c
+ * (exports.h). A handle is a value of the proved library, of one kind whatever was made. */
 #include "held.h"
 
-/* A PO file is a value of the proved library. */
-static struct held_output *held_output(kob_po_file *file) { return (struct held_output *)file; }
+static struct held_output *held_output(void *made) { return made; }
 
-static const struct held_output *read_output(const kob_po_file *file) { return (const struct held_output *)file; }
+static uint64_t number_of_output(const void *made, uint32_t which, size_t place) {
+    return kobdzila_output_number(made, which, place);
+}
+
+static void free_output(void *made) {
+    if (!made)
+        return;
+    int cause = errno;
+    kobdzila_output_close(held_output(made));
+    free_quietly(made);
+    errno = cause;
+}
+
+/* Return what was made. If there is none, free it, store the reason in *why and return NULL. */
+static void *made_or_refused(void *made, kob_refusal *why) {
+    enum kob_fault fault = (enum kob_fault)number_of_output(made, FAULT, 0);
+    refuse(why, fault, (unsigned)number_of_output(made, LINE, 0));
+    if (fault == KOB_NO_FAULT)
+        return made;
+    free_output(made);
+    return NULL;
+}
+
+/* ---- PO files */
 
 kob_po_file *kob_write_po(const kob_catalogue *catalogue, unsigned options) {
-    kob_po_file *file = malloc(kobdzila_output_size());
-    if (!file)
+    void *made = malloc(kobdzila_output_size());
+    if (!made)
         return NULL;
-    kobdzila_write_po(read_catalogue(catalogue), options & KOB_ESCAPED, held_output(file));
-    if (kobdzila_output_number(read_output(file), FAULT) == KOB_NO_FAULT)
-        return file;
-    kob_po_free(file);
-    return NULL;
+    kobdzila_write_po(read_catalogue(catalogue), options & KOB_ESCAPED, held_output(made));
+    return made_or_refused(made, NULL);
 }
 
 kob_text kob_po_text(const kob_po_file *file) {
     struct lent out;
-    kobdzila_output_text(read_output(file), &out);
+    kobdzila_output_text((const struct held_output *)file, &out);
     return (kob_text){ (const char *)out.at, out.len };
 }
 
-void kob_po_free(kob_po_file *file) {
-    if (!file)
-        return;
-    int cause = errno;
-    kobdzila_output_close(held_output(file));
-    free_quietly(file);
-    errno = cause;
+void kob_po_free(kob_po_file *file) { free_output(file); }
+
+/* ---- faults of formats */
+
+kob_format_faults *kob_check_formats(const void *bytes, size_t len, unsigned options, kob_refusal *why) {
+    if (len > MOST_PO)
+        return refuse(why, KOB_PO_TOO_LARGE, 0);
+    void *made = malloc(kobdzila_output_size());
+    if (!made)
+        return refuse(why, KOB_MEMORY, 0);
+    kobdzila_format_faults(len ? bytes : "", len, options & KOB_CHECKED, options & KOB_USE_FUZZY, held_output(made));
+    return made_or_refused(made, why);
 }
+
+size_t kob_format_fault_count(const kob_format_faults *faults) { return number_of_output(faults, COUNT, 0); }
+
+int kob_format_fault_at(const kob_format_faults *faults, size_t place, kob_format_fault *fault) {
+    if (place >= kob_format_fault_count(faults))
+        return 0;
+    fault->line = (unsigned)number_of_output(faults, FAULT_LINE, place);
+    fault->language = (enum kob_format_language)number_of_output(faults, FAULT_LANGUAGE, place);
+    fault->form = (unsigned)number_of_output(faults, FAULT_FORM, place);
+    fault->difference = (enum kob_format_difference)number_of_output(faults, FAULT_DIFFERENCE, place);
+    return 1;
+}
+
+void kob_format_faults_free(kob_format_faults *faults) { free_output(faults); }

@@ -99,6 +99,30 @@ static void po_files(void) {
     kob_po_free(NULL);
 }
 
+/* The faults that GNU msgfmt 0.21 reports of the same text with --check-format, by their lines and forms. */
+static void formats(void) {
+    static const char text_of_faults[] = "msgid \"\"\nmsgstr \"charset=UTF-8\\nPlural-Forms: nplurals=2; plural=n>1;\\n\"\n"
+        "#, python-format\nmsgid \"%(a)s\"\nmsgstr \"%(b)s\"\n"
+        "#, python-brace-format\nmsgid \"{a}\"\nmsgid_plural \"{a}s\"\nmsgstr[0] \"{a}\"\nmsgstr[1] \"{\"\n"
+        "#, python-format\nmsgid \"%d\"\nmsgstr \"%d\"\n"
+        "#, fuzzy, python-format\nmsgid \"%s\"\nmsgstr \"%d\"\n";
+    kob_refusal why;
+    kob_format_fault fault;
+    kob_format_faults *faults = kob_check_formats(text_of_faults, strlen(text_of_faults), 0, &why);
+    is("the faults of formats", faults && why.fault == KOB_NO_FAULT && kob_format_fault_count(faults) == 2);
+    is("other arguments", faults && kob_format_fault_at(faults, 0, &fault) && fault.line == 5 &&
+       fault.language == KOB_PYTHON_FORMAT && fault.form == 0 && fault.difference == KOB_FORMAT_ARGUMENTS);
+    is("no format", faults && kob_format_fault_at(faults, 1, &fault) && fault.line == 9 &&
+       fault.language == KOB_PYTHON_BRACE_FORMAT && fault.form == 1 && fault.difference == KOB_FORMAT_INVALID);
+    is("no further fault", faults && !kob_format_fault_at(faults, 2, &fault));
+    kob_format_faults_free(faults);
+    faults = kob_check_formats(text_of_faults, strlen(text_of_faults), KOB_USE_FUZZY, NULL);
+    is("a fuzzy entry", faults && kob_format_fault_count(faults) == 3);
+    kob_format_faults_free(faults);
+    is("a refused text", !kob_check_formats("msgid", 5, 0, &why) && why.fault == KOB_PO_BAD_ORDER && why.line == 1);
+    kob_format_faults_free(NULL);
+}
+
 static void files(const kob_catalogue *c, const char *name) {
     kob_text file = kob_mo_file(c);
     kob_refusal why;
@@ -513,6 +537,7 @@ static void calls(void) {
     texts(c);
     files(c, "c_library.mo");
     po_files();
+    formats();
     is("retain", kob_retain(c) == c);
     kob_release(c);
     is("one holder is left", !strcmp(kob_gettext(c, "hi"), "hi"));

@@ -223,6 +223,25 @@ static void sweep_sizes(void) {
     }
 }
 
+/* the faults of a PO file's formats */
+static void sweep_formats(void) {
+    static const char bytes[] = "#, python-format\nmsgid \"%(a)s %(b)s\"\nmsgstr \"%(a)s %(c)d\"\n";
+    unsigned long before = blocks;
+    for (unsigned long k = 1;; k++) {
+        kob_refusal why;
+        requests = 0;
+        refused = k;
+        kob_format_faults *faults = kob_check_formats(bytes, strlen(bytes), 0, &why);
+        int was_refused = requests >= k;
+        refused = 0;
+        is("faults", faults ? kob_format_fault_count(faults) == 1 : was_refused && why.fault == KOB_MEMORY);
+        kob_format_faults_free(faults);
+        is("nothing is leaked of faults", blocks == before);
+        if (!was_refused || wrong)
+            break;
+    }
+}
+
 /* the PO file of a catalogue */
 static void sweep_po_file(void) {
     unsigned long before = blocks;
@@ -263,6 +282,7 @@ static void memory(void) {
     sweep("kob_set_open", set_open, opened_set_is_right);
     sweep_sizes();
     sweep_po_file();
+    sweep_formats();
     kob_release(given);
     kob_set_release(given_set);
     is("all blocks were freed", blocks == 0);

@@ -66,6 +66,20 @@ the_fuzzy = 7
 abbrev pub the_untranslated : ℕ
 the_untranslated = 8
 
+-- ---- and of a fault of a format
+
+abbrev pub fault_line : ℕ
+fault_line = 3
+
+abbrev pub fault_language : ℕ
+fault_language = 4
+
+abbrev pub fault_form : ℕ
+fault_form = 5
+
+abbrev pub fault_difference : ℕ
+fault_difference = 6
+
 -- ---- and of a set, a store or a reader, which also have the_fault
 
 abbrev pub the_version : ℕ

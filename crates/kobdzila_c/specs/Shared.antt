@@ -131,7 +131,7 @@ abbrev pub set_answered_at : Lft → Ptr → HeldSet → List ℕ → Question �
 set_answered_at κ out s places q = fex (Bor (List ℕ)) (λ r. fex (IsSetAnswerAt s places q r.now)
     (λ _. lies_at (Text κ) full_share out r))
 
--- ---- what is made of a catalogue
+-- ---- what is made of a catalogue or a PO text
 
 -- what was made is at p, and its holder alone may use it
 abbrev pub holds_output : Ptr → HeldOutput → Fml

@@ -37,7 +37,7 @@ ghost use Rattle.kobdzila_c.specs.Shared.{entrance_at, holds_entrance, reads_ent
 ghost use Rattle.kobdzila_c.specs.Shared.{holds_notice, holds_store, notice_at, reads_notice, reads_store, store_at};
 ghost use Rattle.kobdzila_c.specs.contracts.outputs.HeldOutput.{the_row as output_row};
 ghost use Rattle.kobdzila_c.specs.declared.outputs.HeldOutput.{HeldOutput as AnOutput};
-ghost use Rattle.kobdzila_c.specs.Outputs.{IsPoText, output_number};
+ghost use Rattle.kobdzila_c.specs.Outputs.{IsFormatFaults, IsPoText, output_number};
 ghost use Rattle.kobdzila_c.specs.Shared.{holds_output, output_at, reads_output, text_lent};
 
 mod answers;
@@ -570,7 +570,8 @@ pub unsafe extern "C" fn kobdzila_reader_enter_after(
     ));
 }
 
-/// The type that C's pointers to an output have: to what was made of a catalogue. C must not read or write its bytes.
+/// The type that C's pointers to an output have: to what was made of a catalogue or a PO text. C must not read or write
+/// its bytes.
 pub struct OpaqueOutput {
     byte: u8,
 }
@@ -600,14 +601,36 @@ pub unsafe extern "C" fn kobdzila_write_po(
     (out as *mut HeldOutput).write(outputs::write_text(alloc, &*(held as *const Opened), escape));
 }
 
-/// A number (`numbers`) of the output at `held`: its `FAULT`, or the fault's `LINE`.
+/// Writes the faults of the formats of Python in a PO text to `out`, or why it is refused. An option is on if its
+/// argument isn't 0. The text may be in any charset of `charsets`.
 #[unsafe(no_mangle)]
-pub unsafe extern "C" fn kobdzila_output_number(held: *const OpaqueOutput, which: u32) -> u64
+pub unsafe extern "C" fn kobdzila_format_faults(
+    alloc: Global,
+    bytes: &[u8],
+    checked: u32,
+    use_fuzzy: u32,
+    out: *mut OpaqueOutput,
+)
+    requires* { sem 𝓛 (room_at output_row out) }
+    ensures* { sem 𝓛 (output_at out (IsFormatFaults bytes.now (options_of checked use_fuzzy))) }
+{
+    (out as *mut HeldOutput).write(outputs::check_formats(alloc, bytes, checked, use_fuzzy));
+}
+
+/// A number (`numbers`) of the output at `held`: its `FAULT`, the fault's `LINE`, or the `COUNT` of the faults in it.
+/// For fault `place` it is its `FAULT_LINE`, `FAULT_LANGUAGE`, `FAULT_FORM` or `FAULT_DIFFERENCE`. Any other number is
+/// 0, and so is one of a fault that isn't there.
+#[unsafe(no_mangle)]
+pub unsafe extern "C" fn kobdzila_output_number(
+    held: *const OpaqueOutput,
+    which: u32,
+    place: u64,
+) -> u64
     ghost g: { Lft × Share × AnOutput }
     requires* { sem 𝓛 (reads_output g.0 g.1 held g.2) }
-    ensures* { sem 𝓛 (flft g.0 g.1) ∗ ⌜ result ≡ output_number g.2 which ⌝ }
+    ensures* { sem 𝓛 (flft g.0 g.1) ∗ ⌜ result ≡ output_number g.2 which place ⌝ }
 {
-    outputs::output_number(&*(held as *const HeldOutput), which)
+    outputs::output_number(&*(held as *const HeldOutput), which, place)
 }
 
 /// Writes the bytes of the PO text at `held` to `out`; none if there is no PO text.

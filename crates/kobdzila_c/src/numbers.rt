@@ -58,6 +58,15 @@ pub(crate) const FUZZY: u32 = 7;
 
 pub(crate) const UNTRANSLATED: u32 = 8;
 
+// and of a fault of a format,
+pub(crate) const FAULT_LINE: u32 = 3;
+
+pub(crate) const FAULT_LANGUAGE: u32 = 4;
+
+pub(crate) const FAULT_FORM: u32 = 5;
+
+pub(crate) const FAULT_DIFFERENCE: u32 = 6;
+
 // and of a set, a store or a reader, which also have `FAULT`.
 pub(crate) const VERSION: u32 = 1;
 

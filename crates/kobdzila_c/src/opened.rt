@@ -147,7 +147,7 @@ pub(crate) fn open_mo(alloc: Global, bytes: &[u8], strict: u32) -> Opened
 }
 
 /// Copies bytes that C lent.
-fn copied(alloc: Global, bytes: &[u8]) -> Result<Vec<u8>, AllocError>
+pub(crate) fn copied(alloc: Global, bytes: &[u8]) -> Result<Vec<u8>, AllocError>
     ensures { IfOk result (λ copy. copy.items ≡ bytes.now) }
 {
     let mut copy = Vec::with_capacity(alloc, bytes.len())?;
@@ -182,13 +182,32 @@ fn compile_text(
     }
 }
 
+/// The number in `kobdzila.h` of a fault of a PO text in any charset, and its line.
+pub(crate) fn number_and_line(fault: TextFault) -> (u32, u32)
+    ensures number { result.0 ≡ text_fault_number fault }
+    ensures line { result.1 ≡ line_of fault }
+{
+    match fault {
+        TextFault::Load(LoadFault { kind, line }) => (fault_number(kind), line),
+        TextFault::NoCharacter(line) => (NO_CHARACTER, line),
+    }
+}
+
 /// No catalogue, for the fault of a PO text.
 fn refused_text(fault: TextFault) -> Opened
     ensures { IsRefused result (text_fault_number fault) (line_of fault) }
 {
-    match fault {
-        TextFault::Load(LoadFault { kind, line }) => refused(fault_number(kind), line),
-        TextFault::NoCharacter(line) => refused(NO_CHARACTER, line),
+    let (number, line) = number_and_line(fault);
+    refused(number, line)
+}
+
+/// The options that two numbers give: each is on if its number isn't 0.
+pub(crate) fn options_of(checked: u32, use_fuzzy: u32) -> Options
+    ensures { result ≡ options_of checked use_fuzzy }
+{
+    Options {
+        checked: checked > 0,
+        use_fuzzy: use_fuzzy > 0,
     }
 }
 
@@ -202,11 +221,7 @@ pub(crate) fn open_po(
 ) -> Opened
     ensures { IsOpenedPo bytes.now (options_of checked use_fuzzy) (nat_lt 0 strict) result }
 {
-    let options = Options {
-        checked: checked > 0,
-        use_fuzzy: use_fuzzy > 0,
-    };
-    match compile_text(alloc, bytes, options, strict > 0) {
+    match compile_text(alloc, bytes, options_of(checked, use_fuzzy), strict > 0) {
         Ok(compiled) => kept(alloc, compiled.catalogue, compiled.stats),
         Err(fault) => refused_text(fault),
     }

@@ -36,7 +36,7 @@ use Rattle.kobdzila_c.specs.contracts.outputs.output_number as g
 use Rattle.kobdzila_c.proofs.outputs.output_number.Met.{met}
 
 abbrev stayed : Stays f.ended.signature.params f.ended.kept
-stayed = (stay_dropped _ yes, (stay_dropped _ yes, tt))
+stayed = (stay_dropped _ yes, (stay_dropped _ yes, (stay_dropped _ yes, tt)))
 
 pub kobdzila_output_number_spec : {M : Type 1} → statement M
 kobdzila_output_number_spec 𝓤 𝓛 𝓜 𝓡 wired =
@@ -46,26 +46,30 @@ kobdzila_output_number_spec 𝓤 𝓛 𝓜 𝓡 wired =
       (
         Goes-dropped 𝓛 0
             (plain (λ _. u32)) yes (λ κs x w. refl),
-        tt,
+        (Goes-dropped 𝓛 0 (plain (λ _. u64)) yes (λ κs x w. refl), tt),
       ),
     )
     f.Key.name code.function (code.unfolded 𝓤 𝓛.H 𝓜 𝓡 wired)
-    (λ κs. (rawptr_vals, (uint_vals w32, tt))) (λ κs. (
+    (λ κs. (rawptr_vals, (uint_vals w32, (uint_vals w64, tt)))) (λ κs. (
       rawptr_Tells,
       (
         uint_Tells w32,
-        tt,
+        (
+          uint_Tells
+              w64,
+          tt,
+        ),
       ),
     )) (λ κs qs bounds a gh are.
-    let p : Ptr = a.0 in let which : ℕ = a.1.0 in let μ : Lft = gh.0 in
+    let p : Ptr = a.0 in let which : ℕ = a.1.0 in let place : ℕ = a.1.1.0 in let μ : Lft = gh.0 in
     let s : Share = gh.1 in let x = gh.2 in
-    let y : W.Ghost = ((κs, qs, bounds, a, (rawptr_vals p, (vint w32 which ∷ [], tt))), gh) in
-    qed 𝓛 ((‵ ftrue ⊛ ‵ (owns (RawPtr ∷ u32 ∷ []) a y.0.4)) ∷ ‵ (reads_output μ s p x) ∷ []) ∵
-    split ! $ drop ! $ fsplit ! $ drop ! $ fsplit ! $ move ! (1 ∷ []) $ drop ! $
-    -- [the number; the requires]
-    move ! (1 ∷ []) $ fsplit ! $ fsplit ! $ use1 𝓛 (raw (fact 𝓤 (InBlock p))) (in_block_says 𝓛 p) $
+    let y : W.Ghost = ((κs, qs, bounds, a, (rawptr_vals p, (vint w32 which ∷ [], (vint w64 place ∷ [], tt)))), gh) in
+    qed 𝓛 ((‵ ftrue ⊛ ‵ (owns (RawPtr ∷ u32 ∷ u64 ∷ []) a y.0.4)) ∷ ‵ (reads_output μ s p x) ∷ []) ∵
+    split ! $ drop ! $ fsplit ! $ drop ! $ fsplit ! $ move ! (1 ∷ []) $ fsplit ! $ move ! (1 ∷ []) $ drop ! $
+    -- [the two numbers; the requires]
+    move ! (2 ∷ []) $ fsplit ! $ fsplit ! $ use1 𝓛 (raw (fact 𝓤 (InBlock p))) (in_block_says 𝓛 p) $
     heard ! (InBlock p) (λ inb. hide ! $
-    -- [what was made; the token of μ; the number]
+    -- [what was made; the token of μ; the two numbers]
     enter ! _ _ _ _ _ $ alloc_all ! (λ l. pass_all ! refl (
       ((rawptr_Lawful 𝓛).typed p _ refl).0,
       (
@@ -76,7 +80,7 @@ kobdzila_output_number_spec 𝓤 𝓛 𝓜 𝓡 wired =
                 = are.1.0.1;
           },
         ),
-        tt,
+        ((tt, record { fits = are.1.1.0.1 }), tt),
       ),
     ) $
     sets ! (is ! (of_opd ! (get ! refl)) (ap ptr_val (at_block p inb))) refl (tt, tt) $
@@ -91,29 +95,32 @@ kobdzila_output_number_spec 𝓤 𝓛 𝓜 𝓡 wired =
           record { ref_ptr = (block_of p, count_of p); now = x },
           (
             which,
-            tt,
+            (
+              place,
+              tt,
+            ),
           ),
         ),
-        (at ∷ [], (vint w32 which ∷ [], tt)),
+        (at ∷ [], (vint w32 which ∷ [], (vint w64 place ∷ [], tt))),
       ),
       tt,
     ) in
     feq_i ! (List Val) (at ∷ []) (at ∷ []) refl $ fjoin ! $ nothing ! $ move ! (3 ∷ 0 ∷ []) $ fjoin ! $
-    move ! (1 ∷ 0 ∷ []) $ fjoin ! $ nothing ! $ move ! (2 ∷ 0 ∷ []) $ join ! $
+    move ! (3 ∷ 0 ∷ []) $ fjoin ! $ move ! (1 ∷ 0 ∷ []) $ fjoin ! $ nothing ! $ move ! (2 ∷ 0 ∷ []) $ join ! $
     join ! $
     nothing ! $ move ! (1 ∷ 0 ∷ []) $ join ! $ use1 𝓛 (raw (G.pre z)) (id⊢ 𝓤 _) $
-    calls_at ! (framed 𝓤 𝓛.H 𝓜 𝓣) G (met 𝓤 𝓛 𝓜 𝓡
-    (code.calls-kobdzila_c::outputs::output_number 𝓡.env wired)) z (and_then !
-    (get ! refl) (and_then ! (get ! refl) (no_more !))) (λ v.
+    calls_at ! (framed 𝓤 𝓛.H 𝓜 𝓣) G (met 𝓤 𝓛 𝓜 𝓡 (code.calls-kobdzila_c::outputs::output_number 𝓡.env wired)) z
+    (and_then ! (get ! refl) (and_then ! (get ! refl) (and_then ! (get ! refl) (no_more !)))) (λ v.
     use1 𝓛 (later (some (λ (r : ℕ). ((‵ (flft μ s) ⊛ ‵ ftrue) ⊛ ‵ (u64.own_val r (v ∷ []))) ⊛ some (λ (ws : Lasts
-    g.ended z.0.0 z.0.3). ‵ (lasts g.ended z.0.0 z.0.3 ws) ⊛ raw (fact 𝓤 (r ≡ output_number x which)))))) (id⊢ 𝓤 _) $
+    g.ended z.0.0 z.0.3). ‵ (lasts g.ended z.0.0 z.0.3 ws)
+    ⊛ raw (fact 𝓤 (r ≡ output_number x which place)))))) (id⊢ 𝓤 _) $
     await ! tt $ pick ! (λ r. split ! $ split ! $ move ! (2 ∷ []) $ pick ! (λ ws. split ! $ drop ! $
-    heard ! (r ≡ output_number x which) (λ ok. move ! (1 ∷ []) $
+    heard ! (r ≡ output_number x which place) (λ ok. move ! (1 ∷ []) $
     -- [the number; the tokens]
     peeks ! u64 (Is u64) (shows 𝓛 u64) r (v ∷ []) (λ so. let typed = ((uint_Lawful 𝓛 w64).typed r (v ∷ []) so).0 in
     lands_as ! refl refl typed $
     returns ! (look_at ! 0 refl) $ free_all ! refl $ move ! (1 ∷ []) $ split ! $ move ! (1 ∷ []) $ drop ! $
     -- [the token of μ; the number]
-    suffices ! _ (ends_at 𝓛 f.ended stayed c y v r (tt, (tt, tt)) (tt, (tt, tt))) $
-    move ! (1 ∷ []) $ nothing ! $ nothing ! $ join ! $ nothing ! $ join ! $ nothing ! $
+    suffices ! _ (ends_at 𝓛 f.ended stayed c y v r (tt, (tt, (tt, tt))) (tt, (tt, (tt, tt)))) $
+    move ! (1 ∷ []) $ nothing ! $ nothing ! $ join ! $ nothing ! $ join ! $ nothing ! $ join ! $ nothing ! $
     group ! 3 $ frame ! $ says ! ok $ done !))))))))
