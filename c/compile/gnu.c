@@ -65,13 +65,13 @@ static char *read_back(int file, size_t *len) {
 
 /* Its MO file has no hash table, as Kobdzila's has none. */
 static struct ending run_gnu(const struct run *run, char *name, const struct captured *files) {
-    char *words[9] = {gnu, (char[]){"--no-hash"}, (char[]){"--statistics"}, (char[]){"--output-file=-"}};
+    char *words[9] = {gnu, "--no-hash", "--statistics", "--output-file=-"};
     int count = 4;
     if (run->options.checks)
-        words[count++] = (char[]){"--check"};
+        words[count++] = "--check";
     if (run->options.keeps_fuzzy)
-        words[count++] = (char[]){"--use-fuzzy"};
-    words[count++] = (char[]){"--"};
+        words[count++] = "--use-fuzzy";
+    words[count++] = "--";
     words[count++] = name;
     return run_program(gnu, words, (struct streams){files->input, files->made, files->said, -1, -1});
 }

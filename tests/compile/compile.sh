@@ -365,6 +365,10 @@ if [ -n "$gnu" ]; then
   says 'compile, another charset' 0 'euc/ja.po: 1 translated message, 1 fuzzy translation.' --statistics -q euc
   "$gnu" --no-hash -o wanted.gnu euc/ja.po
   holds 'compile, another charset: the bytes of GNU msgfmt' cmp -s euc/ja.mo wanted.gnu
+  says 'compile, another charset, -c -f' 0 'euc/ja.po: 2 translated messages.' --statistics -q -c -f --force euc
+  mkdir checked && { cat euc/ja.po && printf '#, c-format\nmsgid "%%d"\nmsgstr "%%s"\n'; } > checked/ja.po
+  says 'compile, another charset, checked by GNU msgfmt' 1 \
+    "checked/ja.po:12: format specifications in 'msgid' and 'msgstr' for argument 1 are not the same" -q -c checked
   { header EUC-JP ja && printf 'msgid "hi"\nmsgid "x"\n'; } > euc/fr.po
   "$gnu" -o none.mo euc/fr.po 2> said
   run -q euc/fr.po
