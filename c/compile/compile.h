@@ -3,6 +3,7 @@
 #define COMPILE_H
 
 #include "kobdzila.h"
+#include "or_gnu_formats.h"
 #include "replace.h"
 
 #include <signal.h>
@@ -56,6 +57,7 @@ struct catalogue {
     enum kob_fault fault; /* why Kobdzila refused it */
     unsigned line;        /* 0 if the reason has no line */
     char *why;            /* the reason, as it is printed, or NULL */
+    struct format_faults formats; /* with -c: what is wrong with formats but C's; the first is `line` and `why` */
     unsigned missing;     /* a bit for each field that the header lacks, in the order of `fields`; with -c */
     unsigned header_line;
     kob_counts counts;

@@ -61,6 +61,7 @@ static void free_catalogue(struct catalogue *it) {
     free(it->language);
     free(it->domain);
     free(it->why);
+    free_format_faults(&it->formats);
 }
 
 /* Add a PO file, whose path the catalogue takes. */

@@ -41,6 +41,17 @@ static void print_warnings(FILE *to, const struct catalogue *it) {
     fputc(']', to);
 }
 
+/* Print what is wrong with formats, all of it. */
+static void print_formats(FILE *to, const struct format_faults *formats) {
+    for (size_t place = 0; place < formats->count; place++) {
+        const struct format_fault *it = &formats->at[place];
+        fprintf(to, "%s{\"line\":%u", place ? "," : ",\"formats\":[", it->line);
+        print_text_member(to, "msgid", it->id);
+        print_text_member(to, "why", it->why);
+        fputs(place + 1 < formats->count ? "}" : "}]", to);
+    }
+}
+
 static void print_catalogue(FILE *to, const struct run *run, const struct catalogue *it) {
     static const char *const outcomes[] = {"not reached", "up to date", "compiled", "refused", "not read",
                                            "not written"};
@@ -62,6 +73,7 @@ static void print_catalogue(FILE *to, const struct run *run, const struct catalo
         fprintf(to, ",\"line\":%u", it->line);
     if (it->why)
         print_text_member(to, "why", it->why);
+    print_formats(to, &it->formats);
     fputc('}', to);
 }
 

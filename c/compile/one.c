@@ -81,6 +81,7 @@ static void hand_to_gnu(const struct run *run, struct catalogue *it, bool is_for
     it->lacks_gnu = answer.is_missing && is_for_gnu;
     if (answer.mo || (answer.why && is_for_gnu)) {
         free(it->why);
+        free_format_faults(&it->formats);
         it->why = answer.why;
         it->line = answer.line;
         it->by_gnu = true;
@@ -106,7 +107,7 @@ static void end_refused(const struct run *run, struct catalogue *it, kob_refusal
     it->line = why.line;
     it->why = text_of("%s", kob_fault_text(why.fault));
     if (!run->options.without_gnu && !stopped_by)
-        hand_to_gnu(run, it, why.fault == KOB_PO_TOO_LARGE || scan(run, text).why[0]);
+        hand_to_gnu(run, it, why.fault == KOB_PO_TOO_LARGE || scan(run, text).helps);
 }
 
 /* Compile a text with flags in `#=` lines, which Kobdzila's compiler takes for comments, with a GNU msgfmt that knows
@@ -125,12 +126,36 @@ static bool serve_flag_lines(const struct run *run, struct catalogue *it, struct
     return true;
 }
 
+/* Refuse a text that compiles, for formats of other languages than C. GNU msgfmt may know more of them than Kobdzila. False if nothing
+ * is wrong with them. */
+static bool refuse_formats(const struct run *run, struct catalogue *it, struct text_bytes text) {
+    unsigned options = KOB_CHECKED | (run->options.keeps_fuzzy ? KOB_USE_FUZZY : 0);
+    struct part part = {text.at, text.at + text.len};
+    kob_refusal why;
+    if (!run->options.checks || !checks_formats() || !names_checked_format(part))
+        return false;
+    if (!find_format_faults(&it->formats, part, options, &why))
+        stop_for_memory(); /* (the text has compiled) */
+    if (!it->formats.count)
+        return false;
+    it->outcome = IS_REFUSED;
+    it->line = it->formats.at[0].line;
+    it->why = text_of("%s", it->formats.at[0].why);
+    if (!run->options.without_gnu && !stopped_by)
+        hand_to_gnu(run, it, false);
+    return true;
+}
+
 static void compile_text(const struct run *run, struct catalogue *it, struct text_bytes text) {
     unsigned how = (run->options.checks ? KOB_CHECKED : 0) | (run->options.keeps_fuzzy ? KOB_USE_FUZZY : 0);
     kob_refusal why;
     kob_catalogue *made = kob_open_po(text.at, text.len, how, &why);
     if (!made) {
         end_refused(run, it, why, text);
+        return;
+    }
+    if (refuse_formats(run, it, text)) {
+        kob_release(made);
         return;
     }
     it->counts = statistics_of(made);

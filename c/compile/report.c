@@ -47,6 +47,8 @@ static void tell_trouble(const struct catalogue *it) {
             tell("%s:%u: %s", it->po, it->line, it->why);
         else
             tell("%s: %s", it->po, it->why);
+        for (size_t place = 1; place < it->formats.count; place++)
+            tell("%s:%u: %s", it->po, it->formats.at[place].line, it->formats.at[place].why);
         break;
     case IS_UNREAD: tell("kob-compile: cannot read %s: %s", it->po, it->why); break;
     case IS_UNWRITTEN: tell("kob-compile: cannot write %s: %s", it->mo, it->why); break;

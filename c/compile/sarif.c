@@ -8,12 +8,14 @@
 #include <string.h>
 #include <unistd.h>
 
-enum { WARNING_RULE = KOB_PO_NEWLINE_MISMATCH - KOB_PO_TOO_LARGE + 1, FLAGS_RULE, TROUBLE_RULE, RULE_COUNT };
+enum { WARNING_RULE = KOB_PO_NEWLINE_MISMATCH - KOB_PO_TOO_LARGE + 1, FLAGS_RULE, TROUBLE_RULE, FORMATS_RULE, RULE_COUNT };
 
 /* The number of a catalogue's rule: its fault among those of PO texts, or one of those after them. */
 static int rule_of(const struct catalogue *it) {
     if (it->outcome != IS_REFUSED)
         return TROUBLE_RULE;
+    if (it->formats.count)
+        return FORMATS_RULE;
     return it->fault == KOB_NO_FAULT ? FLAGS_RULE : (int)it->fault - KOB_PO_TOO_LARGE;
 }
 
@@ -22,6 +24,8 @@ static const char *text_of_rule(int rule) {
         return "header field missing";
     if (rule == FLAGS_RULE)
         return "flags in a line of #=";
+    if (rule == FORMATS_RULE)
+        return "format not valid or with other arguments";
     return rule == TROUBLE_RULE ? "file not readable or not writable"
                                 : kob_fault_text((enum kob_fault)(rule + KOB_PO_TOO_LARGE));
 }
@@ -84,6 +88,8 @@ static void print_results(FILE *to, const struct run *run) {
         if (it->why)
             print_result(to, &has_one, rule_of(it), "error", it->why, it->outcome == IS_UNWRITTEN ? it->mo : it->po,
                          it->line);
+        for (size_t fault = 1; fault < it->formats.count; fault++)
+            print_result(to, &has_one, FORMATS_RULE, "error", it->formats.at[fault].why, it->po, it->formats.at[fault].line);
     }
 }
 

@@ -1,6 +1,7 @@
 /* A msgfmt for build systems. It takes GNU msgfmt's options and runs Kobdzila's msgfmt if that can serve them, and GNU
  * msgfmt otherwise, and for every text that Kobdzila's refuses. See msgfmt-or-gnu(1). */
 #include "or_gnu.h"
+#include "or_gnu_formats.h"
 #include "replace.h"
 
 #include <errno.h>
@@ -34,7 +35,8 @@ struct run {
     char *input;      /* the path at which the PO file was found */
     char *input_name; /* the name that the two programs get for it */
     struct text text;
-    int recoded;      /* a descriptor for the text in UTF-8, if it was converted, or -1 */
+    struct text utf8; /* the text in UTF-8, if it was converted */
+    int recoded;      /* a descriptor for that, or -1 */
     struct streams streams;
     struct timespec start;
 };
@@ -502,21 +504,50 @@ _Noreturn static void compile_text(struct run *run, const char *why) {
 
 /* Convert the text if its charset asks for it. A text with a byte that has no character is left to GNU msgfmt. */
 static void recode(struct run *run, const struct needs *needs, char *why) {
-    size_t len;
+    struct text *utf8 = &run->utf8;
     if (!needs->charset)
         return;
     struct part bytes = {run->text.bytes, run->text.bytes + run->text.len};
-    char *text = recoded(bytes, needs->name, needs->charset, &len);
-    if (!text && errno == ENOMEM)
+    utf8->bytes = recoded(bytes, needs->name, needs->charset, &utf8->len);
+    if (!utf8->bytes && errno == ENOMEM)
         stop_for_memory();
-    if (!text) {
+    if (!utf8->bytes) {
         snprintf(why, WHY_SIZE, "a byte that is no character");
         return;
     }
     run->recoded = unnamed_file();
-    if (run->recoded < 0 || !write_all(run->recoded, text, len))
+    if (run->recoded < 0 || !write_all(run->recoded, utf8->bytes, utf8->len))
         stop("cannot keep the converted text: ", strerror(errno));
-    free(text);
+}
+
+/* --- formats that libkobdzila checks ---------------------------------------------------------------------------- */
+
+/* End a run on a text with such faults: GNU msgfmt says what they are, or this program in its words. */
+_Noreturn static void end_with_faults(struct run *run, const struct format_faults *faults, const char *why) {
+    if (has_gnu(run))
+        end_by_gnu(run, why);
+    for (size_t place = 0; place < faults->count; place++)
+        tell("%s:%u: %s", run->input_name, faults->at[place].line, faults->at[place].why);
+    tell("msgfmt: found %zu fatal error%s", faults->count, faults->count == 1 ? "" : "s");
+    log_files(run->request, "ours", 1, why, milliseconds_of(run));
+    _exit(1);
+}
+
+/* Check the formats. A text that is refused here will be refused as well when it is compiled. As in GNU msgfmt, only a
+ * check of the header tells which plural forms serve many numbers. */
+static void check_formats(struct run *run, const char *flag) {
+    const struct request *request = run->request;
+    const struct text *utf8 = run->utf8.bytes ? &run->utf8 : &run->text;
+    unsigned options = (request->checks_header ? KOB_CHECKED : 0) | (request->keeps_fuzzy ? KOB_USE_FUZZY : 0);
+    struct format_faults faults;
+    kob_refusal why;
+    if (find_format_faults(&faults, (struct part){utf8->bytes, utf8->bytes + utf8->len}, options, &why)) {
+        if (faults.count)
+            end_with_faults(run, &faults, flag);
+        free_format_faults(&faults);
+    } else if (why.fault == KOB_MEMORY) {
+        stop_for_memory();
+    }
 }
 
 _Noreturn static void drive(struct run *run) {
@@ -542,14 +573,16 @@ _Noreturn static void drive(struct run *run) {
         memcpy(why, needs.why, sizeof why);
     if (!why[0] && !needs.line)
         recode(run, &needs, why);
-    free(run->text.bytes); /* (msgfmt reads the file for itself) */
-    run->text.bytes = NULL;
     if (needs.line)
         end_with_flag_lines(run, needs.line);
     if (!why[0] && !is_utf8(run->input))
         snprintf(why, sizeof why, "a name that isn't UTF-8");
     if (why[0] && has_gnu(run))
         end_by_gnu(run, why);
+    if (needs.format && checks_formats())
+        check_formats(run, needs.format);
+    free(run->text.bytes); /* (msgfmt reads the file for itself) */
+    free(run->utf8.bytes);
     compile_text(run, why);
 }
 

@@ -66,8 +66,10 @@ struct needs {
     const struct charset *charset; /* what the text is converted from, or NULL; `name` is its name in the header */
     struct part name;
     char why[WHY_SIZE];      /* why Kobdzila's msgfmt would refuse it or can't check it, as it is shown, or empty */
+    bool helps;              /* GNU msgfmt may compile what Kobdzila's refuses of it */
     unsigned long long line; /* the number of the first `#=` line that has a flag, or 0 */
     unsigned long long header_line; /* that of the header's first keyword, or 0 */
+    const char *format;      /* the flag of formats that are to be checked by libkobdzila, or NULL */
 };
 
 /* Scan a PO text, in one pass. */

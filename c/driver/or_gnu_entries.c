@@ -33,7 +33,10 @@ static void take_flag(struct flags *flags, struct part flag) {
     if (says(flag, "c-format") || denies(flag, "c-format"))
         flags->c_format = says(flag, "c-format");
     flags->has_range |= is(flag, "range:");
-    if (!flags->other.at && is_of_other(flag))
+    const char *checked = checked_format(flag);
+    if (!flags->checked)
+        flags->checked = checked;
+    if (!checked && !flags->other.at && is_of_other(flag))
         flags->other = flag;
 }
 

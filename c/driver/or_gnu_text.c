@@ -1,6 +1,6 @@
 /* Scans a PO text for what only GNU msgfmt compiles, checks or refuses, before either program runs, so that none runs in
  * vain. A text that is given to GNU msgfmt without need only costs time; so does one that Kobdzila's refuses. */
-#include "or_gnu_text.h"
+#include "or_gnu_formats.h"
 
 #include <string.h>
 #include <strings.h>
@@ -65,6 +65,7 @@ static void look_for_charset(struct scan *scan, struct part header, struct part 
     there.end = there.at ? there.at + (copy.end - copy.at) : NULL;
     const struct charset *charset = there.at && there.end <= header.end && is(there, name) ? charset_named(copy) : NULL;
     if (!charset) {
+        scan->needs.helps = true;
         needs_gnu(scan, "charset=", copy);
         return;
     }
@@ -97,7 +98,13 @@ static void look_at_kept(struct scan *scan, const struct entry *entry) {
         needs_gnu_for(scan, "newlines differ");
     if (checks && flags->other.at)
         needs_gnu(scan, "", flags->other);
-    if (scan->has_macros && flags->c_format && find(entry->whole, "<PRI", 0))
+    if (checks && flags->checked && (flags->has_range || !checks_formats()))
+        needs_gnu_for(scan, flags->checked);
+    if (checks && !scan->needs.format)
+        scan->needs.format = flags->checked;
+    bool has_macro = scan->has_macros && flags->c_format && find(entry->whole, "<PRI", 0);
+    scan->needs.helps |= has_macro;
+    if (has_macro)
         needs_gnu_for(scan, "system-dependent format");
     else if (flags->c_format != flags->our_c_format && checks)
         needs_gnu_for(scan, "flags read otherwise by GNU");
@@ -140,6 +147,7 @@ struct needs needs_of(const struct request *request, const char *bytes, size_t l
     scan.needs.line = reader.flag_line;
     if (request->checks_compatibility && reader.has_fuzzy)
         needs_gnu_for(&scan, "-C and a fuzzy message");
+    scan.needs.helps |= reader.has_domain;
     if (reader.has_domain)
         needs_gnu_for(&scan, "a domain line");
     if (has_obsolete_repeat(&scan.keys) || scan.keys.has_failed)

@@ -67,6 +67,7 @@ bool ends_with_newline(struct part string);
 struct flags {
     bool fuzzy, c_format; /* as GNU msgfmt has them: those of the last line of flags */
     bool our_fuzzy, our_c_format; /* as Kobdzila's has them: those of all lines, up to the last `#~` */
+    const char *checked;  /* the first flag of a format that libkobdzila checks, or NULL */
     bool has_range;
     struct part other;    /* the first flag of a format that only GNU msgfmt checks, or NULL */
 };
@@ -94,6 +95,10 @@ struct reader {
 struct reader read_text_from(struct part text);
 /* Read the next entry, or a part of a text that isn't one. False at the end of the text. */
 bool read_entry(struct reader *reader, struct entry *entry);
+
+/* Return the flag of a format that libkobdzila checks, if the flag is that, perhaps behind `possible-`; NULL otherwise
+ * (or_gnu_faults.c). */
+const char *checked_format(struct part flag);
 
 /* ---- keys (or_gnu_keys.c) */
 

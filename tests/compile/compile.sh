@@ -391,6 +391,51 @@ else
   skipped 'compile, GNU msgfmt' 'no GNU gettext, and it could not be installed'
 fi
 
+# --- formats of Python --------------------------------------------------------------------------------------------------
+
+mkdir formats
+{
+  header UTF-8 fr && printf '#, python-format\nmsgid "%%(n)d"\nmsgstr "%%(o)d"\n\n#, fuzzy, python-format\nmsgid "%%d"\nmsgstr "%%s"\n\n'
+  printf '#, python-brace-format\nmsgid "{a}"\nmsgstr "{}"\n'
+} > formats/fr.po
+first="formats/fr.po:6: a format specification for argument 'n' doesn't exist in 'msgstr'"
+last="formats/fr.po:14: 'msgstr' is not a valid Python brace format string, unlike 'msgid'. Reason: In the directive number 0, \
+'}' cannot start a field name."
+says 'compile, formats of Python, without -c' 0 '' --no-gnu -q formats
+rm formats/fr.mo
+says 'compile, formats of Python' 1 "$first
+$last" --no-gnu -q -c formats
+holds 'compile, formats of Python: nothing is written' is_absent formats/fr.mo
+says 'compile, formats of Python, a fuzzy message' 1 "$first
+formats/fr.po:10: format specifications in 'msgid' and 'msgstr' for argument 1 are not the same
+$last" --no-gnu -q -c -f formats
+run --no-gnu --check --json --sarif=sarif formats
+if python3 - out sarif << 'END' 2> machines; then ok 'compile, formats of Python: JSON and SARIF'
+import json, sys
+(it,) = json.load(open(sys.argv[1]))["catalogues"]
+assert (it["outcome"], it["line"], it["by"]) == ("refused", 6, "Kobdzila"), it
+assert [(one["line"], one["msgid"]) for one in it["formats"]] == [(6, "%(n)d"), (14, "{a}")], it
+assert it["why"] == it["formats"][0]["why"], it
+(run,) = json.load(open(sys.argv[2]))["runs"]
+rules = [run["tool"]["driver"]["rules"][one["ruleIndex"]]["id"] for one in run["results"]]
+assert rules == ["format-not-valid-or-with-other-arguments"] * 2, rules
+places = [one["locations"][0]["physicalLocation"]["region"]["startLine"] for one in run["results"]]
+assert places == [6, 14], places
+assert [one["message"]["text"] for one in run["results"]] == [one["why"] for one in it["formats"]], run
+END
+else failed 'compile, formats of Python: JSON and SARIF' "$(tail -n 1 machines)"; fi
+if [ -n "$gnu" ]; then
+  says 'compile, formats of Python that GNU msgfmt refuses, too' 1 "$first
+$last" -q -c formats
+  # (a later GNU msgfmt may know more formats)
+  printf '#!/bin/sh\nfor it; do shift; [ "$it" = --check ] || set -- "$@" "$it"; done\nexec "%s" "$@"\n' "$gnu" > later
+  chmod 755 later
+  (GNU_MSGFMT=$room/later "$compiler" -q -c formats) > out 2> err
+  status=$?
+  judge 'compile, formats of Python that GNU msgfmt accepts' 0 '' && "$gnu" --no-hash -o wanted.gnu formats/fr.po &&
+    holds 'compile, formats of Python that GNU msgfmt accepts' cmp -s formats/fr.mo wanted.gnu
+fi
+
 # --- machines and terminals ---------------------------------------------------------------------------------------------
 
 mkdir json && cp "$top"/examples/*.po json && cp bad/fr.po json/refused.po && cp json/fr.po "$(printf 'json/a\377\n"b.po')"

@@ -52,17 +52,17 @@ answers 'a comment after an entry' ours 'msgid "a"\nmsgstr "b" # c\n'
 
 # --- flags --------------------------------------------------------------------------------------------------------------
 
-formats='msgid "%%d"\nmsgstr "%%s"\n' php='GNU\t1\tphp-format' other='GNU\t0\tflags read otherwise by GNU'
-answers 'flags separated by blanks' "$php" '#, no-wrap\tphp-format foo\n'"$formats" -c
-answers 'a flag and a carriage return' "$php" '#,php-format\r\n'"$formats" --check-format
-answers 'a denied flag' ours '#, no-php-format\n'"$formats" -c
-answers 'a flag without -c' ours '#, php-format\n'"$formats"
-answers 'a flag, fuzzy' ours "$ab"'#, fuzzy, php-format\n'"$formats" -c
-answers 'a flag, fuzzy' "$php" "$ab"'#, fuzzy, php-format\n'"$formats" -c -f
-answers 'a flag, untranslated' ours "$ab"'#, php-format\nmsgid "%%d"\nmsgstr ""\n' -c
-answers 'a flag, obsolete' ours "$ab"'#, php-format\n#~ msgid "%%d"\n#~ msgstr "%%s"\n' -c
-answers 'a flag of the obsolete entry before' ours '#, php-format\n#~ msgid "x"\n#~ msgstr "y"\n'"$formats" -c
-answers 'a flag after a msgstr' "$php" 'msgid "a"\nmsgstr "b" #, php-format\n'"$formats" -c
+formats='msgid "%%d"\nmsgstr "%%s"\n' perl='GNU\t1\tperl-format' other='GNU\t0\tflags read otherwise by GNU'
+answers 'flags separated by blanks' "$perl" '#, no-wrap\tperl-format foo\n'"$formats" -c
+answers 'a flag and a carriage return' "$perl" '#,perl-format\r\n'"$formats" --check-format
+answers 'a denied flag' ours '#, no-perl-format\n'"$formats" -c
+answers 'a flag without -c' ours '#, perl-format\n'"$formats"
+answers 'a flag, fuzzy' ours "$ab"'#, fuzzy, perl-format\n'"$formats" -c
+answers 'a flag, fuzzy' "$perl" "$ab"'#, fuzzy, perl-format\n'"$formats" -c -f
+answers 'a flag, untranslated' ours "$ab"'#, perl-format\nmsgid "%%d"\nmsgstr ""\n' -c
+answers 'a flag, obsolete' ours "$ab"'#, perl-format\n#~ msgid "%%d"\n#~ msgstr "%%s"\n' -c
+answers 'a flag of the obsolete entry before' ours '#, perl-format\n#~ msgid "x"\n#~ msgstr "y"\n'"$formats" -c
+answers 'a flag after a msgstr' "$perl" 'msgid "a"\nmsgstr "b" #, perl-format\n'"$formats" -c
 answers 'two lines of flags' "$other" "$ab"'#, fuzzy\n#, no-wrap\nmsgid "c"\nmsgstr "d"\n' --statistics
 answers 'two lines of flags, of no consequence' ours "$ab"'#, no-wrap\n#, fuzzy\nmsgid "c"\nmsgstr "d"\n'
 answers 'flags as in Emacs 19' "$other" "$ab"'#! fuzzy\nmsgid "c"\nmsgstr "d"\n' --statistics

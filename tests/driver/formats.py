@@ -1,0 +1,154 @@
+"""Compares a msgfmt-or-gnu that finds no GNU msgfmt with GNU msgfmt on formats of Python: PO files of generated pairs, and
+PO files that are installed. Status, the number of faults and the lines with them must be the same, and without a plural
+the words as well.
+
+usage: tests/driver/formats.py DRIVER GNU ROOM [--files N] [--seed N] [PO ..]
+
+GNU msgfmt prints the first fault of a line alone, so only that is compared. Prints lines for the test harness.
+"""
+
+import argparse
+import os
+import random
+import re
+import subprocess
+import sys
+from concurrent.futures import ThreadPoolExecutor
+from pathlib import Path
+
+ENTRIES = 150  # of a generated file
+HEADER = (
+    'msgid ""\nmsgstr "Project-Id-Version: x\\nPO-Revision-Date: x\\nLast-Translator: x\\nLanguage-Team: x\\n'
+    "Language: fr\\nMIME-Version: 1.0\\nContent-Type: text/plain; charset=UTF-8\\nContent-Transfer-Encoding: 8bit\\n"
+    'Plural-Forms: nplurals=2; plural=n!=1;\\n"\n\n'
+)
+PERCENT = ("%s", "%s", "%d", "%d", "%(a)s", "%(a)s", "%(b)d", "%(c)r", "%c", "%f", "%%", "%.0s", "%(a).0s", "%*d", "%5.2f",
+           "%i", "%(b)x", "%(a(x))s", "%()s", "%(a)%", "%ld", "%-+ #05.3Lf", "%.*s")  # fmt: skip
+PERCENT_FAULTS = ("%", "%y", "%(a", "%(a)", "%F", "%lld", "%(a)y", "%5", "%.", "%\u00e9", "%(a)d", "%(a)*d", "%-", "%~")
+BRACE = ("{a}", "{a}", "{b}", "{b}", "{0}", "{1}", "{a.b}", "{a[0]}", "{a[x].y}", "{a:d}", "{a:>10}", "{b:+#5.2f}", "{a:{b}}",
+         "{{", "}", "}}", "{_x}", "{a:{{}", "{A}")  # fmt: skip
+BRACE_FAULTS = ("{", "{}", "{a", "{a!r}", "{a:s}", "{a.}", "{a.5}", "{a[}", "{a[]}", "{a[b}", "{a:{b:d}}", "{a:{}}", "{a:{b}5}",
+                "{ a}", "{a }", "{5a}", "{a:", "{a[b.c]}", "{a:5{b}}", "{!}")  # fmt: skip
+FAULT = re.compile(rb"^[^\n:]*:(\d+): (.*)$")
+COUNT = re.compile(rb"^[^\n]*: found (\d+) fatal errors?$")
+CUT = re.compile(rb"In the directive number \d+, '$")  # GNU msgfmt prints the NUL at the end of a text
+
+
+def text_of(rng: random.Random, pieces: tuple[str, ...], faults: tuple[str, ...]) -> str:
+    """A format of a few pieces, now and then with a fault."""
+    chosen = [rng.choice(pieces) for _ in range(rng.choice((0, 1, 1, 2, 2, 3)))]
+    if rng.random() < 0.15:
+        chosen.insert(rng.randrange(len(chosen) + 1), rng.choice(faults))
+    return rng.choice((" ", "", "x")).join(chosen)
+
+
+def translation_of(rng: random.Random, original: str, pieces: tuple[str, ...], faults: tuple[str, ...]) -> str:
+    """Often what the original has, in another order or with a piece changed."""
+    if rng.random() < 0.5:
+        return text_of(rng, pieces, faults)
+    words = original.split(" ")
+    rng.shuffle(words)
+    if rng.random() < 0.4 and words:
+        words[rng.randrange(len(words))] = rng.choice(pieces)
+    return " ".join(words)
+
+
+def entry(rng: random.Random, number: int) -> str:
+    """An entry flagged as a format of Python, or as both."""
+    flag = rng.choice(("python-format", "python-brace-format", "python-format, python-brace-format", "possible-python-format",
+                       "python-format, no-python-format", "python-brace-format no-wrap"))  # fmt: skip
+    pieces, faults = (BRACE, BRACE_FAULTS) if flag.startswith("python-brace") else (PERCENT, PERCENT_FAULTS)
+    original = text_of(rng, pieces, faults)
+    lines = [f"#, {flag}", f'msgctxt "{number}"', f'msgid "{original}"' if original else 'msgid "x"']
+    if rng.random() < 0.3:
+        plural = original if rng.random() < 0.7 else text_of(rng, pieces, faults)
+        lines.append(f'msgid_plural "{plural}"')
+        lines += [f'msgstr[{form}] "{translation_of(rng, plural, pieces, faults)}"' for form in (0, 1)]
+    else:
+        lines.append(f'msgstr "{translation_of(rng, original, pieces, faults)}"')
+    return "\n".join(lines) + "\n\n"
+
+
+def generated(seed: int) -> bytes:
+    rng = random.Random(seed)
+    return (HEADER + "".join(entry(rng, number) for number in range(ENTRIES))).encode()
+
+
+def answer(program: str, option: str, path: Path, environment: dict[str, str]) -> tuple[int, bytes]:
+    """The status of a run, and its error output."""
+    command = [program, option, "-o", "/dev/null", str(path)]
+    run = subprocess.run(command, env=environment, capture_output=True, check=False, timeout=60)
+    return run.returncode, run.stderr
+
+
+def faults_of(said: bytes) -> tuple[dict[int, bytes], int]:
+    """The first fault of each line, and the number that is said of all."""
+    first: dict[int, bytes] = {}
+    count = 0
+    for line in said.split(b"\n"):
+        if (found := FAULT.match(line)) and not found[2].startswith(b"warning: "):
+            first.setdefault(int(found[1]), found[2])
+        elif found := COUNT.match(line):
+            count = int(found[1])
+    return first, count
+
+
+class Comparison:
+    """Both programs; only GNU msgfmt can be found by itself."""
+
+    def __init__(self, driver: str, gnu: str) -> None:
+        self.driver, self.gnu = driver, gnu
+        self.environment = {**os.environ, "LC_ALL": "C", "PATH": "/nonexistent"}
+        self.environment.pop("GNU_MSGFMT", None)
+        self.environment.pop("MSGFMT_OR_GNU_LOG", None)
+
+    def difference(self, path: Path, option: str) -> tuple[str, int]:
+        """How the answers differ, or an empty string; and how many faults there are."""
+        ours, said = answer(self.driver, option, path, self.environment)
+        theirs, said_by_gnu = answer(self.gnu, option, path, self.environment)
+        faults, count = faults_of(said)
+        wanted, wanted_count = faults_of(said_by_gnu)
+        if (ours, sorted(faults), count) != (theirs, sorted(wanted), wanted_count):
+            lines = sorted(set(faults) ^ set(wanted))
+            return f"{path} {option}: status {ours} and {theirs}, {count} and {wanted_count} faults, lines {lines[:5]}", 0
+        for line, words in wanted.items():
+            has_plural = b"msgstr[" in words or b"msgid_plural" in words
+            if words != faults[line] and not has_plural and not CUT.search(words):
+                return f"{path}:{line} {option}: {faults[line]!r} and {words!r}", 0
+        return "", count
+
+
+def report(name: str, found: list[tuple[str, int]]) -> bool:
+    wrong = [why for why, _ in found if why]
+    if wrong:
+        print(f"FAILED {name}: {len(wrong)} of {len(found)} runs differ; " + "; ".join(wrong[:3])[:1200])
+    else:
+        print(f"ok {name}: {len(found)} runs, {sum(count for _, count in found)} faults, as GNU msgfmt has them")
+    return not wrong
+
+
+def main() -> None:
+    parser = argparse.ArgumentParser(usage=__doc__)
+    parser.add_argument("driver")
+    parser.add_argument("gnu")
+    parser.add_argument("room", type=Path)
+    parser.add_argument("--files", type=int, default=40)
+    parser.add_argument("--seed", type=int, default=1)
+    parser.add_argument("po", nargs="*", type=Path)
+    arguments = parser.parse_intermixed_args()
+    comparison = Comparison(arguments.driver, arguments.gnu)
+    paths = [arguments.room / f"{seed}.po" for seed in range(arguments.seed, arguments.seed + arguments.files)]
+    for path in paths:
+        path.write_bytes(generated(int(path.stem)))
+    groups = [("formats of Python, generated", paths), ("formats of Python, installed PO files", arguments.po)]
+    with ThreadPoolExecutor(4) as pool:
+        done = [
+            report(f"driver, {name}, {option}", list(pool.map(lambda path: comparison.difference(path, option), those)))
+            for name, those in groups
+            for option in ("--check-format", "-c")
+            if those
+        ]
+    sys.exit(0 if all(done) else 1)
+
+
+main()

@@ -1,0 +1,120 @@
+#!/usr/bin/env bash
+# Formats of Python in bin/msgfmt-or-gnu: it checks them by libkobdzila if formats are checked. With a fault GNU msgfmt
+# answers, and without GNU msgfmt the driver says what is wrong in its words. Worked texts; then generated pairs and the PO
+# files of Django, if they are installed (tests/driver/formats.py).
+. "$(dirname "$0")/../lib/common"
+NAME=or_gnu_formats
+. tests/driver/begin
+cd "$room" || exit 1
+mkdir tmp
+export TMPDIR=$room/tmp
+
+# text FILE FLAGS MSGID MSGSTR: a PO file with this entry
+text() { { header UTF-8 fr && printf '#, %s\nmsgid "%s"\nmsgstr "%s"\n' "$2" "$3" "$4"; } > "$1"; }
+text bad.po python-format '%(n)d eggs' '%(o)d œufs'
+if env -u GNU_MSGFMT PATH=/nonexistent "$driver" -c -o x.mo bad.po 2> err; then
+  if [ -f "$top/build/lib/libkobdzila.a" ]; then failed "$NAME" 'there is build/lib/libkobdzila.a, but it is not in the driver'
+  else skipped "$NAME" 'there is no build/lib/libkobdzila.a: tools/build_library makes it'; fi
+  exit 0
+fi
+
+# alone NAME STATUS ERR ARGUMENT..: the driver's answer without GNU msgfmt; it writes x.mo only if its status is 0
+alone() {
+  local name="driver, formats, $1" wanted=$2 said=$3
+  shift 3
+  rm -f x.mo
+  : > "$MSGFMT_OR_GNU_LOG"
+  (unset GNU_MSGFMT && PATH=/nonexistent "$driver" "$@") > out 2> err
+  status=$?
+  judge "$name" "$wanted" "$said" || return
+  if [ $status = 0 ] || [ ! -e x.mo ]; then ok "$name"; else failed "$name" 'it wrote an MO file'; fi
+}
+
+# fault NAME FLAG MSGID MSGSTR WORDS: what is said of one fault
+fault() {
+  text in.po "$2" "$3" "$4"
+  alone "$1" 1 "in.po:6: $5
+msgfmt: found 1 fatal error" --check-format -o x.mo in.po
+}
+none="'msgstr' is not a valid Python format string, unlike 'msgid'. Reason:"
+fault 'another name' python-format '%(n)d' '%(o)d' "a format specification for argument 'n' doesn't exist in 'msgstr'"
+fault 'a further name' python-format '%(a)s' '%(a)s %(b)s' \
+  "a format specification for argument 'b', as in 'msgstr', doesn't exist in 'msgid'"
+fault 'another number' python-format '%d %s' '%d' "number of format specifications in 'msgid' and 'msgstr' does not match"
+fault 'another kind' python-format '%d %s' '%d %d' \
+  "format specifications in 'msgid' and 'msgstr' for argument 2 are not the same"
+fault 'another kind of a name' python-format '%(n)d' '%(n)s' \
+  "format specifications in 'msgid' and 'msgstr' for argument 'n' are not the same"
+fault 'a tuple for a mapping' python-format '%(n)d' '%d' \
+  "format specifications in 'msgid' expect a mapping, those in 'msgstr' expect a tuple"
+fault 'no conversion' python-format '%d' '%y' "$none In the directive number 1, the character 'y' is not a valid conversion specifier."
+fault 'cut off' python-format '%d' '100 %' "$none The string ends in the middle of a directive."
+fault 'both kinds' python-format '%d' '%d %(a)d' \
+  "$none The string refers to arguments both through argument names and through unnamed argument specifications."
+fault 'one name for two kinds' python-format '%(a)d' '%(a)d %(a)s' \
+  "$none The string refers to the argument named 'a' in incompatible ways."
+none="'msgstr' is not a valid Python brace format string, unlike 'msgid'. Reason:"
+fault 'a brace, another name' python-brace-format '{a}' '{b}' "a format specification for argument 'a' doesn't exist in 'msgstr'"
+fault 'a brace, a further name' python-brace-format '{a}' '{a}{b}' \
+  "a format specification for argument 'b' doesn't exist in 'msgid'"
+fault 'a brace, not closed' python-brace-format '{a}' '{a}{b' "$none In the directive number 1, there is an unterminated format directive."
+fault 'a brace, no name' python-brace-format '{a}' '{}' "$none In the directive number 0, '}' cannot start a field name."
+
+# all faults, in the order of the text, with the numbers of plural forms
+{
+  sed '2s/"$//; 2s/$/Plural-Forms: nplurals=2; plural=n!=1;\\n"/' <(header UTF-8 fr)
+  printf '#, python-format\nmsgid "%%d egg"\nmsgid_plural "%%d eggs"\nmsgstr[0] "%%y"\nmsgstr[1] "%%s"\n\n'
+  printf '#, python-format, python-brace-format\nmsgid "%%d {a}"\nmsgstr "%%d {b}"\n'
+} > plural.po
+alone 'all of them, in order' 1 "plural.po:7: 'msgstr[0]' is not a valid Python format string, unlike 'msgid_plural'. Reason: \
+In the directive number 1, the character 'y' is not a valid conversion specifier.
+plural.po:7: format specifications in 'msgid_plural' and 'msgstr[1]' for argument 1 are not the same
+plural.po:12: a format specification for argument 'a' doesn't exist in 'msgstr'
+msgfmt: found 3 fatal errors" -c -o x.mo plural.po
+if [ "$(logged)" = "$(printf 'ours\t1\tpython-format\tplural.po')" ]; then ok 'driver, formats, the log'
+else failed 'driver, formats, the log' "$(logged)"; fi
+alone 'from a pipe' 1 "-:6: a format specification for argument 'n' doesn't exist in 'msgstr'
+msgfmt: found 1 fatal error" -c -o x.mo - < bad.po
+{ header ISO-8859-1 fr && printf '#, python-format\nmsgid "%%(a)d"\nmsgstr "\351 %%(\351)d"\n'; } > latin.po
+alone 'in another charset' 1 "latin.po:6: a format specification for argument 'a' doesn't exist in 'msgstr'
+msgfmt: found 1 fatal error" -c -o x.mo latin.po
+alone 'without -c' 0 '' -o x.mo bad.po
+alone 'the header alone' 0 '' --check-header -o x.mo bad.po
+
+# --- with GNU msgfmt ----------------------------------------------------------------------------------------------------
+
+is_of 'driver, formats, a fault is told by GNU msgfmt' 'GNU\t1\tpython-format\tplural.po' /dev/null "$gnu" -c -o x.mo plural.po
+is_of 'driver, formats, a fault in another charset' 'GNU\t1\tpython-format\tlatin.po' /dev/null "$gnu" -c -o x.mo latin.po
+
+# served NAME LOG FLAGS MSGID MSGSTR ARGUMENT..: the answer is GNU msgfmt's; the log has this line, or `ours`
+served() {
+  local name=$1 line=${2/#ours/ours\\t0\\t-}
+  text in.po "$3" "$4" "$5"
+  shift 5
+  is_of "driver, formats, $name" "$line\tin.po" /dev/null "$gnu" --no-hash "$@" -o x.mo in.po
+}
+served 'no fault' ours python-format '%(n)d %(a)s' '%(a)s %(n)i' -c
+served 'no fault, braces' ours python-brace-format '{a} {b.c}' '{b.c} {a}' --check-format
+served 'no fault of two' ours 'python-format, python-brace-format' '%d {a}' '{a} %d' -c
+served 'fuzzy' ours 'fuzzy, python-format' '%d' '%s' -c
+served 'fuzzy and used' 'GNU\t1\tpython-format' 'fuzzy, python-format' '%d' '%s' -c -f
+served 'untranslated' ours python-format '%d' '' -c
+served 'denied' ours 'python-format, no-python-format' '%d' '%s' -c
+served 'possible' 'GNU\t1\tpython-format' possible-python-format '%d' '%s' -c
+served 'with another language' 'GNU\t0\tperl-format' 'python-format, perl-format' '%d' '%d' -c
+served 'with a range' 'GNU\t0\tpython-format' 'python-format, range: 0..3' '%d' '%d' -c
+served 'an original that is none' ours python-format '100 %' '%d' -c
+
+# --- generated pairs and installed files --------------------------------------------------------------------------------
+
+unset MSGFMT_OR_GNU_LOG
+mkdir made
+python3 -B "$top/tests/driver/formats.py" "$driver" "$gnu" made --files "${FILES:-40}"
+django=/usr/lib/python3/dist-packages/django
+script has_django "test -d $django"
+if "$top/tests/lib/needs" "$room/has_django" python3-django; then
+  find "$django" -name '*.po' -print0 | xargs -0 grep -lZ 'python-.*format' > flagged
+  xargs -0 python3 -B "$top/tests/driver/formats.py" "$driver" "$gnu" made --files 0 < flagged
+else
+  skipped 'driver, formats of Python, installed PO files' 'there are no PO files of Django, and python3-django could not be installed'
+fi
