@@ -7,6 +7,8 @@ use Rattle.mo_file.specs.declared.fault.MoFault.TheVariants as mo
 use Rattle.catalogue.specs.declared.compiler.Compiled.{Compiled}
 use Rattle.catalogue.specs.declared.compiler.Stats.{Stats}
 use Rattle.mo_revisions.specs.declared.fault.AnyMoFault.TheVariants.{Mo as OfMo}
+use Rattle.mo_charsets.specs.declared.fault.RecodedFault.TheVariants.{Any}
+use Rattle.mo_charsets.specs.MoRecoding.{IsForCharset}
 use Rattle.any_charset.specs.declared.fault.TextFault.TheVariants.{Load}
 use Rattle.po_checks.specs.Refusal.{out_of_memory}
 use Rattle.po_checks.specs.declared.options.Options.{Options}
@@ -28,16 +30,20 @@ held P m stats c so h = record {
   line_is = h.line_is;
 }
 
+no_charset : IsForCharset (OfMo mo.Memory) → ⊥
+no_charset (inl e) = absurd (cc e)
+no_charset (inr e) = absurd (cc e)
+
 -- out of memory may stand for any refusal
-no_memory : (bytes : List ℕ) (is_strict : Bool) → RefusesMo bytes is_strict (OfMo mo.Memory)
+no_memory : (bytes : List ℕ) (is_strict : Bool) → RefusesMo bytes is_strict (Any (OfMo mo.Memory))
 no_memory bytes true = λ lt. absurd (omega (arith, lt))
-no_memory bytes false = inl ((λ e. absurd (cc e)), (λ lt. absurd (omega (arith, lt))))
+no_memory bytes false = inl (no_charset, inl ((λ e. absurd (cc e)), (λ lt. absurd (omega (arith, lt)))))
 
 pub kept_mo : (bytes : List ℕ) (is_strict : Bool) (m : List Entry) (c : Opened) → MeansMo bytes is_strict m
     → IsOpenedMap m no_stats c → IsOpenedMo bytes is_strict c
 kept_mo bytes is_strict m c so (inl h) =
     inl (held (λ map counts. MeansMo bytes is_strict map × (counts ≡ no_stats)) m no_stats c (so, refl) h)
-kept_mo bytes is_strict m c so (inr refused) = inr (OfMo mo.Memory, no_memory bytes is_strict, refused)
+kept_mo bytes is_strict m c so (inr refused) = inr (Any (OfMo mo.Memory), no_memory bytes is_strict, refused)
 
 memory : (text : List ℕ) (options : Options) (is_strict : Bool)
     → RefusesText text options is_strict (Load out_of_memory)
