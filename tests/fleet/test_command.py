@@ -134,18 +134,40 @@ class CommandTest(unittest.TestCase):
         self.assertEqual((said.count("trying for 0.5 s"), said.count("kob-fleet: ")), (1, 2), said)
         self.assertNotIn("--id", last)
 
-    def test_an_answer_that_is_lost(self) -> None:
-        self.run_program("init")
-        self.file("fr.po", 'msgid "a"\nmsgstr "un"\n')
+    def without_answers(self, times: int = 1000) -> Any:
+        """Meanwhile the connection is lost after each commit, or after so many."""
         commit, lost = psycopg.Transaction.__exit__, psycopg.OperationalError("the connection is lost")
+        left = iter(range(times))
 
         def after_the_commit(transaction: psycopg.Transaction, *exception: Any) -> bool | None:
             commit(transaction, *exception)
-            if exception[0] is None:
+            if exception[0] is None and next(left, None) is not None:
                 raise lost
             return None
 
-        with mock.patch.object(psycopg.Transaction, "__exit__", after_the_commit):
+        return mock.patch.object(psycopg.Transaction, "__exit__", after_the_commit)
+
+    def test_a_restore_whose_answer_is_lost(self) -> None:
+        """It begins one epoch, and says which one if it had to give up."""
+        self.run_program("init")
+        with self.without_answers(2):
+            status, text, said = self.run_program("restore")
+        self.assertEqual((status, said), (0, ""))
+        self.assertRegex(text, r"\Aepoch [0-9a-f]{16} begins after version 0\n\Z")
+        with self.without_answers(), mock.patch.object(Log.restore, "__kwdefaults__", {"within": 0.5}):
+            status, text, said = self.run_program("restore")
+        self.assertEqual((status, text), (2, ""))
+        found = re.search(r"\Akob-fleet: epoch ([0-9a-f]{16}) may or may not have begun: the connection is lost\n"
+                          r"kob-fleet: if `kob-fleet status` prints epoch \1, it has; otherwise run restore again\n\Z", said)
+        self.assertIsNotNone(found, said)
+        self.assertIn(f", epoch {found[1]}\n", self.run_program("status")[1])
+        with psycopg.connect(self.address) as connection:
+            self.assertEqual(connection.execute("select max(number) from kobdzila.epoch").fetchone(), (3,))
+
+    def test_an_answer_that_is_lost(self) -> None:
+        self.run_program("init")
+        self.file("fr.po", 'msgid "a"\nmsgstr "un"\n')
+        with self.without_answers():
             status, text, said = self.run_program("publish", "--within", "0.2", "app/fr=fr.po")
         self.assertEqual((status, text), (2, ""))
         found = re.search(r"publish ([0-9a-f-]{36}) may or may not be in the log: .*(?s:.)*--id \1\n\Z", said)

@@ -261,8 +261,11 @@ class SharedTest(LogCase):
             with self.assertRaisesRegex(psycopg.OperationalError, "lock is held by process .*an operator, idle in tr"):
                 self.log.publish(loads(1), within=4)
             self.assertLess(time.monotonic() - begun, SLOW + 5)
+            with self.assertRaisesRegex(psycopg.OperationalError, "lock is held by process .*an operator, idle in tr"):
+                self.log.restore(within=1)
             threading.Timer(0.5, other.rollback).start()
             self.assertEqual(self.log.publish(loads(1), within=20), 2)
+        self.assertEqual(self.sql("select count(*) from kobdzila.epoch"), [(1,)])
 
     def test_a_publisher_that_is_stopped_lets_go_of_the_lock(self) -> None:
         """The server ends its transaction after ten seconds of silence; here after less."""
@@ -335,6 +338,26 @@ class ReplicatedTest(unittest.TestCase):
                     raise
             finally:
                 self.assertLess(time.monotonic() - begun, SLOW + 2)
+
+    def test_a_restore_does_not_wait_for_the_standby(self) -> None:
+        """Nothing stays behind that holds the log's lock: machines report, and one epoch has begun."""
+        with servers.pair() as (first, second), Log(first.address) as log:
+            log.init()
+            log.publish(loads(1))
+            with Follower(Catalogues(), first.address, "m") as follower:
+                follower.wait_for(2, 100)
+                second.stop()
+                begun = log.restore("the first one", within=20)
+                self.assertEqual(follower.wait_for(begun.token, 100).token, begun.token)
+                until(lambda: [it.version.token for it in log.status().machines] == [begun.token])
+            with psycopg.connect(first.address) as connection:
+                self.assertEqual(connection.execute("select count(*) from kobdzila.epoch").fetchone(), (2,))
+            second.start()
+            first.wait_for_copy("standby")
+            version = log.publish(loads(2), within=60)
+            with psycopg.connect(second.address) as standby:
+                self.assertEqual(standby.execute("select epoch from kobdzila.epoch order by number").fetchall()[1:],
+                                 [(version.epoch,)])
 
     def test_a_role_that_waits_for_nothing(self) -> None:
         with servers.pair() as (first, second), Log(first.address) as log:

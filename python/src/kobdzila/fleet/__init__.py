@@ -11,7 +11,7 @@ if TYPE_CHECKING:
     from ._follow import Follower
     from ._health import Health
     from ._layout import NoLog, Restored
-    from ._log import Load, Log, Machine, Row, Status, Unanswered
+    from ._log import Load, Log, Machine, RestoreUnanswered, Row, Status, Unanswered
     from ._metrics import metrics
     from ._player import Difference, StoreFailed
     from ._queries import Damaged
@@ -31,6 +31,7 @@ __all__ = [
     "Log",
     "Machine",
     "NoLog",
+    "RestoreUnanswered",
     "Restored",
     "Row",
     "SessionTexts",
@@ -48,7 +49,7 @@ PLACES = {
     "_follow": ("Follower",),
     "_health": ("Health",),
     "_layout": ("NoLog", "Restored"),
-    "_log": ("Load", "Log", "Machine", "Row", "Status", "Unanswered"),
+    "_log": ("Load", "Log", "Machine", "RestoreUnanswered", "Row", "Status", "Unanswered"),
     "_metrics": ("metrics",),
     "_player": ("Difference", "StoreFailed"),
     "_queries": ("Damaged",),

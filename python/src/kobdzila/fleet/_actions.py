@@ -15,7 +15,7 @@ from .._catalogue import Catalogue
 from .._refused import Refused
 from ._daemon import Trouble, follow, say
 from ._layout import NO_LOG, NoLog
-from ._log import NAME, SILENT, Load, Log, Machine, Status, Unanswered
+from ._log import NAME, SILENT, Load, Log, Machine, RestoreUnanswered, Status, Unanswered
 from ._metrics import metrics, served
 from ._version import Version, escaped
 
@@ -32,6 +32,10 @@ def run(options: argparse.Namespace) -> int:
     except Unanswered as unanswered:
         say(str(unanswered))
         say(f"run it again with --id {unanswered.id}")
+        return 2
+    except RestoreUnanswered as unanswered:
+        say(str(unanswered))
+        say(f"if `kob-fleet status` prints epoch {unanswered.epoch}, it has; otherwise run restore again")
         return 2
     except psycopg.errors.UndefinedTable:
         say(NO_LOG)

@@ -61,6 +61,19 @@ class Unanswered(Exception):
         return f"publish {self.id} may or may not be in the log: {self.args[1]}"
 
 
+class RestoreUnanswered(Exception):
+    """It isn't known whether the epoch `epoch` has begun, since the connection was lost. If `status` has it, it has."""
+
+    epoch: str
+
+    def __init__(self, epoch: str, why: str) -> None:
+        super().__init__(epoch, why)
+        self.epoch = epoch
+
+    def __str__(self) -> str:
+        return f"epoch {self.epoch} may or may not have begun: {self.args[1]}"
+
+
 class NotReplicated(psycopg.OperationalError):
     """The server stopped waiting for the synchronous standby: the publish is only in its own log."""
 
@@ -278,13 +291,21 @@ class Log(Closing):
         """
         return self._once(lambda connection: compacted(connection, to, seen_within))
 
-    def restore(self, note: str = "") -> Version:
+    def restore(self, note: str = "", *, within: float = 30.0) -> Version:
         """Begin a new epoch, after the log was restored from a backup, and return the version in it.
 
         Versions of the previous epoch, which the backup may lack, are then never confused with those of the new one.
-        Reports of machines from before the backup are deleted.
+        Reports of machines from before the backup are deleted. It doesn't wait for a synchronous standby, which can't
+        follow a server that was put back; a publish that is answered later is on the standby together with the epoch.
+
+        One epoch begins, however often it is tried in `within` seconds. Then raise RestoreUnanswered, or another
+        psycopg.Error if it can't have begun.
         """
-        return self._once(lambda connection: restored(connection, note))
+        epoch = new_epoch()
+        try:
+            return self._retry(lambda connection: restored(connection, epoch, note), uuid.uuid4(), within)
+        except Unanswered as why:
+            raise RestoreUnanswered(epoch, why.args[1]) from why
 
     def forget(self, name: str) -> int:
         """Delete the reports of the machines with this name, and return how many there were."""
@@ -381,17 +402,23 @@ class Log(Closing):
 def attempt(connection: Watched, work: Callable[[Watched], Version], end: float, doubts: list[str]) -> Version:
     """Do the work in a transaction. A message is added to `doubts` if it may have been committed without an answer."""
     connection.is_unreplicated = False
-    try:
-        with connection.transaction():
-            limit_transaction(connection, end)
-            version = work(connection)
-            doubts.append("")
-    except errors.LockNotAvailable as why:
-        raise Held(holders(connection)) from why
+    with naming_holders(connection), connection.transaction():
+        limit_transaction(connection, end)
+        version = work(connection)
+        doubts.append("")
     if connection.is_unreplicated:
         raise NotReplicated("the server's wait for its synchronous standby was cancelled: the publish is in the log of the "
                             "primary, and is lost with it")
     return version
+
+
+@contextlib.contextmanager
+def naming_holders(connection: Watched) -> Iterator[None]:
+    """Say who holds the log's lock if it isn't to be had."""
+    try:
+        yield
+    except errors.LockNotAvailable as why:
+        raise Held(holders(connection)) from why
 
 
 def note_wait(connection: Watched, notice: psycopg.errors.Diagnostic) -> None:
@@ -576,8 +603,8 @@ def status_of(connection: Connection) -> Status:
     return Status(Version(version, epoch), publishes, cut, machines)
 
 
-def compacted(connection: Connection, to: int | None, seen_within: float) -> int:
-    with connection.transaction():
+def compacted(connection: Watched, to: int | None, seen_within: float) -> int:
+    with naming_holders(connection), connection.transaction():
         lock(connection)
         version = last_of(connection)
         connection.execute("delete from kobdzila.machine where seen <= clock_timestamp() - make_interval(secs => %s)",
@@ -599,15 +626,17 @@ def compacted(connection: Connection, to: int | None, seen_within: float) -> int
     return int(cut)
 
 
-def restored(connection: Connection, note: str) -> Version:
-    epoch = new_epoch()
-    with connection.transaction():
-        lock(connection, is_restoring=True)
-        version = last_of(connection)
-        connection.execute(
-            "insert into kobdzila.epoch (number, epoch, after, note)"
-            " select max(number) + 1, %s, %s, %s from kobdzila.epoch", (epoch, version, note))
-        connection.execute(f"update kobdzila.log set origin = {ORIGIN}".encode())
-        connection.execute("delete from kobdzila.machine")
-        connection.execute("select pg_notify(%s, %s)", (CHANNEL, str(version)))
+def restored(connection: Connection, epoch: str, note: str) -> Version:
+    """Begin an epoch, unless an earlier attempt did, and don't wait for the standby."""
+    lock(connection, is_restoring=True)
+    connection.execute("select set_config('synchronous_commit', 'local', true)")
+    version = last_of(connection)
+    if epoch_of(connection) == epoch:
+        return Version(version, epoch)
+    connection.execute(
+        "insert into kobdzila.epoch (number, epoch, after, note)"
+        " select max(number) + 1, %s, %s, %s from kobdzila.epoch", (epoch, version, note))
+    connection.execute(f"update kobdzila.log set origin = {ORIGIN}".encode())
+    connection.execute("delete from kobdzila.machine")
+    connection.execute("select pg_notify(%s, %s)", (CHANNEL, str(version)))
     return Version(version, epoch)
