@@ -105,6 +105,19 @@ class CommandTest(unittest.TestCase):
         _, _, *lines = self.run_program("status")[1].splitlines()
         self.assertEqual([line.split("ago")[1].strip() for line in lines], ["follows", "silent", "silent: no texts"])
 
+    def test_whom_wait_counts(self) -> None:
+        self.run_program("init")
+        self.machine_rows("('a', 'follows', 3, 0), ('b', 'follows', 3, 0), ('c', 'follows', 0, 40)")
+        self.assertEqual(self.run_program("wait", "--seen-within", "30", "0"),
+                         (0, "version 0 on all 2 machines; 1 not counted, silent for more than 30 s\n", ""))
+
+    def machine_rows(self, values: str) -> None:
+        """Add reports of machines: their names, states, versions, and the seconds since."""
+        self.sql("insert into kobdzila.machine (name, process, epoch, version, state, loads, refusals, reconnects, seen)"
+                 " select it.name, 'h:1:x', e.epoch, it.version, it.state, 0, 0, 0, clock_timestamp() -"
+                 f" make_interval(secs => it.seen) from (values {values}) it (name, state, version, seen),"
+                 " kobdzila.epoch e")
+
     def test_what_is_refused(self) -> None:
         self.run_program("init")
         self.file("fr.po", 'msgid "a"\nmsgstr "x"\nmsgid "a"\nmsgstr "y"\n')

@@ -125,7 +125,10 @@ def wait(options: argparse.Namespace) -> int:
     if found.version < wanted:
         raise Trouble(f"the log is at version {found.version}")
     if not lack:
-        print(f"version {wanted} on all {len(found.machines)} machines")
+        counted = sum(it.seen <= options.seen_within for it in found.machines)
+        left = len(found.machines) - counted
+        more = f"; {left} not counted, silent for more than {options.seen_within:g} s" if left else ""
+        print(f"version {wanted} on all {counted} machines{more}")
     return 1 if lack else 0
 
 
