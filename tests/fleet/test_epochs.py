@@ -12,6 +12,8 @@ from typing import Any
 from unittest import mock
 from wsgiref.util import setup_testing_defaults
 
+import psycopg
+
 import proxies
 import servers
 from cases import LogCase
@@ -95,6 +97,20 @@ class EpochsTest(RestoredCase):
                                if (it.name, it.state) in (("old", "stopped"), ("willing", "follows"))}
                       if len(self.log.status().machines) == 3 else None)
         self.assertEqual((found["old"].version.epoch, found["old"].is_dead), (answered.epoch, True))
+
+    def test_a_machine_of_a_lost_epoch_is_later_and_later(self) -> None:
+        self.log.publish(loads(1))
+        self.back_up()
+        self.log.publish(loads(2))
+        old = self.follows("old")
+        old.wait_for(4, 100)
+        self.restore()
+        self.log.restore()
+        with psycopg.connect(self.texts, autocommit=True) as connection:
+            connection.execute("update kobdzila.epoch set begun = begun - interval '1 hour' where number = 2")
+        (found,) = until(lambda: self.log.status().machines)
+        self.assertEqual((found.version, found.behind), (4, 1))
+        self.assertTrue(3600 < found.late < 3900, found.late)
 
     def test_what_is_not_ahead_goes_on(self) -> None:
         follower = self.follows("m")

@@ -105,7 +105,7 @@ class Machine(NamedTuple):
     """The last report of a follower. `late` and `seen` are seconds; `late` is 0 if it has all publishes.
 
     `process` is HOST:PID:SUFFIX, and `version` is of the follower's epoch. If that isn't the log's, `behind` is at
-    least 1. `state` is that of Health. The counts are since the follower's start.
+    least 1, and `late` counts from the begin of the log's epoch, or from an earlier publish that it lacks. `state` is that of Health. The counts are since the follower's start.
     """
 
     name: str
@@ -594,8 +594,9 @@ def status_of(connection: Connection) -> Status:
         " (select epoch from kobdzila.epoch order by number desc limit 1) from kobdzila.publish"))
     rows = connection.execute(
         "select m.name, m.version, m.epoch, greatest((m.epoch <> %(epoch)s)::int, %(version)s - m.version),"
-        " greatest(0, coalesce(extract(epoch from clock_timestamp() - (select min(p.published)"
-        " from kobdzila.publish p where p.version > m.version and p.version <= %(version)s)), 0))::float8,"
+        " greatest(0, coalesce(extract(epoch from clock_timestamp() - least((select min(p.published)"
+        " from kobdzila.publish p where p.version > m.version and p.version <= %(version)s),"
+        " (select e.begun from kobdzila.epoch e where m.epoch <> %(epoch)s and e.epoch = %(epoch)s))), 0))::float8,"
         " greatest(0, extract(epoch from clock_timestamp() - m.seen))::float8, m.trouble, m.process, m.state, m.loads,"
         " m.refusals, m.reconnects from kobdzila.machine m order by m.name, m.process",
         {"version": version, "epoch": epoch})
