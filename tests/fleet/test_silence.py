@@ -339,6 +339,18 @@ class ReplicatedTest(unittest.TestCase):
             finally:
                 self.assertLess(time.monotonic() - begun, SLOW + 2)
 
+    def test_a_standby_that_is_awaited_is_named(self) -> None:
+        with servers.pair() as (first, second), Log(first.address) as log:
+            log.init()
+            log.publish(loads(1))
+            second.stop()
+            with self.assertRaises(Unanswered) as caught:
+                log.publish(loads(2), within=3)
+            self.assertIn(f"log: 127.0.0.1:{first.port} waits for its synchronous standby (synchronous_standby_names ="
+                          " 'standby'), which hasn't answered: start that", str(caught.exception))
+            with self.assertRaisesRegex(psycopg.OperationalError, "by process .*kob-fleet, waits for the synchronous stan"):
+                log.restore(within=3)
+
     def test_a_restore_does_not_wait_for_the_standby(self) -> None:
         """Nothing stays behind that holds the log's lock: machines report, and one epoch has begun."""
         with servers.pair() as (first, second), Log(first.address) as log:

@@ -20,7 +20,7 @@ from psycopg import errors
 from .._catalogue import Catalogue
 from .._closing import Closing
 from .._session import MOST_LINES
-from ._connect import Watched, connect
+from ._connect import Silent, Watched, connect
 from ._layout import ORIGIN, Connection, NoLog, Restored, check_layout, create, create_roles, layout_of
 from ._report import abandon
 from ._version import Version, new_epoch, version_of
@@ -378,8 +378,10 @@ class Log(Closing):
         doubts: list[str] = []
         held: Held | None = None
         while True:
+            process = 0
             try:
                 with self._connected(end) as connection:
+                    process = connection.info.backend_pid
                     return attempt(connection, work, end, doubts)
             except OTHER_LAYOUT as trouble:
                 raise self._layout_refused(trouble) from trouble
@@ -388,6 +390,8 @@ class Log(Closing):
                 if trouble.sqlstate is not None and not RETRIED.match(trouble.sqlstate):
                     raise
                 text = str(trouble).strip() or type(trouble).__name__
+                if isinstance(trouble, Silent) and doubts:
+                    text = self._standby_awaited(process) or text
                 if doubts and doubts[-1] == "":
                     doubts[-1] = text
                 if time.monotonic() + pause > end:
@@ -397,6 +401,19 @@ class Log(Closing):
                 self._on_trouble(text)
             time.sleep(pause)
             pause = min(1.0, 2 * pause)
+
+    def _standby_awaited(self, process: int) -> str | None:
+        """Say that a process of the server waits for the synchronous standby, if it does."""
+        try:
+            with self._connected(time.monotonic() + LOOK_WITHIN) as connection:
+                row = connection.execute(
+                    "select current_setting('synchronous_standby_names') from pg_stat_activity"
+                    " where pid = %s and wait_event = 'SyncRep'", (process,)).fetchone()
+                place = connection.place
+        except psycopg.Error:
+            return None
+        return row and (f"{place} waits for its synchronous standby (synchronous_standby_names = {row[0]!r}), which hasn't "
+                        "answered: start that, or let the server not wait, by an empty name")
 
 
 def attempt(connection: Watched, work: Callable[[Watched], Version], end: float, doubts: list[str]) -> Version:
@@ -440,7 +457,8 @@ def limit_transaction(connection: Connection, end: float) -> None:
 def holders(connection: Connection) -> str:
     """Describe who holds the log's lock."""
     rows = connection.execute(
-        "select a.pid, a.application_name, a.state, extract(epoch from clock_timestamp() - a.xact_start)::float8"
+        "select a.pid, a.application_name, case a.wait_event when 'SyncRep' then 'waits for the synchronous standby'"
+        " else a.state end, extract(epoch from clock_timestamp() - a.xact_start)::float8"
         " from pg_stat_activity a where a.pid <> pg_backend_pid() and exists (select from pg_locks l where l.pid = a.pid"
         " and l.relation = to_regclass('kobdzila.log') and l.mode in ('RowShareLock', 'RowExclusiveLock')) order by 4 desc")
     said = [f"process {pid} of the server ({name or 'no name'}, {state}, for {since or 0:.0f} s)"
