@@ -135,7 +135,11 @@ class CommandTest(unittest.TestCase):
         self.assertEqual(self.run_program("publish", "--no-check", "app/de=de.po")[:2], (0, "version 1\n"))
         for word in ("app=good.po", "app/fr", "a b/fr=good.po", "app/=good.po"):
             self.assertEqual(self.run_program("publish", word)[::2],
-                             (1, f"kob-fleet: not of the form DOMAIN/LOCALE=FILE: {word}\n"))
+                             (64, f"kob-fleet: not of the form DOMAIN/LOCALE=FILE: {word}\n"))
+        for words, said in ((["wait", "x"], "not a version: 'x'"),
+                            (["remove", "app"], "not of the form DOMAIN/LOCALE: app"),
+                            (["metrics", "--listen", "host:x"], "not of the form [HOST:]PORT: host:x")):
+            self.assertEqual(self.run_program(*words), (64, "", f"kob-fleet: {said}\n"))
 
     def test_a_server_that_is_not_there(self) -> None:
         self.file("fr.po", 'msgid "a"\nmsgstr "un"\n')

@@ -5,6 +5,7 @@ import argparse
 import contextlib
 import json
 import logging
+import os
 import sys
 import uuid
 from collections.abc import Callable
@@ -23,6 +24,10 @@ HEADS = ("machine", "process", "version", "behind", "for", "seen", "state")
 BEHIND, DEAD, NO_ANSWER = 1, 2, 3  # statuses of `status --check`
 
 
+class Misused(Trouble):
+    """Wrong arguments."""
+
+
 def run(options: argparse.Namespace) -> int:
     """Run a command, and return the status of the program."""
     is_check = getattr(options, "check", False)
@@ -39,6 +44,9 @@ def run(options: argparse.Namespace) -> int:
         return 2
     except psycopg.errors.UndefinedTable:
         say(NO_LOG)
+    except Misused as why:
+        say(str(why))
+        return os.EX_USAGE
     except (Trouble, NoLog, ValueError, psycopg.Error, OSError) as trouble:
         say(str(trouble).strip() or type(trouble).__name__)
     except KeyboardInterrupt:
@@ -58,7 +66,7 @@ def publish(options: argparse.Namespace) -> int:
     for word in options.catalogues:
         pair, equals, name = word.partition("=")
         if not (equals and name):
-            raise Trouble(f"not of the form DOMAIN/LOCALE=FILE: {word}")
+            raise Misused(f"not of the form DOMAIN/LOCALE=FILE: {word}")
         domain, locale = pair_of(pair, f"DOMAIN/LOCALE=FILE: {word}")
         try:
             opened = Catalogue.open(name, checked=not options.no_check, use_fuzzy=options.use_fuzzy)
@@ -78,7 +86,7 @@ def publish(options: argparse.Namespace) -> int:
 def pair_of(word: str, form: str) -> tuple[str, str]:
     domain, slash, locale = word.partition("/")
     if not (slash and NAME.fullmatch(domain) and NAME.fullmatch(locale)):
-        raise Trouble(f"not of the form {form}")
+        raise Misused(f"not of the form {form}")
     return domain, locale
 
 
@@ -116,7 +124,10 @@ def writable(options: argparse.Namespace) -> Log:
 
 
 def wait(options: argparse.Namespace) -> int:
-    wanted = Version.parse(options.until)
+    try:
+        wanted = Version.parse(options.until)
+    except ValueError as why:
+        raise Misused(str(why)) from why
     with Log(options.database) as log:
         lack = log.wait_for(wanted, options.within, options.seen_within)
         found = log.status()
@@ -203,6 +214,8 @@ def print_metrics(options: argparse.Namespace) -> int:
             sys.stdout.write(metrics(log.status()))
             return 0
         host, _, port = options.listen.rpartition(":")
+        if not port.isdecimal():
+            raise Misused(f"not of the form [HOST:]PORT: {options.listen}")
         with served((host.strip("[]") or "127.0.0.1", int(port)), lambda: metrics(log.status())) as server:
             say(f"metrics on http://{server.server_address[0]!s}:{server.server_port}/metrics")
             with contextlib.suppress(KeyboardInterrupt):
