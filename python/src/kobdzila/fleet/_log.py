@@ -105,7 +105,8 @@ class Machine(NamedTuple):
     """The last report of a follower. `late` and `seen` are seconds; `late` is 0 if it has all publishes.
 
     `process` is HOST:PID:SUFFIX, and `version` is of the follower's epoch. If that isn't the log's, `behind` is at
-    least 1, and `late` counts from the begin of the log's epoch, or from an earlier publish that it lacks. `state` is that of Health. The counts are since the follower's start.
+    least 1, and `late` counts from the beginning of the log's epoch, or from an earlier publish that it lacks. `state`
+    is that of Health. The counts are since the follower's start.
     """
 
     name: str
