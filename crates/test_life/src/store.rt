@@ -210,7 +210,8 @@ fn reclaims(alloc: Global, publisher: &mut Publisher, reader: Reader) -> bool {
 }
 
 fn is_left(alloc: Global) -> bool {
-    let (Some((mut first, reader)), Some((mut second, other))) = (opened(alloc), opened(alloc)) else {
+    let (Some((mut first, reader)), Some((mut second, other))) = (opened(alloc), opened(alloc))
+    else {
         return false;
     };
     leaves(alloc, &mut first, reader) && reclaims(alloc, &mut second, other)
