@@ -112,6 +112,25 @@ class EpochsTest(RestoredCase):
         self.assertEqual((found.version, found.behind), (4, 1))
         self.assertTrue(3600 < found.late < 3900, found.late)
 
+    def test_a_log_that_was_put_back_by_an_epoch(self) -> None:
+        """Nobody goes over to an epoch that ended: restore comes first, and the machines say so."""
+        first = self.log.publish(loads(1))
+        self.back_up()
+        old, willing = self.follows("old"), self.follows("willing", go_over=True)
+        for it in (old, willing):
+            it.wait_for(first, 100)
+        self.log.restore()
+        second = self.log.publish(loads(2))
+        for it in (old, willing):
+            it.wait_for(second.token, 100)
+        self.restore()
+        for it in (old, willing):
+            self.assertIn(f"the log was put back to its epoch {first.epoch}, before that of this machine: run kob-fleet "
+                          "restore first", str(until(lambda it=it: it.stopped)))
+        third = self.log.restore()
+        self.assertEqual(willing.wait_for(third.token, 100).token, third.token)
+        until(lambda: "restart it" in str(old.stopped))
+
     def test_what_is_not_ahead_goes_on(self) -> None:
         follower = self.follows("m")
         first = self.log.publish(loads(1))
