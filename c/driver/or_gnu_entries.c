@@ -56,7 +56,9 @@ static bool next_flag(struct part *rest, struct part *flag) {
 static void look_at_comment(struct reader *reader, const struct token *token) {
     struct part rest = token->part, flag;
     char mark = rest.at < rest.end ? *rest.at++ : '\0';
-    struct flags *flags = &reader->flags, now = {.our_fuzzy = flags->our_fuzzy, .our_c_format = flags->our_c_format};
+    struct flags *flags = &reader->flags;
+    struct flags now = {.our_fuzzy = flags->our_fuzzy, .our_c_format = flags->our_c_format,
+                        .our_checked = flags->our_checked, .is_checked_again = flags->is_checked_again};
     if (mark == '=' && !reader->flag_line && next_flag(&rest, &flag))
         reader->flag_line = token->line;
     if (mark != ',' && mark != '!')
@@ -67,6 +69,9 @@ static void look_at_comment(struct reader *reader, const struct token *token) {
         now.our_fuzzy |= is_ours && is(flag, "fuzzy");
         now.our_c_format |= is_ours && is(flag, "c-format");
     }
+    now.is_checked_again |= is_ours && now.checked && flags->our_checked;
+    if (is_ours && !now.our_checked)
+        now.our_checked = now.checked;
     reader->has_fuzzy |= now.fuzzy;
     *flags = now;
 }
@@ -75,8 +80,10 @@ static void look_at_comment(struct reader *reader, const struct token *token) {
 
 static void advance(struct reader *reader) {
     reader->token = next_token(&reader->lexer);
-    if (reader->lexer.saw_obsolete)
-        reader->flags.our_fuzzy = reader->flags.our_c_format = false;
+    if (reader->lexer.saw_obsolete) {
+        reader->flags.our_fuzzy = reader->flags.our_c_format = reader->flags.is_checked_again = false;
+        reader->flags.our_checked = NULL;
+    }
     reader->lexer.saw_obsolete = false;
 }
 

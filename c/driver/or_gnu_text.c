@@ -106,7 +106,8 @@ static void look_at_kept(struct scan *scan, const struct entry *entry) {
     scan->needs.helps |= has_macro;
     if (has_macro)
         needs_gnu_for(scan, "system-dependent format");
-    else if (flags->c_format != flags->our_c_format && checks)
+    else if (checks && (flags->c_format != flags->our_c_format || flags->checked != flags->our_checked ||
+                        flags->is_checked_again))
         needs_gnu_for(scan, "flags read otherwise by GNU");
 }
 

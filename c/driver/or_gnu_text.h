@@ -67,7 +67,9 @@ bool ends_with_newline(struct part string);
 struct flags {
     bool fuzzy, c_format; /* as GNU msgfmt has them: those of the last line of flags */
     bool our_fuzzy, our_c_format; /* as Kobdzila's has them: those of all lines, up to the last `#~` */
-    const char *checked;  /* the first flag of a format that libkobdzila checks, or NULL */
+    const char *checked;  /* the first flag of a format that libkobdzila checks, or NULL: of the last line of flags */
+    const char *our_checked; /* of all lines, as Kobdzila's has them */
+    bool is_checked_again;   /* several lines have one */
     bool has_range;
     struct part other;    /* the first flag of a format that only GNU msgfmt checks, or NULL */
 };

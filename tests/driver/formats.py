@@ -53,14 +53,14 @@ def translation_of(rng: random.Random, original: str, pieces: tuple[str, ...], f
     return " ".join(words)
 
 
-def entry(rng: random.Random, number: int) -> str:
+def entry(rng: random.Random, number: int, has_plurals: bool) -> str:
     """An entry flagged as a format of Python, or as both."""
     flag = rng.choice(("python-format", "python-brace-format", "python-format, python-brace-format", "possible-python-format",
                        "python-format, no-python-format", "python-brace-format no-wrap"))  # fmt: skip
     pieces, faults = (BRACE, BRACE_FAULTS) if flag.startswith("python-brace") else (PERCENT, PERCENT_FAULTS)
     original = text_of(rng, pieces, faults)
     lines = [f"#, {flag}", f'msgctxt "{number}"', f'msgid "{original}"' if original else 'msgid "x"']
-    if rng.random() < 0.3:
+    if rng.random() < 0.3 and has_plurals:
         plural = original if rng.random() < 0.7 else text_of(rng, pieces, faults)
         lines.append(f'msgid_plural "{plural}"')
         lines += [f'msgstr[{form}] "{translation_of(rng, plural, pieces, faults)}"' for form in (0, 1)]
@@ -69,9 +69,9 @@ def entry(rng: random.Random, number: int) -> str:
     return "\n".join(lines) + "\n\n"
 
 
-def generated(seed: int) -> bytes:
+def generated(seed: int, has_plurals: bool) -> bytes:
     rng = random.Random(seed)
-    return (HEADER + "".join(entry(rng, number) for number in range(ENTRIES))).encode()
+    return (HEADER + "".join(entry(rng, number, has_plurals) for number in range(ENTRIES))).encode()
 
 
 def answer(program: str, option: str, path: Path, environment: dict[str, str]) -> tuple[int, bytes]:
@@ -137,15 +137,18 @@ def main() -> None:
     parser.add_argument("po", nargs="*", type=Path)
     arguments = parser.parse_intermixed_args()
     comparison = Comparison(arguments.driver, arguments.gnu)
-    paths = [arguments.room / f"{seed}.po" for seed in range(arguments.seed, arguments.seed + arguments.files)]
-    for path in paths:
-        path.write_bytes(generated(int(path.stem)))
-    groups = [("formats of Python, generated", paths), ("formats of Python, installed PO files", arguments.po)]
+    # (GNU msgfmt reads the plural rule with -c alone, and else compares the forms of a plural leniently)
+    made: dict[str, list[Path]] = {"--check-format": [], "-c": []}
+    for option, paths in made.items():
+        for seed in range(arguments.seed, arguments.seed + arguments.files):
+            paths.append(arguments.room / f"{seed}{option}.po")
+            paths[-1].write_bytes(generated(seed, option == "-c"))
     with ThreadPoolExecutor(4) as pool:
         done = [
-            report(f"driver, {name}, {option}", list(pool.map(lambda path: comparison.difference(path, option), those)))
-            for name, those in groups
-            for option in ("--check-format", "-c")
+            report(f"driver, formats of Python, {name}, {option}",
+                   list(pool.map(lambda path: comparison.difference(path, option), those)))
+            for option, paths in made.items()
+            for name, those in (("generated", paths), ("installed PO files", arguments.po))
             if those
         ]
     sys.exit(0 if all(done) else 1)
