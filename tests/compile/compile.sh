@@ -365,7 +365,7 @@ if [ -n "$gnu" ]; then
   says 'compile, another charset' 0 'euc/ja.po: 1 translated message, 1 fuzzy translation.' --statistics -q euc
   "$gnu" --no-hash -o wanted.gnu euc/ja.po
   holds 'compile, another charset: the bytes of GNU msgfmt' cmp -s euc/ja.mo wanted.gnu
-  says 'compile, another charset, -c -f' 0 'euc/ja.po: 2 translated messages.' --statistics -q -c -f --force euc
+  says 'compile, another charset, -c -f' 0 'euc/ja.po: 1 translated message, 1 fuzzy translation.' --statistics -q -c -f --force euc
   mkdir checked && { cat euc/ja.po && printf '#, c-format\nmsgid "%%d"\nmsgstr "%%s"\n'; } > checked/ja.po
   says 'compile, another charset, checked by GNU msgfmt' 1 \
     "checked/ja.po:12: format specifications in 'msgid' and 'msgstr' for argument 1 are not the same" -q -c checked
@@ -430,7 +430,7 @@ $last" -q -c formats
   # (a later GNU msgfmt may know more formats)
   printf '#!/bin/sh\nfor it; do shift; [ "$it" = --check ] || set -- "$@" "$it"; done\nexec "%s" "$@"\n' "$gnu" > later
   chmod 755 later
-  (GNU_MSGFMT=$room/later "$compiler" -q -c formats) > out 2> err
+  (GNU_MSGFMT=$room/later "$tested" -q -c formats) > out 2> err
   status=$?
   judge 'compile, formats of Python that GNU msgfmt accepts' 0 '' && "$gnu" --no-hash -o wanted.gnu formats/fr.po &&
     holds 'compile, formats of Python that GNU msgfmt accepts' cmp -s formats/fr.mo wanted.gnu

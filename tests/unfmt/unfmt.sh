@@ -69,16 +69,19 @@ fi
 
 # --- installed catalogues -----------------------------------------------------------------------------------------------
 
-# means_the_same FILE: what is written of it is compiled to an MO file of the same entries
+# means_the_same FILE: what is written of it is compiled to the same MO file as the text without wrapping, whose meaning
+# is proved
 means_the_same() {
   run --force-po "$1"
-  "$program" -o again.mo out 2> err && "$tested" --no-wrap --force-po again.mo > again &&
-    "$tested" --no-wrap --force-po "$1" | cmp -s - again
+  "$program" -o wrapped.mo out 2> err && "$tested" --no-wrap --force-po "$1" > plain && "$program" -o plain.mo plain 2> err &&
+    cmp -s wrapped.mo plain.mo
 }
 
 # is_explained FILE: GNU's text differs for a reason that docs/reference/msgunfmt.md lists: strings that depend on the
-# system (a file of minor revision 1), keys and charsets that are refused, or a charset that is converted
+# system (a file of minor revision 1), keys and charsets that are refused, a charset that is converted, or characters
+# that GNU's loses
 is_explained() {
+  [ "$status" = 0 ] && grep -q ': invalid multibyte sequence$' gnu-said && return
   case $("$gnu" "$1" 2> /dev/null | grep -aom 1 'charset=[^\" ]*') in
     '' | *[Uu][Tt][Ff]-8) ;;
     *) [ "$status" = 0 ] && return ;;
@@ -89,14 +92,13 @@ is_explained() {
 }
 
 compare_installed() {
-  local it same=0 explained=0 meant=0 wrong='' untranslated=0
+  local it same=0 explained=0 meant=0 wrong=''
   while read -r it; do
     if is_as_gnu "$it"; then same=$((same + 1))
     elif is_explained "$it"; then explained=$((explained + 1))
     else wrong+="$it "; fi
     [ "$status" = 0 ] || continue
     if means_the_same "$it"; then meant=$((meant + 1))
-    elif grep -q 'msgstr ""$' out; then untranslated=$((untranslated + 1))
     else wrong+="$it, which means something else "; fi
   done < <(find /usr/share /usr/lib -name '*.mo' 2> unread | sort | awk -v every="${EVERY:-5}" 'NR % every == 0')
   if [ -n "$wrong" ]; then failed 'unfmt, installed catalogues' "${wrong:0:400}"
