@@ -79,6 +79,7 @@ class CommandTest(unittest.TestCase):
         status, text, _ = self.run_program("status")
         self.assertRegex(text, r"\Aversion 0, 0 publishes, cut up to 0, epoch [0-9a-f]{16}\n\Z")
         self.assertEqual(self.run_program("publish", "app/fr=fr.po", "app/de=de.mo"), (0, "version 2\n", ""))
+        self.assertRegex(self.run_program("status")[1], r"\Aversion 2, 1 publish, cut up to 0, ")
         number = str(uuid.uuid4())
         for _ in range(2):
             self.assertEqual(self.run_program("publish", "--id", number, "--note", "a note", "app/de=zwei.po"),
@@ -113,8 +114,8 @@ class CommandTest(unittest.TestCase):
 
     def machine_rows(self, values: str) -> None:
         """Add reports of machines: their names, states, versions, and the seconds since."""
-        self.sql("insert into kobdzila.machine (name, process, epoch, version, state, loads, refusals, reconnects, seen)"
-                 " select it.name, 'h:1:x', e.epoch, it.version, it.state, 0, 0, 0, clock_timestamp() -"
+        self.sql("insert into kobdzila.machine (name, process, epoch, version, state, loads, refusals, reconnects,"
+                 " seen) select it.name, 'h:1:x', e.epoch, it.version, it.state, 0, 0, 0, clock_timestamp() -"
                  f" make_interval(secs => it.seen) from (values {values}) it (name, state, version, seen),"
                  " kobdzila.epoch e")
 
@@ -175,7 +176,8 @@ class CommandTest(unittest.TestCase):
             status, text, said = self.run_program("restore")
         self.assertEqual((status, text), (2, ""))
         found = re.search(r"\Akob-fleet: epoch ([0-9a-f]{16}) may or may not have begun: the connection is lost\n"
-                          r"kob-fleet: if `kob-fleet status` prints epoch \1, it has; otherwise run restore again\n\Z", said)
+                          r"kob-fleet: if `kob-fleet status` prints epoch \1, it has; otherwise run restore "
+                          r"again\n\Z", said)
         self.assertIsNotNone(found, said)
         self.assertIn(f", epoch {found[1]}\n", self.run_program("status")[1])
         with psycopg.connect(self.address) as connection:

@@ -125,8 +125,8 @@ class EpochsTest(RestoredCase):
             it.wait_for(second.token, 100)
         self.restore()
         for it in (old, willing):
-            self.assertIn(f"the log was put back to its epoch {first.epoch}, before that of this machine: run kob-fleet "
-                          "restore first", str(until(lambda it=it: it.stopped)))
+            self.assertIn(f"the log was put back to its epoch {first.epoch}, before that of this machine: run "
+                          "kob-fleet restore first", str(until(lambda it=it: it.stopped)))
         third = self.log.restore()
         self.assertEqual(willing.wait_for(third.token, 100).token, third.token)
         until(lambda: "restart it" in str(old.stopped))

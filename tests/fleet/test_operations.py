@@ -275,6 +275,14 @@ class RolesTest(CommandCase):
             self.row("m", "h:1:x")
             self.assertEqual(log.forget("m"), 1)
 
+    def test_the_role_that_is_needed_is_named(self) -> None:
+        self.command("init", "--roles")
+        self.address = self.role("kobdzila_follower")
+        for word, needed in (("remove", "publisher"), ("compact", "operator")):
+            status, _, said = self.command(*([word, "app/fr"] if word == "remove" else [word]))
+            self.assertEqual(status, 1)
+            self.assertRegex(said, rf"permission denied for .*; {word} needs the role kobdzila_{needed}, or the")
+
     def test_a_role_that_only_reads(self) -> None:
         self.command("init", "--roles")
         self.sql("do $$ begin create role only_reads login; exception when duplicate_object then null; end $$")
@@ -369,6 +377,7 @@ class ProgramTest(CommandCase):
             daemon.send_signal(signal.SIGTERM)
             self.assertEqual(daemon.wait(100), 0)
             self.assertEqual(self.log.status().machines, [])
+            self.assertFalse(Path(f"{room}/socket").exists())
 
     @unittest.skipUnless(has_catsession(), NO_SESSION)
     def test_a_daemon_whose_log_lost_publishes(self) -> None:
@@ -412,6 +421,27 @@ class ProgramTest(CommandCase):
                  " and pid <> pg_backend_pid()")
         version = Log(self.address).publish(loads(2))
         until(lambda: asked() == [f"{version}\n".encode(), b"k1 at 2\n"])
+
+    def test_a_program_that_leaves_early(self) -> None:
+        ours, theirs = socket.socketpair()
+        theirs.sendall(b"ask\t0\tapp\tfr\tgettext\tk1\ngo\n")
+        theirs.close()
+        follower, session = mock.Mock(), mock.Mock()
+        said = io.StringIO()
+        with mock.patch.object(_daemon, "answered", return_value=b"version\t1\n"), contextlib.redirect_stderr(said):
+            _daemon.answer_client(ours, threading.Semaphore(), follower, session, False)
+        self.assertEqual(said.getvalue(),
+                         "kob-fleet: a program closed its end of the socket before it had its answers\n")
+
+    def test_a_socket_of_another_process_stays(self) -> None:
+        with tempfile.TemporaryDirectory() as room:
+            path = Path(room) / "socket"
+            path.touch()
+            with _daemon.removed(path):
+                other = Path(room) / "other"
+                other.touch()
+                other.replace(path)
+            self.assertTrue(path.exists())
 
     def test_notes_to_systemd(self) -> None:
         with socket.socket(socket.AF_UNIX, socket.SOCK_DGRAM) as systemd:

@@ -348,7 +348,7 @@ class ReplicatedTest(unittest.TestCase):
                 log.publish(loads(2), within=3)
             self.assertIn(f"log: 127.0.0.1:{first.port} waits for its synchronous standby (synchronous_standby_names ="
                           " 'standby'), which hasn't answered: start that", str(caught.exception))
-            with self.assertRaisesRegex(psycopg.OperationalError, "by process .*kob-fleet, waits for the synchronous stan"):
+            with self.assertRaisesRegex(psycopg.OperationalError, "by process .*kob-fleet, waits for the synchronous"):
                 log.restore(within=3)
 
     def test_a_restore_does_not_wait_for_the_standby(self) -> None:

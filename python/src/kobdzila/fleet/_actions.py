@@ -15,11 +15,13 @@ import psycopg
 from .._catalogue import Catalogue
 from .._refused import Refused
 from ._daemon import Trouble, follow, say
-from ._layout import NO_LOG, NoLog
+from ._layout import FOLLOWER, NO_LOG, OPERATOR, PUBLISHER, NoLog
 from ._log import NAME, SILENT, Load, Log, Machine, RestoreUnanswered, Status, Unanswered
 from ._metrics import metrics, served
 from ._version import Version, escaped
 
+READERS = ("status", "metrics", "wait", "history")
+OPERATORS = ("compact", "restore", "forget")
 HEADS = ("machine", "process", "version", "behind", "for", "seen", "state")
 BEHIND, DEAD, NO_ANSWER = 1, 2, 3  # statuses of `status --check`
 
@@ -42,6 +44,9 @@ def run(options: argparse.Namespace) -> int:
         say(str(unanswered))
         say(f"if `kob-fleet status` prints epoch {unanswered.epoch}, it has; otherwise run restore again")
         return 2
+    except psycopg.errors.InsufficientPrivilege as why:
+        role = role_for(options.command)
+        say(f"{why}; {options.command} needs the role {role}, or the schema's owner" if role else str(why))
     except psycopg.errors.UndefinedTable:
         say(NO_LOG)
     except Misused as why:
@@ -52,6 +57,13 @@ def run(options: argparse.Namespace) -> int:
     except KeyboardInterrupt:
         return 130
     return NO_ANSWER if is_check else 1
+
+
+def role_for(command: str) -> str | None:
+    """The role that a command needs, or None if only the owner can do it."""
+    if command == "init":
+        return None
+    return FOLLOWER if command in READERS else OPERATOR if command in OPERATORS else PUBLISHER
 
 
 def init(options: argparse.Namespace) -> int:
@@ -186,7 +198,8 @@ def status(options: argparse.Namespace) -> int:
 
 
 def print_machines(found: Status) -> None:
-    print(f"version {found.version}, {found.publishes} publishes, cut up to {found.cut}, epoch {found.version.epoch}")
+    publishes = "1 publish" if found.publishes == 1 else f"{found.publishes} publishes"
+    print(f"version {found.version}, {publishes}, cut up to {found.cut}, epoch {found.version.epoch}")
     rows = [HEADS, *((escaped(it.name), escaped(it.process), str(it.version), str(it.behind),
                       f"{it.late:.1f} s" if it.behind else "-", f"{it.seen:.0f} s ago", state_of(it))
                      for it in found.machines)]

@@ -108,9 +108,21 @@ def listening(options: argparse.Namespace, follower: Follower, session: Session)
                 Path(options.socket).unlink()
         listener.bind(options.socket)
         listener.listen(MOST_CLIENTS)
-    with listener:
+    with listener, contextlib.nullcontext() if is_given else removed(Path(options.socket)):
         threading.Thread(target=accept, args=[listener, follower, session, options.tokens], daemon=True).start()
         yield
+
+
+@contextlib.contextmanager
+def removed(path: Path) -> Iterator[None]:
+    """Remove a file at the end, unless another process has put its own in its place."""
+    own = path.stat()
+    try:
+        yield
+    finally:
+        with contextlib.suppress(OSError):
+            if os.path.samestat(own, path.stat()):
+                path.unlink()
 
 
 def accept(listener: socket.socket, follower: Follower, session: Session, with_tokens: bool) -> None:
@@ -130,6 +142,8 @@ def answer_client(
     try:
         with client, client.makefile("rb") as questions, client.makefile("wb") as answers:
             answer_rounds(follower, session, questions, answers, with_tokens)
+    except (BrokenPipeError, ConnectionResetError):
+        say("a program closed its end of the socket before it had its answers")
     except (Trouble, OSError) as why:
         say(str(why))
     finally:

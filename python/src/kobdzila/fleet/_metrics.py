@@ -13,7 +13,7 @@ NUMBERS: Sequence[tuple[str, str, str, Callable[[Machine], float]]] = (
     ("up", "gauge", "1 if the follower reported in the last 30 seconds and hasn't stopped", lambda it: not it.is_dead),
     ("version", "gauge", "the log's version that the machine shows", lambda it: it.version),
     ("behind_versions", "gauge", "how many loads it is behind the log", lambda it: it.behind),
-    ("behind_seconds", "gauge", "for how long it has lacked the oldest publish, or the epoch, that it lacks", lambda it: it.late),
+    ("behind_seconds", "gauge", "for how long it has lacked a publish, or the log's epoch", lambda it: it.late),
     ("seen_seconds", "gauge", "how long ago it reported", lambda it: it.seen),
     ("loads_total", "counter", "loads that it has played since its start", lambda it: it.loads),
     ("refusals_total", "counter", "publishes that it refused since its start", lambda it: it.refusals),

@@ -155,8 +155,8 @@ class Player:
         elif own.epoch in self.past:
             if is_standby:
                 raise Lagging(f"the standby has epoch {own.epoch}, and this machine shows {self.place.epoch}")
-            raise Difference(self.place.version, own.newest, f"the log was put back to its epoch {own.epoch}, before that of "
-                             "this machine: run kob-fleet restore first, which begins a new epoch")
+            raise Difference(self.place.version, own.newest, f"the log was put back to its epoch {own.epoch}, before "
+                             "that of this machine: run kob-fleet restore first, which begins a new epoch")
         elif is_standby and not self.is_older and own.newest < self.place.version:
             raise Lagging(f"the standby has epoch {own.epoch}, and this machine shows {self.place.epoch}")
         if not (self.go_over or self.is_older):
