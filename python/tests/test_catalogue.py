@@ -53,7 +53,8 @@ REFUSED_FILES = [
     (WHOLE[:-1] + b"x", Fault.MO_NO_NUL),
     (mo((b"a", b"\xff")), Fault.MO_BAD_TEXT),
     (mo((b"a", b"x\0y")), Fault.MO_FORMS),
-    (mo((b"", b"charset=KOI8-R")), Fault.MO_CHARSET),
+    (mo((b"", b"charset=EUC-JP")), Fault.MO_CHARSET),
+    (mo((b"", b"charset=CP1252"), (b"a", b"\x81")), Fault.MO_NO_CHARACTER),
 ]
 
 # What GNU msgfmt writes of a message and of one with %<PRIu64>, which has revision 0.1.

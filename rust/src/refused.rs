@@ -70,7 +70,7 @@ kinds! {
     MoForms = 8,
     /// The keys of the MO file aren't in strictly ascending order.
     MoOrder = 9,
-    /// The header of the MO file names a charset other than UTF-8 and US-ASCII.
+    /// The header of the MO file names a charset that isn't decoded.
     MoCharset = 10,
     /// The MO file that [`Catalogue::mo_file`](crate::Catalogue::mo_file) would return is too large.
     MoSwollen = 11,
@@ -111,7 +111,7 @@ kinds! {
     PoBadIndex = 108,
     /// A message occurs twice.
     PoDuplicate = 109,
-    /// The header names a charset other than UTF-8 and US-ASCII.
+    /// The header of the PO text names a charset that isn't decoded.
     PoCharset = 110,
     /// A format has directives that depend on the system, such as `%<PRId64>`.
     PoSystemDependent = 111,

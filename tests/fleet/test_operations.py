@@ -154,7 +154,7 @@ class StatusTest(CommandCase):
         self.assertEqual(status, 1)
         self.assertIn("kob-fleet: the log is at version 1\n", said)
         self.assertEqual(self.command("wait", f"{'0' * 16}.1", "--within", "2")[0], 1)
-        self.assertEqual(self.command("wait", "x")[0], 1)
+        self.assertEqual(self.command("wait", "x")[0], 64)
         self.assertIsNone(follower.stopped)
 
     def file(self, name: str, data: bytes) -> str:
@@ -172,7 +172,7 @@ class StatusTest(CommandCase):
         self.assertEqual([self.text(follower, it, 3) for it in ("app", "mail")], ["k1", "k1 at 1"])
         self.assertEqual(self.log.history(1)[0].note, "remove app/fr")
         self.assertEqual(self.command("remove", "none/fr")[::2], (1, "kob-fleet: the log has no catalogue none/fr\n"))
-        self.assertEqual(self.command("remove", "x")[0], 1)
+        self.assertEqual(self.command("remove", "x")[0], 64)
 
     def test_usage_has_a_status_of_its_own(self) -> None:
         """2 is for an answer that was lost."""

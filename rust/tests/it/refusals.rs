@@ -124,10 +124,21 @@ fn each_reason_of_an_mo_file() {
         "keys out of order",
     );
     refuses_mo(
-        &mo_file(&[(b"", b"charset=KOI8-R\n")]),
+        &mo_file(&[(b"", b"charset=EUC-JP\n")]),
         Kind::MoCharset,
         "unsupported charset",
     );
+    refuses_mo(
+        &mo_file(&[(b"", b"charset=CP1252\n"), (b"a", b"\x81")]),
+        Kind::MoNoCharacter,
+        "byte without a character",
+    );
+}
+
+#[test]
+fn mo_file_in_another_charset() {
+    let file = mo_file(&[(b"", b"charset=KOI8-R\n"), (b"a", b"\xc4\xc1")]);
+    assert_eq!(Catalogue::from_mo(&file).unwrap().gettext("a"), "да");
 }
 
 /// What GNU msgfmt writes of a message and of one with `%<PRIu64>`, which has revision 0.1.
