@@ -200,6 +200,9 @@ enum reading { ROWS_READ, NO_ROWS, NO_MEMORY };
 /* Read the rows of a file of major revision 0 or 1. All of their strings are in the file, or in `made`. */
 enum reading read_rows(const unsigned char *bytes, size_t len, struct rows *rows);
 
+/* Return the header in a file of revision 0.0 that libkobdzila opens; NULL if there is none. */
+const char *header_in(const unsigned char *bytes, size_t len);
+
 /* ---- parts.c: what a system-dependent part such as PRIu64 stands for; NULL if it is unknown. */
 const char *part_value(const char *name);
 

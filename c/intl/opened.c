@@ -69,6 +69,25 @@ static enum standing open_held(const unsigned char *bytes, size_t len, int is_co
     return MISSING;
 }
 
+/* Whether libkobdzila decoded the texts of a file, and so named UTF-8 in its header: here they stay as they are. */
+static int is_decoded(const struct catalogue *c, const unsigned char *bytes, size_t len) {
+    const char *header = header_of(c->held, 0), *own = header_in(bytes, len);
+    return header && own && strcmp(header, own);
+}
+
+/* Open the bytes as they are, if their texts are UTF-8. *fault is why libkobdzila refused them. */
+static enum standing open_plain(const unsigned char *bytes, size_t len, struct catalogue **catalogue,
+                                enum kob_fault *fault) {
+    enum standing standing = open_held(bytes, len, 0, catalogue, fault);
+    if (standing != TAKEN || !is_decoded(*catalogue, bytes, len))
+        return standing;
+    kob_release((*catalogue)->held);
+    free(*catalogue);
+    *catalogue = NULL;
+    *fault = KOB_MO_CHARSET;
+    return MISSING;
+}
+
 static enum standing open_image(const struct rows *rows, int is_coded, struct catalogue **catalogue) {
     enum kob_fault fault;
     size_t len;
@@ -94,7 +113,7 @@ static enum standing open_rows(const struct rows *rows, struct catalogue **catal
  * that all strings are inside the file. */
 static int may_be_read(enum kob_fault fault) {
     return fault == KOB_NO_FAULT || fault == KOB_MO_REVISION || fault == KOB_MO_BAD_TEXT || fault == KOB_MO_FORMS ||
-           fault == KOB_MO_CHARSET;
+           fault == KOB_MO_CHARSET || fault == KOB_MO_NO_CHARACTER;
 }
 
 /* Whether a file has another revision than 0.0. libkobdzila reads such files; but the C library wants a hash table in
@@ -109,7 +128,7 @@ enum standing opened(const unsigned char *bytes, size_t len, struct catalogue **
     if (len < LEAST_MO || len > MOST_MO)
         return MISSING;
     enum kob_fault fault = KOB_MO_REVISION;
-    enum standing standing = is_revised(bytes) ? MISSING : open_held(bytes, len, 0, catalogue, &fault);
+    enum standing standing = is_revised(bytes) ? MISSING : open_plain(bytes, len, catalogue, &fault);
     if (standing != MISSING || !may_be_read(fault))
         return standing;
     struct rows rows;

@@ -283,3 +283,12 @@ enum reading read_rows(const unsigned char *bytes, size_t len, struct rows *rows
     }
     return reading;
 }
+
+const char *header_in(const unsigned char *bytes, size_t len) {
+    struct bytes file = { .at = bytes, .len = len };
+    file.is_swapped = in_header(&file, 0) != MAGIC;
+    if (!in_header(&file, STRINGS))
+        return NULL;
+    const char *key = (const char *)bytes + word(&file, in_header(&file, ORIGINALS) + 4ull);
+    return *key ? NULL : (const char *)bytes + word(&file, in_header(&file, TRANSLATIONS) + 4ull);
+}
