@@ -69,10 +69,10 @@ if command -v python3 > /dev/null; then
     "$catserve" < "$room/script" 2> "$room/err" |
       awk -F '\t' '/^accepted-mo/ { print "accepted " $2 } /^refused-mo/ { print "refused " $2 }' > "$room/wanted"
     timeout 300 "$room/c_library" refusals "$room"/mutated/* > "$room/got" 2>&1
-    if [ "$(wc -l < "$room/wanted")" = 1000 ] && cmp -s "$room/wanted" "$room/got"; then
+    if [ "$(wc -l < "$room/wanted")" = 1000 ] && as_utf8 "$room/wanted" "$room/got" | cmp -s "$room/wanted" -; then
       ok "$name: $(grep -c refused "$room/got") refused"
     else
-      failed "$name" "$(diff "$room/wanted" "$room/got" | head -n 3 | tr '\n' ' ')"
+      failed "$name" "$(as_utf8 "$room/wanted" "$room/got" | diff "$room/wanted" - | head -n 3 | tr '\n' ' ')"
     fi
   else
     skipped "$name" "there is no $catserve"

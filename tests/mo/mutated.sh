@@ -1,8 +1,9 @@
 #!/usr/bin/env bash
 # Opens 100,000 mutated MO files (bench/mutated/mutate.c, of 50 installed ones) by libkobdzila with the sanitizers, asks
 # those that are taken, and compares each answer with that of catsession: taken with as many entries, or refused for
-# the same reason. CATSESSION=PATH: another program. bench/mutated/run does the first part ten million times. Then it
-# opens 100,000 mutated files with system-dependent strings, which catsession doesn't read.
+# the same reason, unless catsession refuses the charset or the bytes in it. CATSESSION=PATH: another program.
+# bench/mutated/run does the first part ten million times. Then it opens 100,000 mutated files with system-dependent
+# strings, which catsession doesn't read.
 no_program=1
 catsession=${CATSESSION:+$(realpath "$CATSESSION")}
 . "$(dirname "$0")/../lib/common"
@@ -71,9 +72,9 @@ fi
 
 if [ "$lines" = - ]; then
   skipped "$name, beside catsession" "there is no $catsession"
-elif [ "$(wc -l < "$room/wanted")" = 100000 ] && cmp -s "$room/wanted" "$room/got"; then
+elif [ "$(wc -l < "$room/wanted")" = 100000 ] && as_utf8 "$room/wanted" "$room/got" | cmp -s "$room/wanted" -; then
   ok "$name, beside catsession: $(grep -c refused "$room/got") refused, for the same reasons"
 else
   failed "$name, beside catsession" \
-    "$(diff "$room/wanted" "$room/got" | head -n 3 | tr '\n' ' ') $(head -c 200 "$room/session")"
+    "$(as_utf8 "$room/wanted" "$room/got" | diff "$room/wanted" - | head -n 3 | tr '\n' ' ') $(head -c 200 "$room/session")"
 fi

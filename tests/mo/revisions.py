@@ -12,9 +12,11 @@ library's path, and examples/python and tests/intl on the path of Python.
 """
 from __future__ import annotations
 
+import codecs
 import ctypes
 import os
 import random
+import re
 import struct
 import subprocess
 import sys
@@ -77,6 +79,26 @@ def read(data: bytes) -> dict[bytes, bytes]:
 # ---- glibc
 
 
+def charset_of(texts: dict[bytes, bytes]) -> str:
+    """The charset that the header names, if texts in it have to be decoded; otherwise UTF-8."""
+    found = re.search(rb"charset=([^ \t\n]*)", texts.get(b"", b""))
+    try:
+        name = found[1].decode() if found else ""
+        return name if name and codecs.lookup(name).name not in ("utf-8", "ascii") else "UTF-8"
+    except LookupError:
+        return "UTF-8"
+
+
+def renamed(header: bytes, charset: str) -> bytes:
+    return header.replace(f"charset={charset}".encode(), b"charset=UTF-8", 1)
+
+
+def in_utf8(texts: dict[bytes, bytes], charset: str) -> dict[bytes, bytes]:
+    """The texts and keys decoded from the charset, and the header's with UTF-8 as its charset."""
+    decoded = {key.decode(charset).encode(): text.decode(charset).encode() for key, text in texts.items()}
+    return {key: text if key else renamed(text, charset) for key, text in decoded.items()}
+
+
 class Glibc:
     """glibc's answers from files, each of which becomes a text domain."""
 
@@ -120,19 +142,23 @@ def differences(data: bytes, glibc: Glibc, counts: Counter[str]) -> list[str]:
         return []
     revision = revision_of(data)
     counts[f"of revision {revision >> 16}.{revision & 0xFFFF}"] += 1
-    domain, wrong, mine = glibc.domain(data), [], {}
+    domain, wrong, mine, texts = glibc.domain(data), [], {}, read(data)
+    charset = charset_of(texts)
     for context, msgid, plural, forms in ours.entries():
         key = b"" if context is None else context.encode() + b"\4"
         key += msgid.encode()
         mine[key] = "\0".join(forms).encode()
         counts["messages"] += 1
-        if glibc.text(domain, key) != forms[0].encode():
-            wrong.append(f"{key!r}: {forms[0]!r}, and glibc {glibc.text(domain, key)!r}")
+        theirs = glibc.text(domain, key.decode().encode(charset))
+        if not key and theirs is not None:
+            theirs = renamed(theirs, charset)
+        if theirs != forms[0].encode():
+            wrong.append(f"{key!r}: {forms[0]!r}, and glibc {theirs!r}")
         for n in range(31) if plural is not None and msgid else ():
             text = ours.ngettext(msgid, plural, n) if context is None else ours.npgettext(context, msgid, plural, n)
-            if glibc.counted(domain, key, plural.encode(), n) != text.encode():
+            if glibc.counted(domain, key.decode().encode(charset), plural.encode(), n) != text.encode():
                 wrong.append(f"{key!r} with {n}: {text!r}")
-    if mine != read(data):
+    if mine != (texts if charset == "UTF-8" else in_utf8(texts, charset)):
         wrong.append("other texts than by the reader in Python")
     return wrong
 
