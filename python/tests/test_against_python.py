@@ -50,6 +50,8 @@ def differences(theirs: Any, ours: kobdzila.GNUTranslations) -> list[str]:
 
     def compare(call: str, *words: object) -> None:
         wanted, got = getattr(theirs, call)(*words), getattr(ours, call)(*words)
+        if words == ("",) and wanted != got:  # (the header of converted texts names UTF-8)
+            wanted = wanted.replace(f"charset={theirs.charset()}", "charset=UTF-8", 1)
         if wanted != got:
             wrong.append(f"{call}{words}: {got!r} and not {wanted!r}")
 

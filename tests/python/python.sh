@@ -146,7 +146,7 @@ else
   ok "$name, on a machine of another kind it asks for KOBDZILA_LIB_DIR, and takes it"
 fi
 name='the Python package, python -m build'
-script build '/usr/bin/python3 -c "import build, venv, ensurepip"'
+script build '/usr/bin/python3 -I -c "import build, venv, ensurepip"'
 if [ "$first" != /usr/bin/python3 ] || ! tests/lib/needs "$room/build" python3-build; then
   skipped "$name" 'no Debian package python3-build for this Python, and it could not be installed'
 elif ! said=$(SOURCE_DATE_EPOCH=$epoch timeout 600 "$first" -m build -o "$room/built" "$room/copy/python" 2>&1); then
