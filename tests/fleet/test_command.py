@@ -187,7 +187,7 @@ class CommandTest(unittest.TestCase):
         self.run_program("init")
         self.file("fr.po", 'msgid "a"\nmsgstr "un"\n')
         with self.without_answers():
-            status, text, said = self.run_program("publish", "--within", "0.2", "app/fr=fr.po")
+            status, text, said = self.run_program("publish", "--within", "3", "app/fr=fr.po")
         self.assertEqual((status, text), (2, ""))
         found = re.search(r"publish ([0-9a-f-]{36}) may or may not be in the log: .*(?s:.)*--id \1\n\Z", said)
         self.assertIsNotNone(found, said)
