@@ -1,5 +1,5 @@
 /* Opening MO files by libkobdzila, in megabytes a second: each is read, checked and copied, and its index made. A plain
- * copy of the same bytes into fresh memory stands beside. A file that is refused is timed, too. Run by bench/mo/run. */
+ * copy of the same bytes into fresh memory stands beside. Refused files are timed as well. Run by bench/mo/run. */
 #include "kobdzila.h"
 
 #include <stdio.h>

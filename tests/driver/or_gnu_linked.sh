@@ -127,8 +127,8 @@ closed 'a refusal, no streams' '"$driver" -o x.mo twice.po <&- >&- 2>&-'
 closed 'statistics to a full device' '"$driver" --statistics -o x.mo ours.po 2> /dev/full'
 closed 'statistics to nowhere' '"$driver" --statistics -o x.mo ours.po 2>&-'
 
-# a reader that is gone ends the driver as it ends a program that doesn't ignore the signal: GNU msgfmt, too. Where the
-# signal is ignored, it's an error, of which GNU msgfmt says nothing.
+# When its reader is gone, SIGPIPE ends the driver, as it ends GNU msgfmt. If the signal is ignored, the driver reports an
+# error, and GNU msgfmt reports nothing.
 python3 - "$driver" "$program" "$gnu" large.po << 'END' > piped
 import os, signal, subprocess, sys
 read, write = os.pipe()

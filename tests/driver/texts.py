@@ -120,7 +120,7 @@ class Runner:
         ours = self.answer("driver", folder)
         log = (folder / "log").read_text(encoding="utf-8")
         who, why = log.split("\t")[0], log.split("\t")[2]
-        # (the driver writes a file without entries, too)
+        # (the driver also writes a file without entries)
         same = ours == theirs or (ours[:2] == theirs[:2] and theirs[2] is None and ours[2] and len(ours[2]) == 28)
         for name in ("in.po", "x.mo", "log"):
             (folder / name).unlink(missing_ok=True)

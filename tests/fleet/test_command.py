@@ -153,7 +153,7 @@ class CommandTest(unittest.TestCase):
         self.assertNotIn("--id", last)
 
     def without_answers(self, times: int = 1000) -> Any:
-        """Meanwhile the connection is lost after each commit, or after so many."""
+        """Meanwhile the connection is lost after each of the first `times` commits."""
         commit, lost = psycopg.Transaction.__exit__, psycopg.OperationalError("the connection is lost")
         left = iter(range(times))
 

@@ -113,7 +113,7 @@ class EpochsTest(RestoredCase):
         self.assertTrue(3600 < found.late < 3900, found.late)
 
     def test_a_log_that_was_put_back_by_an_epoch(self) -> None:
-        """Nobody goes over to an epoch that ended: restore comes first, and the machines say so."""
+        """No machine switches to an epoch that ended; each asks for restore first."""
         first = self.log.publish(loads(1))
         self.back_up()
         old, willing = self.follows("old"), self.follows("willing", go_over=True)

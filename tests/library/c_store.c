@@ -288,7 +288,7 @@ static void all_left(void) {
     before = blocks;
     for (int i = 0; i < COUNT; i++)
         is("each enters the newest", says(kob_reader_enter(readers[i]), "fr", "two"));
-    is("that takes no memory", blocks == before && kob_store_retained(store) == 0);
+    is("to enter allocates nothing", blocks == before && kob_store_retained(store) == 0);
     for (int i = 0; i < COUNT; i++)
         kob_reader_free(readers[i]);
     kob_store_free(store);

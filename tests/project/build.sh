@@ -112,7 +112,7 @@ tell 'an edit makes anew what needs it, and not msgfmt' test -n "$(noted 'ends c
 build perl
 tell 'an unknown target is refused' stops_with 1 'usage: tools/build'
 
-# for another machine: the compiler and binutils only pretend, too
+# for another machine: a stand-in for the compiler and for binutils
 MACHINE=vax build
 tell 'an unknown machine is refused' stops_with 1 'MACHINE is vax, and not x86_64 or aarch64'
 MACHINE=aarch64 build

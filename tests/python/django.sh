@@ -79,7 +79,7 @@ judged() {
 
 run gettext
 if [ "${count:-0}" -lt $least ] || [ "$(wc -l < "$room/gettext")" -gt 5 ]; then
-  skipped "$name" "they fail by the standard module, too: ${count:-0} ran, $(head -n 3 "$room/gettext" | tr '\n' ' ')"
+  skipped "$name" "they also fail with the standard module: ${count:-0} ran, $(head -n 3 "$room/gettext" | tr '\n' ' ')"
   exit 0
 fi
 ok "$name, the standard module: $((count - $(wc -l < "$room/gettext"))) of $count"

@@ -1,6 +1,7 @@
 #!/usr/bin/env bash
 # Runs bin/kob-msgunfmt. What it writes is compared with GNU msgunfmt 0.21 byte for byte: layouts and line breaks for
-# chosen texts, and all installed catalogues (each fifth; EVERY=1: all), whose texts msgfmt compiles to the same MO file, too.
+# chosen texts, and installed catalogues (each fifth; EVERY=1: all). Wrapped or not, msgfmt compiles each text of these to
+# the same MO file.
 # Then its statuses and messages, files that can't be read or written, and refused memory.
 . "$(dirname "$0")/../lib/common"
 . tests/lib/c_common
